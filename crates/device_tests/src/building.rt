@@ -4,9 +4,10 @@ ghost use Rattle.std.specs.Prelude.{◌≡◌, ◌<◌, IfSome, IsTrue, Ok, leng
 ghost use Rattle.tx_types.specs.Config.{checked, shape_of, slots_of, blocks_of};
 ghost use Rattle.flash_model.specs.Operations.{CanProgram};
 ghost use Rattle.flash_model.specs.Readings.{reads_blank};
+ghost use Rattle.page_record.specs.Spelling.{CanBeSpelled, IsBack};
 ghost use Rattle.record_list.specs.Records.{IsScanned};
 
-use crate::texts::{link, number, number_or_zero, word};
+use crate::texts::{link, number_of, number_or_zero, word};
 use flash_model::{Arms, Flash, Outcome, SPARE_BYTES, Seen};
 use mem_flash::MemFlash;
 use page_record::write_spare;
@@ -116,72 +117,41 @@ pub fn has_slot<R: CommitRule>(index: &Index<R>, at: Slot) -> bool
     at.0 < slot_count(index)
 }
 
-/// What is done to a flash.
-#[derive(Clone, Copy)]
-pub enum Item {
-    /// In a slot a record is programmed, with a page that is full of a byte.
-    Record(Slot, Rec, u8),
-    /// In a slot what can't be read.
-    Damaged(Slot),
-    /// In a slot a spare area that is all zeros.
-    Zeros(Slot),
-    /// A read from now on, the one of this number, will be broken.
-    BadRead(u32),
-}
-
-/// The item that a text says: `4 damaged`, `4 zeros`, `badread 2`, or of a record its slot, its name and its link,
-/// and then, as far as they are not 0, its back version, its byte and its count, and `discard`.
-pub fn item_of(text: &str) -> Option<Item> {
-    let first = word(text, 0);
-    let second = word(text, 1);
-    if first? == "badread" {
-        return Some(Item::BadRead(number(second)?));
-    }
-    let slot = Slot(number(first)?);
-    match second? {
-        "damaged" => Some(Item::Damaged(slot)),
-        "zeros" => Some(Item::Zeros(slot)),
-        _ => {
-            let byte = u8::try_from(number_or_zero(word(text, 4))?).ok()?;
-            Some(Item::Record(slot, rec_of(text)?, byte))
-        }
+/// The record that a text says behind its slot: its name and its link, and then, as far as they are not 0, its back
+/// version, its byte and its count, and `discard`.
+fn rec_of(text: &str) -> Rec {
+    Rec {
+        count: number_or_zero(text, 5),
+        discard: word(text, 6) == "discard",
+        ..rec(
+            link(text, 1),
+            link(text, 2),
+            u64::from(number_or_zero(text, 3)),
+        )
     }
 }
 
-/// The record that a text says behind its slot.
-fn rec_of(text: &str) -> Option<Rec> {
-    let name = link(word(text, 1))?;
-    let next = link(word(text, 2))?;
-    let back = number_or_zero(word(text, 3))?;
-    let count = number_or_zero(word(text, 5))?;
-    Some(Rec {
-        count,
-        discard: matches!(word(text, 6), Some("discard")),
-        ..rec(name, next, u64::from(back))
-    })
-}
-
-/// The spare area of a record, where it has one.
-fn spare_area_of(protocol: Protocol, rec: Rec) -> Option<[u8; SPARE_BYTES]> {
-    if rec.version < 1 || rec.version > MAX_VERSION {
-        return None;
-    }
-    if rec.next.version < 1 || rec.next.version > MAX_VERSION {
-        return None;
-    }
-    if rec.count > 256 || (rec.count == 0 && rec.discard) {
-        return None;
-    }
-    let is_back_right = match protocol {
+/// Whether a record has a back version that its protocol allows.
+fn is_back_right(protocol: Protocol, rec: Rec) -> bool
+    ensures { IsTrue result → IsBack protocol rec.version rec.back }
+{
+    match protocol {
         Protocol::Scc => rec.back == 0,
         Protocol::Bpcc => rec.back < rec.version,
-    };
-    if !is_back_right {
-        return None;
     }
-    let mut spare_area = [0; SPARE_BYTES];
-    write_spare(rec, protocol, &mut spare_area);
-    Some(spare_area)
+}
+
+/// Whether a record has a spare area.
+fn has_spare_area(protocol: Protocol, rec: Rec) -> bool
+    ensures { IsTrue result → CanBeSpelled protocol rec }
+{
+    is_back_right(protocol, rec)
+        && rec.version >= 1
+        && rec.version <= MAX_VERSION
+        && rec.next.version >= 1
+        && rec.next.version <= MAX_VERSION
+        && rec.count <= 256
+        && (rec.count > 0 || !rec.discard)
 }
 
 /// Whether a slot that reads so is blank.
@@ -221,57 +191,68 @@ fn program(flash: &mut MemFlash, at: Slot, fill: u8, spare_area: &[u8; SPARE_BYT
 }
 
 /// Programs a record. Tells whether that could be done and was not broken.
-fn put_record(flash: &mut MemFlash, protocol: Protocol, at: Slot, rec: Rec, fill: u8) -> bool
+pub fn put_record(flash: &mut MemFlash, protocol: Protocol, at: Slot, rec: Rec, fill: u8) -> bool
     requires { flash.old.shape.page_bytes ≡ 16 }
     ensures { flash.new.shape ≡ flash.old.shape }
 {
-    match spare_area_of(protocol, rec) {
-        Some(spare_area) => matches!(program(flash, at, fill, &spare_area), Some(true)),
-        None => false,
+    if !has_spare_area(protocol, rec) {
+        return false;
     }
+    let mut spare_area = [0; SPARE_BYTES];
+    write_spare(rec, protocol, &mut spare_area);
+    program(flash, at, fill, &spare_area) == Some(true)
 }
 
-/// Does an item to a flash. Tells whether that could be done.
-pub fn put(flash: &mut MemFlash, protocol: Protocol, item: Item) -> bool
+/// Has a read from now on, the one of this number, be broken. Tells whether it is one.
+fn arm_bad_read(flash: &mut MemFlash, count: u32) -> bool
+    ensures { flash.new.shape ≡ flash.old.shape }
+{
+    if count == 0 {
+        return false;
+    }
+    flash.arm_bad_read(count);
+    true
+}
+
+/// Does to a slot what a text says behind it: `4 damaged`, `4 zeros`, or the record of which it is, with a page that is
+/// full of a byte. Tells whether that could be done.
+fn put_slot(flash: &mut MemFlash, protocol: Protocol, at: Slot, text: &str) -> bool
     requires { flash.old.shape.page_bytes ≡ 16 }
     ensures { flash.new.shape ≡ flash.old.shape }
 {
-    match item {
-        Item::Record(at, rec, fill) => put_record(flash, protocol, at, rec, fill),
-        Item::Damaged(at) => {
+    match word(text, 1) {
+        "damaged" => {
             flash.arm_fault(1, Outcome::Bad);
-            matches!(program(flash, at, 0, &[0; SPARE_BYTES]), Some(false))
+            program(flash, at, 0, &[0; SPARE_BYTES]) == Some(false)
         }
-        Item::Zeros(at) => matches!(program(flash, at, 0, &[0; SPARE_BYTES]), Some(true)),
-        Item::BadRead(0) => false,
-        Item::BadRead(count) => {
-            flash.arm_bad_read(count);
-            true
+        "zeros" => program(flash, at, 0, &[0; SPARE_BYTES]) == Some(true),
+        _ => {
+            let fill = word(text, 4).parse().unwrap_or(0);
+            put_record(flash, protocol, at, rec_of(text), fill)
         }
     }
 }
 
-/// Does the item that a text says to a flash. Tells whether that could be done.
-fn put_text(flash: &mut MemFlash, protocol: Protocol, text: &str) -> bool
+/// Does the item that a text says to a flash: `nothing`, `badread 2`, or what is done to a slot. Tells whether that
+/// could be done.
+fn put(flash: &mut MemFlash, protocol: Protocol, text: &str) -> bool
     requires { flash.old.shape.page_bytes ≡ 16 }
     ensures { flash.new.shape ≡ flash.old.shape }
 {
-    match item_of(text) {
-        Some(item) => put(flash, protocol, item),
-        None => false,
+    match word(text, 0) {
+        "nothing" => true,
+        "badread" => arm_bad_read(flash, number_or_zero(text, 1)),
+        slot => put_slot(flash, protocol, Slot(number_of(slot)), text),
     }
 }
 
-/// Does the items of a text to a flash, or `nothing`. Tells whether that could be done.
+/// Does the items of a text to a flash. Tells whether that could be done.
 pub fn put_all(flash: &mut MemFlash, protocol: Protocol, items: &str) -> bool
     requires { flash.old.shape.page_bytes ≡ 16 }
     ensures { flash.new.shape ≡ flash.old.shape }
 {
-    if items == "nothing" {
-        return true;
-    }
-    for text in items.split(", ") {
-        if !put_text(flash, protocol, text) {
+    for item in items.split(", ") {
+        if !put(flash, protocol, item) {
             return false;
         }
     }

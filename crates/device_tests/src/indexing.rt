@@ -3,4 +3,4 @@
 mod changing;
 pub mod lines;
 mod numbers;
-mod tables;
+pub mod tables;

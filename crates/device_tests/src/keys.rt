@@ -31,7 +31,8 @@ fn is_served(alloc: Global, script: &[u8], replies: &mut Vec<u8>) -> bool
     let Some(flash) = blank_flash(alloc, SMALL) else {
         return false;
     };
-    let (_, result) = key_serve::<MemFlash, Bpcc>(alloc, flash, SMALL, &list, replies);
+    let (flash, result) = key_serve::<MemFlash, Bpcc>(alloc, flash, SMALL, &list, replies);
+    drop(flash);
     result.is_ok()
 }
 

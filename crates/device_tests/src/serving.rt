@@ -39,8 +39,10 @@ fn served<W: Watch<MemFlash>>(alloc: Global, commands: &[u8], out: &mut W) -> Op
     };
     let flash = blank_flash(alloc, SIMPLE)?;
     let (flash, result) = serve::<MemFlash, Scc, W>(alloc, flash, SIMPLE, &list, out);
+    let reads = flash.reads();
+    drop(flash);
     match result {
-        Ok(()) => Some(flash.reads()),
+        Ok(()) => Some(reads),
         Err(_) => None,
     }
 }

@@ -2,50 +2,56 @@
 
 use flash_model::Outcome;
 use std::alloc::{AllocError, Global};
+use std::process::Abort;
 use tx_types::{Link, Slot};
 
-/// The word of a text at a place, counted from 0.
-pub fn word(text: &str, at: usize) -> Option<&str> {
-    text.split(' ').nth(at)
+/// What is read where a word is no number, as `-`: no page, slot or block has it.
+const NO_NUMBER: u32 = u32::MAX;
+
+/// The word of a text at a place, counted from 0, or an empty one.
+pub fn word(text: &str, at: usize) -> &str {
+    text.split(' ').nth(at).unwrap_or("")
 }
 
 /// The number that a word says.
-pub fn number(word: Option<&str>) -> Option<u32> {
-    word?.parse().ok()
+pub fn number_of(word: &str) -> u32 {
+    word.parse().unwrap_or(NO_NUMBER)
 }
 
-/// The number that a word says, 0 where there is no word.
-pub fn number_or_zero(word: Option<&str>) -> Option<u32> {
-    match word {
-        Some(word) => word.parse().ok(),
-        None => Some(0),
+/// The number that the word at a place says.
+pub fn number(text: &str, at: usize) -> u32 {
+    number_of(word(text, at))
+}
+
+/// The number that the word at a place says, 0 where there is none.
+pub fn number_or_zero(text: &str, at: usize) -> u32 {
+    word(text, at).parse().unwrap_or(0)
+}
+
+/// The page and the version that the word at a place says, as `3.1` does.
+pub fn link(text: &str, at: usize) -> Link {
+    let (page, version) = word(text, at).split_once('.').unwrap_or(("", ""));
+    Link {
+        page: number_of(page),
+        version: u64::from(number_of(version)),
     }
 }
 
-/// The page and the version that a word says, as `3.1` does.
-pub fn link(word: Option<&str>) -> Option<Link> {
-    let (page, version) = word?.split_once('.')?;
-    Some(Link {
-        page: number(Some(page))?,
-        version: u64::from(number(Some(version))?),
-    })
-}
-
-/// The slot that a word says, or none, as `-` does.
-pub fn slot(word: Option<&str>) -> Option<Option<Slot>> {
-    match word? {
-        "-" => Some(None),
-        word => Some(Some(Slot(number(Some(word))?))),
+/// Whether a slot is the one that the word at a place says, or there is none, as `-` says.
+pub fn is_slot(slot: Option<Slot>, text: &str, at: usize) -> bool {
+    let wanted = number(text, at);
+    match slot {
+        Some(slot) => slot.0 == wanted,
+        None => wanted == NO_NUMBER,
     }
 }
 
-/// What a broken operation leaves, as a word says it.
-pub fn outcome(word: Option<&str>) -> Option<Outcome> {
-    match word? {
-        "none" => Some(Outcome::None),
-        "all" => Some(Outcome::All),
-        "bad" => Some(Outcome::Bad),
-        _ => None,
+/// What a broken operation leaves, as the word at a place says it: `none`, `all`, or else `bad`.
+pub fn outcome(text: &str, at: usize) -> Outcome {
+    match word(text, at) {
+        "none" => Outcome::None,
+        "all" => Outcome::All,
+        _ => Outcome::Bad,
     }
 }
 
@@ -65,4 +71,9 @@ pub fn lines_of(alloc: Global, text: &str) -> Result<Vec<u8>, AllocError> {
         lines.push(b'\n')?;
     }
     Ok(lines)
+}
+
+/// Asserts that there is no line that is wrong.
+pub fn assert_none(rt: &impl Abort, wrong: &str) {
+    assert!(rt; wrong.is_empty(), "{wrong}");
 }

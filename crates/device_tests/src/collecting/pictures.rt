@@ -116,7 +116,7 @@ fn write_byte<R: CommitRule>(kept: &Kept<R>, at: Option<Slot>, text: &mut String
     match at {
         Some(at) if has_slot(kept, at) => {
             let byte = kept.flash.cell(at)[0];
-            write!(text, "{byte:02x} ").is_ok()
+            write!(text, "{byte} ").is_ok()
         }
         Some(_) => false,
         None => text.push_str("-- ").is_ok(),

@@ -1,7 +1,8 @@
 //! Collections of blocks with records.
 
-use super::rows::is_right;
+use super::rows::wrong_line;
 use crate::building::{BACK_POINTER, SIMPLE, SMALL};
+use crate::texts::assert_none;
 
 /// Pages 0 and 1 were asked for together, and given up after page 0. Then pages 1, 1, 2, 3, 2, 4
 /// and 2 were written, each alone. Version 2 of page 1 is superseded, and is kept all the same,
@@ -14,7 +15,7 @@ const HELD: &str =
 
 #[test]
 fn a_superseded_record_that_is_held_is_copied(rt: HostRuntime) {
-    assert!(rt; is_right(rt.alloc(), BACK_POINTER, GIVEN_UP, HELD));
+    assert_none(&rt, wrong_line(rt.alloc(), BACK_POINTER, GIVEN_UP, HELD));
 }
 
 /// Pages 0, 1, 0 and 0 were written, each alone: no slot outside the spare is blank.
@@ -33,9 +34,7 @@ const CUTS: &str = "\
 
 #[test]
 fn power_goes_off_in_a_collection(rt: HostRuntime) {
-    for line in CUTS.split('\n') {
-        assert!(rt; is_right(rt.alloc(), SMALL, FULL, line), "{line}");
-    }
+    assert_none(&rt, wrong_line(rt.alloc(), SMALL, FULL, CUTS));
 }
 
 /// Pages 0, 1 and 0 were written, each alone.
@@ -53,7 +52,5 @@ const FAULTS: &str = "\
 
 #[test]
 fn a_collection_meets_a_fault(rt: HostRuntime) {
-    for line in FAULTS.split('\n') {
-        assert!(rt; is_right(rt.alloc(), SIMPLE, THREE, line), "{line}");
-    }
+    assert_none(&rt, wrong_line(rt.alloc(), SIMPLE, THREE, FAULTS));
 }

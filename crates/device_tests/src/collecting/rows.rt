@@ -1,12 +1,12 @@
 //! What the steps of a line come to.
 
-ghost use Rattle.std.specs.Prelude.{◌≡◌, Ok, length};
+ghost use Rattle.std.specs.Prelude.{◌≡◌, Ok};
 ghost use Rattle.tx_types.specs.Config.{checked, shape_of};
 ghost use Rattle.mem_flash.specs.Memory.{state_of};
 ghost use Rattle.collector.specs.Matches.{Matches};
 
 use super::pictures::{write_array, write_picture};
-use super::steps::{Kept, opened, step_of, take};
+use super::steps::{Kept, opened, take};
 use crate::building::written;
 use crate::texts::is_like;
 use bpcc_commit::Bpcc;
@@ -21,35 +21,6 @@ fn reads_as<R: CommitRule>(alloc: Global, kept: &Kept<R>, before: &str) -> bool 
     write_array(kept, &mut now) && now.as_str() == before
 }
 
-/// Takes a step, and says behind a text whether it was answered (`+`) or broken (`-`). Tells whether the pages read
-/// as they did before.
-fn is_taken<R: CommitRule>(
-    alloc: Global,
-    kept: &mut Kept<R>,
-    step: &str,
-    before: &str,
-    text: &mut String,
-) -> bool
-    requires matches { Matches (state_of kept.old.flash)
-        kept.old.index kept.old.blocks kept.old.unsure }
-    requires rule { kept.old.index.config.protocol ≡ R.protocol }
-    requires room { length kept.old.room.items ≡ kept.old.index.config.page_bytes }
-    ensures matches { Matches (state_of kept.new.flash)
-        kept.new.index kept.new.blocks kept.new.unsure }
-    ensures config { kept.new.index.config ≡ kept.old.index.config }
-    ensures room { length kept.new.room.items ≡ kept.old.index.config.page_bytes }
-{
-    let Some(step) = step_of(step) else {
-        return false;
-    };
-    if let Some(answer) = take(alloc, kept, step)
-        && text.push(answer).is_err()
-    {
-        return false;
-    }
-    reads_as(alloc, kept, before)
-}
-
 /// Takes steps one after another, and says how each was answered. Tells whether the pages read the same all the
 /// while.
 fn are_taken<R: CommitRule>(
@@ -62,10 +33,10 @@ fn are_taken<R: CommitRule>(
     requires matches { Matches (state_of kept.old.flash)
         kept.old.index kept.old.blocks kept.old.unsure }
     requires rule { kept.old.index.config.protocol ≡ R.protocol }
-    requires room { length kept.old.room.items ≡ kept.old.index.config.page_bytes }
+    requires page { kept.old.index.config.page_bytes ≡ 16 }
 {
     for step in steps.split("; ") {
-        if !is_taken(alloc, kept, step, before, text) {
+        if !take(alloc, kept, step, text) || !reads_as(alloc, kept, before) {
             return false;
         }
     }
@@ -83,7 +54,7 @@ fn tell<R: CommitRule>(
     requires matches { Matches (state_of kept.old.flash)
         kept.old.index kept.old.blocks kept.old.unsure }
     requires rule { kept.old.index.config.protocol ≡ R.protocol }
-    requires room { length kept.old.room.items ≡ kept.old.index.config.page_bytes }
+    requires page { kept.old.index.config.page_bytes ≡ 16 }
 {
     write_array(kept, before)
         && are_taken(alloc, kept, steps, before.as_str(), text)
@@ -96,7 +67,7 @@ fn come_to<R: CommitRule>(alloc: Global, kept: &mut Kept<R>, steps: &str, wanted
     requires matches { Matches (state_of kept.old.flash)
         kept.old.index kept.old.blocks kept.old.unsure }
     requires rule { kept.old.index.config.protocol ≡ R.protocol }
-    requires room { length kept.old.room.items ≡ kept.old.index.config.page_bytes }
+    requires page { kept.old.index.config.page_bytes ≡ 16 }
 {
     let (mut before, mut text) = (String::new(alloc), String::new(alloc));
     tell(alloc, kept, steps, &mut before, &mut text) && is_like(text.as_str(), wanted)
@@ -120,20 +91,33 @@ fn is_so<R: CommitRule>(
     let Some(mut kept) = opened::<R>(alloc, flash, config) else {
         return false;
     };
-    come_to(alloc, &mut kept, steps, wanted)
+    let is_so = come_to(alloc, &mut kept, steps, wanted);
+    drop(kept);
+    is_so
 }
 
 /// Whether the steps of a line, on a flash with these items, come to what it says behind `=>`: how they are answered,
 /// and how the flash is then.
-pub fn is_right(alloc: Global, config: Config, items: &str, line: &str) -> bool
+fn is_right(alloc: Global, config: Config, items: &str, line: &str) -> bool
     requires check { checked config ≡ Ok (shape_of config) }
     requires page { config.page_bytes ≡ 16 }
 {
-    let Some((steps, wanted)) = line.split_once(" => ") else {
-        return false;
-    };
+    let (steps, wanted) = line.split_once(" => ").unwrap_or((line, ""));
     match config.protocol {
         Protocol::Scc => is_so::<Scc>(alloc, config, items, steps, wanted),
         Protocol::Bpcc => is_so::<Bpcc>(alloc, config, items, steps, wanted),
     }
+}
+
+/// The first of the lines that is not right on a flash with these items, or nothing.
+pub fn wrong_line(alloc: Global, config: Config, items: &str, lines: &'static str) -> &'static str
+    requires check { checked config ≡ Ok (shape_of config) }
+    requires page { config.page_bytes ≡ 16 }
+{
+    for line in lines.split('\n') {
+        if !is_right(alloc, config, items, line) {
+            return line;
+        }
+    }
+    ""
 }

@@ -1,6 +1,6 @@
 //! What the steps of a line do.
 
-ghost use Rattle.std.specs.Prelude.{◌≡◌, ◌<◌, IfSome, IsTrue, Ok, length};
+ghost use Rattle.std.specs.Prelude.{◌≡◌, ◌<◌, IfSome, IsTrue, Ok};
 ghost use Rattle.tx_types.specs.Config.{checked, shape_of, blocks_of};
 ghost use Rattle.version_index.specs.Noted.{Noted};
 ghost use Rattle.die_alloc.specs.BlockTable.{BlockTable};
@@ -9,10 +9,10 @@ ghost use Rattle.collector.specs.Collecting.{HasUnneeded};
 ghost use Rattle.collector.specs.Matches.{Matches, CanTake};
 
 use crate::building::has_block;
-use crate::texts::{number, outcome, word};
+use crate::texts::{number, number_or_zero, outcome, word};
 use collector::{Settled, Unsure, clean_spare, collect, laws, settle, victim};
 use die_alloc::Blocks;
-use flash_model::{Arms, Flash, Outcome, Power};
+use flash_model::{Arms, Flash, Power};
 use mem_flash::MemFlash;
 use record_list::CommitRule;
 use scan_recovery::recover;
@@ -27,50 +27,6 @@ pub struct Kept<R: CommitRule> {
     pub index: Index<R>,
     pub blocks: Blocks,
     pub unsure: Unsure,
-    pub room: Vec<u8>,
-}
-
-/// A step.
-#[derive(Clone, Copy)]
-pub enum Step {
-    Fault(u32, Outcome),
-    Cut(u32, Outcome),
-    BadRead(u32),
-    Clean,
-    /// A block, and which of its slots is not needed.
-    Collect(u32, u32),
-    Settle,
-    /// Asks which block is to be collected.
-    Choose,
-    /// Power comes back, and the tables are made from the flash alone.
-    Reopen,
-}
-
-use Step::{BadRead, Choose, Clean, Collect, Cut, Fault, Reopen, Settle};
-
-/// The step that a text says.
-pub fn step_of(text: &str) -> Option<Step> {
-    match text {
-        "clean" => Some(Clean),
-        "settle" => Some(Settle),
-        "choose" => Some(Choose),
-        "reopen" => Some(Reopen),
-        _ => {
-            let (name, first) = (word(text, 0)?, number(word(text, 1))?);
-            step_with(name, first, word(text, 2))
-        }
-    }
-}
-
-/// The step that words say of which the second is a number.
-fn step_with(name: &str, first: u32, second: Option<&str>) -> Option<Step> {
-    match name {
-        "badread" => Some(BadRead(first)),
-        "fault" => Some(Fault(first, outcome(second)?)),
-        "cut" => Some(Cut(first, outcome(second)?)),
-        "collect" => Some(Collect(first, number(second)?)),
-        _ => None,
-    }
 }
 
 /// The tables of a flash, from what it holds.
@@ -80,21 +36,22 @@ pub fn opened<R: CommitRule>(alloc: Global, mut flash: MemFlash, config: Config)
     ensures matches { IfSome result (λ kept.
         Matches (state_of kept.flash) kept.index kept.blocks kept.unsure) }
     ensures config { IfSome result (λ kept. kept.index.config ≡ config) }
-    ensures room { IfSome result (λ kept. length kept.room.items ≡ config.page_bytes) }
 {
     laws::opened_tables_match();
-    let size = flash.shape().page_bytes as usize;
-    let room = vec![in alloc; 0; size].ok()?;
-    let Ok((index, blocks)) = recover::<MemFlash, R>(alloc, &mut flash, config) else {
-        return None;
-    };
-    Some(Kept {
-        flash,
-        index,
-        blocks,
-        unsure: Unsure::Nothing,
-        room,
-    })
+    // The proof reads from this use that the flash is whole.
+    let _ = flash.shape();
+    match recover::<MemFlash, R>(alloc, &mut flash, config) {
+        Ok((index, blocks)) => Some(Kept {
+            flash,
+            index,
+            blocks,
+            unsure: Unsure::Nothing,
+        }),
+        Err(_) => {
+            drop(flash);
+            None
+        }
+    }
 }
 
 /// Whether the contents of each slot are known.
@@ -136,37 +93,59 @@ fn told(answered: bool) -> char {
     if answered { '+' } else { '-' }
 }
 
-/// Takes one step. Tells of a call whether it was answered, and what, and of one that can't be made that it can't.
-pub fn take<R: CommitRule>(alloc: Global, kept: &mut Kept<R>, step: Step) -> Option<char>
+/// Sets the arm that a step says, with its count from 1: `cut 1 bad`, `fault 2 all`, `badread 1`. Tells whether it
+/// says one.
+fn is_armed(flash: &mut MemFlash, step: &str) -> bool
+    ensures shape { flash.new.shape ≡ flash.old.shape }
+    ensures image { flash.new.image ≡ flash.old.image }
+{
+    let count = number_or_zero(step, 1);
+    if count == 0 {
+        return false;
+    }
+    match word(step, 0) {
+        "cut" => flash.arm_cut(count, outcome(step, 2)),
+        "fault" => flash.arm_fault(count, outcome(step, 2)),
+        "badread" => flash.arm_bad_read(count),
+        _ => return false,
+    }
+    true
+}
+
+/// Makes the call that a step says: `clean` makes the spare blank, `collect 0 1` collects a block of which a slot is
+/// not needed, `settle` finds out what a broken operation left, `choose` asks which block is to be collected, and
+/// after `reopen` power is back and the tables are made from the flash alone.
+fn answer<R: CommitRule>(alloc: Global, kept: &mut Kept<R>, step: &str) -> char
     requires matches { Matches (state_of kept.old.flash)
         kept.old.index kept.old.blocks kept.old.unsure }
     requires rule { kept.old.index.config.protocol ≡ R.protocol }
-    requires room { length kept.old.room.items ≡ kept.old.index.config.page_bytes }
+    requires page { kept.old.index.config.page_bytes ≡ 16 }
     ensures matches { Matches (state_of kept.new.flash)
         kept.new.index kept.new.blocks kept.new.unsure }
     ensures config { kept.new.index.config ≡ kept.old.index.config }
-    ensures room { length kept.new.room.items ≡ kept.old.index.config.page_bytes }
 {
-    match step {
-        Fault(0, _) | Cut(0, _) | BadRead(0) => Some(IMPOSSIBLE),
-        Fault(count, outcome) => {
-            kept.flash.arm_fault(count, outcome);
-            None
-        }
-        Cut(count, outcome) => {
-            kept.flash.arm_cut(count, outcome);
-            None
-        }
-        BadRead(count) => {
-            kept.flash.arm_bad_read(count);
-            None
-        }
-        Clean => Some(clean(kept)),
-        Collect(block, at) => Some(collect_block(kept, Block(block), at)),
-        Settle => Some(settle_it(kept)),
-        Choose => Some(choose(kept)),
-        Reopen => Some(reopen(alloc, kept)),
+    match word(step, 0) {
+        "clean" => clean(kept),
+        "collect" => collect_block(kept, Block(number(step, 1)), number(step, 2)),
+        "settle" => settle_it(kept),
+        "choose" => choose(kept),
+        "reopen" => reopen(alloc, kept),
+        _ => IMPOSSIBLE,
     }
+}
+
+/// Takes one step. Says of a call whether it was answered (`+`) or broken (`-`), or what, and of one that can't be
+/// made that it can't. Tells whether there was memory.
+pub fn take<R: CommitRule>(alloc: Global, kept: &mut Kept<R>, step: &str, text: &mut String) -> bool
+    requires matches { Matches (state_of kept.old.flash)
+        kept.old.index kept.old.blocks kept.old.unsure }
+    requires rule { kept.old.index.config.protocol ≡ R.protocol }
+    requires page { kept.old.index.config.page_bytes ≡ 16 }
+    ensures matches { Matches (state_of kept.new.flash)
+        kept.new.index kept.new.blocks kept.new.unsure }
+    ensures config { kept.new.index.config ≡ kept.old.index.config }
+{
+    is_armed(&mut kept.flash, step) || text.push(answer(alloc, kept, step)).is_ok()
 }
 
 /// Makes the spare blank.
@@ -177,7 +156,6 @@ fn clean<R: CommitRule>(kept: &mut Kept<R>) -> char
     ensures matches { Matches (state_of kept.new.flash)
         kept.new.index kept.new.blocks kept.new.unsure }
     ensures config { kept.new.index.config ≡ kept.old.index.config }
-    ensures room { kept.new.room ≡ kept.old.room }
 {
     if !is_sure(kept.unsure) {
         return IMPOSSIBLE;
@@ -196,11 +174,10 @@ fn collect_block<R: CommitRule>(kept: &mut Kept<R>, block: Block, at: u32) -> ch
     requires matches { Matches (state_of kept.old.flash)
         kept.old.index kept.old.blocks kept.old.unsure }
     requires rule { kept.old.index.config.protocol ≡ R.protocol }
-    requires room { length kept.old.room.items ≡ kept.old.index.config.page_bytes }
+    requires page { kept.old.index.config.page_bytes ≡ 16 }
     ensures matches { Matches (state_of kept.new.flash)
         kept.new.index kept.new.blocks kept.new.unsure }
     ensures config { kept.new.index.config ≡ kept.old.index.config }
-    ensures room { length kept.new.room.items ≡ kept.old.index.config.page_bytes }
 {
     if !is_sure(kept.unsure) || !has_block(&kept.index, block) {
         return IMPOSSIBLE;
@@ -208,12 +185,13 @@ fn collect_block<R: CommitRule>(kept: &mut Kept<R>, block: Block, at: u32) -> ch
     if block.0 == kept.blocks.spare().0 || !has_unneeded(&kept.index, block, at) {
         return IMPOSSIBLE;
     }
+    let mut room = [0; 16];
     let result = collect(
         &mut kept.flash,
         &mut kept.index,
         &mut kept.blocks,
         &mut kept.unsure,
-        &mut kept.room,
+        &mut room,
         block,
     );
     told(result.is_ok())
@@ -224,21 +202,21 @@ fn settle_it<R: CommitRule>(kept: &mut Kept<R>) -> char
     requires matches { Matches (state_of kept.old.flash)
         kept.old.index kept.old.blocks kept.old.unsure }
     requires rule { kept.old.index.config.protocol ≡ R.protocol }
-    requires room { length kept.old.room.items ≡ kept.old.index.config.page_bytes }
+    requires page { kept.old.index.config.page_bytes ≡ 16 }
     ensures matches { Matches (state_of kept.new.flash)
         kept.new.index kept.new.blocks kept.new.unsure }
     ensures config { kept.new.index.config ≡ kept.old.index.config }
-    ensures room { length kept.new.room.items ≡ kept.old.index.config.page_bytes }
 {
     if !is_collection(kept.unsure) {
         return IMPOSSIBLE;
     }
+    let mut room = [0; 16];
     match settle(
         &mut kept.flash,
         &mut kept.index,
         &mut kept.blocks,
         &mut kept.unsure,
-        &mut kept.room,
+        &mut room,
     ) {
         Ok(found) => told(found == Settled::Other),
         Err(_) => told(false),
@@ -263,7 +241,6 @@ fn reopen<R: CommitRule>(alloc: Global, kept: &mut Kept<R>) -> char
     ensures matches { Matches (state_of kept.new.flash)
         kept.new.index kept.new.blocks kept.new.unsure }
     ensures config { kept.new.index.config ≡ kept.old.index.config }
-    ensures room { kept.new.room ≡ kept.old.room }
 {
     laws::opened_tables_match();
     kept.flash.power_on();

@@ -1,7 +1,8 @@
 //! A collection that is cut at each of its operations, with each outcome. From the flash alone the
 //! pages read as before.
 
-use super::rows::is_right;
+use super::rows::wrong_line;
+use crate::texts::assert_none;
 use tx_types::{Config, Protocol};
 
 /// Three blocks of four slots.
@@ -55,11 +56,6 @@ const CUTS: &str = "\
 
 #[test]
 fn the_pages_outlast_each_cut(rt: HostRuntime) {
-    for line in CUTS.split('\n') {
-        assert!(rt; is_right(rt.alloc(), SCC, BY_CYCLES, line), "{line}");
-        assert!(rt;
-            is_right(rt.alloc(), BPCC, BY_BACK_POINTERS, line),
-            "{line}"
-        );
-    }
+    assert_none(&rt, wrong_line(rt.alloc(), SCC, BY_CYCLES, CUTS));
+    assert_none(&rt, wrong_line(rt.alloc(), BPCC, BY_BACK_POINTERS, CUTS));
 }

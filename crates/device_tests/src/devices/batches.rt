@@ -1,6 +1,7 @@
 //! Several open transactions that go on at once, and what is left where that is broken.
 
-use super::lines::is_right;
+use super::lines::wrong_line;
+use crate::texts::assert_none;
 
 /// Two dies, and a third transaction that has to wait; a stepped one goes on with the others.
 const TOGETHER: &str = "\
@@ -18,9 +19,7 @@ const TOGETHER: &str = "\
 
 #[test]
 fn transactions_go_on_together(rt: HostRuntime) {
-    for line in TOGETHER.split('\n') {
-        assert!(rt; is_right(rt.alloc(), line), "{line}");
-    }
+    assert_none(&rt, wrong_line(rt.alloc(), TOGETHER));
 }
 
 /// A fire is cut or broken: each of its programs by itself. A failed read drops the device too.
@@ -37,7 +36,5 @@ const BROKEN: &str = "\
 
 #[test]
 fn programs_are_broken_each_by_itself(rt: HostRuntime) {
-    for line in BROKEN.split('\n') {
-        assert!(rt; is_right(rt.alloc(), line), "{line}");
-    }
+    assert_none(&rt, wrong_line(rt.alloc(), BROKEN));
 }

@@ -1,12 +1,12 @@
 //! Calls of a device over a flash that is told to break, and what they answer.
 
-ghost use Rattle.std.specs.Prelude.{◌≡◌, false, length};
+ghost use Rattle.std.specs.Prelude.{◌≡◌, false};
 
 use super::telling::{
     Answers, say_aborted, say_collected, say_found, say_page, say_refusal, say_retired, say_stats,
     say_step,
 };
-use crate::texts::{number, outcome, word};
+use crate::texts::{number_of, number_or_zero, outcome};
 use array_machine::{Progress, ReadAnswer, ReadError, StepError};
 use flash_model::{Arms, Flash, Retire};
 use record_list::CommitRule;
@@ -25,12 +25,10 @@ fn fault_word<F: Flash, R: CommitRule>(device: &Device<F, R>) -> &'static str {
 /// Adds to a batch the page and the first byte that a word says, as `3=255` does. The rest of the page is zeros.
 /// Tells whether it could.
 fn is_added(batch: &mut Batch, word: &str) -> bool {
-    let Some((page, byte)) = word.split_once('=') else {
-        return false;
-    };
-    match (page.parse::<u32>(), byte.parse::<u8>()) {
-        (Ok(page), Ok(byte)) => batch.page_bytes() >= 1 && batch.add(page, &[byte]).is_ok(),
-        _ => false,
+    let (page, byte) = word.split_once('=').unwrap_or((word, ""));
+    match byte.parse::<u8>() {
+        Ok(byte) => batch.page_bytes() >= 1 && batch.add(number_of(page), &[byte]).is_ok(),
+        Err(_) => false,
     }
 }
 
@@ -58,13 +56,10 @@ fn submit<F: Flash, R: CommitRule>(
     ensures kept { device.new.dropped ≡ false }
 {
     let (tag, pages) = words.split_once(' ').unwrap_or((words, ""));
-    let Some(tag) = number(Some(tag)) else {
-        return answers.say(IMPOSSIBLE);
-    };
     if !are_added(batch, pages) || batch.page_bytes() != device.config().page_bytes {
         return answers.say(IMPOSSIBLE);
     }
-    match device.submit(tag, batch) {
+    match device.submit(number_of(tag), batch) {
         Ok(()) => answers.say("open"),
         Err(refusal) => say_refusal(answers, refusal),
     }
@@ -101,38 +96,20 @@ fn finish<F: Flash, R: CommitRule>(
     device.step(tag)
 }
 
-/// Reads a page, for which there is room.
-fn read_into<F: Flash, R: CommitRule>(
-    device: &mut Device<F, R>,
-    page: u32,
-    room: &mut [u8],
-    answers: &mut Answers,
-)
+/// Reads a page of 16 bytes. Its first byte is said, and its other bytes must be zeros.
+fn read<F: Flash, R: CommitRule>(device: &mut Device<F, R>, page: u32, answers: &mut Answers)
     requires kept { device.old.dropped ≡ false }
-    requires room { length room.old ≡ device.old.config.page_bytes }
     ensures kept { device.new.dropped ≡ false }
 {
-    match device.read(page, room) {
+    if device.config().page_bytes != 16 {
+        return answers.say(IMPOSSIBLE);
+    }
+    let mut room = [0xee; 16];
+    match device.read(page, &mut room) {
         Ok(ReadAnswer::Blank) => answers.say("blank"),
-        Ok(ReadAnswer::Page) => say_page(answers, room),
+        Ok(ReadAnswer::Page) => say_page(answers, &room),
         Err(ReadError::Range) => answers.say("range"),
         Err(ReadError::Fault) => answers.say(fault_word(device)),
-    }
-}
-
-/// Reads a page. Its first byte is said, and its other bytes must be zeros.
-fn read<F: Flash, R: CommitRule>(
-    alloc: Global,
-    device: &mut Device<F, R>,
-    page: u32,
-    answers: &mut Answers,
-)
-    requires kept { device.old.dropped ≡ false }
-    ensures kept { device.new.dropped ≡ false }
-{
-    match vec![in alloc; 0xee; device.config().page_bytes as usize] {
-        Ok(mut room) => read_into(device, page, &mut room, answers),
-        Err(_) => answers.miss(),
     }
 }
 
@@ -148,7 +125,6 @@ fn tell_found<F: Flash, R: CommitRule>(device: &Device<F, R>, answers: &mut Answ
 
 /// Makes a call with the number of a transaction, of a block or of a page.
 fn answer_with<F: Retire, R: CommitRule>(
-    alloc: Global,
     device: &mut Device<F, R>,
     name: &str,
     number: u32,
@@ -174,7 +150,7 @@ fn answer_with<F: Retire, R: CommitRule>(
             let answer = device.retire(Block(number));
             say_retired(answers, answer, fault_word(device));
         }
-        "read" => read(alloc, device, number, answers),
+        "read" => read(device, number, answers),
         _ => answers.say(IMPOSSIBLE),
     }
 }
@@ -184,14 +160,14 @@ fn is_armed<F: Arms, R: CommitRule>(device: &mut Device<F, R>, name: &str, words
     requires kept { device.old.dropped ≡ false }
     ensures kept { device.new.dropped ≡ false }
 {
-    let count = number(word(words, 0)).unwrap_or(0);
-    if count < 1 {
+    let count = number_or_zero(words, 0);
+    if count == 0 {
         return false;
     }
-    match (name, outcome(word(words, 1))) {
-        ("cut", Some(outcome)) => device.arm_cut(count, outcome),
-        ("fault", Some(outcome)) => device.arm_fault(count, outcome),
-        ("badread", None) => device.arm_bad_read(count),
+    match name {
+        "cut" => device.arm_cut(count, outcome(words, 1)),
+        "fault" => device.arm_fault(count, outcome(words, 1)),
+        "badread" => device.arm_bad_read(count),
         _ => return false,
     }
     true
@@ -222,12 +198,8 @@ pub fn answer<F: Arms + Retire, R: CommitRule>(
         "stats" => say_stats(answers, device.stats()),
         "found" => tell_found(device, answers),
         _ => {
-            if is_armed(device, name, words) {
-                return;
-            }
-            match number(Some(words)) {
-                Some(number) => answer_with(alloc, device, name, number, answers),
-                None => answers.say(IMPOSSIBLE),
+            if !is_armed(device, name, words) {
+                answer_with(device, name, number_of(words), answers);
             }
         }
     }

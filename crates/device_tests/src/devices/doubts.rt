@@ -1,6 +1,7 @@
 //! Faults, and what is found out of them.
 
-use super::lines::is_right;
+use super::lines::wrong_line;
+use crate::texts::assert_none;
 
 /// Faults at the last program of a transaction, which then turns out to be there or not.
 const DOUBTS: &str = "\
@@ -32,11 +33,8 @@ const STEPS: &str = "\
 
 #[test]
 fn a_fault_is_settled(rt: HostRuntime) {
-    for lines in [DOUBTS, STEPS] {
-        for line in lines.split('\n') {
-            assert!(rt; is_right(rt.alloc(), line), "{line}");
-        }
-    }
+    assert_none(&rt, wrong_line(rt.alloc(), DOUBTS));
+    assert_none(&rt, wrong_line(rt.alloc(), STEPS));
 }
 
 /// A page whose two versions stand in one block, beside one that stands in another: the collection takes the first
@@ -82,7 +80,5 @@ const UNSURE: &str = "\
 
 #[test]
 fn pages_are_read_from_where_they_are_known(rt: HostRuntime) {
-    for line in UNSURE.split('\n') {
-        assert!(rt; is_right(rt.alloc(), line), "{line}");
-    }
+    assert_none(&rt, wrong_line(rt.alloc(), UNSURE));
 }

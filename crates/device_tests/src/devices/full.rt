@@ -1,6 +1,7 @@
 //! A device that is full, and one that is mounted again.
 
-use super::lines::is_right;
+use super::lines::{is_right, wrong_line};
+use crate::texts::assert_none;
 use std::alloc::{AllocError, Global};
 
 /// Each page is written, and then one page again and again, where only collections make room.
@@ -38,5 +39,5 @@ const GIVEN_BACK: &str = "simple: write 9 3=5; finish 9; badread 2; mount; read 
 
 #[test]
 fn a_flash_comes_back_from_a_fault(rt: HostRuntime) {
-    assert!(rt; is_right(rt.alloc(), GIVEN_BACK));
+    assert_none(&rt, wrong_line(rt.alloc(), GIVEN_BACK));
 }

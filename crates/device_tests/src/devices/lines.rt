@@ -33,7 +33,7 @@ fn is_served<R: CommitRule>(
     };
     flash.set_extras(allowance, 0);
     match mounted::<MemFlash, R>(alloc, flash, config) {
-        Some(device) => serve(alloc, device, calls, answers).is_some(),
+        Some(device) => serve(alloc, device, calls, answers),
         None => false,
     }
 }
@@ -60,13 +60,21 @@ pub fn is_right(alloc: Global, line: &str) -> bool {
     let Some((device, line)) = line.split_once(": ") else {
         return false;
     };
-    let Some(allowance) = number_or_zero(word(device, 1)) else {
-        return false;
-    };
+    let allowance = number_or_zero(device, 1);
     match word(device, 0) {
-        Some("simple") => are_answered(alloc, SIMPLE, allowance, line),
-        Some("back_pointer") => are_answered(alloc, BACK_POINTER, allowance, line),
-        Some("small") => are_answered(alloc, SMALL, allowance, line),
+        "simple" => are_answered(alloc, SIMPLE, allowance, line),
+        "back_pointer" => are_answered(alloc, BACK_POINTER, allowance, line),
+        "small" => are_answered(alloc, SMALL, allowance, line),
         _ => false,
     }
+}
+
+/// The first of the lines that is not right, or nothing.
+pub fn wrong_line(alloc: Global, lines: &'static str) -> &'static str {
+    for line in lines.split('\n') {
+        if !is_right(alloc, line) {
+            return line;
+        }
+    }
+    ""
 }

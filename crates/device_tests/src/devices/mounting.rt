@@ -1,14 +1,23 @@
 //! Devices that are mounted, and mounted again after a power cut or a fault.
 
-ghost use Rattle.std.specs.Prelude.{◌≡◌, false, IfSome};
+ghost use Rattle.std.specs.Prelude.{◌≡◌, false, IfSome, IsTrue, Ok};
+ghost use Rattle.tx_types.specs.Config.{checked};
 
 use super::calls::answer;
 use super::telling::{Answers, say_moved};
 use flash_model::{Arms, Flash, Power, Retire, Wide};
 use record_list::CommitRule;
 use std::alloc::Global;
-use tx_engine::{Device, MountError, Moved};
+use tx_engine::{Device, MountError};
 use tx_types::Config;
+
+/// Whether a flash has the shape of a configuration, whose protocol is that of the rule.
+fn is_fit<F: Flash, R: CommitRule>(flash: &F, config: Config) -> bool
+    ensures check { IsTrue result → checked config ≡ Ok (F.state flash.now).shape }
+    ensures rule { IsTrue result → config.protocol ≡ R.protocol }
+{
+    config.check() == Ok(flash.shape()) && config.protocol == R::protocol()
+}
 
 /// Mounts a flash whose image is sound.
 pub fn mounted<F: Flash + Drop, R: CommitRule>(
@@ -18,7 +27,7 @@ pub fn mounted<F: Flash + Drop, R: CommitRule>(
 ) -> Option<Device<F, R>>
     ensures kept { IfSome result (λ d. d.dropped ≡ false) }
 {
-    if config.check() != Ok(flash.shape()) || config.protocol != R::protocol() {
+    if !is_fit::<F, R>(&flash, config) {
         return None;
     }
     match Device::mount(alloc, flash, config) {
@@ -27,11 +36,12 @@ pub fn mounted<F: Flash + Drop, R: CommitRule>(
     }
 }
 
-/// The device of a flash once power is on.
-fn powered<F: Power + Drop, R: CommitRule>(
+/// Mounts a flash once power is on, and once more where that meets a fault.
+fn again<F: Power + Drop, R: CommitRule>(
     alloc: Global,
     flash: F,
     config: Config,
+    answers: &mut Answers,
 ) -> Option<Device<F, R>>
     ensures kept { IfSome result (λ d. d.dropped ≡ false) }
 {
@@ -39,69 +49,7 @@ fn powered<F: Power + Drop, R: CommitRule>(
     if !flash.live() {
         flash.power_on();
     }
-    mounted(alloc, flash, config)
-}
-
-/// What a device answers that all open transactions go on together, and nothing where that met a power cut or a
-/// fault.
-fn gone_on<F: Wide, R: CommitRule>(device: &mut Device<F, R>) -> Option<Moved>
-    requires kept { device.old.dropped ≡ false }
-    ensures kept { IfSome result (λ moved. device.new.dropped ≡ false) }
-{
-    match device.step_all() {
-        Ok(moved) => Some(moved),
-        Err(_) => None,
-    }
-}
-
-/// All open transactions go on together. Gives the device, mounted again where that met a power cut or a fault.
-fn together<F: Power + Wide + Drop, R: CommitRule>(
-    alloc: Global,
-    device: Device<F, R>,
-    answers: &mut Answers,
-) -> Option<Device<F, R>>
-    requires kept { device.dropped ≡ false }
-    ensures kept { IfSome result (λ d. d.dropped ≡ false) }
-{
-    let mut device = device;
-    let config = device.config();
-    if let Some(moved) = gone_on(&mut device) {
-        say_moved(answers, moved);
-        return Some(device);
-    }
-    answers.say(if device.live() { "dropped" } else { "cut" });
-    powered(alloc, device.close(), config)
-}
-
-/// Makes one call. Gives the device, mounted again where power went off.
-fn alone<F: Arms + Power + Retire + Drop, R: CommitRule>(
-    alloc: Global,
-    device: Device<F, R>,
-    call: &str,
-    answers: &mut Answers,
-) -> Option<Device<F, R>>
-    requires kept { device.dropped ≡ false }
-    ensures kept { IfSome result (λ d. d.dropped ≡ false) }
-{
-    let mut device = device;
-    answer(alloc, &mut device, call, answers);
-    if device.live() {
-        return Some(device);
-    }
-    let config = device.config();
-    powered(alloc, device.close(), config)
-}
-
-/// Mounts a flash, and once more where it meets a fault.
-fn tried<F: Flash + Drop, R: CommitRule>(
-    alloc: Global,
-    flash: F,
-    config: Config,
-    answers: &mut Answers,
-) -> Option<Device<F, R>>
-    ensures kept { IfSome result (λ d. d.dropped ≡ false) }
-{
-    if config.check() != Ok(flash.shape()) || config.protocol != R::protocol() {
+    if !is_fit::<F, R>(&flash, config) {
         return None;
     }
     match Device::mount(alloc, flash, config) {
@@ -114,17 +62,60 @@ fn tried<F: Flash + Drop, R: CommitRule>(
     }
 }
 
-/// Ends a device, and mounts its flash.
-fn again<F: Flash + Drop, R: CommitRule>(
+/// All open transactions go on together. Tells whether that met no power cut and no fault.
+fn go_on<F: Wide, R: CommitRule>(device: &mut Device<F, R>, answers: &mut Answers) -> bool
+    requires kept { device.old.dropped ≡ false }
+    ensures kept { IsTrue result → device.new.dropped ≡ false }
+{
+    match device.step_all() {
+        Ok(moved) => {
+            say_moved(answers, moved);
+            true
+        }
+        Err(_) => {
+            answers.say(if device.live() { "dropped" } else { "cut" });
+            false
+        }
+    }
+}
+
+/// Makes one call. Tells whether the device goes on: power is on, and it was neither dropped nor ended.
+fn goes_on<F: Arms + Retire + Wide, R: CommitRule>(
+    alloc: Global,
+    device: &mut Device<F, R>,
+    call: &str,
+    answers: &mut Answers,
+) -> bool
+    requires kept { device.old.dropped ≡ false }
+    ensures kept { IsTrue result → device.new.dropped ≡ false }
+{
+    match call {
+        "stepall" => go_on(device, answers),
+        "mount" => false,
+        _ => {
+            answer(alloc, device, call, answers);
+            device.live()
+        }
+    }
+}
+
+/// Makes one call. Gives the device, or one that is mounted on its flash where it does not go on.
+fn next<F: Arms + Power + Retire + Wide + Drop, R: CommitRule>(
     alloc: Global,
     device: Device<F, R>,
+    call: &str,
     answers: &mut Answers,
 ) -> Option<Device<F, R>>
     requires kept { device.dropped ≡ false }
     ensures kept { IfSome result (λ d. d.dropped ≡ false) }
 {
+    let mut device = device;
     let config = device.config();
-    tried(alloc, device.close(), config, answers)
+    if goes_on(alloc, &mut device, call, answers) {
+        Some(device)
+    } else {
+        again(alloc, device.close(), config, answers)
+    }
 }
 
 /// Makes the calls of a text, and says what they answer. `stepall` has all open transactions go on together, and
@@ -134,16 +125,16 @@ pub fn serve<F: Arms + Power + Retire + Wide + Drop, R: CommitRule>(
     device: Device<F, R>,
     calls: &str,
     answers: &mut Answers,
-) -> Option<F>
+) -> bool
     requires kept { device.dropped ≡ false }
 {
     let mut device = device;
     for call in calls.split("; ") {
-        device = match call {
-            "stepall" => together(alloc, device, answers)?,
-            "mount" => again(alloc, device, answers)?,
-            _ => alone(alloc, device, call, answers)?,
-        };
+        match next(alloc, device, call, answers) {
+            Some(next) => device = next,
+            None => return false,
+        }
     }
-    Some(device.close())
+    drop(device.close());
+    true
 }

@@ -1,6 +1,7 @@
 //! Blocks of a device that are retired, and retirements that are cut or broken.
 
-use super::lines::is_right;
+use super::lines::wrong_line;
+use crate::texts::assert_none;
 
 /// As many blocks are retired as the flash allows, and a block that does not exist is refused first.
 const ALLOWED: &str = "\
@@ -10,7 +11,7 @@ const ALLOWED: &str = "\
 
 #[test]
 fn blocks_are_retired_up_to_the_allowance(rt: HostRuntime) {
-    assert!(rt; is_right(rt.alloc(), ALLOWED));
+    assert_none(&rt, wrong_line(rt.alloc(), ALLOWED));
 }
 
 /// A block with one record is retired, and the second operation is the retirement. It is cut, and done again once
@@ -22,9 +23,7 @@ const CUT: &str = "\
 
 #[test]
 fn a_cut_retirement_is_whole_or_not_begun(rt: HostRuntime) {
-    for line in CUT.split('\n') {
-        assert!(rt; is_right(rt.alloc(), line), "{line}");
-    }
+    assert_none(&rt, wrong_line(rt.alloc(), CUT));
 }
 
 /// After a fault the same device goes on: it finds out whether the block was replaced.
@@ -38,9 +37,7 @@ const BROKEN: &str = "\
 
 #[test]
 fn a_broken_retirement_is_settled(rt: HostRuntime) {
-    for line in BROKEN.split('\n') {
-        assert!(rt; is_right(rt.alloc(), line), "{line}");
-    }
+    assert_none(&rt, wrong_line(rt.alloc(), BROKEN));
 }
 
 /// A block all of whose slots are needed fills the spare, and writing goes on beside it.
@@ -52,5 +49,5 @@ const FULL: &str = "\
 
 #[test]
 fn a_block_without_garbage_is_retired(rt: HostRuntime) {
-    assert!(rt; is_right(rt.alloc(), FULL));
+    assert_none(&rt, wrong_line(rt.alloc(), FULL));
 }

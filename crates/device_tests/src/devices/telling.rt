@@ -48,24 +48,9 @@ impl Answers {
         self.push(answer);
     }
 
-    /// Goes on with a number.
-    pub fn number(&mut self, number: u32) {
-        if write!(self.text, " {number}").is_err() {
-            self.is_whole = false;
-        }
-    }
-
-    /// Goes on with a number and what it counts.
-    fn count(&mut self, name: &str, number: u64) {
-        if write!(self.text, " {name} {number}").is_err() {
-            self.is_whole = false;
-        }
-    }
-
-    /// Goes on with the slot, the page and the version of a record.
-    fn record(&mut self, found: Found) {
-        let (slot, page, version) = (found.slot.0, found.rec.page, found.rec.version);
-        if write!(self.text, " {slot}:{page}.{version}").is_err() {
+    /// Goes on with a text and a number.
+    pub fn put(&mut self, text: &str, number: u64) {
+        if write!(self.text, "{text}{number}").is_err() {
             self.is_whole = false;
         }
     }
@@ -82,7 +67,7 @@ pub fn say_refusal(answers: &mut Answers, refusal: SubmitError) {
         SubmitError::Full { free } => say_number(answers, "full", free),
         SubmitError::Overlap { page, tag } => {
             say_number(answers, "overlap", page);
-            answers.number(tag);
+            answers.put(" ", u64::from(tag));
         }
     }
 }
@@ -90,7 +75,7 @@ pub fn say_refusal(answers: &mut Answers, refusal: SubmitError) {
 /// Says a word and a number.
 fn say_number(answers: &mut Answers, word: &str, number: u32) {
     answers.say(word);
-    answers.number(number);
+    answers.put(" ", u64::from(number));
 }
 
 /// Says what a step answered. A fault is told by the word given.
@@ -98,7 +83,7 @@ pub fn say_step(answers: &mut Answers, answer: Result<Progress, StepError>, faul
     match answer {
         Ok(Progress::Wrote { done, all }) => {
             say_number(answers, "wrote", done);
-            answers.number(all);
+            answers.put(" ", u64::from(all));
         }
         Ok(Progress::Done) => answers.say("done"),
         Err(StepError::Unknown) => answers.say("unknown"),
@@ -138,34 +123,35 @@ pub fn say_retired(answers: &mut Answers, answer: Result<(), RetireError>, fault
 /// Says how many transactions went on and were finished.
 pub fn say_moved(answers: &mut Answers, moved: Moved) {
     say_number(answers, "moved", moved.moved);
-    answers.count("finished", u64::from(moved.finished));
+    answers.put(" finished ", u64::from(moved.finished));
 }
 
 /// Says the first byte of a page whose other bytes are zeros.
-pub fn say_page(answers: &mut Answers, page: &[u8]) {
-    match page {
-        [first, rest @ ..] if rest.iter().all(|byte| *byte == 0) => {
-            say_number(answers, "page", u32::from(*first));
-        }
-        _ => answers.say("other"),
+pub fn say_page(answers: &mut Answers, page: &[u8; 16]) {
+    if page[1..] == [0; 15] {
+        say_number(answers, "page", u32::from(page[0]));
+    } else {
+        answers.say("other");
     }
 }
 
 /// Says the numbers of a device.
 pub fn say_stats(answers: &mut Answers, stats: Stats) {
     answers.say("stats");
-    answers.count("written", u64::from(stats.written));
-    answers.count("open", u64::from(stats.tags));
-    answers.count("pending", u64::from(stats.pending));
-    answers.count("programs", stats.programs);
-    answers.count("erases", stats.erases);
-    answers.count("garbage", u64::from(stats.garbage));
+    answers.put(" written ", u64::from(stats.written));
+    answers.put(" open ", u64::from(stats.tags));
+    answers.put(" pending ", u64::from(stats.pending));
+    answers.put(" programs ", stats.programs);
+    answers.put(" erases ", stats.erases);
+    answers.put(" garbage ", u64::from(stats.garbage));
 }
 
 /// Says the records that a device knows: their slots, pages and versions.
 pub fn say_found(answers: &mut Answers, list: &[Found]) {
     answers.say("records");
     for found in list {
-        answers.record(*found);
+        answers.put(" ", u64::from(found.slot.0));
+        answers.put(":", u64::from(found.rec.page));
+        answers.put(".", found.rec.version);
     }
 }

@@ -1,11 +1,12 @@
 //! Which blocks must go, and which has the most garbage.
 
-use super::lines::wrong_line;
-use super::tables::{opened, wrong_in_doubled};
+use super::tables::{doubled, opened, wrong_in};
+use crate::texts::assert_none;
 use flash_model::Seen::Blank;
 use scc_commit::Scc;
 use std::alloc::Global;
 use tx_types::{Config, Protocol};
+use version_index::Index;
 
 /// Changes one after another, and after each of each block its blank slots, the block with the most garbage, how much
 /// that is, and the blocks that hold a record which must go before versions 4 and 3 of page 1.
@@ -24,8 +25,7 @@ const CHANGES: &str = "\
 
 #[test]
 fn numbers_of_blocks(rt: HostRuntime) {
-    let wrong = wrong_in_doubled(rt.alloc(), CHANGES);
-    assert!(rt; wrong.is_empty(), "{wrong}");
+    assert_none(&rt, wrong_in(rt.alloc(), doubled(rt.alloc()), CHANGES));
 }
 
 /// Seventeen blocks: one of them is alone in the second sixteen.
@@ -45,16 +45,12 @@ const SIXTEENS: &str = "\
     spare 16; most 0; among 0 2; among 1 0\n\
     spare 3; most 0; among 0 2; among 1 2";
 
-/// The first of the lines that is not right of the tables of seventeen blank blocks.
-fn wrong_in_seventeen(alloc: Global, lines: &'static str) -> &'static str {
-    match opened::<Scc>(alloc, SEVENTEEN, &[Blank; 34], &[]) {
-        Some(mut index) => wrong_line(alloc, &mut index, lines),
-        None => "no tables",
-    }
+/// The tables of seventeen blank blocks.
+fn seventeen(alloc: Global) -> Option<Index<Scc>> {
+    opened::<Scc>(alloc, SEVENTEEN, &[Blank; 34], &[])
 }
 
 #[test]
 fn most_garbage_of_sixteens(rt: HostRuntime) {
-    let wrong = wrong_in_seventeen(rt.alloc(), SIXTEENS);
-    assert!(rt; wrong.is_empty(), "{wrong}");
+    assert_none(&rt, wrong_in(rt.alloc(), seventeen(rt.alloc()), SIXTEENS));
 }

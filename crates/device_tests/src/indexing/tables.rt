@@ -8,6 +8,7 @@ ghost use Rattle.version_index.specs.Noted.{IsNextRecord, IsCompleteCycle};
 
 use super::lines::wrong_line;
 use crate::building::{BACK_POINTER, found, has_slot, is_scanned, rec, slot_count};
+use crate::texts::assert_none;
 use bpcc_commit::Bpcc;
 use flash_model::Seen;
 use flash_model::Seen::{Blank, Complete, Damaged};
@@ -47,6 +48,20 @@ pub fn opened<R: CommitRule>(
         None => Index::from_scan(alloc, config, seen, list).ok(),
         Some(_) => None,
     }
+}
+
+/// The first of the lines that is not right of tables, which end then.
+pub fn wrong_in<R: CommitRule>(
+    alloc: Global,
+    tables: Option<Index<R>>,
+    lines: &'static str,
+) -> &'static str {
+    let Some(mut index) = tables else {
+        return "no tables";
+    };
+    let wrong = wrong_line(alloc, &mut index, lines);
+    drop(index);
+    wrong
 }
 
 /// Whether a slot exists and is blank.
@@ -126,7 +141,7 @@ fn link(page: u32, version: u64) -> Link {
 }
 
 /// A record of page 0 with a copy in each of the blocks 0 to 2, a damaged slot, and an aborted record.
-fn doubled(alloc: Global) -> Option<Index<Scc>> {
+pub fn doubled(alloc: Global) -> Option<Index<Scc>> {
     let seen = [
         Blank, Complete, Blank, Damaged, Complete, Blank, Complete, Complete, Blank, Blank, Blank,
         Blank,
@@ -141,14 +156,6 @@ fn doubled(alloc: Global) -> Option<Index<Scc>> {
     opened::<Scc>(alloc, CONFIG, &seen, &list)
 }
 
-/// The first of the lines that is not right of these tables.
-pub fn wrong_in_doubled(alloc: Global, lines: &'static str) -> &'static str {
-    match doubled(alloc) {
-        Some(mut index) => wrong_line(alloc, &mut index, lines),
-        None => "no tables",
-    }
-}
-
 /// Block 0 is the spare. The home is outside the spare, and outside block 1 the copy in the spare is the lowest. The
 /// aborted record goes by its own mention and by its link's.
 const DOUBLED: &str = "\
@@ -160,8 +167,7 @@ const DOUBLED: &str = "\
 
 #[test]
 fn a_doubled_record(rt: HostRuntime) {
-    let wrong = wrong_in_doubled(rt.alloc(), DOUBLED);
-    assert!(rt; wrong.is_empty(), "{wrong}");
+    assert_none(&rt, wrong_in(rt.alloc(), doubled(rt.alloc()), DOUBLED));
 }
 
 /// While it is pinned the aborted record is needed. A copy of it raises no mention, and is garbage like the slot that
@@ -175,8 +181,7 @@ const CHANGED: &str = "\
 
 #[test]
 fn changes_beside_it(rt: HostRuntime) {
-    let wrong = wrong_in_doubled(rt.alloc(), CHANGED);
-    assert!(rt; wrong.is_empty(), "{wrong}");
+    assert_none(&rt, wrong_in(rt.alloc(), doubled(rt.alloc()), CHANGED));
 }
 
 /// Takes a record into the array that is the only one. Tells whether that could be.
@@ -226,32 +231,28 @@ const FIRST_DISCARD: &str = "\
     needed 12: 9\n\
     garbage 2 0 3; garbage 3 0 2";
 
-/// The first of the lines that is not right of the tables of a blank flash, of which a block is lost and erased, and
-/// of those with a first record.
-fn wrong_in_first(alloc: Global, discard: bool, lines: &'static str) -> &'static str {
-    let Some(mut index) = opened::<Scc>(alloc, CONFIG, &[Blank; 12], &[]) else {
-        return "no tables";
-    };
+/// The tables of a blank flash of which a block is lost and erased, and into which a first record is written then.
+fn first(alloc: Global, discard: bool) -> Option<Index<Scc>> {
+    let mut index = opened::<Scc>(alloc, CONFIG, &[Blank; 12], &[])?;
     let wrong = wrong_line(alloc, &mut index, CLEARED);
-    if !wrong.is_empty() {
-        wrong
-    } else if is_written(alloc, &mut index, discard) {
-        wrong_line(alloc, &mut index, lines)
-    } else {
-        "no first record"
+    if wrong.is_empty() && is_written(alloc, &mut index, discard) {
+        return Some(index);
     }
+    drop(index);
+    None
 }
 
 #[test]
 fn a_first_record(rt: HostRuntime) {
-    let wrong = wrong_in_first(rt.alloc(), false, FIRST);
-    assert!(rt; wrong.is_empty(), "{wrong}");
+    assert_none(&rt, wrong_in(rt.alloc(), first(rt.alloc(), false), FIRST));
 }
 
 #[test]
 fn a_first_discard(rt: HostRuntime) {
-    let wrong = wrong_in_first(rt.alloc(), true, FIRST_DISCARD);
-    assert!(rt; wrong.is_empty(), "{wrong}");
+    assert_none(
+        &rt,
+        wrong_in(rt.alloc(), first(rt.alloc(), true), FIRST_DISCARD),
+    );
 }
 
 /// Under Back Pointer Cyclic Commit: an aborted record of page 0, a superseded one of page 1 that
@@ -283,16 +284,7 @@ const HELD: &str = "\
     garbage 0 1 1; garbage 4 2 2; garbage 5 0 4; garbage 7 0 0\n\
     must_go 1 9 -; going 1 9:";
 
-/// The first of the lines that is not right of these tables.
-fn wrong_in_held(alloc: Global, lines: &'static str) -> &'static str {
-    match held(alloc) {
-        Some(mut index) => wrong_line(alloc, &mut index, lines),
-        None => "no tables",
-    }
-}
-
 #[test]
 fn a_held_record(rt: HostRuntime) {
-    let wrong = wrong_in_held(rt.alloc(), HELD);
-    assert!(rt; wrong.is_empty(), "{wrong}");
+    assert_none(&rt, wrong_in(rt.alloc(), held(rt.alloc()), HELD));
 }

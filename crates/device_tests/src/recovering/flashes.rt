@@ -4,7 +4,7 @@ ghost use Rattle.std.specs.Prelude.{◌≡◌, Ok};
 ghost use Rattle.tx_types.specs.Config.{checked, shape_of};
 
 use crate::building::{BACK_POINTER, SIMPLE, blank_flash, put_all};
-use crate::texts::is_like;
+use crate::texts::{assert_none, is_like};
 use bpcc_commit::Bpcc;
 use mem_flash::MemFlash;
 use record_list::CommitRule;
@@ -23,7 +23,10 @@ fn refusal<R: CommitRule>(
     requires rule { config.protocol ≡ R.protocol }
 {
     match recover::<MemFlash, R>(alloc, flash, config) {
-        Ok(_) => None,
+        Ok(tables) => {
+            drop(tables);
+            None
+        }
         Err(error) => Some(error),
     }
 }
@@ -90,6 +93,16 @@ fn is_right(alloc: Global, line: &str) -> bool {
     }
 }
 
+/// The first of the lines that is not right, or nothing.
+fn wrong_line(alloc: Global, lines: &'static str) -> &'static str {
+    for line in lines.split('\n') {
+        if !is_right(alloc, line) {
+            return line;
+        }
+    }
+    ""
+}
+
 /// Two records with one link, a page that does not exist, and a link to one.
 const LINKS: &str = "\
     scc: nothing => sound reads 32\n\
@@ -121,11 +134,10 @@ const BLOCKS: &str = "\
 
 #[test]
 fn the_least_law_is_named_with_its_slot(rt: HostRuntime) {
-    for lines in [LINKS, DOUBLES, BACK_VERSIONS, BLOCKS] {
-        for line in lines.split('\n') {
-            assert!(rt; is_right(rt.alloc(), line), "{line}");
-        }
-    }
+    assert_none(&rt, wrong_line(rt.alloc(), LINKS));
+    assert_none(&rt, wrong_line(rt.alloc(), DOUBLES));
+    assert_none(&rt, wrong_line(rt.alloc(), BACK_VERSIONS));
+    assert_none(&rt, wrong_line(rt.alloc(), BLOCKS));
 }
 
 /// Records that count, behind the back version and the byte. One of format 1 counts none, and a transaction did not
@@ -142,9 +154,7 @@ const COUNTED: &str = "\
 
 #[test]
 fn records_count_the_pages_of_their_transaction(rt: HostRuntime) {
-    for line in COUNTED.split('\n') {
-        assert!(rt; is_right(rt.alloc(), line), "{line}");
-    }
+    assert_none(&rt, wrong_line(rt.alloc(), COUNTED));
 }
 
 /// A slot whose spare area is all zeros, and one with a record of a page that does not exist.
@@ -156,9 +166,7 @@ const UNREAD: &str = "\
 
 #[test]
 fn law_1_names_the_lowest_slot_of_both_kinds(rt: HostRuntime) {
-    for line in UNREAD.split('\n') {
-        assert!(rt; is_right(rt.alloc(), line), "{line}");
-    }
+    assert_none(&rt, wrong_line(rt.alloc(), UNREAD));
 }
 
 /// A read of a flash with two copies of a record fails, or the one behind the last.
@@ -170,7 +178,5 @@ const FAILED_READS: &str = "\
 
 #[test]
 fn a_read_that_fails_is_a_fault(rt: HostRuntime) {
-    for line in FAILED_READS.split('\n') {
-        assert!(rt; is_right(rt.alloc(), line), "{line}");
-    }
+    assert_none(&rt, wrong_line(rt.alloc(), FAILED_READS));
 }

@@ -5,7 +5,7 @@ ghost use Rattle.record_list.specs.SoundList.{OwnPageExists};
 ghost use Rattle.tx_types.specs.Config.{checked, shape_of};
 
 use super::flashes::refused;
-use crate::building::{BACK_POINTER, Item, SIMPLE, blank_flash, found, is_scanned, put, rec};
+use crate::building::{BACK_POINTER, SIMPLE, blank_flash, found, is_scanned, put_record, rec};
 use bpcc_commit::Bpcc;
 use mem_flash::MemFlash;
 use record_list::{Breach, CommitRule, Found};
@@ -104,14 +104,12 @@ fn place_full(
         if draw(seed, 24) != 0 {
             items.push(current(4 * block, block + 3))?;
         }
-        match draw(seed, 48) {
-            0 => items.push(current(4 * block + 1, 3))?,
-            1 => {
-                let item = any_placed(seed, protocol, 4 * block + 1, items.last());
-                items.push(item)?;
-            }
-            _ => {}
-        }
+        let second = match draw(seed, 48) {
+            0 => current(4 * block + 1, 3),
+            1 => any_placed(seed, protocol, 4 * block + 1, items.last()),
+            _ => continue,
+        };
+        items.push(second)?;
     }
     Ok(())
 }
@@ -123,11 +121,19 @@ fn have_pages(list: &[Found]) -> bool
     list.iter().all(|found| found.rec.page < LOGICAL)
 }
 
+/// Whether two records have one name.
+fn is_one_name(one: Rec, other: Rec) -> bool {
+    one.page == other.page && one.version == other.version
+}
+
 /// Whether a slot outside a block holds a record of this record's name.
 fn stands_outside(list: &[Found], block: u32, rec: Rec) -> bool {
-    list.iter().any(|found| {
-        found.slot.0 / 4 != block && (found.rec.page, found.rec.version) == (rec.page, rec.version)
-    })
+    for found in list {
+        if found.slot.0 / 4 != block && is_one_name(found.rec, rec) {
+            return true;
+        }
+    }
+    false
 }
 
 /// Whether each current and each held record has a slot outside a block.
@@ -158,16 +164,21 @@ fn has_removable<R: CommitRule>(list: &[Found]) -> bool
     false
 }
 
-/// Whether two records have one name, and are not the same or have other bytes.
-fn differ(one: Placed, other: Placed) -> bool {
-    let is_one_name = (one.rec.page, one.rec.version) == (other.rec.page, other.rec.version);
-    is_one_name && (one.rec != other.rec || one.fill != other.fill)
+/// Whether an item has the name of one in a lower slot and another record, or other bytes.
+fn differs(items: &[Placed], item: &Placed) -> bool {
+    for lower in items {
+        let is_double = lower.slot < item.slot && is_one_name(lower.rec, item.rec);
+        if is_double && (lower.rec != item.rec || lower.fill != item.fill) {
+            return true;
+        }
+    }
+    false
 }
 
 /// The lowest slot that has the name of a lower one and another record, or other bytes.
 fn first_other(items: &[Placed]) -> Option<Slot> {
-    for (at, item) in items.iter().enumerate() {
-        if items.iter().take(at).any(|lower| differ(*lower, *item)) {
+    for item in items {
+        if differs(items, item) {
             return Some(Slot(item.slot));
         }
     }
@@ -210,9 +221,9 @@ fn is_right<R: CommitRule>(
     if !is_scanned(list) || !have_pages(list) {
         return false;
     }
-    match (breach::<R>(list, other), refusal) {
-        (Some(breach), Some(RecoverError::Unsound { law, slot })) => breach == Breach { law, slot },
-        (breach, refusal) => breach.is_none() && refusal.is_none(),
+    match breach::<R>(list, other) {
+        Some(Breach { law, slot }) => refusal == Some(RecoverError::Unsound { law, slot }),
+        None => refusal.is_none(),
     }
 }
 
@@ -222,8 +233,7 @@ fn are_put(flash: &mut MemFlash, protocol: Protocol, items: &[Placed]) -> bool
     ensures { flash.new.shape ≡ flash.old.shape }
 {
     for item in items {
-        let record = Item::Record(Slot(item.slot), item.rec, item.fill);
-        if !put(flash, protocol, record) {
+        if !put_record(flash, protocol, Slot(item.slot), item.rec, item.fill) {
             return false;
         }
     }
@@ -238,6 +248,11 @@ struct Refusals {
 }
 
 impl Refusals {
+    /// Whether there were sound flashes, flashes without a removable block, and others.
+    fn are_varied(&self) -> bool {
+        50 < self.full && self.full.saturating_add(50) < self.all && self.all < 390
+    }
+
     /// Counts one more flash.
     fn count(&mut self, refusal: Option<RecoverError>) {
         if refusal.is_some() {
@@ -261,20 +276,32 @@ fn agrees(alloc: Global, config: Config, items: &[Placed], refusal: Option<Recov
     }
 }
 
-/// Whether recovery agrees with the plain audit of these records.
-fn is_judged(alloc: Global, config: Config, items: &[Placed], refusals: &mut Refusals) -> bool
-    requires check { checked config ≡ Ok (shape_of config) }
-    requires page { config.page_bytes ≡ 16 }
+/// Whether recovery of a new flash agrees with the plain audit of these records.
+fn is_judged(
+    alloc: Global,
+    flash: &mut MemFlash,
+    config: Config,
+    items: &[Placed],
+    refusals: &mut Refusals,
+) -> bool
+    requires check { checked config ≡ Ok flash.old.shape }
+    requires page { flash.old.shape.page_bytes ≡ 16 }
 {
-    let Some(mut flash) = blank_flash(alloc, config) else {
-        return false;
-    };
-    if !are_put(&mut flash, config.protocol, items) {
+    if !are_put(flash, config.protocol, items) {
         return false;
     }
-    let refusal = refused(alloc, &mut flash, config);
+    let refusal = refused(alloc, flash, config);
     refusals.count(refusal);
     agrees(alloc, config, items, refusal)
+}
+
+/// Places records: as they come, or in blocks that are mostly full. Tells whether there was memory.
+fn are_placed(seed: &mut u64, protocol: Protocol, is_full: bool, items: &mut Vec<Placed>) -> bool {
+    if is_full {
+        place_full(seed, protocol, items).is_ok()
+    } else {
+        place_any(seed, protocol, items).is_ok()
+    }
 }
 
 /// Whether recovery agrees with the plain audit in a round: of records as they come, or of blocks that are mostly
@@ -290,29 +317,38 @@ fn is_round_right(
     requires page { config.page_bytes ≡ 16 }
 {
     let mut items = Vec::new(alloc);
-    let placed = if is_full {
-        place_full(seed, config.protocol, &mut items)
-    } else {
-        place_any(seed, config.protocol, &mut items)
-    };
-    placed.is_ok() && is_judged(alloc, config, &items, refusals)
+    if !are_placed(seed, config.protocol, is_full, &mut items) {
+        return false;
+    }
+    match blank_flash(alloc, config) {
+        Some(mut flash) => is_judged(alloc, &mut flash, config, &items, refusals),
+        None => false,
+    }
+}
+
+/// In how many of 200 rounds recovery agrees with the plain audit, before the first in which it does not.
+fn right_rounds(alloc: Global, refusals: &mut Refusals) -> u32 {
+    let mut seed = 1;
+    for round in 0..200 {
+        let is_full = round % 2 != 0;
+        if !is_round_right(alloc, SIMPLE, is_full, &mut seed, refusals)
+            || !is_round_right(alloc, BACK_POINTER, is_full, &mut seed, refusals)
+        {
+            return round;
+        }
+    }
+    200
 }
 
 #[test]
 fn recovery_agrees_with_the_plain_audit(rt: HostRuntime) {
-    let mut seed = 1;
     let mut refusals = Refusals { all: 0, full: 0 };
-    for round in 0..200 {
-        let is_full = round % 2 != 0;
-        for config in [SIMPLE, BACK_POINTER] {
-            let is_right = is_round_right(rt.alloc(), config, is_full, &mut seed, &mut refusals);
-            assert!(rt; is_right, "round {round}");
-        }
-    }
-    // sound lists are among them, lists without a removable block, and others
-    let Refusals { all, full } = refusals;
+    let rounds = right_rounds(rt.alloc(), &mut refusals);
+    assert!(rt; rounds == 200, "round {rounds}");
     assert!(rt;
-        50 < full && full.saturating_add(50) < all && all < 390,
-        "{full} of {all}"
+        refusals.are_varied(),
+        "{} of {}",
+        refusals.full,
+        refusals.all
     );
 }

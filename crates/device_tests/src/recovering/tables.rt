@@ -5,7 +5,8 @@ ghost use Rattle.tx_types.specs.Config.{shape_of};
 
 use crate::building::{BACK_POINTER, SIMPLE, written};
 use crate::indexing::lines::wrong_line;
-use crate::texts::number;
+use crate::indexing::tables::wrong_in;
+use crate::texts::{assert_none, number, word};
 use bpcc_commit::Bpcc;
 use die_alloc::Blocks;
 use flash_model::Flash;
@@ -14,6 +15,7 @@ use scan_recovery::recover;
 use scc_commit::Scc;
 use std::alloc::Global;
 use tx_types::{Block, BlockState, Slot};
+use version_index::Index;
 
 /// A page at version 1 and its version 2, which is current; a loose version 3, whose transaction
 /// did not go on; a page in two slots, and one in the last block. A slot is damaged.
@@ -34,14 +36,13 @@ const TABLES: &str = "\
 /// Of each block its state and how many slots are used.
 const BLOCKS: &str = "shut 2; shut 1; shut 4; clean 0; clean 0; clean 0; spare 0; shut 1";
 
-/// The state that a word says.
-fn state(word: &str) -> Option<BlockState> {
+/// Whether a state is the one that a word says.
+fn is_state(state: BlockState, word: &str) -> bool {
     match word {
-        "spare" => Some(BlockState::Spare),
-        "clean" => Some(BlockState::Clean),
-        "part" => Some(BlockState::Part),
-        "shut" => Some(BlockState::Shut),
-        _ => None,
+        "spare" => state == BlockState::Spare,
+        "clean" => state == BlockState::Clean,
+        "shut" => state == BlockState::Shut,
+        _ => false,
     }
 }
 
@@ -49,14 +50,9 @@ fn state(word: &str) -> Option<BlockState> {
 fn is_block_right(blocks: &Blocks, block: u32, words: &str) -> bool
     requires { blocks.now.shape ≡ shape_of BACK_POINTER }
 {
-    if block >= 8 {
-        return false;
-    }
-    let Some((name, used)) = words.split_once(' ') else {
-        return false;
-    };
-    state(name) == Some(blocks.state(Block(block)))
-        && number(Some(used)) == Some(blocks.used(Block(block)))
+    block < 8
+        && is_state(blocks.state(Block(block)), word(words, 0))
+        && blocks.used(Block(block)) == number(words, 1)
 }
 
 /// Whether the blocks are as they are to be, and programs go to the dies in turn.
@@ -81,29 +77,49 @@ fn are_counts_right(flash: &MemFlash) -> bool {
     flash.reads() == 34 && flash.programs() == 6 && flash.erases() == 0
 }
 
-/// What is wrong of the tables of a flash that is sound.
-fn wrong_in_kept(alloc: Global) -> &'static str {
-    let Some(mut flash) = written(alloc, BACK_POINTER, KEPT) else {
-        return "no flash";
-    };
-    match recover::<MemFlash, Bpcc>(alloc, &mut flash, BACK_POINTER) {
+/// What is wrong of a flash, and of the tables that were made of it.
+fn wrong_in_kept(
+    alloc: Global,
+    flash: &MemFlash,
+    index: &mut Index<Bpcc>,
+    blocks: &mut Blocks,
+) -> &'static str
+    requires { blocks.old.shape ≡ shape_of BACK_POINTER }
+{
+    if !are_counts_right(flash) {
+        "the counts"
+    } else if !are_blocks_right(blocks) {
+        "the blocks"
+    } else {
+        wrong_line(alloc, index, TABLES)
+    }
+}
+
+/// What is wrong of a flash that is sound.
+fn wrong_in_sound(alloc: Global, flash: &mut MemFlash) -> &'static str
+    requires { flash.old.shape ≡ shape_of BACK_POINTER }
+{
+    match recover::<MemFlash, Bpcc>(alloc, flash, BACK_POINTER) {
         Ok((mut index, mut blocks)) => {
-            if !are_counts_right(&flash) {
-                "the counts"
-            } else if !are_blocks_right(&mut blocks) {
-                "the blocks"
-            } else {
-                wrong_line(alloc, &mut index, TABLES)
-            }
+            let wrong = wrong_in_kept(alloc, flash, &mut index, &mut blocks);
+            drop((index, blocks));
+            wrong
         }
         Err(_) => "refused",
     }
 }
 
+/// What is wrong of the flash with the items above.
+fn wrong_of_kept(alloc: Global) -> &'static str {
+    match written(alloc, BACK_POINTER, KEPT) {
+        Some(mut flash) => wrong_in_sound(alloc, &mut flash),
+        None => "no flash",
+    }
+}
+
 #[test]
 fn a_sound_flash_gives_its_tables(rt: HostRuntime) {
-    let wrong = wrong_in_kept(rt.alloc());
-    assert!(rt; wrong.is_empty(), "{wrong}");
+    assert_none(&rt, wrong_of_kept(rt.alloc()));
 }
 
 /// A page at version 1; its version 2 in two slots, and a page at version 1, whose transactions did not
@@ -115,18 +131,27 @@ const GOING: &str = "\
     must_go 0 2 -; must_go 0 3 1; must_go 1 1 -; must_go 1 2 1; must_go 2 2 2; must_go 3 2 2; must_go 4 9 -";
 
 /// What is wrong of the tables of a flash with loose records.
-fn wrong_in_loose(alloc: Global) -> &'static str {
-    let Some(mut flash) = written(alloc, SIMPLE, LOOSE) else {
-        return "no flash";
-    };
-    match recover::<MemFlash, Scc>(alloc, &mut flash, SIMPLE) {
-        Ok((mut index, _)) => wrong_line(alloc, &mut index, GOING),
+fn wrong_in_loose(alloc: Global, flash: &mut MemFlash) -> &'static str
+    requires { flash.old.shape ≡ shape_of SIMPLE }
+{
+    match recover::<MemFlash, Scc>(alloc, flash, SIMPLE) {
+        Ok((index, blocks)) => {
+            drop(blocks);
+            wrong_in(alloc, Some(index), GOING)
+        }
         Err(_) => "refused",
+    }
+}
+
+/// What is wrong of the flash with the items above.
+fn wrong_of_loose(alloc: Global) -> &'static str {
+    match written(alloc, SIMPLE, LOOSE) {
+        Some(mut flash) => wrong_in_loose(alloc, &mut flash),
+        None => "no flash",
     }
 }
 
 #[test]
 fn loose_records_must_go(rt: HostRuntime) {
-    let wrong = wrong_in_loose(rt.alloc());
-    assert!(rt; wrong.is_empty(), "{wrong}");
+    assert_none(&rt, wrong_of_loose(rt.alloc()));
 }

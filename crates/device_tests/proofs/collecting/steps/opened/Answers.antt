@@ -4,10 +4,10 @@ use Rattle.version_index.specs.Images.{IsSoundImage}
 use Rattle.tx_engine.proofs.OfMount.Mounted.{opened_matches}
 use Rattle.device_tests.proofs.collecting.steps.opened.Goals as goal
 
-pub returns-clause-matches : goal.returns-clause-matches
-returns-clause-matches g c =
+pub returns-in-Ok-clause-matches : goal.returns-in-Ok-clause-matches
+returns-in-Ok-clause-matches g c =
     let opened = c.in-Ok.ensures in
     opened_matches c.opened_tables_match.ensures c.args.config (state_of c.args.flash)
-    (state_of c.recover.new.flash) _ _ c.requires.check c.shape-size.ensures.whole
+    (state_of c.recover.new.flash) _ _ c.requires.check c.shape.ensures.whole
     (subst (λ q. IsSoundImage q c.args.config.logical c.args.flash.shape c.args.flash.image) (sym c.requires.rule) opened.sound)
     opened.tables opened.carries.shape opened.moment

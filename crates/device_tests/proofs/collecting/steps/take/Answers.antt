@@ -1,19 +1,13 @@
-use Rattle.std.proofs.Common.{ap}
-use Rattle.mem_flash.specs.Memory.{MemoryState, state_of}
+use Rattle.mem_flash.specs.Memory.{state_of}
 use Rattle.collector.proofs.OfSettle.SettledExits.{matches_still}
 use Rattle.device_tests.proofs.collecting.steps.take.Goals as goal
 
-pub returns-in-Fault-clause-matches : goal.returns-in-Fault-clause-matches
-returns-in-Fault-clause-matches g c =
-    matches_still (state_of c.args.kept.now.flash) (state_of c.arm_fault.new.self) _ _ _
-    (ap (λ (m : MemoryState). m.shape) c.arm_fault.ensures.exact) (ap (λ (m : MemoryState). m.image) c.arm_fault.ensures.exact) c.requires.matches
+pub answer-requires-clause-matches : goal.answer-requires-clause-matches
+answer-requires-clause-matches g c =
+    matches_still (state_of c.args.kept.now.flash) (state_of c.is_armed.new.flash) _ _ _
+    c.is_armed.ensures.shape c.is_armed.ensures.image c.requires.matches
 
-pub returns-in-BadRead-clause-matches : goal.returns-in-BadRead-clause-matches
-returns-in-BadRead-clause-matches g c =
-    matches_still (state_of c.args.kept.now.flash) (state_of c.arm_bad_read.new.self) _ _ _
-    (ap (λ (m : MemoryState). m.shape) c.arm_bad_read.ensures.exact) (ap (λ (m : MemoryState). m.image) c.arm_bad_read.ensures.exact) c.requires.matches
-
-pub returns-in-Cut-clause-matches : goal.returns-in-Cut-clause-matches
-returns-in-Cut-clause-matches g c =
-    matches_still (state_of c.args.kept.now.flash) (state_of c.arm_cut.new.self) _ _ _
-    (ap (λ (m : MemoryState). m.shape) c.arm_cut.ensures.exact) (ap (λ (m : MemoryState). m.image) c.arm_cut.ensures.exact) c.requires.matches
+pub returns-then-is_armed-clause-matches : goal.returns-then-is_armed-clause-matches
+returns-then-is_armed-clause-matches g c =
+    matches_still (state_of c.args.kept.now.flash) (state_of c.is_armed.new.flash) _ _ _
+    c.is_armed.ensures.shape c.is_armed.ensures.image c.requires.matches
