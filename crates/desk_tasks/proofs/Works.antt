@@ -33,6 +33,18 @@ pub stopped : (P Q : Fate → Type 0) (result : Result Product Stop) (e : Stop) 
 stopped P Q (Ok product) e same leads h = absurd same
 stopped P Q (Err x) e same leads h = stops_by P Q leads x (rw same h)
 
+-- what nothing refuses stops only where memory runs out
+pub only_memory : (P : Fate → Type 0) → ((fate : Fate) → P fate → ⊥) → (stopped : Stop) → StopsBy P stopped → stopped ≡ stop.Memory
+only_memory P never (stop.Refused refusal) h = absurd (never (refused refusal) h)
+only_memory P never stop.Fault h = absurd h
+only_memory P never stop.Memory h = refl
+
+-- and then the work does
+pub out_of_memory : (Q : Fate → Type 0) (result : Result Product Stop) (e : Stop) → IsErrAnd result (λ x. x ≡ e) →
+    e ≡ stop.Memory → WorksTo Q result
+out_of_memory Q (Ok product) e same memory = absurd same
+out_of_memory Q (Err x) e same memory = rw (same, memory) tt
+
 -- so is what stops where reading an image does
 image_stops_by : (P : ImageFate → Type 0) (Q : Fate → Type 0) → ((why : ImageFate) → P why → Q (Image why)) → (stopped : ImageStop) →
     ImageStops P stopped → StopsBy Q (stop_of stopped)
