@@ -1,6 +1,6 @@
 -- How the work of a task ends, from its parts.
 use Rattle.std.proofs.Common.{◌≡◌, inl, inr, ℕ, suc, ◌<◌, List, [], ◌∷◌, length, Option, None, Some, Result, Ok, Err, refl, ap, ◌∙◌}
-use Rattle.std.specs.Prelude.{All, IfSome}
+use Rattle.std.specs.Prelude.{All, IfErr, IfSome}
 use Rattle.std.specs.Option.{option_map}
 use Rattle.std.specs.Result.{IsErrAnd}
 use Rattle.std.proofs.lemmas.List.Elements.{All-cons, All-nil}
@@ -39,7 +39,12 @@ only_memory P never (stop.Refused refusal) h = absurd (never (refused refusal) h
 only_memory P never stop.Fault h = absurd h
 only_memory P never stop.Memory h = refl
 
--- and then the work does
+-- and so does what stops with it
+pub memory_alone : {T : Type 0} → (result : Result T Stop) (e : Stop) → IsErrAnd result (λ x. x ≡ e) → e ≡ stop.Memory →
+    IfErr result (λ x. x ≡ stop.Memory)
+memory_alone (Ok done) e same memory = absurd same
+memory_alone (Err x) e same memory = same ∙ memory
+
 pub out_of_memory : (Q : Fate → Type 0) (result : Result Product Stop) (e : Stop) → IsErrAnd result (λ x. x ≡ e) →
     e ≡ stop.Memory → WorksTo Q result
 out_of_memory Q (Ok product) e same memory = absurd same

@@ -196,7 +196,7 @@ fn sum_up(
     Ok(line)
 }
 
-/// Serves commands on a fresh device. The replies to them.
+/// Serves commands on a fresh device, and answers the replies.
 fn serve_fresh(
     alloc: Global,
     protocol: Protocol,
@@ -207,8 +207,8 @@ fn serve_fresh(
     ensures err { IfErr result (λ e. e ≡ Stop.Memory) }
 {
     let config = default_config(protocol);
-    let flash = blank_flash(alloc, config)?;
-    let ServedFlash { flash, replies } = served(alloc, flash, config, list)?;
+    let blank = blank_flash(alloc, config)?;
+    let ServedFlash { flash, replies } = served(alloc, blank, config, list)?;
     drop(flash);
     Ok(replies)
 }

@@ -20,16 +20,14 @@ returns-in-Ok-clause-shape g c =
 
 pub returns-in-Err-Unsound-clause-err : goal.returns-in-Err-Unsound-clause-err
 returns-in-Err-Unsound-clause-err g c =
-    let why = rw c.in-Err-Unsound.is at c.in-Err-Unsound.field-0-is in
-    let done = c.in-Err-Unsound.is ∙ ap (λ (e : KeyServeError). Err e) why in
+    let done = c.in-Err.is ∙ ap (λ (e : KeyServeError). Err e) c.in-Err-Unsound.is in
     refuses_store c.args.config c.args.flash c.in-Err-Unsound.law c.in-Err-Unsound.slot
     (rw done at (c.key_serve-flash.ensures.refuses (λ image.
     rw done at (c.key_serve-flash.ensures.serves image))))
 
 pub returns-in-Err-Bucket-clause-err : goal.returns-in-Err-Bucket-clause-err
 returns-in-Err-Bucket-clause-err g c =
-    let why = rw c.in-Err-Bucket.is at c.in-Err-Bucket.field-0-is in
-    let done = c.in-Err-Bucket.is ∙ ap (λ (e : KeyServeError). Err e) why in
+    let done = c.in-Err.is ∙ ap (λ (e : KeyServeError). Err e) c.in-Err-Bucket.is in
     refuses_bucket c.args.config c.args.flash c.in-Err-Bucket.page
     (rw done at (c.key_serve-flash.ensures.refuses (λ image.
     rw done at (c.key_serve-flash.ensures.serves image))))

@@ -1,4 +1,4 @@
-use Rattle.std.proofs.Common.{◌≡◌, inl, inr, sym, ap, Some, ◌∙◌}
+use Rattle.std.proofs.Common.{◌≡◌, inl, inr, refl, sym, ap, Some, Err, ◌∙◌}
 use Rattle.tx_types.specs.Config.{shape_of}
 use Rattle.desk_tasks.specs.Fate.{Fate}
 use Rattle.desk_tasks.specs.Retirements.{block_refusal}
@@ -23,18 +23,18 @@ pub retire-requires-clause-idle : goal.retire-requires-clause-idle
 retire-requires-clause-idle g c =
     idle_again c.in_ok-device.device.machine _ c.in_ok-device.ensures.ok.machine
 
-pub returns-in_err-retire-clause-err : goal.returns-in_err-retire-clause-err
-returns-in_err-retire-clause-err g c =
+pub returns-in-Err-clause-err : goal.returns-in-Err-clause-err
+returns-in-Err-clause-err g c =
     let flash = c.args.flash in
     let opened = c.in_ok-device.device in
     let kept = c.in_ok-device.ensures in
     leads_stop (λ (fate : Fate). block_refusal opened.config opened.flash.extras c.args.block.0 ≡ Some fate)
     (RefusesRetirement c.args.config flash.image flash.extras c.args.block.0)
     (λ fate h. inr (kept.sound, opened_refusal c.args.config flash opened c.requires.ready kept.ok c.args.block.0 (Some fate) h))
-    c.from_residual-in_err-retire.result c.in_err-retire.field-0.0 c.from_residual-in_err-retire.ensures.1 c.in_err-retire.ensures.err
+    (Err c.in-Err.stop) c.in-Err.stop refl (rw c.in-Err.is at c.retire.ensures.err)
 
-pub returns-clause-ok : goal.returns-clause-ok
-returns-clause-ok g c =
+pub returns-in-Ok-clause-ok : goal.returns-in-Ok-clause-ok
+returns-in-Ok-clause-ok g c =
     let kept = c.in_ok-device.ensures in
     leaves_retired c.args.config c.args.flash c.in_ok-device.device c.requires.ready kept.ok c.args.block.0 c.retire.new.device c.close.result
-    kept.sound c.in_ok-retire.ensures.refusal c.in_ok-retire.ensures.retires c.close.ensures
+    kept.sound (rw c.in-Ok.is at c.retire.ensures.refusal) (rw c.in-Ok.is at c.retire.ensures.retires) c.close.ensures
