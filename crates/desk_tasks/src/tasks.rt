@@ -197,11 +197,7 @@ fn sum_up(
 }
 
 /// Serves commands on a fresh device, and answers the replies.
-fn serve_fresh(
-    alloc: Global,
-    protocol: Protocol,
-    list: &[Command],
-) -> Result<Lines, Stop<'static>>
+fn serve_fresh(alloc: Global, protocol: Protocol, list: &[Command]) -> Result<Lines, Stop<'static>>
     requires { All (Suits (default_config protocol).page_bytes) list.now }
     ensures ok { IfOk result (RepliesFresh protocol list.now) }
     ensures err { IfErr result (λ e. e ≡ Stop.Memory) }
