@@ -24,7 +24,7 @@ returns-clause-ok g c =
     let two = c.in_ok-two.two.machine in
     leads_ok (ComesTo a pages b two.pages) (Opening b other (ComesTo a pages b (array_of_device b other))) Same
     (opened_second a pages b other c.in_ok-two.ensures.sound two c.in_ok-two.ensures.ok.machine)
-    c.compared_devices.result c.compared_devices.ensures.ok
+    c.compared_devices-outcome.result c.compared_devices-outcome.ensures.ok
 
 pub returns-clause-err : goal.returns-clause-err
 returns-clause-err g c =
@@ -35,4 +35,4 @@ returns-clause-err g c =
     let two = c.in_ok-two.two.machine in
     leads_err (ComesTo a pages b two.pages) (Opening b other (ComesTo a pages b (array_of_device b other)))
     (opened_second a pages b other c.in_ok-two.ensures.sound two c.in_ok-two.ensures.ok.machine)
-    c.compared_devices.result c.compared_devices.ensures.err
+    c.compared_devices-outcome.result c.compared_devices-outcome.ensures.err

@@ -15,7 +15,7 @@ returns-in-Ok-clause-ok g c =
     let other = c.args.other.image in
     let one = c.in-Ok.one.machine in
     leads_ok (Opening b other (ComesTo a one.pages b (array_of_device b other))) (Comparing a image b other) Same
-    (first_opened a image b other c.in-Ok.ensures.sound one c.in-Ok.ensures.ok.machine) c.compare_to_flash.result c.compare_to_flash.ensures.ok
+    (first_opened a image b other c.in-Ok.ensures.sound one c.in-Ok.ensures.ok.machine) c.compare_to_flash-outcome.result c.compare_to_flash-outcome.ensures.ok
 
 pub returns-in-Ok-clause-err : goal.returns-in-Ok-clause-err
 returns-in-Ok-clause-err g c =
@@ -25,7 +25,7 @@ returns-in-Ok-clause-err g c =
     let other = c.args.other.image in
     let one = c.in-Ok.one.machine in
     leads_err (Opening b other (ComesTo a one.pages b (array_of_device b other))) (Comparing a image b other)
-    (first_opened a image b other c.in-Ok.ensures.sound one c.in-Ok.ensures.ok.machine) c.compare_to_flash.result c.compare_to_flash.ensures.err
+    (first_opened a image b other c.in-Ok.ensures.sound one c.in-Ok.ensures.ok.machine) c.compare_to_flash-outcome.result c.compare_to_flash-outcome.ensures.err
 
 pub returns-in-Err-clause-err : goal.returns-in-Err-clause-err
 returns-in-Err-clause-err g c =
