@@ -11,7 +11,7 @@ use Rattle.host_protocol.specs.declared.command.Command.{Command}
 use Rattle.drive_gen.specs.Summary.{summary_line}
 use Rattle.desk_tasks.specs.Fate.{Fate, Explained, Ran}
 use Rattle.desk_tasks.specs.Runs.{IsRun, RepliesFresh, blank_image, default_config}
-use Rattle.desk_tasks.specs.Steps.{Explaining, Running, Trying}
+use Rattle.desk_tasks.specs.Steps.{Explaining, OpensAndServes, Running, Trying}
 use Rattle.image_desk.specs.Loading.{ReadsImage}
 use Rattle.desk_tasks.specs.Stops.{RefusesDevice, RefusesLine}
 use Rattle.version_index.proofs.OfTables.OneBreach.{sound_unbroken}
@@ -50,15 +50,10 @@ pub running_line : (name bytes lines : List ℕ) (its : Config) (image : List Co
     (fate : Fate) → RefusesLine its.page_bytes lines fate → Running name bytes lines fate
 running_line name bytes lines its image extras read fate h = (Ok (its, image, extras), read, ((Err h.0, h.1, h.2), refl))
 
-pub running_device : (name bytes lines : List ℕ) (its : Config) (image : List Contents) (extras : Extras) (cs : List Command) →
+pub running_on : (name bytes lines : List ℕ) (its : Config) (image : List Contents) (extras : Extras) (cs : List Command) →
     ReadsImage bytes (Ok (its, image, extras)) → IsFile its.page_bytes lines cs →
-    (fate : Fate) → RefusesDevice its image fate → Running name bytes lines fate
-running_device name bytes lines its image extras cs read file fate h = (Ok (its, image, extras), read, ((Ok cs, file, (Err h.0, h.1, h.2)), refl))
-
-pub running_done : (name bytes lines : List ℕ) (its : Config) (image : List Contents) (extras : Extras) (cs : List Command) →
-    ReadsImage bytes (Ok (its, image, extras)) → IsFile its.page_bytes lines cs →
-    IsSoundImage its.protocol its.logical (shape_of its) image → Running name bytes lines (Ran name its image extras cs)
-running_done name bytes lines its image extras cs read file sound = (Ok (its, image, extras), read, ((Ok cs, file, (Ok tt, sound, refl)), refl))
+    (fate : Fate) → OpensAndServes its image (Ran name its image extras cs) fate → Running name bytes lines fate
+running_on name bytes lines its image extras cs read file fate h = (Ok (its, image, extras), read, ((Ok cs, file, h), refl))
 
 -- ---- an explanation
 

@@ -27,6 +27,11 @@ stops_by P Q leads (stop.Refused refusal) h = leads (refused refusal) h
 stops_by P Q leads stop.Fault h = h
 stops_by P Q leads stop.Memory h = h
 
+-- work that comes to a fate in one way comes to it in another
+pub works_on : (P Q : Fate → Type 0) → ((fate : Fate) → P fate → Q fate) → (result : Result Product Stop) → WorksTo P result → WorksTo Q result
+works_on P Q leads (Ok product) h = (h.0, leads h.0 h.1, h.2, h.3)
+works_on P Q leads (Err stopped) h = stops_by P Q leads stopped h
+
 -- the work stops where a step does
 pub stopped : (P Q : Fate → Type 0) (result : Result Product Stop) (e : Stop) → IsErrAnd result (λ x. x ≡ e) →
     ((fate : Fate) → P fate → Q fate) → StopsBy P e → WorksTo Q result

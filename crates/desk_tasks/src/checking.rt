@@ -42,6 +42,20 @@ fn checked_text<'a>(alloc: Global, bytes: Vec<u8>, text: &[u8]) -> Result<Produc
     ensures { WorksTo (Checking bytes.items text.now) result }
 {
     let (config, flash) = read_device(alloc, bytes)?;
+    check_device(alloc, flash, config, text)
+}
+
+/// What a check of the report on a device gives.
+fn check_device<'a>(
+    alloc: Global,
+    flash: MemFlash,
+    config: Config,
+    text: &[u8],
+) -> Result<Product<'a>, Stop<'a>>
+    requires check { checked config ≡ Ok (shape_of config) }
+    requires ready { flash ≡ loaded (shape_of config) flash.image flash.extras }
+    ensures { WorksTo (Judging config flash.image text.now) result }
+{
     let pages = judged(alloc, flash, config, text)?;
     let line = good_line(alloc, pages)?;
     Ok(Product {

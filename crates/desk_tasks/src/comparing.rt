@@ -69,6 +69,23 @@ fn compared_with<'a>(
             return Err(Stop::from(stop));
         }
     };
+    compare_devices(alloc, config, flash, second, other)
+}
+
+/// What a comparison of two devices gives.
+fn compare_devices<'a>(
+    alloc: Global,
+    config: Config,
+    flash: MemFlash,
+    second: Config,
+    other: MemFlash,
+) -> Result<Product<'a>, Stop<'a>>
+    requires check { checked config ≡ Ok (shape_of config) }
+    requires ready { flash ≡ loaded (shape_of config) flash.image flash.extras }
+    requires second_check { checked second ≡ Ok (shape_of second) }
+    requires second_ready { other ≡ loaded (shape_of second) other.image other.extras }
+    ensures { WorksTo (Comparing config flash.image second other.image) result }
+{
     let logical = compared(alloc, config, flash, second, other)?;
     let line = same_line(alloc, logical)?;
     Ok(Product {

@@ -1,15 +1,16 @@
-ghost use Rattle.std.specs.Prelude.{◌≡◌, ◌≤◌, ◌++◌, ℕ, List, All, Some, IfOk, IfErr, codes, length};
+ghost use Rattle.std.specs.Prelude.{◌≡◌, ◌≤◌, ◌++◌, ℕ, List, All, Ok, Some, IfOk, IfErr, codes, length};
 ghost use Rattle.std.specs.Fmt.{decimal};
 ghost use Rattle.desk_io.specs.Desk.{DeskState, max_file_bytes};
 ghost use Rattle.drive_gen.specs.Summary.{summary_line};
 ghost use Rattle.host_protocol.specs.Commands.{Suits};
 ghost use Rattle.image_desk.specs.Refusals.{line};
-ghost use Rattle.desk_tasks.specs.Fate.{Driven};
+ghost use Rattle.desk_tasks.specs.Fate.{Driven, Ran};
 ghost use Rattle.desk_tasks.specs.Runs.{RepliesFresh, default_config};
-ghost use Rattle.desk_tasks.specs.Steps.{Explaining, Running, Trying, formatting};
+ghost use Rattle.desk_tasks.specs.Steps.{Explaining, OpensAndServes, Running, Trying, formatting};
 ghost use Rattle.desk_tasks.specs.Stops.{Works, WorksTo};
 ghost use Rattle.desk_tasks.specs.Asked.{Drive, Explain, Format, Run, Try};
-ghost use Rattle.tx_types.specs.Config.{checked};
+ghost use Rattle.mem_flash.specs.Memory.{loaded};
+ghost use Rattle.tx_types.specs.Config.{checked, shape_of};
 
 use crate::devices::{ServedFlash, blank_flash, default_config, explained, read_commands, served};
 use crate::product::{File, Product, Stop, Text};
@@ -21,6 +22,7 @@ use flash_model::MAX_ALLOWANCE;
 use host_protocol::Command;
 use image_desk::{fetch, read_device};
 use image_file::{blank_image, into_image};
+use mem_flash::MemFlash;
 use std::alloc::{AllocError, Global};
 use std::mem::forget;
 use tx_types::{Config, Protocol};
@@ -89,16 +91,34 @@ fn ran<'a>(
     ensures { WorksTo (Running name.now bytes.items lines.now) result }
 {
     let (config, flash) = read_device(alloc, bytes)?;
-    let list = match read_commands(alloc, lines, config.page_bytes) {
-        Ok(list) => list,
+    match read_commands(alloc, lines, config.page_bytes) {
+        Ok(list) => {
+            let product = run_commands(alloc, name, config, flash, &list);
+            leave(list);
+            product
+        }
         Err(stop) => {
             drop(flash);
-            return Err(stop);
+            Err(stop)
         }
-    };
-    let done = served(alloc, flash, config, &list);
-    leave(list);
-    let ServedFlash { flash, replies } = done?;
+    }
+}
+
+/// Serves commands on the device of a flash, whose image is then saved under this name.
+fn run_commands<'a>(
+    alloc: Global,
+    name: &'a str,
+    config: Config,
+    flash: MemFlash,
+    list: &[Command],
+) -> Result<Product<'a>, Stop<'a>>
+    requires check { checked config ≡ Ok (shape_of config) }
+    requires ready { flash ≡ loaded (shape_of config) flash.image flash.extras }
+    requires suits { All (Suits config.page_bytes) list.now }
+    ensures { WorksTo (OpensAndServes config flash.image
+        (Ran name.now config flash.image flash.extras list.now)) result }
+{
+    let ServedFlash { flash, replies } = served(alloc, flash, config, list)?;
     let saved = into_image(alloc, &config, flash)?;
     Ok(Product {
         saved: Some(File { name, bytes: saved }),
