@@ -19,8 +19,8 @@ use Rattle.list_facts.proofs.Lists.{take_whole}
 use Rattle.image_desk.specs.Loading.{ReadsImage}
 use Rattle.image_desk.specs.Refusals.{Unsound}
 use Rattle.desk_tasks.specs.Fate.{Fate, BadBucket, Image, Keyed}
-use Rattle.desk_tasks.specs.KeyWork.{IsKeysRun}
-use Rattle.desk_tasks.specs.Steps.{Keying}
+use Rattle.desk_tasks.specs.KeyWork.{IsKeysRun, OpensStore}
+use Rattle.desk_tasks.specs.Steps.{Keying, Opening}
 use Rattle.desk_tasks.specs.Stops.{RefusesScript, RefusesStore}
 use Rattle.desk_tasks.proofs.RunLemmas.{starts}
 
@@ -31,25 +31,19 @@ module _ (name bytes lines : List ℕ) (its : Config) (image : List Contents) (e
   pub keying_line : (fate : Fate) → RefusesScript lines fate → Keying name bytes lines fate
   keying_line fate h = (Ok (its, image, extras), read, ((Err h.0, h.1, h.2), refl))
 
-  pub keying_store : (cs : List KeyCommand) → IsScript lines cs → (fate : Fate) →
-      RefusesStore its image fate → Keying name bytes lines fate
-  keying_store cs script fate (inl h) =
-      (Ok (its, image, extras), read, ((Ok cs, script, (Err h.0, h.1, h.2)), refl))
-  keying_store cs script fate (inr h) = (
-    Ok (its, image, extras),
-    read,
-    ((Ok cs, script, (Ok tt, h.0, (Err h.1.0, h.1.1, h.1.2))), refl),
-  )
+  pub keying_on : (cs : List KeyCommand) → IsScript lines cs → (fate : Fate) →
+      Opening its image (OpensStore its image (Keyed name its image extras cs)) fate → Keying name bytes lines fate
+  keying_on cs script fate h = (Ok (its, image, extras), read, ((Ok cs, script, h), refl))
 
-  pub keying_done : (cs : List KeyCommand) → IsScript lines cs →
-      IsSoundImage its.protocol its.logical (shape_of its) image →
-      AreBuckets its (array_in its.protocol its.logical image) →
-      Keying name bytes lines (Keyed name its image extras cs)
-  keying_done cs script sound buckets = (
-    Ok (its, image, extras),
-    read,
-    ((Ok cs, script, (Ok tt, sound, (Ok tt, buckets, refl))), refl),
-  )
+-- what the store of an image comes to
+module _ (its : Config) (image : List Contents) (done : Fate) where
+  pub opening_store : (fate : Fate) → RefusesStore its image fate → Opening its image (OpensStore its image done) fate
+  opening_store fate (inl h) = (Err h.0, h.1, h.2)
+  opening_store fate (inr h) = (Ok tt, h.0, (Err h.1.0, h.1.1, h.1.2))
+
+  pub opening_done : IsSoundImage its.protocol its.logical (shape_of its) image → AreBuckets its (array_in its.protocol its.logical image) →
+      Opening its image (OpensStore its image done) done
+  opening_done sound buckets = (Ok tt, sound, (Ok tt, buckets, refl))
 
 -- ---- serving
 

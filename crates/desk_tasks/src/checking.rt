@@ -10,7 +10,7 @@ ghost use Rattle.desk_tasks.specs.Steps.{Checking, Judging};
 ghost use Rattle.desk_tasks.specs.Stops.{StopsBy, Works, WorksTo};
 ghost use Rattle.desk_tasks.specs.Asked.{Check};
 
-use crate::devices::sound_device;
+use crate::devices::{records_of, sound_device};
 use crate::product::{Product, Stop, Text};
 use crate::refusal::Refusal;
 use bpcc_commit::Bpcc;
@@ -42,6 +42,20 @@ fn checked_text<'a>(alloc: Global, bytes: Vec<u8>, text: &[u8]) -> Result<Produc
     ensures { WorksTo (Checking bytes.items text.now) result }
 {
     let (config, flash) = read_device(alloc, bytes)?;
+    check_device(alloc, flash, config, text)
+}
+
+/// What a check of the report on a device gives.
+fn check_device<'a>(
+    alloc: Global,
+    flash: MemFlash,
+    config: Config,
+    text: &[u8],
+) -> Result<Product<'a>, Stop<'a>>
+    requires check { checked config ≡ Ok (shape_of config) }
+    requires ready { flash ≡ loaded (shape_of config) flash.image flash.extras }
+    ensures { WorksTo (Judging config flash.image text.now) result }
+{
     let pages = judged(alloc, flash, config, text)?;
     let line = good_line(alloc, pages)?;
     Ok(Product {
@@ -85,7 +99,7 @@ fn judged_by<R: CommitRule>(
     ensures err { IfErr result (StopsBy (Judging config flash.image text.now)) }
 {
     let device = sound_device::<R>(alloc, flash, config)?;
-    let found = device.found()?;
+    let found = records_of(device)?;
     judgement(&found, config.protocol, config.logical, text)
 }
 

@@ -5,8 +5,8 @@ ghost use Rattle.mem_flash.specs.Memory.{loaded};
 ghost use Rattle.page_keys.specs.Scripts.{IsScript, SuitsKeys};
 ghost use Rattle.tx_types.specs.Config.{checked, shape_of};
 ghost use Rattle.desk_tasks.specs.Fate.{Keyed};
-ghost use Rattle.desk_tasks.specs.KeyWork.{IsKeysRun};
-ghost use Rattle.desk_tasks.specs.Steps.{Keying};
+ghost use Rattle.desk_tasks.specs.KeyWork.{IsKeysRun, OpensStore};
+ghost use Rattle.desk_tasks.specs.Steps.{Keying, Opening};
 ghost use Rattle.desk_tasks.specs.Stops.{RefusesScript, RefusesStore, StopsBy, Works, WorksTo};
 ghost use Rattle.desk_tasks.specs.Asked.{Keys};
 
@@ -56,9 +56,34 @@ fn keyed<'a>(
     ensures { WorksTo (Keying name.now bytes.items lines.now) result }
 {
     let (config, flash) = read_device(alloc, bytes)?;
-    let list = read_script(alloc, lines)?;
-    let KeptKeys { flash, replies } = served_keys(alloc, flash, config, &list)?;
-    leave(list);
+    match read_script(alloc, lines) {
+        Ok(list) => {
+            let product = run_keys(alloc, name, config, flash, &list);
+            leave(list);
+            product
+        }
+        Err(stop) => {
+            drop(flash);
+            Err(stop)
+        }
+    }
+}
+
+/// Serves a key script on the store of a flash, whose image is then saved under this name.
+fn run_keys<'a>(
+    alloc: Global,
+    name: &'a str,
+    config: Config,
+    flash: MemFlash,
+    list: &[KeyCommand],
+) -> Result<Product<'a>, Stop<'a>>
+    requires check { checked config ≡ Ok (shape_of config) }
+    requires ready { flash ≡ loaded (shape_of config) flash.image flash.extras }
+    requires suits { All SuitsKeys list.now }
+    ensures { WorksTo (Opening config flash.image (OpensStore config flash.image
+        (Keyed name.now config flash.image flash.extras list.now))) result }
+{
+    let KeptKeys { flash, replies } = served_keys(alloc, flash, config, list)?;
     let saved = into_image(alloc, &config, flash)?;
     Ok(Product {
         saved: Some(File { name, bytes: saved }),
@@ -121,13 +146,19 @@ fn served_keys_by<R: CommitRule>(
 {
     let mut replies = Vec::new(alloc);
     let (flash, done) = key_serve::<MemFlash, R>(alloc, flash, config, list, &mut replies);
+    let kept = KeptKeys { flash, replies };
     match done {
-        Ok(()) => Ok(KeptKeys { flash, replies }),
-        Err(KeyServeError::Unsound { law, slot }) => {
-            let breach = Breach { law, slot };
-            Err(Stop::Refused(Refusal::Image(ImageRefusal::Unsound(breach))))
+        Ok(()) => Ok(kept),
+        Err(error) => {
+            drop(kept);
+            match error {
+                KeyServeError::Unsound { law, slot } => {
+                    let breach = Breach { law, slot };
+                    Err(Stop::Refused(Refusal::Image(ImageRefusal::Unsound(breach))))
+                }
+                KeyServeError::Bucket(page) => Err(Stop::Refused(Refusal::BadBucket(page))),
+                KeyServeError::Memory => Err(Stop::Memory),
+            }
         }
-        Err(KeyServeError::Bucket(page)) => Err(Stop::Refused(Refusal::BadBucket(page))),
-        Err(KeyServeError::Memory) => Err(Stop::Memory),
     }
 }

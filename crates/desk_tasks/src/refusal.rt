@@ -58,21 +58,32 @@ impl Refusal<'_> {
     {
         match self {
             Refusal::Image(refusal) => refusal.line(alloc),
-            Refusal::BadLine(n) => format!(in alloc; "bad line {n}\n"),
-            Refusal::BadBucket(page) => format!(in alloc; "bad bucket {page}\n"),
-            Refusal::BadConfiguration(rule) => {
-                let word = config_word(*rule);
-                format!(in alloc; "bad configuration: {word}\n")
-            }
-            Refusal::BadAllowance => String::from_str(alloc, "bad configuration: allowance\n"),
-            Refusal::NoBlock(block) => format!(in alloc; "refused block {block}\n"),
-            Refusal::Worn(allowance) => format!(in alloc; "refused worn {allowance}\n"),
-            Refusal::WrongLine(k) => format!(in alloc; "wrong line {k}\n"),
+            Refusal::BadLine(n) => numbered_line(alloc, "bad line", *n),
+            Refusal::BadBucket(page) => numbered_line(alloc, "bad bucket", *page),
+            Refusal::BadConfiguration(rule) => configuration_line(alloc, config_word(*rule)),
+            Refusal::BadAllowance => configuration_line(alloc, "allowance"),
+            Refusal::NoBlock(block) => numbered_line(alloc, "refused block", *block),
+            Refusal::Worn(allowance) => numbered_line(alloc, "refused worn", *allowance),
+            Refusal::WrongLine(k) => numbered_line(alloc, "wrong line", *k),
             Refusal::DifferShape => String::from_str(alloc, "differ shape\n"),
             Refusal::DifferBlank(page) => blank_line(alloc, *page),
             Refusal::DifferAt { page, at } => byte_line(alloc, *page, *at),
         }
     }
+}
+
+/// The line of these words with a number behind them.
+fn numbered_line(alloc: Global, words: &str, n: u32) -> Result<String, AllocError>
+    ensures { IfOk result (λ said. string_bytes said ≡ line (words.now ++ codes " " ++ decimal n)) }
+{
+    format!(in alloc; "{words} {n}\n")
+}
+
+/// The line for a configuration that breaks the rule of this word.
+fn configuration_line(alloc: Global, word: &str) -> Result<String, AllocError>
+    ensures { IfOk result (λ said. string_bytes said ≡ line (codes "bad configuration: " ++ word.now)) }
+{
+    format!(in alloc; "bad configuration: {word}\n")
 }
 
 /// The line for two arrays of which one alone is blank at this page, the first that differs.

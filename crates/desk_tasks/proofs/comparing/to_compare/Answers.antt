@@ -29,8 +29,8 @@ returns-in_err-config g c =
     c.from_residual-in_err-config.result c.in_err-config.field-0.0 c.from_residual-in_err-config.ensures.1 (λ why h. (why, h, refl))
     c.in_err-config.ensures.err)
 
-pub returns-in_err-others : goal.returns-in_err-others
-returns-in_err-others g c =
+pub returns-in-Err : goal.returns-in-Err
+returns-in-Err g c =
     let old = g.D.Desk.state c.args.desk.now in
     let mid = g.D.Desk.state c.fetch.new.desk in
     let new = g.D.Desk.state c.fetch-2.new.desk in
@@ -40,8 +40,8 @@ returns-in_err-others g c =
     let flash = c.in_ok-config.flash in
     let reads = c.in_ok-config.ensures.read in
     let second = c.args.second.now in
-    unfetched (Some (Compare c.args.first.now second)) old mid new 1 second c.in_err-others.field-0.0 c.from_residual-in_err-others.result
-    c.from_residual-in_err-others.ensures.1 fetched.1 (omega arith)
+    unfetched (Some (Compare c.args.first.now second)) old mid new 1 second c.in-Err.stop (Err c.from.result)
+    c.from.ensures fetched.1 (omega arith)
     (found_more old c.args.first.now bytes [] fetched.0 (found_none old))
     (λ found. (
       Bytes bytes,
@@ -53,10 +53,10 @@ returns-in_err-others g c =
       fetched.0,
       (1, (Ok (its, flash.image, flash.extras), reads, (TooLong, finds_before old mid second TooLong fetched.1 found, (refl, refl))), refl),
     ))
-    c.in_err-others.ensures
+    c.in-Err.ensures
 
-pub returns : goal.returns
-returns g c =
+pub returns-in-Ok : goal.returns-in-Ok
+returns-in-Ok g c =
     let old = g.D.Desk.state c.args.desk.now in
     let mid = g.D.Desk.state c.fetch.new.desk in
     let new = g.D.Desk.state c.fetch-2.new.desk in
@@ -66,8 +66,8 @@ returns g c =
     let flash = c.in_ok-config.flash in
     let reads = c.in_ok-config.ensures.read in
     let second = c.args.second.now in
-    let again = c.in_ok-others.ensures in
-    let others = c.in_ok-others.others.items in
+    let again = c.in-Ok.ensures in
+    let others = c.in-Ok.others.items in
     let found = finds_before old mid second (Bytes others) fetched.1 again.0 in
     works (Some (Compare c.args.first.now second)) old new 2
     (Reading others (λ b other more. Comparing its flash.image b other)) c.compared_with.result (again.1 ∙ ap (after_answer as_before) fetched.1) (inr refl)
