@@ -3,7 +3,7 @@
 #![tactic(auto)]
 
 pub use command_line::{Kept, top};
-use desk_io::RealDesk;
+use desk_io::{RealDesk, RealFolder};
 use image_desk::unread;
 use std::alloc::Global;
 use std::env;
@@ -25,7 +25,7 @@ fn main(rt: HostRuntime) -> ExitCode {
             return ExitCode::from(6);
         }
     }
-    let mut desk = RealDesk::new(&rt);
+    let mut desk = RealDesk::new(&rt, RealFolder { rt: &rt });
     ExitCode::from(top(rt.alloc(), &words, &mut desk))
 }
 

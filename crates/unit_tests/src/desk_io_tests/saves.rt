@@ -1,27 +1,29 @@
 //! How files are saved, and what is left where a call of the system fails.
 use super::recording::{Log, Recorder};
 use super::{is_absent, is_made, is_removed};
-use desk_io::{Desk, RealDesk};
+use desk_io::{Desk, RealDesk, RealFolder};
 use std::fs;
 use std::fs::Permissions;
 use std::io::ErrorKind;
 use std::os::unix::fs::{MetadataExt, PermissionsExt, symlink};
 use std::rt::Files;
 
-/// What stands in the folder before a save, the name that is saved, and the calls that the save makes. Before a save
-/// there may be a file f, a link to it, other as its second name, and f.saving, which a killed run left beside it.
+/// What stands in the folder before a save, the name that is saved, and the calls that the save makes: first those by
+/// which the file is claimed. Before a save there may be a file f, a link to it, other as its second name, and
+/// f.saving, which a killed run left beside it.
 const SAVES: &str = "\
-nothing | f | stat f; open saves; create f.saving; write f.saving; sync f.saving; stat f.saving; rename f.saving; \
-sync saves;
-f | f | stat f; open f; open saves; create f.saving; chown f.saving; chmod f.saving; write f.saving; sync f.saving; \
-stat f.saving; rename f.saving; sync saves;
-link f | link | stat link; open link; resolve link; stat f; open f; open saves; create f.saving; chown f.saving; \
-chmod f.saving; write f.saving; sync f.saving; stat f.saving; rename f.saving; sync saves;
-link | link | stat link; open link; open link; write link; sync link; length link; sync link; write link; sync link; \
-resolve link; open saves; sync saves;
-f other | f | stat f; open f; write f; sync f; length f; sync f; write f; sync f;
-f f.saving | f | stat f; open f; open saves; create f.saving; create f.saving2; chown f.saving2; chmod f.saving2; \
-write f.saving2; sync f.saving2; stat f.saving2; rename f.saving2; sync saves;";
+nothing | f | stat f; stat f; open saves; create f.saving; write f.saving; sync f.saving; stat f.saving; \
+rename f.saving; sync saves;
+f | f | stat f; open f; lock f; open f; stat f; open f; open saves; create f.saving; chown f.saving; chmod f.saving; \
+write f.saving; sync f.saving; stat f.saving; rename f.saving; sync saves;
+link f | link | stat link; open link; lock link; open link; stat link; open link; resolve link; stat f; open f; \
+open saves; create f.saving; chown f.saving; chmod f.saving; write f.saving; sync f.saving; stat f.saving; \
+rename f.saving; sync saves;
+link | link | stat link; open link; stat link; open link; open link; write link; sync link; length link; sync link; \
+write link; sync link; resolve link; open saves; sync saves;
+f other | f | stat f; open f; lock f; open f; stat f; open f; write f; sync f; length f; sync f; write f; sync f;
+f f.saving | f | stat f; open f; lock f; open f; stat f; open f; open saves; create f.saving; create f.saving2; \
+chown f.saving2; chmod f.saving2; write f.saving2; sync f.saving2; stat f.saving2; rename f.saving2; sync saves;";
 
 pub const OLD: &[u8] = b"the old bytes";
 
@@ -117,13 +119,15 @@ struct Saved {
 }
 
 /// Whether a save answers Ok whose calls are noted.
-fn is_saved<R: Files + Print + AllocGlobal>(rt: &R, name: &str, log: &Log) -> bool {
+fn is_saved(rt: &HostRuntime, name: &str, log: &Log) -> bool {
     let system = Recorder { rt, log };
-    RealDesk::new(&system).save(name, NEW).is_ok()
+    RealDesk::new(&system, RealFolder { rt: &system })
+        .save(name, NEW)
+        .is_ok()
 }
 
 /// Saves once with this log.
-fn save_with<R: Files + Print + AllocGlobal>(rt: &R, it: &Case, log: &Log) -> Option<Saved> {
+fn save_with(rt: &HostRuntime, it: &Case, log: &Log) -> Option<Saved> {
     if !is_prepared(rt, it) {
         return None;
     }
@@ -137,8 +141,8 @@ fn save_with<R: Files + Print + AllocGlobal>(rt: &R, it: &Case, log: &Log) -> Op
 }
 
 /// Saves once, where the call of this number fails in this way, or none for 0.
-fn save<R: Files + Print + AllocGlobal>(
-    rt: &R,
+fn save(
+    rt: &HostRuntime,
     it: &Case,
     fails: u32,
     kind: ErrorKind,
@@ -172,7 +176,7 @@ fn is_new<R: Files + AllocGlobal>(rt: &R, it: &Case) -> bool {
 }
 
 /// Whether a save answers Ok and makes the calls that it should.
-fn makes_calls<R: Files + Print + AllocGlobal>(rt: &R, it: &Case) -> bool {
+fn makes_calls(rt: &HostRuntime, it: &Case) -> bool {
     match save(rt, it, 0, ErrorKind::Other) {
         Some(saved) => saved.is_ok && saved.calls.as_str().trim_ascii_end() == it.calls,
         None => false,
@@ -180,7 +184,7 @@ fn makes_calls<R: Files + Print + AllocGlobal>(rt: &R, it: &Case) -> bool {
 }
 
 /// Whether a save makes the calls of the line, and leaves the new bytes.
-fn is_line_saved<R: Files + Print + AllocGlobal>(rt: &R, line: &str) -> bool {
+fn is_line_saved(rt: &HostRuntime, line: &str) -> bool {
     match Case::of(line) {
         Some(it) => makes_calls(rt, &it) && is_new(rt, &it) && is_removed(rt, "saves"),
         None => false,
@@ -221,8 +225,8 @@ fn is_well<R: Files + AllocGlobal>(rt: &R, it: &Case, saved: &Saved) -> bool {
 }
 
 /// Whether the call of this number of a save may fail; nothing, where the save has fewer calls.
-fn may_fail<R: Files + Print + AllocGlobal>(
-    rt: &R,
+fn may_fail(
+    rt: &HostRuntime,
     it: &Case,
     fails: u32,
     kind: ErrorKind,
@@ -235,7 +239,7 @@ fn may_fail<R: Files + Print + AllocGlobal>(
 }
 
 /// Whether each call of a save may fail in this way.
-fn may_each_call_fail<R: Files + Print + AllocGlobal>(rt: &R, it: &Case, kind: ErrorKind) -> bool {
+fn may_each_call_fail(rt: &HostRuntime, it: &Case, kind: ErrorKind) -> bool {
     for fails in 1..30 {
         match may_fail(rt, it, fails, kind) {
             Some(true) => {}
@@ -247,7 +251,7 @@ fn may_each_call_fail<R: Files + Print + AllocGlobal>(rt: &R, it: &Case, kind: E
 }
 
 /// Whether all is well where the calls of the line fail in turn, in two ways.
-fn may_calls_of_line_fail<R: Files + Print + AllocGlobal>(rt: &R, line: &str) -> bool {
+fn may_calls_of_line_fail(rt: &HostRuntime, line: &str) -> bool {
     match Case::of(line) {
         Some(it) => {
             may_each_call_fail(rt, &it, ErrorKind::Other)
