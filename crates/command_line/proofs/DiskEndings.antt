@@ -27,7 +27,7 @@ after_put (Some file) old mid puts = puts
 
 pub delivered : (given : Given) (old mid new : DeskState) (answer : ℕ) → PutsFile given.saved (Ok tt) old mid → Speaks mid new given.text 0 answer →
     Delivers old new given 0 answer
-delivered given old mid new answer puts speaks = inl (rw after_put given.saved old mid puts at speaks)
+delivered given old mid new answer puts speaks = inl (rw (after_put given.saved old mid puts) at speaks)
 
 pub met_fault : (given : Given) (old mid new : DeskState) (answer : ℕ) → PutsFile given.saved (Err sink.Failed) old mid → FaultTold mid new answer →
     Delivers old new given 0 answer

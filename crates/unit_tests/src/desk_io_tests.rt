@@ -7,6 +7,7 @@ use std::alloc::Global;
 use std::fs;
 use std::rt::Files;
 
+mod holding;
 mod leave;
 mod recording;
 mod saves;

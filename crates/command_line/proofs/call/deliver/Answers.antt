@@ -1,5 +1,4 @@
 use Rattle.std.proofs.Common.{Err, inl, inr}
-use Rattle.desk_io.specs.declared.desk.SinkError.TheVariants as sink
 use Rattle.desk_tasks.specs.Stops.{given_of}
 use Rattle.command_line.specs.Disk.{Short}
 use Rattle.command_line.proofs.DiskEndings.{delivered, delivered_on_disk, met_fault, starved}
@@ -22,7 +21,7 @@ returns-in-Err-Failed-clause-delivers g c =
 
 pub returns-in-Err-Failed-clause-disk : goal.returns-in-Err-Failed-clause-disk
 returns-in-Err-Failed-clause-disk g c =
-    Short (inl c.desk_fault.ensures.told.0) (g.D.Desk.disk c.put.new.desk, Err sink.Failed, c.in-Err-Failed.ensures.disk, c.desk_fault.ensures.disk)
+    Short (inl c.desk_fault.ensures.told.0) (g.D.Desk.disk c.put.new.desk, Err c.in-Err-Failed.field-0, c.in-Err-Failed.ensures.disk, c.desk_fault.ensures.disk)
 
 pub returns-in-Err-Memory-clause-delivers : goal.returns-in-Err-Memory-clause-delivers
 returns-in-Err-Memory-clause-delivers g c =
@@ -31,4 +30,4 @@ returns-in-Err-Memory-clause-delivers g c =
 
 pub returns-in-Err-Memory-clause-disk : goal.returns-in-Err-Memory-clause-disk
 returns-in-Err-Memory-clause-disk g c =
-    Short (inr c.no_memory.ensures.told.0) (g.D.Desk.disk c.put.new.desk, Err sink.Memory, c.in-Err-Memory.ensures.disk, c.no_memory.ensures.disk)
+    Short (inr c.no_memory.ensures.told.0) (g.D.Desk.disk c.put.new.desk, Err c.in-Err-Memory.field-0, c.in-Err-Memory.ensures.disk, c.no_memory.ensures.disk)
