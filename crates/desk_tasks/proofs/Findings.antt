@@ -18,7 +18,7 @@ use Rattle.record_list.specs.Records.{IsScanned}
 use Rattle.record_list.specs.SoundList.{Pages as page_law, PagesExist}
 use Rattle.version_index.specs.Images.{IsSoundImage, array_in, records_in}
 use Rattle.version_index.proofs.OfLaws.ImageScans.{records_scanned}
-use Rattle.array_machine.specs.ArrayState.{ArrayState, idle, page_at}
+use Rattle.array_machine.specs.ArrayState.{ArrayState, Pages, idle, page_at}
 use Rattle.verdict_report.specs.Report.{pages}
 use Rattle.desk_tasks.specs.Fate.{Fate, Same, DifferBlank, DifferAt}
 use Rattle.desk_tasks.specs.Checking.{ChecksList, HaveOneShape, DifferAtByte, OneArray, Shapes, BlankAt, ByteAt, array_of_device}
@@ -26,7 +26,7 @@ use Rattle.desk_tasks.specs.Differences.{ComesTo, FindsFirst, IsSomeAt, differen
 use Rattle.desk_tasks.specs.declared.difference.Difference.{Difference}
 use Rattle.desk_tasks.specs.declared.difference.Difference.TheVariants as difference
 use Rattle.desk_tasks.specs.declared.product.Stop.{Stop}
-use Rattle.desk_tasks.specs.Steps.{Comparing, Judging}
+use Rattle.desk_tasks.specs.Steps.{Comparing, Judging, Opening}
 use Rattle.desk_tasks.specs.Stops.{RefusesDevice, StopsBy}
 use Rattle.desk_tasks.proofs.Works.{stops_by}
 
@@ -68,9 +68,6 @@ scanned_list its image list e = subst (λ l. IsScanned l) (sym e) (records_scann
 module _ (a : Config) (image : List Contents) (b : Config) (other : List Contents) where
   pub first_refused : (fate : Fate) → RefusesDevice a image fate → Comparing a image b other fate
   first_refused fate h = (Err h.0, h.1, h.2)
-
-  pub second_refused : IsSoundImage a.protocol a.logical (shape_of a) image → (fate : Fate) → RefusesDevice b other fate → Comparing a image b other fate
-  second_refused sound fate h = (Ok tt, sound, (Err h.0, h.1, h.2))
 
 array_length : (protocol : Protocol) (logical : ℕ) (image : List Contents) → length (array_in protocol logical image) ≡ logical
 unfolding array_in
@@ -153,7 +150,7 @@ module _ (a : Config) (image : List Contents) (b : Config) (other : List Content
           absurd (h.differ.here (ap (λ bs. slice_index bs at) bytes))
 
 -- what two sound devices come to
-pub comparing : (a : Config) (image : List Contents) (b : Config) (other : List Contents) →
+comparing : (a : Config) (image : List Contents) (b : Config) (other : List Contents) →
     IsSoundImage a.protocol a.logical (shape_of a) image → IsSoundImage b.protocol b.logical (shape_of b) other →
     (one two : ArrayState) → one ≡ idle (array_of_device a image) → two ≡ idle (array_of_device b other) →
     (fate : Fate) → ComesTo a one.pages b two.pages fate → Comparing a image b other fate
@@ -170,6 +167,25 @@ comparing a image b other sound other_sound one two e f fate h =
     from : ComesTo a (array_of_device a image) b (array_of_device b other) fate → Comparing a image b other fate
     from (inl (differ, is)) = (Ok tt, sound, (Ok tt, other_sound, (Shapes, differ, is)))
     from (inr (shape, (found, finds, is))) = subst (λ fate. Comparing a image b other fate) (sym is) (by_found shape found finds)
+
+-- what the second device comes to beside an array, where its image is sound, and where it is not
+pub opened_second : (a : Config) (pages : Pages) (b : Config) (other : List Contents) → IsSoundImage b.protocol b.logical (shape_of b) other →
+    (two : ArrayState) → two ≡ idle (array_of_device b other) → (fate : Fate) → ComesTo a pages b two.pages fate →
+    Opening b other (ComesTo a pages b (array_of_device b other)) fate
+opened_second a pages b other sound two e fate h =
+    (Ok tt, sound, subst (λ others. ComesTo a pages b others fate) (ap (λ (m : ArrayState). m.pages) e) h)
+
+pub second_refused : (a : Config) (pages : Pages) (b : Config) (other : List Contents) (fate : Fate) → RefusesDevice b other fate →
+    Opening b other (ComesTo a pages b (array_of_device b other)) fate
+second_refused a pages b other fate h = (Err h.0, h.1, h.2)
+
+-- and so what two images come to, where the first is sound
+pub first_opened : (a : Config) (image : List Contents) (b : Config) (other : List Contents) → IsSoundImage a.protocol a.logical (shape_of a) image →
+    (one : ArrayState) → one ≡ idle (array_of_device a image) → (fate : Fate) →
+    Opening b other (ComesTo a one.pages b (array_of_device b other)) fate → Comparing a image b other fate
+first_opened a image b other sound one e fate (Ok done, other_sound, h) =
+    comparing a image b other sound other_sound one (idle (array_of_device b other)) e refl fate h
+first_opened a image b other sound one e fate (Err breach, opens, is) = (Ok tt, sound, (Err breach, opens, is))
 
 -- ---- a number, or why there is none
 

@@ -10,7 +10,7 @@ use Rattle.host_protocol.specs.Files.{IsFile}
 use Rattle.host_protocol.specs.declared.command.Command.{Command}
 use Rattle.drive_gen.specs.Summary.{summary_line}
 use Rattle.desk_tasks.specs.Fate.{Fate, Explained, Ran}
-use Rattle.desk_tasks.specs.Runs.{IsRun, blank_image, default_config}
+use Rattle.desk_tasks.specs.Runs.{IsRun, RepliesFresh, blank_image, default_config}
 use Rattle.desk_tasks.specs.Steps.{Explaining, Running, Trying}
 use Rattle.image_desk.specs.Loading.{ReadsImage}
 use Rattle.desk_tasks.specs.Stops.{RefusesDevice, RefusesLine}
@@ -28,16 +28,15 @@ blank_opens protocol its image e f fate h =
     refuses.0 (blank_sound protocol) refuses.1
 
 -- and commands are run on it
-pub run_blank : (protocol : Protocol) (its : Config) (image : List Contents) (cs ds : List Command) (left : List Contents) (text : List ℕ) →
-    its ≡ default_config protocol → image ≡ blank_image its → cs ≡ ds → IsRun its image cs left text →
-    IsRun (default_config protocol) (blank_image (default_config protocol)) ds left text
-run_blank protocol its image cs ds left text e f g h = rw (f, e, g) at h
+pub run_blank : (protocol : Protocol) (its : Config) (image : List Contents) (cs : List Command) (left : List Contents) (text : List ℕ) →
+    its ≡ default_config protocol → image ≡ blank_image its → IsRun its image cs left text → RepliesFresh protocol cs text
+run_blank protocol its image cs left text e f h = (left, rw (f, e) at h)
 
 -- the line that sums up the replies of a list of commands
-pub summed : (start count : ℕ) (protocol : Protocol) (before after : List ℕ) (cs ds : List Command) (lines text : List ℕ) →
-    before ≡ [] → cs ≡ ds → lines ≡ text → after ≡ before ++ summary_line start count protocol (length cs) lines →
-    after ≡ summary_line start count protocol (length ds) text
-summed start count protocol before after cs ds lines text none same also h = rw (none, same, also) at h
+pub summed : (start count : ℕ) (protocol : Protocol) (before after : List ℕ) (cs : List Command) (lines text : List ℕ) →
+    before ≡ [] → lines ≡ text → after ≡ before ++ summary_line start count protocol (length cs) lines →
+    after ≡ summary_line start count protocol (length cs) text
+summed start count protocol before after cs lines text none same h = rw (none, same) at h
 
 -- ---- a try
 

@@ -1,6 +1,6 @@
 -- How the work of a task ends, from its parts.
 use Rattle.std.proofs.Common.{◌≡◌, inl, inr, ℕ, suc, ◌<◌, List, [], ◌∷◌, length, Option, None, Some, Result, Ok, Err, refl, ap, ◌∙◌}
-use Rattle.std.specs.Prelude.{All, IfSome}
+use Rattle.std.specs.Prelude.{All, IfErr, IfSome}
 use Rattle.std.specs.Option.{option_map}
 use Rattle.std.specs.Result.{IsErrAnd}
 use Rattle.std.proofs.lemmas.List.Elements.{All-cons, All-nil}
@@ -32,6 +32,23 @@ pub stopped : (P Q : Fate → Type 0) (result : Result Product Stop) (e : Stop) 
     ((fate : Fate) → P fate → Q fate) → StopsBy P e → WorksTo Q result
 stopped P Q (Ok product) e same leads h = absurd same
 stopped P Q (Err x) e same leads h = stops_by P Q leads x (rw same h)
+
+-- what nothing refuses stops only where memory runs out
+pub only_memory : (P : Fate → Type 0) → ((fate : Fate) → P fate → ⊥) → (stopped : Stop) → StopsBy P stopped → stopped ≡ stop.Memory
+only_memory P never (stop.Refused refusal) h = absurd (never (refused refusal) h)
+only_memory P never stop.Fault h = absurd h
+only_memory P never stop.Memory h = refl
+
+-- and so does what stops with it
+pub memory_alone : {T : Type 0} → (result : Result T Stop) (e : Stop) → IsErrAnd result (λ x. x ≡ e) → e ≡ stop.Memory →
+    IfErr result (λ x. x ≡ stop.Memory)
+memory_alone (Ok done) e same memory = absurd same
+memory_alone (Err x) e same memory = same ∙ memory
+
+pub out_of_memory : (Q : Fate → Type 0) (result : Result Product Stop) (e : Stop) → IsErrAnd result (λ x. x ≡ e) →
+    e ≡ stop.Memory → WorksTo Q result
+out_of_memory Q (Ok product) e same memory = absurd same
+out_of_memory Q (Err x) e same memory = rw (same, memory) tt
 
 -- so is what stops where reading an image does
 image_stops_by : (P : ImageFate → Type 0) (Q : Fate → Type 0) → ((why : ImageFate) → P why → Q (Image why)) → (stopped : ImageStop) →

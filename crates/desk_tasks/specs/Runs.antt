@@ -48,6 +48,12 @@ pub record IsRun (its : Config) (image : List Contents) (commands : List Command
   pub said : text ≡ text_of_all replies
   pub few : AreFew 0 0 commands replies
 
+-- the text is that of the replies of a run over these commands, on a fresh default device of this protocol
+abbrev pub RepliesFresh : Protocol → List Command → List ℕ → Type 0
+RepliesFresh protocol commands text =
+    (left : List Contents)
+    × IsRun (default_config protocol) (blank_image (default_config protocol)) commands left text
+
 -- the state of the array machine with which a run ends
 abbrev pub machine_left : {its : Config} {image : List Contents} {commands : List Command}
     {left : List Contents} {text : List ℕ} → IsRun its image commands left text → ArrayState

@@ -11,7 +11,7 @@ ghost use Rattle.desk_tasks.specs.Steps.{Checking, Judging};
 ghost use Rattle.desk_tasks.specs.Stops.{StopsBy, Works, WorksTo};
 ghost use Rattle.desk_tasks.specs.Asked.{Check};
 
-use crate::devices::sound_device;
+use crate::devices::{records_of, sound_device};
 use crate::product::{Product, Stop, Text};
 use crate::refusal::Refusal;
 use bpcc_commit::Bpcc;
@@ -87,7 +87,7 @@ fn judged_by<R: CommitRule>(
     ensures err { IfErr result (StopsBy (Judging config flash.image text.now)) }
 {
     let device = sound_device::<R>(alloc, flash, config)?;
-    let found = device.found()?;
+    let found = records_of(device)?;
     judgement(&found, config.protocol, config.logical, text)
 }
 

@@ -6,13 +6,13 @@ ghost use Rattle.mem_flash.specs.Memory.{loaded, state_of};
 ghost use Rattle.durable_folder.specs.Histories.{Rests};
 ghost use Rattle.image_desk.specs.Refusals.{line};
 ghost use Rattle.desk_tasks.specs.Fate.{Same};
-ghost use Rattle.desk_tasks.specs.Checking.{HaveOneShape};
+ghost use Rattle.desk_tasks.specs.Checking.{HaveOneShape, array_of_device};
 ghost use Rattle.array_machine.specs.ArrayState.{page_at};
 ghost use Rattle.array_machine.specs.Read.{ReadsPage};
 ghost use Rattle.lane_scan.specs.Scans.{DifferFirstAt};
 ghost use Rattle.desk_tasks.specs.declared.difference.Difference.TheVariants.{At};
 ghost use Rattle.desk_tasks.specs.Differences.{ComesTo, DiffersAt, FindsFirst, difference_fate};
-ghost use Rattle.desk_tasks.specs.Steps.{Comparing, Reading};
+ghost use Rattle.desk_tasks.specs.Steps.{Comparing, Opening, Reading};
 ghost use Rattle.desk_tasks.specs.Stops.{StopsBy, Works, WorksTo};
 ghost use Rattle.desk_tasks.specs.Asked.{Compare};
 
@@ -44,8 +44,13 @@ pub fn to_compare<'a, D: Desk>(
 {
     let bytes = fetch(first, desk)?;
     let (config, flash) = read_device(alloc, bytes)?;
-    let others = fetch(second, desk)?;
-    compared_with(alloc, config, flash, others)
+    match fetch(second, desk) {
+        Ok(others) => compared_with(alloc, config, flash, others),
+        Err(stop) => {
+            drop(flash);
+            Err(Stop::from(stop))
+        }
+    }
 }
 
 /// What a comparison gives, from the bytes of the second file on.
@@ -59,7 +64,13 @@ fn compared_with<'a>(
     requires ready { flash ≡ loaded (shape_of config) flash.image flash.extras }
     ensures { WorksTo (Reading others.items (λ b other more. Comparing config flash.image b other)) result }
 {
-    let (second, other) = read_device(alloc, others)?;
+    let (second, other) = match read_device(alloc, others) {
+        Ok(read) => read,
+        Err(stop) => {
+            drop(flash);
+            return Err(Stop::from(stop));
+        }
+    };
     let logical = compared(alloc, config, flash, second, other)?;
     let line = same_line(alloc, logical)?;
     Ok(Product {
@@ -136,9 +147,42 @@ fn compared_by<R: CommitRule, S: CommitRule>(
     ensures ok { IfOk result (λ n. Comparing config flash.image second other.image (Same n)) }
     ensures err { IfErr result (StopsBy (Comparing config flash.image second other.image)) }
 {
-    let mut one = sound_device::<R>(alloc, flash, config)?;
+    match sound_device::<R>(alloc, flash, config) {
+        Ok(mut one) => {
+            let outcome = compare_to_flash::<R, S>(alloc, config, &mut one, second, other);
+            drop(one.close());
+            outcome
+        }
+        Err(stop) => {
+            drop(other);
+            Err(stop)
+        }
+    }
+}
+
+/// The same of a device and of the flash of another.
+fn compare_to_flash<R: CommitRule, S: CommitRule>(
+    alloc: Global,
+    config: Config,
+    one: &mut Device<MemFlash, R>,
+    second: Config,
+    other: MemFlash,
+) -> Result<u32, Stop<'static>>
+    requires kept { one.old.dropped ≡ false }
+    requires config { one.old.config ≡ config }
+    requires steady { IsSteady (state_of one.old.flash) }
+    requires second_check { checked second ≡ Ok (shape_of second) }
+    requires second_rule { second.protocol ≡ S.protocol }
+    requires second_ready { other ≡ loaded (shape_of second) other.image other.extras }
+    ensures ok { IfOk result (λ n.
+        Opening second other.image (ComesTo config one.old.machine.pages second (array_of_device second other.image)) (Same n)) }
+    ensures err { IfErr result (StopsBy (
+        Opening second other.image (ComesTo config one.old.machine.pages second (array_of_device second other.image)))) }
+{
     let mut two = sound_device::<S>(alloc, other, second)?;
-    compared_devices(alloc, config, &mut one, second, &mut two)
+    let outcome = compared_devices(alloc, config, one, second, &mut two);
+    drop(two.close());
+    outcome
 }
 
 /// The same of two devices.
@@ -203,12 +247,33 @@ fn first_difference_of<R: CommitRule, S: CommitRule>(
 {
     let mut here = vec![in alloc; 0; config.page_bytes as usize]?;
     let mut there = vec![in alloc; 0; config.page_bytes as usize]?;
+    Ok(search_pages(one, two, config, &mut here, &mut there))
+}
+
+/// Searches the pages of two devices for the first difference. The rooms are for a page each.
+fn search_pages<R: CommitRule, S: CommitRule>(
+    one: &mut Device<MemFlash, R>,
+    two: &mut Device<MemFlash, S>,
+    config: Config,
+    here: &mut [u8],
+    there: &mut [u8],
+) -> Option<Difference>
+    requires kept { one.old.dropped ≡ false }
+    requires two_kept { two.old.dropped ≡ false }
+    requires config { one.old.config ≡ config }
+    requires shape { HaveOneShape config two.old.config }
+    requires steady { IsSteady (state_of one.old.flash) }
+    requires two_steady { IsSteady (state_of two.old.flash) }
+    requires room { length here.old ≡ config.page_bytes }
+    requires two_room { length there.old ≡ config.page_bytes }
+    ensures { FindsFirst one.old.machine.pages two.old.machine.pages config.logical result }
+{
     for page in 0..config.logical {
-        if let Some(found) = difference_at(one, two, page, &mut here, &mut there) {
-            return Ok(Some(found));
+        if let Some(found) = difference_at(one, two, page, here, there) {
+            return Some(found);
         }
     }
-    Ok(None)
+    None
 }
 
 /// The difference of two arrays in a page, if there is one. The rooms are for a page each.

@@ -119,13 +119,19 @@ fn served_by<R: CommitRule>(
 {
     let mut replies = Lines::new(alloc);
     let (flash, done) = serve::<MemFlash, R, Lines>(alloc, flash, config, list, &mut replies);
+    let left = ServedFlash { flash, replies };
     match done {
-        Ok(()) => Ok(ServedFlash { flash, replies }),
-        Err(ServeError::Unsound { law, slot }) => {
-            let breach = Breach { law, slot };
-            Err(Stop::Refused(Refusal::Image(ImageRefusal::Unsound(breach))))
+        Ok(()) => Ok(left),
+        Err(error) => {
+            drop(left);
+            match error {
+                ServeError::Unsound { law, slot } => {
+                    let breach = Breach { law, slot };
+                    Err(Stop::Refused(Refusal::Image(ImageRefusal::Unsound(breach))))
+                }
+                ServeError::Memory => Err(Stop::Memory),
+            }
         }
-        Err(ServeError::Memory) => Err(Stop::Memory),
     }
 }
 
@@ -164,17 +170,27 @@ fn explained_by<R: CommitRule>(
     devices_stand::<MemFlash, R>();
     let _ = device.config();
     let found = records_of(device)?;
-    let mut text = Vec::new(alloc);
-    explain::<R>(alloc, &found, config.logical, &mut text)?;
+    let text = report_on::<R>(alloc, &found, config.logical)?;
     Ok(text)
 }
 
 /// The records that a device found, which is given up.
-fn records_of<R: CommitRule>(device: Device<MemFlash, R>) -> Result<Vec<Found>, Memory>
+pub fn records_of<R: CommitRule>(device: Device<MemFlash, R>) -> Result<Vec<Found>, Memory>
     requires kept { device.dropped ≡ false }
     ensures { IfOk result (λ found. found.items ≡ found_in device.noted.notes) }
 {
-    device.found()
+    let found = device.found();
+    drop(device.close());
+    found
+}
+
+/// The report on a list of records.
+fn report_on<R: CommitRule>(alloc: Global, list: &[Found], logical: u32) -> Result<Vec<u8>, Memory>
+    ensures { IfOk result (λ text. text.items ≡ report R.protocol list.now logical) }
+{
+    let mut text = Vec::new(alloc);
+    explain::<R>(alloc, list, logical, &mut text)?;
+    Ok(text)
 }
 
 /// A device that is opened from its flash, which breaks no call, and whose image is sound.
@@ -215,11 +231,16 @@ fn opened<R: CommitRule>(
 {
     match Device::mount(alloc, flash, config) {
         Ok(device) => Ok(device),
-        Err((_, MountError::Unsound { law, slot })) => {
-            let breach = Breach { law, slot };
-            Err(Stop::Refused(Refusal::Image(ImageRefusal::Unsound(breach))))
+        Err((flash, error)) => {
+            drop(flash);
+            match error {
+                MountError::Unsound { law, slot } => {
+                    let breach = Breach { law, slot };
+                    Err(Stop::Refused(Refusal::Image(ImageRefusal::Unsound(breach))))
+                }
+                MountError::Memory => Err(Stop::Memory),
+                MountError::Fault => unreachable!(),
+            }
         }
-        Err((_, MountError::Memory)) => Err(Stop::Memory),
-        Err((_, MountError::Fault)) => unreachable!(),
     }
 }

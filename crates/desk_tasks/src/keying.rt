@@ -58,9 +58,16 @@ fn keyed<'a>(
     ensures { WorksTo (Keying name.now bytes.items lines.now) result }
 {
     let (config, flash) = read_device(alloc, bytes)?;
-    let list = read_script(alloc, lines)?;
-    let KeptKeys { flash, replies } = served_keys(alloc, flash, config, &list)?;
+    let list = match read_script(alloc, lines) {
+        Ok(list) => list,
+        Err(stop) => {
+            drop(flash);
+            return Err(stop);
+        }
+    };
+    let served = served_keys(alloc, flash, config, &list);
     leave(list);
+    let KeptKeys { flash, replies } = served?;
     let saved = into_image(alloc, &config, flash)?;
     Ok(Product {
         saved: Some(File { name, bytes: saved }),
@@ -123,13 +130,19 @@ fn served_keys_by<R: CommitRule>(
 {
     let mut replies = Vec::new(alloc);
     let (flash, done) = key_serve::<MemFlash, R>(alloc, flash, config, list, &mut replies);
+    let kept = KeptKeys { flash, replies };
     match done {
-        Ok(()) => Ok(KeptKeys { flash, replies }),
-        Err(KeyServeError::Unsound { law, slot }) => {
-            let breach = Breach { law, slot };
-            Err(Stop::Refused(Refusal::Image(ImageRefusal::Unsound(breach))))
+        Ok(()) => Ok(kept),
+        Err(error) => {
+            drop(kept);
+            match error {
+                KeyServeError::Unsound { law, slot } => {
+                    let breach = Breach { law, slot };
+                    Err(Stop::Refused(Refusal::Image(ImageRefusal::Unsound(breach))))
+                }
+                KeyServeError::Bucket(page) => Err(Stop::Refused(Refusal::BadBucket(page))),
+                KeyServeError::Memory => Err(Stop::Memory),
+            }
         }
-        Err(KeyServeError::Bucket(page)) => Err(Stop::Refused(Refusal::BadBucket(page))),
-        Err(KeyServeError::Memory) => Err(Stop::Memory),
     }
 }

@@ -100,8 +100,15 @@ fn replaced_by<R: CommitRule>(
     ensures err { IfErr result (StopsBy (RefusesRetirement config flash.image flash.extras block.0)) }
 {
     let mut device = sound_device::<R>(alloc, flash, config)?;
-    retire(&mut device, block)?;
-    Ok(device.close())
+    let done = retire(&mut device, block);
+    let left = device.close();
+    match done {
+        Ok(()) => Ok(left),
+        Err(stop) => {
+            drop(left);
+            Err(stop)
+        }
+    }
 }
 
 /// Retires a block of a device with nothing open, whose flash breaks no call.

@@ -1,9 +1,12 @@
-ghost use Rattle.std.specs.Prelude.{◌≡◌, ◌≤◌, ◌++◌, Some, IfOk, codes, length};
+ghost use Rattle.std.specs.Prelude.{◌≡◌, ◌≤◌, ◌++◌, ℕ, List, All, Some, IfOk, IfErr, codes, length};
 ghost use Rattle.std.specs.Fmt.{decimal};
 ghost use Rattle.durable_folder.specs.Histories.{Rests};
 ghost use Rattle.desk_io.specs.Desk.{DeskState, max_file_bytes};
+ghost use Rattle.drive_gen.specs.Summary.{summary_line};
+ghost use Rattle.host_protocol.specs.Commands.{Suits};
 ghost use Rattle.image_desk.specs.Refusals.{line};
 ghost use Rattle.desk_tasks.specs.Fate.{Driven};
+ghost use Rattle.desk_tasks.specs.Runs.{RepliesFresh, default_config};
 ghost use Rattle.desk_tasks.specs.Steps.{Explaining, Running, Trying, formatting};
 ghost use Rattle.desk_tasks.specs.Stops.{Works, WorksTo};
 ghost use Rattle.desk_tasks.specs.Asked.{Drive, Explain, Format, Run, Try};
@@ -12,9 +15,11 @@ ghost use Rattle.tx_types.specs.Config.{checked};
 use crate::devices::{ServedFlash, blank_flash, default_config, explained, read_commands, served};
 use crate::product::{File, Product, Stop, Text};
 use crate::refusal::Refusal;
+use cut_replay::Lines;
 use desk_io::Desk;
 use drive_gen::{commands, summary};
 use flash_model::MAX_ALLOWANCE;
+use host_protocol::Command;
 use image_desk::{fetch, read_device};
 use image_file::{blank_image, into_image};
 use std::alloc::{AllocError, Global};
@@ -67,14 +72,13 @@ fn tried<'a>(alloc: Global, lines: &[u8]) -> Result<Product<'a>, Stop<'a>>
     requires { length lines.now ≤ max_file_bytes }
     ensures { WorksTo (Trying lines.now) result }
 {
-    let config = default_config(Protocol::Scc);
-    let list = read_commands(alloc, lines, config.page_bytes)?;
-    let flash = blank_flash(alloc, config)?;
-    let ServedFlash { replies, .. } = served(alloc, flash, config, &list)?;
+    let protocol = Protocol::Scc;
+    let list = read_commands(alloc, lines, default_config(protocol).page_bytes)?;
+    let replies = serve_fresh(alloc, protocol, &list);
     leave(list);
     Ok(Product {
         saved: None,
-        text: Text::Replies(replies),
+        text: Text::Replies(replies?),
     })
 }
 
@@ -89,9 +93,16 @@ fn ran<'a>(
     ensures { WorksTo (Running name.now bytes.items lines.now) result }
 {
     let (config, flash) = read_device(alloc, bytes)?;
-    let list = read_commands(alloc, lines, config.page_bytes)?;
-    let ServedFlash { flash, replies } = served(alloc, flash, config, &list)?;
+    let list = match read_commands(alloc, lines, config.page_bytes) {
+        Ok(list) => list,
+        Err(stop) => {
+            drop(flash);
+            return Err(stop);
+        }
+    };
+    let done = served(alloc, flash, config, &list);
     leave(list);
+    let ServedFlash { flash, replies } = done?;
     let saved = into_image(alloc, &config, flash)?;
     Ok(Product {
         saved: Some(File { name, bytes: saved }),
@@ -153,25 +164,53 @@ pub fn driven<'a>(
 ) -> Result<Product<'a>, Stop<'a>>
     ensures { WorksTo (λ fate. fate ≡ Driven start count protocol) result }
 {
-    let config = default_config(protocol);
-    let list = commands(alloc, start, count, config)?;
-    let flash = blank_flash(alloc, config)?;
-    let ServedFlash { replies, .. } = served(alloc, flash, config, &list)?;
+    let list = commands(alloc, start, count, default_config(protocol))?;
+    let line = sum_up(alloc, start, count, protocol, &list);
+    leave(list);
+    Ok(Product {
+        saved: None,
+        text: Text::Other(line?),
+    })
+}
+
+/// Serves commands on a fresh device, and sums up the replies in a line.
+fn sum_up(
+    alloc: Global,
+    start: u64,
+    count: u32,
+    protocol: Protocol,
+    list: &[Command],
+) -> Result<Vec<u8>, Stop<'static>>
+    requires { All (Suits (default_config protocol).page_bytes) list.now }
+    ensures ok { IfOk result (λ line. (replies : List ℕ) × RepliesFresh protocol list.now replies
+        × (line.items ≡ summary_line start count protocol (length list.now) replies)) }
+    ensures err { IfErr result (λ e. e ≡ Stop.Memory) }
+{
+    let replies = serve_fresh(alloc, protocol, list)?;
     let mut line = Vec::new(alloc);
     summary(
         alloc,
         start,
         count,
         protocol,
-        &list,
+        list,
         replies.as_slice(),
         &mut line,
     )?;
-    leave(list);
-    Ok(Product {
-        saved: None,
-        text: Text::Other(line),
-    })
+    Ok(line)
+}
+
+/// Serves commands on a fresh device, and answers the replies.
+fn serve_fresh(alloc: Global, protocol: Protocol, list: &[Command]) -> Result<Lines, Stop<'static>>
+    requires { All (Suits (default_config protocol).page_bytes) list.now }
+    ensures ok { IfOk result (RepliesFresh protocol list.now) }
+    ensures err { IfErr result (λ e. e ≡ Stop.Memory) }
+{
+    let config = default_config(protocol);
+    let blank = blank_flash(alloc, config)?;
+    let ServedFlash { flash, replies } = served(alloc, blank, config, list)?;
+    drop(flash);
+    Ok(replies)
 }
 
 /// Leaves the memory of commands to the end of the program, which is near: to give that of each command back would

@@ -44,13 +44,18 @@ impl ImageRefusal<'_> {
             ImageRefusal::BadWords => String::from_str(alloc, "bad words\n"),
             ImageRefusal::Missing(name) => format!(in alloc; "no file {name}\n"),
             ImageRefusal::TooLong(name) => format!(in alloc; "file too long {name}\n"),
-            ImageRefusal::BadImage(rule) => {
-                let words = image_words(alloc, *rule)?;
-                format!(in alloc; "bad image: {words}\n")
-            }
+            ImageRefusal::BadImage(rule) => bad_image_line(alloc, *rule),
             ImageRefusal::Unsound(breach) => unsound_line(alloc, breach.law, breach.slot.0),
         }
     }
+}
+
+/// The line for bytes that break this rule of an image file.
+fn bad_image_line(alloc: Global, rule: ImageError) -> Result<String, AllocError>
+    ensures { IfOk result (λ words. string_bytes words ≡ line (codes "bad image: " ++ image_words rule)) }
+{
+    let words = image_words(alloc, rule)?;
+    format!(in alloc; "bad image: {words}\n")
 }
 
 /// The line for an image that breaks this law, which names this slot.

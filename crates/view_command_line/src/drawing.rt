@@ -24,25 +24,28 @@ pub fn drawn(
     ensures err { IfErr result
         (ImageStops (λ why. Drawing form unsound bytes.items (Refused why))) }
 {
-    let (config, flash) = read_device(alloc, bytes)?;
-    pictured(alloc, config, flash, form, unsound)
+    let (config, mut flash) = read_device(alloc, bytes)?;
+    let picture = pictured(alloc, config, &mut flash, form, unsound);
+    drop(flash);
+    picture
 }
 
 /// The picture of the device of a flash.
 fn pictured(
     alloc: Global,
     config: Config,
-    flash: MemFlash,
+    flash: &mut MemFlash,
     form: Form,
     unsound: bool,
 ) -> Result<Vec<u8>, ImageStop<'static>>
     requires check { checked config ≡ Ok (shape_of config) }
-    requires ready { flash ≡ loaded (shape_of config) flash.image flash.extras }
-    ensures text { IfOk result (λ text. Gives (Opens form unsound config flash.image) text.items) }
+    requires ready { flash.old ≡ loaded (shape_of config) flash.old.image flash.old.extras }
+    ensures text { IfOk result (λ text.
+        Gives (Opens form unsound config flash.old.image) text.items) }
     ensures err { IfErr result
-        (ImageStops (λ why. Opens form unsound config flash.image (Refused why))) }
+        (ImageStops (λ why. Opens form unsound config flash.old.image (Refused why))) }
 {
-    let notes = notes(alloc, config.protocol, &flash)?;
+    let notes = notes(alloc, config.protocol, flash)?;
     match open(alloc, config, flash)? {
         Opening::Sound(block) => {
             let marks = Marks {

@@ -28,10 +28,10 @@ pub enum Opening {
 }
 
 /// Opens the device of a flash.
-pub fn open(alloc: Global, config: Config, flash: MemFlash) -> Result<Opening, Memory>
+pub fn open(alloc: Global, config: Config, flash: &mut MemFlash) -> Result<Opening, Memory>
     requires check { checked config ≡ Ok (shape_of config) }
-    requires ready { flash ≡ loaded (shape_of config) flash.image flash.extras }
-    ensures { IfOk result (IsOpening config flash.image) }
+    requires ready { flash.old ≡ loaded (shape_of config) flash.old.image flash.old.extras }
+    ensures { IfOk result (IsOpening config flash.old.image) }
 {
     match config.protocol {
         Protocol::Scc => open_by::<Scc>(alloc, config, flash),
@@ -43,16 +43,21 @@ pub fn open(alloc: Global, config: Config, flash: MemFlash) -> Result<Opening, M
 fn open_by<R: CommitRule>(
     alloc: Global,
     config: Config,
-    mut flash: MemFlash,
+    flash: &mut MemFlash,
 ) -> Result<Opening, Memory>
     requires check { checked config ≡ Ok (shape_of config) }
     requires rule { config.protocol ≡ R.protocol }
-    requires ready { flash ≡ loaded (shape_of config) flash.image flash.extras }
-    ensures { IfOk result (IsOpening config flash.image) }
+    requires ready { flash.old ≡ loaded (shape_of config) flash.old.image flash.old.extras }
+    ensures { IfOk result (IsOpening config flash.old.image) }
 {
     steady_stays();
-    match recover::<MemFlash, R>(alloc, &mut flash, config) {
-        Ok((_, blocks)) => Ok(Opening::Sound(blocks.spare())),
+    match recover::<MemFlash, R>(alloc, flash, config) {
+        Ok((index, blocks)) => {
+            let spare = blocks.spare();
+            drop(index);
+            drop(blocks);
+            Ok(Opening::Sound(spare))
+        }
         Err(RecoverError::Unsound { law, slot }) => Ok(Opening::Unsound(Breach { law, slot })),
         Err(RecoverError::Memory) => Err(Memory),
         Err(RecoverError::Fault) => unreachable!(),

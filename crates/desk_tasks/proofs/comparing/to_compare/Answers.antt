@@ -30,8 +30,8 @@ returns-in_err-config-clause-works g c =
     c.from_residual-in_err-config.result c.in_err-config.field-0.0 c.from_residual-in_err-config.ensures.1 (λ why h. (why, h, refl))
     c.in_err-config.ensures.err)
 
-pub returns-in_err-others-clause-works : goal.returns-in_err-others-clause-works
-returns-in_err-others-clause-works g c =
+pub returns-in-Err-clause-works : goal.returns-in-Err-clause-works
+returns-in-Err-clause-works g c =
     let old = g.D.Desk.state c.args.desk.now in
     let mid = g.D.Desk.state c.fetch.new.desk in
     let new = g.D.Desk.state c.fetch-2.new.desk in
@@ -41,8 +41,8 @@ returns-in_err-others-clause-works g c =
     let flash = c.in_ok-config.flash in
     let reads = c.in_ok-config.ensures.read in
     let second = c.args.second.now in
-    unfetched (Some (Compare c.args.first.now second)) old mid new 1 second c.in_err-others.field-0.0 c.from_residual-in_err-others.result
-    c.from_residual-in_err-others.ensures.1 fetched.1 (omega arith)
+    unfetched (Some (Compare c.args.first.now second)) old mid new 1 second c.in-Err.stop (Err c.from.result)
+    c.from.ensures fetched.1 (omega arith)
     (found_more old c.args.first.now bytes [] fetched.0 (found_none old))
     (λ found. (
       Bytes bytes,
@@ -54,10 +54,10 @@ returns-in_err-others-clause-works g c =
       fetched.0,
       (1, (Ok (its, flash.image, flash.extras), reads, (TooLong, finds_before old mid second TooLong fetched.1 found, (refl, refl))), refl),
     ))
-    c.in_err-others.ensures.fetches
+    c.in-Err.ensures.fetches
 
-pub returns-clause-works : goal.returns-clause-works
-returns-clause-works g c =
+pub returns-in-Ok-clause-works : goal.returns-in-Ok-clause-works
+returns-in-Ok-clause-works g c =
     let old = g.D.Desk.state c.args.desk.now in
     let mid = g.D.Desk.state c.fetch.new.desk in
     let new = g.D.Desk.state c.fetch-2.new.desk in
@@ -67,8 +67,8 @@ returns-clause-works g c =
     let flash = c.in_ok-config.flash in
     let reads = c.in_ok-config.ensures.read in
     let second = c.args.second.now in
-    let again = c.in_ok-others.ensures.fetches in
-    let others = c.in_ok-others.others.items in
+    let again = c.in-Ok.ensures.fetches in
+    let others = c.in-Ok.others.items in
     let found = finds_before old mid second (Bytes others) fetched.1 again.0 in
     works (Some (Compare c.args.first.now second)) old new 2
     (Reading others (λ b other more. Comparing its flash.image b other)) c.compared_with.result (again.1 ∙ ap (after_answer as_before) fetched.1) (inr refl)
@@ -80,12 +80,12 @@ returns-clause-works g c =
     ))
     c.compared_with.ensures
 
-pub returns-in_err-others-clause-disk : goal.returns-in_err-others-clause-disk
-returns-in_err-others-clause-disk g c =
+pub returns-in-Err-clause-disk : goal.returns-in-Err-clause-disk
+returns-in-Err-clause-disk g c =
     rests_then (g.D.Desk.disk c.args.desk.now) (g.D.Desk.disk c.fetch.new.desk) (g.D.Desk.disk c.fetch-2.new.desk) c.in_ok-bytes.ensures.disk
-    c.in_err-others.ensures.disk
+    c.in-Err.ensures.disk
 
-pub returns-clause-disk : goal.returns-clause-disk
-returns-clause-disk g c =
+pub returns-in-Ok-clause-disk : goal.returns-in-Ok-clause-disk
+returns-in-Ok-clause-disk g c =
     rests_then (g.D.Desk.disk c.args.desk.now) (g.D.Desk.disk c.fetch.new.desk) (g.D.Desk.disk c.fetch-2.new.desk) c.in_ok-bytes.ensures.disk
-    c.in_ok-others.ensures.disk
+    c.in-Ok.ensures.disk

@@ -1,4 +1,4 @@
-use Rattle.std.proofs.Common.{ap, ◌∙◌}
+use Rattle.std.proofs.Common.{[], refl, ap, ◌∙◌}
 use Rattle.flash_model.specs.Operations.{Moment}
 use Rattle.version_index.specs.Notes.{found_in}
 use Rattle.desk_tasks.proofs.RunLemmas.{report_said}
@@ -9,7 +9,6 @@ returns-clause-report g c =
     let s = c.in_ok-device.device in
     let mounts = c.in_ok-device.ensures.ok in
     let known = c.devices_stand.ensures.records s c.config.ensures.stands c.config.ensures.rule mounts.unsure in
-    report_said c.explain.new.out.items c.new-text.result.items g.R.CommitRule.protocol c.args.config.protocol c.deref.result.now (found_in s.noted.notes)
-    s.flash.image c.args.flash.image c.args.config.logical c.in_ok-explain.ensures.text c.new-text.ensures.items (c.deref.ensures.value ∙
-    c.in_ok-found.ensures) known.0
+    report_said c.in_ok-text.text.items [] g.R.CommitRule.protocol c.args.config.protocol c.deref.result.now (found_in s.noted.notes)
+    s.flash.image c.args.flash.image c.args.config.logical c.in_ok-text.ensures refl (c.deref.ensures.value ∙ c.in_ok-found.ensures) known.0
     (ap (λ (m : Moment). m.image) mounts.moment) c.requires.rule

@@ -1,4 +1,4 @@
-use Rattle.std.proofs.Common.{refl}
+use Rattle.std.proofs.Common.{Err, refl}
 use Rattle.desk_tasks.specs.Fate.{Keyed}
 use Rattle.desk_tasks.specs.Steps.{Keying}
 use Rattle.desk_tasks.specs.Stops.{RefusesScript, RefusesStore}
@@ -10,14 +10,14 @@ pub returns-in_err-config : goal.returns-in_err-config
 returns-in_err-config c =
     unread_image c.args.bytes.items _ c.from_residual.result c.in_err-config.field-0.0 c.from_residual.ensures.1 c.in_err-config.ensures.err
 
-pub returns-in_err-list : goal.returns-in_err-list
-returns-in_err-list c =
+pub returns-in-Err : goal.returns-in-Err
+returns-in-Err c =
     let its = c.in_ok-config.config in
     let image = c.in_ok-config.flash.image in
     stopped (RefusesScript c.args.lines.now) (Keying c.args.name.now c.args.bytes.items c.args.lines.now)
-    c.from_residual-in_err-list.result c.in_err-list.field-0.0 c.from_residual-in_err-list.ensures.1
+    (Err c.in-Err.stop) c.in-Err.stop refl
     (keying_line c.args.name.now c.args.bytes.items c.args.lines.now its image
-    c.in_ok-config.flash.extras c.in_ok-config.ensures.read) c.in_err-list.ensures.err
+    c.in_ok-config.flash.extras c.in_ok-config.ensures.read) c.in-Err.ensures.err
 
 pub returns-in_err-flash : goal.returns-in_err-flash
 returns-in_err-flash c =
@@ -27,19 +27,19 @@ returns-in_err-flash c =
     c.from_residual-in_err-flash.result c.in_err-flash.field-0.0
     c.from_residual-in_err-flash.ensures.1
     (keying_store c.args.name.now c.args.bytes.items c.args.lines.now its image
-    c.in_ok-config.flash.extras c.in_ok-config.ensures.read c.in_ok-list.list.items
-    c.in_ok-list.ensures.script) c.in_err-flash.ensures.err
+    c.in_ok-config.flash.extras c.in_ok-config.ensures.read c.in-Ok.list.items
+    c.in-Ok.ensures.script) c.in_err-flash.ensures.err
 
 pub returns : goal.returns
 returns c =
     let its = c.in_ok-config.config in
     let image = c.in_ok-config.flash.image in
-    let list = c.in_ok-list.list.items in
+    let list = c.in-Ok.list.items in
     let run = rw c.deref.ensures.value at c.in_ok-flash.ensures.run in
     let held = keys_held its image list _ _ run in (
       Keyed c.args.name.now its image c.in_ok-config.flash.extras list,
       keying_done c.args.name.now c.args.bytes.items c.args.lines.now its image
-          c.in_ok-config.flash.extras c.in_ok-config.ensures.read list c.in_ok-list.ensures.script
+          c.in_ok-config.flash.extras c.in_ok-config.ensures.read list c.in-Ok.ensures.script
           held.0 held.1,
       refl,
       record {

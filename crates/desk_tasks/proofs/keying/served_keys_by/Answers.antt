@@ -18,18 +18,16 @@ pub returns-in-Ok-clause-shape : goal.returns-in-Ok-clause-shape
 returns-in-Ok-clause-shape g c =
     c.key_serve-flash.ensures.shape ∙ ap (λ (s : MemoryState). s.shape) c.requires.ready
 
-pub returns-in-Err-Unsound-clause-err : goal.returns-in-Err-Unsound-clause-err
-returns-in-Err-Unsound-clause-err g c =
-    let why = rw c.in-Err-Unsound.is at c.in-Err-Unsound.field-0-is in
-    let done = c.in-Err-Unsound.is ∙ ap (λ (e : KeyServeError). Err e) why in
-    refuses_store c.args.config c.args.flash c.in-Err-Unsound.law c.in-Err-Unsound.slot
+pub returns-in-Unsound-clause-err : goal.returns-in-Unsound-clause-err
+returns-in-Unsound-clause-err g c =
+    let done = c.in-Err.is ∙ ap (λ (e : KeyServeError). Err e) c.in-Unsound.is in
+    refuses_store c.args.config c.args.flash c.in-Unsound.law c.in-Unsound.slot
     (rw done at (c.key_serve-flash.ensures.refuses (λ image.
     rw done at (c.key_serve-flash.ensures.serves image))))
 
-pub returns-in-Err-Bucket-clause-err : goal.returns-in-Err-Bucket-clause-err
-returns-in-Err-Bucket-clause-err g c =
-    let why = rw c.in-Err-Bucket.is at c.in-Err-Bucket.field-0-is in
-    let done = c.in-Err-Bucket.is ∙ ap (λ (e : KeyServeError). Err e) why in
-    refuses_bucket c.args.config c.args.flash c.in-Err-Bucket.page
+pub returns-in-Bucket-clause-err : goal.returns-in-Bucket-clause-err
+returns-in-Bucket-clause-err g c =
+    let done = c.in-Err.is ∙ ap (λ (e : KeyServeError). Err e) c.in-Bucket.is in
+    refuses_bucket c.args.config c.args.flash c.in-Bucket.page
     (rw done at (c.key_serve-flash.ensures.refuses (λ image.
     rw done at (c.key_serve-flash.ensures.serves image))))

@@ -10,7 +10,7 @@ use Rattle.view_command_line.proofs.drawing.pictured.Goals as goal
 pub returns-in-Sound-clause-text : goal.returns-in-Sound-clause-text
 returns-in-Sound-clause-text c =
     let its = c.args.config in
-    let image = c.args.flash.image in
+    let image = c.args.flash.now.image in
     let opened = opening.Sound c.in-Sound.block in
     IfOk-weaker c.text.result (λ (text : Vec ℕ Global). text.items ≡ picture_in c.args.form its c.deref.result.now (marks_of opened))
     (λ (text : Vec ℕ Global). Gives (Opens c.args.form c.args.unsound its image) text.items)
@@ -21,7 +21,7 @@ returns-in-Sound-clause-text c =
 pub returns-then-unsound-clause-text : goal.returns-then-unsound-clause-text
 returns-then-unsound-clause-text c =
     let its = c.args.config in
-    let image = c.args.flash.image in
+    let image = c.args.flash.now.image in
     let opened = opening.Unsound c.in-Unsound.breach in
     IfOk-weaker c.text-then-unsound.result (λ (text : Vec ℕ Global). text.items ≡ picture_in c.args.form its c.deref-then-unsound.result.now (marks_of opened))
     (λ (text : Vec ℕ Global). Gives (Opens c.args.form c.args.unsound its image) text.items)

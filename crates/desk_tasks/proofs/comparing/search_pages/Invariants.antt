@@ -2,7 +2,7 @@ use Rattle.std.proofs.Common.{◌≡◌, ◌<◌, ℕ, false, length}
 use Rattle.flash_model.specs.Flash.{IsSteady}
 use Rattle.mem_flash.specs.Memory.{state_of}
 use Rattle.array_machine.specs.ArrayState.{page_at}
-use Rattle.desk_tasks.proofs.comparing.first_difference_of.Given as goal
+use Rattle.desk_tasks.proofs.comparing.search_pages.Given as goal
 
 abbrev pub invariant-loop-page : goal.invariant-loop-page
 invariant-loop-page g l = record {
@@ -14,7 +14,7 @@ invariant-loop-page g l = record {
   two_machine : l.two.machine ≡ l.initial.two.machine;
   steady : IsSteady (state_of l.one.flash);
   two_steady : IsSteady (state_of l.two.flash);
-  room : length l.here.items ≡ l.fn.config.page_bytes;
-  two_room : length l.there.items ≡ l.fn.config.page_bytes;
+  room : length l.here ≡ l.fn.config.page_bytes;
+  two_room : length l.there ≡ l.fn.config.page_bytes;
   same : (p : ℕ) → p < l.page → page_at l.initial.one.machine.pages p ≡ page_at l.initial.two.machine.pages p;
 }
