@@ -28,7 +28,9 @@ use std::rt::Files;
 const CASES: &str = "cases.txt";
 
 fn main(rt: HostRuntime) -> ExitCode {
-    let loaded = RealDesk::new(&rt, RealFolder { rt: &rt }).load(CASES);
+    let mut desk = RealDesk::new(&rt, RealFolder { rt: &rt });
+    let loaded = desk.load(CASES);
+    drop(desk);
     ExitCode::from(match loaded {
         Ok(bytes) => status_of(&rt, &bytes),
         Err(LoadError::Memory) => 6,

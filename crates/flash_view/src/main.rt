@@ -19,5 +19,7 @@ fn main(rt: HostRuntime) -> ExitCode {
         }
     }
     let mut desk = RealDesk::new(&rt, RealFolder { rt: &rt });
-    ExitCode::from(top(rt.alloc(), &words, &mut desk))
+    let status = top(rt.alloc(), &words, &mut desk);
+    drop(desk);
+    ExitCode::from(status)
 }

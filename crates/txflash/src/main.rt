@@ -26,7 +26,9 @@ fn main(rt: HostRuntime) -> ExitCode {
         }
     }
     let mut desk = RealDesk::new(&rt, RealFolder { rt: &rt });
-    ExitCode::from(top(rt.alloc(), &words, &mut desk))
+    let status = top(rt.alloc(), &words, &mut desk);
+    drop(desk);
+    ExitCode::from(status)
 }
 
 /// Lets the C library keep memory that is freed: it gives back to the system what is free beyond twice the largest
