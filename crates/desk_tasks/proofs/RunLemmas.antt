@@ -55,9 +55,8 @@ is_run its flash left cs before after e none is_sound served =
       few = subst (λ armed. AreFew (told_of armed).cuts (told_of armed).breaks cs served.replies) (ap (λ (s : MemoryState). s.armed) e) served.spends.few;
     }
 
--- the report on what a device knows is that on the records of its image
-pub report_said : (said before : List ℕ) (kept protocol : Protocol) (list noted : List Found) (opened image : List Contents) (logical : ℕ) →
-    said ≡ before ++ report kept list logical → before ≡ [] → list ≡ noted → records_in kept opened ≡ noted → opened ≡ image → protocol ≡ kept →
+-- the report on the list of the records of an image, under the rule of its protocol
+pub report_said : (said : List ℕ) (kept protocol : Protocol) (list : List Found) (image : List Contents) (logical : ℕ) →
+    list ≡ records_in protocol image → protocol ≡ kept → said ≡ report kept list logical →
     said ≡ report protocol (records_in protocol image) logical
-report_said said before kept protocol list noted opened image logical text empty is known same rule =
-    rw (text, empty, rule, is, ← known, same) refl
+report_said said kept protocol list image logical is rule h = h ∙ rw (is, ← rule) refl

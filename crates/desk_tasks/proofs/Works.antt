@@ -50,6 +50,10 @@ pub out_of_memory : (Q : Fate → Type 0) (result : Result Product Stop) (e : St
 out_of_memory Q (Ok product) e same memory = absurd same
 out_of_memory Q (Err x) e same memory = rw (same, memory) tt
 
+pub memory_stops : {T : Type 0} → (P : Fate → Type 0) (result : Result T Stop) → IfErr result (λ e. e ≡ stop.Memory) → IfErr result (StopsBy P)
+memory_stops P (Ok done) h = h
+memory_stops P (Err x) h = rw h tt
+
 -- so is what stops where reading an image does
 image_stops_by : (P : ImageFate → Type 0) (Q : Fate → Type 0) → ((why : ImageFate) → P why → Q (Image why)) → (stopped : ImageStop) →
     ImageStops P stopped → StopsBy Q (stop_of stopped)

@@ -245,9 +245,16 @@ fn first_difference_of<R: CommitRule, S: CommitRule>(
     requires two_steady { IsSteady (state_of two.old.flash) }
     ensures { IfOk result (FindsFirst one.old.machine.pages two.old.machine.pages config.logical) }
 {
-    let mut here = vec![in alloc; 0; config.page_bytes as usize]?;
-    let mut there = vec![in alloc; 0; config.page_bytes as usize]?;
+    let mut here = page_room(alloc, config)?;
+    let mut there = page_room(alloc, config)?;
     Ok(search_pages(one, two, config, &mut here, &mut there))
+}
+
+/// Room for a page.
+fn page_room(alloc: Global, config: Config) -> Result<Vec<u8>, Memory>
+    ensures { IfOk result (λ room. length room.items ≡ config.page_bytes) }
+{
+    Ok(vec![in alloc; 0; config.page_bytes as usize]?)
 }
 
 /// Searches the pages of two devices for the first difference. The rooms are for a page each.

@@ -166,12 +166,9 @@ fn explained_by<R: CommitRule>(
         report config.protocol (records_in config.protocol flash.image) config.logical) }
     ensures err { IfErr result (StopsBy (RefusesDevice config flash.image)) }
 {
-    let device = opened::<R>(alloc, flash, config)?;
-    devices_stand::<MemFlash, R>();
-    let _ = device.config();
+    let device = sound_device::<R>(alloc, flash, config)?;
     let found = records_of(device)?;
-    let text = report_on::<R>(alloc, &found, config.logical)?;
-    Ok(text)
+    report_on::<R>(alloc, &found, config.logical)
 }
 
 /// The records that a device found, which is given up.
@@ -185,8 +182,13 @@ pub fn records_of<R: CommitRule>(device: Device<MemFlash, R>) -> Result<Vec<Foun
 }
 
 /// The report on a list of records.
-fn report_on<R: CommitRule>(alloc: Global, list: &[Found], logical: u32) -> Result<Vec<u8>, Memory>
-    ensures { IfOk result (λ text. text.items ≡ report R.protocol list.now logical) }
+fn report_on<R: CommitRule>(
+    alloc: Global,
+    list: &[Found],
+    logical: u32,
+) -> Result<Vec<u8>, Stop<'static>>
+    ensures ok { IfOk result (λ text. text.items ≡ report R.protocol list.now logical) }
+    ensures err { IfErr result (λ e. e ≡ Stop.Memory) }
 {
     let mut text = Vec::new(alloc);
     explain::<R>(alloc, list, logical, &mut text)?;

@@ -1,10 +1,10 @@
-use Rattle.std.proofs.Common.{Err, refl}
 use Rattle.desk_tasks.specs.Checking.{array_of_device}
 use Rattle.desk_tasks.specs.Differences.{ComesTo}
 use Rattle.desk_tasks.specs.Fate.{Same}
 use Rattle.desk_tasks.specs.Steps.{Comparing, Opening}
 use Rattle.desk_tasks.specs.Stops.{RefusesDevice}
-use Rattle.desk_tasks.proofs.Findings.{first_opened, first_refused, leads_err, leads_ok, leads_stop}
+use Rattle.desk_tasks.proofs.Findings.{first_opened, first_refused, leads_err, leads_ok}
+use Rattle.desk_tasks.proofs.Works.{stops_by}
 use Rattle.desk_tasks.proofs.comparing.compared_by.Goals as goal
 
 pub returns-in-Ok-clause-ok : goal.returns-in-Ok-clause-ok
@@ -33,4 +33,4 @@ returns-in-Err-clause-err g c =
     let image = c.args.flash.image in
     let b = c.args.second in
     let other = c.args.other.image in
-    leads_stop (RefusesDevice a image) (Comparing a image b other) (first_refused a image b other) (Err c.in-Err.stop) c.in-Err.stop refl c.in-Err.ensures.err
+    stops_by (RefusesDevice a image) (Comparing a image b other) (first_refused a image b other) c.in-Err.stop c.in-Err.ensures.err

@@ -1,10 +1,11 @@
-use Rattle.std.proofs.Common.{◌≡◌, inl, inr, refl, sym, ap, Some, Err, ◌∙◌}
+use Rattle.std.proofs.Common.{◌≡◌, inl, inr, sym, ap, Some, ◌∙◌}
 use Rattle.tx_types.specs.Config.{shape_of}
 use Rattle.desk_tasks.specs.Fate.{Fate}
 use Rattle.desk_tasks.specs.Retirements.{block_refusal}
 use Rattle.desk_tasks.specs.Stops.{RefusesDevice, RefusesRetirement}
 use Rattle.desk_tasks.proofs.Findings.{leads_stop}
 use Rattle.desk_tasks.proofs.Retirements.{idle_again, leaves_retired, opened_refusal, opened_shape}
+use Rattle.desk_tasks.proofs.Works.{stops_by}
 use Rattle.desk_tasks.proofs.retiring.replaced_by.Goals as goal
 
 pub returns-in_err-device-clause-err : goal.returns-in_err-device-clause-err
@@ -28,10 +29,10 @@ returns-in-Err-clause-err g c =
     let flash = c.args.flash in
     let opened = c.in_ok-device.device in
     let kept = c.in_ok-device.ensures in
-    leads_stop (λ (fate : Fate). block_refusal opened.config opened.flash.extras c.args.block.0 ≡ Some fate)
+    stops_by (λ (fate : Fate). block_refusal opened.config opened.flash.extras c.args.block.0 ≡ Some fate)
     (RefusesRetirement c.args.config flash.image flash.extras c.args.block.0)
     (λ fate h. inr (kept.sound, opened_refusal c.args.config flash opened c.requires.ready kept.ok c.args.block.0 (Some fate) h))
-    (Err c.in-Err.stop) c.in-Err.stop refl c.in-Err.ensures.err
+    c.in-Err.stop c.in-Err.ensures.err
 
 pub returns-in-Ok-clause-ok : goal.returns-in-Ok-clause-ok
 returns-in-Ok-clause-ok g c =
