@@ -1,7 +1,5 @@
 use Rattle.std.proofs.Common.{refl, Ok}
-use Rattle.tx_types.specs.declared.config.Protocol.TheVariants.{Scc}
 use Rattle.desk_tasks.specs.Fate.{Tried}
-use Rattle.desk_tasks.specs.Runs.{RepliesFresh}
 use Rattle.desk_tasks.specs.Steps.{Trying}
 use Rattle.desk_tasks.specs.Stops.{RefusesLine}
 use Rattle.desk_tasks.proofs.Parts.{trying_line}
