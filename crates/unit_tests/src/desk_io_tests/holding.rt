@@ -48,9 +48,7 @@ fn is_let_go(rt: &HostRuntime) -> bool {
 
 /// Whether a file with two names is held.
 fn is_held_in_place(rt: &HostRuntime) -> bool {
-    is_written(rt, FILE, OLD)
-        && fs::hard_link(rt, FILE, "holding/other").is_ok()
-        && is_let_go(rt)
+    is_written(rt, FILE, OLD) && fs::hard_link(rt, FILE, "holding/other").is_ok() && is_let_go(rt)
 }
 
 /// Whether a file stays that another program has written since it was loaded.

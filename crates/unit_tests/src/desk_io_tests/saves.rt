@@ -141,12 +141,7 @@ fn save_with(rt: &HostRuntime, it: &Case, log: &Log) -> Option<Saved> {
 }
 
 /// Saves once, where the call of this number fails in this way, or none for 0.
-fn save(
-    rt: &HostRuntime,
-    it: &Case,
-    fails: u32,
-    kind: ErrorKind,
-) -> Option<Saved> {
+fn save(rt: &HostRuntime, it: &Case, fails: u32, kind: ErrorKind) -> Option<Saved> {
     let log = Log::new(rt.alloc(), fails, kind);
     save_with(rt, it, &log)
 }
@@ -225,12 +220,7 @@ fn is_well<R: Files + AllocGlobal>(rt: &R, it: &Case, saved: &Saved) -> bool {
 }
 
 /// Whether the call of this number of a save may fail; nothing, where the save has fewer calls.
-fn may_fail(
-    rt: &HostRuntime,
-    it: &Case,
-    fails: u32,
-    kind: ErrorKind,
-) -> Option<bool> {
+fn may_fail(rt: &HostRuntime, it: &Case, fails: u32, kind: ErrorKind) -> Option<bool> {
     match save(rt, it, fails, kind) {
         Some(saved) if !saved.has_failed => None,
         Some(saved) => Some(is_well(rt, it, &saved)),
