@@ -19,7 +19,7 @@ mod trying;
 use crate::report::Report;
 use crate::stop::Stop;
 use crate::trying::try_cases;
-use desk_io::{Desk, LoadError, RealDesk};
+use desk_io::{Desk, LoadError, RealDesk, RealFolder};
 use std::io;
 use std::process::ExitCode;
 use std::rt::Files;
@@ -28,7 +28,9 @@ use std::rt::Files;
 const CASES: &str = "cases.txt";
 
 fn main(rt: HostRuntime) -> ExitCode {
-    let loaded = RealDesk::new(&rt).load(CASES);
+    let mut desk = RealDesk::new(&rt, RealFolder { rt: &rt });
+    let loaded = desk.load(CASES);
+    drop(desk);
     ExitCode::from(match loaded {
         Ok(bytes) => status_of(&rt, &bytes),
         Err(LoadError::Memory) => 6,

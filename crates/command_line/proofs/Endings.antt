@@ -204,7 +204,7 @@ leaves_files task old new answer ends =
 -- ---- refusals
 
 -- a refusal gives its line
-refusal_gives : (r : Refusal) (text : List ℕ) → text ≡ refusal_line (refused r) → Gives (refused r) (record { saved = None; text = text })
+pub refusal_gives : (r : Refusal) (text : List ℕ) → text ≡ refusal_line (refused r) → Gives (refused r) (record { saved = None; text = text })
 refusal_gives (refusal.BadLine n) text e = record { saves_nothing = refl; said = e }
 refusal_gives (refusal.Image why) text e = record { saves_nothing = refl; said = e }
 refusal_gives (refusal.BadConfiguration rule) text e = record { saves_nothing = refl; said = e }

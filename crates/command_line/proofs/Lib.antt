@@ -1,6 +1,7 @@
+pub mod ArrayRuns
+mod DiskEndings
+pub mod Endings
+pub mod OneFate
 pub mod OneFinding
 pub mod OneKeyFate
-pub mod OneFate
 pub mod Saving
-pub mod Endings
-pub mod ArrayRuns

@@ -1,13 +1,16 @@
 ghost use Rattle.std.specs.Prelude.{◌≡◌};
+ghost use Rattle.std.specs.Option.{option_map};
+ghost use Rattle.durable_folder.specs.Histories.{Rests};
 ghost use Rattle.desk_io.specs.Desk.{Rose};
-ghost use Rattle.desk_tasks.specs.Stops.{Works, given_of};
+ghost use Rattle.desk_tasks.specs.Stops.{Works, file_saved, given_of};
+ghost use Rattle.command_line.specs.Disk.{DeliversOnDisk, EndsOnDisk, PutsFile, PutsOnDisk};
 ghost use Rattle.command_line.specs.Top.{Delivers, EndsCall, IsExact, LeavesFiles};
 ghost use Rattle.command_line.specs.Words.{asked_by};
 
 use crate::words::{Task, asked};
 use desk_io::{Desk, SinkError};
 use desk_tasks::{
-    MAX_DRAWS, Product, Refusal, Stop, driven, formatted, to_check, to_compare, to_explain,
+    File, MAX_DRAWS, Product, Refusal, Stop, driven, formatted, to_check, to_compare, to_explain,
     to_keys, to_retire, to_run, to_try,
 };
 use image_desk::{ImageRefusal, desk_fault, no_memory, refuse, say};
@@ -31,13 +34,15 @@ pub fn top<D: Desk>(alloc: Global, words: &[String], desk: &mut D) -> u8
     ensures exact { IsExact (asked_by words.now) (D.state desk.old) (D.state desk.new) result }
     ensures fault { result ≡ 5 → Rose (D.state desk.old).faults (D.state desk.new).faults }
     ensures files { LeavesFiles (asked_by words.now) (D.state desk.old) (D.state desk.new) result }
+    ensures disk { EndsOnDisk D.state D.disk (asked_by words.now) desk.old desk.new result }
 {
     run(alloc, words, desk)
 }
 
 /// The same, by how it ends.
 fn run<D: Desk>(alloc: Global, words: &[String], desk: &mut D) -> u8
-    ensures { EndsCall (asked_by words.now) (D.state desk.old) (D.state desk.new) result }
+    ensures ends { EndsCall (asked_by words.now) (D.state desk.old) (D.state desk.new) result }
+    ensures disk { EndsOnDisk D.state D.disk (asked_by words.now) desk.old desk.new result }
 {
     match work(alloc, words, desk) {
         Ok(product) => deliver(desk, &product),
@@ -53,7 +58,8 @@ fn work<'a, D: Desk>(
     words: &'a [String],
     desk: &mut D,
 ) -> Result<Product<'a>, Stop<'a>>
-    ensures { Works (asked_by words.now) (D.state desk.old) (D.state desk.new) result }
+    ensures works { Works (asked_by words.now) (D.state desk.old) (D.state desk.new) result }
+    ensures disk { Rests (D.disk desk.old) (D.disk desk.new) }
 {
     match asked(words) {
         Some(Task::Try { commands }) => to_try(alloc, commands, desk),
@@ -81,16 +87,25 @@ fn work<'a, D: Desk>(
     }
 }
 
+/// Saves a file, if there is one.
+fn put<D: Desk>(desk: &mut D, saved: &Option<File>) -> Result<(), SinkError>
+    ensures puts { PutsFile (option_map file_saved saved.now) result (D.state desk.old) (D.state desk.new) }
+    ensures disk { PutsOnDisk (option_map file_saved saved.now) result (D.disk desk.old) (D.disk desk.new) }
+{
+    match saved {
+        Some(file) => desk.save(file.name, &file.bytes),
+        None => Ok(()),
+    }
+}
+
 /// Saves a file, if there is one, and then says a text. The status is 0 where that is done.
 fn deliver<D: Desk>(desk: &mut D, product: &Product) -> u8
-    ensures { Delivers (D.state desk.old) (D.state desk.new) (given_of product.now) 0 result }
+    ensures delivers { Delivers (D.state desk.old) (D.state desk.new) (given_of product.now) 0 result }
+    ensures disk { DeliversOnDisk D.state D.disk (given_of product.now) desk.old desk.new result }
 {
-    if let Some(file) = &product.saved {
-        match desk.save(file.name, &file.bytes) {
-            Ok(()) => {}
-            Err(SinkError::Failed) => return desk_fault(desk),
-            Err(SinkError::Memory) => return no_memory(desk),
-        }
+    match put(desk, &product.saved) {
+        Ok(()) => say(desk, product.text.as_slice(), 0),
+        Err(SinkError::Failed) => desk_fault(desk),
+        Err(SinkError::Memory) => no_memory(desk),
     }
-    say(desk, product.text.as_slice(), 0)
 }

@@ -1,2 +1,4 @@
+mod Answering
 mod DeskFiles
 mod Keeping
+pub mod Resting

@@ -1,4 +1,6 @@
 pub mod Desk
+pub mod Disk
 pub mod InMemory
 pub mod Kept
+pub mod Noted
 pub mod System

@@ -1,6 +1,5 @@
 -- A desk of the system's files and its output, and what it answers to the system's answers.
-use Rattle.std.specs.Prelude.{◌≡◌, ℕ, nat_le, if◌then◌else◌, List, length, Option, None, Some, IfSome, Result, Ok, Err, Vec}
-use Rattle.std.specs.Global.{Global}
+use Rattle.std.specs.Prelude.{ℕ, nat_le, if◌then◌else◌, length, None, Result, Ok, Err}
 use Rattle.std.specs.IoError.{error_kind}
 use Rattle.std.specs.declared.io.Error.{Error}
 use Rattle.std.specs.declared.io.ErrorKind.{ErrorKind}
@@ -9,7 +8,8 @@ use Rattle.desk_io.specs.declared.desk.LoadError.{LoadError}
 use Rattle.desk_io.specs.declared.desk.LoadError.TheVariants as load
 use Rattle.desk_io.specs.declared.desk.SinkError.{SinkError}
 use Rattle.desk_io.specs.declared.desk.SinkError.TheVariants as sink
-use Rattle.desk_io.specs.Desk.{DeskState, counted, file_found, max_file_bytes}
+use Rattle.durable_folder.specs.declared.loading.Loaded.{Loaded}
+use Rattle.desk_io.specs.Desk.{DeskState, counted, max_file_bytes}
 
 -- a desk that tells nothing but how many of its calls failed
 abbrev pub closed_desk : ℕ → DeskState
@@ -21,15 +21,10 @@ load_error kind.NotFound = load.Missing
 load_error kind.OutOfMemory = load.Memory
 load_error _ = load.Failed
 
--- a load finds the same in these bytes as in all that a reader has left, if that tells them
-abbrev pub FindsSame : Option (List ℕ) → List ℕ → Type 0
-FindsSame remaining bytes =
-    IfSome remaining (λ all. file_found (Some bytes) ≡ file_found (Some all))
-
 -- the answer of a load, after reading a file
-abbrev pub load_answer : Result (Vec ℕ Global) Error → Result (Vec ℕ Global) LoadError
-load_answer (Ok bytes) =
-    if nat_le (length bytes.items) max_file_bytes then Ok bytes else Err load.TooLong
+abbrev pub load_answer : Result Loaded Error → Result Loaded LoadError
+load_answer (Ok file) =
+    if nat_le (length file.bytes.items) max_file_bytes then Ok file else Err load.TooLong
 load_answer (Err error) = Err (load_error (error_kind error))
 
 -- the answer of a say, after writing: any error is a fault
@@ -48,7 +43,7 @@ save_answer (Ok done) = Ok done
 save_answer (Err error) = Err (save_error (error_kind error))
 
 -- a load that failed is counted, and so is a save or a say
-abbrev pub load_faults : Result (Vec ℕ Global) LoadError → ℕ → ℕ
+abbrev pub load_faults : {T : Type 0} → Result T LoadError → ℕ → ℕ
 load_faults (Err load.Failed) faults = counted faults
 load_faults _ faults = faults
 

@@ -1,4 +1,7 @@
+ghost use Rattle.std.specs.Prelude.{Option};
+ghost use Rattle.durable_folder.specs.Histories.{History, Rests};
 ghost use Rattle.desk_io.specs.Desk.{DeskState, Loads, Saves, Says};
+ghost use Rattle.desk_io.specs.Disk.{LoadsOnDisk, SavesOnDisk};
 
 /// The most bytes of a file that a desk loads.
 pub const MAX_FILE_BYTES: usize = 134217728;
@@ -32,15 +35,21 @@ pub trait Desk {
     /// was asked for, if it does, and how many of its calls failed.
     ghost state: { Self → DeskState };
 
+    /// The states through which the files went that a loss of power leaves, if the desk tells them.
+    ghost disk: { Self → Option History };
+
     /// The bytes of a file, of which there are at most `MAX_FILE_BYTES`.
     fn load(&mut self, name: &str) -> Result<Vec<u8>, LoadError>
-        ensures { Loads (state self.old) (state self.new) name.now result };
+        ensures loads { Loads (state self.old) (state self.new) name.now result }
+        ensures disk { LoadsOnDisk name.now result (disk self.old) (disk self.new) };
 
     /// Makes these the bytes of the file of this name, whether or not there was one.
     fn save(&mut self, name: &str, bytes: &[u8]) -> Result<(), SinkError>
-        ensures { Saves (state self.old) (state self.new) name.now bytes.now result };
+        ensures saves { Saves (state self.old) (state self.new) name.now bytes.now result }
+        ensures disk { SavesOnDisk name.now bytes.now result (disk self.old) (disk self.new) };
 
     /// Says bytes, after all that was said before.
     fn say(&mut self, bytes: &[u8]) -> Result<(), SinkError>
-        ensures { Says (state self.old) (state self.new) bytes.now result };
+        ensures says { Says (state self.old) (state self.new) bytes.now result }
+        ensures disk { Rests (disk self.old) (disk self.new) };
 }

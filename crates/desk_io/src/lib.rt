@@ -2,10 +2,13 @@
 #![tactic(auto)]
 
 mod desk;
+mod findings;
 mod memory;
 mod real;
 mod real_folder;
+mod through;
 
 pub use desk::{Desk, LoadError, MAX_FILE_BYTES, SinkError};
 pub use memory::{MemDesk, Memory};
 pub use real::RealDesk;
+pub use real_folder::{LockFile, RealFolder};

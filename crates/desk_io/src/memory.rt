@@ -1,6 +1,8 @@
-ghost use Rattle.std.specs.Prelude.{◌≡◌, if◌then◌else◌, IfOk, OnOk, OnErr, Ok, Err};
+ghost use Rattle.std.specs.Prelude.{◌≡◌, if◌then◌else◌, IfOk, OnOk, OnErr, None, Ok, Err};
 ghost use Rattle.std.specs.Option.{option_copied};
+ghost use Rattle.durable_folder.specs.Histories.{Rests};
 ghost use Rattle.desk_io.specs.Desk.{Loads, Saves, Says, counted, file_at, as_before, with_file};
+ghost use Rattle.desk_io.specs.Disk.{LoadsOnDisk, SavesOnDisk};
 ghost use Rattle.desk_io.specs.InMemory.{open_desk, empty_desk, fails_next, after_put, after_call, after_starving, kept_of, LoadsInMemory, SavesInMemory, SaysInMemory};
 
 use crate::{Desk, LoadError, MAX_FILE_BYTES, SinkError};
@@ -159,9 +161,12 @@ fn kept(bytes: &[u8], fails: bool) -> &[u8]
 impl Desk for MemDesk {
     ghost state = { open_desk };
 
+    ghost disk = { λ _. None };
+
     fn load(&mut self, name: &str) -> Result<Vec<u8>, LoadError>
         ensures loads { Loads (open_desk self.old) (open_desk self.new) name.now result }
         ensures exact { LoadsInMemory self.old self.new result }
+        ensures disk { LoadsOnDisk name.now result None None }
     {
         if self.fails_next() {
             self.count(true);
@@ -186,6 +191,7 @@ impl Desk for MemDesk {
     fn save(&mut self, name: &str, bytes: &[u8]) -> Result<(), SinkError>
         ensures saves { Saves (open_desk self.old) (open_desk self.new) name.now bytes.now result }
         ensures exact { SavesInMemory self.old self.new name.now bytes.now result }
+        ensures disk { SavesOnDisk name.now bytes.now result None None }
     {
         let fails = self.fails_next();
         let Ok(()) = self.put_file(name, kept(bytes, fails)) else {
@@ -198,6 +204,7 @@ impl Desk for MemDesk {
     fn say(&mut self, bytes: &[u8]) -> Result<(), SinkError>
         ensures says { Says (open_desk self.old) (open_desk self.new) bytes.now result }
         ensures exact { SaysInMemory self.old self.new bytes.now result }
+        ensures disk { Rests None None }
     {
         let fails = self.fails_next();
         let Ok(()) = self.said.extend_from_slice(kept(bytes, fails)) else {

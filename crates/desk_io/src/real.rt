@@ -1,112 +1,76 @@
-ghost use Rattle.std.specs.Prelude.{◌≡◌, IfOk};
-ghost use Rattle.desk_io.specs.System.{FindsSame, closed_desk, load_answer, load_faults, save_answer, say_answer, sink_faults};
+ghost use Rattle.std.specs.Prelude.{◌≡◌, ◌⊎◌, IsErr, Ok, OnOk};
+ghost use Rattle.std.specs.Option.{option_map};
+ghost use Rattle.durable_folder.specs.Causes.{AtNow};
+ghost use Rattle.durable_folder.specs.Histories.{Rests};
+ghost use Rattle.durable_folder.specs.Locking.{IsClaimed, IsStale, IsTaken, WhereFirst};
+ghost use Rattle.desk_io.specs.Desk.{Loads, Saves};
+ghost use Rattle.desk_io.specs.Disk.{LoadsOnDisk, SavesOnDisk};
+ghost use Rattle.desk_io.specs.Noted.{IsNoted, noted};
+ghost use Rattle.desk_io.specs.System.{closed_desk};
 
-use crate::real_folder::RealFolder;
-use crate::{Desk, LoadError, MAX_FILE_BYTES, SinkError};
-use durable_folder::save;
-use std::alloc::Global;
-use std::fs::OpenFile;
-use std::io::{ErrorKind, Read};
-use std::marker::Model;
-use std::rt::Files;
-use std::{fs, io};
+use crate::findings::Findings;
+use crate::through::{load_through, save_through, written};
+use crate::{Desk, LoadError, SinkError};
+use durable_folder::Folder;
 
-/// A desk of the system's files and its standard output, seen as its count of faults.
+/// A desk of the files of a folder and of an output. What is saved on it survives a loss of power.
 #[derive(Drop)]
-pub struct RealDesk<'a, R: Files + Print + AllocGlobal> {
+pub struct RealDesk<'a, R: Print + AllocGlobal, F: Folder + Drop> {
     rt: &'a R,
+    folder: F,
+    findings: Findings,
+    /// The open file by which the one is held that was saved last, until the desk ends.
+    held: Option<F::File>,
     faults: u64,
 }
 
-impl<'a, R: Files + Print + AllocGlobal> Model for RealDesk<'a, R> {
-    ghost use Rattle.std.specs.Prelude.{ℕ};
-
-    ghost Value = { ℕ };
-
-    ghost view = { λ d. d.faults };
-}
-
-impl<'a, R: Files + Print + AllocGlobal> RealDesk<'a, R> {
+impl<'a, R: Print + AllocGlobal, F: Folder + Drop> RealDesk<'a, R, F> {
     /// A desk that has met no fault.
-    pub fn new(rt: &'a R) -> RealDesk<'a, R>
-        ensures { result ≡ 0 }
+    pub fn new(rt: &'a R, folder: F) -> RealDesk<'a, R, F>
+        ensures faults { result.faults ≡ 0 }
+        ensures folder { result.folder ≡ folder }
     {
-        RealDesk { rt, faults: 0 }
+        RealDesk {
+            rt,
+            folder,
+            findings: Findings::new(rt.alloc()),
+            held: None,
+            faults: 0,
+        }
     }
 }
 
-/// The answer of a load, after reading a file. A fault is counted.
-fn loaded(read: io::Result<Vec<u8>>, faults: &mut u64) -> Result<Vec<u8>, LoadError>
-    ensures answer { result ≡ load_answer read }
-    ensures faults { faults.new ≡ load_faults result faults.old }
-{
-    match read {
-        Ok(bytes) if bytes.len() > MAX_FILE_BYTES => Err(LoadError::TooLong),
-        Ok(bytes) => Ok(bytes),
-        Err(error) => Err(match error.kind() {
-            ErrorKind::NotFound => LoadError::Missing,
-            ErrorKind::OutOfMemory => LoadError::Memory,
-            _ => {
-                *faults = faults.saturating_add(1);
-                LoadError::Failed
-            }
-        }),
-    }
-}
+impl<'a, R: Print + AllocGlobal, F: Folder + Drop> Desk for RealDesk<'a, R, F> {
+    ghost state = { λ d. closed_desk d.faults };
 
-/// The answer of a save, after writing to a file. A fault is counted.
-fn saved(done: io::Result<()>, faults: &mut u64) -> Result<(), SinkError>
-    ensures answer { result ≡ save_answer done }
-    ensures faults { faults.new ≡ sink_faults result faults.old }
-{
-    match done {
-        Err(error) if error.kind() == ErrorKind::OutOfMemory => Err(SinkError::Memory),
-        _ => written(done, faults),
-    }
-}
+    ghost disk = { λ d. F.told d.folder };
 
-/// The answer of a say, after writing to the output. A fault is counted.
-fn written(done: io::Result<()>, faults: &mut u64) -> Result<(), SinkError>
-    ensures answer { result ≡ say_answer done }
-    ensures faults { faults.new ≡ sink_faults result faults.old }
-{
-    if done.is_err() {
-        *faults = faults.saturating_add(1);
-        return Err(SinkError::Failed);
-    }
-    Ok(())
-}
-
-/// A file's bytes, or enough of them to tell that they are too many.
-fn read_file<R: Files + AllocGlobal>(rt: &R, name: &str) -> io::Result<Vec<u8>> {
-    let file = fs::open(rt, name)?;
-    let length = file.metadata()?.len();
-    first_bytes(rt.alloc(), file, length)
-}
-
-/// A reader's bytes, or enough of them to tell that they are too many; in one buffer, where they
-/// are as many as expected.
-fn first_bytes<F: Read + Drop>(alloc: Global, file: F, expected: u64) -> io::Result<Vec<u8>>
-    ensures { IfOk result (λ bytes. FindsSame (F.remaining file) bytes.items) }
-{
-    let most = MAX_FILE_BYTES as u64 + 1;
-    let mut bytes = Vec::with_capacity(alloc, expected.min(most) as usize + 1)?;
-    file.take(most).read_to_end(&mut bytes)?;
-    Ok(bytes)
-}
-
-impl<'a, R: Files + Print + AllocGlobal> Desk for RealDesk<'a, R> {
-    ghost state = { closed_desk };
-
-    fn load(&mut self, name: &str) -> Result<Vec<u8>, LoadError> {
-        loaded(read_file(self.rt, name), &mut self.faults)
+    /// What is found of the file is noted.
+    fn load(&mut self, name: &str) -> Result<Vec<u8>, LoadError>
+        ensures loads { Loads (closed_desk self.old.faults) (closed_desk self.new.faults) name.now result }
+        ensures disk { LoadsOnDisk name.now result (F.told self.old.folder) (F.told self.new.folder) }
+        ensures notes { OnOk result (AtNow (IsNoted name.now self.new.findings) (F.told self.new.folder)) }
+    {
+        load_through(&mut self.folder, name, &mut self.findings, &mut self.faults)
     }
 
-    /// It is the save of durable_folder over the files of the system.
-    fn save(&mut self, name: &str, bytes: &[u8]) -> Result<(), SinkError> {
-        let mut folder = RealFolder { rt: self.rt };
-        saved(
-            save(&mut folder, self.rt.alloc(), name, bytes),
+    /// After Ok the desk holds the file. It changes nothing where another program holds it, or where it was
+    /// loaded and is not as it was then.
+    fn save(&mut self, name: &str, bytes: &[u8]) -> Result<(), SinkError>
+        ensures saves { Saves (closed_desk self.old.faults) (closed_desk self.new.faults) name.now bytes.now result }
+        ensures disk { SavesOnDisk name.now bytes.now result (F.told self.old.folder) (F.told self.new.folder) }
+        ensures claims { result ≡ Ok tt →
+            AtNow (IsClaimed (noted self.old.findings name.now) name.now (option_map F.handle self.new.held)) (F.told self.old.folder) }
+        ensures refuses { WhereFirst (λ s. IsTaken name.now s ⊎ IsStale (noted self.old.findings name.now) name.now s)
+            (IsErr result × Rests (F.told self.old.folder) (F.told self.new.folder)) (F.told self.old.folder) }
+    {
+        save_through(
+            &mut self.folder,
+            self.rt.alloc(),
+            name,
+            bytes,
+            &mut self.findings,
+            &mut self.held,
             &mut self.faults,
         )
     }

@@ -1,19 +1,51 @@
 //! The files of the system, as a folder. This is what is trusted of a save: each method is one call of
 //! the system.
-ghost use Rattle.std.specs.Prelude.{[], None, true};
+ghost use Rattle.std.specs.Prelude.{◌≡◌, [], None, true, take, IfOk, IfSome};
 
 use durable_folder::{Folder, Found, Lock};
-use std::fs::{File, Metadata, OpenFile, OpenOptions, Permissions};
-use std::io::{Error, ErrorKind, Read, Seek, SeekFrom, Write};
+use std::alloc::Global;
+use std::fs::{File, Metadata, OpenFile, OpenOptions, Permissions, TryLockError};
+use std::io::{Read, Seek, SeekFrom, Write};
 use std::os::unix::fs::{MetadataExt, OpenOptionsExt, lchown};
 use std::path::PathBuf;
 use std::rt::Files;
 use std::{fs, io};
 
+/// An open file, whose lock a program can ask for.
+pub trait LockFile {
+    /// Takes the lock of the file, which is held while the file is open, and does not wait for it.
+    fn take_lock(&self) -> io::Result<Lock>;
+}
+
+impl LockFile for File {
+    fn take_lock(&self) -> io::Result<Lock> {
+        match self.try_lock() {
+            Ok(()) => Ok(Lock::Held),
+            Err(TryLockError::WouldBlock) => Ok(Lock::Elsewhere),
+            Err(TryLockError::Error(error)) => Err(error),
+        }
+    }
+}
+
 /// The files of the system.
 #[derive(Drop)]
 pub struct RealFolder<'a, R: Files + AllocGlobal> {
     pub rt: &'a R,
+}
+
+/// The first bytes of a reader, up to so many; in one buffer, where they are as many as expected.
+fn first_bytes<F: Read>(
+    alloc: Global,
+    file: &mut F,
+    most: usize,
+    expected: u64,
+) -> io::Result<Vec<u8>>
+    ensures { IfOk result (λ bytes. IfSome (F.remaining file.old) (λ all. bytes.items ≡ take most all)) }
+{
+    let room = expected.min(most as u64) as usize;
+    let mut bytes = Vec::with_capacity(alloc, room.saturating_add(1))?;
+    file.take(most as u64).read_to_end(&mut bytes)?;
+    Ok(bytes)
 }
 
 /// What the system tells of a file, field by field.
@@ -33,7 +65,10 @@ fn found(metadata: Metadata) -> Found {
     }
 }
 
-impl<'a, R: Files + AllocGlobal> Folder for RealFolder<'a, R> {
+impl<'a, R: Files + AllocGlobal> Folder for RealFolder<'a, R>
+where
+    R::File: LockFile,
+{
     type File = R::File;
 
     type Place = R::File;
@@ -69,13 +104,12 @@ impl<'a, R: Files + AllocGlobal> Folder for RealFolder<'a, R> {
     }
 
     fn read(&mut self, file: &mut R::File, most: usize) -> io::Result<Vec<u8>> {
-        let mut bytes = Vec::new(self.rt.alloc());
-        file.take(most as u64).read_to_end(&mut bytes)?;
-        Ok(bytes)
+        let length = file.metadata()?.len();
+        first_bytes(self.rt.alloc(), file, most, length)
     }
 
-    fn try_lock(&mut self, _file: &mut R::File) -> io::Result<Lock> {
-        Err(Error::from(ErrorKind::Unsupported))
+    fn try_lock(&mut self, file: &mut R::File) -> io::Result<Lock> {
+        file.take_lock()
     }
 
     fn open_or_create(&mut self, name: &str) -> io::Result<R::File> {

@@ -3,6 +3,7 @@ ghost use Rattle.std.specs.Fmt.{decimal};
 ghost use Rattle.tx_types.specs.Config.{checked, shape_of};
 ghost use Rattle.mem_flash.specs.Memory.{loaded};
 ghost use Rattle.record_list.specs.Records.{IsScanned};
+ghost use Rattle.durable_folder.specs.Histories.{Rests};
 ghost use Rattle.desk_tasks.specs.Checking.{ChecksList};
 ghost use Rattle.image_desk.specs.Refusals.{line};
 ghost use Rattle.desk_tasks.specs.Fate.{Good};
@@ -30,7 +31,8 @@ pub fn to_check<'a, D: Desk>(
     report: &'a str,
     desk: &mut D,
 ) -> Result<Product<'a>, Stop<'a>>
-    ensures { Works (Some (Check image.now report.now)) (D.state desk.old) (D.state desk.new) result }
+    ensures works { Works (Some (Check image.now report.now)) (D.state desk.old) (D.state desk.new) result }
+    ensures disk { Rests (D.disk desk.old) (D.disk desk.new) }
 {
     let bytes = fetch(image, desk)?;
     let text = fetch(report, desk)?;

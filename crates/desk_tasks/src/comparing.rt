@@ -3,6 +3,7 @@ ghost use Rattle.std.specs.Fmt.{decimal};
 ghost use Rattle.tx_types.specs.Config.{checked, shape_of};
 ghost use Rattle.flash_model.specs.Flash.{IsSteady};
 ghost use Rattle.mem_flash.specs.Memory.{loaded, state_of};
+ghost use Rattle.durable_folder.specs.Histories.{Rests};
 ghost use Rattle.image_desk.specs.Refusals.{line};
 ghost use Rattle.desk_tasks.specs.Fate.{Same};
 ghost use Rattle.desk_tasks.specs.Checking.{HaveOneShape, array_of_device};
@@ -38,7 +39,8 @@ pub fn to_compare<'a, D: Desk>(
     second: &'a str,
     desk: &mut D,
 ) -> Result<Product<'a>, Stop<'a>>
-    ensures { Works (Some (Compare first.now second.now)) (D.state desk.old) (D.state desk.new) result }
+    ensures works { Works (Some (Compare first.now second.now)) (D.state desk.old) (D.state desk.new) result }
+    ensures disk { Rests (D.disk desk.old) (D.disk desk.new) }
 {
     let bytes = fetch(first, desk)?;
     let (config, flash) = read_device(alloc, bytes)?;

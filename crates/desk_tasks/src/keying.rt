@@ -1,4 +1,5 @@
 ghost use Rattle.std.specs.Prelude.{◌≡◌, ◌≤◌, All, Ok, Some, IfOk, IfErr, length};
+ghost use Rattle.durable_folder.specs.Histories.{Rests};
 ghost use Rattle.desk_io.specs.Desk.{max_file_bytes};
 ghost use Rattle.host_protocol.specs.declared.file.TheConstants.{MAX_FILE_BYTES};
 ghost use Rattle.mem_flash.specs.Memory.{loaded};
@@ -38,7 +39,8 @@ pub fn to_keys<'a, D: Desk>(
     script: &'a str,
     desk: &mut D,
 ) -> Result<Product<'a>, Stop<'a>>
-    ensures { Works (Some (Keys image.now script.now)) (D.state desk.old) (D.state desk.new) result }
+    ensures works { Works (Some (Keys image.now script.now)) (D.state desk.old) (D.state desk.new) result }
+    ensures disk { Rests (D.disk desk.old) (D.disk desk.new) }
 {
     let bytes = fetch(image, desk)?;
     let lines = fetch(script, desk)?;

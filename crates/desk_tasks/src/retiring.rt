@@ -4,6 +4,7 @@ ghost use Rattle.tx_types.specs.Config.{checked, shape_of};
 ghost use Rattle.flash_model.specs.Flash.{IsSteady};
 ghost use Rattle.mem_flash.specs.Memory.{loaded, state_of};
 ghost use Rattle.array_machine.specs.ArrayState.{idle};
+ghost use Rattle.durable_folder.specs.Histories.{Rests};
 ghost use Rattle.image_desk.specs.Refusals.{line};
 ghost use Rattle.desk_tasks.specs.Retirements.{LeavesRetired, RetiresIdle, block_refusal};
 ghost use Rattle.desk_tasks.specs.Steps.{Retiring};
@@ -33,7 +34,8 @@ pub fn to_retire<'a, D: Desk>(
     block: Block,
     desk: &mut D,
 ) -> Result<Product<'a>, Stop<'a>>
-    ensures { Works (Some (Retire image.now block.0)) (D.state desk.old) (D.state desk.new) result }
+    ensures works { Works (Some (Retire image.now block.0)) (D.state desk.old) (D.state desk.new) result }
+    ensures disk { Rests (D.disk desk.old) (D.disk desk.new) }
 {
     let bytes = fetch(image, desk)?;
     retired(alloc, image, bytes, block)

@@ -1,5 +1,6 @@
 ghost use Rattle.std.specs.Prelude.{◌≡◌, ◌≤◌, ◌++◌, ℕ, List, All, Ok, Some, IfOk, IfErr, codes, length};
 ghost use Rattle.std.specs.Fmt.{decimal};
+ghost use Rattle.durable_folder.specs.Histories.{Rests};
 ghost use Rattle.desk_io.specs.Desk.{DeskState, max_file_bytes};
 ghost use Rattle.drive_gen.specs.Summary.{summary_line};
 ghost use Rattle.host_protocol.specs.Commands.{Suits};
@@ -33,7 +34,8 @@ pub fn to_try<'a, D: Desk>(
     name: &'a str,
     desk: &mut D,
 ) -> Result<Product<'a>, Stop<'a>>
-    ensures { Works (Some (Try name.now)) (D.state desk.old) (D.state desk.new) result }
+    ensures works { Works (Some (Try name.now)) (D.state desk.old) (D.state desk.new) result }
+    ensures disk { Rests (D.disk desk.old) (D.disk desk.new) }
 {
     let lines = fetch(name, desk)?;
     tried(alloc, &lines)
@@ -46,7 +48,8 @@ pub fn to_run<'a, D: Desk>(
     script: &'a str,
     desk: &mut D,
 ) -> Result<Product<'a>, Stop<'a>>
-    ensures { Works (Some (Run image.now script.now)) (D.state desk.old) (D.state desk.new) result }
+    ensures works { Works (Some (Run image.now script.now)) (D.state desk.old) (D.state desk.new) result }
+    ensures disk { Rests (D.disk desk.old) (D.disk desk.new) }
 {
     let bytes = fetch(image, desk)?;
     let lines = fetch(script, desk)?;
@@ -59,7 +62,8 @@ pub fn to_explain<'a, D: Desk>(
     image: &'a str,
     desk: &mut D,
 ) -> Result<Product<'a>, Stop<'a>>
-    ensures { Works (Some (Explain image.now)) (D.state desk.old) (D.state desk.new) result }
+    ensures works { Works (Some (Explain image.now)) (D.state desk.old) (D.state desk.new) result }
+    ensures disk { Rests (D.disk desk.old) (D.disk desk.new) }
 {
     let bytes = fetch(image, desk)?;
     reported(alloc, bytes)

@@ -5,8 +5,8 @@ mod Claiming
 mod Filling
 mod Finishing
 mod Heads
-mod Leading
-mod Learning
+pub mod Leading
+pub mod Learning
 mod Making
 mod Overwriting
 mod Passing

@@ -1,7 +1,7 @@
 //! The program: it draws the flash of an image file, as text or in SVG.
 #![tactic(auto)]
 
-use desk_io::RealDesk;
+use desk_io::{RealDesk, RealFolder};
 use image_desk::unread;
 use std::env;
 use std::process::ExitCode;
@@ -18,6 +18,8 @@ fn main(rt: HostRuntime) -> ExitCode {
             return ExitCode::from(6);
         }
     }
-    let mut desk = RealDesk::new(&rt);
-    ExitCode::from(top(rt.alloc(), &words, &mut desk))
+    let mut desk = RealDesk::new(&rt, RealFolder { rt: &rt });
+    let status = top(rt.alloc(), &words, &mut desk);
+    drop(desk);
+    ExitCode::from(status)
 }

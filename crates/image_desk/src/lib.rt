@@ -2,6 +2,7 @@
 //! is refused, and how that is said; and the status where the words cannot be read.
 #![tactic(auto)]
 
+pub mod laws;
 mod loading;
 mod refusal;
 mod saying;

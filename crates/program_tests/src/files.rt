@@ -1,6 +1,6 @@
 //! The program on real files, in a folder of the test's own. What it says is written to a file there.
 use crate::calls::{lines_of, status_of};
-use desk_io::RealDesk;
+use desk_io::{RealDesk, RealFolder};
 use std::alloc::{AllocError, Allocator, Global};
 use std::fmt::Display;
 use std::fs::{Metadata, OpenOptions};
@@ -102,7 +102,7 @@ const SAID: &str = "test_files/said.txt";
 /// The status of a call of txflash on the files of the system, with what it says at the end of a file.
 fn ended(rt: &HostRuntime, output: &str, text: &str) -> Result<u8, AllocError> {
     let printing = Printing { rt, output };
-    let mut desk = RealDesk::new(&printing);
+    let mut desk = RealDesk::new(&printing, RealFolder { rt: &printing });
     status_of(rt.alloc(), text, &mut desk)
 }
 

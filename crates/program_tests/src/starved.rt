@@ -1,5 +1,5 @@
 //! The status where there is no memory.
-ghost use Rattle.std.specs.Prelude.{◌≡◌};
+ghost use Rattle.std.specs.Prelude.{◌≡◌, None};
 ghost use Rattle.desk_io.specs.System.{closed_desk};
 
 use crate::calls::{is_done, status_of, words_of};
@@ -26,6 +26,8 @@ impl StarvedDesk {
 
 impl Desk for StarvedDesk {
     ghost state = { λ d. closed_desk d.desk.faults };
+
+    ghost disk = { λ _. None };
 
     fn load(&mut self, name: &str) -> Result<Vec<u8>, LoadError> {
         if self.is_starved() {

@@ -3,7 +3,7 @@
 #![tactic(auto)]
 
 pub use command_line::{Kept, top};
-use desk_io::RealDesk;
+use desk_io::{RealDesk, RealFolder};
 use image_desk::unread;
 use std::alloc::Global;
 use std::env;
@@ -25,8 +25,10 @@ fn main(rt: HostRuntime) -> ExitCode {
             return ExitCode::from(6);
         }
     }
-    let mut desk = RealDesk::new(&rt);
-    ExitCode::from(top(rt.alloc(), &words, &mut desk))
+    let mut desk = RealDesk::new(&rt, RealFolder { rt: &rt });
+    let status = top(rt.alloc(), &words, &mut desk);
+    drop(desk);
+    ExitCode::from(status)
 }
 
 /// Lets the C library keep memory that is freed: it gives back to the system what is free beyond twice the largest

@@ -2,10 +2,11 @@
 ghost use Rattle.std.specs.Prelude.{◌≡◌, Err, IfSome, OnOk, IsSome};
 ghost use Rattle.desk_io.specs.Desk.{after_fault, as_before, file_at};
 
-use desk_io::{Desk, LoadError, MemDesk, RealDesk, SinkError};
+use desk_io::{Desk, LoadError, MemDesk, RealDesk, RealFolder, SinkError};
 use std::alloc::Global;
 use std::fs;
 
+mod holding;
 mod leave;
 mod recording;
 mod saves;
@@ -192,6 +193,6 @@ fn are_files_kept<D: Desk>(rt: &HostRuntime, desk: &mut D) -> bool {
 #[test]
 fn real_files_are_loaded_and_saved(rt: HostRuntime) {
     assert!(rt; is_made(&rt, FOLDER));
-    assert!(rt; are_files_kept(&rt, &mut RealDesk::new(&rt)));
+    assert!(rt; are_files_kept(&rt, &mut RealDesk::new(&rt, RealFolder { rt: &rt })));
     assert!(rt; is_removed(&rt, FOLDER));
 }

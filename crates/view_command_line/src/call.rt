@@ -1,4 +1,5 @@
 ghost use Rattle.std.specs.Prelude.{◌≡◌, Some};
+ghost use Rattle.durable_folder.specs.Histories.{Rests};
 ghost use Rattle.desk_io.specs.Desk.{Rose};
 ghost use Rattle.image_desk.specs.Saying.{files_in};
 ghost use Rattle.view_command_line.specs.Asked.{asked_by, asked_of};
@@ -18,13 +19,15 @@ pub fn top<D: Desk>(alloc: Global, words: &[String], desk: &mut D) -> u8
     ensures ends { EndsCall (asked_by words.now) (D.state desk.old) (D.state desk.new) result }
     ensures fault { result ≡ 5 → Rose (D.state desk.old).faults (D.state desk.new).faults }
     ensures files { files_in (D.state desk.new) ≡ files_in (D.state desk.old) }
+    ensures disk { Rests (D.disk desk.old) (D.disk desk.new) }
 {
     run(alloc, words, desk)
 }
 
 /// The same, by how it ends.
 fn run<D: Desk>(alloc: Global, words: &[String], desk: &mut D) -> u8
-    ensures { EndsCall (asked_by words.now) (D.state desk.old) (D.state desk.new) result }
+    ensures ends { EndsCall (asked_by words.now) (D.state desk.old) (D.state desk.new) result }
+    ensures disk { Rests (D.disk desk.old) (D.disk desk.new) }
 {
     match work(alloc, words, desk) {
         Ok(text) => say(desk, &text, 0),
@@ -40,7 +43,8 @@ fn work<'a, D: Desk>(
     words: &'a [String],
     desk: &mut D,
 ) -> Result<Vec<u8>, ImageStop<'a>>
-    ensures { Works (asked_by words.now) (D.state desk.old) (D.state desk.new) result }
+    ensures works { Works (asked_by words.now) (D.state desk.old) (D.state desk.new) result }
+    ensures disk { Rests (D.disk desk.old) (D.disk desk.new) }
 {
     match asked(words) {
         Some(view) => viewed(alloc, view, desk),
@@ -54,7 +58,8 @@ fn viewed<'a, D: Desk>(
     view: View<'a>,
     desk: &mut D,
 ) -> Result<Vec<u8>, ImageStop<'a>>
-    ensures { Works (Some (asked_of view.entry)) (D.state desk.old) (D.state desk.new) result }
+    ensures works { Works (Some (asked_of view.entry)) (D.state desk.old) (D.state desk.new) result }
+    ensures disk { Rests (D.disk desk.old) (D.disk desk.new) }
 {
     let bytes = fetch(view.image, desk)?;
     drawn(alloc, bytes, view.form, view.unsound)

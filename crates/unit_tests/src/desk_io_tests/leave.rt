@@ -2,7 +2,7 @@
 //! are left over.
 use super::saves::{NEW, OLD, has_mode, is_written, sets_mode};
 use super::{is_kept, is_made, is_removed, is_saved, loads, save_fails};
-use desk_io::{Desk, RealDesk};
+use desk_io::{Desk, RealDesk, RealFolder};
 use std::alloc::{AllocError, Global};
 use std::fs::OpenOptions;
 
@@ -94,6 +94,6 @@ fn do_saves_ask<D: Desk>(rt: &HostRuntime, desk: &mut D) -> bool {
 #[test]
 fn saves_ask_for_leave(rt: HostRuntime) {
     assert!(rt; is_made(&rt, "leave"));
-    assert!(rt; do_saves_ask(&rt, &mut RealDesk::new(&rt)));
+    assert!(rt; do_saves_ask(&rt, &mut RealDesk::new(&rt, RealFolder { rt: &rt })));
     assert!(rt; is_removed(&rt, "leave"));
 }

@@ -1,3 +1,5 @@
+use desk_io::LockFile;
+use durable_folder::Lock;
 use std::alloc::{Allocator, Global};
 use std::cell::{Cell, RefCell};
 use std::fmt::Display;
@@ -161,6 +163,13 @@ impl<'a, F: OpenFile> OpenFile for Recorded<'a, F> {
     fn set_permissions(&self, perm: Permissions) -> io::Result<()> {
         self.log.note("chmod", self.name.as_str())?;
         self.file.set_permissions(perm)
+    }
+}
+
+impl<'a, F: LockFile> LockFile for Recorded<'a, F> {
+    fn take_lock(&self) -> io::Result<Lock> {
+        self.log.note("lock", self.name.as_str())?;
+        self.file.take_lock()
     }
 }
 

@@ -2,26 +2,28 @@
 use super::recording::{Log, Recorder};
 use super::{is_absent, is_made, is_removed};
 use crate::samples::{word, word_count};
-use desk_io::{Desk, RealDesk};
+use desk_io::{Desk, RealDesk, RealFolder};
 use std::fs;
 use std::fs::Permissions;
 use std::io::ErrorKind;
 use std::os::unix::fs::{MetadataExt, PermissionsExt, symlink};
 
-/// What stands in the folder before a save, the name that is saved, and the calls that the save makes. Before a save
-/// there may be a file f, a link to it, other as its second name, and f.saving, which a killed run left beside it.
+/// What stands in the folder before a save, the name that is saved, and the calls that the save makes: first those by
+/// which the file is claimed. Before a save there may be a file f, a link to it, other as its second name, and
+/// f.saving, which a killed run left beside it.
 const SAVES: &str = "\
-nothing | f | stat f; open saves; create f.saving; write f.saving; sync f.saving; stat f.saving; rename f.saving; \
-sync saves;
-f | f | stat f; open f; open saves; create f.saving; chown f.saving; chmod f.saving; write f.saving; sync f.saving; \
-stat f.saving; rename f.saving; sync saves;
-link f | link | stat link; open link; resolve link; stat f; open f; open saves; create f.saving; chown f.saving; \
-chmod f.saving; write f.saving; sync f.saving; stat f.saving; rename f.saving; sync saves;
-link | link | stat link; open link; open link; write link; sync link; length link; sync link; write link; sync link; \
-resolve link; open saves; sync saves;
-f other | f | stat f; open f; write f; sync f; length f; sync f; write f; sync f;
-f f.saving | f | stat f; open f; open saves; create f.saving; create f.saving2; chown f.saving2; chmod f.saving2; \
-write f.saving2; sync f.saving2; stat f.saving2; rename f.saving2; sync saves;";
+nothing | f | stat f; stat f; open saves; create f.saving; write f.saving; sync f.saving; stat f.saving; \
+rename f.saving; sync saves;
+f | f | stat f; open f; lock f; open f; stat f; open f; open saves; create f.saving; chown f.saving; chmod f.saving; \
+write f.saving; sync f.saving; stat f.saving; rename f.saving; sync saves;
+link f | link | stat link; open link; lock link; open link; stat link; open link; resolve link; stat f; open f; \
+open saves; create f.saving; chown f.saving; chmod f.saving; write f.saving; sync f.saving; stat f.saving; \
+rename f.saving; sync saves;
+link | link | stat link; open link; stat link; open link; open link; write link; sync link; length link; sync link; \
+write link; sync link; resolve link; open saves; sync saves;
+f other | f | stat f; open f; lock f; open f; stat f; open f; write f; sync f; length f; sync f; write f; sync f;
+f f.saving | f | stat f; open f; lock f; open f; stat f; open f; open saves; create f.saving; create f.saving2; \
+chown f.saving2; chmod f.saving2; write f.saving2; sync f.saving2; stat f.saving2; rename f.saving2; sync saves;";
 
 pub const OLD: &[u8] = b"the old bytes";
 
@@ -130,7 +132,9 @@ struct Saved {
 /// Whether a save answers Ok whose calls are noted.
 fn is_saved(rt: &HostRuntime, name: &str, log: &Log) -> bool {
     let system = Recorder { rt, log };
-    RealDesk::new(&system).save(name, NEW).is_ok()
+    RealDesk::new(&system, RealFolder { rt: &system })
+        .save(name, NEW)
+        .is_ok()
 }
 
 /// Saves once with this log.

@@ -6,8 +6,8 @@ use Rattle.desk_tasks.specs.Asked.{Drive, Format}
 use Rattle.desk_tasks.proofs.Works.{found_none, works}
 use Rattle.command_line.proofs.call.work.Goals as goal
 
-pub returns-in-Some-Format : goal.returns-in-Some-Format
-returns-in-Some-Format g c =
+pub returns-in-Some-Format-clause-works : goal.returns-in-Some-Format-clause-works
+returns-in-Some-Format-clause-works g c =
     let asks = rw c.in-Some-Format.field-0-is at c.in-Some-Format.ensures in
     let image = c.in-Some-Format.image.now in
     let its = c.in-Some-Format.config in
@@ -17,8 +17,8 @@ returns-in-Some-Format g c =
     c.formatted.result refl (omega arith) (found_none desk) (λ fate h. (h, refl)) c.formatted.ensures in
     rw (← asks) done
 
-pub returns-in-Some-Drive : goal.returns-in-Some-Drive
-returns-in-Some-Drive g c =
+pub returns-in-Some-Drive-clause-works : goal.returns-in-Some-Drive-clause-works
+returns-in-Some-Drive-clause-works g c =
     let asks = rw c.in-Some-Drive.field-0-is at c.in-Some-Drive.ensures in
     let start = c.in-Some-Drive.start in
     let count = c.in-Some-Drive.count in

@@ -1,4 +1,5 @@
 use Rattle.std.proofs.Common.{◌≡◌, inl, inr, [], ◌∷◌, refl, ap, arith, Ok, Err, Some, ◌∙◌}
+use Rattle.durable_folder.proofs.Learning.{rests_then}
 use Rattle.desk_io.specs.Desk.{Bytes, Missing, TooLong, after_answer, as_before}
 use Rattle.desk_tasks.specs.Steps.{Comparing, Reading}
 use Rattle.image_desk.specs.Loading.{RefusesImage}
@@ -8,18 +9,18 @@ use Rattle.desk_tasks.specs.Asked.{Compare}
 use Rattle.desk_tasks.proofs.Works.{finds_before, found_more, found_none, unfetched, unread, works}
 use Rattle.desk_tasks.proofs.comparing.to_compare.Goals as goal
 
-pub returns-in_err-bytes : goal.returns-in_err-bytes
-returns-in_err-bytes g c =
+pub returns-in_err-bytes-clause-works : goal.returns-in_err-bytes-clause-works
+returns-in_err-bytes-clause-works g c =
     let old = g.D.Desk.state c.args.desk.now in
     let new = g.D.Desk.state c.fetch.new.desk in
     unfetched (Some (Compare c.args.first.now c.args.second.now)) old old new 0 c.args.first.now c.in_err-bytes.field-0.0 c.from_residual.result
     c.from_residual.ensures.1 refl (omega arith) (found_none old)
-    (λ found. (Missing, found, (refl, refl))) (λ found. (TooLong, found, (refl, refl))) c.in_err-bytes.ensures
+    (λ found. (Missing, found, (refl, refl))) (λ found. (TooLong, found, (refl, refl))) c.in_err-bytes.ensures.fetches
 
-pub returns-in_err-config : goal.returns-in_err-config
-returns-in_err-config g c =
+pub returns-in_err-config-clause-works : goal.returns-in_err-config-clause-works
+returns-in_err-config-clause-works g c =
     let old = g.D.Desk.state c.args.desk.now in
-    let fetched = c.in_ok-bytes.ensures in
+    let fetched = c.in_ok-bytes.ensures.fetches in
     let bytes = c.in_ok-bytes.bytes.items in
     works (Some (Compare c.args.first.now c.args.second.now)) old (g.D.Desk.state c.fetch.new.desk) 1
     (λ (fate : Fate). (why : ImageFate) × RefusesImage bytes why × (fate ≡ Image why)) c.from_residual-in_err-config.result fetched.1 (inl refl)
@@ -29,12 +30,12 @@ returns-in_err-config g c =
     c.from_residual-in_err-config.result c.in_err-config.field-0.0 c.from_residual-in_err-config.ensures.1 (λ why h. (why, h, refl))
     c.in_err-config.ensures.err)
 
-pub returns-in-Err : goal.returns-in-Err
-returns-in-Err g c =
+pub returns-in-Err-clause-works : goal.returns-in-Err-clause-works
+returns-in-Err-clause-works g c =
     let old = g.D.Desk.state c.args.desk.now in
     let mid = g.D.Desk.state c.fetch.new.desk in
     let new = g.D.Desk.state c.fetch-2.new.desk in
-    let fetched = c.in_ok-bytes.ensures in
+    let fetched = c.in_ok-bytes.ensures.fetches in
     let bytes = c.in_ok-bytes.bytes.items in
     let its = c.in_ok-config.config in
     let flash = c.in_ok-config.flash in
@@ -53,20 +54,20 @@ returns-in-Err g c =
       fetched.0,
       (1, (Ok (its, flash.image, flash.extras), reads, (TooLong, finds_before old mid second TooLong fetched.1 found, (refl, refl))), refl),
     ))
-    c.in-Err.ensures
+    c.in-Err.ensures.fetches
 
-pub returns-in-Ok : goal.returns-in-Ok
-returns-in-Ok g c =
+pub returns-in-Ok-clause-works : goal.returns-in-Ok-clause-works
+returns-in-Ok-clause-works g c =
     let old = g.D.Desk.state c.args.desk.now in
     let mid = g.D.Desk.state c.fetch.new.desk in
     let new = g.D.Desk.state c.fetch-2.new.desk in
-    let fetched = c.in_ok-bytes.ensures in
+    let fetched = c.in_ok-bytes.ensures.fetches in
     let bytes = c.in_ok-bytes.bytes.items in
     let its = c.in_ok-config.config in
     let flash = c.in_ok-config.flash in
     let reads = c.in_ok-config.ensures.read in
     let second = c.args.second.now in
-    let again = c.in-Ok.ensures in
+    let again = c.in-Ok.ensures.fetches in
     let others = c.in-Ok.others.items in
     let found = finds_before old mid second (Bytes others) fetched.1 again.0 in
     works (Some (Compare c.args.first.now second)) old new 2
@@ -78,3 +79,13 @@ returns-in-Ok g c =
       (1, (Ok (its, flash.image, flash.extras), reads, (Bytes others, found, (0, (h, refl), refl))), refl),
     ))
     c.compared_with.ensures
+
+pub returns-in-Err-clause-disk : goal.returns-in-Err-clause-disk
+returns-in-Err-clause-disk g c =
+    rests_then (g.D.Desk.disk c.args.desk.now) (g.D.Desk.disk c.fetch.new.desk) (g.D.Desk.disk c.fetch-2.new.desk) c.in_ok-bytes.ensures.disk
+    c.in-Err.ensures.disk
+
+pub returns-in-Ok-clause-disk : goal.returns-in-Ok-clause-disk
+returns-in-Ok-clause-disk g c =
+    rests_then (g.D.Desk.disk c.args.desk.now) (g.D.Desk.disk c.fetch.new.desk) (g.D.Desk.disk c.fetch-2.new.desk) c.in_ok-bytes.ensures.disk
+    c.in-Ok.ensures.disk

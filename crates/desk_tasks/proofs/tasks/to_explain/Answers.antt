@@ -5,17 +5,17 @@ use Rattle.desk_tasks.specs.Asked.{Explain}
 use Rattle.desk_tasks.proofs.Works.{found_more, found_none, unfetched, works}
 use Rattle.desk_tasks.proofs.tasks.to_explain.Goals as goal
 
-pub returns-in_err-bytes : goal.returns-in_err-bytes
-returns-in_err-bytes g c =
+pub returns-in_err-bytes-clause-works : goal.returns-in_err-bytes-clause-works
+returns-in_err-bytes-clause-works g c =
     let old = g.D.Desk.state c.args.desk.now in
     let new = g.D.Desk.state c.fetch.new.desk in
     unfetched (Some (Explain c.args.image.now)) old old new 0 c.args.image.now c.in_err-bytes.field-0.0 c.from_residual.result
     c.from_residual.ensures.1 refl (omega arith) (found_none old)
-    (λ found. (Missing, found, (refl, refl))) (λ found. (TooLong, found, (refl, refl))) c.in_err-bytes.ensures
+    (λ found. (Missing, found, (refl, refl))) (λ found. (TooLong, found, (refl, refl))) c.in_err-bytes.ensures.fetches
 
-pub returns : goal.returns
-returns g c =
-    let fetched = c.in_ok-bytes.ensures in
+pub returns-clause-works : goal.returns-clause-works
+returns-clause-works g c =
+    let fetched = c.in_ok-bytes.ensures.fetches in
     let old = g.D.Desk.state c.args.desk.now in
     works (Some (Explain c.args.image.now)) old (g.D.Desk.state c.fetch.new.desk) 1
     (Explaining c.in_ok-bytes.bytes.items) c.reported.result fetched.1 (omega arith)

@@ -5,17 +5,17 @@ use Rattle.desk_tasks.specs.Asked.{Try}
 use Rattle.desk_tasks.proofs.Works.{found_more, found_none, unfetched, works}
 use Rattle.desk_tasks.proofs.tasks.to_try.Goals as goal
 
-pub returns-in_err-lines : goal.returns-in_err-lines
-returns-in_err-lines g c =
+pub returns-in_err-lines-clause-works : goal.returns-in_err-lines-clause-works
+returns-in_err-lines-clause-works g c =
     let old = g.D.Desk.state c.args.desk.now in
     let new = g.D.Desk.state c.fetch.new.desk in
     unfetched (Some (Try c.args.name.now)) old old new 0 c.args.name.now c.in_err-lines.field-0.0 c.from_residual.result
     c.from_residual.ensures.1 refl (omega arith) (found_none old)
-    (λ found. (Missing, found, (refl, refl))) (λ found. (TooLong, found, (refl, refl))) c.in_err-lines.ensures
+    (λ found. (Missing, found, (refl, refl))) (λ found. (TooLong, found, (refl, refl))) c.in_err-lines.ensures.fetches
 
-pub returns : goal.returns
-returns g c =
-    let fetched = c.in_ok-lines.ensures in
+pub returns-clause-works : goal.returns-clause-works
+returns-clause-works g c =
+    let fetched = c.in_ok-lines.ensures.fetches in
     let tried = rw c.deref.ensures.value at c.tried.ensures in
     let old = g.D.Desk.state c.args.desk.now in
     works (Some (Try c.args.name.now)) old (g.D.Desk.state c.fetch.new.desk) 1

@@ -1,0 +1,7 @@
+use Rattle.desk_io.proofs.Answering.{refused_too}
+use Rattle.desk_io.proofs.through.save_through.Goals as goal
+
+pub returns-clause-refuses : goal.returns-clause-refuses
+returns-clause-refuses g c =
+    refused_too _ _ c.save_held-done.result c.saved.result (g.F.Folder.told c.args.folder.now) c.saved.ensures.answer
+    (rw c.of.ensures at c.save_held-done.ensures.refuses)

@@ -1,0 +1,170 @@
+#!/usr/bin/env python3
+"""Starts two runs at once on one image, and looks at what they leave.
+
+    pairs.py EXE [--pairs N] [--seed S] [--room FOLDER]
+
+Each of the two writes a page of its own. The second is started with the first one or while that runs. By turns both are given the
+image by its name, one of them by a symbolic link from another folder, and both as a file with two names, which is saved
+in place.
+
+A run that answers `done`, with status 0, has its page in the image that is left. A run that says `desk fault`, with
+status 5, has changed nothing, and one of the two is done. While a file is written in place, a run may load a part of
+it: then it may also refuse it, and has changed nothing either. What both leave is a sound image, and no new file beside
+it. Where no pair met, nothing was shown: that counts as a fault."""
+import argparse
+import collections
+import os
+import random
+import sys
+import tempfile
+import time
+from typing import Counter, Dict, List, NamedTuple, Optional
+
+from kills import DEVICE
+from program import Ended, Program, exit_code
+
+IMAGE, LINK, SINGLE, SECOND = "images/disk.img", "links/disk", "images/single.img", "names/second"
+REFUSED_IN_PLACE = {3, 7}
+
+
+class Way(NamedTuple):
+    """How two runs are given an image: their words, and whether it is saved in place."""
+    name: str
+    first: str
+    second: str
+    in_place: bool
+
+
+WAYS = (Way("by its name", SINGLE, SINGLE, False), Way("by a link", SINGLE, LINK, False),
+        Way("in place", IMAGE, SECOND, True))
+
+
+class Pairs:
+    """The folder in which pairs of runs are made."""
+
+    def __init__(self, program: Program, seed: int) -> None:
+        self.program, self.draw = program, random.Random(seed)
+        self.counts: Counter[str] = collections.Counter()
+        self.faults: List[str] = []
+        for folder in ("images", "links", "names"):
+            os.mkdir(folder)
+        for image in (IMAGE, SINGLE):
+            ended = program.run(["format", image, *DEVICE])
+            if ended.status:
+                raise SystemExit(f"pairs: no image was made: status {ended.status}")
+        os.link(IMAGE, SECOND)
+        os.symlink("../" + SINGLE, LINK)
+        self.pages: Dict[str, List[int]] = {image: self.write_both(image) for image in (SINGLE, IMAGE)}
+        self.longest = self.program.run(["run", SINGLE, "read.txt"]).seconds
+
+    def write_both(self, image: str) -> List[int]:
+        """Writes 0 to both pages, and the files of commands that are the same for each pair."""
+        with open("read.txt", "wb") as file:
+            file.write(b"read 0\nread 1\n")
+        for page in (0, 1):
+            self.write_commands(page, 0)
+            if self.program.run(["run", image, commands_of(page)]).status:
+                raise SystemExit("pairs: a run alone was not done")
+        return [0, 0]
+
+    def write_commands(self, page: int, number: int) -> None:
+        with open(commands_of(page), "wb") as file:
+            file.write(b"write 1 %d=%08x\nfinish 1\n" % (page, number))
+
+    def start(self, page: int, word: str) -> int:
+        output = os.open(said_by(page), os.O_WRONLY | os.O_CREAT | os.O_TRUNC, 0o600)
+        process = self.program.start(["run", word, commands_of(page)], output)
+        os.close(output)
+        return process
+
+    def both(self, way: Way) -> List[Ended]:
+        """Two runs, of which the second begins with the first or while that is at work."""
+        begun = time.monotonic()
+        first = self.start(0, way.first)
+        time.sleep(max(0.0, self.draw.uniform(-0.5, 0.5) * self.longest))
+        second = self.start(1, way.second)
+        return [end_of(process, page, begun) for page, process in enumerate((first, second))]
+
+    def found(self, word: str) -> Optional[List[int]]:
+        """The numbers in both pages, if the image can be read."""
+        ended = self.program.run(["run", word, "read.txt"])
+        lines = ended.said.split(b"\n")
+        if ended.status or len(lines) != 3 or any(not line.startswith(b"page ") for line in lines[:2]):
+            return None
+        return [int(line.split()[2][:8], 16) for line in lines[:2]]
+
+    def turn(self, number: int, way: Way) -> None:
+        """A pair, and what it leaves."""
+        image = IMAGE if way.in_place else SINGLE
+        for page in (0, 1):
+            self.write_commands(page, number)
+        ends = self.both(way)
+        old, wanted = self.pages[image], list(self.pages[image])
+        wrong: List[str] = []
+        for page, end in enumerate(ends):
+            if end.status == 0 and end.said.endswith(b"done 1\n"):
+                wanted[page] = number
+            elif not is_refused(end, way.in_place):
+                wrong.append(f"run {page + 1} ended with status {end.status}, {end.said[:80]!r}")
+        done = sum(new != before for new, before in zip(wanted, old))
+        self.counts[f"{way.name} {'both done' if done == 2 else 'one refused' if done else 'none done'}"] += 1
+        if not done:
+            wrong.append("none of both was done")
+        found = self.found(image)
+        if found != wanted:
+            wrong.append(f"the pages have {found} and not {wanted}")
+        if beside := [name for name in os.listdir("images") if ".saving" in name]:
+            wrong.append(f"left {beside}")
+        self.pages[image] = found or wanted
+        self.faults += [f"pair {number}, {way.name}: {it}" for it in wrong]
+
+
+def commands_of(page: int) -> str:
+    return f"commands{page}.txt"
+
+
+def said_by(page: int) -> str:
+    return f"said{page}.txt"
+
+
+def end_of(process: int, page: int, begun: float) -> Ended:
+    _, status = os.waitpid(process, 0)
+    with open(said_by(page), "rb") as file:
+        return Ended(exit_code(status), file.read(), time.monotonic() - begun)
+
+
+def is_refused(end: Ended, in_place: bool) -> bool:
+    """Whether a run says that it has changed nothing."""
+    return end.status == 5 and end.said == b"desk fault\n" or in_place and end.status in REFUSED_IN_PLACE
+
+
+def pair_often(program: Program, pairs: int, seed: int, room: Optional[str]) -> int:
+    """Starts so many pairs, and answers how many faults there were."""
+    with tempfile.TemporaryDirectory(prefix="pairs-", dir=room) as folder:
+        os.chdir(folder)
+        try:
+            work = Pairs(program, seed)
+            for number in range(1, pairs + 1):
+                work.turn(number, WAYS[number % len(WAYS)])
+        finally:
+            os.chdir("/")
+    for it in work.faults:
+        print(f"pairs: {it}")
+    met = sum(count for name, count in work.counts.items() if name.endswith("refused"))
+    counts = ", ".join(f"{count} {name}" for name, count in sorted(work.counts.items()))
+    print(f"pairs: seed {seed}: {pairs} pairs, of which {met} met: {counts}: {len(work.faults)} faults", flush=True)
+    return len(work.faults) + (not met)
+
+
+def main() -> int:
+    parser = argparse.ArgumentParser(description=__doc__, formatter_class=argparse.RawDescriptionHelpFormatter)
+    parser.add_argument("program")
+    parser.add_argument("--pairs", type=int, default=200)
+    parser.add_argument("--seed", type=int, default=1)
+    parser.add_argument("--room")
+    args = parser.parse_args()
+    return 1 if pair_often(Program(os.path.abspath(args.program)), args.pairs, args.seed, args.room) else 0
+
+
+if __name__ == "__main__":
+    sys.exit(main())
