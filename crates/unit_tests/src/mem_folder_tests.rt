@@ -1,5 +1,5 @@
 //! What a loss of power leaves of a folder in memory.
-use crate::samples::{assert_lines, word};
+use crate::samples::{LineTest, assert_lines, word};
 use durable_folder::{Folder, load, save};
 use mem_folder::{Fault, Left, MemFolder, load_after_loss};
 use std::alloc::{AllocError, Global};
@@ -41,12 +41,18 @@ fn left(word: &str) -> Left {
 
 /// Whether these bytes are read at a name.
 fn has(folder: &mut MemFolder, name: &str, bytes: &str) -> bool {
-    load(folder, name, usize::MAX).is_ok_and(|loaded| loaded.bytes.as_slice() == bytes.as_bytes())
+    match load(folder, name, usize::MAX) {
+        Ok(loaded) => loaded.bytes.as_slice() == bytes.as_bytes(),
+        Err(_) => false,
+    }
 }
 
 /// Whether there is nothing at a name.
 fn has_none(folder: &mut MemFolder, name: &str) -> bool {
-    load(folder, name, usize::MAX).is_err_and(|error| error.kind() == ErrorKind::NotFound)
+    match load(folder, name, usize::MAX) {
+        Ok(_) => false,
+        Err(error) => error.kind() == ErrorKind::NotFound,
+    }
 }
 
 /// Whether a step that reads is right.
@@ -81,14 +87,26 @@ fn is_done(folder: &mut MemFolder, alloc: Global, step: &str) -> bool {
     }
 }
 
-/// Whether all steps of a line are done, one after the other, in a new folder.
-fn is_line_right(alloc: Global, line: &str) -> bool {
-    let mut folder = MemFolder::new(alloc, Vec::new(alloc));
-    let is_right = line
-        .split("; ")
-        .all(|step| is_done(&mut folder, alloc, step));
-    drop(folder);
-    is_right
+/// Whether all steps of a line are done, one after the other.
+fn are_done(folder: &mut MemFolder, alloc: Global, line: &str) -> bool {
+    for step in line.split("; ") {
+        if !is_done(folder, alloc, step) {
+            return false;
+        }
+    }
+    true
+}
+
+/// Steps in a new folder.
+struct Steps;
+
+impl LineTest for Steps {
+    fn is_right(alloc: Global, line: &str) -> bool {
+        let mut folder = MemFolder::new(alloc, Vec::new(alloc));
+        let is_right = are_done(&mut folder, alloc, line);
+        drop(folder);
+        is_right
+    }
 }
 
 /// What is lost is what was not synced: of the bytes of a file, and of the names. `lose` says of the names, and then of
@@ -121,17 +139,24 @@ none f; save f one; remove f; save f two; lose old old; has f two";
 
 #[test]
 fn what_is_not_synced_may_be_lost(rt: HostRuntime) {
-    assert_lines(&rt, rt.alloc(), LOSSES, is_line_right);
+    assert_lines::<Steps>(&rt, rt.alloc(), LOSSES);
 }
 
-/// Whether what is saved is loaded after a loss of power: the line has what is left, and the bytes.
-fn is_loaded(alloc: Global, line: &str) -> bool {
-    let mut folder = MemFolder::new(alloc, Vec::new(alloc));
-    let bytes = word(line, 2).as_bytes();
-    let (names, held) = (left(word(line, 0)), left(word(line, 1)));
-    let loaded = load_after_loss(&mut folder, alloc, "image", bytes, names, held);
-    drop(folder);
-    loaded.is_ok_and(|loaded| loaded.as_slice() == bytes)
+/// What is saved is loaded after a loss of power: the line has what is left, and the bytes.
+struct Saved;
+
+impl LineTest for Saved {
+    fn is_right(alloc: Global, line: &str) -> bool {
+        let mut folder = MemFolder::new(alloc, Vec::new(alloc));
+        let bytes = word(line, 2).as_bytes();
+        let (names, held) = (left(word(line, 0)), left(word(line, 1)));
+        let loaded = load_after_loss(&mut folder, alloc, "image", bytes, names, held);
+        drop(folder);
+        match loaded {
+            Ok(loaded) => loaded.as_slice() == bytes,
+            Err(_) => false,
+        }
+    }
 }
 
 /// What is left of names and bytes, and what is saved.
@@ -146,7 +171,7 @@ old old bytes-of-more-than-one-block-that-are-there-whole-after-any-loss-of-powe
 
 #[test]
 fn what_was_saved_is_loaded(rt: HostRuntime) {
-    assert_lines(&rt, rt.alloc(), SAVED, is_loaded);
+    assert_lines::<Saved>(&rt, rt.alloc(), SAVED);
 }
 
 /// A fault by its name.
@@ -183,20 +208,29 @@ fn is_whole(folder: &mut MemFolder, alloc: Global) -> bool {
 /// How many of the calls of two saves fail in turn. They make more.
 const CALLS: usize = 20;
 
-/// Whether two saves are whole, of which one call fails.
-fn is_swept(alloc: Global, line: &str) -> bool {
-    for calls in 0..CALLS {
-        let Ok(faults) = one_fault(alloc, fault(line), calls) else {
-            return false;
-        };
-        let mut folder = MemFolder::new(alloc, faults);
-        let is_right = is_whole(&mut folder, alloc);
-        drop(folder);
-        if !is_right {
-            return false;
+/// Whether two saves are whole, of which the call after so many others fails.
+fn is_whole_at(alloc: Global, line: &str, calls: usize) -> bool {
+    let Ok(faults) = one_fault(alloc, fault(line), calls) else {
+        return false;
+    };
+    let mut folder = MemFolder::new(alloc, faults);
+    let is_right = is_whole(&mut folder, alloc);
+    drop(folder);
+    is_right
+}
+
+/// Two saves, of which each call fails in turn.
+struct Swept;
+
+impl LineTest for Swept {
+    fn is_right(alloc: Global, line: &str) -> bool {
+        for calls in 0..CALLS {
+            if !is_whole_at(alloc, line, calls) {
+                return false;
+            }
         }
+        true
     }
-    true
 }
 
 /// How a call fails.
@@ -208,5 +242,5 @@ unable";
 
 #[test]
 fn a_fault_leaves_the_old_bytes_or_the_new_ones(rt: HostRuntime) {
-    assert_lines(&rt, rt.alloc(), FAULTS, is_swept);
+    assert_lines::<Swept>(&rt, rt.alloc(), FAULTS);
 }
