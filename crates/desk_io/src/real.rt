@@ -9,7 +9,7 @@ ghost use Rattle.desk_io.specs.Noted.{IsNoted, noted};
 ghost use Rattle.desk_io.specs.System.{closed_desk};
 
 use crate::findings::Findings;
-use crate::through::{load_through, save_through, written};
+use crate::through::{answer_say, load_through, save_through};
 use crate::{Desk, LoadError, SinkError};
 use durable_folder::Folder;
 
@@ -76,6 +76,6 @@ impl<'a, R: Print + AllocGlobal, F: Folder + Drop> Desk for RealDesk<'a, R, F> {
     }
 
     fn say(&mut self, bytes: &[u8]) -> Result<(), SinkError> {
-        written(self.rt.write_all(bytes), &mut self.faults)
+        answer_say(self.rt.write_all(bytes), &mut self.faults)
     }
 }

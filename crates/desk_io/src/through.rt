@@ -17,7 +17,7 @@ use std::io;
 use std::io::ErrorKind;
 
 /// The answer of a load, after reading a file. A fault is counted.
-fn loaded(read: io::Result<Loaded>, faults: &mut u64) -> Result<Loaded, LoadError>
+fn answer_load(read: io::Result<Loaded>, faults: &mut u64) -> Result<Loaded, LoadError>
     ensures answer { result ≡ load_answer read }
     ensures faults { faults.new ≡ load_faults result faults.old }
 {
@@ -36,18 +36,18 @@ fn loaded(read: io::Result<Loaded>, faults: &mut u64) -> Result<Loaded, LoadErro
 }
 
 /// The answer of a save, after writing to a file. A fault is counted.
-fn saved(done: io::Result<()>, faults: &mut u64) -> Result<(), SinkError>
+fn answer_save(done: io::Result<()>, faults: &mut u64) -> Result<(), SinkError>
     ensures answer { result ≡ save_answer done }
     ensures faults { faults.new ≡ sink_faults result faults.old }
 {
     match done {
         Err(error) if error.kind() == ErrorKind::OutOfMemory => Err(SinkError::Memory),
-        _ => written(done, faults),
+        _ => answer_say(done, faults),
     }
 }
 
 /// The answer of a say, after writing to the output. A fault is counted.
-pub fn written(done: io::Result<()>, faults: &mut u64) -> Result<(), SinkError>
+pub fn answer_say(done: io::Result<()>, faults: &mut u64) -> Result<(), SinkError>
     ensures answer { result ≡ say_answer done }
     ensures faults { faults.new ≡ sink_faults result faults.old }
 {
@@ -83,7 +83,7 @@ pub fn load_through<F: Folder>(
     ensures faults { faults.new ≡ load_faults result faults.old }
     ensures short { IfOk result (λ bytes. length bytes.items ≤ max_file_bytes) }
 {
-    let file = loaded(load(folder, name, MAX_FILE_BYTES + 1), faults)?;
+    let file = answer_load(load(folder, name, MAX_FILE_BYTES + 1), faults)?;
     note(file, name, findings)
 }
 
@@ -110,5 +110,5 @@ pub fn save_through<F: Folder>(
     if done.is_ok() {
         findings.forget(name);
     }
-    saved(done, faults)
+    answer_save(done, faults)
 }

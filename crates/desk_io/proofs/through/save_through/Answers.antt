@@ -3,5 +3,5 @@ use Rattle.desk_io.proofs.through.save_through.Goals as goal
 
 pub returns-clause-refuses : goal.returns-clause-refuses
 returns-clause-refuses g c =
-    refused_too _ _ c.save_held-done.result c.saved.result (g.F.Folder.told c.args.folder.now) c.saved.ensures.answer
+    refused_too _ _ c.save_held-done.result c.answer_save.result (g.F.Folder.told c.args.folder.now) c.answer_save.ensures.answer
     (rw c.of.ensures at c.save_held-done.ensures.refuses)
