@@ -192,9 +192,11 @@ fn compare_to_flash<R: CommitRule, S: CommitRule>(
     requires second_rule { second.protocol ≡ S.protocol }
     requires second_ready { other ≡ loaded (shape_of second) other.image other.extras }
     ensures ok { IfOk result (λ n.
-        Opening second other.image (ComesTo config one.old.machine.pages second (array_of_device second other.image)) (Same n)) }
+        Opening second other.image
+        (ComesTo config one.old.machine.pages second (array_of_device second other.image)) (Same n)) }
     ensures err { IfErr result (StopsBy (
-        Opening second other.image (ComesTo config one.old.machine.pages second (array_of_device second other.image)))) }
+        Opening second other.image
+        (ComesTo config one.old.machine.pages second (array_of_device second other.image)))) }
 {
     let mut two = sound_device::<S>(alloc, other, second)?;
     let outcome = compared_devices(alloc, config, one, second, &mut two);
