@@ -15,6 +15,8 @@ mod keys;
 #[cfg(test)]
 mod recovering;
 #[cfg(test)]
+mod scripts;
+#[cfg(test)]
 mod serving;
 #[cfg(test)]
 mod texts;

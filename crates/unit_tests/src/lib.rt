@@ -8,13 +8,9 @@ mod command_lines;
 #[cfg(test)]
 mod cycles;
 #[cfg(test)]
-mod desk_io_tests;
-#[cfg(test)]
 mod die_alloc_tests;
 #[cfg(test)]
 mod drive_gen_tests;
-#[cfg(test)]
-mod durable_folder_tests;
 #[cfg(test)]
 mod flash_picture_tests;
 #[cfg(test)]
@@ -30,11 +26,7 @@ mod mem_flash_rows;
 #[cfg(test)]
 mod mem_flash_tests;
 #[cfg(test)]
-mod mem_folder_tests;
-#[cfg(test)]
 mod page_cache_tests;
-#[cfg(test)]
-mod page_keys_tests;
 #[cfg(test)]
 mod page_record_tests;
 #[cfg(test)]

@@ -1,5 +1,5 @@
 //! What a loss of power leaves of a folder in memory.
-use crate::samples::{LineTest, assert_lines, word};
+use crate::lines::{LineTest, assert_lines, word};
 use durable_folder::{Folder, load, save};
 use mem_folder::{Fault, Left, MemFolder, load_after_loss};
 use std::alloc::{AllocError, Global};

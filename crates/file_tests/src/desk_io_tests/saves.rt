@@ -1,7 +1,7 @@
 //! How files are saved, and what is left where a call of the system fails.
 use super::recording::{Log, Recorder};
 use super::{is_absent, is_made, is_removed};
-use crate::samples::{word, word_count};
+use crate::lines::{word, word_count};
 use desk_io::{Desk, RealDesk, RealFolder};
 use std::fs;
 use std::fs::Permissions;
