@@ -1,0 +1,124 @@
+#!/usr/bin/env python3
+"""Compares both commit protocols, and transactions with a journal and a log, by what the flash has to do.
+
+    compare.py PROGRAM [--out FOLDER] [--seed N] [--trace TRACE] [numbers of the work and the device]
+
+PROGRAM is the built program, or ./run. The tables go to FOLDER as CSV and the pictures as SVG, and the tables are said
+too. FOLDER is ./compare-out where it is left out; nothing else is written. The same seed gives the same numbers, but for
+the times of `openings`. With TRACE (see traces.py) the requests of that trace are the work, and no other is served.
+"""
+from __future__ import annotations
+
+import argparse
+import os
+import sys
+from typing import List
+
+from pictures import Chart, save_chart
+from progress import tell
+from replayed import replayed
+from openings import openings
+from serving import built_program
+from shape import Problem
+from sheets import Table, save_table, text_lines
+from studies import STUDIES, Base, chart_of, count_study, over_time, table_of
+from wear import wear
+from ways import all_ways
+from work import Work
+
+EVERY = 100
+NUMBERS = (
+    ("least", int, 1, "the least pages of a transaction"),
+    ("most", int, 4, "the most pages of a transaction"),
+    ("aborts", float, 0.1, "the share of transactions that are given up"),
+    ("cuts", float, 0.0, "the share of transactions in which power fails"),
+    ("discards", float, 0.0, "the share of entries that discard their page"),
+    ("zipf", float, 0.0, "the exponent of Zipf's law by which pages are drawn, 0 for evenly"),
+    ("slots", int, 1024, "the slots of the device"),
+    ("block", int, 16, "the slots of a block"),
+    ("dies", int, 2, "the dies"),
+    ("full", float, 0.7, "the share of the slots that are logical pages"),
+    ("pending", int, 32, "the pages that may be pending at once"),
+    ("pages", int, 7500, "about how many pages the work writes"),
+)
+
+
+def parser() -> argparse.ArgumentParser:
+    made = argparse.ArgumentParser(description=(__doc__ or "").split("\n")[0])
+    made.add_argument("program", metavar="PROGRAM", help="the built program, or ./run")
+    made.add_argument("--out", default="compare-out", metavar="FOLDER")
+    made.add_argument("--seed", type=int, default=1, metavar="N")
+    made.add_argument("--trace", metavar="TRACE", help="the text of blkparse, or an iolog of fio")
+    made.add_argument("--page", type=int, default=4096, metavar="BYTES", help="a page of the trace (4096)")
+    made.add_argument("--action", default="Q", metavar="LETTER", help="the events of blktrace that count (Q)")
+    for name, kind, number, what in NUMBERS:
+        made.add_argument(f"--{name}", type=kind, default=number, metavar="N", help=f"{what} ({number})")
+    return made
+
+
+def base_of(options: argparse.Namespace) -> Base:
+    """The work from which each table varies one number."""
+    work = Work(
+        least=options.least, most=options.most, aborts=options.aborts, cuts=options.cuts,
+        discards=options.discards, zipf=options.zipf, seed=options.seed,
+    )  # fmt: skip
+    base = Base(work, options.slots, options.block, options.dies, options.full, options.pending, options.pages)
+    base.varied({}).work.check(base.shape())
+    return base
+
+
+class Output:
+    """The folder, and what is said."""
+
+    def __init__(self, folder: str) -> None:
+        self.folder = folder
+        os.makedirs(folder, exist_ok=True)
+
+    def table(self, table: Table) -> None:
+        save_table(self.folder, table)
+        print("\n".join(text_lines(table)) + "\n")
+
+    def chart(self, chart: Chart) -> None:
+        save_chart(self.folder, chart)
+
+
+def compare(program: str, base: Base, output: Output) -> None:
+    for study in STUDIES:
+        counted = count_study(program, study, base)
+        output.table(table_of(study, counted))
+        output.chart(chart_of(study, counted))
+    table, chart = over_time(program, base, EVERY)
+    save_table(output.folder, table)
+    output.chart(chart)
+    tables, chart = wear(program, base.work)
+    output.chart(chart)
+    results = all_ways(program, output.folder)
+    for table in [*tables, *results.tables]:
+        output.table(table)
+    for chart in results.charts:
+        output.chart(chart)
+    print("\n".join(results.notes) + "\n")
+    output.table(openings(program))
+
+
+def main(words: List[str]) -> int:
+    options = parser().parse_args(words)
+    try:
+        base = base_of(options)
+        program = built_program(options.program)
+        output = Output(options.out)
+        if options.trace:
+            for table, chart in replayed(program, options, base):
+                output.table(table)
+                output.chart(chart)
+        else:
+            compare(program, base, output)
+    except (Problem, OSError) as problem:
+        print(f"compare: {problem}", file=sys.stderr)
+        return 1
+    tell(f"tables and pictures are in {options.out}")
+    return 0
+
+
+if __name__ == "__main__":
+    sys.exit(main(sys.argv[1:]))

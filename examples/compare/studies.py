@@ -1,0 +1,152 @@
+"""Both protocols under the same work, of which one number is varied at a time."""
+from __future__ import annotations
+
+from dataclasses import dataclass, field, fields, replace
+from functools import partial
+from typing import Any, Dict, List, NamedTuple, Sequence, Tuple, Union
+
+from counts import Count, points, total
+from pictures import Chart, Series
+from progress import all_of
+from serving import Flash
+from shape import PROTOCOLS, Shape, shape_of
+from sheets import Table
+from work import Work, fill, transactions
+
+Number = Union[int, float]
+HEAD = (
+    "protocol", "pages written", "pages programmed", "copies", "blocks erased",
+    "programmed for a page written", "erased for 100 pages written", "done", "aborted", "cut",
+)  # fmt: skip
+
+
+@dataclass(frozen=True)
+class Base:
+    """A work and the device that it comes to."""
+
+    work: Work = field(default_factory=Work)
+    slots: int = 1024
+    block: int = 16
+    dies: int = 2
+    full: float = 0.7
+    """The share of the slots that are logical pages."""
+    pending: int = 32
+    pages: int = 7500
+    """About how many pages the work writes."""
+
+    def shape(self) -> Shape:
+        return shape_of(self.slots, self.block, self.dies, self.full, self.pending)
+
+    def varied(self, changes: Dict[str, Any]) -> Base:
+        """The same with other numbers. As many transactions are drawn as write so many pages."""
+        names = {one.name for one in fields(Work)}
+        work = replace(self.work, **{name: value for name, value in changes.items() if name in names})
+        base = replace(self, work=work, **{name: value for name, value in changes.items() if name not in names})
+        return replace(base, work=replace(work, transactions=round(2 * self.pages / (work.least + work.most))))
+
+
+class Study(NamedTuple):
+    name: str
+    title: str
+    number: str
+    """The name of the number that is varied."""
+    values: Sequence[Number]
+    variants: Sequence[Tuple[str, Dict[str, Any]]] = (("", {}),)
+    """For each line of the picture what else differs from the base."""
+
+    def changes(self, value: Number) -> Dict[str, Any]:
+        return {"least": value, "most": value} if self.name == "sizes" else {self.number: value}
+
+
+FULL = [("half full", {"full": 0.5}), ("80 % full", {"full": 0.8})]
+ABORTS = [("no aborts", {"aborts": 0.0}), ("20 % aborts", {"aborts": 0.2})]
+STUDIES = (
+    Study("fullness", "By fullness", "full", (0.3, 0.4, 0.5, 0.6, 0.7, 0.8, 0.85, 0.9, 0.95), ABORTS),
+    Study("aborts", "By the share of transactions given up", "aborts", (0.0, 0.02, 0.05, 0.1, 0.2, 0.3, 0.5), FULL),
+    Study("cuts", "By the share of transactions cut", "cuts", (0.0, 0.01, 0.02, 0.04, 0.08), FULL),
+    Study("sizes", "By the pages of a transaction", "most", (1, 2, 4, 8, 16, 32)),
+    Study("discards", "By the share of discards", "discards", (0.0, 0.1, 0.2, 0.4)),
+    Study("skew", "By the exponent of Zipf's law", "zipf", (0.0, 0.5, 0.8, 0.99, 1.2, 1.5), ABORTS),
+    Study("blocks", "By the slots of a block", "block", (4, 8, 16, 32, 64), ABORTS),
+    Study("dies", "By dies", "dies", (1, 2, 4, 8)),
+)
+
+
+class Counted(NamedTuple):
+    value: Number
+    variant: str
+    protocol: str
+    count: Count
+
+    @property
+    def line(self) -> str:
+        return f"{self.protocol}, {self.variant}" if self.variant else self.protocol
+
+
+def served(program: str, base: Base) -> List[Count]:
+    """What each protocol did for the same work, from the end of the first filling."""
+    shape = base.shape()
+    first, parts = list(fill(shape)), list(transactions(base.work, shape))
+    counts = []
+    for protocol in PROTOCOLS:
+        with Flash(program, shape, protocol) as flash:
+            counts.append(total(flash, first, parts))
+    return counts
+
+
+def count_study(program: str, study: Study, base: Base) -> List[Counted]:
+    cells = [(value, variant, more) for variant, more in study.variants for value in study.values]
+    tasks = [partial(served, program, base.varied({**more, **study.changes(value)})) for value, _, more in cells]
+    return [
+        Counted(value, variant, protocol, count)
+        for (value, variant, _), counts in zip(cells, all_of(study.name, tasks))
+        for protocol, count in zip(PROTOCOLS, counts)
+    ]
+
+
+def numbers_of(count: Count) -> List[Union[int, float]]:
+    return [
+        count.written, count.programs, count.copies, count.erases,
+        count.amplification, count.erases_by_page, count.done, count.aborted, count.cut,
+    ]  # fmt: skip
+
+
+def table_of(study: Study, counted: Sequence[Counted]) -> Table:
+    rows = [[one.variant or "base", one.value, one.protocol, *numbers_of(one.count)] for one in counted]
+    return Table(study.name, study.title, ("work", study.number, *HEAD), rows)
+
+
+def chart_of(study: Study, counted: Sequence[Counted]) -> Chart:
+    """Pages programmed for each page written: a line for each protocol and variant."""
+    lines: Dict[str, List[Tuple[float, float]]] = {}
+    for one in counted:
+        lines.setdefault(one.line, []).append((one.value, one.count.amplification))
+    series = [Series(name, places) for name, places in lines.items()]
+    return Chart(study.name, study.title, study.number, "pages programmed for each page written", series)
+
+
+def windows(found: Sequence[Count]) -> List[Count]:
+    """What was counted from each point to the next."""
+    return [after.since(before) for before, after in zip([Count(), *found], found)]
+
+
+def over_time(program: str, base: Base, every: int) -> Tuple[Table, Chart]:
+    """Pages programmed for each page written, from each so many transactions to the next."""
+    cells = [(name, more, protocol) for name, more in ABORTS for protocol in PROTOCOLS]
+
+    def found(more: Dict[str, Any], protocol: str) -> List[Count]:
+        own = base.varied(more)
+        shape = own.shape()
+        with Flash(program, shape, protocol) as flash:
+            return points(flash, fill(shape), transactions(own.work, shape), every)
+
+    all_found = all_of("over_time", [partial(found, more, protocol) for _, more, protocol in cells])
+    rows, series = [], []
+    for (name, _, protocol), counts in zip(cells, all_found):
+        parts = windows(counts)
+        rows += [[name, every * number, protocol, *numbers_of(part)] for number, part in enumerate(parts, 1)]
+        places = [(every * number, part.amplification) for number, part in enumerate(parts, 1)]
+        series.append(Series(f"{protocol}, {name}", places))
+    title = f"Over time, {every} transactions to a point"
+    table = Table("over_time", title, ("work", "transactions", *HEAD), rows)
+    return table, Chart("over_time", title, "transactions", "pages programmed for each page written", series)
