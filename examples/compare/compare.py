@@ -14,14 +14,17 @@ import os
 import sys
 from typing import List
 
+# Nothing is written beside the output.
+sys.dont_write_bytecode = True
+
+from openings import openings
 from pictures import Chart, save_chart
 from progress import tell
 from replayed import replayed
-from openings import openings
 from serving import built_program
 from shape import Problem
 from sheets import Table, save_table, text_lines
-from studies import STUDIES, Base, chart_of, count_study, over_time, table_of
+from studies import STUDIES, Base, Counted, brief_of, chart_of, count_study, note_on, over_time, table_of
 from wear import wear
 from ways import all_ways
 from work import Work
@@ -76,28 +79,43 @@ class Output:
 
     def table(self, table: Table) -> None:
         save_table(self.folder, table)
-        print("\n".join(text_lines(table)) + "\n")
+        self.say(text_lines(table))
+
+    def say(self, lines: List[str]) -> None:
+        print("\n".join(lines) + "\n", flush=True)
 
     def chart(self, chart: Chart) -> None:
         save_chart(self.folder, chart)
 
 
-def compare(program: str, base: Base, output: Output) -> None:
+def compare_protocols(program: str, base: Base, output: Output) -> None:
+    """Both protocols by what is varied, over time, and looked at closely."""
+    all_counted: List[Counted] = []
     for study in STUDIES:
         counted = count_study(program, study, base)
-        output.table(table_of(study, counted))
-        output.chart(chart_of(study, counted))
+        save_table(output.folder, table_of(study, counted))
+        output.say(text_lines(brief_of(study, counted)))
+        output.chart(chart_of(study, base, counted))
+        all_counted += counted
+    output.say([note_on(all_counted)])
     table, chart = over_time(program, base, EVERY)
     save_table(output.folder, table)
     output.chart(chart)
-    tables, chart = wear(program, base.work)
-    output.chart(chart)
-    results = all_ways(program, output.folder)
-    for table in [*tables, *results.tables]:
+    tables, charts = wear(program, base.work)
+    for table in tables:
+        output.table(table)
+    for chart in charts:
+        output.chart(chart)
+
+
+def compare(program: str, base: Base, output: Output) -> None:
+    compare_protocols(program, base, output)
+    results = all_ways(program, output.folder, base.work.seed)
+    for table in results.tables:
         output.table(table)
     for chart in results.charts:
         output.chart(chart)
-    print("\n".join(results.notes) + "\n")
+    output.say(results.notes)
     output.table(openings(program))
 
 

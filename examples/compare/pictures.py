@@ -7,8 +7,8 @@ from dataclasses import dataclass
 from html import escape
 from typing import List, NamedTuple, Sequence, Tuple
 
-WIDTH, HEIGHT = 860, 460
-LEFT, RIGHT, TOP, BOTTOM = 70, 250, 50, 60
+WIDTH, HEIGHT = 900, 480
+LEFT, RIGHT, TOP, BOTTOM = 70, 270, 70, 60
 BACKGROUND, INK, GRID = "#ffffff", "#222222", "#dddddd"
 # Colour, width and dashes. Of two lines at the same place the wide one shows on both sides of the narrow one.
 STYLES = [
@@ -17,7 +17,7 @@ STYLES = [
     ("#92c5de", 6, ""),
     ("#2166ac", 2, "7 4"),
     ("#b8e186", 6, ""),
-    ("#4d9221", 2, "7 4"),
+    ("#1a1a1a", 2, "2 7"),
 ]
 Point = Tuple[float, float]
 
@@ -32,6 +32,8 @@ class Chart:
     name: str
     """The name of its file, without the ending."""
     title: str
+    under: str
+    """What stands under the title: the work and the device."""
     x_name: str
     y_name: str
     series: Sequence[Series]
@@ -78,7 +80,10 @@ def line(x1: float, y1: float, x2: float, y2: float, more: str) -> str:
 
 def frame(chart: Chart, across: Axis, up: Axis) -> List[str]:
     """Title, axes, their numbers and their names."""
-    parts = [text(LEFT, 28, chart.title, 'font-size="17" font-weight="bold"')]
+    parts = [
+        text(LEFT, 28, chart.title, 'font-size="17" font-weight="bold"'),
+        text(LEFT, 50, chart.under, 'font-size="13"'),
+    ]
     for tick in up.ticks():
         y = up.place(tick)
         parts.append(line(LEFT, y, WIDTH - RIGHT, y, f'stroke="{GRID}"'))
@@ -97,7 +102,8 @@ def frame(chart: Chart, across: Axis, up: Axis) -> List[str]:
 def drawn(number: int, series: Series, across: Axis, up: Axis) -> List[str]:
     """One line with a dot at each point, and its name in the list at the right."""
     colour, width, dashes = STYLES[number % len(STYLES)]
-    stroke = f'stroke="{colour}" stroke-width="{width}" fill="none"' + (f' stroke-dasharray="{dashes}"' if dashes else "")
+    stroke = f'stroke="{colour}" stroke-width="{width}" stroke-linejoin="round" fill="none"'
+    stroke += f' stroke-dasharray="{dashes}"' if dashes else ""
     places = [(across.place(x), up.place(y)) for x, y in series.points]
     path = " ".join(f"{x:.1f},{y:.1f}" for x, y in places)
     radius = 1.5 + width / 2

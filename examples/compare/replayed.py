@@ -11,7 +11,7 @@ from progress import all_of
 from serving import Flash
 from shape import MOST_SLOTS, PROTOCOLS, Problem, Shape
 from sheets import Table
-from studies import HEAD, Base, numbers_of, windows
+from studies import HEAD, PROGRAMMED, Base, numbers_of, windows
 from traces import Numbers, load_trace, transactions_of
 
 POINTS = 40
@@ -51,6 +51,7 @@ def replayed(program: str, options: argparse.Namespace, base: Base) -> Iterator[
         rows += [[end, protocol, *numbers_of(part)] for end, part in zip(ends, windows(found))]
         rows.append(["all", protocol, *numbers_of(found[-1])])
         series.append(Series(protocol, [(end, part.amplification) for end, part in zip(ends, windows(found))]))
-    title = f"A trace of {len(requests)} requests on {len(numbers.found)} pages, {shape.slots} slots"
-    head = ("transactions", *HEAD)
-    yield Table("trace", title, head, rows), Chart("trace", title, "transactions", "pages programmed for each page written", series)
+    title = f"A trace of {len(requests)} requests on {len(numbers.found)} pages"
+    under = f"{shape.slots} slots in blocks of {shape.block} on {shape.dies} dies, {every} transactions to a point"
+    table = Table("trace", f"{title}, {under}", ("transactions", *HEAD), rows)
+    yield table, Chart("trace", title, under, "transactions", PROGRAMMED, series)

@@ -7,7 +7,7 @@ from __future__ import annotations
 import os
 import sys
 import tempfile
-from dataclasses import dataclass
+from dataclasses import dataclass, replace
 from typing import Iterator, List, NamedTuple, Optional, Sequence
 
 sys.path.append(os.path.join(os.path.dirname(os.path.abspath(__file__)), "..", "database"))
@@ -83,9 +83,9 @@ def written_commits(all_written: Sequence[Written], pages: int, page_bytes: int)
     return commits
 
 
-def ways_of(page_bytes: int, folder: str) -> List[Way]:
+def ways_of(page_bytes: int, folder: str, seed: int) -> List[Way]:
     """All ways, for the history of a bank whose database has pages of that size."""
-    bank = BANKS[page_bytes]
+    bank = replace(BANKS[page_bytes], seed=seed)
     history = record(folder, bank, page_bytes)
     commits, pages = history.after_opening(), history.largest()
     own = [Commit(sorted(page - 1 for page in commit.pages)) for commit in commits if commit.pages]
@@ -97,17 +97,17 @@ def ways_of(page_bytes: int, folder: str) -> List[Way]:
     return [
         single("log, checkpoint at 1000", with_log(commits, page_bytes, 1000)),
         single("log, checkpoint at 100", with_log(commits, page_bytes, 100)),
-        single("rollback journal", journal),
         Way("transactions, scc", "scc", pages, own, True),
         Way("transactions, bpcc", "bpcc", pages, own, True),
+        single("rollback journal", journal),
         Way("one page at a time", "scc", pages, own, False),
     ]
 
 
-def load_ways(page_bytes: int, folder: str) -> List[Way]:
+def load_ways(page_bytes: int, folder: str, seed: int) -> List[Way]:
     """The same, with the database's files in a folder of their own within this one."""
     with tempfile.TemporaryDirectory(dir=folder) as own:
-        return ways_of(page_bytes, own)
+        return ways_of(page_bytes, own, seed)
 
 
 def device_for(way: Way, slots: int, page_bytes: int) -> Optional[Shape]:

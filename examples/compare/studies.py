@@ -3,7 +3,7 @@ from __future__ import annotations
 
 from dataclasses import dataclass, field, fields, replace
 from functools import partial
-from typing import Any, Dict, List, NamedTuple, Sequence, Tuple, Union
+from typing import Any, Dict, List, NamedTuple, Sequence, Set, Tuple, Union
 
 from counts import Count, points, total
 from pictures import Chart, Series
@@ -14,6 +14,7 @@ from sheets import Table
 from work import Work, fill, transactions
 
 Number = Union[int, float]
+PROGRAMMED = "pages programmed for each page written"
 HEAD = (
     "protocol", "pages written", "pages programmed", "copies", "blocks erased",
     "programmed for a page written", "erased for 100 pages written", "done", "aborted", "cut",
@@ -50,26 +51,37 @@ class Study(NamedTuple):
     title: str
     number: str
     """The name of the number that is varied."""
+    axis: str
+    """The same in words."""
     values: Sequence[Number]
-    variants: Sequence[Tuple[str, Dict[str, Any]]] = (("", {}),)
-    """For each line of the picture what else differs from the base."""
+    variants: Sequence[Tuple[str, Dict[str, Any]]] = (("base", {}),)
+    """For each two lines of the picture what else differs from the base."""
 
     def changes(self, value: Number) -> Dict[str, Any]:
         return {"least": value, "most": value} if self.name == "sizes" else {self.number: value}
 
+    def varied(self) -> Set[str]:
+        """The names of all numbers that are not those of the base."""
+        return {*self.changes(0), *(name for _, more in self.variants for name in more)}
+
 
 FULL = [("half full", {"full": 0.5}), ("80 % full", {"full": 0.8})]
 ABORTS = [("no aborts", {"aborts": 0.0}), ("20 % aborts", {"aborts": 0.2})]
+HARD = ("skewed, 80 % full, cuts", {"zipf": 0.99, "full": 0.8, "aborts": 0.08, "cuts": 0.04})
+SHARE = "share of the transactions"
 STUDIES = (
-    Study("fullness", "By fullness", "full", (0.3, 0.4, 0.5, 0.6, 0.7, 0.8, 0.85, 0.9, 0.95), ABORTS),
-    Study("aborts", "By the share of transactions given up", "aborts", (0.0, 0.02, 0.05, 0.1, 0.2, 0.3, 0.5), FULL),
-    Study("cuts", "By the share of transactions cut", "cuts", (0.0, 0.01, 0.02, 0.04, 0.08), FULL),
-    Study("sizes", "By the pages of a transaction", "most", (1, 2, 4, 8, 16, 32)),
-    Study("discards", "By the share of discards", "discards", (0.0, 0.1, 0.2, 0.4)),
-    Study("skew", "By the exponent of Zipf's law", "zipf", (0.0, 0.5, 0.8, 0.99, 1.2, 1.5), ABORTS),
-    Study("blocks", "By the slots of a block", "block", (4, 8, 16, 32, 64), ABORTS),
-    Study("dies", "By dies", "dies", (1, 2, 4, 8)),
-)
+    Study(
+        "fullness", "By fullness", "full", "logical pages, as a share of the slots",
+        (0.3, 0.4, 0.5, 0.6, 0.7, 0.8, 0.85, 0.9, 0.95), ABORTS,
+    ),
+    Study("aborts", "By transactions given up", "aborts", SHARE, (0.0, 0.02, 0.05, 0.1, 0.2, 0.3, 0.5), FULL),
+    Study("cuts", "By transactions that a power cut ends", "cuts", SHARE, (0.0, 0.01, 0.02, 0.04, 0.08), FULL),
+    Study("sizes", "By the size of a transaction", "most", "pages", (1, 2, 4, 8, 16, 32)),
+    Study("discards", "By discards", "discards", "share of the pages written", (0.0, 0.1, 0.2, 0.4)),
+    Study("skew", "By skew", "zipf", "exponent of Zipf's law", (0.0, 0.5, 0.8, 0.99, 1.2, 1.5), ABORTS),
+    Study("blocks", "By the size of a block", "block", "slots", (2, 4, 8, 16, 32, 64), [*ABORTS, HARD]),
+    Study("dies", "By dies", "dies", "dies", (1, 2, 4, 8)),
+)  # fmt: skip
 
 
 class Counted(NamedTuple):
@@ -80,7 +92,7 @@ class Counted(NamedTuple):
 
     @property
     def line(self) -> str:
-        return f"{self.protocol}, {self.variant}" if self.variant else self.protocol
+        return self.protocol if self.variant == "base" else f"{self.protocol}, {self.variant}"
 
 
 def served(program: str, base: Base) -> List[Count]:
@@ -112,17 +124,61 @@ def numbers_of(count: Count) -> List[Union[int, float]]:
 
 
 def table_of(study: Study, counted: Sequence[Counted]) -> Table:
-    rows = [[one.variant or "base", one.value, one.protocol, *numbers_of(one.count)] for one in counted]
+    """All that was counted."""
+    rows = [[one.variant, one.value, one.protocol, *numbers_of(one.count)] for one in counted]
     return Table(study.name, study.title, ("work", study.number, *HEAD), rows)
 
 
-def chart_of(study: Study, counted: Sequence[Counted]) -> Chart:
+def brief_of(study: Study, counted: Sequence[Counted]) -> Table:
+    """Both protocols side by side."""
+    rows = []
+    for one, other in zip(counted[::2], counted[1::2]):
+        scc, bpcc = one.count, other.count
+        rows.append([
+            one.variant, one.value, scc.amplification, bpcc.amplification, scc.erases_by_page, bpcc.erases_by_page,
+            scc.copies, bpcc.copies,
+        ])  # fmt: skip
+    head = ("work", study.number, "programmed/page scc", "bpcc", "erased/100 pages scc", "bpcc", "copies scc", "bpcc")
+    return Table(study.name, study.title, head, rows)
+
+
+def under(base: Base, left_out: Set[str]) -> str:
+    """The work and the device in words, but for the numbers that are varied."""
+    work = base.work
+    words = [
+        ({"slots"}, f"{base.slots} slots"),
+        ({"block"}, f"blocks of {base.block}"),
+        ({"dies"}, f"{base.dies} dies"),
+        ({"full"}, f"{100 * base.full:g} % full"),
+        ({"least", "most"}, f"{work.least} to {work.most} pages"),
+        ({"aborts"}, f"{100 * work.aborts:g} % aborts"),
+        ({"cuts"}, f"{100 * work.cuts:g} % cuts"),
+        ({"zipf"}, f"Zipf {work.zipf:g}" if work.zipf else "drawn evenly"),
+    ]
+    return ", ".join(said for names, said in words if not names & left_out)
+
+
+def chart_of(study: Study, base: Base, counted: Sequence[Counted]) -> Chart:
     """Pages programmed for each page written: a line for each protocol and variant."""
     lines: Dict[str, List[Tuple[float, float]]] = {}
     for one in counted:
         lines.setdefault(one.line, []).append((one.value, one.count.amplification))
     series = [Series(name, places) for name, places in lines.items()]
-    return Chart(study.name, study.title, study.number, "pages programmed for each page written", series)
+    return Chart(study.name, study.title, under(base, study.varied()), study.axis, PROGRAMMED, series)
+
+
+def note_on(all_counted: Sequence[Counted]) -> str:
+    """How many pages Back Pointer Cyclic Commit programs beside the other, at least and at most."""
+    shares = [
+        100 * other.count.programs / one.count.programs - 100
+        for one, other in zip(all_counted[::2], all_counted[1::2])
+        if one.count.programs
+    ]
+    fewer, same = sum(share < 0 for share in shares), sum(share == 0 for share in shares)
+    return (
+        f"Of {len(shares)} works bpcc programs fewer pages than scc in {fewer}, as many in {same}: "
+        f"from {min(shares):+.1f} % to {max(shares):+.1f} %."
+    )
 
 
 def windows(found: Sequence[Count]) -> List[Count]:
@@ -130,23 +186,22 @@ def windows(found: Sequence[Count]) -> List[Count]:
     return [after.since(before) for before, after in zip([Count(), *found], found)]
 
 
+def found_over_time(program: str, base: Base, every: int, protocol: str) -> List[Count]:
+    shape = base.shape()
+    with Flash(program, shape, protocol) as flash:
+        return points(flash, fill(shape), transactions(base.work, shape), every)
+
+
 def over_time(program: str, base: Base, every: int) -> Tuple[Table, Chart]:
     """Pages programmed for each page written, from each so many transactions to the next."""
-    cells = [(name, more, protocol) for name, more in ABORTS for protocol in PROTOCOLS]
-
-    def found(more: Dict[str, Any], protocol: str) -> List[Count]:
-        own = base.varied(more)
-        shape = own.shape()
-        with Flash(program, shape, protocol) as flash:
-            return points(flash, fill(shape), transactions(own.work, shape), every)
-
-    all_found = all_of("over_time", [partial(found, more, protocol) for _, more, protocol in cells])
+    cells = [(name, base.varied(more), protocol) for name, more in ABORTS for protocol in PROTOCOLS]
+    tasks = [partial(found_over_time, program, own, every, protocol) for _, own, protocol in cells]
     rows, series = [], []
-    for (name, _, protocol), counts in zip(cells, all_found):
+    for (name, _, protocol), counts in zip(cells, all_of("over_time", tasks)):
         parts = windows(counts)
         rows += [[name, every * number, protocol, *numbers_of(part)] for number, part in enumerate(parts, 1)]
         places = [(every * number, part.amplification) for number, part in enumerate(parts, 1)]
         series.append(Series(f"{protocol}, {name}", places))
     title = f"Over time, {every} transactions to a point"
     table = Table("over_time", title, ("work", "transactions", *HEAD), rows)
-    return table, Chart("over_time", title, "transactions", "pages programmed for each page written", series)
+    return table, Chart("over_time", title, under(base, {"aborts"}), "transactions", PROGRAMMED, series)

@@ -13,6 +13,19 @@ from images import Record, Slot, erased, read_slots
 from serving import Flash, text_numbers
 
 
+class Point(NamedTuple):
+    """What was seen up to some command."""
+
+    commands: int
+    erases: int
+    least: int
+    """The erases of the block that was erased least often."""
+    most: int
+    cleared: int
+    loose: int
+    """The loose records on the flash at that moment."""
+
+
 class Look(NamedTuple):
     """A device at one moment."""
 
@@ -46,6 +59,11 @@ class Watched:
     """Steps that wrote a page."""
     blocked: int = 0
     """Those of them that had to clear first."""
+    points: List[Point] = field(default_factory=list)
+
+    def point(self, commands: int, blocks: int, loose: int) -> Point:
+        erases = [self.erases.get(block, 0) for block in range(blocks)]
+        return Point(commands, sum(erases), min(erases), max(erases), self.cleared, loose)
 
 
 def current_versions(report: Iterable[str]) -> Dict[int, int]:
@@ -87,18 +105,23 @@ def step_seen(before: Look, after: Look, command: str, own: Set[Record], watched
     own.add(written)
 
 
-def watch(flash: Flash, first: List[str], commands: List[str]) -> Watched:
-    """What the device does at each of the commands that come after the first ones."""
+def watch(flash: Flash, first: List[str], commands: List[str], every: int) -> Watched:
+    """What the device does at each of the commands that come after the first ones, with a point each so many."""
     watched = Watched()
+    blocks = flash.shape.slots // flash.shape.block
     own: Set[Record] = set()
     before = begun = look(flash, first)
     for number, command in enumerate(commands, 1):
         if command.startswith("write "):
+            # It does not touch the flash.
             own = set()
+            continue
         after = look(flash, first + commands[:number])
         for block in erased(before.slots, after.slots, flash.shape):
             watched.erases[block] += 1
         step_seen(before, after, command, own, watched)
+        if number % every == 0 or number == len(commands):
+            watched.points.append(watched.point(number, blocks, len(after.loose())))
         before = after
     watched.told = before.erases - begun.erases
     return watched

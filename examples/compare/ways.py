@@ -58,7 +58,9 @@ def on_one_flash(program: str, page_bytes: int, ways: List[Way]) -> Tuple[Table,
         Series(way.name, [(slots, number) for slots, number in zip(SLOTS, numbers) if number is not None])
         for way, numbers in rows
     ]
-    chart = Chart(name, f"One flash for all, pages of {page_bytes} bytes", "slots", "pages programmed for each commit", series)
+    under = f"{len(ways[0].commits)} commits of SQLite on a database of {ways[0].database} pages, blocks of {BLOCK} slots"
+    heading = f"One flash for all, pages of {page_bytes} bytes"
+    chart = Chart(name, heading, under, "slots of the flash", "pages programmed for each commit", series)
     columns = [f"{slots} slots" for slots in SLOTS]
     return table, chart, note(f"One flash for all, pages of {page_bytes} bytes", won_by_log(rows, columns))
 
@@ -76,13 +78,13 @@ def on_own_flash(program: str, page_bytes: int, ways: List[Way]) -> Tuple[Table,
     return table, note(f"A flash for each, pages of {page_bytes} bytes", won_by_log(rows, columns))
 
 
-def all_ways(program: str, folder: str) -> Results:
+def all_ways(program: str, folder: str, seed: int) -> Results:
     """Both comparisons, for both sizes of pages."""
     results = Results([], [], [])
     loaded: Dict[int, List[Way]] = {}
     for page_bytes in BANKS:
         tell(f"a history of SQLite with pages of {page_bytes} bytes")
-        loaded[page_bytes] = load_ways(page_bytes, folder)
+        loaded[page_bytes] = load_ways(page_bytes, folder, seed)
     for page_bytes, ways in loaded.items():
         table, chart, words = on_one_flash(program, page_bytes, ways)
         own, more = on_own_flash(program, page_bytes, ways)
