@@ -4,8 +4,9 @@
     compare.py PROGRAM [--out FOLDER] [--seed N] [--trace TRACE] [numbers of the work and the device]
 
 PROGRAM is the built program, or ./run. The tables go to FOLDER as CSV and the pictures as SVG, and the tables are said
-too. FOLDER is ./compare-out where it is left out; nothing else is written. The same seed gives the same numbers, but for
-the times of `openings`. With TRACE (see traces.py) the requests of that trace are the work, and no other is served.
+too. FOLDER is ./compare-out where it is left out; nothing else is written. One seed gives the same numbers each time,
+but for the times of `openings`. With TRACE (see traces.py) the requests of that trace are the work, and no other is
+served.
 """
 from __future__ import annotations
 
@@ -89,7 +90,7 @@ class Output:
 
 
 def compare_protocols(program: str, base: Base, output: Output) -> None:
-    """Both protocols by what is varied, over time, and looked at closely."""
+    """Both protocols by what is varied, over time, and on a small device."""
     all_counted: List[Counted] = []
     for study in STUDIES:
         counted = count_study(program, study, base)

@@ -44,10 +44,8 @@ def read_slots(image: bytes, shape: Shape) -> List[Slot]:
     cell = shape.page_bytes + SPARE_BYTES
     states = image[HEADER_BYTES : HEADER_BYTES + shape.slots]
     first = HEADER_BYTES + shape.slots + shape.page_bytes
-    return [
-        Slot(state, record_of(image[first + slot * cell : first + slot * cell + SPARE_BYTES]) if state == COMPLETE else None)
-        for slot, state in enumerate(states)
-    ]
+    spares = (image[first + slot * cell : first + slot * cell + SPARE_BYTES] for slot in range(shape.slots))
+    return [Slot(state, record_of(spare) if state == COMPLETE else None) for state, spare in zip(states, spares)]
 
 
 def erased(before: List[Slot], after: List[Slot], shape: Shape) -> List[int]:

@@ -61,8 +61,8 @@ class Study(NamedTuple):
         return {"least": value, "most": value} if self.name == "sizes" else {self.number: value}
 
     def varied(self) -> Set[str]:
-        """The names of all numbers that are not those of the base."""
-        return {*self.changes(0), *(name for _, more in self.variants for name in more)}
+        """The names of the numbers that are those of the base nowhere."""
+        return {*self.changes(0), *set.intersection(*(set(more) for _, more in self.variants))}
 
 
 FULL = [("half full", {"full": 0.5}), ("80 % full", {"full": 0.8})]

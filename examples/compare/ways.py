@@ -43,7 +43,9 @@ def won_by_log(table: Sequence[Tuple[Way, Numbers]], columns: Sequence[str]) -> 
 
 
 def note(what: str, wins: List[str]) -> str:
-    return f"{what}: the log wins {'nowhere' if not wins else '; '.join(wins)}."
+    """One sentence, or one and the places."""
+    places = f"at {len(wins)} places: {'; '.join(wins)}" if wins else "nowhere"
+    return f"{what}: the log wins {places}."
 
 
 def on_one_flash(program: str, page_bytes: int, ways: List[Way]) -> Tuple[Table, Chart, str]:
@@ -58,7 +60,8 @@ def on_one_flash(program: str, page_bytes: int, ways: List[Way]) -> Tuple[Table,
         Series(way.name, [(slots, number) for slots, number in zip(SLOTS, numbers) if number is not None])
         for way, numbers in rows
     ]
-    under = f"{len(ways[0].commits)} commits of SQLite on a database of {ways[0].database} pages, blocks of {BLOCK} slots"
+    commits, database = len(ways[0].commits), ways[0].database
+    under = f"{commits} commits of SQLite on a database of {database} pages, blocks of {BLOCK} slots"
     heading = f"One flash for all, pages of {page_bytes} bytes"
     chart = Chart(name, heading, under, "slots of the flash", "pages programmed for each commit", series)
     columns = [f"{slots} slots" for slots in SLOTS]
@@ -71,9 +74,13 @@ def on_own_flash(program: str, page_bytes: int, ways: List[Way]) -> Tuple[Table,
     tasks = [partial(programs_by_commit, program, way, slots, page_bytes) for way, slots in cells]
     found = all_of(f"a flash for each, pages of {page_bytes} bytes", tasks)
     rows = [(way, found[len(PERCENT) * row : len(PERCENT) * (row + 1)]) for row, way in enumerate(ways)]
-    head = ("way", "logical pages", *(f"{percent} % full" for percent in PERCENT))
-    title = f"The same, each way on a flash that it fills so far, pages of {page_bytes} bytes"
-    table = Table(f"own_flash_{page_bytes}", title, head, [[way.name, way.logical, *numbers] for way, numbers in rows])
+    head = ("way", "logical pages", *(word for percent in PERCENT for word in ("slots", f"{percent} % full")))
+    title = f"The same, each way on a flash of its own that its logical pages fill so far, pages of {page_bytes} bytes"
+    lines = [
+        [way.name, way.logical, *(cell for cells in zip(map(partial(own_slots, way), PERCENT), numbers) for cell in cells)]
+        for way, numbers in rows
+    ]
+    table = Table(f"own_flash_{page_bytes}", title, head, lines)
     columns = [f"a flash that it fills to {percent} %" for percent in PERCENT]
     return table, note(f"A flash for each, pages of {page_bytes} bytes", won_by_log(rows, columns))
 

@@ -73,13 +73,13 @@ def charts_of(all_seen: List[Seen]) -> List[Chart]:
     under = "64 slots in blocks of 4 on 2 dies, 60 % full, 1 to 4 pages"
     by_block = [Series(f"{one.protocol}, {one.work}", list(enumerate(one.erases))) for one in all_seen]
     broken = [one for one in all_seen if one.work != "even"]
-    loose = [
-        Series(f"{one.protocol}, {one.work}", [(point.commands, point.loose) for point in one.watched.points])
+    cleared = [
+        Series(f"{one.protocol}, {one.work}", [(point.commands, point.cleared) for point in one.watched.points])
         for one in broken
     ]
     return [
         Chart("erases", "Erases by block", under, "block", "erases", by_block),
-        Chart("leftovers", "Records of aborted transactions on the flash", under, "commands", "records", loose),
+        Chart("cleared", "Leftover records that were cleared first", under, "commands", "records so far", cleared),
     ]
 
 

@@ -52,8 +52,9 @@ class Counts(unittest.TestCase):
 
     def test_points_count_from_the_end_of_what_comes_first(self) -> None:
         parts = [["write 1 0=01", "finish 1"], ["write 2 0=02", "finish 2"], ["write 3 0=03", "finish 3"]]
-        served = ["open 0 1", "done 0", STATS.format(1, 0), "open 1 1", "done 1", "open 2 1", "done 2", STATS.format(4, 1)]
-        flash = FakeFlash([[*served, "open 3 1", "done 3", STATS.format(6, 2), STATS.format(6, 2)]])
+        first, second, third, fourth = ([f"open {tag} 1", f"done {tag}"] for tag in range(4))
+        ends = [STATS.format(6, 2)] * 2
+        flash = FakeFlash([[*first, STATS.format(1, 0), *second, *third, STATS.format(4, 1), *fourth, *ends]])
         found = points(flash, [["write 0 0=01", "finish 0"]], parts, 2)
         self.assertEqual(found, [Count(3, 1, 2, 2, 2), Count(5, 2, 3, 3, 3)])
         self.assertEqual(flash.runs[0].count("stats"), 4)
@@ -134,7 +135,11 @@ class Images(unittest.TestCase):
         self.assertEqual((watched.cleared, watched.stayed), (1, 1))
 
     def test_reports(self) -> None:
-        report = ["verdict 0 newest 3 uncommitted straddled 4 current 1 walk 1:2", "verdict 7 newest 2 committed cycle current 2 walk 7:2", "explained 2"]
+        report = [
+            "verdict 0 newest 3 uncommitted straddled 4 current 1 walk 1:2",
+            "verdict 7 newest 2 committed cycle current 2 walk 7:2",
+            "explained 2",
+        ]
         self.assertEqual(current_versions(report), {0: 1, 7: 2})
 
     def test_a_finish_becomes_steps(self) -> None:

@@ -73,7 +73,11 @@ class Commands(unittest.TestCase):
         return list(transactions_of(requests, Numbers(4096), pending))
 
     def test_pages_are_numbered_as_they_come(self) -> None:
-        requests = [Request("write", "a", 40960, 8192), Request("discard", "a", 45056, 4096), Request("write", "b", 45056, 1)]
+        requests = [
+            Request("write", "a", 40960, 8192),
+            Request("discard", "a", 45056, 4096),
+            Request("write", "b", 45056, 1),
+        ]
         self.assertEqual(
             self.commands(requests),
             [["write 1 0=02 1=02", "finish 1"], ["write 2 1=~", "finish 2"], ["write 3 2=04", "finish 3"]],
