@@ -94,6 +94,8 @@ def compare_protocols(program: str, base: Base, output: Output) -> None:
     all_counted: List[Counted] = []
     for study in STUDIES:
         counted = count_study(program, study, base)
+        if not counted:
+            continue
         save_table(output.folder, table_of(study, counted))
         output.say(text_lines(brief_of(study, counted)))
         output.chart(chart_of(study, base, counted))

@@ -1,7 +1,7 @@
 """What a device did for its host, counted from its replies alone."""
 from __future__ import annotations
 
-from dataclasses import dataclass, fields, replace
+from dataclasses import dataclass, fields
 from typing import Dict, Iterable, Iterator, List, Tuple
 
 from serving import Flash, runs_of, text_numbers
@@ -44,44 +44,41 @@ class Counter:
     """Counts replies one by one. Programs and erases are known at each reply of `stats`."""
 
     def __init__(self) -> None:
-        self.count = Count()
+        self.numbers = {field.name: 0 for field in fields(Count)}
         self.before = (0, 0)
         """The programs and erases of earlier runs: `stats` counts those of its own."""
         self.open: Dict[str, Tuple[int, int]] = {}
         """By its tag how many pages of a transaction are written, and how many it has."""
 
+    @property
+    def count(self) -> Count:
+        return Count(**self.numbers)
+
     def next_run(self) -> None:
         """A run begins with nothing open."""
-        self.before = (self.count.programs, self.count.erases)
+        self.before = (self.numbers["programs"], self.numbers["erases"])
         self.open = {}
-
-    def add(self, **more: int) -> None:
-        self.count = replace(self.count, **{name: getattr(self.count, name) + value for name, value in more.items()})
 
     def take(self, reply: str) -> None:
         words = reply.split()
+        numbers = self.numbers
         if words[0] == "open":
             self.open[words[1]] = (0, int(words[2]))
         elif words[0] == "wrote":
             self.open[words[1]] = (int(words[2]), int(words[3]))
-            self.add(own=1)
+            numbers["own"] += 1
         elif words[0] == "done":
             written, pages = self.open.pop(words[1])
-            self.add(own=pages - written, written=pages, done=1)
-        elif words[0] == "aborted":
-            self.open.pop(words[1], None)
-            self.add(aborted=1)
-        elif words[0] == "cut":
-            self.open = {}
-            self.add(cut=1)
-        elif words[0] == "refused":
-            self.add(refused=1)
+            numbers["own"] += pages - written
+            numbers["written"] += pages
+            numbers["done"] += 1
         elif words[0] == "stats":
-            numbers = text_numbers(reply)
-            programs, erases = self.before
-            self.count = replace(
-                self.count, programs=programs + numbers["programs"], erases=erases + numbers["erases"]
-            )
+            told = text_numbers(reply)
+            numbers["programs"] = self.before[0] + told["programs"]
+            numbers["erases"] = self.before[1] + told["erases"]
+        elif words[0] in ("aborted", "cut", "refused"):
+            self.open = {} if words[0] == "cut" else self.open
+            numbers[words[0]] += 1
 
 
 def marked(parts: Iterable[List[str]], every: int) -> Iterator[List[str]]:

@@ -48,7 +48,7 @@ class Way:
     @property
     def logical(self) -> int:
         """The pages of a device that it needs."""
-        return 1 + max(page for commit in self.commits for page in commit.pages)
+        return max(self.database, 1 + max(page for commit in self.commits for page in commit.pages))
 
     @property
     def pending(self) -> int:

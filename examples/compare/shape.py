@@ -5,8 +5,6 @@ from dataclasses import dataclass
 from typing import List
 
 MOST_SLOTS = 65536
-MOST_PENDING = 256
-LONGEST_IMAGE = 134217728
 PROTOCOLS = ("scc", "bpcc")
 
 
@@ -47,11 +45,12 @@ class Shape:
 
 
 def shape_of(slots: int, block: int, dies: int, full: float, pending: int, page_bytes: int = 16) -> Shape:
-    """A device of so many slots, whose logical pages are the share `full` of them, or as many as it can have."""
-    blocks = slots // (block * dies)
-    whole = block * blocks * dies
-    logical = min(round(full * whole), whole - block - pending - 1)
-    shape = Shape(page_bytes, block, blocks, dies, logical, pending)
-    if not shape.fits or shape.slots > MOST_SLOTS or shape.image_bytes > LONGEST_IMAGE:
-        raise Problem(f"no device has {slots} slots in blocks of {block} on {dies} dies with {pending} pages pending")
+    """A device of so many slots, or a few less, whose logical pages are the share `full` of them."""
+    blocks = slots // max(1, block * dies)
+    shape = Shape(page_bytes, block, blocks, dies, round(full * block * blocks * dies), pending)
+    if min(block - 1, dies, pending) < 1 or not shape.fits or shape.slots > MOST_SLOTS:
+        raise Problem(
+            f"no device has {slots} slots in blocks of {block} on {dies} dies with {pending} pages pending, where "
+            f"{100 * full:g} % of the slots are logical pages"
+        )
     return shape

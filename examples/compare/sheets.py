@@ -4,7 +4,7 @@ from __future__ import annotations
 import csv
 import os
 from dataclasses import dataclass
-from typing import List, Optional, Sequence, Union
+from typing import List, Sequence, Union
 
 Cell = Union[str, int, float, None]
 
@@ -46,7 +46,3 @@ def save_table(folder: str, table: Table) -> str:
         writer.writerow(table.head)
         writer.writerows([spelled(cell, "") for cell in row] for row in table.rows)
     return path
-
-
-def least_most(numbers: Sequence[int]) -> Optional[str]:
-    return f"{min(numbers)} to {max(numbers)}" if numbers else None

@@ -7,9 +7,9 @@ from typing import Any, Dict, List, NamedTuple, Sequence, Set, Tuple, Union
 
 from counts import Count, points, total
 from pictures import Chart, Series
-from progress import all_of
+from progress import all_of, tell
 from serving import Flash
-from shape import PROTOCOLS, Shape, shape_of
+from shape import PROTOCOLS, Problem, Shape, shape_of
 from sheets import Table
 from work import Work, fill, transactions
 
@@ -106,12 +106,28 @@ def served(program: str, base: Base) -> List[Count]:
     return counts
 
 
+def is_possible(study: Study, value: Number, base: Base) -> bool:
+    """Whether there is such a device, and such work for it. What is not is told and left out."""
+    try:
+        base.work.check(base.shape())
+    except Problem as problem:
+        tell(f"{study.name}: {value} is left out: {problem}")
+        return False
+    return True
+
+
 def count_study(program: str, study: Study, base: Base) -> List[Counted]:
-    cells = [(value, variant, more) for variant, more in study.variants for value in study.values]
-    tasks = [partial(served, program, base.varied({**more, **study.changes(value)})) for value, _, more in cells]
+    """All that is possible from this base."""
+    drawn = [
+        (value, variant, base.varied({**more, **study.changes(value)}))
+        for variant, more in study.variants
+        for value in study.values
+    ]
+    cells = [(value, variant, own) for value, variant, own in drawn if is_possible(study, value, own)]
+    all_counts = all_of(study.name, [partial(served, program, own) for _, _, own in cells])
     return [
         Counted(value, variant, protocol, count)
-        for (value, variant, _), counts in zip(cells, all_of(study.name, tasks))
+        for (value, variant, _), counts in zip(cells, all_counts)
         for protocol, count in zip(PROTOCOLS, counts)
     ]
 

@@ -7,7 +7,7 @@ from typing import Dict, List, NamedTuple, Optional, Sequence, Tuple
 from pictures import Chart, Series
 from progress import all_of, tell
 from same_flash import BANKS, BLOCK, Way, load_ways, programs_by_commit
-from sheets import Table
+from sheets import Cell, Table
 
 SLOTS = (600, 800, 1200, 1600, 2400, 4000)
 PERCENT = (50, 80, 95)
@@ -34,7 +34,7 @@ def won_by_log(table: Sequence[Tuple[Way, Numbers]], columns: Sequence[str]) -> 
         for column in range(len(columns))
     ]
     return [
-        f"{way.name} on {columns[column]}: {number:.1f} to {best[column]:.1f}"
+        f"a {way.name.split(', ')[1]} on {columns[column]}: {number:.1f} to {best[column]:.1f}"
         for way, numbers in table
         if way.name.startswith("log")
         for column, number in enumerate(numbers)
@@ -44,8 +44,7 @@ def won_by_log(table: Sequence[Tuple[Way, Numbers]], columns: Sequence[str]) -> 
 
 def note(what: str, wins: List[str]) -> str:
     """One sentence, or one and the places."""
-    places = f"at {len(wins)} places: {'; '.join(wins)}" if wins else "nowhere"
-    return f"{what}: the log wins {places}."
+    return f"{what}: the log wins {'with ' + '; with '.join(wins) if wins else 'nowhere'}."
 
 
 def on_one_flash(program: str, page_bytes: int, ways: List[Way]) -> Tuple[Table, Chart, str]:
@@ -76,10 +75,10 @@ def on_own_flash(program: str, page_bytes: int, ways: List[Way]) -> Tuple[Table,
     rows = [(way, found[len(PERCENT) * row : len(PERCENT) * (row + 1)]) for row, way in enumerate(ways)]
     head = ("way", "logical pages", *(word for percent in PERCENT for word in ("slots", f"{percent} % full")))
     title = f"The same, each way on a flash of its own that its logical pages fill so far, pages of {page_bytes} bytes"
-    lines = [
-        [way.name, way.logical, *(cell for cells in zip(map(partial(own_slots, way), PERCENT), numbers) for cell in cells)]
-        for way, numbers in rows
-    ]
+    lines: List[List[Cell]] = []
+    for way, numbers in rows:
+        pairs = zip([own_slots(way, percent) for percent in PERCENT], numbers)
+        lines.append([way.name, way.logical, *(cell for pair in pairs for cell in pair)])
     table = Table(f"own_flash_{page_bytes}", title, head, lines)
     columns = [f"a flash that it fills to {percent} %" for percent in PERCENT]
     return table, note(f"A flash for each, pages of {page_bytes} bytes", won_by_log(rows, columns))

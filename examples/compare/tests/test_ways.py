@@ -31,7 +31,7 @@ class Ways(unittest.TestCase):
 
     def test_where_the_log_wins(self) -> None:
         wins = won_by_log([(SINGLE, [None, 4.0, 5.0]), (WHOLE, [1.0, 4.5, 4.5])], ["a", "b", "c"])
-        self.assertEqual(wins, ["log, checkpoint at 100 on b: 4.0 to 4.5"])
+        self.assertEqual(wins, ["a checkpoint at 100 on b: 4.0 to 4.5"])
         self.assertEqual(note("On one flash", []), "On one flash: the log wins nowhere.")
 
 
