@@ -2,12 +2,12 @@
 from __future__ import annotations
 
 import time
-from typing import List, Optional
+from typing import List, Optional, Sequence
 
 from progress import tell
 from serving import Flash
 from shape import PROTOCOLS, Shape
-from sheets import Table
+from sheets import Cell, Table
 
 SHAPE = Shape(16, 16, 1024, 4, 60000, 256)
 RECORDS = (0, 1000, 10000, 30000, 60000)
@@ -36,7 +36,7 @@ def seconds(flash: Flash) -> float:
 def openings(program: str) -> Table:
     """The times of an opening beyond those of a blank device, which are loading and saving the image."""
     tell(f"openings: {len(RECORDS) * len(PROTOCOLS)} parts")
-    rows: List[List[object]] = []
+    rows: List[Sequence[Cell]] = []
     for protocol in PROTOCOLS:
         blank: Optional[float] = None
         for records in RECORDS:

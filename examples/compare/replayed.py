@@ -3,14 +3,14 @@ from __future__ import annotations
 
 import argparse
 from functools import partial
-from typing import Iterator, List, Tuple
+from typing import Iterator, List, Sequence, Tuple
 
 from counts import Count, points
 from pictures import Chart, Series
 from progress import all_of
 from serving import Flash
 from shape import MOST_SLOTS, PROTOCOLS, Problem, Shape
-from sheets import Table
+from sheets import Cell, Table
 from studies import HEAD, PROGRAMMED, Base, numbers_of, windows
 from traces import Numbers, load_trace, transactions_of
 
@@ -45,7 +45,8 @@ def replayed(program: str, options: argparse.Namespace, base: Base) -> Iterator[
     shape = shape_for(len(numbers.found), base)
     every = -(-len(parts) // POINTS)
     tasks = [partial(served, program, shape, parts, every, protocol) for protocol in PROTOCOLS]
-    rows, series = [], []
+    rows: List[Sequence[Cell]] = []
+    series: List[Series] = []
     for protocol, found in zip(PROTOCOLS, all_of("trace", tasks)):
         ends = [min(every * number, len(parts)) for number in range(1, len(found) + 1)]
         rows += [[end, protocol, *numbers_of(part)] for end, part in zip(ends, windows(found))]

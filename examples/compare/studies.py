@@ -10,7 +10,7 @@ from pictures import Chart, Series
 from progress import all_of, tell
 from serving import Flash
 from shape import PROTOCOLS, Problem, Shape, shape_of
-from sheets import Table
+from sheets import Cell, Table
 from work import Work, fill, transactions
 
 Number = Union[int, float]
@@ -88,7 +88,7 @@ class Counted(NamedTuple):
     value: Number
     variant: str
     protocol: str
-    count: Count
+    result: Count
 
     @property
     def line(self) -> str:
@@ -141,15 +141,15 @@ def numbers_of(count: Count) -> List[Union[int, float]]:
 
 def table_of(study: Study, counted: Sequence[Counted]) -> Table:
     """All that was counted."""
-    rows = [[one.variant, one.value, one.protocol, *numbers_of(one.count)] for one in counted]
+    rows = [[one.variant, one.value, one.protocol, *numbers_of(one.result)] for one in counted]
     return Table(study.name, study.title, ("work", study.number, *HEAD), rows)
 
 
 def brief_of(study: Study, counted: Sequence[Counted]) -> Table:
     """Both protocols side by side."""
-    rows = []
+    rows: List[Sequence[Cell]] = []
     for one, other in zip(counted[::2], counted[1::2]):
-        scc, bpcc = one.count, other.count
+        scc, bpcc = one.result, other.result
         rows.append([
             one.variant, one.value, scc.amplification, bpcc.amplification, scc.erases_by_page, bpcc.erases_by_page,
             scc.copies, bpcc.copies,
@@ -178,7 +178,7 @@ def chart_of(study: Study, base: Base, counted: Sequence[Counted]) -> Chart:
     """Pages programmed for each page written: a line for each protocol and variant."""
     lines: Dict[str, List[Tuple[float, float]]] = {}
     for one in counted:
-        lines.setdefault(one.line, []).append((one.value, one.count.amplification))
+        lines.setdefault(one.line, []).append((one.value, one.result.amplification))
     series = [Series(name, places) for name, places in lines.items()]
     return Chart(study.name, study.title, under(base, study.varied()), study.axis, PROGRAMMED, series)
 
@@ -186,9 +186,9 @@ def chart_of(study: Study, base: Base, counted: Sequence[Counted]) -> Chart:
 def note_on(all_counted: Sequence[Counted]) -> str:
     """How many pages Back Pointer Cyclic Commit programs beside the other, at least and at most."""
     shares = [
-        100 * other.count.programs / one.count.programs - 100
+        100 * other.result.programs / one.result.programs - 100
         for one, other in zip(all_counted[::2], all_counted[1::2])
-        if one.count.programs
+        if one.result.programs
     ]
     fewer, same = sum(share < 0 for share in shares), sum(share == 0 for share in shares)
     return (
@@ -212,7 +212,8 @@ def over_time(program: str, base: Base, every: int) -> Tuple[Table, Chart]:
     """Pages programmed for each page written, from each so many transactions to the next."""
     cells = [(name, base.varied(more), protocol) for name, more in ABORTS for protocol in PROTOCOLS]
     tasks = [partial(found_over_time, program, own, every, protocol) for _, own, protocol in cells]
-    rows, series = [], []
+    rows: List[Sequence[Cell]] = []
+    series: List[Series] = []
     for (name, _, protocol), counts in zip(cells, all_of("over_time", tasks)):
         parts = windows(counts)
         rows += [[name, every * number, protocol, *numbers_of(part)] for number, part in enumerate(parts, 1)]

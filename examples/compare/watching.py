@@ -91,9 +91,7 @@ def step_seen(before: Look, after: Look, command: str, own: Set[Record], watched
     if not command.startswith("step ") or len(new) != 1:
         return
     (written,) = new
-    named = {
-        record for record in before.loose() - own if record.mentions_below(written.page, written.version)
-    }
+    named = {record for record in before.loose() - own if record.mentions_below(written.page, written.version)}
     there = {slot.record for slot in after.slots if slot.record}
     gone = named - there
     watched.steps += 1

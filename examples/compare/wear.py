@@ -3,13 +3,13 @@ from __future__ import annotations
 
 from dataclasses import replace
 from functools import partial
-from typing import Dict, List, NamedTuple, Tuple
+from typing import Dict, List, NamedTuple, Sequence, Tuple
 
 from pictures import Chart, Series
 from progress import all_of
 from serving import Flash
 from shape import PROTOCOLS, Shape, shape_of
-from sheets import Table
+from sheets import Cell, Table
 from watching import Watched, in_steps, watch
 from work import Work, fill, transactions
 
@@ -48,7 +48,7 @@ def cleared_table(all_seen: List[Seen]) -> Table:
         "work", "protocol", "steps", "had to clear", "records cleared", "named records that stayed", "erases",
         "to clear", "of a block least", "most", "erases told by stats",
     )  # fmt: skip
-    rows = []
+    rows: List[Sequence[Cell]] = []
     for name, protocol, seen, erases in all_seen:
         rows.append([
             name, protocol, seen.steps, seen.blocked, seen.cleared, seen.stayed, sum(erases), seen.clearing,
@@ -65,7 +65,7 @@ def erases_table(all_seen: List[Seen]) -> Table:
 
 def points_table(all_seen: List[Seen]) -> Table:
     head = ("work", "protocol", "commands", "erases", "of a block least", "most", "records cleared", "loose records")
-    rows = [[one.work, one.protocol, *point] for one in all_seen for point in one.watched.points]
+    rows: List[Sequence[Cell]] = [[one.work, one.protocol, *point] for one in all_seen for point in one.watched.points]
     return Table("cleared_over_time", f"The same over time, {EVERY} commands to a point", head, rows)
 
 
