@@ -112,9 +112,9 @@ def watch(flash: Flash, first: List[str], commands: List[str], every: int) -> Wa
     for number, command in enumerate(commands, 1):
         if command.startswith("write "):
             # It does not touch the flash.
-            own = set()
-            continue
-        after = look(flash, first + commands[:number])
+            own, after = set(), before
+        else:
+            after = look(flash, first + commands[:number])
         for block in erased(before.slots, after.slots, flash.shape):
             watched.erases[block] += 1
         step_seen(before, after, command, own, watched)
