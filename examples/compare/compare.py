@@ -18,17 +18,17 @@ from typing import List
 # Nothing is written beside the output.
 sys.dont_write_bytecode = True
 
-from openings import openings
-from pictures import Chart, save_chart
-from progress import tell
-from replayed import replayed
-from serving import built_program
-from shape import Problem
-from sheets import Table, save_table, text_lines
-from studies import STUDIES, Base, Counted, brief_of, chart_of, count_study, note_on, over_time, table_of
-from wear import wear
-from ways import all_ways
-from work import Work
+from openings import openings  # noqa: E402
+from pictures import Chart, save_chart  # noqa: E402
+from progress import tell  # noqa: E402
+from replayed import replayed  # noqa: E402
+from serving import built_program  # noqa: E402
+from shape import Problem  # noqa: E402
+from sheets import Table, save_table, text_lines  # noqa: E402
+from studies import STUDIES, Base, Counted, brief_of, chart_of, count_study, note_on, over_time, table_of  # noqa: E402
+from wear import wear  # noqa: E402
+from ways import all_ways  # noqa: E402
+from work import Work  # noqa: E402
 
 EVERY = 100
 NUMBERS = (

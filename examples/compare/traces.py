@@ -17,9 +17,13 @@ import sys
 from dataclasses import dataclass, field
 from typing import Dict, Iterable, Iterator, List, NamedTuple, Optional, Tuple
 
-from shape import Problem
+# Nothing is written beside the output.
+sys.dont_write_bytecode = True
+
+from shape import Problem  # noqa: E402
 
 SECTOR = 512
+MOST_PENDING = 256
 WRITE, DISCARD = "write", "discard"
 # Device, processor, number, seconds, process, action, kind, and then what the action tells.
 EVENT = re.compile(r"\s*(\d+,\d+)\s+\d+\s+\d+\s+\d+\.\d+\s+\d+\s+([A-Z]{1,2})\s+([A-Z]+|N)\b\s*(.*)")
@@ -123,6 +127,10 @@ class Numbers:
     page_bytes: int
     found: Dict[Tuple[str, int], int] = field(default_factory=dict)
 
+    def __post_init__(self) -> None:
+        if self.page_bytes < 1:
+            raise Problem("a page of a trace has at least one byte")
+
     def pages(self, request: Request) -> List[int]:
         """The pages that a request touches, the first and the last of them in part perhaps."""
         first = request.start // self.page_bytes
@@ -132,6 +140,8 @@ class Numbers:
 
 def transactions_of(requests: Iterable[Request], numbers: Numbers, pending: int) -> Iterator[List[str]]:
     """The commands of each request."""
+    if not 1 <= pending <= MOST_PENDING:
+        raise Problem(f"a transaction has 1 to {MOST_PENDING} pages")
     tag = 0
     for request in requests:
         pages = numbers.pages(request)
