@@ -2,11 +2,12 @@
 use super::recording::{Log, Recorder};
 use super::{is_absent, is_made, is_removed};
 use crate::lines::{word, word_count};
-use desk_io::{Desk, RealDesk, RealFolder};
+use desk_io::{Desk, LockFile, RealDesk, RealFolder};
 use std::fs;
 use std::fs::Permissions;
 use std::io::ErrorKind;
 use std::os::unix::fs::{MetadataExt, PermissionsExt, symlink};
+use std::rt::Files;
 
 /// What stands in the folder before a save, the name that is saved, and the calls that the save makes: first those by
 /// which the file is claimed. Before a save there may be a file f, a link to it, other as its second name, and
@@ -129,12 +130,19 @@ struct Saved {
     calls: String,
 }
 
-/// Whether a save answers Ok whose calls are noted.
-fn is_saved(rt: &HostRuntime, name: &str, log: &Log) -> bool {
-    let system = Recorder { rt, log };
-    RealDesk::new(&system, RealFolder { rt: &system })
+/// Whether a save over a system answers Ok.
+fn is_saved_over<R: Files + Print + AllocGlobal>(system: &R, name: &str) -> bool
+where
+    R::File: LockFile,
+{
+    RealDesk::new(system, RealFolder { rt: system })
         .save(name, NEW)
         .is_ok()
+}
+
+/// Whether a save answers Ok whose calls are noted.
+fn is_saved(rt: &HostRuntime, name: &str, log: &Log) -> bool {
+    is_saved_over(&Recorder { rt, log }, name)
 }
 
 /// Saves once with this log.
