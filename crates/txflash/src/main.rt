@@ -6,8 +6,9 @@ pub use command_line::{Kept, top};
 use desk_io::{RealDesk, RealFolder};
 use image_desk::unread;
 use std::alloc::Global;
-use std::env;
+use std::fs::File;
 use std::process::ExitCode;
+use std::{env, fs, io};
 
 /// Bytes of a piece of memory that is taken and given back untouched. It is the greatest that counts for the C
 /// library, its own notes included.
@@ -15,7 +16,25 @@ const FREED_BYTES: usize = (1 << 25) - (1 << 16);
 
 fn main(rt: HostRuntime) -> ExitCode {
     keep_freed(rt.alloc());
-    let args = match env::args(&rt) {
+    let standard = open_standard(&rt);
+    let status = serve(&rt);
+    drop(standard);
+    status
+}
+
+/// Files that take the places of input, output and messages where the program was started without them. Else an image
+/// would be opened there, and the replies would be written into it.
+fn open_standard(rt: &HostRuntime) -> [io::Result<File>; 3] {
+    [
+        fs::open(rt, "/dev/null"),
+        fs::open(rt, "/dev/null"),
+        fs::open(rt, "/dev/null"),
+    ]
+}
+
+/// Does what the words ask for, on real files.
+fn serve(rt: &HostRuntime) -> ExitCode {
+    let args = match env::args(rt) {
         Ok(args) => args,
         Err(error) => return ExitCode::from(unread(error.kind())),
     };
@@ -25,7 +44,7 @@ fn main(rt: HostRuntime) -> ExitCode {
             return ExitCode::from(6);
         }
     }
-    let mut desk = RealDesk::new(&rt, RealFolder { rt: &rt });
+    let mut desk = RealDesk::new(rt, RealFolder { rt });
     let status = top(rt.alloc(), &words, &mut desk);
     drop(desk);
     ExitCode::from(status)
