@@ -11,19 +11,21 @@ use Rattle.std.proofs.lemmas.List.{length-take, take_all}
 use Rattle.std.proofs.lemmas.Bool.{cases_lt}
 use Rattle.std.proofs.lemmas.Bool.Decides.{nat_tests}
 use Rattle.durable_folder.specs.Calls.{IsUnchanged}
-use Rattle.durable_folder.specs.Causes.{AtNow}
-use Rattle.durable_folder.specs.FolderState.{FolderState, bytes_of}
+use Rattle.durable_folder.specs.Causes.{AllTaken, AtNow}
+use Rattle.durable_folder.specs.FolderState.{FolderState, bytes_of, target}
 use Rattle.durable_folder.specs.Histories.{History, Learns}
-use Rattle.durable_folder.specs.Locking.{LeadsToFile, Loads, WhereFirst}
+use Rattle.durable_folder.specs.Locking.{HasSaveCause, IsStale, LeadsToFile, Loads, WhereFirst}
 use Rattle.durable_folder.specs.declared.loading.Loaded.{Loaded}
 use Rattle.durable_folder.proofs.Learning.{learns_rests, learns_weaker}
+use Rattle.desk_io.specs.Causes.{FailsWithCause}
 use Rattle.desk_io.specs.Desk.{max_file_bytes}
 use Rattle.desk_io.specs.Disk.{LoadsOnDisk}
 use Rattle.desk_io.specs.Noted.{IsNoted, noted}
-use Rattle.desk_io.specs.System.{load_answer, load_error, save_answer}
+use Rattle.desk_io.specs.System.{load_answer, load_error, save_answer, save_error}
 use Rattle.desk_io.specs.declared.desk.LoadError.{LoadError}
 use Rattle.desk_io.specs.declared.desk.LoadError.TheVariants as load
 use Rattle.desk_io.specs.declared.desk.SinkError.{SinkError}
+use Rattle.desk_io.specs.declared.desk.SinkError.TheVariants as sink
 use Rattle.desk_io.specs.declared.findings.Findings.{Findings}
 
 -- ---- loading
@@ -110,3 +112,23 @@ refused_too P Q done result (Some h) is refuses = λ holds. (by_done done is (re
     by_done : (done : Result (Unit {0}) Error) → result ≡ save_answer done → IsErr done → IsErr result
     by_done (Ok done) is err = absurd (cc)
     by_done (Err error) is err = rw is refl
+
+-- a desk fails for the reason that the folder has
+pub fails_too : (findings : Findings) (name : List ℕ) (done : Result (Unit {0}) Error) (result : Result (Unit {0}) SinkError) (a b : Option History) →
+    result ≡ save_answer done → HasSaveCause (AtNow (λ s. AllTaken (target s name) s) a) (IsStale (noted findings name) name) done a b →
+    FailsWithCause findings name result a b
+fails_too findings name (Ok done) result a b is cause = (cause.0, λ failed. absurd (cc))
+fails_too findings name (Err error) result a b is cause = (
+  cause.0,
+  λ failed. elim cause.1 [
+    | inl why ↦ elim why [
+      | inl fault ↦ inl fault
+      | inr rest ↦ elim rest [
+        | inl memory ↦
+            let both : Err sink.Memory ≡ Err sink.Failed = ap (λ k. Err (save_error k)) (sym memory) ∙ sym is ∙ failed in absurd (cc)
+        | inr taken ↦ inr (inl taken.1)
+      ]
+    ]
+    | inr stale ↦ inr (inr stale.1)
+  ],
+)

@@ -1,4 +1,5 @@
 mod Answering
 mod DeskFiles
 mod Keeping
+mod Notes
 pub mod Resting

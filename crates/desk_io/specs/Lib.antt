@@ -1,3 +1,4 @@
+pub mod Causes
 pub mod Desk
 pub mod Disk
 pub mod InMemory

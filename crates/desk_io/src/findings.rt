@@ -1,5 +1,5 @@
 ghost use Rattle.std.specs.Prelude.{◌≡◌, None, OnOk, Some};
-ghost use Rattle.desk_io.specs.Noted.{noted};
+ghost use Rattle.desk_io.specs.Noted.{KeepsNotes, KeepsOtherNotes, noted};
 
 use crate::Memory;
 use durable_folder::Found;
@@ -34,7 +34,8 @@ impl Findings {
 
     /// Notes what was found of the file of a name. Where there is no memory for that it changes nothing.
     pub fn note(&mut self, name: &str, found: Found) -> Result<(), Memory>
-        ensures { OnOk result (noted self.new name.now ≡ Some found) }
+        ensures notes { OnOk result (noted self.new name.now ≡ Some found) }
+        ensures keeps { KeepsNotes name.now result self.old self.new }
     {
         let key = String::from_str(self.alloc, name)?;
         self.found.insert(key, Some(found))?;
@@ -43,7 +44,8 @@ impl Findings {
 
     /// Forgets what was found of the file of a name.
     pub fn forget(&mut self, name: &str)
-        ensures { noted self.new name.now ≡ None }
+        ensures forgets { noted self.new name.now ≡ None }
+        ensures keeps { KeepsOtherNotes name.now self.old self.new }
     {
         self.found.remove(name);
     }

@@ -1,11 +1,12 @@
-ghost use Rattle.std.specs.Prelude.{◌≡◌, ◌⊎◌, IsErr, Ok, OnOk};
+ghost use Rattle.std.specs.Prelude.{◌≡◌, ◌⊎◌, IsErr, None, Ok, OnOk};
 ghost use Rattle.std.specs.Option.{option_map};
-ghost use Rattle.durable_folder.specs.Causes.{AtNow};
+ghost use Rattle.durable_folder.specs.Causes.{AtNow, IsLater};
 ghost use Rattle.durable_folder.specs.Histories.{Rests};
 ghost use Rattle.durable_folder.specs.Locking.{IsClaimed, IsStale, IsTaken, WhereFirst};
-ghost use Rattle.desk_io.specs.Desk.{Loads, Saves};
+ghost use Rattle.desk_io.specs.Causes.{FailsWithCause};
+ghost use Rattle.desk_io.specs.Desk.{Loads, Saves, Says};
 ghost use Rattle.desk_io.specs.Disk.{LoadsOnDisk, SavesOnDisk};
-ghost use Rattle.desk_io.specs.Noted.{IsNoted, noted};
+ghost use Rattle.desk_io.specs.Noted.{IsNoted, KeepsNotes, noted};
 ghost use Rattle.desk_io.specs.System.{closed_desk};
 
 use crate::findings::Findings;
@@ -45,11 +46,14 @@ impl<'a, R: Print + AllocGlobal, F: Folder + Drop> Desk for RealDesk<'a, R, F> {
 
     ghost disk = { λ d. F.told d.folder };
 
-    /// What is found of the file is noted.
+    /// What is found of the file is noted, and what is noted of other files stays, as the file that is held.
     fn load(&mut self, name: &str) -> Result<Vec<u8>, LoadError>
         ensures loads { Loads (closed_desk self.old.faults) (closed_desk self.new.faults) name.now result }
         ensures disk { LoadsOnDisk name.now result (F.told self.old.folder) (F.told self.new.folder) }
         ensures notes { OnOk result (AtNow (IsNoted name.now self.new.findings) (F.told self.new.folder)) }
+        ensures keeps { KeepsNotes name.now result self.old.findings self.new.findings }
+        ensures holds { self.new.held ≡ self.old.held }
+        ensures later { IsLater (F.told self.old.folder) (F.told self.new.folder) }
     {
         load_through(&mut self.folder, name, &mut self.findings, &mut self.faults)
     }
@@ -63,6 +67,9 @@ impl<'a, R: Print + AllocGlobal, F: Folder + Drop> Desk for RealDesk<'a, R, F> {
             AtNow (IsClaimed (noted self.old.findings name.now) name.now (option_map F.handle self.new.held)) (F.told self.old.folder) }
         ensures refuses { WhereFirst (λ s. IsTaken name.now s ⊎ IsStale (noted self.old.findings name.now) name.now s)
             (IsErr result × Rests (F.told self.old.folder) (F.told self.new.folder)) (F.told self.old.folder) }
+        ensures cause { FailsWithCause self.old.findings name.now result (F.told self.old.folder) (F.told self.new.folder) }
+        ensures forgets { OnOk result (noted self.new.findings name.now ≡ None) }
+        ensures keeps { KeepsNotes name.now result self.old.findings self.new.findings }
     {
         save_through(
             &mut self.folder,
@@ -75,7 +82,13 @@ impl<'a, R: Print + AllocGlobal, F: Folder + Drop> Desk for RealDesk<'a, R, F> {
         )
     }
 
-    fn say(&mut self, bytes: &[u8]) -> Result<(), SinkError> {
+    /// What is noted of files stays, and the file that is held.
+    fn say(&mut self, bytes: &[u8]) -> Result<(), SinkError>
+        ensures says { Says (closed_desk self.old.faults) (closed_desk self.new.faults) bytes.now result }
+        ensures disk { Rests (F.told self.old.folder) (F.told self.new.folder) }
+        ensures keeps { self.new.findings ≡ self.old.findings }
+        ensures holds { self.new.held ≡ self.old.held }
+    {
         answer_say(self.rt.write_all(bytes), &mut self.faults)
     }
 }

@@ -1,12 +1,13 @@
 //! Loads and saves of a desk, through a folder.
-ghost use Rattle.std.specs.Prelude.{◌≡◌, ◌≤◌, ◌⊎◌, length, IfErr, IfOk, IsErr, Ok, OnOk, Some};
+ghost use Rattle.std.specs.Prelude.{◌≡◌, ◌≤◌, ◌⊎◌, length, IfErr, IfOk, IsErr, None, Ok, OnOk, Some};
 ghost use Rattle.std.specs.Option.{option_map};
-ghost use Rattle.durable_folder.specs.Causes.{AtNow};
+ghost use Rattle.durable_folder.specs.Causes.{AtNow, IsLater};
 ghost use Rattle.durable_folder.specs.Histories.{Rests};
 ghost use Rattle.durable_folder.specs.Locking.{IsClaimed, IsStale, IsTaken, WhereFirst};
+ghost use Rattle.desk_io.specs.Causes.{FailsWithCause};
 ghost use Rattle.desk_io.specs.Desk.{max_file_bytes};
 ghost use Rattle.desk_io.specs.Disk.{LoadsOnDisk, SavesOnDisk};
-ghost use Rattle.desk_io.specs.Noted.{IsNoted, noted};
+ghost use Rattle.desk_io.specs.Noted.{IsNoted, KeepsNotes, noted};
 ghost use Rattle.desk_io.specs.System.{load_answer, load_faults, save_answer, say_answer, sink_faults};
 
 use crate::findings::Findings;
@@ -62,6 +63,7 @@ pub fn answer_say(done: io::Result<()>, faults: &mut u64) -> Result<(), SinkErro
 fn note(file: Loaded, name: &str, findings: &mut Findings) -> Result<Vec<u8>, LoadError>
     ensures bytes { IfOk result (λ bytes. bytes ≡ file.bytes) }
     ensures notes { OnOk result (noted findings.new name.now ≡ Some file.found) }
+    ensures keeps { KeepsNotes name.now result findings.old findings.new }
     ensures error { IfErr result (λ error. error ≡ LoadError.Memory) }
 {
     let Loaded { bytes, found } = file;
@@ -80,6 +82,8 @@ pub fn load_through<F: Folder>(
 ) -> Result<Vec<u8>, LoadError>
     ensures disk { LoadsOnDisk name.now result (F.told folder.old) (F.told folder.new) }
     ensures notes { OnOk result (AtNow (IsNoted name.now findings.new) (F.told folder.new)) }
+    ensures keeps { KeepsNotes name.now result findings.old findings.new }
+    ensures later { IsLater (F.told folder.old) (F.told folder.new) }
     ensures faults { faults.new ≡ load_faults result faults.old }
     ensures short { IfOk result (λ bytes. length bytes.items ≤ max_file_bytes) }
 {
@@ -103,6 +107,9 @@ pub fn save_through<F: Folder>(
     ensures claims { result ≡ Ok tt → AtNow (IsClaimed (noted findings.old name.now) name.now (option_map F.handle held.new)) (F.told folder.old) }
     ensures refuses { WhereFirst (λ s. IsTaken name.now s ⊎ IsStale (noted findings.old name.now) name.now s)
         (IsErr result × Rests (F.told folder.old) (F.told folder.new)) (F.told folder.old) }
+    ensures cause { FailsWithCause findings.old name.now result (F.told folder.old) (F.told folder.new) }
+    ensures forgets { OnOk result (noted findings.new name.now ≡ None) }
+    ensures keeps { KeepsNotes name.now result findings.old findings.new }
     ensures faults { faults.new ≡ sink_faults result faults.old }
 {
     *held = None;

@@ -34,7 +34,7 @@ turn_failed S n None (Some k) turn one = absurd turn
 turn_failed S n (Some h) None turn one = absurd turn
 turn_failed S n (Some h) (Some k) turn one = omega (arith, turn.3, one)
 
-unless_failed : (S : FolderState → FolderState → Type 0) (n : Answer) (t : Bool) (a b : Option History) → Turns S n a b →
+pub unless_failed : (S : FolderState → FolderState → Type 0) (n : Answer) (t : Bool) (a b : Option History) → Turns S n a b →
     n.failures ≡ unless_so t → t ≡ false → HasFailed a b
 unless_failed S n t a b turn counts fails = turn_failed S n a b turn (counts ∙ ap unless_so fails)
 
@@ -183,7 +183,7 @@ absent : (k : ErrorKind) → k ≢ kind.NotFound → is_absence k ≡ false
 absent kind.NotFound apart = absurd (apart refl)
 absent _ apart = refl
 
-not_absent : (t : Bool) (k : ErrorKind) → is_absence k ≡ t → (k ≡ kind.NotFound) ⊎ (is_absence k ≡ false)
+pub not_absent : (t : Bool) (k : ErrorKind) → is_absence k ≡ t → (k ≡ kind.NotFound) ⊎ (is_absence k ≡ false)
 not_absent true kind.NotFound is = inl refl
 not_absent true _ is = inr refl
 not_absent false k is = inr is

@@ -13,11 +13,11 @@ use Rattle.durable_folder.specs.Counting.{answer_to_lock}
 use Rattle.durable_folder.specs.FolderState.{FolderState, IsFree, file_of, target}
 use Rattle.durable_folder.specs.Histories.{History, Answer, Turns, Learns, Rests}
 use Rattle.durable_folder.specs.Locking.{LeadsToFile, IsTaken, IsStale, IsClaimed, Claims, IsClaimCause, HasClaimCause, IsOpenAt, Holds, IsLocked}
-use Rattle.durable_folder.specs.Locking.{AsksLock, IsSameFinding, IsAsLoaded, IsFoundSo, IsPlainAt, Compares, IsNothing, WhereFirst, HasSaveCause}
-use Rattle.durable_folder.specs.Ways.{IsSeen, Looks}
-use Rattle.durable_folder.proofs.Causing.{turn_failed, later_then, then_failed}
+use Rattle.durable_folder.specs.Locking.{AsksLock, IsSameFinding, IsAsLoaded, IsFoundSo, IsPlainAt, Compares, IsNothing, IsRefusedIf, IsNoPlain, WhereFirst, HasSaveCause}
+use Rattle.durable_folder.specs.Ways.{IsSeen, IsSpecial, Looks}
+use Rattle.durable_folder.proofs.Causing.{turn_failed, turn_later, later_then, then_failed}
 use Rattle.durable_folder.proofs.Learning.{learns, learns_then, learns_weaker, learns_rests, rests_then, turn_rests, opens_learns, finds_learns}
-use Rattle.durable_folder.proofs.Learning.{rests_known, Tells}
+use Rattle.durable_folder.proofs.Learning.{finds_rests, rests_known, Tells}
 use Rattle.durable_folder.proofs.Tearing.{opened_plain}
 
 -- the lock
@@ -63,18 +63,24 @@ found_so one other file s same x = record {
 one_file : (name : List ℕ) (f g : ℕ) (s : FolderState) → file_of s (target s name) ≡ Some f → file_of s (target s name) ≡ Some g → f ≡ g
 one_file name f g s x y = let both : Some f ≡ Some g = sym x ∙ y in cc
 
+not_special : (name : List ℕ) (file : ℕ) (s : FolderState) → LeadsToFile name file s → IsSpecial s (target s name) → ⊥
+not_special name file s leads special =
+    let same : file ≡ special.0 = one_file name file special.0 s leads.there special.1 in
+    let both : true ≡ false = sym leads.is_plain ∙ ap (λ f. s.fixed.is_plain f) same ∙ special.2 in absurd (cc)
+
 not_stale : (found : Found) (loaded : Option Found) (name : List ℕ) (file : ℕ) (s : FolderState) → LeadsToFile name file s → IsUnchanged found file s →
     IsAsLoaded found loaded → IsStale loaded name s → ⊥
 not_stale found None name file s leads is as_loaded stale = stale
 not_stale found (Some loaded) name file s leads is as_loaded (inl none) = let both : None ≡ Some file = sym none ∙ leads.there in absurd (cc)
-not_stale found (Some loaded) name file s leads is as_loaded (inr x) =
+not_stale found (Some loaded) name file s leads is as_loaded (inr (inl x)) =
     let same : file ≡ x.0 = one_file name file x.0 s leads.there x.1.there in
     let at : IsUnchanged loaded x.0 s = rw same at (found_so found loaded file s as_loaded is) in x.2 at
+not_stale found (Some loaded) name file s leads is as_loaded (inr (inr x)) = not_special name file s leads x.1
 
 stale_so : (found : Found) (loaded : Option Found) (name : List ℕ) (file : ℕ) (s : FolderState) → LeadsToFile name file s → IsUnchanged found file s →
     (IsAsLoaded found loaded → ⊥) → IsStale loaded name s
 stale_so found None name file s leads is changed = absurd (changed tt)
-stale_so found (Some loaded) name file s leads is changed = inr (file, leads, λ still. changed (found_twice found loaded file s is still))
+stale_so found (Some loaded) name file s leads is changed = inr (inl (file, leads, λ still. changed (found_twice found loaded file s is still)))
 
 -- what is known of an open file once its name was opened again
 pub record IsLookedUp {X : Type 0} (handle : X → Handle) (name : List ℕ) (again : X) (named found : Found) (opening : Handle) (s : FolderState) : Type 0 where
@@ -117,56 +123,62 @@ plain_at : (handle : Handle) (name : List ℕ) (file : ℕ) (s : FolderState) (b
 plain_at handle name file s true is there opening = inr (record { there = there; is_plain = is })
 plain_at handle name file s false is there opening = inl (opening ∙ ap (λ b. if_plain b file) is)
 
--- what is no plain file is neither taken nor stale
+-- what is no plain file is not taken, and stale only where a plain one was loaded
 no_plain : (handle : Handle) (name : List ℕ) (s : FolderState) → IsOpenAt handle name s → handle.file ≡ None → (file : ℕ) → LeadsToFile name file s → ⊥
 no_plain handle name s opening none file leads = let both : None ≡ Some file = sym none ∙ open_plain handle name file s opening leads in absurd (cc)
 
-special_current : (handle : Handle) (loaded : Option Found) (name : List ℕ) (s : FolderState) → IsOpenAt handle name s → handle.file ≡ None →
-    IsStale loaded name s → ⊥
-special_current handle None name s opening none stale = stale
-special_current handle (Some loaded) name s opening none (inl nothing) = let both : None ≡ Some opening.0 = sym nothing ∙ opening.1 in absurd (cc)
-special_current handle (Some loaded) name s opening none (inr x) = no_plain handle name s opening none x.0 x.1
+not_refused : (b : Bool) (done : Unit {0}) → b ≡ true → IsRefusedIf b (Ok done) → ⊥
+not_refused true done is answer = answer
+not_refused false done is answer = absurd (cc)
 
-special_claimed : (handle : Handle) (loaded : Option Found) (name : List ℕ) (held : Option Handle) (s : FolderState) → IsOpenAt handle name s →
-    handle.file ≡ None → IsClaimed loaded name held s
-special_claimed handle loaded name held s opening none = record {
+special_current : (handle : Handle) (loaded : Option Found) (name : List ℕ) (done : Unit {0}) (s : FolderState) → IsOpenAt handle name s →
+    handle.file ≡ None → IsNoPlain loaded (Ok done) → IsStale loaded name s → ⊥
+special_current handle None name done s opening none answer stale = stale
+special_current handle (Some loaded) name done s opening none answer (inl nothing) =
+    let both : None ≡ Some opening.0 = sym nothing ∙ opening.1 in absurd (cc)
+special_current handle (Some loaded) name done s opening none answer (inr (inl x)) = no_plain handle name s opening none x.0 x.1
+special_current handle (Some loaded) name done s opening none answer (inr (inr x)) = not_refused loaded.is_file done x.0 answer
+
+special_claimed : (handle : Handle) (loaded : Option Found) (name : List ℕ) (done : Unit {0}) (held : Option Handle) (s : FolderState) →
+    IsOpenAt handle name s → handle.file ≡ None → IsNoPlain loaded (Ok done) → IsClaimed loaded name held s
+special_claimed handle loaded name done held s opening none answer = record {
   is_free = λ taken. no_plain handle name s opening none taken.0 taken.1;
-  is_current = special_current handle loaded name s opening none;
+  is_current = special_current handle loaded name done s opening none answer;
   is_held = λ file leads. absurd (no_plain handle name s opening none file leads);
 }
 
-pub special_held : (handle : Handle) (found : Found) (loaded : Option Found) (name : List ℕ) (n : Answer) (a b : Option History) →
-    found.is_file ≡ false → Turns (FindsOpen handle (Ok found)) n a b → Holds handle handle loaded name (Ok tt) a b
-special_held handle found loaded name n a b is turn =
+pub special_held : (handle : Handle) (found : Found) (loaded : Option Found) (name : List ℕ) (result : Result (Unit {0}) Error) (n : Answer)
+    (a b : Option History) → found.is_file ≡ false → IsNoPlain loaded result → Turns (FindsOpen handle (Ok found)) n a b →
+    Holds handle handle loaded name result a b
+special_held handle found loaded name (Ok done) n a b is answer turn =
     learns_weaker (Tells handle found) (λ s. IsOpenAt handle name s → IsClaimed loaded name (Some handle) s) a b (finds_learns handle found n a b turn)
-    (λ s tells opening. special_claimed handle loaded name (Some handle) s opening (tells.no_file is))
+    (λ s tells opening. special_claimed handle loaded name done (Some handle) s opening (tells.no_file is) answer)
+special_held handle found loaded name (Err e) n a b is answer turn = finds_rests handle (Ok found) n a b turn
+
+none_plain : (b : Bool) (file : ℕ) → if_plain b file ≡ None → b ≡ false
+none_plain true file is = absurd (cc)
+none_plain false file is = refl
+
+refused_if : (b : Bool) (e : Error) → IsRefusedIf b (Err e) → (b ≡ true) × (error_kind e ≡ kind.Other)
+refused_if true e answer = (refl, answer)
+refused_if false e answer = absurd (cc)
+
+pub special_cause : (handle : Handle) (found : Found) (loaded : Option Found) (name : List ℕ) (result : Result (Unit {0}) Error) (n : Answer)
+    (a b : Option History) → found.is_file ≡ false → IsNoPlain loaded result → Turns (FindsOpen handle (Ok found)) n a b →
+    HasClaimCause (λ s. IsOpenAt handle name s → IsStale loaded name s) result a b
+special_cause handle found loaded name (Ok done) n a b is answer turn = (turn_later (FindsOpen handle (Ok found)) n a b turn, tt)
+special_cause handle found None name (Err e) n a b is answer turn = absurd (cc)
+special_cause handle found (Some loaded) name (Err e) n a b is answer turn =
+    let why = refused_if loaded.is_file e answer in (
+      turn_later (FindsOpen handle (Ok found)) n a b turn,
+      inr (
+        why.1,
+        learns_weaker (Tells handle found) (λ s. IsOpenAt handle name s → IsStale (Some loaded) name s) a b (finds_learns handle found n a b turn)
+            (λ s tells opening. inr (inr (why.0, (opening.0, opening.1, none_plain (s.fixed.is_plain opening.0) opening.0 (sym opening.2 ∙ tells.no_file is))))),
+      ),
+    )
 
 -- a plain file that was locked and compared
-locked_current : (before after : Handle) (loaded : Option Found) (name : List ℕ) (s : FolderState) → IsLocked before after s →
-    (IsPlainAt after name s → IsStale loaded name s → ⊥) → IsOpenAt before name s → IsStale loaded name s → ⊥
-locked_current before after loaded name s locked current opening stale =
-    elim (plain_at before name opening.0 s (s.fixed.is_plain opening.0) refl opening.1 opening.2) [
-      | inl none ↦ special_current before loaded name s opening none stale
-      | inr leads ↦ current (opening.0, leads, ap (λ h. h.file) locked.is ∙ open_plain before name opening.0 s opening leads) stale
-    ]
-
-locked_claimed : (before after : Handle) (loaded : Option Found) (name : List ℕ) (s : FolderState) → IsLocked before after s →
-    (IsPlainAt after name s → IsStale loaded name s → ⊥) → IsOpenAt before name s → IsClaimed loaded name (Some after) s
-locked_claimed before after loaded name s locked current opening = record {
-  is_free = λ taken.
-      let no : s.fixed.is_taken taken.0 ≡ false = locked.is_free taken.0 (open_plain before name taken.0 s opening taken.1) in
-      let both : false ≡ true = sym no ∙ taken.2 in absurd (cc);
-  is_current = locked_current before after loaded name s locked current opening;
-  is_held = λ file leads. (ap (λ h. h.file) locked.is ∙ open_plain before name file s opening leads, ap (λ h. h.is_held) locked.is);
-}
-
-pub plain_held : (before after : Handle) (loaded : Option Found) (name : List ℕ) (a b c : Option History) →
-    Learns (IsLocked before after) a b → Compares after loaded name (Ok true) b c → Holds before after loaded name (Ok tt) a c
-plain_held before after loaded name a b c locks compares =
-    learns_then (IsLocked before after) (λ s. IsPlainAt after name s → IsStale loaded name s → ⊥)
-    (λ s. IsOpenAt before name s → IsClaimed loaded name (Some after) s) a b c locks compares
-    (λ s x y opening. locked_claimed before after loaded name s x y opening)
-
 found_plain : (handle : Handle) (found : Found) (name : List ℕ) (s : FolderState) → found.is_file ≡ true → Tells handle found s →
     (opening : IsOpenAt handle name s) → LeadsToFile name opening.0 s
 found_plain handle found name s is tells opening =
@@ -175,27 +187,48 @@ found_plain handle found name s is tells opening =
       | inr leads ↦ leads
     ]
 
+locked_current : (before after : Handle) (found : Found) (loaded : Option Found) (name : List ℕ) (s : FolderState) → found.is_file ≡ true →
+    Tells before found s → IsLocked before after s → (IsPlainAt after name s → IsStale loaded name s → ⊥) → IsOpenAt before name s →
+    IsStale loaded name s → ⊥
+locked_current before after found loaded name s is tells locked current opening =
+    let leads = found_plain before found name s is tells opening in
+    current (opening.0, leads, ap (λ h. h.file) locked.is ∙ open_plain before name opening.0 s opening leads)
+
+locked_claimed : (before after : Handle) (found : Found) (loaded : Option Found) (name : List ℕ) (s : FolderState) → found.is_file ≡ true →
+    Tells before found s → IsLocked before after s → (IsPlainAt after name s → IsStale loaded name s → ⊥) → IsOpenAt before name s →
+    IsClaimed loaded name (Some after) s
+locked_claimed before after found loaded name s is tells locked current opening = record {
+  is_free = λ taken.
+      let no : s.fixed.is_taken taken.0 ≡ false = locked.is_free taken.0 (open_plain before name taken.0 s opening taken.1) in
+      let both : false ≡ true = sym no ∙ taken.2 in absurd (cc);
+  is_current = locked_current before after found loaded name s is tells locked current opening;
+  is_held = λ file leads. (ap (λ h. h.file) locked.is ∙ open_plain before name file s opening leads, ap (λ h. h.is_held) locked.is);
+}
+
+found_locked : (before after : Handle) (found : Found) (n : Answer) (a b c : Option History) → Turns (FindsOpen before (Ok found)) n a b →
+    Learns (IsLocked before after) b c → Learns (λ s. Tells before found s × IsLocked before after s) a c
+found_locked before after found n a b c turn locks =
+    learns_then (Tells before found) (IsLocked before after) (λ s. Tells before found s × IsLocked before after s) a b c
+    (finds_learns before found n a b turn) locks (λ s x y. (x, y))
+
+pub plain_held : (before after : Handle) (found : Found) (loaded : Option Found) (name : List ℕ) (n : Answer) (a b c d : Option History) →
+    found.is_file ≡ true → Turns (FindsOpen before (Ok found)) n a b → Learns (IsLocked before after) b c → Compares after loaded name (Ok true) c d →
+    Holds before after loaded name (Ok tt) a d
+plain_held before after found loaded name n a b c d is turn locks compares =
+    learns_then (λ s. Tells before found s × IsLocked before after s) (λ s. IsPlainAt after name s → IsStale loaded name s → ⊥)
+    (λ s. IsOpenAt before name s → IsClaimed loaded name (Some after) s) a c d (found_locked before after found n a b c turn locks) compares
+    (λ s x y opening. locked_claimed before after found loaded name s is x.0 x.1 y opening)
+
 pub plain_stale : (before after : Handle) (found : Found) (loaded : Option Found) (name : List ℕ) (n : Answer) (a b c d : Option History) →
     found.is_file ≡ true → Turns (FindsOpen before (Ok found)) n a b → Learns (IsLocked before after) b c → Compares after loaded name (Ok false) c d →
     Learns (λ s. IsOpenAt before name s → IsStale loaded name s) a d
 plain_stale before after found loaded name n a b c d is turn locks compares =
     learns_then (λ s. Tells before found s × IsLocked before after s) (λ s. IsPlainAt after name s → IsStale loaded name s)
     (λ s. IsOpenAt before name s → IsStale loaded name s) a c d
-    (learns_then (Tells before found) (IsLocked before after) (λ s. Tells before found s × IsLocked before after s) a b c
-    (finds_learns before found n a b turn) locks (λ s x y. (x, y)))
-    compares
+    (found_locked before after found n a b c turn locks) compares
     (λ s x y opening.
     let leads = found_plain before found name s is x.0 opening in
     y (opening.0, leads, ap (λ h. h.file) x.1.is ∙ open_plain before name opening.0 s opening leads))
-
--- after an earlier part
-pub holds_after : (before after : Handle) (loaded : Option Found) (name : List ℕ) (result : Result (Unit {0}) Error) (a b c : Option History) → Rests a b →
-    Holds before after loaded name result b c → Holds before after loaded name result a c
-holds_after before after loaded name (Ok done) a b c rests holds =
-    learns_then (λ s. Unit {0}) (λ s. IsOpenAt before name s → IsClaimed loaded name (Some after) s)
-    (λ s. IsOpenAt before name s → IsClaimed loaded name (Some after) s) a b c
-    (rests_known a b rests) holds (λ s x y. y)
-holds_after before after loaded name (Err e) a b c rests holds = rests_then a b c rests holds
 
 -- a file that was opened and held
 opened_so : {X : Type 0} (handle : X → Handle) (name : List ℕ) (file : X) (s : FolderState) → Opens handle name (Ok file) s s → IsOpenAt (handle file) name s

@@ -1,5 +1,5 @@
 -- Reading a file.
-use Rattle.std.proofs.Common.{◌≡◌, ℕ, List, take, drop, Option, None, Some, Result, Ok, Err, Vec, ap, ◌∙◌}
+use Rattle.std.proofs.Common.{◌≡◌, inl, inr, refl, ℕ, List, take, drop, Option, None, Some, Result, Ok, Err, Vec, ap, ◌∙◌}
 use Rattle.std.specs.Global.{Global}
 use Rattle.std.specs.Result.{IsErr}
 use Rattle.std.specs.IoError.{error_kind}
@@ -10,7 +10,10 @@ use Rattle.durable_folder.specs.declared.loading.Loaded.{Loaded}
 use Rattle.durable_folder.specs.Calls.{Handle, Opens, FindsOpen, Reads}
 use Rattle.durable_folder.specs.FolderState.{FolderState, bytes_of, file_of, target}
 use Rattle.durable_folder.specs.Histories.{History, Answer, Turns, Rests}
-use Rattle.durable_folder.specs.Locking.{IsLoaded, Loads, IsRead, ReadsWhole, IsOnceOpen}
+use Rattle.durable_folder.specs.Causes.{HasFault}
+use Rattle.durable_folder.specs.Counting.{is_absence, error_answer}
+use Rattle.durable_folder.specs.Locking.{IsLoaded, Loads, HasLoadCause, IsRead, ReadsWhole, IsOnceOpen}
+use Rattle.durable_folder.proofs.Causing.{turn_later, then_failed, unless_failed, not_absent}
 use Rattle.durable_folder.proofs.Learning.{learns, learns_then, rests_then, rests_learns, turn_rests, opens_learns, finds_learns}
 use Rattle.durable_folder.proofs.Learning.{finds_rests, Tells}
 use Rattle.durable_folder.proofs.Tearing.{opened_plain}
@@ -70,3 +73,22 @@ opened_read handle name most file (Err e) (Ok other) n a b c turn reads is = abs
 opened_read handle name most file (Err e) (Err other) n a b c turn reads is =
     learns_then (λ s. Opens handle name (Ok file) s s) (λ s. Unit {0}) (λ s. error_kind other ≡ kind.NotFound → file_of s (target s name) ≡ None) a b c
     (opens_learns handle name file n a b turn) (rests_learns (λ s. Unit {0}) b c reads (λ s. tt)) (λ s x y absent. absurd (is absent))
+
+-- why it fails
+pub not_opened_why : {X : Type 0} (handle : X → Handle) (name : List ℕ) (e : Error) (a b : Option History) →
+    Turns (Opens handle name (Err e)) (error_answer is_absence e) a b → HasLoadCause {T = Loaded} name (Err e) a b
+not_opened_why handle name e a b turn =
+    elim (not_absent (is_absence (error_kind e)) (error_kind e) refl) [
+      | inl absent ↦ inr (
+        absent,
+        learns (Opens handle name (Err e)) (λ s. file_of s (target s name) ≡ None) (error_answer is_absence e) a b turn (λ s t x. (x.0, x.1 absent)),
+      )
+      | inr fails ↦ inl (unless_failed (Opens handle name (Err e)) (error_answer is_absence e) (is_absence (error_kind e)) a b turn refl fails)
+    ]
+
+pub not_read_why : {X : Type 0} (handle : X → Handle) (name : List ℕ) (file : X) (r result : Result Loaded Error) (n : Answer) (a b c : Option History) →
+    Turns (Opens handle name (Ok file)) n a b → HasFault r b c → IsOnceOpen r result → HasLoadCause name result a c
+not_read_why handle name file r (Ok loaded) n a b c turn fault is = tt
+not_read_why handle name file (Ok loaded) (Err e) n a b c turn fault is = absurd (cc)
+not_read_why handle name file (Err first) (Err e) n a b c turn fault is =
+    inl (then_failed a b c (turn_later (Opens handle name (Ok file)) n a b turn) (fault.1 refl))

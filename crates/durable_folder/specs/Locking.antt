@@ -9,6 +9,7 @@ use Rattle.durable_folder.specs.Calls.{Handle, IsUnchanged, if_plain}
 use Rattle.durable_folder.specs.Causes.{HasFailed, IsLater, IsCause}
 use Rattle.durable_folder.specs.FolderState.{FolderState, bytes_of, file_of, target}
 use Rattle.durable_folder.specs.Histories.{History, Learns, Rests}
+use Rattle.durable_folder.specs.Ways.{IsSpecial}
 use Rattle.durable_folder.specs.declared.folder.Found.{Found}
 use Rattle.durable_folder.specs.declared.loading.Loaded.{Loaded}
 
@@ -21,11 +22,13 @@ pub record LeadsToFile (name : List ℕ) (file : ℕ) (s : FolderState) : Type 0
 abbrev pub IsTaken : List ℕ → FolderState → Type 0
 IsTaken name s = (file : ℕ) × LeadsToFile name file s × (s.fixed.is_taken file ≡ true)
 
--- A file was loaded, and the name now leads to nothing, or to a plain file that is another one or was written since.
+-- A file was loaded, and the name now leads to nothing, or to a plain file that is another one or was written since. Or a
+-- plain file was loaded, and it leads to what is none.
 abbrev pub IsStale : Option Found → List ℕ → FolderState → Type 0
 IsStale None name s = ⊥
 IsStale (Some loaded) name s =
-    (file_of s (target s name) ≡ None) ⊎ ((file : ℕ) × LeadsToFile name file s × (IsUnchanged loaded file s → ⊥))
+    (file_of s (target s name) ≡ None) ⊎ (((file : ℕ) × LeadsToFile name file s × (IsUnchanged loaded file s → ⊥)) ⊎
+    ((loaded.is_file ≡ true) × IsSpecial s (target s name)))
 
 -- the lock of this file is held by an open one
 abbrev pub IsHeldBy : ℕ → Option Handle → Type 0
@@ -105,6 +108,16 @@ abbrev pub IsNothing : {H : Type 0} → Option Found → Result (Option H) Error
 IsNothing None result = result ≡ Ok None
 IsNothing (Some loaded) result = IsErrAnd result (λ error. error_kind error ≡ kind.Other)
 
+-- an error if this holds
+abbrev pub IsRefusedIf : Bool → Result (Unit {0}) Error → Type 0
+IsRefusedIf true result = IsErrAnd result (λ error. error_kind error ≡ kind.Other)
+IsRefusedIf false result = result ≡ Ok tt
+
+-- where what is to be claimed is no plain file
+abbrev pub IsNoPlain : Option Found → Result (Unit {0}) Error → Type 0
+IsNoPlain None result = result ≡ Ok tt
+IsNoPlain (Some loaded) result = IsRefusedIf loaded.is_file result
+
 -- This was read of the file to which the name leads, up to so many bytes, and found of it.
 pub record IsLoaded (name : List ℕ) (most : ℕ) (loaded : Loaded) (s : FolderState) : Type 0 where
   pub there : (file : ℕ) × (file_of s (target s name) ≡ Some file)
@@ -115,6 +128,11 @@ pub record IsLoaded (name : List ℕ) (most : ℕ) (loaded : Loaded) (s : Folder
 abbrev pub Loads : List ℕ → ℕ → Result Loaded Error → Option History → Option History → Type 0
 Loads name most (Ok loaded) = Learns (IsLoaded name most loaded)
 Loads name most (Err error) = Learns (λ s. error_kind error ≡ kind.NotFound → file_of s (target s name) ≡ None)
+
+-- Why a load fails: the system met a fault, or there is nothing to which the name leads.
+abbrev pub HasLoadCause : {T : Type 0} → List ℕ → Result T Error → Option History → Option History → Type 0
+HasLoadCause name result a b =
+    IfErr result (λ error. HasFailed a b ⊎ ((error_kind error ≡ kind.NotFound) × Learns (λ s. file_of s (target s name) ≡ None) a b))
 
 -- the same of an open file
 pub record IsRead (handle : Handle) (most : ℕ) (loaded : Loaded) (s : FolderState) : Type 0 where

@@ -1,7 +1,7 @@
 //! The bytes of a file, and what is found of it when they are read.
 ghost use Rattle.std.specs.Prelude.{◌≡◌};
 ghost use Rattle.durable_folder.specs.Causes.{HasFault, IsLater};
-ghost use Rattle.durable_folder.specs.Locking.{IsOnceOpen, Loads, ReadsWhole};
+ghost use Rattle.durable_folder.specs.Locking.{HasLoadCause, IsOnceOpen, Loads, ReadsWhole};
 
 use crate::{Folder, Found};
 use std::io;
@@ -38,6 +38,7 @@ fn once_open(read: io::Result<Loaded>) -> io::Result<Loaded>
 pub fn load<F: Folder>(folder: &mut F, name: &str, most: usize) -> io::Result<Loaded>
     ensures loads { Loads name.now most result (F.told folder.old) (F.told folder.new) }
     ensures later { IsLater (F.told folder.old) (F.told folder.new) }
+    ensures cause { HasLoadCause name.now result (F.told folder.old) (F.told folder.new) }
 {
     match folder.open_to_read(name) {
         Ok(file) => {

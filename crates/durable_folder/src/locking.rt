@@ -5,7 +5,7 @@ ghost use Rattle.durable_folder.specs.Calls.{is_elsewhere};
 ghost use Rattle.durable_folder.specs.Causes.{AllTaken, AtNow, HasCause, HasFault};
 ghost use Rattle.durable_folder.specs.FolderState.{target};
 ghost use Rattle.durable_folder.specs.Histories.{Rests};
-ghost use Rattle.durable_folder.specs.Locking.{AsksLock, Claims, Compares, HasClaimCause, HasSaveCause, Holds, IsAsLoaded, IsClaimed, IsFoundSo, IsNothing, IsOpenAt, IsSameFinding, IsStale, IsTaken, WhereFirst};
+ghost use Rattle.durable_folder.specs.Locking.{AsksLock, Claims, Compares, HasClaimCause, HasSaveCause, Holds, IsAsLoaded, IsClaimed, IsFoundSo, IsNoPlain, IsNothing, IsOpenAt, IsSameFinding, IsStale, IsTaken, WhereFirst};
 ghost use Rattle.durable_folder.specs.Ways.{Saves};
 
 use crate::replacing::is_same;
@@ -76,8 +76,18 @@ fn is_current<F: Folder>(
     Ok(is_found_so(&found, &named, loaded))
 }
 
-/// Takes the lock of an open file, if it is a plain one, and sees that it is as it was loaded. Both only
-/// then, since another program may have saved until it let go of the lock.
+/// The answer where what is to be claimed is no plain file: an error, where a plain one was loaded.
+fn no_plain(loaded: &Option<Found>) -> io::Result<()>
+    ensures { IsNoPlain loaded.now result }
+{
+    match loaded {
+        Some(loaded) if loaded.is_file => Err(Error::from(ErrorKind::Other)),
+        _ => Ok(()),
+    }
+}
+
+/// Takes the lock of an open file, if it is a plain one, and then sees that it is as it was loaded, since
+/// another program may have saved until it let go of the lock. What is no plain file is not locked.
 fn hold<F: Folder>(
     folder: &mut F,
     name: &str,
@@ -88,7 +98,7 @@ fn hold<F: Folder>(
     ensures cause { HasClaimCause (λ s. IsOpenAt (F.handle file.old) name.now s → IsStale loaded.now name.now s) result (F.told folder.old) (F.told folder.new) }
 {
     if !folder.find_open(file)?.is_file {
-        return Ok(());
+        return no_plain(loaded);
     }
     lock(folder, file)?;
     if is_current(folder, name, file, loaded)? {
@@ -164,8 +174,8 @@ fn save_claimed<F: Folder>(
 }
 
 /// Makes these the bytes of the file to which a name leads, as `save` does. It changes nothing where
-/// another program holds the lock of that file, or where the file was loaded and another one is there now
-/// or it was written since. After Ok the open file is kept by which its lock is held.
+/// another program holds the lock of that file, or where the file was loaded and another one is there now,
+/// or what is no plain file, or it was written since. After Ok the open file is kept by which its lock is held.
 pub fn save_held<F: Folder>(
     folder: &mut F,
     alloc: Global,

@@ -107,7 +107,7 @@ fn are_whole(all: &[Option<Vec<u8>>], it: &Case, is_in_place: bool, must_be_new:
 /// answered Ok.
 fn is_left_whole(folder: &LosingFolder, it: &Case, is_ok: bool) -> bool {
     let must_be_new = is_ok && !folder.is_unsynced;
-    match folder.left("f") {
+    match folder.crash_contents("f") {
         Ok(all) => are_whole(&all, it, folder.is_in_place, must_be_new),
         Err(_) => false,
     }
@@ -125,7 +125,7 @@ fn are_all(all: &[Option<Vec<u8>>], bytes: &[u8]) -> bool {
 
 /// Whether a file stays as it is, whatever a loss of power leaves.
 fn stays(folder: &LosingFolder, name: &str, bytes: &[u8]) -> bool {
-    match folder.left(name) {
+    match folder.crash_contents(name) {
         Ok(all) => are_all(&all, bytes),
         Err(_) => false,
     }
@@ -147,7 +147,7 @@ fn is_sound(folder: &LosingFolder, it: &Case, is_ok: bool) -> bool {
 }
 
 /// The number of calls of a save, where all that a loss of power may leave is as it should be.
-fn saved_in(folder: &mut LosingFolder, alloc: Global, it: &Case) -> Option<u32> {
+fn save_over(folder: &mut LosingFolder, alloc: Global, it: &Case) -> Option<u32> {
     if prepare(folder, it.is_there).is_err() {
         return None;
     }
@@ -160,9 +160,9 @@ fn saved_in(folder: &mut LosingFolder, alloc: Global, it: &Case) -> Option<u32> 
 }
 
 /// The same, of a save in a folder of its own.
-fn saved(alloc: Global, it: &Case) -> Option<u32> {
+fn save_counting_calls(alloc: Global, it: &Case) -> Option<u32> {
     let mut folder = LosingFolder::new(alloc, it.setting, it.fails, it.kind, it.is_cut);
-    saved_in(&mut folder, alloc, it)
+    save_over(&mut folder, alloc, it)
 }
 
 /// Whether all is well where a call of a save fails, or loses power.
@@ -177,13 +177,13 @@ fn may_call_fail(alloc: Global, it: &Case, fails: u32, kind: ErrorKind) -> bool 
         is_cut: true,
         ..failing
     };
-    saved(alloc, &failing).is_some() && saved(alloc, &cut).is_some()
+    save_counting_calls(alloc, &failing).is_some() && save_counting_calls(alloc, &cut).is_some()
 }
 
 /// Whether all is well without a failing call, of which there are more than seven, and then where each fails or
 /// loses power.
 fn may_each_call_fail(alloc: Global, it: &Case) -> bool {
-    let Some(calls) = saved(alloc, it) else {
+    let Some(calls) = save_counting_calls(alloc, it) else {
         return false;
     };
     for fails in 1..calls.saturating_add(1) {
@@ -232,7 +232,7 @@ fn is_saved(folder: &mut LosingFolder, alloc: Global, name: &str, loaded: &Optio
 }
 
 /// What is found of a file that is loaded whole.
-fn loaded_from(folder: &mut LosingFolder, name: &str) -> Option<Found> {
+fn load_found(folder: &mut LosingFolder, name: &str) -> Option<Found> {
     let loaded = load(folder, name, 1000).ok()?;
     if loaded.bytes.as_slice() == OLD.as_slice() {
         Some(loaded.found)
@@ -257,6 +257,7 @@ fn is_refused_where_taken(alloc: Global, name: &str) -> bool {
 enum Since {
     Nothing,
     Replaced,
+    ReplacedBySpecial,
     Rewritten,
 }
 
@@ -267,10 +268,11 @@ fn is_saved_if_unchanged(
     name: &str,
     since: Since,
 ) -> bool {
-    let found = loaded_from(folder, name);
+    let found = load_found(folder, name);
     let done = match since {
         Since::Nothing => Ok(()),
         Since::Replaced => folder.replace("f", &OLD),
+        Since::ReplacedBySpecial => folder.replace_by_special("f", &OLD),
         Since::Rewritten => folder.rewrite("f", b"since"),
     };
     found.is_some()
@@ -279,8 +281,8 @@ fn is_saved_if_unchanged(
 }
 
 /// The same, in a folder of its own.
-fn is_saved_only_if_unchanged(alloc: Global, name: &str, since: Since) -> bool {
-    match folder_of(alloc, Setting::Plain) {
+fn is_saved_only_if_unchanged(alloc: Global, name: &str, setting: Setting, since: Since) -> bool {
+    match folder_of(alloc, setting) {
         Ok(folder) => {
             let mut folder = folder;
             is_saved_if_unchanged(&mut folder, alloc, name, since)
@@ -298,10 +300,16 @@ fn what_another_program_holds_is_not_saved(rt: HostRuntime) {
 
 #[test]
 fn what_was_written_since_it_was_loaded_is_not_saved(rt: HostRuntime) {
-    for since in [Since::Nothing, Since::Replaced, Since::Rewritten] {
+    for (setting, since) in [
+        (Setting::Plain, Since::Nothing),
+        (Setting::Plain, Since::Replaced),
+        (Setting::Plain, Since::ReplacedBySpecial),
+        (Setting::Plain, Since::Rewritten),
+        (Setting::Special, Since::Nothing),
+    ] {
         for name in ["f", "link"] {
             assert!(rt;
-                is_saved_only_if_unchanged(rt.alloc(), name, since),
+                is_saved_only_if_unchanged(rt.alloc(), name, setting, since),
                 "{name}"
             );
         }

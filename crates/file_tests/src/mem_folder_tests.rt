@@ -31,7 +31,7 @@ fn settle(folder: &mut MemFolder) -> io::Result<()> {
 }
 
 /// What a word says is left.
-fn left(word: &str) -> Left {
+fn crash_choice(word: &str) -> Left {
     if word == "new" {
         Left::Newest
     } else {
@@ -70,7 +70,7 @@ fn is_named(folder: &mut MemFolder, verb: &str, name: &str, other: &str) -> bool
         "move" => folder.rename(name, other).is_ok(),
         "remove" => folder.remove(name).is_ok(),
         "settle" => settle(folder).is_ok(),
-        "lose" => folder.lose_power(left(name), left(other)).is_ok(),
+        "lose" => folder.lose_power(crash_choice(name), crash_choice(other)).is_ok(),
         _ => is_seen(folder, verb, name, other),
     }
 }
@@ -149,7 +149,7 @@ impl LineTest for Saved {
     fn is_right(alloc: Global, line: &str) -> bool {
         let mut folder = MemFolder::new(alloc, Vec::new(alloc));
         let bytes = word(line, 2).as_bytes();
-        let (names, held) = (left(word(line, 0)), left(word(line, 1)));
+        let (names, held) = (crash_choice(word(line, 0)), crash_choice(word(line, 1)));
         let loaded = load_after_loss(&mut folder, alloc, "image", bytes, names, held);
         drop(folder);
         match loaded {

@@ -6,6 +6,8 @@ use std::fs;
 
 const FILE: &str = "holding/f";
 
+const SECOND: &str = "holding/g";
+
 const OTHER: &[u8] = b"the bytes of another program";
 
 /// A desk of the files of the system.
@@ -60,11 +62,29 @@ fn stays_written(rt: &HostRuntime) -> bool {
         && has(rt, FILE, OTHER)
 }
 
+/// Whether another desk saves the file, and ends.
+fn is_saved_elsewhere(rt: &HostRuntime) -> bool {
+    let mut other = desk(rt);
+    is_saved(&mut other, FILE, NEW)
+}
+
+/// Whether a file stays that another desk has saved since it was loaded, though a second file was loaded after it.
+fn stays_saved(rt: &HostRuntime) -> bool {
+    let mut desk = desk(rt);
+    is_written(rt, SECOND, OLD)
+        && loads(&mut desk, FILE, OTHER)
+        && loads(&mut desk, SECOND, OLD)
+        && is_saved_elsewhere(rt)
+        && save_fails(&mut desk, FILE, OLD)
+        && has(rt, FILE, NEW)
+}
+
 #[test]
 fn desks_do_not_save_over_one_another(rt: HostRuntime) {
     assert!(rt; is_made(&rt, "holding"));
     assert!(rt; is_saved_in_turn(&rt));
     assert!(rt; is_held_in_place(&rt));
     assert!(rt; stays_written(&rt));
+    assert!(rt; stays_saved(&rt));
     assert!(rt; is_removed(&rt, "holding"));
 }

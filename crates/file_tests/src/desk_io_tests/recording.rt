@@ -85,7 +85,7 @@ pub struct Recorded<'a, F> {
 
 impl<'a, R: AllocGlobal> Recorder<'a, R> {
     /// A file of this name, once it was opened.
-    fn recorded<F: Drop>(&self, opened: io::Result<F>, name: &str) -> io::Result<Recorded<'a, F>> {
+    fn record<F: Drop>(&self, opened: io::Result<F>, name: &str) -> io::Result<Recorded<'a, F>> {
         let file = opened?;
         Ok(Recorded {
             file,
@@ -185,7 +185,7 @@ impl<'a, R: Files + AllocGlobal> Files for Recorder<'a, R> {
             "open"
         };
         self.log.note(call, path)?;
-        self.recorded(self.rt.open_file(how, path), path)
+        self.record(self.rt.open_file(how, path), path)
     }
 
     fn open_dir(&self, path: &str) -> io::Result<R::Dir> {

@@ -41,6 +41,8 @@ pub enum Setting {
     Unresolved,
     /// Another program holds the lock of each file.
     LockedElsewhere,
+    /// No file is a plain one.
+    Special,
 }
 
 /// A folder in memory that loses power. It keeps what each name and each file had since they were
@@ -128,6 +130,12 @@ impl LosingFolder {
         }
     }
 
+    /// Gives a name what is no plain file, of these bytes.
+    pub fn replace_by_special(&mut self, name: &str, bytes: &[u8]) -> Result<(), AllocError> {
+        self.setting = Setting::Special;
+        self.replace(name, bytes)
+    }
+
     /// Counts a call, and fails where it is to fail.
     fn call(&mut self) -> io::Result<()> {
         self.calls = self.calls.saturating_add(1);
@@ -167,7 +175,7 @@ impl LosingFolder {
     }
 
     /// What is read of a file.
-    fn seen(&self, file: usize) -> &[u8] {
+    fn contents(&self, file: usize) -> &[u8] {
         match self.files.get(file) {
             Some(versions) => match versions.last() {
                 Some(bytes) => bytes.as_slice(),
@@ -200,9 +208,9 @@ impl LosingFolder {
     }
 
     /// What is told of a file of this number.
-    fn told(&self, file: usize) -> Found {
+    fn facts(&self, file: usize) -> Found {
         Found {
-            is_file: true,
+            is_file: self.setting != Setting::Special,
             is_link: false,
             names: if self.setting == Setting::TwoNames {
                 2
@@ -214,7 +222,7 @@ impl LosingFolder {
             user: 0,
             group: 0,
             permissions: Permissions::from_mode(0o644),
-            size: self.seen(file).len() as u64,
+            size: self.contents(file).len() as u64,
             seconds: 0,
             billionths: 0,
         }
@@ -250,7 +258,7 @@ impl LosingFolder {
     }
 
     /// All that a loss of power may leave at a name, where files have two blocks at most.
-    pub fn left(&self, name: &str) -> Result<Vec<Option<Vec<u8>>>, AllocError> {
+    pub fn crash_contents(&self, name: &str) -> Result<Vec<Option<Vec<u8>>>, AllocError> {
         let mut all = Vec::new(self.alloc);
         self.add_all_left(name, &mut all)?;
         Ok(all)

@@ -2,7 +2,7 @@ use Rattle.std.proofs.Common.{inr, true, false, Ok}
 use Rattle.durable_folder.specs.Counting.{quiet}
 use Rattle.durable_folder.specs.Locking.{Compares}
 use Rattle.durable_folder.proofs.Causing.{turn_later, later_then}
-use Rattle.durable_folder.proofs.Claiming.{asks_rests, compares_rests, holds_failed, holds_after, special_held, plain_held, plain_stale}
+use Rattle.durable_folder.proofs.Claiming.{asks_rests, compares_rests, holds_failed, special_held, special_cause, plain_held, plain_stale}
 use Rattle.durable_folder.proofs.Learning.{finds_rests, rests_then}
 use Rattle.durable_folder.proofs.locking.hold.Goals as goal
 
@@ -16,8 +16,13 @@ returns-in_err-find_open-clause-holds g c =
 
 pub returns-then-not-branch-clause-holds : goal.returns-then-not-branch-clause-holds
 returns-then-not-branch-clause-holds g c =
-    special_held (g.F.Folder.handle c.args.file.now) c.in_ok-find_open.field-0 c.args.loaded.now c.args.name.now quiet
-    (g.F.Folder.told c.args.folder.now) (g.F.Folder.told c.find_open.new.self) c.if-not-branch.true c.in_ok-find_open.ensures
+    special_held (g.F.Folder.handle c.args.file.now) c.in_ok-find_open.field-0 c.args.loaded.now c.args.name.now c.no_plain.result quiet
+    (g.F.Folder.told c.args.folder.now) (g.F.Folder.told c.find_open.new.self) c.if-not-branch.true c.no_plain.ensures c.in_ok-find_open.ensures
+
+pub returns-then-not-branch-clause-cause : goal.returns-then-not-branch-clause-cause
+returns-then-not-branch-clause-cause g c =
+    special_cause (g.F.Folder.handle c.args.file.now) c.in_ok-find_open.field-0 c.args.loaded.now c.args.name.now c.no_plain.result quiet
+    (g.F.Folder.told c.args.folder.now) (g.F.Folder.told c.find_open.new.self) c.if-not-branch.true c.no_plain.ensures c.in_ok-find_open.ensures
 
 pub returns-in_err-lock-clause-holds : goal.returns-in_err-lock-clause-holds
 returns-in_err-lock-clause-holds g c =
@@ -54,9 +59,8 @@ returns-then-branch-clause-holds g c =
     let locked = g.F.Folder.told c.lock.new.folder in
     let last = g.F.Folder.told c.is_current.new.folder in
     let yes : Compares after c.args.loaded.now c.args.name.now (Ok true) locked last = rw c.if-branch.true at c.in_ok-is_current.ensures.compares in
-    holds_after file after c.args.loaded.now c.args.name.now (Ok tt) before found last
-    (finds_rests file c.find_open.result _ before found c.find_open.ensures)
-    (plain_held file after c.args.loaded.now c.args.name.now found locked last c.in_ok-lock.ensures.asks yes)
+    plain_held file after c.in_ok-find_open.field-0 c.args.loaded.now c.args.name.now quiet before found locked last c.if-not-branch.false
+    c.in_ok-find_open.ensures c.in_ok-lock.ensures.asks yes
 
 pub returns-else-branch-clause-holds : goal.returns-else-branch-clause-holds
 returns-else-branch-clause-holds g c =

@@ -1,5 +1,5 @@
 //! The calls of a folder that loses power.
-use super::mixes::mixed;
+use super::mixes::mix;
 use super::{LosingFolder, Opened, Setting};
 use durable_folder::{Folder, Found, Lock};
 use std::alloc::{AllocError, Global};
@@ -9,7 +9,7 @@ use std::io::{Error, ErrorKind};
 use std::path::PathBuf;
 
 /// Where a name leads.
-fn led(name: &str) -> &str {
+fn follow_link(name: &str) -> &str {
     if name == "link" { "f" } else { name }
 }
 
@@ -20,7 +20,7 @@ fn overwritten(
     offset: usize,
     bytes: &[u8],
 ) -> Result<Vec<u8>, AllocError> {
-    let mut written = mixed(alloc, seen, seen, offset)?;
+    let mut written = mix(alloc, seen, seen, offset)?;
     written.extend_from_slice(bytes)?;
     written.extend_from_slice(seen.get(written.len()..).unwrap_or(&[]))?;
     Ok(written)
@@ -36,7 +36,7 @@ impl LosingFolder {
 
     /// Makes what is read of a file all that it had, or after a failure an older version what is read.
     fn keep_one(&mut self, file: usize, is_synced: bool) -> Result<(), AllocError> {
-        let seen = self.seen(file).to_vec(self.alloc)?;
+        let seen = self.contents(file).to_vec(self.alloc)?;
         let Some(versions) = self.files.get_mut(file) else {
             return Ok(());
         };
@@ -78,20 +78,20 @@ impl Folder for LosingFolder {
     fn find(&mut self, name: &str) -> io::Result<Found> {
         self.call()?;
         let is_link = name == "link";
-        let file = self.file(led(name));
+        let file = self.file(follow_link(name));
         if file.is_none() && !is_link {
             return Err(Error::from(ErrorKind::NotFound));
         }
         Ok(Found {
-            is_file: !is_link,
+            is_file: !is_link && self.setting != Setting::Special,
             is_link,
-            ..self.told(file.unwrap_or(0))
+            ..self.facts(file.unwrap_or(0))
         })
     }
 
     fn find_open(&mut self, file: &Opened) -> io::Result<Found> {
         self.call()?;
-        Ok(self.told(file.file))
+        Ok(self.facts(file.file))
     }
 
     fn find_folder(&mut self, _folder: &bool) -> io::Result<Found> {
@@ -103,7 +103,7 @@ impl Folder for LosingFolder {
         };
         Ok(Found {
             device,
-            ..self.told(0)
+            ..self.facts(0)
         })
     }
 
@@ -112,12 +112,12 @@ impl Folder for LosingFolder {
         if self.setting == Setting::Unresolved {
             return Err(Error::from(ErrorKind::PermissionDenied));
         }
-        Ok(PathBuf::from_str(self.alloc, led(name))?)
+        Ok(PathBuf::from_str(self.alloc, follow_link(name))?)
     }
 
     fn open(&mut self, name: &str) -> io::Result<Opened> {
         self.call()?;
-        match self.file(led(name)) {
+        match self.file(follow_link(name)) {
             Some(file) => Ok(Opened { file, offset: 0 }),
             None => Err(Error::from(ErrorKind::NotFound)),
         }
@@ -129,7 +129,7 @@ impl Folder for LosingFolder {
 
     fn read(&mut self, file: &mut Opened, most: usize) -> io::Result<Vec<u8>> {
         self.call()?;
-        let seen = self.seen(file.file);
+        let seen = self.contents(file.file);
         let rest = seen.get(file.offset..).unwrap_or(&[]);
         Ok(rest.get(..most).unwrap_or(rest).to_vec(self.alloc)?)
     }
@@ -143,9 +143,9 @@ impl Folder for LosingFolder {
     }
 
     fn open_or_create(&mut self, name: &str) -> io::Result<Opened> {
-        match self.file(led(name)) {
+        match self.file(follow_link(name)) {
             Some(_) => self.open(name),
-            None => self.create_new(led(name), 0o644),
+            None => self.create_new(follow_link(name), 0o644),
         }
     }
 
@@ -182,7 +182,7 @@ impl Folder for LosingFolder {
     }
 
     fn write(&mut self, file: &mut Opened, bytes: &[u8]) -> io::Result<()> {
-        let written = overwritten(self.alloc, self.seen(file.file), file.offset, bytes)?;
+        let written = overwritten(self.alloc, self.contents(file.file), file.offset, bytes)?;
         let answer = self.call_and_change(file.file, written);
         self.is_in_place = self.is_in_place || self.file("f") == Some(file.file);
         file.offset = file.offset.saturating_add(bytes.len());
@@ -196,8 +196,8 @@ impl Folder for LosingFolder {
     }
 
     fn set_length(&mut self, file: &Opened, length: u64) -> io::Result<()> {
-        let seen = self.seen(file.file);
-        let resized = mixed(self.alloc, seen, seen, usize::try_from(length).unwrap_or(0))?;
+        let seen = self.contents(file.file);
+        let resized = mix(self.alloc, seen, seen, usize::try_from(length).unwrap_or(0))?;
         self.call_and_change(file.file, resized)
     }
 

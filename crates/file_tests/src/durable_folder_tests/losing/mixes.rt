@@ -14,7 +14,7 @@ fn add_lengths(
     for one in versions {
         for other in versions {
             let length = one.len().midpoint(other.len());
-            all.push(Some(mixed(alloc, first, second, length)?))?;
+            all.push(Some(mix(alloc, first, second, length)?))?;
         }
     }
     Ok(())
@@ -36,16 +36,16 @@ pub fn mixes(
 }
 
 /// The first block of one version and the rest of another, with zeros behind their ends.
-pub fn mixed(
+pub fn mix(
     alloc: Global,
     first: &[u8],
     second: &[u8],
     length: usize,
 ) -> Result<Vec<u8>, AllocError> {
-    let mut mix = Vec::new(alloc);
+    let mut bytes = Vec::new(alloc);
     for i in 0..length {
         let from = if i < BLOCK { first } else { second };
-        mix.push(from.get(i).copied().unwrap_or(0))?;
+        bytes.push(from.get(i).copied().unwrap_or(0))?;
     }
-    Ok(mix)
+    Ok(bytes)
 }
