@@ -35,8 +35,14 @@ def imports(text):
             continue
         file = 'crates/%s/proofs/%s.antt' % (parts[0], '/'.join(parts[2:]))
         if (ROOT / file).exists():
+            # what a crate's Common.antt passes on stands where that has it from
+            passed = imports((ROOT / file).read_text().replace('unfoldable pub use ', 'use ').replace('pub use ', 'use ')) if parts[-1] == 'Common' else None
             for name in names.split(','):
-                found[name.split(' as ')[-1].strip()] = file
+                name = name.split(' as ')[-1].strip()
+                if passed is None:
+                    found[name] = file
+                elif name in passed:
+                    found[name] = passed[name]
     return found
 
 

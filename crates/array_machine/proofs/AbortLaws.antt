@@ -1,37 +1,14 @@
 -- What is answered as aborted has changed nothing.
-use Rattle.std.proofs.Common.{◌≡◌, ◌≢◌, ℕ, ◌+◌, ◌≤◌, ◌==◌, Bool, true, false, cond, List, [], ◌∷◌, ◌++◌, length, All}
-use Rattle.std.proofs.Common.{Option, Some, None, Result, Ok, Err, refl, sym, ap, ◌∙◌, subst, inl, inr, arith}
-use Rattle.std.proofs.Common.{eqb-true}
-use Rattle.std.specs.Prelude.{MatchOption, count_by, take}
-use Rattle.std.proofs.lemmas.Bool.{cases_Bool}
-use Rattle.std.proofs.lemmas.List.Elements.{All-nil, All-head, All-tail, All-contains}
+use Rattle.array_machine.proofs.Common.{◌≡◌, ◌≢◌, ℕ, ◌+◌, ◌≤◌, Bool, true, false, cond, List, [], ◌∷◌, ◌++◌, length, All, Option, Some, None, Result, Ok, Err, refl, sym, ap, ◌∙◌, subst, inl, inr, arith, eqb-true, MatchOption, count_by, cases_Bool, All-nil, All-head, All-tail, All-contains, all_from, none_counted, PageWrite, ArrayState, Entry, Pages, entry_of, has_tag, idle, new_entry, page_at, put, with_entry, without, GoInTurn, StepsAll, Collects, Run, RunState, Serves, DoesCommand, Finishes, HasSame, IsConsistent, seen_after, submit_reply, abort_reply, Steps, StepGives, GoesOn, Aborts, AbortGives, settled, settled_entry, Limits, opened, refusal, first_refusals, spent_page, Doubt, Whole, Aborted, Collected, Fault, Moved, Progress, StepError, SubmitError, Command, Reply}
+use Rattle.std.proofs.Common.{◌==◌}
+use Rattle.std.specs.Prelude.{take}
 use Rattle.std.proofs.lemmas.List.Sums.{sum_by-append}
-use Rattle.list_facts.proofs.Membership.{all_from}
-use Rattle.list_facts.proofs.Tests.{none_counted}
-use Rattle.tx_types.specs.Batch.{PageWrite}
-use Rattle.array_machine.specs.ArrayState.{ArrayState, Entry, Pages, entry_of, has_tag, idle, opening, page_at, put}
-use Rattle.array_machine.specs.ArrayState.{with_entry, without}
-use Rattle.array_machine.specs.Batches.{GoInTurn, StepsAll}
-use Rattle.array_machine.specs.Collect.{Collects}
 use Rattle.array_machine.specs.Promises.{HasOneOf, opens_tag}
-use Rattle.array_machine.specs.Run.{Run, RunState, Serves, DoesCommand, Finishes, HasSame, IsConsistent, seen_after}
-use Rattle.array_machine.specs.Run.{submit_reply, abort_reply}
-use Rattle.array_machine.specs.Step.{Steps, StepGives, GoesOn, Aborts, AbortGives, settled, settled_entry}
-use Rattle.array_machine.specs.Submit.{Limits, answer, opened, refusal, first_refusals, spent_page}
-use Rattle.array_machine.specs.declared.mark.Mark.TheVariants.{Doubt, Whole}
-use Rattle.array_machine.specs.declared.answers.Aborted.{Aborted}
+use Rattle.array_machine.specs.Submit.{answer}
 use Rattle.array_machine.specs.declared.answers.Aborted.TheVariants as aborted
-use Rattle.array_machine.specs.declared.answers.Collected.{Collected}
-use Rattle.array_machine.specs.declared.answers.Fault.{Fault}
-use Rattle.array_machine.specs.declared.answers.Moved.{Moved}
-use Rattle.array_machine.specs.declared.answers.Progress.{Progress}
 use Rattle.array_machine.specs.declared.answers.Progress.TheVariants as progress
-use Rattle.array_machine.specs.declared.answers.StepError.{StepError}
 use Rattle.array_machine.specs.declared.answers.StepError.TheVariants as failed
-use Rattle.array_machine.specs.declared.answers.SubmitError.{SubmitError}
-use Rattle.host_protocol.specs.declared.command.Command.{Command}
 use Rattle.host_protocol.specs.declared.command.Command.TheVariants as command
-use Rattle.host_protocol.specs.declared.reply.Reply.{Reply}
 use Rattle.host_protocol.specs.declared.reply.Reply.TheVariants as reply
 use Rattle.array_machine.proofs.Clinging.{Cling, cling_same, cling_then, cling_none, cling_settled, cling_with}
 use Rattle.array_machine.proofs.Clinging.{cling_without, cling_taken, count_cons, count_settled, count_without}
@@ -42,7 +19,7 @@ use Rattle.array_machine.proofs.Atomic.{IsSized, serves_sized, done_of, no_first
 use Rattle.array_machine.proofs.Changes.{Goes, goes_consistent, goes_settled, goes_on, step_goes}
 use Rattle.array_machine.proofs.Finishes.{found_is_in, settled_found}
 use Rattle.array_machine.proofs.UnbrokenCalls.{tagged}
-use Rattle.array_machine.proofs.Ways.{each_way}
+use Rattle.array_machine.proofs.Cases.{each_way}
 
 record Follows (tag : ℕ) (old new : ArrayState) : Type 0 where
   one : HasOneOf tag old → HasOneOf tag new
@@ -201,16 +178,16 @@ none_of tag own es is unused =
     ]))
 
 opened_one : (tag own : ℕ) (ws : List PageWrite) (es : List Entry) → All (λ e. e.tag ≢ own) es →
-    count_by (has_tag tag) es ≤ 1 → count_by (has_tag tag) (es ++ opening own ws ∷ []) ≤ 1
+    count_by (has_tag tag) es ≤ 1 → count_by (has_tag tag) (es ++ new_entry own ws ∷ []) ≤ 1
 opened_one tag own ws es unused h = elim (cases_Bool (own == tag)) [
   | inl same ↦ (
-      let more = count_pushed tag (opening own ws) es in
+      let more = count_pushed tag (new_entry own ws) es in
       let none = none_of tag own es (eqb-true own tag same) unused in
-      let one : ◌≡◌ {A = ℕ} (cond {A = ℕ} (has_tag tag (opening own ws)) 1 0) 1 = ap
+      let one : ◌≡◌ {A = ℕ} (cond {A = ℕ} (has_tag tag (new_entry own ws)) 1 0) 1 = ap
       (λ (b : Bool). cond {A = ℕ} b 1 0) same in omega (arith, more, none, one))
   | inr not ↦ (
-      let more = count_pushed tag (opening own ws) es in
-      let zero : ◌≡◌ {A = ℕ} (cond {A = ℕ} (has_tag tag (opening own ws)) 1 0) 0 = ap
+      let more = count_pushed tag (new_entry own ws) es in
+      let zero : ◌≡◌ {A = ℕ} (cond {A = ℕ} (has_tag tag (new_entry own ws)) 1 0) 0 = ap
       (λ (b : Bool). cond {A = ℕ} b 1 0) not in omega (arith, more, zero, h))
 ]
 
@@ -218,7 +195,7 @@ opened_cling : (tag own : ℕ) (ws : List PageWrite) (s : ArrayState) → (own =
     Cling tag s (opened None own ws s)
 opened_cling tag own ws s not f found = record {
   before = f;
-  found = sym (other_pushed tag (opening own ws) s.entries not) ∙ found;
+  found = sym (other_pushed tag (new_entry own ws) s.entries not) ∙ found;
   writes = refl;
   plain = λ h. (h, λ k d lt. refl);
 }

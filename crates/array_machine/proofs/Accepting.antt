@@ -1,19 +1,16 @@
 -- What is so of a batch that is not refused.
-use Rattle.std.proofs.Common.{◌≡◌, ◌≢◌, ℕ, ◌-◌, ◌<◌, ◌≤◌, Bool, true, false, cond, List, [], ◌∷◌, ◌++◌, length, find, All, AllPairs, Option, Some, None, refl}
-use Rattle.std.proofs.Common.{sym, ap, ◌∙◌, inl, inr, arith, nat_lt, nat_le, ltb-true, leb-true, Contains}
+use Rattle.array_machine.proofs.Common.{◌≡◌, ◌≢◌, ℕ, ◌<◌, ◌≤◌, Bool, true, false, cond, List, [], ◌∷◌, ◌++◌, length, All, AllPairs, Option, Some, None, refl, sym, ap, ◌∙◌, inl, inr, arith, Contains, All-cons, All-nil, All-contains, all_from, Contains-cases, Contains-nil, PageWrite, Entry, has_tag, Limits, spent_page, first_refusals, SubmitError}
+use Rattle.std.proofs.Common.{◌-◌, find}
+use Rattle.std.proofs.Common.{nat_lt, nat_le, ltb-true, leb-true}
 use Rattle.std.specs.Prelude.{option_map}
 use Rattle.std.specs.List.{list_any}
 use Rattle.std.proofs.lemmas.Bool.{eqb-false}
-use Rattle.std.proofs.lemmas.List.Elements.{All-cons, All-nil, All-contains, Contains-append_left, Contains-push}
-use Rattle.list_facts.proofs.Membership.{all_from, Contains-cases, Contains-nil}
-use Rattle.list_facts.proofs.Pairs.{pairs_cons}
-use Rattle.list_facts.proofs.Options.{map_none}
-use Rattle.list_facts.proofs.Tests.{any_none, none_parts, none_found}
-use Rattle.tx_types.specs.Batch.{PageWrite}
-use Rattle.array_machine.specs.ArrayState.{Entry, has_tag, pending_pages}
-use Rattle.array_machine.specs.Submit.{Limits, is_of, is_owner, or_else, first_refusal, empty, range, repeated, tag_used, overlap, free_of, spent_page}
-use Rattle.array_machine.specs.Submit.{first_refusals}
-use Rattle.array_machine.specs.declared.answers.SubmitError.{SubmitError}
+use Rattle.std.proofs.lemmas.List.Elements.{Contains-append_left, Contains-push}
+use Rattle.list_lemmas.proofs.Pairs.{pairs_cons}
+use Rattle.list_lemmas.proofs.Options.{map_none}
+use Rattle.list_lemmas.proofs.Tests.{any_none, none_parts, none_found}
+use Rattle.array_machine.specs.ArrayState.{pending_pages}
+use Rattle.array_machine.specs.Submit.{is_of, is_owner, or_else, first_refusal, empty, range, repeated, tag_used, overlap, free_of}
 use Rattle.array_machine.specs.declared.answers.SubmitError.TheVariants as refused
 
 -- what is so of a batch for which the limits and the open transactions are enough

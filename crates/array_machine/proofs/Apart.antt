@@ -1,15 +1,7 @@
 -- Open transactions that write no page twice, and what the array has of each when it takes one.
-use Rattle.std.proofs.Common.{◌≡◌, ◌≢◌, ◌⊎◌, ℕ, Bool, true, false, cond, List, [], ◌∷◌, ◌++◌, length, All, AllPairs, Some, refl, sym, ap, ◌∙◌, subst, inl, inr}
-use Rattle.std.proofs.Common.{Contains}
-use Rattle.std.proofs.lemmas.List.Elements.{All-nil, All-cons, All-head, All-tail, All-map, All-contains}
-use Rattle.list_facts.proofs.Membership.{all_from, Contains-cases, Contains-nil}
-use Rattle.list_facts.proofs.Pairs.{in_order, pairs_head, pairs_tail}
-use Rattle.tx_types.specs.Batch.{PageWrite}
-use Rattle.array_machine.specs.ArrayState.{ArrayState, Entry, Pages, entry_of, has_tag, is_doubted, page_at, put, with_entry, without}
-use Rattle.array_machine.specs.Step.{doubted, settled, settled_entry, settled_mark}
-use Rattle.array_machine.specs.declared.mark.Mark.{Mark}
-use Rattle.array_machine.specs.declared.mark.Mark.TheVariants.{Plain, Doubt, Whole}
-use Rattle.array_machine.specs.Run.{Avoid, AllAvoid, EntriesAreApart, HasWhole, HasSame, IsConsistent}
+use Rattle.array_machine.proofs.Common.{◌≡◌, ◌≢◌, ◌⊎◌, ℕ, Bool, true, false, cond, List, [], ◌∷◌, ◌++◌, length, All, AllPairs, Some, refl, sym, ap, ◌∙◌, subst, inl, inr, Contains, All-nil, All-cons, All-head, All-tail, All-contains, all_from, Contains-cases, Contains-nil, PageWrite, ArrayState, Entry, Pages, entry_of, has_tag, is_doubted, page_at, put, with_entry, without, doubted, settled, settled_entry, settled_mark, Mark, Plain, Doubt, Whole, Avoid, AllAvoid, EntriesAreApart, HasWhole, HasSame, IsConsistent}
+use Rattle.std.proofs.lemmas.List.Elements.{All-map}
+use Rattle.list_lemmas.proofs.Pairs.{in_order, pairs_head, pairs_tail}
 use Rattle.array_machine.proofs.Finishes.{found_is_in}
 use Rattle.array_machine.proofs.Taking.{AreWithin, ArePart, put_length, put_other, put_has, put_append, doubted_avoid, within_kept, part_same, part_less}
 use Rattle.array_machine.proofs.Taking.{part_all}

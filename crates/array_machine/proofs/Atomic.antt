@@ -1,36 +1,21 @@
 -- Open transactions over whole runs: they stay consistent, one that is acknowledged stays in the array, and one that a cut
 -- catches is there wholly or not at all.
-use Rattle.std.proofs.Common.{◌≡◌, ◌≢◌, ◌⊎◌, ℕ, ◌<◌, Bool, true, false, List, [], ◌∷◌, length, take, get_or, All, AllPairs, Contains, Option, Some, None}
-use Rattle.std.proofs.Common.{Result, Ok}
-use Rattle.std.proofs.Common.{Err, refl, sym, ap, ◌∙◌, subst, inl, inr, arith}
-use Rattle.std.specs.Prelude.{MatchOption}
-use Rattle.std.proofs.lemmas.List.Elements.{All-nil, All-push, All-contains, Contains-get_or}
+use Rattle.array_machine.proofs.Common.{◌≡◌, ◌≢◌, ◌⊎◌, ℕ, ◌<◌, Bool, true, false, List, [], ◌∷◌, length, take, All, AllPairs, Contains, Option, Some, None, Result, Ok, Err, refl, sym, ap, ◌∙◌, subst, inl, inr, arith, MatchOption, All-nil, All-push, All-contains, all_from, Contains-cases, Contains-nil, PageWrite, ArrayState, Entry, Pages, entry_of, idle, is_doubted, new_entry, page_at, without, Steps, StepGives, GoesOn, IsAtLast, Aborts, AbortGives, settled, settled_entry, settled_mark, Limits, first_refusals, opened, spent_page, Whole, Aborted, Progress, StepError, SubmitError, Moved, Command, Reply, GoInTurn, StepsAll, Run, RunState, Serves, DoesCommand, NotDone, LosesOpen, MayComplete, Finishes, Avoid, AllAvoid, EntriesAreApart, HasWhole, HasSame, IsConsistent, is_break, writes_in, seen_after, step_reply, abort_reply}
+use Rattle.std.proofs.Common.{get_or}
+use Rattle.std.proofs.lemmas.List.Elements.{Contains-get_or}
 use Rattle.std.proofs.lemmas.List.Quantifiers.{all_pairs_push}
 use Rattle.std.proofs.lemmas.List.{take-map}
-use Rattle.list_facts.proofs.Membership.{all_from, map_in, Contains-cases, Contains-nil}
-use Rattle.tx_types.specs.Batch.{PageWrite}
-use Rattle.array_machine.specs.ArrayState.{StandsFor}
-use Rattle.array_machine.specs.ArrayState.{ArrayState, Entry, Pages, entry_of, idle, is_doubted, opening, page_at, without}
-use Rattle.array_machine.specs.Step.{Steps, StepGives, GoesOn, IsAtLast, Aborts, AbortGives, settled, settled_entry, settled_mark}
-use Rattle.array_machine.specs.Submit.{Limits, first_refusals, opened, or_else, spent_page}
+use Rattle.list_lemmas.proofs.Membership.{map_in}
+use Rattle.array_machine.specs.ArrayState.{Represents}
+use Rattle.array_machine.specs.Submit.{or_else}
 use Rattle.array_machine.proofs.Accepting.{IsAccepted, accepted}
-use Rattle.array_machine.specs.declared.mark.Mark.TheVariants.{Whole}
-use Rattle.array_machine.specs.declared.answers.Aborted.{Aborted}
 use Rattle.array_machine.specs.declared.answers.Aborted.TheVariants as aborted
-use Rattle.array_machine.specs.declared.answers.Progress.{Progress}
 use Rattle.array_machine.specs.declared.answers.Progress.TheVariants as progress
-use Rattle.array_machine.specs.declared.answers.StepError.{StepError}
 use Rattle.array_machine.specs.declared.answers.StepError.TheVariants as failed
-use Rattle.array_machine.specs.declared.answers.SubmitError.{SubmitError}
-use Rattle.array_machine.specs.declared.answers.Moved.{Moved}
-use Rattle.host_protocol.specs.declared.command.Command.{Command}
 use Rattle.host_protocol.specs.declared.command.Command.TheVariants as command
-use Rattle.host_protocol.specs.declared.reply.Reply.{Reply}
 use Rattle.host_protocol.specs.declared.reply.Reply.TheVariants as reply
-use Rattle.array_machine.specs.Batches.{GoInTurn, StepsAll}
-use Rattle.array_machine.specs.Run.{Run, RunState, Serves, DoesCommand, NotDone, LosesOpen, MayComplete, Finishes, Acknowledges, Avoid, AllAvoid, NoneOpens}
-use Rattle.array_machine.specs.Run.{EntriesAreApart, HasWhole, HasSame, IsConsistent, IsFinishedBy, is_break, writes_in, opened_by, seen_after, step_reply}
-use Rattle.array_machine.specs.Run.{abort_reply}
+use Rattle.array_machine.specs.Run.{Acknowledges, NoneOpens}
+use Rattle.array_machine.specs.Run.{IsFinishedBy, opened_by}
 use Rattle.array_machine.specs.Run.{moved_reply}
 use Rattle.array_machine.proofs.Finishes.{found_is_in, found_writes, settled_found, wrote_found}
 use Rattle.array_machine.proofs.Unbroken.{unlike, lost_break}
@@ -68,15 +53,15 @@ accepted_sized limits tag ws s h accepts =
     record {
       long = long;
       consistent = record {
-        distinct = All-push (λ (e : Entry). AllPairs (λ v w. v.page ≢ w.page) e.writes) s.entries (opening tag ws) ok.distinct accepts.distinct;
-        apart = all_pairs_push EntriesAreApart s.entries (opening tag ws) ok.apart (λ k d inside.
+        distinct = All-push (λ (e : Entry). AllPairs (λ v w. v.page ≢ w.page) e.writes) s.entries (new_entry tag ws) ok.distinct accepts.distinct;
+        apart = all_pairs_push EntriesAreApart s.entries (new_entry tag ws) ok.apart (λ k d inside.
             let e = get_or s.entries k d in
             let i = (Contains-get_or s.entries k d inside) in
-            share_back (opening tag ws) e (all_from (λ w. Avoid w.page e.writes) ws (λ w j.
+            share_back (new_entry tag ws) e (all_from (λ w. Avoid w.page e.writes) ws (λ w j.
             All-contains (λ (x : Entry). Avoid w.page x.writes) s.entries e (All-contains (λ w. AllAvoid w.page s.entries) ws w accepts.unowned j) i)));
-        within = All-push (λ (e : Entry). All (λ w. w.page < length s.pages) e.writes) s.entries (opening tag ws) ok.within
+        within = All-push (λ (e : Entry). All (λ w. w.page < length s.pages) e.writes) s.entries (new_entry tag ws) ok.within
             (λ k d lt. (let at = accepts.in_range k d lt in omega arith));
-        whole = All-push (λ (e : Entry). e.mark ≡ Whole → HasWhole s.pages e) s.entries (opening tag ws) ok.whole (λ is. cc);
+        whole = All-push (λ (e : Entry). e.mark ≡ Whole → HasWhole s.pages e) s.entries (new_entry tag ws) ok.whole (λ is. cc);
       };
     }
 
@@ -270,7 +255,7 @@ serves_done limits spent c old r new e ok serves told = absurd told
 pub acknowledged_stays : (limits : Limits) (spent : ℕ → Bool) (c : Command) (old : RunState) (r : Reply) (mid : RunState) (e : Entry)
     (seen : ℕ → ℕ) (cs : List Command) (rs : List Reply) (new : RunState) (pages : Pages) (w : PageWrite) →
     IsConsistent old.machine → Serves limits spent c old r mid → Acknowledges c old.machine r e →
-    Run limits seen mid cs rs new → StandsFor new.machine pages →
+    Run limits seen mid cs rs new → Represents new.machine pages →
     Contains e.writes w → NoneOpens w.page cs rs → page_at pages w.page ≡ w.value
 acknowledged_stays limits spent c old r mid e seen cs rs new pages w ok serves told run stands has none =
     let done = serves_done limits spent c old r mid e ok serves told in
@@ -290,7 +275,7 @@ opened_atomic e tag ws s h avoid = record {
   beside = record {
     distinct = h.distinct;
     within = h.within;
-    each = All-push (λ (f : Entry). SameOrApart e f.writes) s.entries (opening tag ws) h.each
+    each = All-push (λ (f : Entry). SameOrApart e f.writes) s.entries (new_entry tag ws) h.each
         (inr avoid);
   };
 }
@@ -322,13 +307,13 @@ run_atomic limits seen old (c ∷ cs) (r ∷ rs) new e h none run =
     (λ k d lt. none_later (get_or e.writes k d).page c cs r rs (none k d lt)) run.4 in
     record { atomic = whole_or_then old.machine.pages run.0.machine.pages new.machine.pages e first.atomic rest.atomic; beside = rest.beside }
 
-stands_atomic : (s : ArrayState) (pages : Pages) (e : Entry) → IsBeside s.pages s.entries e → StandsFor s pages → WholeOrSame s.pages pages e
+stands_atomic : (s : ArrayState) (pages : Pages) (e : Entry) → IsBeside s.pages s.entries e → Represents s pages → WholeOrSame s.pages pages e
 stands_atomic s pages e h (inl same) = rw same (inr (λ k d lt. refl))
 stands_atomic s pages e h (inr (f, has, doubt, took)) =
     rw took (beside_taken s.pages s.entries e h f.writes (All-contains (λ (x : Entry). SameOrApart e x.writes) s.entries f h.each has))
 
 pub transaction_atomic : (limits : Limits) (seen : ℕ → ℕ) (old : RunState) (cs : List Command) (rs : List Reply) (new : RunState) (pages : Pages) (e : Entry) →
-    IsConsistent old.machine → Contains old.machine.entries e → Run limits seen old cs rs new → StandsFor new.machine pages →
+    IsConsistent old.machine → Contains old.machine.entries e → Run limits seen old cs rs new → Represents new.machine pages →
     All (λ w. NoneOpens w.page cs rs) e.writes →
     WholeOrSame old.machine.pages pages e
 transaction_atomic limits seen old cs rs new pages e ok has run stands none =

@@ -1,35 +1,17 @@
 -- What a command changes in the array, and which transactions it leaves open.
-use Rattle.std.proofs.Common.{◌≡◌, ◌≢◌, ◌⊎◌, ℕ, ◌+◌, Bool, true, false, cond, List, [], ◌∷◌, length, take, zip, All, AllPairs, Option, Some, None, Result, Ok}
-use Rattle.std.proofs.Common.{Err, refl}
-use Rattle.std.proofs.Common.{sym, ap, ◌∙◌, subst, inl, inr}
-use Rattle.std.specs.Prelude.{MatchOption}
-use Rattle.std.proofs.lemmas.List.Elements.{All-nil, All-head, All-tail, All-push, All-contains}
-use Rattle.list_facts.proofs.Membership.{all_from}
-use Rattle.tx_types.specs.Batch.{PageWrite, Writes}
-use Rattle.array_machine.specs.ArrayState.{ArrayState, Entry, Pages, entry_of, opening, page_at, put, with_entry, without}
-use Rattle.array_machine.specs.Collect.{Collects}
-use Rattle.array_machine.specs.ArrayState.{StandsFor}
-use Rattle.array_machine.specs.Batches.{GoInTurn, StepsAll}
-use Rattle.array_machine.specs.Step.{Steps, StepGives, AbortGives, GoesOn, settled, settled_entry}
-use Rattle.array_machine.specs.Submit.{Limits, answer, opened, refusal}
-use Rattle.array_machine.specs.declared.mark.Mark.TheVariants.{Doubt, Whole}
-use Rattle.array_machine.specs.declared.answers.Aborted.{Aborted}
+use Rattle.array_machine.proofs.Common.{◌≡◌, ◌≢◌, ◌⊎◌, ℕ, ◌+◌, Bool, true, false, cond, List, [], ◌∷◌, length, take, All, AllPairs, Option, Some, None, Result, Ok, Err, refl, sym, ap, ◌∙◌, subst, inl, inr, MatchOption, All-nil, All-head, All-tail, All-push, All-contains, all_from, PageWrite, ArrayState, Entry, Pages, entry_of, new_entry, page_at, put, with_entry, without, Collects, GoInTurn, StepsAll, Steps, StepGives, AbortGives, GoesOn, settled, settled_entry, Limits, opened, refusal, Doubt, Whole, Aborted, Collected, Fault, Moved, Progress, StepError, SubmitError, Command, Reply, Run, RunState, Serves, DoesCommand, NotDone, LosesOpen, MayComplete, Finishes, Avoid, AllAvoid, HasWhole, IsConsistent, writes_in, seen_after, submit_reply}
+use Rattle.std.proofs.Common.{zip}
+use Rattle.tx_types.specs.Batch.{Writes}
+use Rattle.array_machine.specs.ArrayState.{Represents}
+use Rattle.array_machine.specs.Submit.{answer}
 use Rattle.array_machine.specs.declared.answers.Aborted.TheVariants as aborted
-use Rattle.array_machine.specs.declared.answers.Collected.{Collected}
-use Rattle.array_machine.specs.declared.answers.Fault.{Fault}
-use Rattle.array_machine.specs.declared.answers.Moved.{Moved}
-use Rattle.array_machine.specs.declared.answers.Progress.{Progress}
 use Rattle.array_machine.specs.declared.answers.Progress.TheVariants as progress
-use Rattle.array_machine.specs.declared.answers.StepError.{StepError}
 use Rattle.array_machine.specs.declared.answers.StepError.TheVariants as failed
-use Rattle.array_machine.specs.declared.answers.SubmitError.{SubmitError}
-use Rattle.host_protocol.specs.declared.command.Command.{Command}
 use Rattle.host_protocol.specs.declared.command.Command.TheVariants as command
-use Rattle.host_protocol.specs.declared.reply.Reply.{Reply}
-use Rattle.array_machine.specs.Run.{Run, RunState, Serves, DoesCommand, NotDone, LosesOpen, CutLeavesOf, MayComplete, Finishes, is_opened, Avoid, AllAvoid}
-use Rattle.array_machine.specs.Run.{NoneOpens, HasWhole, IsConsistent, writes_in, opened_by, seen_after, submit_reply}
+use Rattle.array_machine.specs.Run.{CutLeavesOf, is_opened}
+use Rattle.array_machine.specs.Run.{NoneOpens, opened_by}
 use Rattle.array_machine.proofs.Finishes.{found_is_in, settled_found}
-use Rattle.array_machine.proofs.Ways.{each_way}
+use Rattle.array_machine.proofs.Cases.{each_way}
 use Rattle.array_machine.proofs.Each.{takes_other, takes_long, takes_atomic}
 use Rattle.array_machine.proofs.Apart.{WholeOrSame, SameOrApart, IsBeside, whole_same, whole_or_then, beside_then, beside_taken, beside_settled, beside_in}
 use Rattle.array_machine.proofs.Apart.{settled_whole, all_without, all_with}
@@ -251,7 +233,7 @@ goes_stay page old new h goes = record {
 }
 
 opened_stay : (page : ℕ) (tag : ℕ) (ws : List PageWrite) (s : ArrayState) → AllAvoid page s.entries → Avoid page ws → Stay page s (opened None tag ws s)
-opened_stay page tag ws s h avoid = record { same = refl; avoid = All-push (λ (e : Entry). Avoid page e.writes) s.entries (opening tag ws) h avoid }
+opened_stay page tag ws s h avoid = record { same = refl; avoid = All-push (λ (e : Entry). Avoid page e.writes) s.entries (new_entry tag ws) h avoid }
 
 -- or it opens the transaction that it writes
 pub record Opens (limits : Limits) (spent : ℕ → Bool) (c : Command) (r : Reply) (old new : ArrayState) : Type 0 where
@@ -317,13 +299,13 @@ pub run_stays : (limits : Limits) (seen : ℕ → ℕ) (old : RunState) (cs : Li
 run_stays limits seen old cs rs new page run h none = (run_stay limits seen old cs rs new page run h none).same
 
 -- an array that stands for the state has it too
-stands_same : (page : ℕ) (s : ArrayState) (pages : Pages) → AllAvoid page s.entries → StandsFor s pages → page_at pages page ≡ page_at s.pages page
+stands_same : (page : ℕ) (s : ArrayState) (pages : Pages) → AllAvoid page s.entries → Represents s pages → page_at pages page ≡ page_at s.pages page
 stands_same page s pages h (inl same) = ap (λ p. page_at p page) same
 stands_same page s pages h (inr (e, has, doubt, took)) =
     ap (λ p. page_at p page) took ∙ put_other page e.writes s.pages (All-contains (λ (x : Entry). Avoid page x.writes) s.entries e h has)
 
 pub run_stands : (limits : Limits) (seen : ℕ → ℕ) (old : RunState) (cs : List Command) (rs : List Reply) (new : RunState) (page : ℕ) (pages : Pages) →
     Run limits seen old cs rs new →
-    AllAvoid page old.machine.entries → NoneOpens page cs rs → StandsFor new.machine pages → page_at pages page ≡ page_at old.machine.pages page
+    AllAvoid page old.machine.entries → NoneOpens page cs rs → Represents new.machine pages → page_at pages page ≡ page_at old.machine.pages page
 run_stands limits seen old cs rs new page pages run h none stands =
     let stay = run_stay limits seen old cs rs new page run h none in stands_same page new.machine pages stay.avoid stands ∙ stay.same

@@ -1,16 +1,8 @@
 -- A transaction that is given up: its pages have what they had while it was open.
-use Rattle.std.proofs.Common.{◌≡◌, ◌≢◌, ℕ, ◌+◌, ◌≤◌, Bool, true, false, cond, List, [], ◌∷◌, ◌++◌, map, All, Some}
-use Rattle.std.proofs.Common.{None, refl, sym, ap, ◌∙◌, subst, inl, inr, arith, eqb-true, Contains, ◌==◌}
-use Rattle.std.specs.Prelude.{count_by}
-use Rattle.std.proofs.lemmas.Bool.{cases_Bool, eqb-false}
-use Rattle.std.proofs.lemmas.List.Sums.{sum_by-cons}
-use Rattle.array_machine.specs.ArrayState.{ArrayState, Entry, entry_of, has_tag, is_doubted, page_at, put, with_entry}
-use Rattle.array_machine.specs.ArrayState.{without}
-use Rattle.array_machine.specs.Step.{settled, settled_entry, settled_mark}
-use Rattle.array_machine.specs.declared.mark.Mark.{Mark}
-use Rattle.array_machine.specs.declared.mark.Mark.TheVariants.{Plain, Doubt, Whole}
+use Rattle.array_machine.proofs.Common.{◌≡◌, ◌≢◌, ℕ, ◌+◌, ◌≤◌, Bool, true, false, cond, List, [], ◌∷◌, ◌++◌, map, All, Some, None, refl, sym, ap, ◌∙◌, subst, inl, inr, arith, eqb-true, Contains, count_by, cases_Bool, sum_by-cons, ArrayState, Entry, entry_of, has_tag, is_doubted, page_at, put, with_entry, without, settled, settled_entry, settled_mark, Mark, Plain, Doubt, Whole, HasSame, IsConsistent}
+use Rattle.std.proofs.Common.{◌==◌}
+use Rattle.std.proofs.lemmas.Bool.{eqb-false}
 use Rattle.array_machine.specs.Promises.{HasOneOf}
-use Rattle.array_machine.specs.Run.{HasSame, IsConsistent}
 use Rattle.array_machine.proofs.Apart.{apart_two, other_same, same_then, settled_sure_same}
 use Rattle.array_machine.proofs.Finishes.{found_is_in}
 use Rattle.array_machine.proofs.UnbrokenCalls.{tagged, again}

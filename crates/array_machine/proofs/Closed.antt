@@ -1,30 +1,20 @@
 -- Nothing is open while no device is mounted, and after a reply that power was cut or that what was open is dropped.
-use Rattle.std.proofs.Common.{◌≡◌, ℕ, Bool, true, false, true≢false, List, [], ◌∷◌, Result, Ok, Err, refl, sym, ap, ◌∙◌, subst}
-use Rattle.array_machine.specs.Submit.{Limits}
+use Rattle.array_machine.proofs.Common.{◌≡◌, ℕ, Bool, true, false, List, [], ◌∷◌, Result, Ok, Err, refl, sym, ap, ◌∙◌, subst, Limits, SubmitError, Progress, StepError, Aborted, Collected, Fault, ArrayState, Command, Reply, Run, RunState, Serves, DoesCommand, NotDone, seen_after, submit_reply, step_reply, abort_reply}
+use Rattle.std.proofs.Common.{true≢false}
 use Rattle.array_machine.specs.declared.answers.ReadAnswer.{ReadAnswer}
 use Rattle.array_machine.specs.declared.answers.ReadAnswer.TheVariants as answer
 use Rattle.array_machine.specs.declared.answers.ReadError.{ReadError}
 use Rattle.array_machine.specs.declared.answers.ReadError.TheVariants as unread
-use Rattle.array_machine.specs.declared.answers.SubmitError.{SubmitError}
 use Rattle.array_machine.specs.declared.answers.SubmitError.TheVariants as refused
-use Rattle.array_machine.specs.declared.answers.Progress.{Progress}
 use Rattle.array_machine.specs.declared.answers.Progress.TheVariants as progress
-use Rattle.array_machine.specs.declared.answers.StepError.{StepError}
 use Rattle.array_machine.specs.declared.answers.StepError.TheVariants as failed
-use Rattle.array_machine.specs.declared.answers.Aborted.{Aborted}
 use Rattle.array_machine.specs.declared.answers.Aborted.TheVariants as aborted
-use Rattle.array_machine.specs.declared.answers.Collected.{Collected}
 use Rattle.array_machine.specs.declared.answers.Collected.TheVariants as collected
-use Rattle.array_machine.specs.declared.answers.Fault.{Fault}
-use Rattle.array_machine.specs.ArrayState.{ArrayState}
-use Rattle.host_protocol.specs.declared.command.Command.{Command}
 use Rattle.host_protocol.specs.declared.command.Command.TheVariants as command
-use Rattle.host_protocol.specs.declared.reply.Reply.{Reply}
-use Rattle.array_machine.specs.Run.{Run, RunState, Serves, DoesCommand, NotDone, IsClosedUnmounted, seen_after, read_reply, submit_reply, step_reply}
-use Rattle.array_machine.specs.Run.{abort_reply}
+use Rattle.array_machine.specs.Run.{IsClosedUnmounted, read_reply}
 use Rattle.array_machine.specs.Run.{collect_reply}
 use Rattle.array_machine.specs.Breaks.{is_lost}
-use Rattle.array_machine.proofs.Ways.{each_way}
+use Rattle.array_machine.proofs.Cases.{each_way}
 
 same_closed : (old new : RunState) → new ≡ old → IsClosedUnmounted old → IsClosedUnmounted new
 same_closed old new same h = subst IsClosedUnmounted (sym same) h

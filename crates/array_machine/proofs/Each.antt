@@ -1,13 +1,11 @@
 -- Transactions of which each was taken or not, by itself, and what a command may take.
-use Rattle.std.proofs.Common.{◌≡◌, ℕ, Bool, List, [], ◌∷◌, length, map, take, zero, suc, refl, ap, ◌∙◌, inl, inr, Contains}
-use Rattle.std.proofs.lemmas.List.Elements.{All-head, All-tail, All-contains}
-use Rattle.list_facts.proofs.Membership.{Contains-first, Contains-rest}
-use Rattle.array_machine.specs.ArrayState.{Entry, Pages, page_at, put}
+use Rattle.array_machine.proofs.Common.{◌≡◌, ℕ, Bool, List, [], ◌∷◌, length, map, take, refl, ap, ◌∙◌, inl, inr, Contains, All-head, All-tail, All-contains, Entry, Pages, page_at, put, settled_entry, Command, Avoid, AllAvoid, EntriesAreApart, HasSame}
+use Rattle.std.proofs.Common.{zero, suc}
+use Rattle.list_lemmas.proofs.Membership.{Contains-first, Contains-rest}
 use Rattle.array_machine.specs.Batches.{MayTakeEach}
-use Rattle.array_machine.specs.Step.{MayTake, settled_entry}
-use Rattle.host_protocol.specs.declared.command.Command.{Command}
+use Rattle.array_machine.specs.Step.{MayTake}
 use Rattle.host_protocol.specs.declared.command.Command.TheVariants as command
-use Rattle.array_machine.specs.Run.{Avoid, AllAvoid, EntriesAreApart, HasSame, TakesOf}
+use Rattle.array_machine.specs.Run.{TakesOf}
 use Rattle.array_machine.proofs.Apart.{WholeOrSame, SameOrApart, IsBeside, beside_taken, beside_then, other_same, same_then, whole_or_then}
 use Rattle.array_machine.proofs.Taking.{part_less, part_same, put_length, put_other}
 

@@ -1,21 +1,15 @@
 -- Going on with a transaction up to its end.
-use Rattle.std.proofs.Common.{◌≡◌, ◌≢◌, ◌⊎◌, ℕ, ◌+◌, ◌-◌, ◌<◌, ◌≤◌, max, Bool, true, false, cond, List, [], ◌∷◌, length, map, Contains, Option, Some, None}
-use Rattle.std.proofs.Common.{Result, Ok, Err, refl, sym, ap, ap₂, ◌∙◌, subst, inl, inr, arith}
-use Rattle.std.specs.Prelude.{MatchOption}
-use Rattle.list_facts.proofs.Tests.{find_stands}
-use Rattle.list_facts.proofs.Membership.{Contains-cases, Contains-first, Contains-nil, Contains-rest, in_map}
-use Rattle.array_machine.specs.ArrayState.{ArrayState, Entry, Pages, entry_of, has_tag, is_doubted, put, with_entry}
-use Rattle.array_machine.specs.Step.{Steps, StepGives, CutLeaves, IsAtLast, MayTake, doubted, settled, settled_entry, settled_mark}
-use Rattle.array_machine.specs.declared.mark.Mark.{Mark}
-use Rattle.array_machine.specs.declared.mark.Mark.TheVariants.{Plain, Doubt, Whole}
-use Rattle.array_machine.specs.declared.answers.Progress.{Progress}
+use Rattle.array_machine.proofs.Common.{◌≡◌, ◌≢◌, ◌⊎◌, ℕ, ◌+◌, ◌<◌, ◌≤◌, Bool, true, false, cond, List, [], ◌∷◌, length, map, Contains, Option, Some, None, Result, Ok, Err, refl, sym, ap, ◌∙◌, subst, inl, inr, arith, MatchOption, Contains-cases, Contains-nil, ArrayState, Entry, Pages, entry_of, has_tag, is_doubted, put, with_entry, Steps, StepGives, IsAtLast, doubted, settled, settled_entry, settled_mark, Mark, Plain, Doubt, Whole, Progress, StepError, Reply, Finishes, step_reply}
+use Rattle.std.proofs.Common.{◌-◌, max}
+use Rattle.std.proofs.Common.{ap₂}
+use Rattle.list_lemmas.proofs.Tests.{find_stands}
+use Rattle.list_lemmas.proofs.Membership.{Contains-first, Contains-rest, in_map}
+use Rattle.array_machine.specs.Step.{CutLeaves, MayTake}
 use Rattle.array_machine.specs.declared.answers.Progress.TheVariants as progress
-use Rattle.array_machine.specs.declared.answers.StepError.{StepError}
 use Rattle.array_machine.specs.declared.answers.StepError.TheVariants as failed
 use Rattle.array_machine.proofs.UnbrokenCalls.{tagged, again}
-use Rattle.host_protocol.specs.declared.reply.Reply.{Reply}
 use Rattle.host_protocol.specs.declared.reply.Reply.TheVariants as reply
-use Rattle.array_machine.specs.Run.{Finishes, left_of, pages_left, step_reply}
+use Rattle.array_machine.specs.Run.{left_of, pages_left}
 
 -- A step that wrote a page
 pub record Writes (there : Bool) (old new : ArrayState) (tag : ℕ) (e : Entry) : Type 0 where

@@ -1,7 +1,8 @@
+mod Common
 pub mod Accepting
 pub mod UnbrokenCalls
 pub mod Finishes
-pub mod Ways
+pub mod Cases
 pub mod Taking
 pub mod Apart
 pub mod Each

@@ -1,17 +1,12 @@
 -- Runs in which no break was to come.
-use Rattle.std.proofs.Common.{◌≡◌, ℕ, ◌≤◌, false, List, [], ◌∷◌, length, take, get_or, Option, Some, None, refl, arith}
-use Rattle.std.specs.Prelude.{All, count_by, IsSome}
+use Rattle.array_machine.proofs.Common.{◌≡◌, ℕ, ◌≤◌, false, List, [], ◌∷◌, length, take, Option, Some, None, refl, arith, count_by, All-take, none_counted, ArrayState, Entry, entry_of, Limits, finish_answer, Command, Reply, is_break, step_reply}
+use Rattle.std.proofs.Common.{get_or}
+use Rattle.std.specs.Prelude.{All, IsSome}
 use Rattle.std.proofs.lemmas.List.{take_all}
-use Rattle.std.proofs.lemmas.List.Elements.{All-take}
-use Rattle.list_facts.proofs.Tests.{none_counted, all_uncounted}
-use Rattle.array_machine.specs.ArrayState.{ArrayState, Entry, entry_of}
-use Rattle.array_machine.specs.Submit.{Limits}
-use Rattle.array_machine.specs.UnbrokenCalls.{finish_answer}
-use Rattle.host_protocol.specs.declared.command.Command.{Command}
+use Rattle.list_lemmas.proofs.Tests.{all_uncounted}
 use Rattle.host_protocol.specs.declared.command.Command.TheVariants as command
-use Rattle.host_protocol.specs.declared.reply.Reply.{Reply}
 use Rattle.host_protocol.specs.declared.reply.Reply.TheVariants as reply
-use Rattle.array_machine.specs.Run.{is_arm, is_break, step_reply}
+use Rattle.array_machine.specs.Run.{is_arm}
 use Rattle.array_machine.specs.Breaks.{AreFew, is_cut, is_fault, arms_cut, arms_fault}
 use Rattle.array_machine.specs.Unbroken.{Handed, UnbrokenRun, FinishesAreDone, state_after}
 

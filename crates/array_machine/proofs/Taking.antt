@@ -1,14 +1,8 @@
 -- What the array takes, and which transactions stay open.
-use Rattle.std.proofs.Common.{◌≡◌, ◌≢◌, ◌⊎◌, ℕ, ◌<◌, Bool, true, false, cond, List, [], ◌∷◌, ◌++◌, length, map, All, AllPairs, Some, None, refl, sym, ap, ◌∙◌}
-use Rattle.std.proofs.Common.{subst, inl, inr, arith}
+use Rattle.array_machine.proofs.Common.{◌≡◌, ◌≢◌, ◌⊎◌, ℕ, ◌<◌, Bool, true, false, cond, List, [], ◌∷◌, ◌++◌, length, map, All, AllPairs, Some, None, refl, sym, ap, ◌∙◌, subst, inl, inr, arith, All-nil, All-cons, All-head, All-tail, All-contains, all_from, PageWrite, ArrayState, Entry, Pages, entry_of, has_tag, is_doubted, page_at, put, with_entry, without, doubted, settled, settled_entry, Avoid, AllAvoid, EntriesAreApart}
 use Rattle.std.proofs.lemmas.List.{length-set, get_or-set_same, get_or-set_other}
-use Rattle.std.proofs.lemmas.List.Elements.{All-nil, All-cons, All-head, All-tail, All-append, All-contains}
-use Rattle.list_facts.proofs.Membership.{all_from}
-use Rattle.list_facts.proofs.Pairs.{pairs_head, pairs_tail, pairs_cons}
-use Rattle.tx_types.specs.Batch.{PageWrite}
-use Rattle.array_machine.specs.ArrayState.{ArrayState, Entry, Pages, entry_of, has_tag, is_doubted, page_at, put, with_entry, without}
-use Rattle.array_machine.specs.Step.{doubted, settled, settled_entry}
-use Rattle.array_machine.specs.Run.{Avoid, AllAvoid, EntriesAreApart}
+use Rattle.std.proofs.lemmas.List.Elements.{All-append}
+use Rattle.list_lemmas.proofs.Pairs.{pairs_head, pairs_tail, pairs_cons}
 
 -- ---- the array with some writes
 

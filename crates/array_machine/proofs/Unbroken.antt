@@ -1,37 +1,23 @@
 -- Runs in which power is not cut and nothing fails.
-use Rattle.std.proofs.Common.{◌≡◌, ◌≢◌, ◌⊎◌, ℕ, ◌+◌, ◌<◌, ◌≤◌, ◌^◌, Bool, true, false, cond, List, [], ◌∷◌, length, Option, Some, None, Result, Ok, Err, refl}
-use Rattle.std.proofs.Common.{sym, ap, ◌∙◌, subst, inl, inr, arith}
-use Rattle.std.specs.Prelude.{All, nat_lt, count_by}
-use Rattle.std.proofs.lemmas.Bool.{cases_Bool}
+use Rattle.array_machine.proofs.Common.{◌≡◌, ◌≢◌, ◌⊎◌, ℕ, ◌+◌, ◌<◌, ◌≤◌, Bool, true, false, cond, List, [], ◌∷◌, length, Option, Some, None, Result, Ok, Err, refl, sym, ap, ◌∙◌, subst, inl, inr, arith, count_by, cases_Bool, All-nil, All-cons, All-push, All-head, All-tail, sum_by-cons, PageWrite, ArrayState, entry_of, page_at, new_entry, Collects, Limits, opened, refusal, finish_answer, SubmitError, Progress, StepError, Aborted, Collected, Fault, Command, Reply, Run, RunState, Serves, DoesCommand, Finishes, NotDone, LosesOpen, seen_after, is_break, writes_in, submit_reply, step_reply, abort_reply}
+use Rattle.std.proofs.Common.{◌^◌}
+use Rattle.std.specs.Prelude.{All, nat_lt}
 use Rattle.std.proofs.lemmas.Bool.Decides.{nat_tests}
-use Rattle.std.proofs.lemmas.List.Elements.{All-nil, All-cons, All-push, All-head, All-tail}
-use Rattle.std.proofs.lemmas.List.Sums.{sum_by-cons}
-use Rattle.tx_types.specs.Batch.{PageWrite}
-use Rattle.array_machine.specs.ArrayState.{ArrayState, entry_of, page_at, opening}
 use Rattle.array_machine.specs.Read.{ReadsPage}
-use Rattle.array_machine.specs.Collect.{Collects}
-use Rattle.array_machine.specs.Submit.{Limits, is_of, opened, refusal}
-use Rattle.array_machine.specs.UnbrokenCalls.{AllPlain, finish_answer, finished}
+use Rattle.array_machine.specs.Submit.{is_of}
+use Rattle.array_machine.specs.UnbrokenCalls.{AllPlain, finished}
 use Rattle.array_machine.proofs.UnbrokenCalls.{IsPlain, settled_same, step_fine, step_all_fine, abort_fine, last_finishes, wrote_finishes}
 use Rattle.array_machine.specs.declared.answers.ReadAnswer.{ReadAnswer}
 use Rattle.array_machine.specs.declared.answers.ReadAnswer.TheVariants as read
 use Rattle.array_machine.specs.declared.answers.ReadError.{ReadError}
 use Rattle.array_machine.specs.declared.answers.ReadError.TheVariants as unread
-use Rattle.array_machine.specs.declared.answers.SubmitError.{SubmitError}
-use Rattle.array_machine.specs.declared.answers.Progress.{Progress}
 use Rattle.array_machine.specs.declared.answers.Progress.TheVariants as progress
-use Rattle.array_machine.specs.declared.answers.StepError.{StepError}
 use Rattle.array_machine.specs.declared.answers.StepError.TheVariants as failed
-use Rattle.array_machine.specs.declared.answers.Aborted.{Aborted}
-use Rattle.array_machine.specs.declared.answers.Collected.{Collected}
 use Rattle.array_machine.specs.declared.answers.Collected.TheVariants as collected
-use Rattle.array_machine.specs.declared.answers.Fault.{Fault}
-use Rattle.host_protocol.specs.declared.command.Command.{Command}
 use Rattle.host_protocol.specs.declared.command.Command.TheVariants as command
-use Rattle.host_protocol.specs.declared.reply.Reply.{Reply}
 use Rattle.host_protocol.specs.declared.reply.Reply.TheVariants as reply
-use Rattle.array_machine.specs.Run.{Run, RunState, Serves, DoesCommand, Finishes, NotDone, LosesOpen, MayBeSpent, seen_after, is_break, is_opened, writes_in}
-use Rattle.array_machine.specs.Run.{read_reply, submit_reply, step_reply, abort_reply, collect_reply}
+use Rattle.array_machine.specs.Run.{MayBeSpent, is_opened}
+use Rattle.array_machine.specs.Run.{read_reply, collect_reply}
 use Rattle.array_machine.specs.Unbroken.{Handed, IsReply, page_reply, state_after, UnbrokenRun, AreMaybeSpent, times_written, VersionsSuffice}
 
 -- a reply that is no break
@@ -59,7 +45,7 @@ read_fine limits s page bytes (Err unread.Fault) h b = cc
 
 -- Submitting
 opened_plain : (o : Option SubmitError) (tag : ℕ) (ws : List PageWrite) (s : ArrayState) → AllPlain s → AllPlain (opened o tag ws s)
-opened_plain None tag ws s h = All-push IsPlain s.entries (opening tag ws) h refl
+opened_plain None tag ws s h = All-push IsPlain s.entries (new_entry tag ws) h refl
 opened_plain (Some e) tag ws s h = h
 
 -- Steps

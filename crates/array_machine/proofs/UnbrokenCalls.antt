@@ -1,24 +1,13 @@
 -- Where nothing is in doubt and nothing fails, the calls of the array machine are functions.
-use Rattle.std.proofs.Common.{◌≡◌, ◌≢◌, ℕ, ◌+◌, Bool, true, false, cond, List, [], ◌∷◌, length, map, Option, Some, None, Result, Ok, Err, refl, sym, ap, ap₂}
-use Rattle.std.proofs.Common.{◌∙◌, subst, inl, inr, arith}
-use Rattle.std.specs.Prelude.{MatchOption, All, IfSome, count_by, not, take}
-use Rattle.std.proofs.lemmas.Bool.{cases_Bool}
+use Rattle.array_machine.proofs.Common.{◌≡◌, ◌≢◌, ℕ, ◌+◌, Bool, true, false, cond, List, [], ◌∷◌, length, map, Option, Some, None, Result, Ok, Err, refl, sym, ap, ◌∙◌, subst, inl, inr, arith, MatchOption, count_by, cases_Bool, All-cons, All-head, All-tail, All-take, sum_by-cons, ArrayState, Entry, entry_of, has_tag, put, with_entry, without, Mark, Plain, Doubt, Whole, GoInTurn, StepsAll, settled, settled_mark, settled_entry, doubted, StepGives, Steps, AbortGives, Aborts, finish_answer, Aborted, Moved, Progress, StepError}
+use Rattle.std.proofs.Common.{ap₂}
+use Rattle.std.specs.Prelude.{All, IfSome, not, take}
 use Rattle.std.proofs.lemmas.Bool.Decides.{nat_tests}
-use Rattle.std.proofs.lemmas.List.Elements.{All-cons, All-head, All-tail, All-take}
-use Rattle.std.proofs.lemmas.List.Sums.{sum_by-cons}
-use Rattle.array_machine.specs.ArrayState.{ArrayState, Entry, entry_of, has_tag, put, with_entry, without}
-use Rattle.array_machine.specs.declared.mark.Mark.{Mark}
-use Rattle.array_machine.specs.declared.mark.Mark.TheVariants.{Plain, Doubt, Whole}
-use Rattle.array_machine.specs.Batches.{GoInTurn, StepsAll, is_done}
-use Rattle.array_machine.specs.Step.{settled, settled_mark, settled_entry, doubted, StepGives, Steps, AbortGives, Aborts}
-use Rattle.array_machine.specs.UnbrokenCalls.{AllPlain, has_more, is_ending, taken, step_answer, stepped, stepped_each, finish_answer, finished, abort_answer}
+use Rattle.array_machine.specs.Batches.{is_done}
+use Rattle.array_machine.specs.UnbrokenCalls.{AllPlain, has_more, is_ending, taken, step_answer, stepped, stepped_each, finished, abort_answer}
 use Rattle.array_machine.specs.UnbrokenCalls.{aborted_from}
-use Rattle.array_machine.specs.declared.answers.Aborted.{Aborted}
 use Rattle.array_machine.specs.declared.answers.Aborted.TheVariants as aborted
-use Rattle.array_machine.specs.declared.answers.Moved.{Moved}
-use Rattle.array_machine.specs.declared.answers.Progress.{Progress}
 use Rattle.array_machine.specs.declared.answers.Progress.TheVariants as progress
-use Rattle.array_machine.specs.declared.answers.StepError.{StepError}
 use Rattle.array_machine.specs.declared.answers.StepError.TheVariants as failed
 
 abbrev pub IsPlain : Entry → Type 0

@@ -40,8 +40,8 @@ abbrev pub idle : Pages → ArrayState
 idle pages = record { pages = pages; entries = [] }
 
 -- a transaction that was just opened
-abbrev pub opening : ℕ → List PageWrite → Entry
-opening tag writes = record { tag = tag; writes = writes; done = 0; mark = Plain }
+abbrev pub new_entry : ℕ → List PageWrite → Entry
+new_entry tag writes = record { tag = tag; writes = writes; done = 0; mark = Plain }
 
 abbrev pub has_tag : ℕ → Entry → Bool
 has_tag tag e = e.tag == tag
@@ -65,7 +65,7 @@ abbrev pub pending_pages : List Entry → ℕ
 pending_pages entries = sum_by (λ e. length e.writes) entries
 
 -- the array of the image is the device's, or that with the pages of the transaction in doubt
-abbrev pub StandsFor : ArrayState → Pages → Type 0
-StandsFor s pages =
+abbrev pub Represents : ArrayState → Pages → Type 0
+Represents s pages =
     (pages ≡ s.pages)
     ⊎ ((e : Entry) × Contains s.entries e × (e.mark ≡ Doubt) × (pages ≡ put s.pages e.writes))

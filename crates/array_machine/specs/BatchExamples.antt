@@ -1,7 +1,7 @@
 -- A few transactions that go on at once, and what the definitions say of them.
 use Rattle.std.specs.Prelude.{◌≡◌, ℕ, false, List, [], ◌∷◌, None, Some}
 use Rattle.tx_types.specs.Batch.{PageWrite}
-use Rattle.array_machine.specs.ArrayState.{ArrayState, Entry, Pages, idle, opening, put}
+use Rattle.array_machine.specs.ArrayState.{ArrayState, Entry, Pages, idle, new_entry, put}
 use Rattle.array_machine.specs.Batches.{MayTakeEach, StepsAllAs}
 use Rattle.array_machine.specs.Step.{IsAtLast}
 
@@ -14,10 +14,10 @@ blank_pages = None ∷ None ∷ None ∷ []
 
 -- a transaction of one page, and one of two
 abbrev pub first : Entry
-first = opening 1 (write 0 1 ∷ [])
+first = new_entry 1 (write 0 1 ∷ [])
 
 abbrev pub second : Entry
-second = opening 2 (write 1 2 ∷ write 2 3 ∷ [])
+second = new_entry 2 (write 1 2 ∷ write 2 3 ∷ [])
 
 abbrev pub both_open : ArrayState
 both_open = record { pages = blank_pages; entries = first ∷ second ∷ [] }

@@ -3,7 +3,7 @@ use Rattle.std.specs.Prelude.{◌≡◌, ℕ, ◌-◌, ◌==◌, ◌++◌, Bool,
 use Rattle.std.specs.Prelude.{if◌then◌else◌}
 use Rattle.std.specs.List.{list_any}
 use Rattle.tx_types.specs.Batch.{PageWrite}
-use Rattle.array_machine.specs.ArrayState.{ArrayState, Entry, has_tag, pending_pages, opening}
+use Rattle.array_machine.specs.ArrayState.{ArrayState, Entry, has_tag, pending_pages, new_entry}
 use Rattle.array_machine.specs.declared.answers.SubmitError.{SubmitError}
 use Rattle.array_machine.specs.declared.answers.SubmitError.TheVariants as refused
 
@@ -85,7 +85,7 @@ answer (Some e) = Err e
 
 -- the state after the answer: a batch that is not refused is opened
 abbrev pub opened : Option SubmitError → ℕ → List PageWrite → ArrayState → ArrayState
-opened None tag writes s = record s { entries = s.entries ++ opening tag writes ∷ [] }
+opened None tag writes s = record s { entries = s.entries ++ new_entry tag writes ∷ [] }
 opened (Some e) tag writes s = s
 
 -- a transaction is submitted

@@ -3,8 +3,8 @@
 #![tactic(auto)]
 
 mod answers;
-pub mod laws;
 mod mark;
+pub mod theorems;
 
 pub use answers::{
     Aborted, Collected, Fault, Moved, Progress, ReadAnswer, ReadError, StepError, SubmitError,

@@ -1,3 +1,4 @@
+mod Common
 pub mod OfCopies
 pub mod OfErase
 pub mod OfClean

@@ -1,5 +1,5 @@
 pub mod EraseExits
 pub mod ErasedBlocks
 pub mod Emptying
-pub mod Exchange
+pub mod Swap
 pub mod VictimCalls

@@ -14,7 +14,7 @@ use Rattle.version_index.specs.declared.note.Note.{Note}
 use Rattle.version_index.specs.declared.note.Note.TheVariants.{Blank, Damaged, Holds}
 use Rattle.version_index.specs.Images.{written_in}
 use Rattle.version_index.specs.Notes.{note_at}
-use Rattle.version_index.specs.Noted.{Noted, current_name_of}
+use Rattle.version_index.specs.IndexState.{IndexState, current_name_of}
 use Rattle.collector.specs.declared.unsure.Unsure.{Unsure}
 use Rattle.collector.specs.declared.unsure.Unsure.TheVariants as unsure
 
@@ -35,22 +35,22 @@ contents_noted protocol page_bytes list (Holds rec) =
     complete (option_map_or (λ text. text.bytes) (text_at list (name_of rec)) (replicate page_bytes 0))
     (spelling protocol rec)
 
-abbrev pub contents_known : Noted → ℕ → Unsure → List Contents → ℕ → Contents → Contents
+abbrev pub contents_known : IndexState → ℕ → Unsure → List Contents → ℕ → Contents → Contents
 contents_known n spare unsure image slot contents =
     if is_unsure (shape_of n.config) spare unsure slot
     then contents_noted n.config.protocol n.config.page_bytes (written_in n.config.protocol image)
     (note_at n.notes slot)
     else contents
 
-unfoldable pub known_image : Noted → ℕ → Unsure → List Contents → List Contents
+unfoldable pub known_image : IndexState → ℕ → Unsure → List Contents → List Contents
 known_image n spare unsure image =
     map (λ (slot, contents). contents_known n spare unsure image slot contents)
     (enumerate_from 0 image)
 
 -- what the known image has at a page: what the flash has under the name of the page's current record
-abbrev pub page_known : Noted → List Contents → ℕ → Option (List ℕ)
+abbrev pub page_known : IndexState → List Contents → ℕ → Option (List ℕ)
 page_known n image page = value_at (written_in n.config.protocol image) (current_name_of n page)
 
 -- the array of pages that the known image stands for
-unfoldable pub array_known : Noted → List Contents → List (Option (List ℕ))
+unfoldable pub array_known : IndexState → List Contents → List (Option (List ℕ))
 array_known n image = map (page_known n image) (range_with_len 0 n.config.logical)

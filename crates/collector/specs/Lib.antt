@@ -1,6 +1,6 @@
 pub mod Known
 pub mod Matches
-pub mod Store
+pub mod StoreParts
 pub mod Preserves
 pub mod Victim
 pub mod Collecting

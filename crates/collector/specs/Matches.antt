@@ -11,31 +11,31 @@ use Rattle.record_list.specs.Written.{is_outside, IsDispensable}
 use Rattle.version_index.specs.declared.note.Note.TheVariants.{Blank, Holds}
 use Rattle.version_index.specs.Images.{IsSoundImage}
 use Rattle.version_index.specs.Notes.{found_in, note_at, note_of}
-use Rattle.version_index.specs.Noted.{Noted, IsNoted, IsNextRecord, pinned_names}
-use Rattle.die_alloc.specs.BlockTable.{BlockTable, IsBlockTable, IsFree}
+use Rattle.version_index.specs.IndexState.{IndexState, IsNoted, IsNextRecord, pinned_names}
+use Rattle.die_alloc.specs.BlocksState.{BlocksState, IsBlocksState, IsFree}
 use Rattle.collector.specs.declared.unsure.Unsure.{Unsure}
 use Rattle.collector.specs.declared.unsure.Unsure.TheVariants as unsure
 use Rattle.collector.specs.Known.{is_unsure}
 
 -- each slot of a block passes the test
-abbrev pub AllOfBlock : Noted → ℕ → (ℕ → Type 0) → Type 0
+abbrev pub AllOfBlock : IndexState → ℕ → (ℕ → Type 0) → Type 0
 AllOfBlock n block P =
     (slot : ℕ) → slot < slots_of (shape_of n.config) → slot / n.config.pages_per_block ≡ block →
     P slot
 
 -- a slot is noted as it reads
-abbrev pub IsNotedAt : List Contents → Noted → ℕ → Type 0
+abbrev pub IsNotedAt : List Contents → IndexState → ℕ → Type 0
 IsNotedAt image n slot = note_at n.notes slot ≡ note_of n.config.protocol (slot_at image slot)
 
 -- what a broken erase leaves: the block as it is noted, or all its slots damaged, or all blank
-abbrev pub IsErasing : List Contents → Noted → ℕ → Type 0
+abbrev pub IsErasing : List Contents → IndexState → ℕ → Type 0
 IsErasing image n block =
     AllOfBlock n block (IsNotedAt image n)
     ⊎ (AllOfBlock n block (λ slot. slot_at image slot ≡ damaged)
     ⊎ AllOfBlock n block (λ slot. slot_at image slot ≡ blank))
 
 -- each record that is noted in a block can be spelled
-abbrev pub HasSpellings : Noted → ℕ → Type 0
+abbrev pub HasSpellings : IndexState → ℕ → Type 0
 HasSpellings n block =
     AllOfBlock n block
     (λ slot. (rec : Rec) → note_at n.notes slot ≡ Holds rec →
@@ -47,12 +47,12 @@ IsProgramming image at IsAskedFor =
     (slot_at image at ≡ blank) ⊎ ((slot_at image at ≡ damaged) ⊎ IsAskedFor (slot_at image at))
 
 -- contents with the spelling of a record as their spare area
-abbrev pub SpellsRecord : Noted → Rec → Contents → Type 0
+abbrev pub SpellsRecord : IndexState → Rec → Contents → Type 0
 SpellsRecord n rec contents =
     (bytes : _) × (contents ≡ complete bytes (spelling n.config.protocol rec))
 
 -- so many first slots of a block hold records, and those after them are blank
-pub record IsFilledBy (n : Noted) (block filled : ℕ) : Type 0 where
+pub record IsFilledBy (n : IndexState) (block filled : ℕ) : Type 0 where
   pub within : filled ≤ n.config.pages_per_block
   pub records :
       (k : ℕ) → k < filled →
@@ -62,11 +62,11 @@ pub record IsFilledBy (n : Noted) (block filled : ℕ) : Type 0 where
       note_at n.notes (block * n.config.pages_per_block + k) ≡ Blank
 
 -- the first slots of a block hold records, up to some slot
-abbrev pub IsFilledTo : Noted → ℕ → Type 0
+abbrev pub IsFilledTo : IndexState → ℕ → Type 0
 IsFilledTo n block = (filled : ℕ) × IsFilledBy n block filled
 
 -- the place whose contents are not known, what the tables have there, and what may be there
-abbrev pub IsPlace : List Contents → Noted → BlockTable → Unsure → Type 0
+abbrev pub IsPlace : List Contents → IndexState → BlocksState → Unsure → Type 0
 IsPlace image n t unsure.Nothing = Unit {0}
 IsPlace image n t (unsure.Own at rec) =
     IsFree t at.0 × (note_at n.notes at.0 ≡ Blank) × CanBeSpelled n.config.protocol rec
@@ -82,13 +82,13 @@ IsPlace image n t (unsure.VictimErase block) =
     × IsFilledTo n t.spare × HasSpellings n block.0
 
 -- each current, each held and each pinned present record has a slot outside the block
-abbrev pub CanSpare : Noted → ℕ → Type 0
+abbrev pub CanSpare : IndexState → ℕ → Type 0
 CanSpare n block =
     IsDispensable n.config.protocol (found_in n.notes) n.config.logical (pinned_names n.pins)
     (shape_of n.config) block
 
 -- the block that is being erased, where that is the collected one
-abbrev pub VictimIsSpared : Noted → Unsure → Type 0
+abbrev pub VictimIsSpared : IndexState → Unsure → Type 0
 VictimIsSpared n unsure.Nothing = Unit {0}
 VictimIsSpared n (unsure.Own at rec) = Unit {0}
 VictimIsSpared n (unsure.Copy from to) = Unit {0}
@@ -97,13 +97,13 @@ VictimIsSpared n (unsure.VictimErase block) = CanSpare n block.0
 
 -- The tables match the flash. Its image is sound; save for the one place whose contents are not known each slot is
 -- noted as it reads; the records that are needed have slots outside the spare; and free slots are noted as blank.
-pub record Matches (s : FlashState) (n : Noted) (t : BlockTable) (u : Unsure) : Type 0 where
+pub record Matches (s : FlashState) (n : IndexState) (t : BlocksState) (u : Unsure) : Type 0 where
   pub shape : s.shape ≡ shape_of n.config
   pub flash : IsFlash s
   pub sound : IsSoundImage n.config.protocol n.config.logical s.shape s.image
   pub noted : IsNoted n.config.protocol n
   pub counts : HasCounts (found_in n.notes)
-  pub table : IsBlockTable t
+  pub table : IsBlocksState t
   pub blocks : t.shape ≡ s.shape
   pub spare : n.spare ≡ Some t.spare
   pub sure : (slot : ℕ) → slot < slots_of s.shape → is_unsure s.shape t.spare u slot ≡ false →
@@ -115,13 +115,13 @@ pub record Matches (s : FlashState) (n : Noted) (t : BlockTable) (u : Unsure) : 
 
 -- A record whose program was broken may be there: a transaction in progress asks for it, and each of its records that
 -- is present has a slot outside the spare.
-pub record CanTakeOwn (n : Noted) (t : BlockTable) (rec : Rec) : Type 0 where
+pub record CanTakeOwn (n : IndexState) (t : BlocksState) (rec : Rec) : Type 0 where
   pub next : IsNextRecord n rec
   pub outside : All (λ name. is_present (found_in n.notes) name ≡ true →
       is_present (left (is_outside (shape_of n.config) t.spare) (found_in n.notes)) name
       ≡ true) next.names
 
-abbrev pub CanTake : Noted → BlockTable → Unsure → Type 0
+abbrev pub CanTake : IndexState → BlocksState → Unsure → Type 0
 CanTake n t unsure.Nothing = Unit {0}
 CanTake n t (unsure.Own at rec) = CanTakeOwn n t rec
 CanTake n t (unsure.Copy from to) = Unit {0}
@@ -129,7 +129,7 @@ CanTake n t unsure.SpareErase = Unit {0}
 CanTake n t (unsure.VictimErase block) = Unit {0}
 
 -- a slot of the spare that is blank, as are all later ones of the block
-pub record IsNextOfSpare (n : Noted) (spare at : ℕ) : Type 0 where
+pub record IsNextOfSpare (n : IndexState) (spare at : ℕ) : Type 0 where
   pub within : at < slots_of (shape_of n.config)
   pub in_spare : at / n.config.pages_per_block ≡ spare
   pub blank_on :

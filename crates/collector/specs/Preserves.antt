@@ -9,15 +9,15 @@ use Rattle.record_list.specs.Transaction.{InProgress}
 use Rattle.record_list.specs.Written.{text_at}
 use Rattle.version_index.specs.Images.{written_in, records_in, array_in}
 use Rattle.version_index.specs.Notes.{found_in}
-use Rattle.version_index.specs.Noted.{Noted, current_of, current_name_of, held_of, pinned_names}
+use Rattle.version_index.specs.IndexState.{IndexState, current_of, current_name_of, held_of, pinned_names}
 
 -- a name that some noted record has
-abbrev pub IsThere : Noted → Link → Type 0
+abbrev pub IsThere : IndexState → Link → Type 0
 IsThere n name = is_present (found_in n.notes) name ≡ true
 
 -- Current versions, pins and mentions stay. No name is added; those that are current or pinned stay, and so do the
 -- transactions in progress. No record is held that was not.
-pub record Preserves (old new : Noted) : Type 0 where
+pub record Preserves (old new : IndexState) : Type 0 where
   pub config : new.config ≡ old.config
   pub pins : new.pins ≡ old.pins
   pub mentions : new.mentions ≡ old.mentions

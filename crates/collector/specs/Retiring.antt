@@ -12,24 +12,24 @@ use Rattle.flash_model.specs.Flash.{FlashState, Contents}
 use Rattle.flash_model.specs.Moves.{FlashMoves}
 use Rattle.flash_model.specs.Operations.{Operation}
 use Rattle.flash_model.specs.Retiring.{CarriesRetiring, IsNotReplaced, IsReplaced, Retires, RetiresAfter, RetiresTorn}
-use Rattle.version_index.specs.Noted.{Noted, erased, with_spare}
+use Rattle.version_index.specs.IndexState.{IndexState, erased, with_spare}
 use Rattle.collector.specs.declared.unsure.Unsure.{Unsure}
 use Rattle.collector.specs.declared.unsure.Unsure.TheVariants as unsure
 use Rattle.collector.specs.BreakingOff.{BreaksOff}
-use Rattle.collector.specs.Collecting.{cleaning, copies, exchanged, needed_slots, noted_cleaned}
-use Rattle.collector.specs.Going.{HasNoNewRecord, IsTreated}
+use Rattle.collector.specs.Collecting.{cleaning, copies, swapped, needed_slots, noted_cleaned}
+use Rattle.collector.specs.Going.{HasNoNewRecord, IsEvicted}
 use Rattle.collector.specs.Looking.{reads_after}
 use Rattle.collector.specs.Matches.{Matches}
 use Rattle.collector.specs.Preserves.{Preserves, KeepsArray}
-use Rattle.collector.specs.Store.{Store}
+use Rattle.collector.specs.StoreParts.{StoreParts}
 
 -- the slots that are copied before a block is replaced: none of the spare
-abbrev pub moved_slots : Noted → ℕ → ℕ → List ℕ
+abbrev pub moved_slots : IndexState → ℕ → ℕ → List ℕ
 moved_slots n spare block =
     if block == spare then [] else needed_slots (noted_cleaned n spare) block
 
 -- the operations that come before a block is replaced: none for the spare, and else those that collect the block, but its erase
-abbrev pub retiring_first : Noted → List Contents → ℕ → ℕ → List Operation
+abbrev pub retiring_first : IndexState → List Contents → ℕ → ℕ → List Operation
 retiring_first n image spare block =
     if block == spare then []
     else cleaning n image spare
@@ -38,7 +38,7 @@ retiring_first n image spare block =
 
 -- What stays of the tables and of the array, done or broken. The place that is left unsure is none of an open transaction's
 -- records.
-pub record KeepsStore (p : Protocol) (a b : Store) (broken : Bool) : Type 0 where
+pub record KeepsStore (p : Protocol) (a b : StoreParts) (broken : Bool) : Type 0 where
   pub matches : Matches b.flash b.noted b.table b.unsure
   pub preserves : Preserves a.noted b.noted
   pub array : KeepsArray p a.noted.config.logical a.flash.image b.flash.image
@@ -47,12 +47,12 @@ pub record KeepsStore (p : Protocol) (a b : Store) (broken : Bool) : Type 0 wher
   pub records : HasNoNewRecord a.noted b.noted
 
 -- what a call keeps that may replace a block
-pub record KeepsRetiring (p : Protocol) (a b : Store) (broken : Bool) : Type 0 where
+pub record KeepsRetiring (p : Protocol) (a b : StoreParts) (broken : Bool) : Type 0 where
   pub tables : KeepsStore p a b broken
   pub carries : CarriesRetiring a.flash b.flash broken
 
 -- The spare is replaced: it is all blank then. Where that was broken it is not known whether it was.
-pub record RetiresSpare (p : Protocol) (a b : Store) (result : Result (Unit {0}) Broken) : Type 0 where
+pub record RetiresSpare (p : Protocol) (a b : StoreParts) (result : Result (Unit {0}) Broken) : Type 0 where
   pub keeps : KeepsRetiring p a b (is_err result)
   pub retires : Retires a.flash b.flash a.table.spare result
   pub noted : OnOk result (b.noted ≡ erased a.noted a.table.spare)
@@ -60,12 +60,12 @@ pub record RetiresSpare (p : Protocol) (a b : Store) (result : Result (Unit {0})
   pub blocks : b.table ≡ a.table
 
 -- A block is replaced whose needed records were copied, and is the spare then.
-pub record RetiresVictim (p : Protocol) (a b : Store) (block : Block) (used : ℕ)
+pub record RetiresVictim (p : Protocol) (a b : StoreParts) (block : Block) (used : ℕ)
     (result : Result (Unit {0}) Broken) : Type 0 where
   pub keeps : KeepsRetiring p a b (is_err result)
   pub retires : Retires a.flash b.flash block.0 result
   pub noted : OnOk result (b.noted ≡ with_spare (erased a.noted block.0) block.0)
-  pub blocks : OnOk result (b.table ≡ exchanged a.table block.0 used)
+  pub blocks : OnOk result (b.table ≡ swapped a.table block.0 used)
   pub torn : OnErr result ((b.unsure ≡ unsure.VictimErase block) × (b.noted ≡ a.noted)
       × (b.table ≡ a.table))
 
@@ -74,7 +74,7 @@ abbrev pub RetiresNone : FlashState → FlashState → Type 0
 RetiresNone old new = FlashMoves old new true × (new.extras ≡ old.extras)
 
 -- the replacement of the spare was broken, and nothing came before it
-pub record SpareBreaks (n : Noted) (old new : FlashState) (spare : ℕ) (n' : Noted)
+pub record SpareBreaks (n : IndexState) (old new : FlashState) (spare : ℕ) (n' : IndexState)
     (u : Unsure) : Type 0 where
   pub left : IsNotReplaced old new ⊎ IsReplaced old new spare
   pub reads : new.reads ≡ old.reads
@@ -91,20 +91,20 @@ EndsRetiring old new block (unsure.VictimErase b) = RetiresTorn old new block
 
 -- Retiring a block breaks off, and this place is unsure then: for the spare in its replacement, and else where collecting the
 -- block breaks off, with the replacement in the place of the last erase.
-abbrev pub RetiringBreaks : Noted → FlashState → FlashState → ℕ → ℕ → Noted → Unsure → Type 0
+abbrev pub RetiringBreaks : IndexState → FlashState → FlashState → ℕ → ℕ → IndexState → Unsure → Type 0
 RetiringBreaks n old new spare block n' u =
     (block ≡ spare → SpareBreaks n old new spare n' u)
     × (block ≢ spare → BreaksOff n old new spare block n' u × EndsRetiring old new block u)
 
 -- A block is retired.
-pub record RetiresBlock (p : Protocol) (a b : Store) (block : ℕ)
+pub record RetiresBlock (p : Protocol) (a b : StoreParts) (block : ℕ)
     (result : Result (Unit {0}) Broken) : Type 0 where
   pub keeps : KeepsRetiring p a b (is_err result)
   -- after Ok exactly these operations were done, and then the block was replaced
   pub done : OnOk result (RetiresAfter a.flash b.flash
       (retiring_first a.noted a.flash.image a.table.spare block) block)
   -- the tables say so, as where the block is collected, or erased where it is the spare
-  pub noted : OnOk result (IsTreated a.noted a.table block b.noted b.table)
+  pub noted : OnOk result (IsEvicted a.noted a.table block b.noted b.table)
   pub reads : OnOk result (b.flash.reads
       ≡ reads_after (length (moved_slots a.noted a.table.spare block)) a.flash.reads)
   -- after a broken operation or replacement a front part was done, and the blocks are kept as they were

@@ -4,8 +4,8 @@ use Rattle.tx_types.specs.Config.{shape_of, blocks_of}
 use Rattle.tx_types.specs.declared.config.Block.{Block}
 use Rattle.tx_types.specs.declared.config.BlockState.{BlockState}
 use Rattle.tx_types.specs.declared.config.BlockState.TheVariants.{Spare, Clean, Part, Shut}
-use Rattle.version_index.specs.Noted.{Noted, garbage_of}
-use Rattle.die_alloc.specs.BlockTable.{BlockTable, block_state}
+use Rattle.version_index.specs.IndexState.{IndexState, garbage_of}
+use Rattle.die_alloc.specs.BlocksState.{BlocksState, block_state}
 
 abbrev pub is_shut : BlockState → Bool
 is_shut Spare = false
@@ -14,11 +14,11 @@ is_shut Part = false
 is_shut Shut = true
 
 -- the number of garbage slots of a block: none in the spare
-abbrev pub garbage_in : Noted → BlockTable → ℕ → ℕ
+abbrev pub garbage_in : IndexState → BlocksState → ℕ → ℕ
 garbage_in n t block = garbage_of n block (is_shut (block_state t block))
 
 -- the block has garbage, none has more, and none that is lower has as much
-pub record IsVictim (n : Noted) (t : BlockTable) (block : ℕ) : Type 0 where
+pub record IsVictim (n : IndexState) (t : BlocksState) (block : ℕ) : Type 0 where
   pub exists : block < blocks_of (shape_of n.config)
   pub some : 0 < garbage_in n t block
   pub most : (other : ℕ) → other < blocks_of (shape_of n.config) →
@@ -26,9 +26,9 @@ pub record IsVictim (n : Noted) (t : BlockTable) (block : ℕ) : Type 0 where
   pub lowest : (other : ℕ) → other < block → garbage_in n t other < garbage_in n t block
 
 -- no slot outside the spare is garbage
-abbrev pub HasNoGarbage : Noted → BlockTable → Type 0
+abbrev pub HasNoGarbage : IndexState → BlocksState → Type 0
 HasNoGarbage n t = (block : ℕ) → block < blocks_of (shape_of n.config) → garbage_in n t block ≡ 0
 
-abbrev pub FindsVictim : Noted → BlockTable → Option Block → Type 0
+abbrev pub FindsVictim : IndexState → BlocksState → Option Block → Type 0
 FindsVictim n t None = HasNoGarbage n t
 FindsVictim n t (Some block) = IsVictim n t block.0

@@ -1,12 +1,12 @@
 ghost use Rattle.std.specs.Prelude.{◌≡◌, ◌<◌, if◌then◌else◌};
 ghost use Rattle.tx_types.specs.Config.{shape_of, blocks_of};
-ghost use Rattle.version_index.specs.Noted.{erased, lost};
+ghost use Rattle.version_index.specs.IndexState.{erased, lost};
 ghost use Rattle.collector.specs.Matches.{CanSpare};
-ghost use Rattle.collector.specs.Settling.{CanSettle, Finds, records_held};
-ghost use Rattle.collector.specs.Store.{store_of};
+ghost use Rattle.collector.specs.Settling.{CanSettle, Finds, count_records};
+ghost use Rattle.collector.specs.StoreParts.{store_parts};
 
-use crate::exchanging::exchange;
 use crate::reading::{read_block, reads_alike};
+use crate::swapping::swap_spare;
 use crate::{Settled, Unsure};
 use die_alloc::Blocks;
 use flash_model::{Broken, Flash, Seen};
@@ -22,9 +22,9 @@ pub(crate) fn settle_spare<F: Flash, R: CommitRule>(
     blocks: &Blocks,
     room: &mut [u8],
 ) -> Result<Settled, Broken>
-    requires { CanSettle R.protocol (store_of (F.state flash.old) index.old blocks.now
+    requires { CanSettle R.protocol (store_parts (F.state flash.old) index.old blocks.now
         Unsure.SpareErase) room.old }
-    ensures { Finds (store_of (F.state flash.old) index.old blocks.now Unsure.SpareErase)
+    ensures { Finds (store_parts (F.state flash.old) index.old blocks.now Unsure.SpareErase)
         (F.state flash.new) index.new blocks.now result }
 {
     let spare = blocks.spare();
@@ -45,16 +45,16 @@ pub(crate) fn settle_victim<F: Flash, R: CommitRule>(
     room: &mut [u8],
     block: Block,
 ) -> Result<Settled, Broken>
-    requires { CanSettle R.protocol (store_of (F.state flash.old) index.old blocks.old
+    requires { CanSettle R.protocol (store_parts (F.state flash.old) index.old blocks.old
         (Unsure.VictimErase block)) room.old }
-    ensures { Finds (store_of (F.state flash.old) index.old blocks.old (Unsure.VictimErase block))
+    ensures { Finds (store_parts (F.state flash.old) index.old blocks.old (Unsure.VictimErase block))
         (F.state flash.new) index.new blocks.new result }
 {
     let reading = read_block(flash, index, room, block)?;
     if !reading.as_noted {
-        let used = records_held(index, blocks.spare());
+        let used = count_records(index, blocks.spare());
         note_change(index, block, reading.blank);
-        exchange(index, blocks, block, used);
+        swap_spare(index, blocks, block, used);
     }
     Ok(Settled::Other)
 }
@@ -73,9 +73,9 @@ fn note_change<R: CommitRule>(index: &mut Index<R>, block: Block, blank: bool)
 }
 
 /// How many slots of a block hold records.
-fn records_held<R: CommitRule>(index: &Index<R>, block: Block) -> u32
+fn count_records<R: CommitRule>(index: &Index<R>, block: Block) -> u32
     requires exists { block.0 < blocks_of (shape_of index.now.config) }
-    ensures { result ≡ records_held index.now block.0 }
+    ensures { result ≡ count_records index.now block.0 }
 {
     let pages = index.config().pages_per_block;
     let first = block.0 * pages;

@@ -1,5 +1,5 @@
 ghost use Rattle.collector.specs.Settling.{CanSettle, Finds, Settles};
-ghost use Rattle.collector.specs.Store.{store_of};
+ghost use Rattle.collector.specs.StoreParts.{store_parts};
 
 use crate::block_settling::{settle_spare, settle_victim};
 use crate::settling::{settle_copy, settle_own};
@@ -18,10 +18,10 @@ pub fn settle<F: Flash, R: CommitRule>(
     unsure: &mut Unsure,
     room: &mut [u8],
 ) -> Result<Settled, Broken>
-    requires { CanSettle R.protocol (store_of (F.state flash.old) index.old blocks.old unsure.old)
+    requires { CanSettle R.protocol (store_parts (F.state flash.old) index.old blocks.old unsure.old)
         room.old }
-    ensures { Settles (store_of (F.state flash.old) index.old blocks.old unsure.old)
-        (store_of (F.state flash.new) index.new blocks.new unsure.new) result }
+    ensures { Settles (store_parts (F.state flash.old) index.old blocks.old unsure.old)
+        (store_parts (F.state flash.new) index.new blocks.new unsure.new) result }
 {
     let found = settle_place(flash, index, blocks, *unsure, room)?;
     *unsure = Unsure::Nothing;
@@ -36,9 +36,9 @@ fn settle_place<F: Flash, R: CommitRule>(
     unsure: Unsure,
     room: &mut [u8],
 ) -> Result<Settled, Broken>
-    requires { CanSettle R.protocol (store_of (F.state flash.old) index.old blocks.old unsure)
+    requires { CanSettle R.protocol (store_parts (F.state flash.old) index.old blocks.old unsure)
         room.old }
-    ensures { Finds (store_of (F.state flash.old) index.old blocks.old unsure)
+    ensures { Finds (store_parts (F.state flash.old) index.old blocks.old unsure)
         (F.state flash.new) index.new blocks.new result }
 {
     match unsure {

@@ -2,7 +2,7 @@ ghost use Rattle.std.specs.Prelude.{◌≡◌, ◌<◌};
 ghost use Rattle.tx_types.specs.Config.{shape_of, blocks_of};
 ghost use Rattle.collector.specs.Calls.{Cleans};
 ghost use Rattle.collector.specs.Collecting.{is_noted_blank, reads_blank};
-ghost use Rattle.collector.specs.Store.{IsSure, store_of};
+ghost use Rattle.collector.specs.StoreParts.{IsSure, store_parts};
 
 use crate::Unsure;
 use die_alloc::Blocks;
@@ -19,9 +19,9 @@ pub fn clean_spare<F: Flash, R: CommitRule>(
     blocks: &mut Blocks,
     unsure: &mut Unsure,
 ) -> Result<(), Broken>
-    requires { IsSure R.protocol (store_of (F.state flash.old) index.old blocks.old unsure.old) }
-    ensures { Cleans R.protocol (store_of (F.state flash.old) index.old blocks.old unsure.old)
-        (store_of (F.state flash.new) index.new blocks.new unsure.new) result }
+    requires { IsSure R.protocol (store_parts (F.state flash.old) index.old blocks.old unsure.old) }
+    ensures { Cleans R.protocol (store_parts (F.state flash.old) index.old blocks.old unsure.old)
+        (store_parts (F.state flash.new) index.new blocks.new unsure.new) result }
 {
     let spare = blocks.spare();
     if is_noted_blank(index, spare) {

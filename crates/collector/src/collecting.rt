@@ -2,7 +2,7 @@ ghost use Rattle.std.specs.Prelude.{◌≡◌, ◌≢◌, ◌*◌, ◌<◌, leng
 ghost use Rattle.tx_types.specs.Config.{shape_of, blocks_of};
 ghost use Rattle.collector.specs.Calls.{CanCollect, Collects, CollectsClean, CopiesNeeded};
 ghost use Rattle.collector.specs.Matches.{IsNextOfSpare};
-ghost use Rattle.collector.specs.Store.{IsSure, store_of};
+ghost use Rattle.collector.specs.StoreParts.{IsSure, store_parts};
 
 use crate::Unsure;
 use crate::cleaning::clean_spare;
@@ -25,11 +25,11 @@ pub fn collect<F: Flash, R: CommitRule>(
     room: &mut [u8],
     block: Block,
 ) -> Result<(), Broken>
-    requires sure { IsSure R.protocol (store_of (F.state flash.old) index.old blocks.old unsure.old) }
+    requires sure { IsSure R.protocol (store_parts (F.state flash.old) index.old blocks.old unsure.old) }
     requires can { CanCollect index.old blocks.old block.0 }
     requires room { length room.old ≡ index.old.config.page_bytes }
-    ensures { Collects R.protocol (store_of (F.state flash.old) index.old blocks.old unsure.old)
-        (store_of (F.state flash.new) index.new blocks.new unsure.new) block.0 result }
+    ensures { Collects R.protocol (store_parts (F.state flash.old) index.old blocks.old unsure.old)
+        (store_parts (F.state flash.new) index.new blocks.new unsure.new) block.0 result }
 {
     clean_spare(flash, index, blocks, unsure)?;
     collect_clean(flash, index, blocks, unsure, room, block)
@@ -44,14 +44,14 @@ pub(crate) fn collect_clean<F: Flash, R: CommitRule>(
     room: &mut [u8],
     block: Block,
 ) -> Result<(), Broken>
-    requires sure { IsSure R.protocol (store_of (F.state flash.old) index.old blocks.old unsure.old) }
+    requires sure { IsSure R.protocol (store_parts (F.state flash.old) index.old blocks.old unsure.old) }
     requires exists { block.0 < blocks_of (shape_of index.old.config) }
     requires not_spare { block.0 ≢ blocks.old.spare }
     requires blank { IsNextOfSpare index.old blocks.old.spare
         (blocks.old.spare * index.old.config.pages_per_block) }
     requires room { length room.old ≡ index.old.config.page_bytes }
-    ensures { CollectsClean R.protocol (store_of (F.state flash.old) index.old blocks.old unsure.old)
-        (store_of (F.state flash.new) index.new blocks.new unsure.new) block result }
+    ensures { CollectsClean R.protocol (store_parts (F.state flash.old) index.old blocks.old unsure.old)
+        (store_parts (F.state flash.new) index.new blocks.new unsure.new) block result }
 {
     let used = copy_needed(flash, index, blocks, unsure, room, block)?;
     erase_victim(flash, index, blocks, unsure, block, used)
@@ -68,14 +68,14 @@ pub(crate) fn copy_needed<F: Flash, R: CommitRule>(
     room: &mut [u8],
     block: Block,
 ) -> Result<u32, Broken>
-    requires sure { IsSure R.protocol (store_of (F.state flash.old) index.old blocks.now unsure.old) }
+    requires sure { IsSure R.protocol (store_parts (F.state flash.old) index.old blocks.now unsure.old) }
     requires exists { block.0 < blocks_of (shape_of index.old.config) }
     requires not_spare { block.0 ≢ blocks.now.spare }
     requires blank { IsNextOfSpare index.old blocks.now.spare
         (blocks.now.spare * index.old.config.pages_per_block) }
     requires room { length room.old ≡ index.old.config.page_bytes }
-    ensures { CopiesNeeded R.protocol (store_of (F.state flash.old) index.old blocks.now unsure.old)
-        (store_of (F.state flash.new) index.new blocks.now unsure.new) block.0 result }
+    ensures { CopiesNeeded R.protocol (store_parts (F.state flash.old) index.old blocks.now unsure.old)
+        (store_parts (F.state flash.new) index.new blocks.now unsure.new) block.0 result }
 {
     let pages = index.config().pages_per_block;
     let first = block.0 * pages;

@@ -1,6 +1,6 @@
 ghost use Rattle.std.specs.Prelude.{◌≡◌, length};
 ghost use Rattle.collector.specs.Calls.{CanCopy, CopiesRecord};
-ghost use Rattle.collector.specs.Store.{IsSure, store_of};
+ghost use Rattle.collector.specs.StoreParts.{IsSure, store_parts};
 
 use crate::Unsure;
 use die_alloc::Blocks;
@@ -22,11 +22,11 @@ pub(crate) fn copy_record<F: Flash, R: CommitRule>(
     from: Slot,
     to: Slot,
 ) -> Result<(), Broken>
-    requires sure { IsSure R.protocol (store_of (F.state flash.old) index.old blocks.now unsure.old) }
+    requires sure { IsSure R.protocol (store_parts (F.state flash.old) index.old blocks.now unsure.old) }
     requires can { CanCopy index.old blocks.now from.0 to.0 }
     requires room { length room.old ≡ index.old.config.page_bytes }
-    ensures { CopiesRecord R.protocol (store_of (F.state flash.old) index.old blocks.now unsure.old)
-        (store_of (F.state flash.new) index.new blocks.now unsure.new) from to result }
+    ensures { CopiesRecord R.protocol (store_parts (F.state flash.old) index.old blocks.now unsure.old)
+        (store_parts (F.state flash.new) index.new blocks.now unsure.new) from to result }
 {
     let mut spare_area = [0; 64];
     flash.read(from, room, &mut spare_area)?;

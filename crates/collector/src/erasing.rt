@@ -1,8 +1,8 @@
 ghost use Rattle.collector.specs.Calls.{CanErase, ErasesVictim};
-ghost use Rattle.collector.specs.Store.{IsSure, store_of};
+ghost use Rattle.collector.specs.StoreParts.{IsSure, store_parts};
 
 use crate::Unsure;
-use crate::exchanging::exchange;
+use crate::swapping::swap_spare;
 use die_alloc::Blocks;
 use flash_model::{Broken, Flash};
 use record_list::CommitRule;
@@ -19,17 +19,17 @@ pub(crate) fn erase_victim<F: Flash, R: CommitRule>(
     block: Block,
     used: u32,
 ) -> Result<(), Broken>
-    requires sure { IsSure R.protocol (store_of (F.state flash.old) index.old blocks.old unsure.old) }
+    requires sure { IsSure R.protocol (store_parts (F.state flash.old) index.old blocks.old unsure.old) }
     requires can { CanErase index.old blocks.old block.0 used }
     ensures { ErasesVictim R.protocol
-        (store_of (F.state flash.old) index.old blocks.old unsure.old)
-        (store_of (F.state flash.new) index.new blocks.new unsure.new) block used result }
+        (store_parts (F.state flash.old) index.old blocks.old unsure.old)
+        (store_parts (F.state flash.new) index.new blocks.new unsure.new) block used result }
 {
     if let Err(broken) = flash.erase(block) {
         *unsure = Unsure::VictimErase { block };
         return Err(broken);
     }
     index.note_erased(block);
-    exchange(index, blocks, block, used);
+    swap_spare(index, blocks, block, used);
     Ok(())
 }

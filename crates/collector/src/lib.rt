@@ -2,7 +2,7 @@
 //! left. Whatever breaks, the image stays sound and stands for the same array.
 #![tactic(auto)]
 
-mod block_room;
+mod block_buffer;
 mod block_settling;
 mod broken_operation;
 mod choosing;
@@ -10,19 +10,19 @@ mod cleaning;
 mod collecting;
 mod copying;
 mod erasing;
-mod exchanging;
-pub mod laws;
 mod making_room;
 mod reading;
 mod retiring;
 mod settling;
+mod swapping;
+pub mod theorems;
 mod unsure;
 
-pub use block_room::BlockRoom;
+pub use block_buffer::BlockBuffer;
 pub use broken_operation::settle;
 pub use choosing::victim;
 pub use cleaning::clean_spare;
 pub use collecting::collect;
-pub use making_room::{clear, collect_most, free_slot};
+pub use making_room::{allocate_slot, clear_superseded, collect_victim};
 pub use retiring::retire_block;
 pub use unsure::{Settled, Unsure};

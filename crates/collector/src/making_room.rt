@@ -2,18 +2,18 @@ ghost use Rattle.std.specs.Prelude.{◌≡◌, ◌≢◌, ◌<◌, List, Some, N
 ghost use Rattle.std.specs.Result.{is_err};
 ghost use Rattle.tx_types.specs.declared.record.Link.{Link};
 ghost use Rattle.tx_types.specs.Config.{shape_of, blocks_of};
-ghost use Rattle.version_index.specs.Noted.{block_to_go};
-ghost use Rattle.die_alloc.specs.BlockTable.{IsFull};
+ghost use Rattle.version_index.specs.IndexState.{block_to_go};
+ghost use Rattle.die_alloc.specs.BlocksState.{IsFull};
 ghost use Rattle.die_alloc.specs.NextSlot.{next_slot, after_next_slot};
-ghost use Rattle.collector.specs.Calls.{Clears, CollectsMost, FindsSlot, Treats};
+ghost use Rattle.collector.specs.Calls.{ClearsSuperseded, CollectsVictim, AllocatesSlot, Evicts};
 ghost use Rattle.collector.specs.Collecting.{HasUnneeded};
 ghost use Rattle.collector.specs.Going.{IsNextName};
-ghost use Rattle.collector.specs.Store.{IsSure, store_of};
+ghost use Rattle.collector.specs.StoreParts.{IsSure, store_parts};
 
 use crate::choosing::victim;
 use crate::cleaning::clean_spare;
 use crate::collecting::{collect, collect_clean};
-use crate::{BlockRoom, Unsure};
+use crate::{BlockBuffer, Unsure};
 use die_alloc::Blocks;
 use flash_model::{Broken, Flash};
 use record_list::CommitRule;
@@ -23,23 +23,23 @@ use version_index::Index;
 /// Treats each block that holds a record which must go before the version `below` of a page is
 /// programmed, the lowest first: erases it where it is the spare, and else collects it. Then there
 /// is none.
-pub fn clear<F: Flash, R: CommitRule>(
+pub fn clear_superseded<F: Flash, R: CommitRule>(
     flash: &mut F,
     index: &mut Index<R>,
     blocks: &mut Blocks,
     unsure: &mut Unsure,
     room: &mut [u8],
-    going: &mut BlockRoom,
+    going: &mut BlockBuffer,
     page: u32,
     below: u64,
 ) -> Result<(), Broken>
-    requires sure { IsSure R.protocol (store_of (F.state flash.old) index.old blocks.old unsure.old) }
+    requires sure { IsSure R.protocol (store_parts (F.state flash.old) index.old blocks.old unsure.old) }
     requires next { (names : List Link) × IsNextName index.old names
         (record { page = page; version = below }) }
     requires room { length room.old ≡ index.old.config.page_bytes }
-    ensures clears { Clears R.protocol
-        (store_of (F.state flash.old) index.old blocks.old unsure.old)
-        (store_of (F.state flash.new) index.new blocks.new unsure.new) page below result }
+    ensures clears { ClearsSuperseded R.protocol
+        (store_parts (F.state flash.old) index.old blocks.old unsure.old)
+        (store_parts (F.state flash.new) index.new blocks.new unsure.new) page below result }
     // Where nothing must go, nothing is done.
     ensures idle { block_to_go index.old page below ≡ None →
         (result ≡ Ok tt) × (flash.new ≡ flash.old)
@@ -52,7 +52,7 @@ pub fn clear<F: Flash, R: CommitRule>(
     for block in going.blocks.iter() {
         // The spare may have been made blank meanwhile.
         if index.is_going(page, below, *block) {
-            treat(flash, index, blocks, unsure, room, *block)?;
+            evict_block(flash, index, blocks, unsure, room, *block)?;
         }
     }
     Ok(())
@@ -60,7 +60,7 @@ pub fn clear<F: Flash, R: CommitRule>(
 
 /// Treats a block that holds a record which must go: erases it where it is the spare, and else
 /// collects it.
-fn treat<F: Flash, R: CommitRule>(
+fn evict_block<F: Flash, R: CommitRule>(
     flash: &mut F,
     index: &mut Index<R>,
     blocks: &mut Blocks,
@@ -68,12 +68,12 @@ fn treat<F: Flash, R: CommitRule>(
     room: &mut [u8],
     block: Block,
 ) -> Result<(), Broken>
-    requires sure { IsSure R.protocol (store_of (F.state flash.old) index.old blocks.old unsure.old) }
+    requires sure { IsSure R.protocol (store_parts (F.state flash.old) index.old blocks.old unsure.old) }
     requires exists { block.0 < blocks_of (shape_of index.old.config) }
     requires unneeded { block.0 ≢ blocks.old.spare → HasUnneeded index.old block.0 }
     requires room { length room.old ≡ index.old.config.page_bytes }
-    ensures { Treats R.protocol (store_of (F.state flash.old) index.old blocks.old unsure.old)
-        (store_of (F.state flash.new) index.new blocks.new unsure.new) block.0 result }
+    ensures { Evicts R.protocol (store_parts (F.state flash.old) index.old blocks.old unsure.old)
+        (store_parts (F.state flash.new) index.new blocks.new unsure.new) block.0 result }
 {
     if block.0 == blocks.spare().0 {
         clean_spare(flash, index, blocks, unsure)
@@ -84,19 +84,19 @@ fn treat<F: Flash, R: CommitRule>(
 
 /// The slot that is programmed next. Where no block has room the spare is made blank and the block
 /// with the most garbage is collected first: so there is such a slot.
-pub fn free_slot<F: Flash, R: CommitRule>(
+pub fn allocate_slot<F: Flash, R: CommitRule>(
     flash: &mut F,
     index: &mut Index<R>,
     blocks: &mut Blocks,
     unsure: &mut Unsure,
     room: &mut [u8],
 ) -> Result<Slot, Broken>
-    requires sure { IsSure R.protocol (store_of (F.state flash.old) index.old blocks.old unsure.old) }
+    requires sure { IsSure R.protocol (store_parts (F.state flash.old) index.old blocks.old unsure.old) }
     requires next { (names : List Link) × (name : Link) × IsNextName index.old names name }
     requires room { length room.old ≡ index.old.config.page_bytes }
-    ensures finds { FindsSlot R.protocol
-        (store_of (F.state flash.old) index.old blocks.old unsure.old)
-        (store_of (F.state flash.new) index.new blocks.new unsure.new) result }
+    ensures finds { AllocatesSlot R.protocol
+        (store_parts (F.state flash.old) index.old blocks.old unsure.old)
+        (store_parts (F.state flash.new) index.new blocks.new unsure.new) result }
     // A block that has room serves at once, and only the cursor moves.
     ensures direct { (IsFull blocks.old → ⊥) → IfOk result (λ at. Some at ≡ next_slot blocks.old)
         × (blocks.new ≡ after_next_slot blocks.old) × (is_err result ≡ false)
@@ -106,7 +106,7 @@ pub fn free_slot<F: Flash, R: CommitRule>(
         return Ok(at);
     }
     // There is garbage where no block has room.
-    let _collected = collect_most(flash, index, blocks, unsure, room)?;
+    let _collected = collect_victim(flash, index, blocks, unsure, room)?;
     let Some(at) = blocks.next_slot() else {
         unreachable!();
     };
@@ -114,17 +114,17 @@ pub fn free_slot<F: Flash, R: CommitRule>(
 }
 
 /// Makes the spare blank, and collects the block with the most garbage: whether there is any.
-pub fn collect_most<F: Flash, R: CommitRule>(
+pub fn collect_victim<F: Flash, R: CommitRule>(
     flash: &mut F,
     index: &mut Index<R>,
     blocks: &mut Blocks,
     unsure: &mut Unsure,
     room: &mut [u8],
 ) -> Result<bool, Broken>
-    requires sure { IsSure R.protocol (store_of (F.state flash.old) index.old blocks.old unsure.old) }
+    requires sure { IsSure R.protocol (store_parts (F.state flash.old) index.old blocks.old unsure.old) }
     requires room { length room.old ≡ index.old.config.page_bytes }
-    ensures { CollectsMost R.protocol (store_of (F.state flash.old) index.old blocks.old unsure.old)
-        (store_of (F.state flash.new) index.new blocks.new unsure.new) result }
+    ensures { CollectsVictim R.protocol (store_parts (F.state flash.old) index.old blocks.old unsure.old)
+        (store_parts (F.state flash.new) index.new blocks.new unsure.new) result }
 {
     clean_spare(flash, index, blocks, unsure)?;
     let Some(chosen) = victim(index, blocks) else {

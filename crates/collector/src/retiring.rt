@@ -3,12 +3,12 @@ ghost use Rattle.tx_types.specs.Config.{shape_of, blocks_of};
 ghost use Rattle.flash_model.specs.Retiring.{MayRetire};
 ghost use Rattle.collector.specs.Calls.{CanErase};
 ghost use Rattle.collector.specs.Retiring.{RetiresBlock, RetiresSpare, RetiresVictim};
-ghost use Rattle.collector.specs.Store.{IsSure, store_of};
+ghost use Rattle.collector.specs.StoreParts.{IsSure, store_parts};
 
 use crate::Unsure;
 use crate::cleaning::clean_spare;
 use crate::collecting::copy_needed;
-use crate::exchanging::exchange;
+use crate::swapping::swap_spare;
 use die_alloc::Blocks;
 use flash_model::{Broken, Retire};
 use record_list::CommitRule;
@@ -26,13 +26,13 @@ pub fn retire_block<F: Retire, R: CommitRule>(
     room: &mut [u8],
     block: Block,
 ) -> Result<(), Broken>
-    requires sure { IsSure R.protocol (store_of (F.state flash.old) index.old blocks.old unsure.old) }
+    requires sure { IsSure R.protocol (store_parts (F.state flash.old) index.old blocks.old unsure.old) }
     requires exists { block.0 < blocks_of (shape_of index.old.config) }
     requires left { MayRetire (F.state flash.old) }
     requires room { length room.old ≡ index.old.config.page_bytes }
     ensures { RetiresBlock R.protocol
-        (store_of (F.state flash.old) index.old blocks.old unsure.old)
-        (store_of (F.state flash.new) index.new blocks.new unsure.new) block.0 result }
+        (store_parts (F.state flash.old) index.old blocks.old unsure.old)
+        (store_parts (F.state flash.new) index.new blocks.new unsure.new) block.0 result }
 {
     if block.0 == blocks.spare().0 {
         return retire_spare(flash, index, blocks, unsure);
@@ -49,11 +49,11 @@ fn retire_spare<F: Retire, R: CommitRule>(
     blocks: &Blocks,
     unsure: &mut Unsure,
 ) -> Result<(), Broken>
-    requires sure { IsSure R.protocol (store_of (F.state flash.old) index.old blocks.now unsure.old) }
+    requires sure { IsSure R.protocol (store_parts (F.state flash.old) index.old blocks.now unsure.old) }
     requires left { MayRetire (F.state flash.old) }
     ensures { RetiresSpare R.protocol
-        (store_of (F.state flash.old) index.old blocks.now unsure.old)
-        (store_of (F.state flash.new) index.new blocks.now unsure.new) result }
+        (store_parts (F.state flash.old) index.old blocks.now unsure.old)
+        (store_parts (F.state flash.new) index.new blocks.now unsure.new) result }
 {
     let spare = blocks.spare();
     if let Err(broken) = flash.retire(spare) {
@@ -74,18 +74,18 @@ fn retire_victim<F: Retire, R: CommitRule>(
     block: Block,
     used: u32,
 ) -> Result<(), Broken>
-    requires sure { IsSure R.protocol (store_of (F.state flash.old) index.old blocks.old unsure.old) }
+    requires sure { IsSure R.protocol (store_parts (F.state flash.old) index.old blocks.old unsure.old) }
     requires can { CanErase index.old blocks.old block.0 used }
     requires left { MayRetire (F.state flash.old) }
     ensures { RetiresVictim R.protocol
-        (store_of (F.state flash.old) index.old blocks.old unsure.old)
-        (store_of (F.state flash.new) index.new blocks.new unsure.new) block used result }
+        (store_parts (F.state flash.old) index.old blocks.old unsure.old)
+        (store_parts (F.state flash.new) index.new blocks.new unsure.new) block used result }
 {
     if let Err(broken) = flash.retire(block) {
         *unsure = Unsure::VictimErase { block };
         return Err(broken);
     }
     index.note_erased(block);
-    exchange(index, blocks, block, used);
+    swap_spare(index, blocks, block, used);
     Ok(())
 }

@@ -1,5 +1,5 @@
 ghost use Rattle.collector.specs.Settling.{CanSettle, Finds};
-ghost use Rattle.collector.specs.Store.{store_of};
+ghost use Rattle.collector.specs.StoreParts.{store_parts};
 
 use crate::{Settled, Unsure};
 use die_alloc::Blocks;
@@ -17,9 +17,9 @@ pub(crate) fn settle_own<F: Flash, R: CommitRule>(
     at: Slot,
     rec: Rec,
 ) -> Result<Settled, Broken>
-    requires { CanSettle R.protocol (store_of (F.state flash.old) index.old blocks.old
+    requires { CanSettle R.protocol (store_parts (F.state flash.old) index.old blocks.old
         (Unsure.Own at rec)) room.old }
-    ensures { Finds (store_of (F.state flash.old) index.old blocks.old (Unsure.Own at rec))
+    ensures { Finds (store_parts (F.state flash.old) index.old blocks.old (Unsure.Own at rec))
         (F.state flash.new) index.new blocks.new result }
 {
     let mut spare_area = [0; 64];
@@ -47,9 +47,9 @@ pub(crate) fn settle_copy<F: Flash, R: CommitRule>(
     from: Slot,
     to: Slot,
 ) -> Result<Settled, Broken>
-    requires { CanSettle R.protocol (store_of (F.state flash.old) index.old blocks.now
+    requires { CanSettle R.protocol (store_parts (F.state flash.old) index.old blocks.now
         (Unsure.Copy from to)) room.old }
-    ensures { Finds (store_of (F.state flash.old) index.old blocks.now (Unsure.Copy from to))
+    ensures { Finds (store_parts (F.state flash.old) index.old blocks.now (Unsure.Copy from to))
         (F.state flash.new) index.new blocks.now result }
 {
     let mut spare_area = [0; 64];

@@ -9,13 +9,13 @@ use Rattle.flash_model.specs.Operations.{Moment}
 use Rattle.version_index.specs.Images.{IsSoundImage, array_in}
 use Rattle.tx_engine.specs.ArrayState.{ArrayState, Entry, Pages, idle}
 use Rattle.array_machine.specs.declared.mark.Mark.TheVariants.{Plain}
-use Rattle.tx_engine.specs.Exits.{StandsFor}
-use Rattle.tx_engine.specs.Standing.{limits_of}
+use Rattle.tx_engine.specs.Exits.{Represents}
+use Rattle.tx_engine.specs.DeviceState.{limits_of}
 use Rattle.tx_engine.specs.Unbroken.{AllPlain}
 use Rattle.host_protocol.specs.declared.command.Command.{Command}
 use Rattle.host_protocol.specs.declared.reply.Reply.{Reply}
 use Rattle.cut_replay.specs.Bounds.{AreFew}
-use Rattle.cut_replay.specs.FlashRun.{Point, FlashRun, IsFlashRun, IsPoint, is_fault, mentions_in, last_moment, last_state, opening_point, opening_state}
+use Rattle.cut_replay.specs.FlashRun.{Point, FlashRun, IsFlashRun, IsPoint, is_fault, mentions_in, last_moment, last_state, first_point, first_state}
 use Rattle.cut_replay.specs.Run.{is_arm, seen_after}
 use Rattle.cut_replay.specs.Unbroken.{Handed, UnbrokenRun, AreMaybeSpent, FinishesAreDone}
 use Rattle.cut_replay.proofs.Quiet.{flash_run_is_run, none_broken, finishes_done}
@@ -31,20 +31,20 @@ opening_in its from = idle (array_in its.protocol its.logical from.image)
 unbroken : (its : Config) (from : Moment) (cs : List Command) (rs : List Reply) (ps : List Point) (run : IsFlashRun its from cs rs ps) →
     AreFew 0 0 cs rs → All (λ c. is_arm c ≡ false) cs →
     (hands : List Handed) × AreMaybeSpent (mentions_in its from) cs rs hands
-    × UnbrokenRun (limits_of its) hands (opening_in its from) cs rs (last_state (opening_state its run.up from) ps).machine
-    × AllPlain (last_state (opening_state its run.up from) ps).machine
+    × UnbrokenRun (limits_of its) hands (opening_in its from) cs rs (last_state (first_state its run.up from) ps).machine
+    × AllPlain (last_state (first_state its run.up from) ps).machine
 unbroken its from cs rs ps run few none =
-    run_fine (limits_of its) (mentions_in its from) (opening_state its run.up from) cs rs (last_state (opening_state its run.up from) ps)
+    run_fine (limits_of its) (mentions_in its from) (first_state its run.up from) cs rs (last_state (first_state its run.up from) ps)
     (All-nil (λ (e : Entry). e.mark ≡ Plain))
-    (flash_run_is_run its (mentions_in its from) false (opening_point its run.up from) cs rs ps run.runs) (none_broken cs rs none few)
+    (flash_run_is_run its (mentions_in its from) false (first_point its run.up from) cs rs ps run.runs) (none_broken cs rs none few)
 
 pub unarmed : (its : Config) (from : Moment) (cs : List Command) (rs : List Reply) (ps : List Point) (run : IsFlashRun its from cs rs ps) →
     AreFew 0 0 cs rs → All (λ c. is_arm c ≡ false) cs →
     (hands : List Handed) × AreMaybeSpent (mentions_in its from) cs rs hands
-    × UnbrokenRun (limits_of its) hands (opening_in its from) cs rs (last_state (opening_state its run.up from) ps).machine
+    × UnbrokenRun (limits_of its) hands (opening_in its from) cs rs (last_state (first_state its run.up from) ps).machine
     × FinishesAreDone (limits_of its) hands (opening_in its from) cs rs
 unarmed its from cs rs ps run few none =
-    let last = (last_state (opening_state its run.up from) ps).machine in
+    let last = (last_state (first_state its run.up from) ps).machine in
     let is = unbroken its from cs rs ps run few none in
     (is.0, is.1, is.2, finishes_done (limits_of its) is.0 (opening_in its from) cs rs last is.2)
 
@@ -64,9 +64,9 @@ last_stands its seen faulted old (c ∷ cs) (r ∷ rs) (p ∷ ps) run is =
     last_stands its (seen_after seen c r) (faulted || is_fault r) p cs rs ps run.2 run.1
 
 run_stands : (its : Config) (image left : List Contents) (cs : List Command) (text : List ℕ) (run : IsRun its image cs left text) →
-    IsPoint its (last_of (opening_point its run.run.up (first_moment image)) run.points)
+    IsPoint its (last_of (first_point its run.run.up (first_moment image)) run.points)
 run_stands its image left cs text run =
-    last_stands its (mentions_in its (first_moment image)) false (opening_point its run.run.up (first_moment image)) cs run.replies run.points run.run.runs
+    last_stands its (mentions_in its (first_moment image)) false (first_point its run.run.up (first_moment image)) cs run.replies run.points run.run.runs
     (record { sound = run.sound; array = inl refl })
 
 pub left_sound : (its : Config) (image left : List Contents) (cs : List Command) (text : List ℕ) → IsRun its image cs left text →
@@ -75,12 +75,12 @@ left_sound its image left cs text run =
     subst (λ i. IsSoundImage its.protocol its.logical (shape_of its) i) (sym run.last) (run_stands its image left cs text run).sound
 
 pub left_stands : (its : Config) (image left : List Contents) (cs : List Command) (text : List ℕ) (run : IsRun its image cs left text) →
-    StandsFor (machine_left run) (array_in its.protocol its.logical left)
+    Represents (machine_left run) (array_in its.protocol its.logical left)
 left_stands its image left cs text run =
-    subst (λ i. StandsFor (machine_left run) (array_in its.protocol its.logical i)) (sym run.last) (run_stands its image left cs text run).array
+    subst (λ i. Represents (machine_left run) (array_in its.protocol its.logical i)) (sym run.last) (run_stands its image left cs text run).array
 
 -- where nothing is in doubt
-sure_array : (s : ArrayState) (pages : Pages) → AllPlain s → StandsFor s pages → pages ≡ s.pages
+sure_array : (s : ArrayState) (pages : Pages) → AllPlain s → Represents s pages → pages ≡ s.pages
 sure_array s pages plain (inl same) = same
 sure_array s pages plain (inr (e, has, doubt, took)) = let is = All-contains (λ (e : Entry). e.mark ≡ Plain) s.entries e plain has in cc
 
@@ -92,5 +92,5 @@ left_array its image left cs text run none =
 
 pub begins_again : (its : Config) (image left last : List Contents) (cs ds : List Command) (text more : List ℕ) (run : IsRun its image cs left text) →
     All (λ c. is_arm c ≡ false) cs → (next : IsRun its left ds last more) →
-    (opening_state its next.run.up (first_moment left)).machine ≡ idle (machine_left run).pages
+    (first_state its next.run.up (first_moment left)).machine ≡ idle (machine_left run).pages
 begins_again its image left last cs ds text more run none next = ap idle (left_array its image left cs text run none)

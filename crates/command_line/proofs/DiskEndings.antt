@@ -9,10 +9,10 @@ use Rattle.durable_folder.proofs.Learning.{rests_known, rests_then}
 use Rattle.desk_io.specs.Desk.{DeskState}
 use Rattle.desk_io.specs.declared.desk.SinkError.{SinkError}
 use Rattle.desk_io.specs.declared.desk.SinkError.TheVariants as sink
-use Rattle.image_desk.specs.Saying.{FaultTold, MemoryTold, Refuses, Speaks}
-use Rattle.desk_tasks.specs.Asked.{Asked}
-use Rattle.desk_tasks.specs.Fate.{Fate, status, refusal_line}
-use Rattle.desk_tasks.specs.Gives.{Given, SavedFile, Gives}
+use Rattle.program_base.specs.Saying.{FaultTold, MemoryTold, Refuses, Speaks}
+use Rattle.desk_tasks.specs.Request.{Request}
+use Rattle.desk_tasks.specs.Ending.{Ending, status, refusal_line}
+use Rattle.desk_tasks.specs.Gives.{OutputState, SavedFile, Gives}
 use Rattle.desk_tasks.specs.Stops.{Comes, refused}
 use Rattle.desk_tasks.specs.declared.refusal.Refusal.{Refusal}
 use Rattle.command_line.specs.Disk.{DeliversOnDisk, Whole, Short, EndsOnDisk, Done, Stopped, PutsFile, PutsOnDisk}
@@ -25,11 +25,11 @@ after_put : (file : Option SavedFile) (old mid : DeskState) → PutsFile file (O
 after_put None old mid puts = puts.1
 after_put (Some file) old mid puts = puts
 
-pub delivered : (given : Given) (old mid new : DeskState) (answer : ℕ) → PutsFile given.saved (Ok tt) old mid → Speaks mid new given.text 0 answer →
+pub delivered : (given : OutputState) (old mid new : DeskState) (answer : ℕ) → PutsFile given.saved (Ok tt) old mid → Speaks mid new given.text 0 answer →
     Delivers old new given 0 answer
 delivered given old mid new answer puts speaks = inl (rw (after_put given.saved old mid puts) at speaks)
 
-pub met_fault : (given : Given) (old mid new : DeskState) (answer : ℕ) → PutsFile given.saved (Err sink.Failed) old mid → FaultTold mid new answer →
+pub met_fault : (given : OutputState) (old mid new : DeskState) (answer : ℕ) → PutsFile given.saved (Err sink.Failed) old mid → FaultTold mid new answer →
     Delivers old new given 0 answer
 met_fault given old mid new answer puts told = by_file given.saved refl puts
   where
@@ -37,7 +37,7 @@ met_fault given old mid new answer puts told = by_file given.saved refl puts
     by_file None is puts = absurd (cc)
     by_file (Some file) is puts = inr (inl (mid, rw is puts, told))
 
-pub starved : (given : Given) (old mid new : DeskState) (answer : ℕ) → PutsFile given.saved (Err sink.Memory) old mid → MemoryTold mid new answer →
+pub starved : (given : OutputState) (old mid new : DeskState) (answer : ℕ) → PutsFile given.saved (Err sink.Memory) old mid → MemoryTold mid new answer →
     Delivers old new given 0 answer
 starved given old mid new answer puts told = by_file given.saved refl puts
   where
@@ -45,7 +45,7 @@ starved given old mid new answer puts told = by_file given.saved refl puts
     by_file None is puts = absurd (cc)
     by_file (Some file) is puts = inr (inr (mid, rw is puts, told))
 
-pub delivered_on_disk : {D : Type 0} (state : D → DeskState) (disk : D → Option History) (given : Given) (old mid new : D) (answer : ℕ) →
+pub delivered_on_disk : {D : Type 0} (state : D → DeskState) (disk : D → Option History) (given : OutputState) (old mid new : D) (answer : ℕ) →
     PutsFile given.saved (Ok tt) (state old) (state mid) → PutsOnDisk given.saved (Ok tt) (disk old) (disk mid) →
     Speaks (state mid) (state new) given.text 0 answer → Rests (disk mid) (disk new) → DeliversOnDisk state disk given old new answer
 delivered_on_disk state disk given old mid new answer puts kept (inl (said, after)) rests =
@@ -63,7 +63,7 @@ puts_after (Some file) (Err why) a b c rests puts =
     λ error. saves_after (λ s. Unit {0}) file.name file.bytes (Err error) a b c (rests_known a b rests) (puts error)
 
 -- the end after a fate that gives something
-pub ends_put : {D : Type 0} (state : D → DeskState) (disk : D → Option History) (task : Option Asked) (old mid new : D) (fate : Fate) (given : Given)
+pub ends_put : {D : Type 0} (state : D → DeskState) (disk : D → Option History) (task : Option Request) (old mid new : D) (fate : Ending) (given : OutputState)
     (answer : ℕ) → Comes task (state old) (state mid) fate → Gives fate given → status fate ≡ 0 → Rests (disk old) (disk mid) →
     DeliversOnDisk state disk given mid new answer → EndsOnDisk state disk task old new answer
 ends_put state disk task old mid new fate given answer (loads, is, at) gives zero rested delivers = ending delivers
@@ -79,11 +79,11 @@ ends_put state disk task old mid new fate given answer (loads, is, at) gives zer
         Stopped stopped (inr (it, (m, result, puts_after given.saved result (disk old) (disk mid) m rested kept, rests)))
 
 -- the end where nothing is saved
-pub ends_rested : {D : Type 0} (state : D → DeskState) (disk : D → Option History) (task : Option Asked) (old mid new : D) (answer : ℕ) →
+pub ends_rested : {D : Type 0} (state : D → DeskState) (disk : D → Option History) (task : Option Request) (old mid new : D) (answer : ℕ) →
     (answer ≡ 5) ⊎ (answer ≡ 6) → Rests (disk old) (disk mid) → Rests (disk mid) (disk new) → EndsOnDisk state disk task old new answer
 ends_rested state disk task old mid new answer stopped first last = Stopped stopped (inl (rests_then (disk old) (disk mid) (disk new) first last))
 
-ends_told : {D : Type 0} (state : D → DeskState) (disk : D → Option History) (task : Option Asked) (old mid new : D) (r : Refusal) (text : List ℕ)
+ends_told : {D : Type 0} (state : D → DeskState) (disk : D → Option History) (task : Option Request) (old mid new : D) (r : Refusal) (text : List ℕ)
     (wanted answer : ℕ) → Comes task (state old) (state mid) (refused r) → text ≡ refusal_line (refused r) → wanted ≡ status (refused r) →
     Rests (disk old) (disk mid) → Rests (disk mid) (disk new) → Speaks (state mid) (state new) text wanted answer → EndsOnDisk state disk task old new answer
 ends_told state disk task old mid new r text wanted answer (loads, is, at) is_line same first last (inl (said, after)) =
@@ -103,7 +103,7 @@ ends_told state disk task old mid new r text wanted answer comes is_line same fi
     ends_rested state disk task old mid new answer (inr told.0) first last
 
 -- the end after a refusal
-pub ends_unput : {D : Type 0} (state : D → DeskState) (disk : D → Option History) (task : Option Asked) (old mid new : D) (r : Refusal)
+pub ends_unput : {D : Type 0} (state : D → DeskState) (disk : D → Option History) (task : Option Request) (old mid new : D) (r : Refusal)
     (line : Result (String Global) AllocError) (wanted answer : ℕ) → Comes task (state old) (state mid) (refused r) →
     IfOk line (λ l. string_bytes l ≡ refusal_line (refused r)) → wanted ≡ status (refused r) → Refuses (state mid) (state new) line wanted answer →
     Rests (disk old) (disk mid) → Rests (disk mid) (disk new) → EndsOnDisk state disk task old new answer

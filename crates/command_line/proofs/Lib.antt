@@ -1,7 +1,7 @@
 pub mod ArrayRuns
 mod DiskEndings
 pub mod Endings
-pub mod OneFate
+pub mod OneEnding
 pub mod OneFinding
-pub mod OneKeyFate
+pub mod OneKeyEnding
 pub mod Saving

@@ -13,26 +13,26 @@ use Rattle.host_protocol.specs.declared.command.Command.{Command}
 use Rattle.image_file.specs.declared.error.ImageError.{ImageError}
 use Rattle.desk_io.specs.Desk as found
 use Rattle.desk_io.specs.Desk.{DeskState, FileFound}
-use Rattle.image_desk.specs.Refusals.{Missing, TooLong, BadImage, Unsound}
-use Rattle.image_desk.proofs.Refusing.{never_fault}
-use Rattle.desk_tasks.specs.Fate.{Fate, Tried, Formatted, Ran, Explained, Driven, Keyed, Retired, RefusedBlock, RefusedWorn, Good, WrongLine, Same, DifferShape}
-use Rattle.desk_tasks.specs.Fate.{DifferBlank, DifferAt, Image, BadLine, BadBucket, BadConfiguration, BadAllowance, status}
-use Rattle.desk_tasks.specs.Gives.{Given, Gives}
+use Rattle.program_base.specs.Refusals.{Missing, TooLong, BadImage, Unsound}
+use Rattle.program_base.proofs.Refusing.{never_fault}
+use Rattle.desk_tasks.specs.Ending.{Ending, Tried, Formatted, Ran, Explained, Driven, Keyed, Retired, RefusedBlock, RefusedWorn, Good, WrongLine, Same, DifferShape}
+use Rattle.desk_tasks.specs.Ending.{DifferBlank, DifferAt, Image, BadLine, BadBucket, BadConfiguration, BadAllowance, status}
+use Rattle.desk_tasks.specs.Gives.{OutputState, Gives}
 use Rattle.desk_tasks.specs.Steps.{AfterLoad, AfterOpening, AfterParsing, AfterReading, AfterOpened, Opening, ReadingOn, Checking, Comparing, Keying, Explaining}
-use Rattle.desk_tasks.specs.Steps.{IsFate, Loading, OpensAndServes, Parsing, Reading, Retiring, Running, Trying, formatting, WithoutLoad}
-use Rattle.desk_tasks.specs.Asked.{Asked, Try, Format, Run, Explain, Drive, Check, Compare, Keys, Retire, file_of}
-use Rattle.command_line.proofs.OneKeyFate.{script_all, store_all}
-use Rattle.desk_tasks.specs.Checking.{check_fate, Comparison, OneArray, Shapes, BlankAt, ByteAt, comparison_fate}
+use Rattle.desk_tasks.specs.Steps.{IsEnding, Loading, OpensAndServes, Parsing, Reading, Retiring, Running, Trying, formatting, WithoutLoad}
+use Rattle.desk_tasks.specs.Request.{Request, Try, Format, Run, Explain, Drive, Check, Compare, Keys, Retire, file_of}
+use Rattle.command_line.proofs.OneKeyEnding.{script_all, store_all}
+use Rattle.desk_tasks.specs.Checking.{check_ending, Comparison, OneArray, Shapes, BlankAt, ByteAt, comparison_ending}
 
 -- the file that a fate saves
-abbrev pub saver : Fate → Option (List ℕ)
+abbrev pub saver : Ending → Option (List ℕ)
 saver (Formatted name its allowance) = Some name
 saver (Ran name its image extras commands) = Some name
 saver (Keyed name its image extras commands) = Some name
 saver (Retired name its image extras block) = Some name
 saver _ = None
 
-pub gives_saves : (fate : Fate) (p : Given) → Gives fate p → option_map (λ file. file.name) p.saved ≡ saver fate
+pub gives_saves : (fate : Ending) (p : OutputState) → Gives fate p → option_map (λ file. file.name) p.saved ≡ saver fate
 gives_saves (Tried commands) p h = ap (option_map (λ file. file.name)) h.saves_nothing
 gives_saves (Formatted name its allowance) p h = ap (option_map (λ file. file.name)) h.saves
 gives_saves (Ran name its image extras commands) p h = ap (option_map (λ file. file.name)) h.saves
@@ -55,7 +55,7 @@ gives_saves (BadConfiguration rule) p h = ap (option_map (λ file. file.name)) h
 gives_saves BadAllowance p h = ap (option_map (λ file. file.name)) h.saves_nothing
 
 -- a refusal saves none
-pub refusal_saves : (fate : Fate) → (status fate ≡ 0 → ⊥) → saver fate ≡ None
+pub refusal_saves : (fate : Ending) → (status fate ≡ 0 → ⊥) → saver fate ≡ None
 refusal_saves (Formatted name its allowance) refused = absurd (refused refl)
 refusal_saves (Ran name its image extras commands) refused = absurd (refused refl)
 refusal_saves (Keyed name its image extras commands) refused = absurd (refused refl)
@@ -78,7 +78,7 @@ refusal_saves (BadConfiguration rule) refused = refl
 refusal_saves BadAllowance refused = refl
 
 -- no fate has status 5
-pub never_five : (fate : Fate) → 5 ≡ status fate → ⊥
+pub never_five : (fate : Ending) → 5 ≡ status fate → ⊥
 never_five (Tried commands) e = absurd (omega arith)
 never_five (Formatted name its allowance) e = absurd (omega arith)
 never_five (Ran name its image extras commands) e = absurd (omega arith)
@@ -102,9 +102,9 @@ never_five BadAllowance e = absurd (omega arith)
 
 -- ---- what holds of each fate to which a step may lead
 
-loading_all : (P : Fate → Type 0) (desk : DeskState) (name : List ℕ) (next : List ℕ → Fate → ℕ → Type 0) →
-    P (Image (Missing name)) → P (Image (TooLong name)) → ((bytes : List ℕ) (fate : Fate) (more : ℕ) → next bytes fate more → P fate) →
-    (fate : Fate) (loads : ℕ) → Loading desk name next fate loads → P fate
+loading_all : (P : Ending → Type 0) (desk : DeskState) (name : List ℕ) (next : List ℕ → Ending → ℕ → Type 0) →
+    P (Image (Missing name)) → P (Image (TooLong name)) → ((bytes : List ℕ) (fate : Ending) (more : ℕ) → next bytes fate more → P fate) →
+    (fate : Ending) (loads : ℕ) → Loading desk name next fate loads → P fate
 loading_all P desk name next missing long leads fate loads (there, finds, h) = after there h
   where
     after : (there : FileFound) → AfterLoad name next there fate loads → P fate
@@ -112,10 +112,10 @@ loading_all P desk name next missing long leads fate loads (there, finds, h) = a
     after found.TooLong h = rw h.0 long
     after (found.Bytes bytes) h = leads bytes fate h.0 h.1
 
-reading_all : (P : Fate → Type 0) (bytes : List ℕ) (next : Config → List Contents → Extras → Fate → Type 0) →
-    ((rule : ImageError) → P (Image (BadImage rule))) → ((its : Config) (image : List Contents) (extras : Extras) (fate : Fate) → next its image extras fate →
+reading_all : (P : Ending → Type 0) (bytes : List ℕ) (next : Config → List Contents → Extras → Ending → Type 0) →
+    ((rule : ImageError) → P (Image (BadImage rule))) → ((its : Config) (image : List Contents) (extras : Extras) (fate : Ending) → next its image extras fate →
     P fate) →
-    (fate : Fate) → Reading bytes next fate → P fate
+    (fate : Ending) → Reading bytes next fate → P fate
 reading_all P bytes next bad leads fate (read, reads, h) = after read h
   where
     after : (read : Result (Config × List Contents × Extras) ImageError) → AfterReading (λ its image extras. WithoutLoad (next its image extras)) read fate 0 →
@@ -123,35 +123,35 @@ reading_all P bytes next bad leads fate (read, reads, h) = after read h
     after (Ok read) h = leads read.0 read.1 read.2 fate h.0
     after (Err rule) h = rw h.0 (bad rule)
 
-reading_on_all : (P : Fate → Type 0) (bytes : List ℕ) (next : Config → List Contents → Extras → Fate → ℕ → Type 0) →
+reading_on_all : (P : Ending → Type 0) (bytes : List ℕ) (next : Config → List Contents → Extras → Ending → ℕ → Type 0) →
     ((rule : ImageError) → P (Image (BadImage rule))) →
-    ((its : Config) (image : List Contents) (extras : Extras) (fate : Fate) (more : ℕ) → next its image extras fate more → P fate) →
-    (fate : Fate) (loads : ℕ) → ReadingOn bytes next fate loads → P fate
+    ((its : Config) (image : List Contents) (extras : Extras) (fate : Ending) (more : ℕ) → next its image extras fate more → P fate) →
+    (fate : Ending) (loads : ℕ) → ReadingOn bytes next fate loads → P fate
 reading_on_all P bytes next bad leads fate loads (read, reads, h) = after read h
   where
     after : (read : Result (Config × List Contents × Extras) ImageError) → AfterReading next read fate loads → P fate
     after (Ok read) h = leads read.0 read.1 read.2 fate loads h
     after (Err rule) h = rw h.0 (bad rule)
 
-opened_all : (P : Fate → Type 0) (its : Config) (image : List Contents) (next : Fate → Type 0) → ((b : Breach) → P (Image (Unsound b))) →
-    ((fate : Fate) → next fate → P fate) → (fate : Fate) → Opening its image next fate → P fate
+opened_all : (P : Ending → Type 0) (its : Config) (image : List Contents) (next : Ending → Type 0) → ((b : Breach) → P (Image (Unsound b))) →
+    ((fate : Ending) → next fate → P fate) → (fate : Ending) → Opening its image next fate → P fate
 opened_all P its image next bad leads fate (opened, opens, h) = after opened h
   where
     after : (opened : Result (Unit {0}) Breach) → AfterOpened next opened fate → P fate
     after (Ok sound) h = leads fate h
     after (Err b) h = rw h (bad b)
 
-parsing_all : (P : Fate → Type 0) (page_bytes : ℕ) (bytes : List ℕ) (next : List Command → Fate → Type 0) →
-    ((n : ℕ) → P (BadLine n)) → ((cs : List Command) (fate : Fate) → next cs fate → P fate) →
-    (fate : Fate) → Parsing page_bytes bytes next fate → P fate
+parsing_all : (P : Ending → Type 0) (page_bytes : ℕ) (bytes : List ℕ) (next : List Command → Ending → Type 0) →
+    ((n : ℕ) → P (BadLine n)) → ((cs : List Command) (fate : Ending) → next cs fate → P fate) →
+    (fate : Ending) → Parsing page_bytes bytes next fate → P fate
 parsing_all P page_bytes bytes next bad leads fate (parsed, parses, h) = after parsed h
   where
     after : (parsed : Result (List Command) ℕ) → AfterParsing next parsed fate → P fate
     after (Ok cs) h = leads cs fate h
     after (Err n) h = rw h (bad n)
 
-opening_all : (P : Fate → Type 0) (its : Config) (image : List Contents) (done : Fate) → P done → ((b : Breach) → P (Image (Unsound b))) →
-    (fate : Fate) → OpensAndServes its image done fate → P fate
+opening_all : (P : Ending → Type 0) (its : Config) (image : List Contents) (done : Ending) → P done → ((b : Breach) → P (Image (Unsound b))) →
+    (fate : Ending) → OpensAndServes its image done fate → P fate
 opening_all P its image done good bad fate (opened, opens, h) = after opened h
   where
     after : (opened : Result (Unit {0}) Breach) → AfterOpening done opened fate → P fate
@@ -161,52 +161,52 @@ opening_all P its image done good bad fate (opened, opens, h) = after opened h
 -- ---- the fates of a task
 
 -- a fate saves none, or this one
-abbrev SavesAtMost : Option (List ℕ) → Fate → Type 0
+abbrev SavesAtMost : Option (List ℕ) → Ending → Type 0
 SavesAtMost file fate = (saver fate ≡ None) ⊎ (saver fate ≡ file)
 
-run_saves : (name bytes lines : List ℕ) (fate : Fate) → Running name bytes lines fate → SavesAtMost (Some name) fate
+run_saves : (name bytes lines : List ℕ) (fate : Ending) → Running name bytes lines fate → SavesAtMost (Some name) fate
 run_saves name bytes lines =
     reading_all (SavesAtMost (Some name)) bytes _ (λ rule. inl refl)
     (λ its image extras. parsing_all (SavesAtMost (Some name)) its.page_bytes lines _ (λ n. inl refl)
     (λ cs. opening_all (SavesAtMost (Some name)) its image _ (inr refl) (λ b. inl refl)))
 
-try_saves : (lines : List ℕ) (fate : Fate) → Trying lines fate → SavesAtMost None fate
+try_saves : (lines : List ℕ) (fate : Ending) → Trying lines fate → SavesAtMost None fate
 try_saves lines = parsing_all (SavesAtMost None) 16 lines _ (λ n. inl refl) (λ cs fate h. rw h (inl refl))
 
-explanation_saves : (bytes : List ℕ) (fate : Fate) → Explaining bytes fate → SavesAtMost None fate
+explanation_saves : (bytes : List ℕ) (fate : Ending) → Explaining bytes fate → SavesAtMost None fate
 explanation_saves bytes =
     reading_all (SavesAtMost None) bytes _ (λ rule. inl refl)
     (λ its image extras. opening_all (SavesAtMost None) its image _ (inl refl) (λ b. inl refl))
 
-checked_saves : (check : Result ℕ ℕ) → SavesAtMost None (check_fate check)
+checked_saves : (check : Result ℕ ℕ) → SavesAtMost None (check_ending check)
 checked_saves (Ok n) = inl refl
 checked_saves (Err k) = inl refl
 
-check_saves : (bytes text : List ℕ) (fate : Fate) → Checking bytes text fate → SavesAtMost None fate
+check_saves : (bytes text : List ℕ) (fate : Ending) → Checking bytes text fate → SavesAtMost None fate
 check_saves bytes text =
     reading_all (SavesAtMost None) bytes _ (λ rule. inl refl)
     (λ its image extras. opened_all (SavesAtMost None) its image _ (λ b. inl refl) (λ fate h. rw h.2 (checked_saves h.0)))
 
-compared_saves : (a : Config) (comes : Comparison) → SavesAtMost None (comparison_fate a comes)
+compared_saves : (a : Config) (comes : Comparison) → SavesAtMost None (comparison_ending a comes)
 compared_saves a OneArray = inl refl
 compared_saves a Shapes = inl refl
 compared_saves a (BlankAt page) = inl refl
 compared_saves a (ByteAt page at) = inl refl
 
-comparison_saves : (a : Config) (image : List Contents) (b : Config) (other : List Contents) (fate : Fate) → Comparing a image b other fate →
+comparison_saves : (a : Config) (image : List Contents) (b : Config) (other : List Contents) (fate : Ending) → Comparing a image b other fate →
     SavesAtMost None fate
 comparison_saves a image b other =
     opened_all (SavesAtMost None) a image _ (λ b. inl refl)
     (opened_all (SavesAtMost None) b other _ (λ b. inl refl) (λ fate h. rw h.2 (compared_saves a h.0)))
 
-keys_saves : (name bytes lines : List ℕ) (fate : Fate) → Keying name bytes lines fate → SavesAtMost (Some name) fate
+keys_saves : (name bytes lines : List ℕ) (fate : Ending) → Keying name bytes lines fate → SavesAtMost (Some name) fate
 keys_saves name bytes lines =
     reading_all (SavesAtMost (Some name)) bytes _ (λ rule. inl refl)
     (λ its image extras. script_all (SavesAtMost (Some name)) lines _ (λ n. inl refl)
     (λ cs. opened_all (SavesAtMost (Some name)) its image _ (λ b. inl refl)
     (store_all (SavesAtMost (Some name)) its image _ (inr refl) (λ page. inl refl))))
 
-retire_saves : (name bytes : List ℕ) (block : ℕ) (fate : Fate) → Retiring name bytes block fate → SavesAtMost (Some name) fate
+retire_saves : (name bytes : List ℕ) (block : ℕ) (fate : Ending) → Retiring name bytes block fate → SavesAtMost (Some name) fate
 retire_saves name bytes block =
     reading_all (SavesAtMost (Some name)) bytes _ (λ rule. inl refl)
     (λ its image extras. opened_all (SavesAtMost (Some name)) its image _ (λ b. inl refl)
@@ -230,29 +230,29 @@ format_saves name its allowance (Ok shape) = by_allowance (nat_lt max_allowance 
 format_saves name its allowance (Err rule) = inl refl
 
 -- it saves no other file than that of the task
-pub fate_saves : (task : Option Asked) (desk : DeskState) (fate : Fate) (loads : ℕ) → IsFate task desk fate loads → SavesAtMost (file_of task) fate
-fate_saves None desk fate loads h = rw h.0 (inl refl)
-fate_saves (Some (Format image its allowance)) desk fate loads h = rw h.0 (format_saves image its allowance (checked its))
-fate_saves (Some (Drive start count protocol)) desk fate loads h = rw h.0 (inl refl)
-fate_saves (Some (Try commands)) desk fate loads h =
+pub ending_saves : (task : Option Request) (desk : DeskState) (fate : Ending) (loads : ℕ) → IsEnding task desk fate loads → SavesAtMost (file_of task) fate
+ending_saves None desk fate loads h = rw h.0 (inl refl)
+ending_saves (Some (Format image its allowance)) desk fate loads h = rw h.0 (format_saves image its allowance (checked its))
+ending_saves (Some (Drive start count protocol)) desk fate loads h = rw h.0 (inl refl)
+ending_saves (Some (Try commands)) desk fate loads h =
     loading_all (SavesAtMost None) desk commands _ (inl refl) (inl refl) (λ lines fate more h. try_saves lines fate h.0) fate loads h
-fate_saves (Some (Explain image)) desk fate loads h =
+ending_saves (Some (Explain image)) desk fate loads h =
     loading_all (SavesAtMost None) desk image _ (inl refl) (inl refl) (λ bytes fate more h. explanation_saves bytes fate h.0) fate loads h
-fate_saves (Some (Retire image block)) desk fate loads h =
+ending_saves (Some (Retire image block)) desk fate loads h =
     loading_all (SavesAtMost (Some image)) desk image _ (inl refl) (inl refl) (λ bytes fate more h. retire_saves image bytes block fate h.0) fate loads h
-fate_saves (Some (Keys image script)) desk fate loads h =
+ending_saves (Some (Keys image script)) desk fate loads h =
     loading_all (SavesAtMost (Some image)) desk image _ (inl refl) (inl refl)
     (λ bytes. loading_all (SavesAtMost (Some image)) desk script _ (inl refl) (inl refl)
     (λ lines fate more h. keys_saves image bytes lines fate h.0)) fate loads h
-fate_saves (Some (Run image commands)) desk fate loads h =
+ending_saves (Some (Run image commands)) desk fate loads h =
     loading_all (SavesAtMost (Some image)) desk image _ (inl refl) (inl refl)
     (λ bytes. loading_all (SavesAtMost (Some image)) desk commands _ (inl refl) (inl refl)
     (λ lines fate more h. run_saves image bytes lines fate h.0)) fate loads h
-fate_saves (Some (Check image report)) desk fate loads h =
+ending_saves (Some (Check image report)) desk fate loads h =
     loading_all (SavesAtMost None) desk image _ (inl refl) (inl refl)
     (λ bytes. loading_all (SavesAtMost None) desk report _ (inl refl) (inl refl)
     (λ text fate more h. check_saves bytes text fate h.0)) fate loads h
-fate_saves (Some (Compare first second)) desk fate loads h =
+ending_saves (Some (Compare first second)) desk fate loads h =
     loading_all (SavesAtMost None) desk first _ (inl refl) (inl refl)
     (λ bytes. reading_on_all (SavesAtMost None) bytes _ (λ rule. inl refl)
     (λ a image extras. loading_all (SavesAtMost None) desk second _ (inl refl) (inl refl)

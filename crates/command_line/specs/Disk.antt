@@ -4,10 +4,10 @@ use Rattle.durable_folder.specs.Histories.{History, Rests}
 use Rattle.desk_io.specs.Desk.{DeskState, Saves}
 use Rattle.desk_io.specs.Disk.{SavesOnDisk}
 use Rattle.desk_io.specs.declared.desk.SinkError.{SinkError}
-use Rattle.image_desk.specs.Saying.{after_text}
-use Rattle.desk_tasks.specs.Asked.{Asked}
-use Rattle.desk_tasks.specs.Fate.{status}
-use Rattle.desk_tasks.specs.Gives.{Given, SavedFile}
+use Rattle.program_base.specs.Saying.{after_text}
+use Rattle.desk_tasks.specs.Request.{Request}
+use Rattle.desk_tasks.specs.Ending.{status}
+use Rattle.desk_tasks.specs.Gives.{OutputState, SavedFile}
 use Rattle.command_line.specs.Top.{Decision, after_save, after_saving}
 
 -- the saving of a file was answered so, if there is one, and else nothing is done
@@ -27,7 +27,7 @@ TriesOnDisk file first last =
 
 -- How what the work gives is saved and said on a desk, by what the desk tells of itself and of its disk. Where that is done,
 -- there is a desk in between on which the file is saved and nothing is said yet.
-pub data DeliversOnDisk {D : Type 0} (state : D → DeskState) (disk : D → Option History) (given : Given) (old new : D) (answer : ℕ) : Type 0 where
+pub data DeliversOnDisk {D : Type 0} (state : D → DeskState) (disk : D → Option History) (given : OutputState) (old new : D) (answer : ℕ) : Type 0 where
   Whole : answer ≡ 0 → (mid : D) → state mid ≡ after_save given.saved (state old) →
       PutsOnDisk given.saved (Ok tt) (disk old) (disk mid) → state new ≡ after_text given.text (state mid) →
       Rests (disk mid) (disk new) → DeliversOnDisk state disk given old new answer
@@ -36,7 +36,7 @@ pub data DeliversOnDisk {D : Type 0} (state : D → DeskState) (disk : D → Opt
 -- How a call ends. Where its fate is decided, there is a desk in between on which what the fate gives is saved and nothing is
 -- said yet, and from then on nothing changes on the disk. Else a call of the desk failed or memory ran out: nothing has
 -- changed on the disk, or what a fate gives was saved or was not.
-pub data EndsOnDisk {D : Type 0} (state : D → DeskState) (disk : D → Option History) (task : Option Asked) (old new : D) (answer : ℕ) : Type 0 where
+pub data EndsOnDisk {D : Type 0} (state : D → DeskState) (disk : D → Option History) (task : Option Request) (old new : D) (answer : ℕ) : Type 0 where
   Done : (it : Decision task (state old)) → answer ≡ status it.fate → (mid : D) → state mid ≡ after_saving (state old) it →
       PutsOnDisk it.given.saved (Ok tt) (disk old) (disk mid) → state new ≡ after_text it.given.text (state mid) →
       Rests (disk mid) (disk new) → EndsOnDisk state disk task old new answer

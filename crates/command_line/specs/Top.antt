@@ -4,12 +4,12 @@ use Rattle.std.specs.Option.{option_map}
 use Rattle.desk_io.specs.Desk.{DeskState, Files, Rose, Saves, after_answer, files_with, with_file}
 use Rattle.desk_io.specs.declared.desk.SinkError.{SinkError}
 use Rattle.desk_io.specs.declared.desk.SinkError.TheVariants as sink
-use Rattle.image_desk.specs.Refusals.{line}
-use Rattle.image_desk.specs.Saying.{Attempts, FaultTold, MemoryTold, Speaks, TextStops, after_text, files_in}
-use Rattle.desk_tasks.specs.Fate.{Fate, status}
-use Rattle.desk_tasks.specs.Gives.{Given, SavedFile, Gives}
-use Rattle.desk_tasks.specs.Steps.{IsFate}
-use Rattle.desk_tasks.specs.Asked.{Asked, files_of, file_of}
+use Rattle.program_base.specs.Refusals.{line}
+use Rattle.program_base.specs.Saying.{Attempts, FaultTold, MemoryTold, Speaks, TextStops, after_text, files_in}
+use Rattle.desk_tasks.specs.Ending.{Ending, status}
+use Rattle.desk_tasks.specs.Gives.{OutputState, SavedFile, Gives}
+use Rattle.desk_tasks.specs.Steps.{IsEnding}
+use Rattle.desk_tasks.specs.Request.{Request, files_of, file_of}
 use Rattle.desk_tasks.specs.Loads.{LoadFails, WorkRunsOut, after_loads}
 
 -- ---- the desk after the calls that were made of it
@@ -20,19 +20,19 @@ after_save None desk = desk
 after_save (Some saved) desk = after_answer (with_file saved.name (Some saved.bytes)) desk
 
 -- a fate of a task, how many loads it comes after, and what it gives
-pub record Decision (task : Option Asked) (desk : DeskState) : Type 0 where
-  pub fate : Fate
+pub record Decision (task : Option Request) (desk : DeskState) : Type 0 where
+  pub fate : Ending
   pub loads : ℕ
-  pub given : Given
-  pub is_fate : IsFate task desk fate loads
+  pub given : OutputState
+  pub is_fate : IsEnding task desk fate loads
   pub gives : Gives fate given
 
 -- the desk before the saving, and before the saying, of what a decision gives
-abbrev pub after_loading : {task : Option Asked} → (desk : DeskState) → Decision task desk →
+abbrev pub after_loading : {task : Option Request} → (desk : DeskState) → Decision task desk →
     DeskState
 after_loading desk it = after_loads it.loads desk
 
-abbrev pub after_saving : {task : Option Asked} → (desk : DeskState) → Decision task desk →
+abbrev pub after_saving : {task : Option Request} → (desk : DeskState) → Decision task desk →
     DeskState
 after_saving desk it = after_save it.given.saved (after_loading desk it)
 
@@ -45,52 +45,52 @@ FileStops error (Some file) old new = Saves old new file.name file.bytes (Err er
 
 -- A file was saved, if there is one, and then a text was said; or the saving failed, or memory ran
 -- out.
-abbrev pub Delivers : DeskState → DeskState → Given → ℕ → ℕ → Type 0
+abbrev pub Delivers : DeskState → DeskState → OutputState → ℕ → ℕ → Type 0
 Delivers old new p status answer =
     Speaks (after_save p.saved old) new p.text status answer
     ⊎ (((mid : DeskState) × FileStops sink.Failed p.saved old mid × FaultTold mid new answer)
     ⊎ ((mid : DeskState) × FileStops sink.Memory p.saved old mid × MemoryTold mid new answer))
 
 -- the saving of what a fate gives was answered by an error
-abbrev pub SaveStops : SinkError → (task : Option Asked) → DeskState → DeskState → Type 0
+abbrev pub SaveStops : SinkError → (task : Option Request) → DeskState → DeskState → Type 0
 SaveStops error task old new =
     (it : Decision task old) × FileStops error it.given.saved (after_loading old it) new
 
 -- the saying of a fate's text was answered by an error, after what the fate gives was saved
-abbrev pub SayStops : SinkError → (task : Option Asked) → DeskState → DeskState → Type 0
+abbrev pub SayStops : SinkError → (task : Option Request) → DeskState → DeskState → Type 0
 SayStops error task old new =
     (it : Decision task old) × TextStops error it.given.text (after_saving old it) new
 
 -- a call of the desk failed
-abbrev pub CallFails : Option Asked → DeskState → DeskState → Type 0
+abbrev pub CallFails : Option Request → DeskState → DeskState → Type 0
 CallFails task old new =
     LoadFails task old new ⊎ (SaveStops sink.Failed task old new ⊎ SayStops sink.Failed task old new)
 
 -- and then a line was tried
-abbrev pub IsFaulted : Option Asked → DeskState → DeskState → Type 0
+abbrev pub IsFaulted : Option Request → DeskState → DeskState → Type 0
 IsFaulted task old new =
     (mid : DeskState) × CallFails task old mid × Attempts mid new (line (codes "desk fault"))
 
 -- there was no memory for the line of a refusal
-abbrev pub LineStarves : Option Asked → DeskState → DeskState → Type 0
+abbrev pub LineStarves : Option Request → DeskState → DeskState → Type 0
 LineStarves task old new =
     (it : Decision task old) × (status it.fate ≢ 0) × (new ≡ after_loading old it)
 
 -- Memory ran out before a fate was decided, or for its line, or in the saving of what it gives, or
 -- in the saying.
-abbrev pub RunsOutOfMemory : Option Asked → DeskState → DeskState → Type 0
+abbrev pub RunsOutOfMemory : Option Request → DeskState → DeskState → Type 0
 RunsOutOfMemory task old new =
     (WorkRunsOut task old new ⊎ LineStarves task old new)
     ⊎ (SaveStops sink.Memory task old new ⊎ SayStops sink.Memory task old new)
 
 -- and then a line was tried
-abbrev pub IsStarved : Option Asked → DeskState → DeskState → Type 0
+abbrev pub IsStarved : Option Request → DeskState → DeskState → Type 0
 IsStarved task old new =
     (mid : DeskState) × RunsOutOfMemory task old mid × Attempts mid new (line (codes "no memory"))
 
 -- How a call of the program ends, with which status: a fate decided, what it gives was saved, and
 -- its text was said whole; or a call of the desk failed; or memory ran out.
-pub data EndsCall (task : Option Asked) (old new : DeskState) (answer : ℕ) : Type 0 where
+pub data EndsCall (task : Option Request) (old new : DeskState) (answer : ℕ) : Type 0 where
   Decided : (it : Decision task old) → answer ≡ status it.fate →
       new ≡ after_text it.given.text (after_saving old it) →
       EndsCall task old new answer
@@ -100,15 +100,15 @@ pub data EndsCall (task : Option Asked) (old new : DeskState) (answer : ℕ) : T
 -- ---- which status comes
 
 -- the desk tells what the fate of a task hangs on: its files, where the task loads any
-abbrev pub TellsFate : Option Asked → DeskState → Type 0
-TellsFate task desk = (files_of task ≡ []) ⊎ IsSome desk.told
+abbrev pub TellsEnding : Option Request → DeskState → Type 0
+TellsEnding task desk = (files_of task ≡ []) ⊎ IsSome desk.told
 
 -- Where the desk tells it, a task has one fate, which gives its status, unless the desk's count of
 -- faults rose or memory ran out.
-pub record IsExact (task : Option Asked) (old new : DeskState) (answer : ℕ) : Type 0 where
-  pub one_fate : (a b : Fate) (m n : ℕ) → TellsFate task old → IsFate task old a m →
-      IsFate task old b n → a ≡ b
-  pub fate_gives : (fate : Fate) (loads : ℕ) → IsFate task old fate loads → TellsFate task old →
+pub record IsExact (task : Option Request) (old new : DeskState) (answer : ℕ) : Type 0 where
+  pub one_fate : (a b : Ending) (m n : ℕ) → TellsEnding task old → IsEnding task old a m →
+      IsEnding task old b n → a ≡ b
+  pub fate_gives : (fate : Ending) (loads : ℕ) → IsEnding task old fate loads → TellsEnding task old →
       (Rose old.faults new.faults → ⊥) → (answer ≡ status fate) ⊎ (answer ≡ 6)
 
 -- ---- which file changes
@@ -121,6 +121,6 @@ Leaves (Some name) old new =
     ((left : Option (List ℕ)) × (new ≡ option_map (λ files. files_with files name left) old))
 
 -- No file changes but the one that a task saves; and none does where the status is a refusal.
-pub record LeavesFiles (task : Option Asked) (old new : DeskState) (answer : ℕ) : Type 0 where
+pub record LeavesFiles (task : Option Request) (old new : DeskState) (answer : ℕ) : Type 0 where
   pub others : Leaves (file_of task) (files_in old) (files_in new)
   pub refused : (answer ≡ 0 → ⊥) → (answer ≡ 5 → ⊥) → (answer ≡ 6 → ⊥) → files_in new ≡ files_in old

@@ -7,7 +7,7 @@ use Rattle.tx_types.specs.declared.config.Config.{Config}
 use Rattle.tx_types.specs.declared.config.Protocol.{Protocol}
 use Rattle.tx_types.specs.declared.config.Protocol.TheVariants.{Scc, Bpcc}
 use Rattle.host_protocol.specs.Numbers.{number_of}
-use Rattle.desk_tasks.specs.Asked.{Asked, Try, Format, Run, Explain, Drive, Check, Compare, Keys, Retire}
+use Rattle.desk_tasks.specs.Request.{Request, Try, Format, Run, Explain, Drive, Check, Compare, Keys, Retire}
 use Rattle.desk_tasks.specs.Numbers.{wide_number_of, draws_of}
 use Rattle.command_line.specs.declared.words.Task.{Task}
 use Rattle.command_line.specs.declared.words.Task.TheVariants as task
@@ -49,11 +49,11 @@ allowance_of _ = None
 
 -- ---- the words behind the first one
 
-abbrev pub try_of : List (List ℕ) → Option Asked
+abbrev pub try_of : List (List ℕ) → Option Request
 try_of (commands ∷ []) = option_map Try (file_name commands)
 try_of _ = None
 
-abbrev pub format_of : List (List ℕ) → Option Asked
+abbrev pub format_of : List (List ℕ) → Option Request
 format_of (image ∷ protocol ∷ numbers) =
     option_and_then
     (λ image. option_and_then
@@ -63,16 +63,16 @@ format_of (image ∷ protocol ∷ numbers) =
     (file_name image)
 format_of _ = None
 
-abbrev pub run_of : List (List ℕ) → Option Asked
+abbrev pub run_of : List (List ℕ) → Option Request
 run_of (image ∷ commands ∷ []) =
     option_and_then (λ image. option_map (Run image) (file_name commands)) (file_name image)
 run_of _ = None
 
-abbrev pub explain_of : List (List ℕ) → Option Asked
+abbrev pub explain_of : List (List ℕ) → Option Request
 explain_of (image ∷ []) = option_map Explain (file_name image)
 explain_of _ = None
 
-abbrev pub drive_of : List (List ℕ) → Option Asked
+abbrev pub drive_of : List (List ℕ) → Option Request
 drive_of (start ∷ count ∷ protocol ∷ []) =
     option_and_then
     (λ start. option_and_then (λ count. option_map (Drive start count) (protocol_of_word protocol))
@@ -80,28 +80,28 @@ drive_of (start ∷ count ∷ protocol ∷ []) =
     (wide_number_of start)
 drive_of _ = None
 
-abbrev pub check_of : List (List ℕ) → Option Asked
+abbrev pub check_of : List (List ℕ) → Option Request
 check_of (image ∷ report ∷ []) =
     option_and_then (λ image. option_map (Check image) (file_name report)) (file_name image)
 check_of _ = None
 
-abbrev pub compare_of : List (List ℕ) → Option Asked
+abbrev pub compare_of : List (List ℕ) → Option Request
 compare_of (first ∷ second ∷ []) =
     option_and_then (λ first. option_map (Compare first) (file_name second)) (file_name first)
 compare_of _ = None
 
-abbrev pub keys_of : List (List ℕ) → Option Asked
+abbrev pub keys_of : List (List ℕ) → Option Request
 keys_of (image ∷ script ∷ []) =
     option_and_then (λ image. option_map (Keys image) (file_name script)) (file_name image)
 keys_of _ = None
 
-abbrev pub retire_of : List (List ℕ) → Option Asked
+abbrev pub retire_of : List (List ℕ) → Option Request
 retire_of (image ∷ block ∷ []) =
     option_and_then (λ image. option_map (Retire image) (number_of block)) (file_name image)
 retire_of _ = None
 
 -- the task that the words behind this verb ask for
-abbrev pub behind : List ℕ → List (List ℕ) → Option Asked
+abbrev pub behind : List ℕ → List (List ℕ) → Option Request
 behind verb words =
     if bytes_eq verb (codes "try") then try_of words
     else if bytes_eq verb (codes "format") then format_of words
@@ -115,21 +115,21 @@ behind verb words =
     else None
 
 -- the table of words: no other words are in it
-abbrev pub asked : List (List ℕ) → Option Asked
-asked [] = None
-asked (verb ∷ words) = behind verb words
+abbrev pub request : List (List ℕ) → Option Request
+request [] = None
+request (verb ∷ words) = behind verb words
 
-abbrev pub asked_by : List (String Global) → Option Asked
-asked_by words = asked (map string_bytes words)
+abbrev pub request_by : List (String Global) → Option Request
+request_by words = request (map string_bytes words)
 
 -- the task that a value of the program stands for
-abbrev pub asked_of : Task → Asked
-asked_of (task.Try commands) = Try commands.now
-asked_of (task.Format image config allowance) = Format image.now config allowance
-asked_of (task.Run image commands) = Run image.now commands.now
-asked_of (task.Explain image) = Explain image.now
-asked_of (task.Drive start count protocol) = Drive start count protocol
-asked_of (task.Check image report) = Check image.now report.now
-asked_of (task.Compare first second) = Compare first.now second.now
-asked_of (task.Keys image script) = Keys image.now script.now
-asked_of (task.Retire image block) = Retire image.now block.0
+abbrev pub request_of : Task → Request
+request_of (task.Try commands) = Try commands.now
+request_of (task.Format image config allowance) = Format image.now config allowance
+request_of (task.Run image commands) = Run image.now commands.now
+request_of (task.Explain image) = Explain image.now
+request_of (task.Drive start count protocol) = Drive start count protocol
+request_of (task.Check image report) = Check image.now report.now
+request_of (task.Compare first second) = Compare first.now second.now
+request_of (task.Keys image script) = Keys image.now script.now
+request_of (task.Retire image block) = Retire image.now block.0

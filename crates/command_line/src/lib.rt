@@ -3,7 +3,7 @@
 #![tactic(auto)]
 
 mod call;
-pub mod laws;
+pub mod theorems;
 mod words;
 
 pub use call::top;

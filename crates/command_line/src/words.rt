@@ -1,6 +1,6 @@
 ghost use Rattle.std.specs.Prelude.{◌≡◌, map, string_bytes};
 ghost use Rattle.std.specs.Option.{option_map};
-ghost use Rattle.command_line.specs.Words.{allowance_of, asked_by, asked_of, config_of, file_name, protocol_of_word};
+ghost use Rattle.command_line.specs.Words.{allowance_of, request_by, request_of, config_of, file_name, protocol_of_word};
 ghost use Rattle.command_line.specs.Words.{check_of, compare_of, keys_of, retire_of};
 ghost use Rattle.command_line.specs.Words.{drive_of, explain_of, format_of, run_of, try_of};
 
@@ -59,26 +59,26 @@ pub enum Task<'a> {
 }
 
 /// The task that the words ask for, if they are in the table.
-pub fn asked(words: &[String]) -> Option<Task<'_>>
-    ensures { option_map asked_of result ≡ asked_by words.now }
+pub fn parse_words(words: &[String]) -> Option<Task<'_>>
+    ensures { option_map request_of result ≡ request_by words.now }
 {
     let (verb, rest) = words.split_first()?;
     match verb.as_str() {
-        "try" => asked_to_try(rest),
-        "format" => asked_to_format(rest),
-        "run" => asked_to_run(rest),
-        "explain" => asked_to_explain(rest),
-        "drive" => asked_to_drive(rest),
-        "check" => asked_to_check(rest),
-        "compare" => asked_to_compare(rest),
-        "keys" => asked_for_keys(rest),
-        "retire" => asked_to_retire(rest),
+        "try" => parse_try(rest),
+        "format" => parse_format(rest),
+        "run" => parse_run(rest),
+        "explain" => parse_explain(rest),
+        "drive" => parse_drive(rest),
+        "check" => parse_check(rest),
+        "compare" => parse_compare(rest),
+        "keys" => parse_key_words(rest),
+        "retire" => parse_retire(rest),
         _ => None,
     }
 }
 
-fn asked_to_try(words: &[String]) -> Option<Task<'_>>
-    ensures { option_map asked_of result ≡ try_of (map string_bytes words.now) }
+fn parse_try(words: &[String]) -> Option<Task<'_>>
+    ensures { option_map request_of result ≡ try_of (map string_bytes words.now) }
 {
     let [commands] = words else {
         return None;
@@ -88,14 +88,14 @@ fn asked_to_try(words: &[String]) -> Option<Task<'_>>
     })
 }
 
-fn asked_to_format(words: &[String]) -> Option<Task<'_>>
-    ensures { option_map asked_of result ≡ format_of (map string_bytes words.now) }
+fn parse_format(words: &[String]) -> Option<Task<'_>>
+    ensures { option_map request_of result ≡ format_of (map string_bytes words.now) }
 {
     let [image, protocol, numbers @ ..] = words else {
         return None;
     };
     let image = name(image)?;
-    let (config, more) = config(protocol_named(protocol)?, numbers)?;
+    let (config, more) = config(protocol_of_word(protocol)?, numbers)?;
     Some(Task::Format {
         image,
         config,
@@ -103,8 +103,8 @@ fn asked_to_format(words: &[String]) -> Option<Task<'_>>
     })
 }
 
-fn asked_to_run(words: &[String]) -> Option<Task<'_>>
-    ensures { option_map asked_of result ≡ run_of (map string_bytes words.now) }
+fn parse_run(words: &[String]) -> Option<Task<'_>>
+    ensures { option_map request_of result ≡ run_of (map string_bytes words.now) }
 {
     let [image, commands] = words else {
         return None;
@@ -115,8 +115,8 @@ fn asked_to_run(words: &[String]) -> Option<Task<'_>>
     })
 }
 
-fn asked_to_explain(words: &[String]) -> Option<Task<'_>>
-    ensures { option_map asked_of result ≡ explain_of (map string_bytes words.now) }
+fn parse_explain(words: &[String]) -> Option<Task<'_>>
+    ensures { option_map request_of result ≡ explain_of (map string_bytes words.now) }
 {
     let [image] = words else {
         return None;
@@ -126,8 +126,8 @@ fn asked_to_explain(words: &[String]) -> Option<Task<'_>>
     })
 }
 
-fn asked_to_drive(words: &[String]) -> Option<Task<'_>>
-    ensures { option_map asked_of result ≡ drive_of (map string_bytes words.now) }
+fn parse_drive(words: &[String]) -> Option<Task<'_>>
+    ensures { option_map request_of result ≡ drive_of (map string_bytes words.now) }
 {
     let [start, count, protocol] = words else {
         return None;
@@ -135,12 +135,12 @@ fn asked_to_drive(words: &[String]) -> Option<Task<'_>>
     Some(Task::Drive {
         start: wide_number(start.as_bytes())?,
         count: draws(count.as_bytes())?,
-        protocol: protocol_named(protocol)?,
+        protocol: protocol_of_word(protocol)?,
     })
 }
 
-fn asked_to_check(words: &[String]) -> Option<Task<'_>>
-    ensures { option_map asked_of result ≡ check_of (map string_bytes words.now) }
+fn parse_check(words: &[String]) -> Option<Task<'_>>
+    ensures { option_map request_of result ≡ check_of (map string_bytes words.now) }
 {
     let [image, report] = words else {
         return None;
@@ -151,8 +151,8 @@ fn asked_to_check(words: &[String]) -> Option<Task<'_>>
     })
 }
 
-fn asked_to_compare(words: &[String]) -> Option<Task<'_>>
-    ensures { option_map asked_of result ≡ compare_of (map string_bytes words.now) }
+fn parse_compare(words: &[String]) -> Option<Task<'_>>
+    ensures { option_map request_of result ≡ compare_of (map string_bytes words.now) }
 {
     let [first, second] = words else {
         return None;
@@ -163,8 +163,8 @@ fn asked_to_compare(words: &[String]) -> Option<Task<'_>>
     })
 }
 
-fn asked_for_keys(words: &[String]) -> Option<Task<'_>>
-    ensures { option_map asked_of result ≡ keys_of (map string_bytes words.now) }
+fn parse_key_words(words: &[String]) -> Option<Task<'_>>
+    ensures { option_map request_of result ≡ keys_of (map string_bytes words.now) }
 {
     let [image, script] = words else {
         return None;
@@ -175,8 +175,8 @@ fn asked_for_keys(words: &[String]) -> Option<Task<'_>>
     })
 }
 
-fn asked_to_retire(words: &[String]) -> Option<Task<'_>>
-    ensures { option_map asked_of result ≡ retire_of (map string_bytes words.now) }
+fn parse_retire(words: &[String]) -> Option<Task<'_>>
+    ensures { option_map request_of result ≡ retire_of (map string_bytes words.now) }
 {
     let [image, block] = words else {
         return None;
@@ -195,7 +195,7 @@ fn name(word: &str) -> Option<&str>
 }
 
 /// The protocol of this name.
-fn protocol_named(word: &str) -> Option<Protocol>
+fn protocol_of_word(word: &str) -> Option<Protocol>
     ensures { result ≡ protocol_of_word word.now }
 {
     match word {

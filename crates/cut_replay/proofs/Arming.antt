@@ -1,32 +1,13 @@
 -- Commands that set an arm.
-use Rattle.std.proofs.Common.{◌≡◌, ◌⊎◌, ℕ, ◌≤◌, Bool, true, false, ◌||◌, List, Option, Some, None, Ok, refl, sym, ap, ◌∙◌, subst, inr, arith, inl}
-use Rattle.std.specs.Prelude.{MatchBool, IfSome}
+use Rattle.cut_replay.proofs.Common.{◌≡◌, ◌⊎◌, ℕ, ◌≤◌, Bool, true, false, ◌||◌, List, Option, Some, None, Ok, refl, sym, ap, ◌∙◌, subst, inr, arith, inl, MatchBool, IfSome, Config, Protocol, shape_of, FlashState, Told, BothTell, NoMoreToCome, Moment, moment_of, mention, IsSoundImage, records_in, CachedPage, PageCacheState, DeviceState, Command, is_arm, seen_after, Point, IsPoint, ServesFlash, first_point, IsSet, HoldsAlways, point_at, IsCachedAs, IsCached, flash_in, point_of, Fits, StandsAt, StandsMounted, IsSpentBy, ServesSession, CachesSession, Serves, Session}
 use Rattle.std.proofs.lemmas.List.Elements.{All-weaker}
 use Rattle.std.proofs.lemmas.Bool.{or_parts}
-use Rattle.tx_types.specs.declared.config.Config.{Config}
-use Rattle.tx_types.specs.declared.config.Protocol.{Protocol}
-use Rattle.tx_types.specs.Config.{shape_of}
 use Rattle.flash_model.specs.declared.outcome.Outcome.{Outcome}
-use Rattle.flash_model.specs.Flash.{FlashState, Told}
 use Rattle.flash_model.specs.Arms.{ChangesTold, SetsCut, SetsFault, SetsBadRead}
-use Rattle.flash_model.specs.Calls.{BothTell, NoMoreToCome}
-use Rattle.flash_model.specs.Operations.{Moment, moment_of}
-use Rattle.record_list.specs.Records.{mention}
-use Rattle.version_index.specs.Images.{IsSoundImage, records_in}
-use Rattle.page_cache.specs.CachedPages.{CachedPage, CachedPages}
-use Rattle.tx_engine.specs.Standing.{Standing}
-use Rattle.host_protocol.specs.declared.command.Command.{Command}
 use Rattle.host_protocol.specs.declared.command.Command.TheVariants as command
 use Rattle.host_protocol.specs.declared.reply.Reply.TheVariants as reply
-use Rattle.cut_replay.specs.Run.{is_arm, seen_after}
-use Rattle.cut_replay.specs.FlashRun.{Point, IsPoint, ServesFlash, opening_point}
-use Rattle.cut_replay.specs.Bounds.{IsSet}
-use Rattle.tx_engine.proofs.OfStanding.Seen.{seen_flash}
-use Rattle.tx_engine.specs.Always.{HoldsAlways}
-use Rattle.cut_replay.specs.Mounted.{point_at, IsCachedAs, IsCached}
-use Rattle.cut_replay.specs.Sessions.{flash_in, point_of, IsKept, Fits, StandsAt, StandsMounted, IsSpentBy, ServesSession, SetsArm, CachesFrom, CachesSession}
-use Rattle.cut_replay.specs.Sessions.{Serves}
-use Rattle.cut_replay.specs.declared.session.Session.{Session}
+use Rattle.tx_engine.proofs.OfDevice.Seen.{seen_flash}
+use Rattle.cut_replay.specs.Sessions.{IsNotDropped, SetsArm, CachesFrom}
 use Rattle.cut_replay.specs.declared.session.Session.TheVariants as session
 use Rattle.cut_replay.proofs.Mountings.{mounted_point}
 use Rattle.cut_replay.proofs.Followed.{always_point}
@@ -77,12 +58,12 @@ still_armed sets old new h = ap moment_of h.stays
 same_point : {F R : Type 0} (state : F → FlashState) (its : Config) (protocol : Protocol) (sets : Told → Told → Type 0) (old new : Session F R) →
     SetsArm state protocol sets old new → point_of state its new ≡ point_of state its old
 same_point {F = F} state its protocol sets (session.Mounted s) (session.Mounted t) h =
-    ap (λ (x : Standing F). record { state = record { machine = x.machine; up = true }; moment = moment_of (state t.flash) }) h.stays
+    ap (λ (x : DeviceState F). record { state = record { machine = x.machine; up = true }; moment = moment_of (state t.flash) }) h.stays
     ∙ ap (λ (m : Moment). record { state = record { machine = s.machine; up = true }; moment = m }) (still_armed sets (state s.flash) (state t.flash) h.changes)
 same_point state its protocol sets (session.Mounted s) (session.Unmounted f) h = absurd h
 same_point state its protocol sets (session.Unmounted e) (session.Mounted t) h = absurd h
 same_point state its protocol sets (session.Unmounted e) (session.Unmounted f) h =
-    ap (λ (m : Moment). opening_point its false m) (still_armed sets (state e) (state f) h)
+    ap (λ (m : Moment). first_point its false m) (still_armed sets (state e) (state f) h)
 
 armed_told : {F R : Type 0} (state : F → FlashState) (protocol : Protocol) (sets : Told → Told → Type 0) (old new : Session F R) →
     SetsArm state protocol sets old new →
@@ -97,7 +78,7 @@ armed_stands : {F R : Type 0} (state : F → FlashState) (its : Config) (protoco
     ℕ) (faulted : Bool) (old new : Session F R) →
     SetsArm state protocol sets old new → StandsAt state its seen faulted old → StandsAt state its (seen_after seen c reply.Armed) (faulted || false) new
 armed_stands {F = F} state its protocol sets c seen faulted (session.Mounted s) (session.Mounted t) h stands =
-    subst (λ (x : Standing F). StandsMounted (seen_after seen c reply.Armed) (faulted || false) x) (sym h.stays) (record {
+    subst (λ (x : DeviceState F). StandsMounted (seen_after seen c reply.Armed) (faulted || false) x) (sym h.stays) (record {
       sure = λ whole. stands.sure (or_parts faulted false whole).0;
       mentions = seen_flash seen s t.flash stands.mentions;
     })
@@ -133,7 +114,7 @@ armed_point : {F R : Type 0} (state : F → FlashState) (its : Config) (protocol
     ℕ) (faulted : Bool) (old new : Session F R) →
     SetsArm state protocol sets old new → Fits state its entries old → StandsAt state its seen faulted old → IsPoint its (point_of state its new)
 armed_point state its protocol sets entries seen faulted (session.Mounted s) (session.Mounted t) h fits stands =
-    subst (λ (x : Config). IsPoint x (point_at state t)) (ap (λ (x : Standing _). x.config) h.stays ∙ fits.config) (always_point state protocol t h.always)
+    subst (λ (x : Config). IsPoint x (point_at state t)) (ap (λ (x : DeviceState _). x.config) h.stays ∙ fits.config) (always_point state protocol t h.always)
 armed_point state its protocol sets entries seen faulted (session.Mounted s) (session.Unmounted f) h fits stands = absurd h
 armed_point state its protocol sets entries seen faulted (session.Unmounted e) (session.Mounted t) h fits stands = absurd h
 armed_point {F = F} {R = R} state its protocol sets entries seen faulted (session.Unmounted e) (session.Unmounted f) h fits stands =
@@ -184,22 +165,22 @@ armed_serves state its protocol sets entries c old new arming fits h = record {
 }
 
 -- a session that fits is kept
-pub fits_kept : {F R : Type 0} (state : F → FlashState) (its : Config) (entries : List CachedPage) (s : Session F R) → Fits state its entries s → IsKept s
+pub fits_kept : {F R : Type 0} (state : F → FlashState) (its : Config) (entries : List CachedPage) (s : Session F R) → Fits state its entries s → IsNotDropped s
 fits_kept state its entries (session.Mounted s) fits = fits.always.kept
 fits_kept state its entries (session.Unmounted e) fits = tt
 
 -- and the session fits still
-fits_flash : {F : Type 0} (s : Standing F) (flash : F) (e : CachedPage) → IsCachedAs s e → IsCachedAs (record s { flash = flash }) e
+fits_flash : {F : Type 0} (s : DeviceState F) (flash : F) (e : CachedPage) → IsCachedAs s e → IsCachedAs (record s { flash = flash }) e
 fits_flash s flash e h = record { exists = h.exists; least = h.least; current = h.current }
 
 armed_fits : {F R : Type 0} (state : F → FlashState) (its : Config) (protocol : Protocol) (sets : Told → Told →
     Type 0) (entries : List CachedPage) (old new : Session F R) → its.protocol ≡ protocol →
     Fits state its entries old → SetsArm state protocol sets old new → Fits state its entries new
 armed_fits {F = F} state its protocol sets entries (session.Mounted s) (session.Mounted t) rule fits h = record {
-  config = ap (λ (x : Standing F). x.config) h.stays ∙ fits.config;
+  config = ap (λ (x : DeviceState F). x.config) h.stays ∙ fits.config;
   check = fits.check ∙ ap (λ (x : FlashState). Ok x.shape) (sym h.changes.stays);
   live = ap (λ (x : FlashState). x.live) h.changes.stays ∙ fits.live;
-  cached = subst (λ (x : Standing F). IsCached x entries) (sym h.stays) (All-weaker (IsCachedAs s) (IsCachedAs (record s { flash = t.flash }))
+  cached = subst (λ (x : DeviceState F). IsCached x entries) (sym h.stays) (All-weaker (IsCachedAs s) (IsCachedAs (record s { flash = t.flash }))
       (fits_flash s t.flash) entries fits.cached);
   always = subst (λ (p : Protocol). HoldsAlways state p t) (sym rule) h.always;
 }
@@ -214,13 +195,13 @@ armed_as : {F R : Type 0} (state : F → FlashState) (its : Config) (protocol : 
 armed_as state its protocol sets entries c d old new is arming fits h =
     subst (λ x. ServesSession state its x old reply.Armed new) (sym is) (armed_serves state its protocol sets entries d old new arming fits h)
 
-armed_caches : {F R : Type 0} (state : F → FlashState) (its : Config) (c : Command) (old new : Session F R) (cache : CachedPages) → is_arm c ≡ true →
+armed_caches : {F R : Type 0} (state : F → FlashState) (its : Config) (c : Command) (old new : Session F R) (cache : PageCacheState) → is_arm c ≡ true →
     CachesSession state its c old reply.Armed new cache cache
 armed_caches state its c old new cache arm = subst (λ b. MatchBool b (cache ≡ cache) (CachesFrom state its c old reply.Armed new cache cache)) (sym arm) refl
 
 -- the whole of it
 pub armed : {F R : Type 0} (state : F → FlashState) (its : Config) (protocol : Protocol) (sets : Told → Told →
-    Type 0) (cache : CachedPages) (c d : Command) (old new : Session F R) →
+    Type 0) (cache : PageCacheState) (c d : Command) (old new : Session F R) →
     c ≡ d → IsArming d sets → its.protocol ≡ protocol → Fits state its cache.entries old → SetsArm state protocol sets old new →
     Serves state its c old (Ok reply.Armed) new cache cache
 armed state its protocol sets cache c d old new is arming rule fits h = record {

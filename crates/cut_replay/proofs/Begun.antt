@@ -1,37 +1,25 @@
 -- The session that serving begins with.
-use Rattle.std.proofs.Common.{◌≡◌, Bool, true, false, List, [], Option, Some, None, Result, Ok, Err, refl, sym, ap, ap₂, ◌∙◌, subst, inl, inr, arith}
-use Rattle.std.specs.Prelude.{IfOk, IsSomeAnd, MatchBool}
-use Rattle.tx_types.specs.declared.config.Config.{Config}
-use Rattle.tx_types.specs.Config.{checked, shape_of}
-use Rattle.tx_types.specs.declared.config.Shape.{Shape}
-use Rattle.page_cache.specs.CachedPages.{CachedPage}
-use Rattle.flash_model.specs.Flash.{FlashState, IsSteady, Told}
-use Rattle.flash_model.specs.Calls.{BothTell, NoMoreToCome, Spends}
-use Rattle.flash_model.specs.Operations.{Moment, moment_of}
-use Rattle.tx_engine.specs.ArrayState.{ArrayState}
-use Rattle.cut_replay.specs.FlashRun.{mentions_in, opening_point}
-use Rattle.cut_replay.specs.Bounds.{BeginsUnbroken, CountsBreaks}
-use Rattle.cut_replay.specs.Sessions.{flash_in, point_of, IsSoundFlash, IsSoundOrSame, Fits, Mounted, Unmounted}
-use Rattle.cut_replay.specs.Beginning.{Begins, MountsFirst}
-use Rattle.host_protocol.specs.declared.command.Command.{Command}
+use Rattle.cut_replay.proofs.Common.{◌≡◌, Bool, true, false, List, [], Option, Some, None, Result, Ok, Err, refl, sym, ap, ◌∙◌, subst, inl, inr, arith, IfOk, MatchBool, Config, checked, shape_of, Shape, CachedPage, FlashState, Told, BothTell, NoMoreToCome, Spends, Moment, moment_of, ArrayState, mentions_in, first_point, CountsBreaks, flash_in, point_of, IsSoundFlash, IsSoundOrSame, Fits, Mounted, Unmounted, Begins, Command, Watched, ServesUnsound, ServeError, Session, sound_unbroken}
+use Rattle.std.proofs.Common.{ap₂}
+use Rattle.std.specs.Prelude.{IsSomeAnd}
+use Rattle.flash_model.specs.Flash.{IsSteady}
+use Rattle.cut_replay.specs.Bounds.{BeginsUnbroken}
+use Rattle.cut_replay.specs.Beginning.{MountsFirst}
 use Rattle.cut_replay.specs.Mounted.{StaysQuiet}
-use Rattle.cut_replay.specs.Served.{Watched, ServesSound, ServesUnsound, CountsTold, RefusesUnsound}
-use Rattle.cut_replay.specs.declared.serving.ServeError.{ServeError}
+use Rattle.cut_replay.specs.Served.{ServesSound, CountsTold, RefusesUnsound}
 use Rattle.cut_replay.specs.declared.serving.ServeError.TheVariants as failed
-use Rattle.cut_replay.specs.declared.session.Session.{Session}
 use Rattle.cut_replay.specs.declared.session.Session.TheVariants as session
 use Rattle.cut_replay.specs.declared.session.Ended.{Ended}
 use Rattle.cut_replay.proofs.Mountings.{mounted_stands, mounted_leaves, mounted_still}
-use Rattle.version_index.proofs.OfTables.OneBreach.{sound_unbroken}
 use Rattle.cut_replay.proofs.MountingAgain.{mounts_none}
 use Rattle.cut_replay.proofs.Runs.{grew_none, least_none, spends_nothing, counts_later}
 
 -- at the opening point
 begun_point : {F R : Type 0} (state : F → FlashState) (its : Config) (flash : F) (s : Session F R) → Mounted state its flash s → (up : Bool) ×
-    (point_of state its s ≡ opening_point its up (moment_of (state flash)))
+    (point_of state its s ≡ first_point its up (moment_of (state flash)))
 begun_point state its flash (session.Mounted s) h =
     (true, ap₂ (λ (m : ArrayState) (x : Moment). record { state = record { machine = m; up = true }; moment = x }) h.machine h.still.moment)
-begun_point state its flash (session.Unmounted new) h = (false, ap (λ (m : Moment). opening_point its false m) h.still.moment)
+begun_point state its flash (session.Unmounted new) h = (false, ap (λ (m : Moment). first_point its false m) h.still.moment)
 
 begun_told : {F R : Type 0} (state : F → FlashState) (its : Config) (flash : F) (s : Session F R) → Mounted state its flash s →
     BothTell NoMoreToCome (state flash).told (state (flash_in s)).told

@@ -1,30 +1,15 @@
 -- What calls of a device leave of its mentions, of the cache, and of what is told.
-use Rattle.std.proofs.Common.{◌≡◌, ℕ, ◌+◌, ◌<◌, ◌≤◌, Bool, true, false, cond, List, sym, ◌∙◌, subst, inl, inr, arith}
-use Rattle.std.specs.Prelude.{count_by}
+use Rattle.cut_replay.proofs.Common.{◌≡◌, ℕ, ◌+◌, ◌<◌, ◌≤◌, Bool, true, false, cond, List, sym, ◌∙◌, subst, inl, inr, arith, count_by, Config, Protocol, Shape, shape_of, FlashState, Carries, moment_of, CachedPage, is_spent, DeviceState, limits_of, Command, Reply, DoesCommand, seen_after, is_break, Tells, is_fault, is_lost, IsSeen, HoldsAlways, point_at, IsCachedAs, IsCached, ServesHere}
 use Rattle.std.proofs.lemmas.List.Elements.{All-weaker}
-use Rattle.tx_types.specs.declared.config.Config.{Config}
-use Rattle.tx_types.specs.declared.config.Protocol.{Protocol}
-use Rattle.tx_types.specs.declared.config.Shape.{Shape}
-use Rattle.tx_types.specs.Config.{shape_of}
-use Rattle.flash_model.specs.Flash.{FlashState}
-use Rattle.flash_model.specs.Calls.{Carries}
 use Rattle.flash_model.specs.Moves.{Moves}
-use Rattle.flash_model.specs.Operations.{moment_of}
 use Rattle.flash_model.proofs.MoveLemmas.{together_of}
-use Rattle.page_cache.specs.CachedPages.{CachedPage}
 use Rattle.tx_engine.specs.Exits.{Exits, VersionsTell}
-use Rattle.tx_engine.specs.Naming.{is_spent}
 use Rattle.tx_engine.specs.Submit.{is_of}
-use Rattle.tx_engine.specs.Standing.{Standing, limits_of}
-use Rattle.tx_engine.proofs.OfStanding.Seen.{exits_seen}
-use Rattle.host_protocol.specs.declared.command.Command.{Command}
-use Rattle.host_protocol.specs.declared.reply.Reply.{Reply}
+use Rattle.tx_engine.proofs.OfDevice.Seen.{exits_seen}
 use Rattle.collector.specs.declared.unsure.Unsure.TheVariants as unsure
-use Rattle.cut_replay.specs.Run.{DoesCommand, seen_after, is_break, is_opened, writes_in}
-use Rattle.cut_replay.specs.FlashRun.{Tells, is_fault, is_still, is_together}
-use Rattle.cut_replay.specs.Bounds.{is_lost}
-use Rattle.tx_engine.specs.Always.{IsSeen, HoldsAlways}
-use Rattle.cut_replay.specs.Mounted.{point_at, IsCachedAs, IsCached, MayHaveCut, ServesHere}
+use Rattle.cut_replay.specs.Run.{is_opened, writes_in}
+use Rattle.cut_replay.specs.FlashRun.{is_still, is_together}
+use Rattle.cut_replay.specs.Mounted.{MayHaveCut}
 
 -- what is seen at least is not less after a command
 seen_least : (b : Bool) (n k : ℕ) → n ≤ cond b (n + k) n
@@ -34,14 +19,14 @@ seen_least false n k = omega arith
 pub seen_at : (seen : ℕ → ℕ) (c : Command) (r : Reply) (page : ℕ) → seen page ≤ seen_after seen c r page
 seen_at seen c r page = seen_least (is_opened r) (seen page) (count_by (is_of page) (writes_in c))
 
-pub seen_later : {F : Type 0} (seen : ℕ → ℕ) (c : Command) (r : Reply) (s : Standing F) → IsSeen seen s → IsSeen (seen_after seen c r) s
+pub seen_later : {F : Type 0} (seen : ℕ → ℕ) (c : Command) (r : Reply) (s : DeviceState F) → IsSeen seen s → IsSeen (seen_after seen c r) s
 seen_later seen c r s h = record {
   mentions = λ page. (let least = seen_at seen c r page in let most = h.mentions page in omega arith);
   names = λ page version named. (let least = seen_at seen c r page in let most = h.names page version named in omega arith);
 }
 
 -- the cache stays right where versions do not fall, and a page whose version stays has its bytes
-cached_stays_so : {F : Type 0} (old new : Standing F) → new.config ≡ old.config → VersionsTell old new → (e : CachedPage) → IsCachedAs old e → IsCachedAs new e
+cached_stays_so : {F : Type 0} (old new : DeviceState F) → new.config ≡ old.config → VersionsTell old new → (e : CachedPage) → IsCachedAs old e → IsCachedAs new e
 cached_stays_so old new same tell e h =
     let exists : e.page < new.config.logical = subst (λ (c : Config). e.page < c.logical) (sym same) h.exists in
     elim (tell e.page h.exists) [
@@ -53,12 +38,12 @@ cached_stays_so old new same tell e h =
       }
     ]
 
-pub cached_stays : {F : Type 0} (old new : Standing F) (entries : List CachedPage) → new.config ≡ old.config → VersionsTell old new → IsCached old entries →
+pub cached_stays : {F : Type 0} (old new : DeviceState F) (entries : List CachedPage) → new.config ≡ old.config → VersionsTell old new → IsCached old entries →
     IsCached new entries
 cached_stays old new entries same tell h = All-weaker (IsCachedAs old) (IsCachedAs new) (cached_stays_so old new same tell) entries h
 
 -- what a command does that is one call which may settle, write and collect
-pub exits_serve : {F : Type 0} (state : F → FlashState) (protocol : Protocol) (c : Command) (old new : Standing F) (r : Reply) (broken : Bool) →
+pub exits_serve : {F : Type 0} (state : F → FlashState) (protocol : Protocol) (c : Command) (old new : DeviceState F) (r : Reply) (broken : Bool) →
     HoldsAlways state protocol old → HoldsAlways state protocol new → Exits state old new broken → is_break r ≡ broken → is_fault r ≡ broken →
     is_lost r ≡ false →
     DoesCommand (limits_of old.config) (is_spent old.noted.mentions) c old.machine r new.machine →

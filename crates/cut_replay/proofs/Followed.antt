@@ -1,34 +1,15 @@
 -- What a command comes to that was done on a mounted device.
-use Rattle.std.proofs.Common.{◌≡◌, ℕ, ◌<◌, ◌≤◌, Bool, true, false, List, [], Result, Ok, Err, refl, sym, ap, ◌∙◌, subst, inl, inr, arith}
-use Rattle.std.specs.Prelude.{nat_le, ◌^◌, MatchBool, IfOk, IfErr, OnOk}
-use Rattle.std.proofs.lemmas.Bool.{cases_Bool, or_parts}
+use Rattle.cut_replay.proofs.Common.{◌≡◌, ℕ, ◌<◌, ◌≤◌, Bool, true, false, List, [], Result, Ok, Err, refl, sym, ap, ◌∙◌, subst, inl, inr, arith, MatchBool, IfOk, OnOk, cases_Bool, Config, Protocol, checked, shape_of, FlashState, BothTell, Rose, Spends, Carries, Moment, moment_of, mention, IsSoundImage, array_in, records_in, PageCacheState, CachedPage, idle, is_spent, DeviceState, Command, Reply, CutLeavesOf, is_arm, is_break, IsPoint, MovesBy, is_fault, is_lost, CountsBreak, IsSeen, HoldsAlways, point_at, IsCached, ServesHere, flash_in, IsSoundFlash, Fits, StandsMounted, IsSpentBy, ServesIn, ServesSession, EndsServing, Serves, CachesSession, ServeError, Session}
+use Rattle.std.specs.Prelude.{nat_le, ◌^◌, IfErr}
+use Rattle.std.proofs.lemmas.Bool.{or_parts}
 use Rattle.std.proofs.lemmas.Bool.Decides.{nat_tests}
-use Rattle.tx_types.specs.declared.config.Config.{Config}
-use Rattle.tx_types.specs.declared.config.Protocol.{Protocol}
-use Rattle.tx_types.specs.Config.{checked, shape_of}
-use Rattle.flash_model.specs.Flash.{FlashState}
-use Rattle.flash_model.specs.Calls.{BothTell, Rose, Spends, Carries}
-use Rattle.flash_model.specs.Operations.{Moment, moment_of}
-use Rattle.record_list.specs.Records.{mention}
-use Rattle.version_index.specs.Images.{IsSoundImage, array_in, records_in}
-use Rattle.version_index.specs.Noted.{mention_of}
-use Rattle.page_cache.specs.CachedPages.{CachedPages, CachedPage}
-use Rattle.tx_engine.specs.ArrayState.{idle}
-use Rattle.tx_engine.specs.Naming.{is_spent}
-use Rattle.tx_engine.specs.Standing.{Standing}
-use Rattle.tx_engine.proofs.OfStanding.Seen.{image_seen}
-use Rattle.host_protocol.specs.declared.command.Command.{Command}
-use Rattle.host_protocol.specs.declared.reply.Reply.{Reply}
+use Rattle.version_index.specs.IndexState.{mention_of}
+use Rattle.tx_engine.proofs.OfDevice.Seen.{image_seen}
 use Rattle.host_protocol.specs.declared.reply.Reply.TheVariants as reply
-use Rattle.cut_replay.specs.Run.{CutLeavesOf, MayBeSpent, is_arm, is_break}
-use Rattle.cut_replay.specs.FlashRun.{IsPoint, MovesBy, is_fault}
-use Rattle.cut_replay.specs.Bounds.{is_lost, CountsBreak}
-use Rattle.tx_engine.specs.Always.{IsSeen, HoldsAlways}
-use Rattle.cut_replay.specs.Mounted.{point_at, IsCached, CachesCommand, ServesHere}
-use Rattle.cut_replay.specs.Sessions.{flash_in, IsSoundFlash, Fits, FitsMounted, StandsMounted, IsSpentBy, ServesIn, ServesSession}
-use Rattle.cut_replay.specs.Sessions.{EndsServing, Follows, Serves, left, CachesSession}
-use Rattle.cut_replay.specs.declared.serving.ServeError.{ServeError}
-use Rattle.cut_replay.specs.declared.session.Session.{Session}
+use Rattle.cut_replay.specs.Run.{MayBeSpent}
+use Rattle.cut_replay.specs.Mounted.{CachesCommand}
+use Rattle.cut_replay.specs.Sessions.{FitsMounted}
+use Rattle.cut_replay.specs.Sessions.{Follows, left}
 use Rattle.cut_replay.specs.declared.session.Session.TheVariants as session
 use Rattle.cut_replay.proofs.Losing.{Sessions, FitsAfter, ServesAfter, EndsAfter, CachesAfter, WasLost, served_no_arm, again_serves, again_ends, again_fits}
 use Rattle.cut_replay.proofs.Losing.{again_caches, no_arm_caches}
@@ -38,16 +19,16 @@ use Rattle.cut_replay.proofs.Spending.{is_its_fault, uncut, spends_none, spends_
 last_version : (n m : ℕ) → nat_le (2 ^ 62) n ≡ true → n ≤ m → 2 ^ 62 ≤ m
 last_version n m is le = grind (arith, nat_tests)
 
-pub may_be_spent : {F : Type 0} (seen : ℕ → ℕ) (s : Standing F) → IsSeen seen s → MayBeSpent seen (is_spent s.noted.mentions)
+pub may_be_spent : {F : Type 0} (seen : ℕ → ℕ) (s : DeviceState F) → IsSeen seen s → MayBeSpent seen (is_spent s.noted.mentions)
 may_be_spent seen s h page is = last_version (mention_of s.noted page) (seen page) is (h.mentions page)
 
 -- the point of a device
-pub always_point : {F : Type 0} (state : F → FlashState) (protocol : Protocol) (s : Standing F) → HoldsAlways state protocol s →
+pub always_point : {F : Type 0} (state : F → FlashState) (protocol : Protocol) (s : DeviceState F) → HoldsAlways state protocol s →
     IsPoint s.config (point_at state s)
 always_point state protocol s h = record { sound = h.sound; array = h.array }
 
 -- Power was not cut
-pub done_in : {F R : Type 0} (state : F → FlashState) (protocol : Protocol) (c : Command) (s t : Standing F) (r : Reply) (seen : ℕ → ℕ) (faulted : Bool) →
+pub done_in : {F R : Type 0} (state : F → FlashState) (protocol : Protocol) (c : Command) (s t : DeviceState F) (r : Reply) (seen : ℕ → ℕ) (faulted : Bool) →
     is_arm c ≡ false →
     ServesHere state c s t r → HoldsAlways state protocol t → StandsMounted seen faulted s →
     ServesIn {R = R} state s.config seen faulted c (session.Mounted s) r (session.Mounted t)
@@ -96,7 +77,7 @@ live_counts r old new whole carries =
     subst (λ b. MatchBool b (Rose old.faults new.faults) (new.faults ≡ old.faults)) (sym (break_is r whole)) (by_fault (is_fault r) old new carries)
 
 -- what is known of a command that was done
-pub record WasDone {F : Type 0} (state : F → FlashState) (its : Config) (c : Command) (s t : Standing F) (r : Reply) (entries : List CachedPage) : Type 0 where
+pub record WasDone {F : Type 0} (state : F → FlashState) (its : Config) (c : Command) (s t : DeviceState F) (r : Reply) (entries : List CachedPage) : Type 0 where
   pub config : s.config ≡ its
   pub sound : IsSoundFlash its (state s.flash)
   pub no_arm : is_arm c ≡ false
@@ -105,12 +86,12 @@ pub record WasDone {F : Type 0} (state : F → FlashState) (its : Config) (c : C
   pub cached : IsCached t entries
   pub always : HoldsAlways state its.protocol t
 
-pub after_check : {F : Type 0} (state : F → FlashState) (its : Config) (c : Command) (s t : Standing F) (r : Reply) (entries : List CachedPage) →
+pub after_check : {F : Type 0} (state : F → FlashState) (its : Config) (c : Command) (s t : DeviceState F) (r : Reply) (entries : List CachedPage) →
     WasDone state its c s t r entries → checked its ≡ Ok (state t.flash).shape
 after_check state its c s t r entries w = ap checked (sym (w.here.config ∙ w.config)) ∙ w.always.check
 
-pub fits_after : {F R : Type 0} (state : F → FlashState) (its : Config) (c : Command) (s t : Standing F) (r : Reply) (result : Sessions F R)
-    (before after : CachedPages) →
+pub fits_after : {F R : Type 0} (state : F → FlashState) (its : Config) (c : Command) (s t : DeviceState F) (r : Reply) (result : Sessions F R)
+    (before after : PageCacheState) →
     WasDone state its c s t r before.entries → Follows state its (session.Mounted t) r result before after → FitsAfter F R state its after.entries result
 fits_after {F = F} {R = R} state its c s t r result before after w follows = elim (cases_Bool (state t.flash).live) [
   | inl on ↦ (
@@ -119,23 +100,23 @@ fits_after {F = F} {R = R} state its c s t r result before after w follows = eli
         config = w.here.config ∙ w.config;
         check = after_check state its c s t r before.entries w;
         live = on;
-        cached = subst (λ (x : CachedPages). IsCached t x.entries) (sym went.1) w.cached;
+        cached = subst (λ (x : PageCacheState). IsCached t x.entries) (sym went.1) w.cached;
         always = w.always;
       }))
   | inr off ↦ (
       let cut = follows.was_cut off in
-      subst (λ (x : CachedPages). FitsAfter F R state its x.entries result) (sym cut.1)
+      subst (λ (x : PageCacheState). FitsAfter F R state its x.entries result) (sym cut.1)
       (again_fits state its t.flash reply.Cut result (after_check state its c s t r before.entries w) cut.0))
 ]
 
 -- the image is sound
-sound_here : {F : Type 0} (state : F → FlashState) (c : Command) (s t : Standing F) (r : Reply) (entries : List CachedPage) →
+sound_here : {F : Type 0} (state : F → FlashState) (c : Command) (s t : DeviceState F) (r : Reply) (entries : List CachedPage) →
     WasDone state s.config c s t r entries → IsSoundFlash s.config (state t.flash)
 sound_here state c s t r entries w =
     subst (λ (x : Config). IsSoundImage x.protocol x.logical (shape_of x) (state t.flash).image) w.here.config w.always.sound
 
 -- the whole of what a command comes to that was done
-went_serves : {F R : Type 0} (state : F → FlashState) (c : Command) (s t : Standing F) (r : Reply) (entries : List CachedPage) →
+went_serves : {F R : Type 0} (state : F → FlashState) (c : Command) (s t : DeviceState F) (r : Reply) (entries : List CachedPage) →
     WasDone state s.config c s t r entries → (state t.flash).live ≡ true →
     ServesSession {R = R} state s.config c (session.Mounted s) r (session.Mounted t)
 went_serves state c s t r entries w on = record {
@@ -150,7 +131,7 @@ went_serves state c s t r entries w on = record {
 }
 
 -- the command met a fault, where power is off
-faulted_here : {F : Type 0} (state : F → FlashState) (its : Config) (c : Command) (s t : Standing F) (r : Reply) (entries : List CachedPage) →
+faulted_here : {F : Type 0} (state : F → FlashState) (its : Config) (c : Command) (s t : DeviceState F) (r : Reply) (entries : List CachedPage) →
     WasDone state its c s t r entries → (state t.flash).live ≡ false →
     ServesHere state c s t reply.Fault
 faulted_here state its c s t r entries w off =
@@ -162,7 +143,7 @@ cut_moves : (its : Config) (c : Command) (old new : Moment) → MovesBy its c re
 cut_moves its c old new h = record { moves = h.moves; still = h.still }
 
 -- so nothing is open then
-cut_lost : {F : Type 0} (state : F → FlashState) (c : Command) (s t : Standing F) (r : Reply) (entries : List CachedPage) →
+cut_lost : {F : Type 0} (state : F → FlashState) (c : Command) (s t : DeviceState F) (r : Reply) (entries : List CachedPage) →
     WasDone state s.config c s t r entries → (state t.flash).live ≡ false → WasLost state s.config c s t.flash reply.Cut
 cut_lost state c s t r entries w off =
     let its = s.config in
@@ -186,7 +167,7 @@ cut_lost state c s t r entries w off =
     }
 
 -- at the configuration of the device, and so at that of the session
-serves_at : {F R : Type 0} (state : F → FlashState) (c : Command) (s t : Standing F) (r : Reply) (result : Sessions F R) (before after : CachedPages) →
+serves_at : {F R : Type 0} (state : F → FlashState) (c : Command) (s t : DeviceState F) (r : Reply) (result : Sessions F R) (before after : PageCacheState) →
     WasDone state s.config c s t r before.entries → Follows state s.config (session.Mounted t) r result before after →
     ServesAfter F R state s.config c s result × EndsAfter F R state s.config c s result
 serves_at {F = F} {R = R} state c s t r result before after w follows = elim (cases_Bool (state t.flash).live) [
@@ -200,8 +181,8 @@ serves_at {F = F} {R = R} state c s t r result before after w follows = elim (ca
       (again_serves state s.config c s t.flash reply.Cut result lost cut.0, again_ends state s.config c s t.flash reply.Cut result lost cut.0))
 ]
 
-pub serves_after : {F R : Type 0} (state : F → FlashState) (its : Config) (c : Command) (s t : Standing F) (r : Reply) (result : Sessions F R)
-    (before after : CachedPages) →
+pub serves_after : {F R : Type 0} (state : F → FlashState) (its : Config) (c : Command) (s t : DeviceState F) (r : Reply) (result : Sessions F R)
+    (before after : PageCacheState) →
     WasDone state its c s t r before.entries → Follows state its (session.Mounted t) r result before after → ServesAfter F R state its c s result ×
     EndsAfter F R state its c s result
 serves_after {F = F} {R = R} state its c s t r result before after w follows =
@@ -210,27 +191,27 @@ serves_after {F = F} {R = R} state its c s t r result before after w follows =
     (subst (λ (x : Config). Follows state x (session.Mounted t) r result before after) (sym w.config) follows))
 
 -- the cache keeps the size of its pages
-pub follows_size : {F R : Type 0} (state : F → FlashState) (its : Config) (t : Standing F) (r : Reply) (result : Sessions F R) (before after : CachedPages) →
+pub follows_size : {F R : Type 0} (state : F → FlashState) (its : Config) (t : DeviceState F) (r : Reply) (result : Sessions F R) (before after : PageCacheState) →
     Follows state its (session.Mounted t) r result before after →
     after.page_bytes ≡ before.page_bytes
 follows_size state its t r result before after follows = elim (cases_Bool (state t.flash).live) [
-  | inl on ↦ ap (λ (x : CachedPages). x.page_bytes) (follows.went_on on).1
-  | inr off ↦ ap (λ (x : CachedPages). x.page_bytes) (follows.was_cut off).1
+  | inl on ↦ ap (λ (x : PageCacheState). x.page_bytes) (follows.went_on on).1
+  | inr off ↦ ap (λ (x : PageCacheState). x.page_bytes) (follows.was_cut off).1
 ]
 
 -- what is in the cache
-emptied : (before mid after : CachedPages) → mid.page_bytes ≡ before.page_bytes → after ≡ record mid { entries = [] } → after ≡ record before { entries = [] }
-emptied before mid after same is = is ∙ ap (λ n. let c : CachedPages = record { page_bytes = n; entries = [] } in c) same
+emptied : (before mid after : PageCacheState) → mid.page_bytes ≡ before.page_bytes → after ≡ record mid { entries = [] } → after ≡ record before { entries = [] }
+emptied before mid after same is = is ∙ ap (λ n. let c : PageCacheState = record { page_bytes = n; entries = [] } in c) same
 
-pub caches_after : {F R : Type 0} (state : F → FlashState) (its : Config) (c : Command) (s t : Standing F) (r : Reply) (result : Sessions F R)
-    (before mid after : CachedPages) → is_arm c ≡ false → is_lost r ≡ false →
+pub caches_after : {F R : Type 0} (state : F → FlashState) (its : Config) (c : Command) (s t : DeviceState F) (r : Reply) (result : Sessions F R)
+    (before mid after : PageCacheState) → is_arm c ≡ false → is_lost r ≡ false →
     CachesCommand state c s t before mid → mid.page_bytes ≡ before.page_bytes → Follows state its (session.Mounted t) r result mid after →
     CachesAfter F R state its c s before after result
 caches_after {F = F} {R = R} state its c s t r result before mid after no_arm whole caches size follows = elim (cases_Bool (state t.flash).live) [
   | inl on ↦ (
       let went = follows.went_on on in
       let up : Session F R = session.Mounted t in
-      let here : CachesCommand state c s t before after = subst (λ (x : CachedPages). CachesCommand state c s t before x) (sym went.1) caches in
+      let here : CachesCommand state c s t before after = subst (λ (x : PageCacheState). CachesCommand state c s t before x) (sym went.1) caches in
       subst (λ (x : Sessions F R). CachesAfter F R state its c s before after x) (sym went.0)
       (no_arm_caches {R = R} state its c s r up before after no_arm
       (subst (λ b. MatchBool b (after ≡ record before { entries = [] }) (CachesCommand state c s t before after)) (sym whole) here)))
@@ -255,8 +236,8 @@ pub left_err : {F R : Type 0} (P : F → ServeError → Type 0) (new : Session F
 left_err P new (Ok r) h = tt
 left_err P new (Err why) h = h
 
-pub mounted_serves : {F R : Type 0} (state : F → FlashState) (its : Config) (c : Command) (s t : Standing F) (r : Reply) (result : Result Reply ServeError)
-    (new : Session F R) (before mid after : CachedPages) →
+pub mounted_serves : {F R : Type 0} (state : F → FlashState) (its : Config) (c : Command) (s t : DeviceState F) (r : Reply) (result : Result Reply ServeError)
+    (new : Session F R) (before mid after : PageCacheState) →
     WasDone state its c s t r mid.entries → CachesCommand state c s t before mid → mid.page_bytes ≡ before.page_bytes →
     Follows state its (session.Mounted t) r (left new result) mid after →
     Serves state its c (session.Mounted s) result new before after
@@ -272,7 +253,7 @@ mounted_serves {F = F} {R = R} state its c s t r result new before mid after w c
       size = follows_size state its t r (left new result) mid after follows ∙ size;
     }
 
-pub was_done : {F : Type 0} (state : F → FlashState) (its : Config) (protocol : Protocol) (c : Command) (s t : Standing F) (r : Reply)
+pub was_done : {F : Type 0} (state : F → FlashState) (its : Config) (protocol : Protocol) (c : Command) (s t : DeviceState F) (r : Reply)
     (before entries : List CachedPage) → its.protocol ≡ protocol →
     FitsMounted state its before s → is_arm c ≡ false → ServesHere state c s t r → IsCached t entries → HoldsAlways state protocol t →
     WasDone state its c s t r entries

@@ -1,30 +1,10 @@
 -- A command that mounts the device first.
-use Rattle.std.proofs.Common.{◌≡◌, ◌⊎◌, ℕ, ◌≤◌, Bool, true, false, [], Result, Ok, Err, refl, sym, ap, ◌∙◌, subst, inl, inr, arith}
-use Rattle.std.specs.Prelude.{MatchBool}
-use Rattle.tx_types.specs.declared.config.Config.{Config}
-use Rattle.tx_types.specs.declared.config.Shape.{Shape}
-use Rattle.tx_types.specs.Config.{checked, shape_of}
-use Rattle.flash_model.specs.Flash.{FlashState, counted_by}
-use Rattle.flash_model.specs.Calls.{BothTell, Rose, Spends}
-use Rattle.flash_model.specs.Operations.{Moment, moment_of}
-use Rattle.record_list.specs.Records.{mention}
-use Rattle.version_index.specs.Images.{IsSoundImage, records_in}
-use Rattle.tx_engine.specs.ArrayState.{ArrayState}
-use Rattle.tx_engine.specs.Standing.{Standing, limits_of}
-use Rattle.host_protocol.specs.declared.command.Command.{Command}
-use Rattle.host_protocol.specs.declared.reply.Reply.{Reply}
+use Rattle.cut_replay.proofs.Common.{◌≡◌, ◌⊎◌, ℕ, ◌≤◌, Bool, true, false, [], Result, Ok, Err, refl, sym, ap, ◌∙◌, subst, inl, inr, arith, MatchBool, Config, Shape, checked, shape_of, FlashState, counted_by, BothTell, Rose, Spends, Moment, moment_of, mention, IsSoundImage, records_in, ArrayState, DeviceState, limits_of, Command, Reply, DoesCommand, LosesOpen, MayLose, CutLeavesOf, NotDone, is_arm, seen_after, Point, IsDone, MovesBy, ServesFlash, Tells, first_point, CountsBreak, MountsAfter, point_at, MomentStays, PageCacheState, flash_in, point_of, StandsMounted, IsSpentBy, ServesIn, ServesSession, IsSoundOrSame, EndsServing, MountsIn, Mounted, Unmounted, CachesSession, Fits, Serves, ServeError, Session}
 use Rattle.host_protocol.specs.declared.reply.Reply.TheVariants as reply
-use Rattle.cut_replay.specs.Run.{DoesCommand, LosesOpen, MayLose, CutLeavesOf, NotDone, is_arm, seen_after}
-use Rattle.cut_replay.specs.FlashRun.{Point, IsDone, MovesBy, ServesFlash, Tells, HasErased, opening_point}
-use Rattle.cut_replay.specs.Bounds.{CountsBreak}
-use Rattle.cut_replay.specs.MountedAgain.{MountsAfter}
-use Rattle.cut_replay.specs.Mounted.{point_at, MomentStays}
-use Rattle.page_cache.specs.CachedPages.{CachedPages}
-use Rattle.cut_replay.specs.Sessions.{flash_in, is_mounted, point_of, StandsMounted, StandsUnmounted, IsSpentBy, ServesIn, ServesSession, IsSoundOrSame}
-use Rattle.cut_replay.specs.Sessions.{EndsServing, EndsFor, MountsIn, MeetsFault, Mounted, Unmounted, CachesServed, CachesFrom, CachesSession, Fits, Serves}
-use Rattle.cut_replay.specs.declared.serving.ServeError.{ServeError}
+use Rattle.cut_replay.specs.FlashRun.{HasErased}
+use Rattle.cut_replay.specs.Sessions.{is_mounted, StandsUnmounted}
+use Rattle.cut_replay.specs.Sessions.{EndsFor, MeetsFault, CachesServed, CachesFrom}
 use Rattle.cut_replay.specs.declared.serving.ServeError.TheVariants as failed
-use Rattle.cut_replay.specs.declared.session.Session.{Session}
 use Rattle.cut_replay.specs.declared.session.Session.TheVariants as session
 use Rattle.cut_replay.proofs.Mountings.{mounted_stands, mounted_point}
 use Rattle.cut_replay.proofs.Spending.{no_more_then, spends_fault, spends_cut, spends_after, sets_none}
@@ -73,14 +53,14 @@ cases_from its spent faulted c a b r new up machine moment (inr (inr lost)) =
       moves_from its c r a.moment b.moment new.moment moment lost.1,
     ))
 
-lifted_run : {F R : Type 0} (state : F → FlashState) (its : Config) (flash : F) (t : Standing F) (c : Command) (r : Reply) (new : Session F R) →
+lifted_run : {F R : Type 0} (state : F → FlashState) (its : Config) (flash : F) (t : DeviceState F) (c : Command) (r : Reply) (new : Session F R) →
     is_arm c ≡ false → MountsIn state its flash t →
     ((seen : ℕ → ℕ) → (faulted : Bool) → StandsMounted seen faulted t → ServesIn {R = R} state its seen faulted c (session.Mounted t) r new) →
     (seen : ℕ → ℕ) → (faulted : Bool) → StandsUnmounted its seen (state flash) → ServesIn {R = R} state its seen faulted c (session.Unmounted flash) r new
 lifted_run {F = F} {R = R} state its flash t c r new no_arm mounts h seen faulted stands =
     let up : Session F R = session.Mounted t in
     let served = h seen faulted (mounted_stands {R = R} state its flash seen faulted up mounts stands.sound stands.mentions) in
-    let b : Point = opening_point its false (moment_of (state flash)) in
+    let b : Point = first_point its false (moment_of (state flash)) in
     record {
       spent = served.spent;
       may = served.may;
@@ -109,7 +89,7 @@ lifted_mounts a b r new before first now up quiet (inl again) = inl (λ cut. eli
 lifted_mounts a b r new before first now up quiet (inr failed) =
     inr (failed.0, subst (λ n. counted_by 2 n ≤ now) quiet failed.1)
 
-lifted_serves : {F R : Type 0} (state : F → FlashState) (its : Config) (flash : F) (t : Standing F) (c : Command) (r : Reply) (new : Session F R) →
+lifted_serves : {F R : Type 0} (state : F → FlashState) (its : Config) (flash : F) (t : DeviceState F) (c : Command) (r : Reply) (new : Session F R) →
     is_arm c ≡ false → MountsIn state its flash t →
     ServesSession {R = R} state its c (session.Mounted t) r new → ServesSession {R = R} state its c (session.Unmounted flash) r new
 lifted_serves state its flash t c r new no_arm mounts h = record {
@@ -120,7 +100,7 @@ lifted_serves state its flash t c r new no_arm mounts h = record {
   spends = spends_after c r (state flash).told (state t.flash).told (state (flash_in new)).told mounts.still.told h.spends;
   set = h.set;
   faults = subst (λ n. CountsBreak r n (state (flash_in new)).faults) mounts.quiet h.faults;
-  mounts = lifted_mounts (point_at state t) (opening_point its false (moment_of (state flash))) r (point_of state its new) (state t.flash).faults
+  mounts = lifted_mounts (point_at state t) (first_point its false (moment_of (state flash))) r (point_of state its new) (state t.flash).faults
       (state flash).faults
       (state (flash_in new)).faults refl mounts.quiet h.mounts;
   extras = h.extras ∙ mounts.still.extras;
@@ -135,7 +115,7 @@ still_then a b d ab bd = record {
   extras = bd.extras ∙ ab.extras;
 }
 
-lifted_cause : {F : Type 0} (R : Type 0) (state : F → FlashState) (its : Config) (flash : F) (t : Standing F) (c : Command) (new : F) (why : ServeError) →
+lifted_cause : {F : Type 0} (R : Type 0) (state : F → FlashState) (its : Config) (flash : F) (t : DeviceState F) (c : Command) (new : F) (why : ServeError) →
     is_arm c ≡ false → MountsIn state its flash t →
     EndsFor {R = R} state its c (session.Mounted t) new why → EndsFor {R = R} state its c (session.Unmounted flash) new why
 lifted_cause R state its flash t c new (failed.Unsound law slot) no_arm mounts h = absurd h
@@ -151,7 +131,7 @@ lifted_cause {F = F} R state its flash t c new failed.Memory no_arm mounts (inr 
       subst (λ n. Rose n (state new).faults) mounts.quiet cut.4,
     )
 
-lifted_ends : {F : Type 0} (R : Type 0) (state : F → FlashState) (its : Config) (flash : F) (t : Standing F) (c : Command) (new : F) (why : ServeError) →
+lifted_ends : {F : Type 0} (R : Type 0) (state : F → FlashState) (its : Config) (flash : F) (t : DeviceState F) (c : Command) (new : F) (why : ServeError) →
     is_arm c ≡ false → MountsIn state its flash t →
     EndsServing {R = R} state its c (session.Mounted t) new why → EndsServing {R = R} state its c (session.Unmounted flash) new why
 lifted_ends R state its flash t c new why no_arm mounts h = record {
@@ -202,14 +182,14 @@ not_done_serves : {F : Type 0} (R : Type 0) (state : F → FlashState) (its : Co
     ServesSession {R = R} state its c (session.Unmounted flash) r (session.Unmounted new)
 not_done_serves {F = F} R state its c flash new r no_arm h is =
     let after : Session F R = session.Unmounted new in
-    let same : opening_point its false (moment_of (state new)) ≡ opening_point its false (moment_of (state flash)) =
-    ap (λ (m : Moment). opening_point its false m) h.still.moment in
+    let same : first_point its false (moment_of (state new)) ≡ first_point its false (moment_of (state flash)) =
+    ap (λ (m : Moment). first_point its false m) h.still.moment in
     record {
       in_run = λ seen faulted stands. record {
         spent = λ page. false;
         may = λ page spent. (let not : false ≡ true = spent in absurd cc);
-        serves = served_no_arm its (λ page. false) faulted c (opening_point its false (moment_of (state flash))) r
-            (opening_point its false (moment_of (state new))) no_arm
+        serves = served_no_arm its (λ page. false) faulted c (first_point its false (moment_of (state flash))) r
+            (first_point its false (moment_of (state new))) no_arm
             (inl ((refl, not_done_reply (state new) r is, ap (λ (p : Point). p.state) same), h.still.moment));
         point = mounted_point {R = R} state its flash after h.still stands.sound;
         stands = record {
@@ -231,16 +211,16 @@ unmounted_check : (its : Config) (old new : FlashState) → checked its ≡ Ok o
 unmounted_check its old new check still = check ∙ ap (λ (x : Shape). Ok x) (sym still.shape)
 
 -- and what is in the cache
-lifted_from : {F R : Type 0} (state : F → FlashState) (its : Config) (flash : F) (t : Standing F) (c : Command) (r : Reply) (new : Session F R)
-    (before mid after : CachedPages) → MountsIn state its flash t →
+lifted_from : {F R : Type 0} (state : F → FlashState) (its : Config) (flash : F) (t : DeviceState F) (c : Command) (r : Reply) (new : Session F R)
+    (before mid after : PageCacheState) → MountsIn state its flash t →
     mid ≡ record before { entries = [] } → CachesServed state c t r new mid after → CachesFrom state its c (session.Unmounted flash) r new before after
 lifted_from {R = R} state its flash t c r (session.Mounted u) before mid after mounts empty h =
     let up : Session _ R = session.Mounted u in
-    (t, mounts, subst (λ (x : CachedPages). CachesServed state c t r up x after) empty h)
-lifted_from state its flash t c r (session.Unmounted new) before mid after mounts empty h = h ∙ ap (λ (x : CachedPages). record x { entries = [] }) empty
+    (t, mounts, subst (λ (x : PageCacheState). CachesServed state c t r up x after) empty h)
+lifted_from state its flash t c r (session.Unmounted new) before mid after mounts empty h = h ∙ ap (λ (x : PageCacheState). record x { entries = [] }) empty
 
-lifted_caches : {F R : Type 0} (state : F → FlashState) (its : Config) (flash : F) (t : Standing F) (c : Command) (r : Reply) (new : Session F R)
-    (before mid after : CachedPages) → is_arm c ≡ false → MountsIn state its flash t →
+lifted_caches : {F R : Type 0} (state : F → FlashState) (its : Config) (flash : F) (t : DeviceState F) (c : Command) (r : Reply) (new : Session F R)
+    (before mid after : PageCacheState) → is_arm c ≡ false → MountsIn state its flash t →
     mid ≡ record before { entries = [] } → CachesSession state its c (session.Mounted t) r new mid after →
     CachesSession state its c (session.Unmounted flash) r new before after
 lifted_caches {R = R} state its flash t c r new before mid after no_arm mounts empty h =
@@ -249,7 +229,7 @@ lifted_caches {R = R} state its flash t c r new before mid after no_arm mounts e
     subst (λ b. MatchBool b (after ≡ before) (CachesFrom state its c old r new before after)) (sym no_arm)
     (lifted_from state its flash t c r new before mid after mounts empty here)
 
-unmounted_caches : {F : Type 0} (R : Type 0) (state : F → FlashState) (its : Config) (flash new : F) (c : Command) (r : Reply) (before after : CachedPages) →
+unmounted_caches : {F : Type 0} (R : Type 0) (state : F → FlashState) (its : Config) (flash new : F) (c : Command) (r : Reply) (before after : PageCacheState) →
     is_arm c ≡ false → after ≡ record before { entries = [] } →
     CachesSession {R = R} state its c (session.Unmounted flash) r (session.Unmounted new) before after
 unmounted_caches R state its flash new c r before after no_arm empty =
@@ -257,7 +237,7 @@ unmounted_caches R state its flash new c r before after no_arm empty =
 
 -- A session without its device
 pub lifted : {F R : Type 0} (state : F → FlashState) (its : Config) (c : Command) (old between : Session F R) (result : Result Reply ServeError)
-    (new : Session F R) (before mid after : CachedPages) →
+    (new : Session F R) (before mid after : PageCacheState) →
     is_mounted old ≡ false → is_mounted between ≡ true → is_arm c ≡ false → Mounted state its (flash_in old) between → mid ≡ record before { entries = [] } →
     Serves state its c between result new mid after → Serves state its c old result new before after
 lifted state its c (session.Mounted s) between result new before mid after off on no_arm mounts empty h = absurd (cc)
@@ -267,17 +247,17 @@ lifted {F = F} {R = R} state its c (session.Unmounted flash) (session.Mounted t)
   serves = lifted_serves state its flash t c r new no_arm mounts h.serves;
   caches = lifted_caches state its flash t c r new before mid after no_arm mounts empty h.caches;
   ends = tt;
-  size = h.size ∙ ap (λ (x : CachedPages). x.page_bytes) empty;
+  size = h.size ∙ ap (λ (x : PageCacheState). x.page_bytes) empty;
 }
 lifted {F = F} {R = R} state its c (session.Unmounted flash) (session.Mounted t) (Err why) new before mid after off on no_arm mounts empty h = record {
   fits = tt;
   serves = tt;
   caches = tt;
   ends = lifted_ends R state its flash t c (flash_in new) why no_arm mounts h.ends;
-  size = h.size ∙ ap (λ (x : CachedPages). x.page_bytes) empty;
+  size = h.size ∙ ap (λ (x : PageCacheState). x.page_bytes) empty;
 }
 
-pub not_done : {F R : Type 0} (state : F → FlashState) (its : Config) (c : Command) (old new : Session F R) (r : Reply) (before after : CachedPages) →
+pub not_done : {F R : Type 0} (state : F → FlashState) (its : Config) (c : Command) (old new : Session F R) (r : Reply) (before after : PageCacheState) →
     is_mounted old ≡ false → is_mounted new ≡ false → is_arm c ≡ false → Fits state its before.entries old → Mounted state its (flash_in old) new →
     IsFaultOrCut (state (flash_in new)) r → after ≡ record before { entries = [] } →
     Serves state its c old (Ok r) new before after
@@ -288,5 +268,5 @@ not_done {R = R} state its c (session.Unmounted flash) (session.Unmounted new) r
   serves = not_done_serves R state its c flash new r no_arm mounts is;
   caches = unmounted_caches R state its flash new c r before after no_arm empty;
   ends = tt;
-  size = ap (λ (x : CachedPages). x.page_bytes) empty;
+  size = ap (λ (x : PageCacheState). x.page_bytes) empty;
 }

@@ -1,34 +1,11 @@
 -- What a call comes to after which no transaction is open, and its flash is mounted again.
-use Rattle.std.proofs.Common.{◌≡◌, ◌⊎◌, ℕ, ◌<◌, ◌≤◌, Bool, true, false, ◌||◌, List, [], Result, Ok, Err, refl, sym, ap, ◌∙◌, subst, inl, inr, arith}
-use Rattle.std.specs.Prelude.{MatchBool, IfOk, IfErr}
-use Rattle.tx_types.specs.declared.config.Config.{Config}
-use Rattle.tx_types.specs.declared.config.Shape.{Shape}
-use Rattle.tx_types.specs.Config.{checked, shape_of}
-use Rattle.flash_model.specs.Flash.{FlashState, counted_by}
-use Rattle.flash_model.specs.Calls.{BothTell, Rose, Carries}
-use Rattle.flash_model.specs.Operations.{Moment, moment_of}
-use Rattle.record_list.specs.Records.{mention}
-use Rattle.version_index.specs.Images.{IsSoundImage, array_in, records_in}
-use Rattle.page_cache.specs.CachedPages.{CachedPages, CachedPage}
-use Rattle.tx_engine.specs.ArrayState.{ArrayState, idle}
-use Rattle.tx_engine.specs.Standing.{Standing}
-use Rattle.host_protocol.specs.declared.command.Command.{Command}
-use Rattle.host_protocol.specs.declared.reply.Reply.{Reply}
+use Rattle.cut_replay.proofs.Common.{◌≡◌, ◌⊎◌, ℕ, ◌<◌, ◌≤◌, Bool, true, false, ◌||◌, List, [], Result, Ok, Err, refl, sym, ap, ◌∙◌, subst, inl, inr, arith, MatchBool, IfOk, Config, Shape, checked, shape_of, FlashState, counted_by, BothTell, Rose, Carries, Moment, moment_of, mention, IsSoundImage, array_in, records_in, PageCacheState, CachedPage, ArrayState, idle, DeviceState, Command, Reply, CutLeavesOf, LosesOpen, MayLose, NotDone, is_arm, is_break, seen_after, Point, IsDone, MovesBy, ServesFlash, is_fault, is_lost, CountsBreak, MountsAfter, IsSeen, point_at, flash_in, point_of, IsSoundFlash, Fits, StandsMounted, IsSoundOrSame, IsSpentBy, ServesIn, ServesSession, EndsServing, Mounted, Unmounted, CachesSession, ServeError, Session, sound_unbroken}
+use Rattle.std.specs.Prelude.{IfErr}
 use Rattle.host_protocol.specs.declared.reply.Reply.TheVariants as reply
-use Rattle.cut_replay.specs.Run.{CutLeavesOf, LosesOpen, MayLose, NotDone, is_arm, is_break, seen_after}
-use Rattle.cut_replay.specs.FlashRun.{Point, IsDone, MovesBy, ServesFlash, is_fault}
-use Rattle.cut_replay.specs.Bounds.{is_lost, CountsBreak}
-use Rattle.cut_replay.specs.MountedAgain.{MountsAfter}
-use Rattle.tx_engine.specs.Always.{IsSeen}
-use Rattle.cut_replay.specs.Mounted.{point_at}
-use Rattle.cut_replay.specs.Sessions.{flash_in, point_of, IsSoundFlash, Fits, StandsMounted, IsSoundOrSame, IsSpentBy, ServesIn, ServesSession}
-use Rattle.cut_replay.specs.Sessions.{EndsServing, Mounted, Unmounted, MountsAgain, CachesServed, CachesSession}
-use Rattle.cut_replay.specs.declared.serving.ServeError.{ServeError}
+use Rattle.cut_replay.specs.Sessions.{MountsAgain, CachesServed}
 use Rattle.cut_replay.specs.declared.serving.ServeError.TheVariants as failed
-use Rattle.cut_replay.specs.declared.session.Session.{Session}
 use Rattle.cut_replay.specs.declared.session.Session.TheVariants as session
 use Rattle.cut_replay.specs.declared.session.Ended.{Ended}
-use Rattle.version_index.proofs.OfTables.OneBreach.{sound_unbroken}
 use Rattle.cut_replay.proofs.Devices.{seen_at}
 use Rattle.cut_replay.proofs.Mountings.{Leaves, mounted_leaves, mounted_machine, mounted_moment, mounted_still, mounted_point, mounted_stands}
 use Rattle.cut_replay.proofs.Spending.{spends_before, sets_none}
@@ -57,17 +34,17 @@ Sessions F R = Result (Session F R × Reply) (Ended F)
 abbrev pub FitsAfter : (F R : Type 0) → (F → FlashState) → Config → List CachedPage → Sessions F R → Type 0
 FitsAfter F R state its entries result = IfOk result (λ done. Fits state its entries done.0)
 
-abbrev pub ServesAfter : (F R : Type 0) → (F → FlashState) → Config → Command → Standing F → Sessions F R → Type 0
+abbrev pub ServesAfter : (F R : Type 0) → (F → FlashState) → Config → Command → DeviceState F → Sessions F R → Type 0
 ServesAfter F R state its c s result = IfOk result (λ done. ServesSession state its c (session.Mounted s) done.1 done.0)
 
-abbrev pub EndsAfter : (F R : Type 0) → (F → FlashState) → Config → Command → Standing F → Sessions F R → Type 0
+abbrev pub EndsAfter : (F R : Type 0) → (F → FlashState) → Config → Command → DeviceState F → Sessions F R → Type 0
 EndsAfter F R state its c s result = IfErr result (λ e. EndsServing {R = R} state its c (session.Mounted s) e.flash e.why)
 
-abbrev pub CachesAfter : (F R : Type 0) → (F → FlashState) → Config → Command → Standing F → CachedPages → CachedPages → Sessions F R → Type 0
+abbrev pub CachesAfter : (F R : Type 0) → (F → FlashState) → Config → Command → DeviceState F → PageCacheState → PageCacheState → Sessions F R → Type 0
 CachesAfter F R state its c s before after result = IfOk result (λ done. CachesSession state its c (session.Mounted s) done.1 done.0 before after)
 
 -- What is known of a call on a mounted device, with its reply, after which nothing is open, and of its flash then
-pub record WasLost {F : Type 0} (state : F → FlashState) (its : Config) (c : Command) (s : Standing F) (flash : F) (r : Reply) : Type 0 where
+pub record WasLost {F : Type 0} (state : F → FlashState) (its : Config) (c : Command) (s : DeviceState F) (flash : F) (r : Reply) : Type 0 where
   pub lost : is_lost r ≡ true
   pub no_arm : is_arm c ≡ false
   pub before : IsSoundFlash its (state s.flash)
@@ -89,7 +66,7 @@ lost_breaks _ h = cc
 pub lost_counts : (r : Reply) (before now : ℕ) → is_lost r ≡ true → Rose before now → CountsBreak r before now
 lost_counts r before now lost rose = subst (λ b. MatchBool b (Rose before now) (now ≡ before)) (sym (lost_breaks r lost)) rose
 
-lost_in : {F R : Type 0} (state : F → FlashState) (its : Config) (c : Command) (s : Standing F) (flash : F) (r : Reply) (after : Session F R) (seen : ℕ → ℕ)
+lost_in : {F R : Type 0} (state : F → FlashState) (its : Config) (c : Command) (s : DeviceState F) (flash : F) (r : Reply) (after : Session F R) (seen : ℕ → ℕ)
     (faulted : Bool) → WasLost state its c s flash r → StandsMounted seen faulted s → Leaves state its flash after →
     ServesIn {R = R} state its seen faulted c (session.Mounted s) r after
 lost_in state its c s flash r after seen faulted w stands leaves = record {
@@ -113,14 +90,14 @@ sound_again state its flash after sound leaves =
     subst (λ (m : Moment). IsSoundImage its.protocol its.logical (shape_of its) m.image) (sym (mounted_still state its flash after leaves).moment) sound
 
 -- what the call comes to, but for the mount
-record LostBy {F R : Type 0} (state : F → FlashState) (its : Config) (c : Command) (s : Standing F) (r : Reply) (after : Session F R) : Type 0 where
+record LostBy {F R : Type 0} (state : F → FlashState) (its : Config) (c : Command) (s : DeviceState F) (r : Reply) (after : Session F R) : Type 0 where
   in_run : (seen : ℕ → ℕ) → (faulted : Bool) → StandsMounted seen faulted s → ServesIn {R = R} state its seen faulted c (session.Mounted s) r after
   kept : IsSoundOrSame its (state s.flash) (state (flash_in after))
   spends : BothTell (IsSpentBy c r) (state s.flash).told (state (flash_in after)).told
   faults : Rose (state s.flash).faults (state (flash_in after)).faults
   extras : (state (flash_in after)).extras ≡ (state s.flash).extras
 
-lost_by : {F R : Type 0} (state : F → FlashState) (its : Config) (c : Command) (s : Standing F) (flash : F) (r : Reply) (after : Session F R) →
+lost_by : {F R : Type 0} (state : F → FlashState) (its : Config) (c : Command) (s : DeviceState F) (flash : F) (r : Reply) (after : Session F R) →
     WasLost state its c s flash r → Leaves state its flash after → LostBy {R = R} state its c s r after
 lost_by state its c s flash r after w leaves =
     let still = mounted_still state its flash after leaves in
@@ -133,14 +110,14 @@ lost_by state its c s flash r after w leaves =
     }
 
 -- the device was mounted again, or the mount met a fault
-lost_mounts : {F R : Type 0} (state : F → FlashState) (its : Config) (s : Standing F) (flash : F) (r : Reply) (after : Session F R) →
+lost_mounts : {F R : Type 0} (state : F → FlashState) (its : Config) (s : DeviceState F) (flash : F) (r : Reply) (after : Session F R) →
     is_lost r ≡ true → Rose (state s.flash).faults (state flash).faults → Mounted state its flash after →
     MountsAfter (point_at state s) r (point_of state its after) (state s.flash).faults (state (flash_in after)).faults
 lost_mounts state its s flash r (session.Mounted u) lost rose h = inl (λ is. inr refl)
 lost_mounts state its s flash r (session.Unmounted new) lost rose h =
     inr (lost, rose_twice (state s.flash).faults (state flash).faults (state new).faults rose h.rose)
 
-lost_serves : {F R : Type 0} (state : F → FlashState) (its : Config) (c : Command) (s : Standing F) (flash : F) (r : Reply) (after : Session F R) →
+lost_serves : {F R : Type 0} (state : F → FlashState) (its : Config) (c : Command) (s : DeviceState F) (flash : F) (r : Reply) (after : Session F R) →
     WasLost state its c s flash r → Mounted state its flash after → ServesSession state its c (session.Mounted s) r after
 lost_serves state its c s flash r after w mounted =
     let by = lost_by state its c s flash r after w (mounted_leaves state its flash after mounted) in
@@ -155,14 +132,14 @@ lost_serves state its c s flash r after w mounted =
       extras = by.extras;
     }
 
-pub again_serves : {F R : Type 0} (state : F → FlashState) (its : Config) (c : Command) (s : Standing F) (flash : F) (r : Reply) (result : Sessions F R) →
+pub again_serves : {F R : Type 0} (state : F → FlashState) (its : Config) (c : Command) (s : DeviceState F) (flash : F) (r : Reply) (result : Sessions F R) →
     WasLost state its c s flash r → MountsAgain state its flash r result → ServesAfter F R state its c s result
 again_serves {F = F} {R = R} state its c s flash r (Ok done) w h =
     subst (λ (q : Reply). ServesSession {R = R} state its c (session.Mounted s) q done.0) (sym h.1) (lost_serves state its c s flash r done.0 w h.0)
 again_serves state its c s flash r (Err e) w h = tt
 
 -- or there was no memory for the mount
-ended_again : {F : Type 0} (R : Type 0) (state : F → FlashState) (its : Config) (c : Command) (s : Standing F) (flash : F) (r : Reply) (new : F)
+ended_again : {F : Type 0} (R : Type 0) (state : F → FlashState) (its : Config) (c : Command) (s : DeviceState F) (flash : F) (r : Reply) (new : F)
     (why : ServeError) → WasLost state its c s flash r → Unmounted state its flash new why → EndsServing {R = R} state its c (session.Mounted s) new why
 ended_again R state its c s flash r new (failed.Unsound law slot) w h =
     absurd (sound_unbroken its.protocol its.logical (shape_of its) (state flash).image (record { law = law; slot = slot }) w.after h.1)
@@ -176,7 +153,7 @@ ended_again {F = F} R state its c s flash r new failed.Memory w h =
       kept = by.kept;
     }
 
-pub again_ends : {F R : Type 0} (state : F → FlashState) (its : Config) (c : Command) (s : Standing F) (flash : F) (r : Reply) (result : Sessions F R) →
+pub again_ends : {F R : Type 0} (state : F → FlashState) (its : Config) (c : Command) (s : DeviceState F) (flash : F) (r : Reply) (result : Sessions F R) →
     WasLost state its c s flash r → MountsAgain state its flash r result → EndsAfter F R state its c s result
 again_ends state its c s flash r (Ok done) w h = tt
 again_ends {R = R} state its c s flash r (Err e) w h = ended_again R state its c s flash r e.flash e.why w h
@@ -198,17 +175,17 @@ again_fits state its flash r (Ok done) check h = mounted_fits state its flash do
 again_fits state its flash r (Err e) check h = tt
 
 -- the cache is empty then
-pub no_arm_caches : {F R : Type 0} (state : F → FlashState) (its : Config) (c : Command) (s : Standing F) (r : Reply) (new : Session F R)
-    (before after : CachedPages) → is_arm c ≡ false → CachesServed state c s r new before after →
+pub no_arm_caches : {F R : Type 0} (state : F → FlashState) (its : Config) (c : Command) (s : DeviceState F) (r : Reply) (new : Session F R)
+    (before after : PageCacheState) → is_arm c ≡ false → CachesServed state c s r new before after →
     CachesSession state its c (session.Mounted s) r new before after
 no_arm_caches state its c s r new before after no_arm h = subst (λ b. MatchBool b (after ≡ before) (CachesServed state c s r new before after)) (sym no_arm) h
 
-lost_caches : {F R : Type 0} (state : F → FlashState) (c : Command) (s : Standing F) (r : Reply) (new : Session F R) (before after : CachedPages) →
+lost_caches : {F R : Type 0} (state : F → FlashState) (c : Command) (s : DeviceState F) (r : Reply) (new : Session F R) (before after : PageCacheState) →
     is_lost r ≡ true → after ≡ record before { entries = [] } → CachesServed state c s r new before after
 lost_caches state c s r (session.Mounted t) before after lost h = rw lost h
 lost_caches state c s r (session.Unmounted flash) before after lost h = h
 
-pub again_caches : {F R : Type 0} (state : F → FlashState) (its : Config) (c : Command) (s : Standing F) (flash : F) (r : Reply) (before after : CachedPages)
+pub again_caches : {F R : Type 0} (state : F → FlashState) (its : Config) (c : Command) (s : DeviceState F) (flash : F) (r : Reply) (before after : PageCacheState)
     (result : Sessions F R) → is_arm c ≡ false → is_lost r ≡ true → after ≡ record before { entries = [] } → MountsAgain state its flash r result →
     CachesAfter F R state its c s before after result
 again_caches {R = R} state its c s flash r before after (Ok done) no_arm lost empty h =

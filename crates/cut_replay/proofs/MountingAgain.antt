@@ -1,17 +1,8 @@
 -- After a cut or a drop the device is mounted again, or a fault more was counted.
-use Rattle.std.proofs.Common.{◌≡◌, ℕ, ◌+◌, ◌≤◌, Bool, true, List, [], ◌∷◌, ◌++◌, refl, ap, ◌∙◌, subst, inl, inr, arith}
-use Rattle.std.specs.Prelude.{count_by, MatchBool, if◌then◌else◌}
-use Rattle.std.proofs.lemmas.Bool.{cases_Bool}
+use Rattle.cut_replay.proofs.Common.{◌≡◌, ℕ, ◌+◌, ◌≤◌, Bool, true, List, [], ◌∷◌, ◌++◌, refl, ap, ◌∙◌, subst, inl, inr, arith, count_by, MatchBool, cases_Bool, Config, FlashState, counted_by, Rose, moment_of, Reply, is_break, Point, first_point, last_state, is_lost, CountsBreak, MountsAfter}
+use Rattle.std.specs.Prelude.{if◌then◌else◌}
 use Rattle.std.proofs.lemmas.List.Sums.{sum_by_push}
-use Rattle.tx_types.specs.declared.config.Config.{Config}
-use Rattle.flash_model.specs.Flash.{FlashState, counted_by}
-use Rattle.flash_model.specs.Calls.{Rose}
-use Rattle.flash_model.specs.Operations.{moment_of}
-use Rattle.host_protocol.specs.declared.reply.Reply.{Reply}
-use Rattle.cut_replay.specs.Run.{is_break}
-use Rattle.cut_replay.specs.FlashRun.{Point, opening_point, last_state}
-use Rattle.cut_replay.specs.Bounds.{is_lost, CountsBreak}
-use Rattle.cut_replay.specs.MountedAgain.{IsMountedAgain, MountsAfter, FailedMounts, CountsMounts}
+use Rattle.cut_replay.specs.MountedAgain.{IsMountedAgain, FailedMounts, CountsMounts}
 use Rattle.cut_replay.proofs.Losing.{lost_breaks}
 use Rattle.cut_replay.proofs.Runs.{last_point}
 
@@ -64,16 +55,16 @@ mounts_none its up old new later = record { failed = 0; mounts = refl; faults = 
 
 pub mounts_more : (its : Config) (up : Bool) (rs : List Reply) (ps : List Point) (r : Reply) (p : Point) (x y z : FlashState) →
     CountsMounts its up rs ps x y → CountsBreak r y.faults z.faults →
-    MountsAfter (last_point (opening_point its up (moment_of x)) ps) r p y.faults z.faults →
+    MountsAfter (last_point (first_point its up (moment_of x)) ps) r p y.faults z.faults →
     CountsMounts its up (rs ++ r ∷ []) (ps ++ p ∷ []) x z
 mounts_more its up rs ps r p x y z h one (inl again) = record {
   failed = h.failed;
-  mounts = failed_same (opening_point its up (moment_of x)) rs ps h.failed r p h.mounts again;
+  mounts = failed_same (first_point its up (moment_of x)) rs ps h.failed r p h.mounts again;
   faults = breaks_more rs r h.failed x.faults y.faults z.faults h.faults one;
 }
 mounts_more its up rs ps r p x y z h one (inr failed) = record {
   failed = h.failed + 1;
-  mounts = failed_more (opening_point its up (moment_of x)) rs ps h.failed r p h.mounts failed.0;
+  mounts = failed_more (first_point its up (moment_of x)) rs ps h.failed r p h.mounts failed.0;
   faults = twice_more rs r h.failed x.faults y.faults z.faults h.faults failed.0 failed.1;
 }
 

@@ -1,20 +1,6 @@
 -- What is so of a session whose flash was mounted, or was not because a read met a fault.
-use Rattle.std.proofs.Common.{◌≡◌, ℕ, ◌<◌, ◌≤◌, Bool, sym, ap, ◌∙◌, subst, inl}
-use Rattle.tx_types.specs.declared.config.Config.{Config}
-use Rattle.tx_types.specs.Config.{shape_of}
-use Rattle.flash_model.specs.Flash.{FlashState}
-use Rattle.flash_model.specs.Operations.{Moment, moment_of}
-use Rattle.record_list.specs.Records.{mention}
-use Rattle.version_index.specs.Images.{IsSoundImage, array_in, records_in}
-use Rattle.version_index.specs.Noted.{Noted}
-use Rattle.tx_engine.specs.ArrayState.{ArrayState, idle}
-use Rattle.tx_engine.specs.Standing.{Standing}
-use Rattle.cut_replay.specs.FlashRun.{IsPoint}
-use Rattle.tx_engine.proofs.OfStanding.Seen.{opened_seen}
-use Rattle.tx_engine.specs.Always.{IsSeen}
-use Rattle.cut_replay.specs.Mounted.{MomentStays}
-use Rattle.cut_replay.specs.Sessions.{point_of, flash_in, IsSoundFlash, StandsAt, MountsIn, Mounted}
-use Rattle.cut_replay.specs.declared.session.Session.{Session}
+use Rattle.cut_replay.proofs.Common.{◌≡◌, ℕ, ◌<◌, ◌≤◌, Bool, sym, ap, ◌∙◌, subst, inl, Config, shape_of, FlashState, Moment, moment_of, mention, IsSoundImage, array_in, records_in, IndexState, ArrayState, idle, DeviceState, IsPoint, IsSeen, MomentStays, point_of, flash_in, IsSoundFlash, StandsAt, MountsIn, Mounted, Session}
+use Rattle.tx_engine.proofs.OfDevice.Seen.{opened_seen}
 use Rattle.cut_replay.specs.declared.session.Session.TheVariants as session
 
 -- the device of a flash, or the flash, with its moment
@@ -54,10 +40,10 @@ mounted_point state its flash s h sound =
     }
 
 -- each page is mentioned as the image mentions it
-device_seen : {F : Type 0} (state : F → FlashState) (its : Config) (flash : F) (seen : ℕ → ℕ) (s : Standing F) → MountsIn state its flash s →
+device_seen : {F : Type 0} (state : F → FlashState) (its : Config) (flash : F) (seen : ℕ → ℕ) (s : DeviceState F) → MountsIn state its flash s →
     ((page : ℕ) → page < its.logical → mention (records_in its.protocol (state flash).image) page ≤ seen page) → IsSeen seen s
 device_seen state its flash seen s h most =
-    opened_seen seen (records_in its.protocol (state flash).image) its.logical s (ap (λ (n : Noted). n.mentions) h.tables.noted_is) h.namings
+    opened_seen seen (records_in its.protocol (state flash).image) its.logical s (ap (λ (n : IndexState). n.mentions) h.tables.noted_is) h.namings
     (λ page ge. h.always.beyond page (subst (λ (c : Config). c.logical ≤ page) (sym h.config) ge)) most
 
 pub mounted_stands : {F R : Type 0} (state : F → FlashState) (its : Config) (flash : F) (seen : ℕ → ℕ) (faulted : Bool) (s : Session F R) →

@@ -1,39 +1,26 @@
 -- A session that has served the first commands of a list.
-use Rattle.std.proofs.Common.{◌≡◌, ℕ, ◌+◌, ◌<◌, ◌≤◌, Bool, true, false, List, [], ◌∷◌, ◌++◌, length, take, Option, Some, None, Result, Ok, Err, refl, sym, ap}
-use Rattle.std.proofs.Common.{◌∙◌, subst, inl, inr, arith, get_or}
-use Rattle.std.specs.Prelude.{IfSome, OnOk, OnErr}
+use Rattle.cut_replay.proofs.Common.{◌≡◌, ℕ, ◌+◌, ◌<◌, ◌≤◌, Bool, true, false, List, [], ◌∷◌, ◌++◌, length, take, Option, Some, None, Result, Ok, Err, refl, sym, ap, ◌∙◌, subst, inl, inr, arith, IfSome, OnOk, Config, Memory, shape_of, CachedPage, FlashState, Told, BothTell, NoMoreToCome, Moment, moment_of, IsSoundImage, Command, Reply, text_of, seen_after, Point, IsPoint, FlashRun, ServesFlash, first_point, mentions_in, last_state, Grew, CountsBreak, CountsBreaks, MountsAfter, Watched, ServesUnsound, flash_in, point_of, Fits, IsSoundFlash, StandsAt, ServesIn, ServesSession, EndsServing, IsSpentBy, IsSoundOrSame, Begins, ServeError, Session, sound_unbroken}
+use Rattle.std.proofs.Common.{get_or}
+use Rattle.std.specs.Prelude.{OnErr}
 use Rattle.std.specs.Prelude.{map}
 use Rattle.std.specs.List.{AllZip}
 use Rattle.std.specs.Result.{is_err}
 use Rattle.std.proofs.lemmas.Slice.Zip.{all_zipped_more}
 use Rattle.std.proofs.lemmas.List.{take_more, take_all, length-take-le, map-append}
-use Rattle.list_facts.proofs.Lists.{take_whole, take_before_last}
-use Rattle.tx_types.specs.declared.config.Config.{Config}
+use Rattle.list_lemmas.proofs.Lists.{take_whole, take_before_last}
 use Rattle.tx_types.specs.declared.config.Slot.{Slot}
-use Rattle.tx_types.specs.declared.memory.Memory.{Memory}
-use Rattle.tx_types.specs.Config.{shape_of}
-use Rattle.page_cache.specs.CachedPages.{CachedPage}
-use Rattle.flash_model.specs.Flash.{FlashState, IsSteady, Told}
-use Rattle.flash_model.specs.Calls.{BothTell, NoMoreToCome}
-use Rattle.flash_model.specs.Operations.{Moment, moment_of}
-use Rattle.version_index.specs.Images.{IsSoundImage, IsLeastImageBreach}
-use Rattle.host_protocol.specs.declared.command.Command.{Command}
-use Rattle.host_protocol.specs.declared.reply.Reply.{Reply}
-use Rattle.host_protocol.specs.Replies.{text_of}
-use Rattle.cut_replay.specs.Run.{RunState, seen_after}
-use Rattle.cut_replay.specs.FlashRun.{Point, IsPoint, FlashRun, ServesFlash, opening_point, opening_state, mentions_in, last_moment, last_state}
-use Rattle.cut_replay.specs.Watching.{ToldReply, Grew, text_of_all, replies_told}
-use Rattle.cut_replay.specs.Bounds.{SpendsTold, LastIsSet, CountsBreak, CountsBreaks}
-use Rattle.cut_replay.specs.MountedAgain.{MountsAfter, CountsMounts}
-use Rattle.cut_replay.specs.Served.{Watched, ServesRun, ServesSound, ServesUnsound, CountsTold, RefusesUnsound}
-use Rattle.cut_replay.specs.Sessions.{flash_in, point_of, Fits, IsSoundFlash, StandsAt, ServesIn, ServesSession, EndsServing, EndsFor, EndsForMemory, Refuses}
-use Rattle.cut_replay.specs.Sessions.{IsSpentBy, IsSoundOrSame, RepliesUnmounted}
-use Rattle.cut_replay.specs.Beginning.{Begins}
-use Rattle.cut_replay.specs.declared.serving.ServeError.{ServeError}
+use Rattle.flash_model.specs.Flash.{IsSteady}
+use Rattle.version_index.specs.Images.{IsLeastImageBreach}
+use Rattle.cut_replay.specs.Run.{RunState}
+use Rattle.cut_replay.specs.FlashRun.{first_state, last_moment}
+use Rattle.cut_replay.specs.Watching.{ToldReply, text_of_all, replies_told}
+use Rattle.cut_replay.specs.Bounds.{SpendsTold, LastIsSet}
+use Rattle.cut_replay.specs.MountedAgain.{CountsMounts}
+use Rattle.cut_replay.specs.Served.{ServesRun, ServesSound, CountsTold, RefusesUnsound}
+use Rattle.cut_replay.specs.Sessions.{EndsFor, EndsForMemory, Refuses}
+use Rattle.cut_replay.specs.Sessions.{RepliesUnmounted}
 use Rattle.cut_replay.specs.declared.serving.ServeError.TheVariants as failed
-use Rattle.cut_replay.specs.declared.session.Session.{Session}
 use Rattle.cut_replay.specs.declared.session.Session.TheVariants as session
-use Rattle.version_index.proofs.OfTables.OneBreach.{sound_unbroken}
 use Rattle.cut_replay.proofs.MountingAgain.{mounts_more, mounts_later, mounts_same, last_state_is}
 use Rattle.cut_replay.proofs.Losing.{lost_counts}
 use Rattle.cut_replay.proofs.Runs.{last_point, seen_through, faulted_through, run_more, last_more, seen_more, faulted_more, last_moment_is, run_lengths}
@@ -49,9 +36,9 @@ point_moment state its (session.Unmounted flash) = refl
 pub record Runs {F R : Type 0} (state : F → FlashState) (its : Config) (init : FlashState) (cs : List Command) (rs : List Reply) (ps : List Point)
     (s : Session F R) : Type 0 where
   pub up : Bool
-  pub first : IsPoint its (opening_point its up (moment_of init))
-  pub run : FlashRun its (mentions_in its (moment_of init)) false (opening_point its up (moment_of init)) cs rs ps
-  pub last : point_of state its s ≡ last_point (opening_point its up (moment_of init)) ps
+  pub first : IsPoint its (first_point its up (moment_of init))
+  pub run : FlashRun its (mentions_in its (moment_of init)) false (first_point its up (moment_of init)) cs rs ps
+  pub last : point_of state its s ≡ last_point (first_point its up (moment_of init)) ps
   pub stands : StandsAt state its (seen_through (mentions_in its (moment_of init)) cs rs) (faulted_through false rs) s
   pub spends : SpendsTold cs rs init.told (state (flash_in s)).told
   pub faults : CountsBreaks rs init (state (flash_in s))
@@ -100,7 +87,7 @@ pub runs_more : {F R : Type 0} (state : F → FlashState) (its : Config) (init :
     (ps ++ point_of state its t ∷ []) t
 runs_more state its init cs rs ps c r s t h served spends faults =
     let seen = mentions_in its (moment_of init) in
-    let old = opening_point its h.up (moment_of init) in
+    let old = first_point its h.up (moment_of init) in
     let p = point_of state its t in
     let one = served (seen_through seen cs rs) (faulted_through false rs) h.stands in
     let same = run_lengths its seen false old cs rs ps h.run in
@@ -125,7 +112,7 @@ pub served_more : {F R : Type 0} (state : F → FlashState) (its : Config) (init
 unfolding runs_more
 served_more state its init cs c r s t a b d h serves text kept =
     let p = point_of state its t in
-    let same = run_lengths its (mentions_in its (moment_of init)) false (opening_point its h.runs.up (moment_of init)) cs h.replies h.points h.runs.run in
+    let same = run_lengths its (mentions_in its (moment_of init)) false (first_point its h.runs.up (moment_of init)) cs h.replies h.points h.runs.run in
     record {
       replies = h.replies ++ r ∷ [];
       points = h.points ++ p ∷ [];
@@ -146,14 +133,14 @@ run_parts : {F R : Type 0} (state : F → FlashState) (its : Config) (init : Fla
     (final : FlashState) →
     Runs state its init cs rs ps s → moment_of final ≡ moment_of (state (flash_in s)) → moment_of final ≡ last_moment (moment_of init) ps
 run_parts state its init cs rs ps s final h same =
-    same ∙ sym (point_moment state its s) ∙ ap (λ (p : Point). p.moment) h.last ∙ last_moment_is (opening_point its h.up (moment_of init)) ps
+    same ∙ sym (point_moment state its s) ∙ ap (λ (p : Point). p.moment) h.last ∙ last_moment_is (first_point its h.up (moment_of init)) ps
 
 pub all_served : {F R : Type 0} (state : F → FlashState) (its : Config) (init : FlashState) (cs : List Command) (s : Session F R) (final : FlashState)
     (a b : Watched) → HasServed state its init cs s a b →
     moment_of final ≡ moment_of (state (flash_in s)) → BothTell NoMoreToCome (state (flash_in s)).told final.told → final.faults ≡ (state (flash_in s)).faults →
     ServesRun its cs (length cs) init final a b
 all_served state its init cs s final a b h same no_more quiet =
-    let lengths = run_lengths its (mentions_in its (moment_of init)) false (opening_point its h.runs.up (moment_of init)) cs h.replies h.points h.runs.run in
+    let lengths = run_lengths its (mentions_in its (moment_of init)) false (first_point its h.runs.up (moment_of init)) cs h.replies h.points h.runs.run in
     let replies = take_whole (length cs) h.replies lengths.0 in
     let points = take_whole (length cs) h.points lengths.1 in
     record {
@@ -181,7 +168,7 @@ pub one_untold : {F R : Type 0} (state : F → FlashState) (its : Config) (init 
     ServesRun its (cs ++ c ∷ []) (length cs) init (state (flash_in t)) a d
 unfolding runs_more
 one_untold state its init cs c r s t a b d h served spends faults text kept =
-    let lengths = run_lengths its (mentions_in its (moment_of init)) false (opening_point its h.runs.up (moment_of init)) cs h.replies h.points h.runs.run in
+    let lengths = run_lengths its (mentions_in its (moment_of init)) false (first_point its h.runs.up (moment_of init)) cs h.replies h.points h.runs.run in
     let p = point_of state its t in
     let runs = runs_more state its init cs h.replies h.points c r s t h.runs served spends faults in
     let replies = take_before_last (length cs) h.replies r lengths.0 in
@@ -273,11 +260,11 @@ fits_live state its cache (session.Unmounted flash) fits up = cc
 
 ends_live : {F R : Type 0} (state : F → FlashState) (its : Config) (init : FlashState) (cs : List Command) (cache : List CachedPage) (s : Session F R)
     (a b : Watched) →
-    Fits state its cache s → (h : HasServed state its init cs s a b) → (last_state (opening_state its h.runs.up (moment_of init)) h.points).up ≡ true →
+    Fits state its cache s → (h : HasServed state its init cs s a b) → (last_state (first_state its h.runs.up (moment_of init)) h.points).up ≡ true →
     (state (flash_in s)).live ≡ true
 ends_live state its init cs cache s a b fits h up =
     fits_live state its cache s fits (ap (λ (p : Point). p.state.up) h.runs.last
-    ∙ ap (λ (x : RunState). x.up) (last_state_is (opening_point its h.runs.up (moment_of init)) h.points) ∙ up)
+    ∙ ap (λ (x : RunState). x.up) (last_state_is (first_point its h.runs.up (moment_of init)) h.points) ∙ up)
 
 pub served_to_the_end : {F R : Type 0} (state : F → FlashState) (its : Config) (init : FlashState) (list : List Command) (at : ℕ) (cache : List CachedPage)
     (s : Session F R) (flash : F) (a b : Watched) → length list ≤ at →

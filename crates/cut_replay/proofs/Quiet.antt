@@ -1,13 +1,7 @@
 -- Runs on a flash as runs of the array machine.
-use Rattle.std.proofs.Common.{◌≡◌, ◌⊎◌, ℕ, Bool, true, false, ◌||◌, List, [], ◌∷◌, refl, ap, inl, inr}
-use Rattle.std.specs.Prelude.{MatchBool}
-use Rattle.tx_types.specs.declared.config.Config.{Config}
-use Rattle.tx_engine.specs.Standing.{limits_of}
-use Rattle.host_protocol.specs.declared.command.Command.{Command}
-use Rattle.host_protocol.specs.declared.reply.Reply.{Reply}
+use Rattle.cut_replay.proofs.Common.{◌≡◌, ◌⊎◌, ℕ, Bool, true, false, ◌||◌, List, [], ◌∷◌, refl, ap, inl, inr, MatchBool, Config, limits_of, Command, Reply, DoesCommand, NotDone, LosesOpen, is_arm, seen_after, Point, FlashRun, ServesFlash, IsDone, MovesBy, is_fault, last_state}
 use Rattle.host_protocol.specs.declared.reply.Reply.TheVariants as reply
-use Rattle.cut_replay.specs.Run.{Run, Serves, DoesCommand, NotDone, LosesOpen, is_arm, seen_after}
-use Rattle.cut_replay.specs.FlashRun.{Point, FlashRun, ServesFlash, IsDone, MovesBy, is_fault, last_state}
+use Rattle.cut_replay.specs.Run.{Run, Serves}
 pub use Rattle.array_machine.proofs.Quiet.{none_broken, finishes_done}
 
 -- a command on a flash is one on the array machine

@@ -1,24 +1,18 @@
 -- A run on a flash goes on by one command.
-use Rattle.std.proofs.Common.{◌≡◌, ℕ, zero, suc, ◌+◌, ◌≤◌, Bool, false, ◌||◌, List, [], ◌∷◌, ◌++◌, length, take, Option, Some, None, refl, sym, ap, ◌∙◌, subst}
-use Rattle.std.proofs.Common.{inl, inr, arith, append-nil, append_assoc, length-append}
-use Rattle.std.specs.Prelude.{count_by, IfSome, MatchBool, if◌then◌else◌}
+use Rattle.cut_replay.proofs.Common.{◌≡◌, ℕ, ◌+◌, ◌≤◌, Bool, false, ◌||◌, List, [], ◌∷◌, ◌++◌, length, take, Option, Some, None, refl, sym, ap, ◌∙◌, subst, inl, inr, arith, count_by, IfSome, MatchBool, cases_Bool, Config, FlashState, Told, counted_by, BothTell, NoMoreToCome, Rose, Command, Reply, text_of, is_break, seen_after, Point, IsPoint, FlashRun, ServesFlash, is_fault, Grew, IsSet, CountsBreak, CountsBreaks, IsSpentBy}
+use Rattle.std.proofs.Common.{zero, suc}
+use Rattle.std.proofs.Common.{append-nil, append_assoc, length-append}
+use Rattle.std.specs.Prelude.{if◌then◌else◌}
 use Rattle.std.specs.List.{flat_map}
 use Rattle.std.proofs.lemmas.Grind.{flat_map-append}
-use Rattle.std.proofs.lemmas.Bool.{cases_lt, cases_Bool}
+use Rattle.std.proofs.lemmas.Bool.{cases_lt}
 use Rattle.std.proofs.lemmas.List.{take_all, take-append-le}
 use Rattle.std.proofs.lemmas.List.Sums.{sum_by_push}
-use Rattle.list_facts.proofs.Quantifiers.{all_left, all_right}
-use Rattle.tx_types.specs.declared.config.Config.{Config}
-use Rattle.flash_model.specs.Flash.{FlashState, Told, counted_by}
-use Rattle.flash_model.specs.Calls.{BothTell, NoMoreToCome, Rose}
-use Rattle.host_protocol.specs.declared.command.Command.{Command}
-use Rattle.host_protocol.specs.declared.reply.Reply.{Reply}
-use Rattle.host_protocol.specs.Replies.{text_of}
-use Rattle.cut_replay.specs.Run.{MayBeSpent, is_break, seen_after}
-use Rattle.cut_replay.specs.FlashRun.{Point, IsPoint, FlashRun, ServesFlash, is_fault, last_moment}
-use Rattle.cut_replay.specs.Watching.{Grew, text_of_all, replies_told}
-use Rattle.cut_replay.specs.Bounds.{AreSpent, SpendsTold, is_cut, arms_cut, arms_fault, IsSet, LastIsSet, CountsBreak, CountsBreaks}
-use Rattle.cut_replay.specs.Sessions.{IsSpentBy}
+use Rattle.list_lemmas.proofs.Quantifiers.{all_left, all_right}
+use Rattle.cut_replay.specs.Run.{MayBeSpent}
+use Rattle.cut_replay.specs.FlashRun.{last_moment}
+use Rattle.cut_replay.specs.Watching.{text_of_all, replies_told}
+use Rattle.cut_replay.specs.Bounds.{AreSpent, SpendsTold, is_cut, arms_cut, arms_fault, LastIsSet}
 use Rattle.cut_replay.proofs.Spending.{both_tell}
 use Rattle.cut_replay.proofs.Arming.{weaker_told}
 

@@ -1,23 +1,15 @@
 -- Commands that are one call of a device.
-use Rattle.std.proofs.Common.{◌≡◌, ℕ, Bool, true, false, List, [], ◌∷◌, ◌++◌, Option, Some, None, Result, Ok, Err, refl, sym, ap, ◌∙◌, subst, inl, inr}
-use Rattle.std.specs.Prelude.{MatchOption, OnOk, IfOk}
+use Rattle.cut_replay.proofs.Common.{◌≡◌, ℕ, Bool, true, false, List, [], ◌∷◌, ◌++◌, Option, Some, None, Result, Ok, Err, refl, sym, ap, ◌∙◌, subst, inl, inr, OnOk, IfOk, Config, Protocol, Shape, shape_of, FlashState, Moment, moment_of, array_in, IndexState, ArrayState, idle, DeviceState, Reply, is_break, Point, Tells, is_fault, is_lost, HoldsAlways, point_at, ServesHere}
+use Rattle.std.specs.Prelude.{MatchOption}
 use Rattle.std.proofs.lemmas.List.Quantifiers.{Any-push}
 use Rattle.std.specs.Result.{is_err}
-use Rattle.tx_types.specs.declared.config.Config.{Config}
-use Rattle.tx_types.specs.declared.config.Protocol.{Protocol}
-use Rattle.tx_types.specs.declared.config.Shape.{Shape}
-use Rattle.tx_types.specs.Config.{shape_of}
-use Rattle.flash_model.specs.Flash.{FlashState}
 use Rattle.flash_model.specs.Moves.{Does}
-use Rattle.flash_model.specs.Operations.{Operation, Moment, moment_of, erase}
-use Rattle.version_index.specs.Images.{array_in}
-use Rattle.version_index.specs.Noted.{Noted}
-use Rattle.die_alloc.specs.BlockTable.{BlockTable}
+use Rattle.flash_model.specs.Operations.{Operation, erase}
+use Rattle.die_alloc.specs.BlocksState.{BlocksState}
 use Rattle.collector.specs.Collecting.{cleaning}
 use Rattle.collector.specs.declared.unsure.Unsure.TheVariants as unsure
-use Rattle.tx_engine.specs.ArrayState.{ArrayState, Entry, entry_of, idle}
+use Rattle.tx_engine.specs.ArrayState.{Entry, entry_of}
 use Rattle.tx_engine.specs.Exits.{Exits, is_step_fault, is_abort_fault}
-use Rattle.tx_engine.specs.Standing.{Standing}
 use Rattle.tx_engine.specs.Collect.{CollectsAs}
 use Rattle.tx_engine.specs.Collections.{CollectsTables, HasNothingToCollect}
 use Rattle.array_machine.specs.declared.answers.Collected.{Collected}
@@ -31,12 +23,9 @@ use Rattle.array_machine.specs.declared.answers.StepError.TheVariants as failed
 use Rattle.array_machine.specs.declared.answers.Aborted.{Aborted}
 use Rattle.array_machine.specs.declared.answers.Aborted.TheVariants as aborted
 use Rattle.host_protocol.specs.declared.command.Command.TheVariants as command
-use Rattle.host_protocol.specs.declared.reply.Reply.{Reply}
-use Rattle.cut_replay.specs.Run.{step_reply, abort_reply, collect_reply, is_break}
-use Rattle.cut_replay.specs.FlashRun.{Point, Tells, is_fault, HasErased, IsErase}
-use Rattle.cut_replay.specs.Bounds.{is_lost}
-use Rattle.tx_engine.specs.Always.{HoldsAlways}
-use Rattle.cut_replay.specs.Mounted.{point_at, MayHaveCut, ServesHere}
+use Rattle.cut_replay.specs.Run.{step_reply, abort_reply, collect_reply}
+use Rattle.cut_replay.specs.FlashRun.{HasErased, IsErase}
+use Rattle.cut_replay.specs.Mounted.{MayHaveCut}
 use Rattle.cut_replay.proofs.Devices.{exits_serve}
 
 -- A step
@@ -54,14 +43,14 @@ step_tells its faulted old new tag (Ok progress.Done) = tt
 step_tells its faulted old new tag (Err failed.Unknown) = tt
 step_tells its faulted old new tag (Err failed.Fault) = tt
 
-step_sure : {F : Type 0} (old new : Standing F) (tag : ℕ) (result : Result Progress StepError) → OnOk result (new.unsure ≡ unsure.Nothing) →
+step_sure : {F : Type 0} (old new : DeviceState F) (tag : ℕ) (result : Result Progress StepError) → OnOk result (new.unsure ≡ unsure.Nothing) →
     (result ≡ Err failed.Unknown → new ≡ old) →
     old.unsure ≡ unsure.Nothing → is_fault (step_reply tag result) ≡ false → new.unsure ≡ unsure.Nothing
 step_sure old new tag (Ok p) sure unknown was whole = sure
-step_sure old new tag (Err failed.Unknown) sure unknown was whole = ap (λ (s : Standing _). s.unsure) (unknown refl) ∙ was
+step_sure old new tag (Err failed.Unknown) sure unknown was whole = ap (λ (s : DeviceState _). s.unsure) (unknown refl) ∙ was
 step_sure old new tag (Err failed.Fault) sure unknown was whole = cc
 
-step_cuts : {F : Type 0} (state : F → FlashState) (protocol : Protocol) (old new : Standing F) (there : Bool) (tag : ℕ) (result : Result Progress StepError) →
+step_cuts : {F : Type 0} (state : F → FlashState) (protocol : Protocol) (old new : DeviceState F) (there : Bool) (tag : ℕ) (result : Result Progress StepError) →
     HoldsAlways state protocol new →
     StepsAs there old.machine new.machine tag result → is_fault (step_reply tag result) ≡ true → MayHaveCut state (command.Step tag) old new
 step_cuts state protocol old new there tag (Ok (progress.Wrote done all)) is steps fault = cc
@@ -69,7 +58,7 @@ step_cuts state protocol old new there tag (Ok progress.Done) is steps fault = c
 step_cuts state protocol old new there tag (Err failed.Unknown) is steps fault = cc
 step_cuts state protocol old new there tag (Err failed.Fault) is steps fault = record { may = tt; leaves = is.step_cut old.machine there tag steps }
 
-pub step_serves : {F : Type 0} (state : F → FlashState) (protocol : Protocol) (old new : Standing F) (there : Bool) (tag : ℕ)
+pub step_serves : {F : Type 0} (state : F → FlashState) (protocol : Protocol) (old new : DeviceState F) (there : Bool) (tag : ℕ)
     (result : Result Progress StepError) (r : Reply) →
     HoldsAlways state protocol old → HoldsAlways state protocol new → StepsAs there old.machine new.machine tag result →
     Exits state old new (is_step_fault result) →
@@ -98,11 +87,11 @@ abort_tells its faulted old new tag (Ok aborted.Late) = tt
 abort_tells its faulted old new tag (Err failed.Unknown) = tt
 abort_tells its faulted old new tag (Err failed.Fault) = tt
 
-abort_sure : {F : Type 0} (old new : Standing F) (tag : ℕ) (result : Result Aborted StepError) → OnOk result (new.unsure ≡ unsure.Nothing) →
+abort_sure : {F : Type 0} (old new : DeviceState F) (tag : ℕ) (result : Result Aborted StepError) → OnOk result (new.unsure ≡ unsure.Nothing) →
     (result ≡ Err failed.Unknown → new ≡ old) →
     old.unsure ≡ unsure.Nothing → is_fault (abort_reply tag result) ≡ false → new.unsure ≡ unsure.Nothing
 abort_sure old new tag (Ok p) sure unknown was whole = sure
-abort_sure old new tag (Err failed.Unknown) sure unknown was whole = ap (λ (s : Standing _). s.unsure) (unknown refl) ∙ was
+abort_sure old new tag (Err failed.Unknown) sure unknown was whole = ap (λ (s : DeviceState _). s.unsure) (unknown refl) ∙ was
 abort_sure old new tag (Err failed.Fault) sure unknown was whole = cc
 
 -- a fault leaves all as before
@@ -112,7 +101,7 @@ aborts_same None there old new tag result is h = cc
 aborts_same (Some e) there old new tag result is h = subst (λ (x : Result Aborted StepError). AbortGives old (settled there old) tag
     (settled_entry there e) x new) is h
 
-abort_cuts : {F : Type 0} (state : F → FlashState) (protocol : Protocol) (old new : Standing F) (there : Bool) (tag : ℕ) (result : Result Aborted StepError) →
+abort_cuts : {F : Type 0} (state : F → FlashState) (protocol : Protocol) (old new : DeviceState F) (there : Bool) (tag : ℕ) (result : Result Aborted StepError) →
     HoldsAlways state protocol new →
     AbortsAs there old.machine new.machine tag result → is_fault (abort_reply tag result) ≡ true → MayHaveCut state (command.Abort tag) old new
 abort_cuts state protocol old new there tag (Ok aborted.Gone) is aborts fault = cc
@@ -124,7 +113,7 @@ abort_cuts state protocol old new there tag (Err failed.Fault) is aborts fault =
       subst (λ (m : ArrayState). CutLeaves (λ e. ⊥) m (idle (array_in new.config.protocol new.config.logical (state new.flash).image))) same is.same_cut;
 }
 
-pub abort_serves : {F : Type 0} (state : F → FlashState) (protocol : Protocol) (old new : Standing F) (there : Bool) (tag : ℕ)
+pub abort_serves : {F : Type 0} (state : F → FlashState) (protocol : Protocol) (old new : DeviceState F) (there : Bool) (tag : ℕ)
     (result : Result Aborted StepError) (r : Reply) →
     HoldsAlways state protocol old → HoldsAlways state protocol new → AbortsAs there old.machine new.machine tag result →
     Exits state old new (is_abort_fault result) →
@@ -144,12 +133,12 @@ collect_breaks (Ok collected.One) = (refl, refl, refl)
 collect_breaks (Ok collected.Nothing) = (refl, refl, refl)
 collect_breaks (Err fault) = (refl, refl, refl)
 
-collect_sure : {F : Type 0} (new : Standing F) (result : Result Collected Fault) → OnOk result (new.unsure ≡ unsure.Nothing) →
+collect_sure : {F : Type 0} (new : DeviceState F) (result : Result Collected Fault) → OnOk result (new.unsure ≡ unsure.Nothing) →
     is_fault (collect_reply result) ≡ false → new.unsure ≡ unsure.Nothing
 collect_sure new (Ok p) sure whole = sure
 collect_sure new (Err fault) sure whole = cc
 
-collect_cuts : {F : Type 0} (state : F → FlashState) (protocol : Protocol) (old new : Standing F) (there : Bool) (result : Result Collected Fault) →
+collect_cuts : {F : Type 0} (state : F → FlashState) (protocol : Protocol) (old new : DeviceState F) (there : Bool) (result : Result Collected Fault) →
     HoldsAlways state protocol new →
     CollectsAs there old.machine new.machine result → is_fault (collect_reply result) ≡ true → MayHaveCut state command.Collect old new
 collect_cuts state protocol old new there (Ok collected.One) is collects fault = cc
@@ -169,10 +158,10 @@ erased_last its shape old new first more block is does = (
   Any-push IsErase (first ++ more) (erase block) tt,
 )
 
-abbrev Collections : {F : Type 0} → (F → FlashState) → Standing F → Standing F → Noted → BlockTable → Collected → Type 0
+abbrev Collections : {F : Type 0} → (F → FlashState) → DeviceState F → DeviceState F → IndexState → BlocksState → Collected → Type 0
 Collections state old new n t answer = CollectsTables (state old.flash) (state new.flash) n new.noted t new.table answer
 
-collect_tells : {F : Type 0} (state : F → FlashState) (old new : Standing F) (n : Noted) (t : BlockTable) (faulted : Bool) (result : Result Collected Fault) →
+collect_tells : {F : Type 0} (state : F → FlashState) (old new : DeviceState F) (n : IndexState) (t : BlocksState) (faulted : Bool) (result : Result Collected Fault) →
     (state old.flash).shape ≡ shape_of old.config →
     IfOk result (Collections state old new n t) →
     (result ≡ Ok collected.Nothing → HasNothingToCollect old.config.protocol old.config.logical (state new.flash).image new.machine.entries) →
@@ -183,7 +172,7 @@ collect_tells state old new n t faulted (Ok collected.One) shape tables nothing 
 collect_tells state old new n t faulted (Ok collected.Nothing) shape tables nothing = nothing refl
 collect_tells state old new n t faulted (Err fault) shape tables nothing = tt
 
-pub collect_serves : {F : Type 0} (state : F → FlashState) (protocol : Protocol) (old new : Standing F) (there : Bool) (n : Noted) (t : BlockTable)
+pub collect_serves : {F : Type 0} (state : F → FlashState) (protocol : Protocol) (old new : DeviceState F) (there : Bool) (n : IndexState) (t : BlocksState)
     (result : Result Collected Fault) (r : Reply) →
     HoldsAlways state protocol old → HoldsAlways state protocol new → CollectsAs there old.machine new.machine result → Exits state old new (is_err result) →
     OnOk result (new.unsure ≡ unsure.Nothing) →

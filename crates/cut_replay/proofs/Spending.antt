@@ -1,16 +1,8 @@
 -- How many cuts and faults are to come still.
-use Rattle.std.proofs.Common.{◌≡◌, true, false, Option, Some, None, refl, arith}
-use Rattle.std.specs.Prelude.{IfSome}
-use Rattle.flash_model.specs.Flash.{Told}
-use Rattle.flash_model.specs.Calls.{BothTell, NoMoreToCome, Spends}
-use Rattle.host_protocol.specs.declared.command.Command.{Command}
+use Rattle.cut_replay.proofs.Common.{◌≡◌, true, false, Option, Some, None, refl, arith, IfSome, Told, BothTell, NoMoreToCome, Spends, Command, Reply, is_arm, is_fault, is_lost, IsSet, IsSpentBy}
 use Rattle.host_protocol.specs.declared.command.Command.TheVariants as command
-use Rattle.host_protocol.specs.declared.reply.Reply.{Reply}
 use Rattle.host_protocol.specs.declared.reply.Reply.TheVariants as reply
-use Rattle.cut_replay.specs.Run.{is_arm}
-use Rattle.cut_replay.specs.FlashRun.{is_fault}
-use Rattle.cut_replay.specs.Bounds.{is_cut, is_lost, IsSet}
-use Rattle.cut_replay.specs.Sessions.{IsSpentBy}
+use Rattle.cut_replay.specs.Bounds.{is_cut}
 
 -- a reply that is a fault, and after which something may be open
 pub is_its_fault : (r : Reply) → is_fault r ≡ true → is_lost r ≡ false → r ≡ reply.Fault

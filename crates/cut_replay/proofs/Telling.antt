@@ -1,32 +1,26 @@
 -- Commands that ask for no program and no erase.
-use Rattle.std.proofs.Common.{◌≡◌, ℕ, ◌+◌, ◌≤◌, Bool, true, false, cond, List, [], ◌∷◌, length, map, Option, Some, None, Result, Ok, Err, refl, sym, ap, ◌∙◌}
-use Rattle.std.proofs.Common.{subst, inl, inr, arith, eq-eqb, Contains}
-use Rattle.std.specs.Prelude.{Any, count_by, IsSome, IfOk}
+use Rattle.cut_replay.proofs.Common.{◌≡◌, ℕ, ◌+◌, ◌≤◌, Bool, true, false, cond, List, [], ◌∷◌, length, Option, Some, None, Result, Ok, Err, refl, sym, ap, ◌∙◌, subst, inl, inr, arith, count_by, IfOk, Config, Protocol, Memory, shape_of, FlashState, Carries, moment_of, IndexState, ArrayState, page_at, is_spent, DeviceState, limits_of, Command, Reply, DoesCommand, is_break, seen_after, Point, Tells, MovesBy, is_fault, is_lost, IsSeen, HoldsAlways, point_at, ServesHere}
+use Rattle.std.proofs.Common.{map}
+use Rattle.std.proofs.Common.{eq-eqb, Contains}
+use Rattle.std.specs.Prelude.{Any, IsSome}
 use Rattle.std.proofs.lemmas.List.Sums.{sum_by-cons}
 use Rattle.std.proofs.lemmas.List.Elements.{Contains-push_cases}
-use Rattle.list_facts.proofs.Membership.{in_any, any_in, Contains-cases, Contains-nil}
+use Rattle.list_lemmas.proofs.Membership.{in_any, any_in, Contains-cases, Contains-nil}
 use Rattle.tx_types.specs.Batch.{PageWrite, Writes}
-use Rattle.tx_types.specs.declared.config.Config.{Config}
-use Rattle.tx_types.specs.declared.config.Protocol.{Protocol}
 use Rattle.tx_types.specs.declared.record.Link.{Link}
 use Rattle.tx_types.specs.declared.stats.Stats.{Stats}
-use Rattle.tx_types.specs.declared.memory.Memory.{Memory}
-use Rattle.tx_types.specs.Config.{shape_of}
-use Rattle.flash_model.specs.Flash.{FlashState}
-use Rattle.flash_model.specs.Calls.{Carries}
-use Rattle.flash_model.specs.Operations.{moment_of}
 use Rattle.flash_model.specs.Moves.{MovesTogether}
 use Rattle.flash_model.proofs.CallLemmas.{Carries-nothing}
 use Rattle.flash_model.proofs.MoveLemmas.{Moves-nothing, together_of}
-use Rattle.version_index.specs.Noted.{Noted, current_of, mention_of}
+use Rattle.version_index.specs.IndexState.{current_of, mention_of}
 use Rattle.collector.specs.declared.unsure.Unsure.TheVariants as unsure
-use Rattle.tx_engine.specs.ArrayState.{ArrayState, Pages, page_at}
+use Rattle.tx_engine.specs.ArrayState.{Pages}
 use Rattle.tx_engine.specs.Collect.{TellsStats}
 use Rattle.tx_engine.specs.Exits.{IsNamedAt}
-use Rattle.tx_engine.specs.Naming.{is_spent, named_after, KeepsTables}
-use Rattle.tx_engine.specs.OpenTable.{next_name}
+use Rattle.tx_engine.specs.Naming.{named_after, KeepsTables}
+use Rattle.tx_engine.specs.OpenTransactionsState.{next_name}
 use Rattle.tx_engine.specs.Read.{ReadsPage, is_read_fault}
-use Rattle.tx_engine.specs.Standing.{Standing, Naming, limits_of}
+use Rattle.tx_engine.specs.DeviceState.{Naming}
 use Rattle.tx_engine.specs.Submit.{Submits, is_of, opened, refusal}
 use Rattle.array_machine.specs.declared.answers.ReadAnswer.{ReadAnswer}
 use Rattle.array_machine.specs.declared.answers.ReadAnswer.TheVariants as read
@@ -34,15 +28,10 @@ use Rattle.array_machine.specs.declared.answers.ReadError.{ReadError}
 use Rattle.array_machine.specs.declared.answers.ReadError.TheVariants as unread
 use Rattle.array_machine.specs.declared.answers.SubmitError.{SubmitError}
 use Rattle.array_machine.specs.declared.answers.SubmitError.TheVariants as refused
-use Rattle.host_protocol.specs.declared.command.Command.{Command}
 use Rattle.host_protocol.specs.declared.command.Command.TheVariants as command
-use Rattle.host_protocol.specs.declared.reply.Reply.{Reply}
 use Rattle.host_protocol.specs.declared.reply.Reply.TheVariants as reply
-use Rattle.cut_replay.specs.Run.{DoesCommand, read_reply, submit_reply, is_break, seen_after}
-use Rattle.cut_replay.specs.FlashRun.{Point, Tells, MovesBy, is_fault, is_together}
-use Rattle.cut_replay.specs.Bounds.{is_lost}
-use Rattle.tx_engine.specs.Always.{IsSeen, HoldsAlways}
-use Rattle.cut_replay.specs.Mounted.{point_at, ServesHere}
+use Rattle.cut_replay.specs.Run.{read_reply, submit_reply}
+use Rattle.cut_replay.specs.FlashRun.{is_together}
 use Rattle.cut_replay.proofs.Devices.{seen_at, seen_later}
 
 -- the moment stays
@@ -54,7 +43,7 @@ stays_moved its c r old new same = record {
 }
 
 -- nothing at all changed
-pub same_serves : {F : Type 0} (state : F → FlashState) (c : Command) (s : Standing F) (r : Reply) → is_break r ≡ false → is_fault r ≡ false →
+pub same_serves : {F : Type 0} (state : F → FlashState) (c : Command) (s : DeviceState F) (r : Reply) → is_break r ≡ false → is_fault r ≡ false →
     is_lost r ≡ false →
     DoesCommand (limits_of s.config) (is_spent s.noted.mentions) c s.machine r s.machine →
     ((faulted : Bool) → (faulted ≡ false → s.unsure ≡ unsure.Nothing) → Tells s.config faulted (point_at state s) r (point_at state s)) →
@@ -72,7 +61,7 @@ same_serves state c s r unbroken whole uncut does tells = record {
   whole = uncut;
 }
 
-pub stats_serves : {F : Type 0} (state : F → FlashState) (s : Standing F) (told : Stats) → TellsStats s.machine told →
+pub stats_serves : {F : Type 0} (state : F → FlashState) (s : DeviceState F) (told : Stats) → TellsStats s.machine told →
     told.programs ≡ (state s.flash).programs → told.erases ≡ (state s.flash).erases →
     ServesHere state command.Stats s s (reply.Stats told)
 stats_serves state s told machine programs erases =
@@ -103,9 +92,9 @@ read_may logical pages page bytes (Err unread.Range) reads fault = cc
 read_may logical pages page bytes (Err unread.Fault) reads fault = reads.1
 
 -- only the flash changed, and its moment stays
-pub flash_serves : {F : Type 0} (state : F → FlashState) (protocol : Protocol) (old : Standing F) (flash : F) (page : ℕ) (bytes : List ℕ)
+pub flash_serves : {F : Type 0} (state : F → FlashState) (protocol : Protocol) (old : DeviceState F) (flash : F) (page : ℕ) (bytes : List ℕ)
     (result : Result ReadAnswer ReadError) →
-    (let new : Standing F = record old { flash = flash } in
+    (let new : DeviceState F = record old { flash = flash } in
     HoldsAlways state protocol new → ReadsPage old.config.logical old.machine.pages page bytes result → moment_of (state flash) ≡ moment_of (state old.flash) →
     Carries (state old.flash) (state flash) (is_read_fault result) → ServesHere state (command.Read page) old new (read_reply page bytes result))
 flash_serves state protocol old flash page bytes result is reads still carries =
@@ -127,7 +116,7 @@ flash_serves state protocol old flash page bytes result is reads still carries =
       whole = breaks.2;
     }
 
-pub read_serves : {F : Type 0} (state : F → FlashState) (protocol : Protocol) (old new : Standing F) (page : ℕ) (bytes : List ℕ)
+pub read_serves : {F : Type 0} (state : F → FlashState) (protocol : Protocol) (old new : DeviceState F) (page : ℕ) (bytes : List ℕ)
     (result : Result ReadAnswer ReadError) (r : Reply) →
     HoldsAlways state protocol new → ReadsPage old.config.logical old.machine.pages page bytes result →
     moment_of (state new.flash) ≡ moment_of (state old.flash) →
@@ -135,8 +124,8 @@ pub read_serves : {F : Type 0} (state : F → FlashState) (protocol : Protocol) 
     ServesHere state (command.Read page) old new r
 read_serves {F = F} state protocol old new page bytes result r is reads still carries stays told =
     subst (λ (q : Reply). ServesHere state (command.Read page) old new q) (sym told)
-    (subst (λ (s : Standing F). ServesHere state (command.Read page) old s (read_reply page bytes result)) (sym stays)
-    (flash_serves state protocol old new.flash page bytes result (subst (λ (s : Standing F). HoldsAlways state protocol s) stays is) reads still carries))
+    (subst (λ (s : DeviceState F). ServesHere state (command.Read page) old s (read_reply page bytes result)) (sym stays)
+    (flash_serves state protocol old new.flash page bytes result (subst (λ (s : DeviceState F). HoldsAlways state protocol s) stays is) reads still carries))
 
 -- A write
 write_unbroken : (tag pages : ℕ) (result : Result (Unit {0}) SubmitError) →
@@ -165,7 +154,7 @@ opened_pages : (o : Option SubmitError) (tag : ℕ) (ws : List PageWrite) (s : A
 opened_pages None tag ws s = refl
 opened_pages (Some e) tag ws s = refl
 
-pins_current : (n : Noted) (pins : List ℕ) (page : ℕ) → current_of (record n { pins = pins }) page ≡ current_of n page
+pins_current : (n : IndexState) (pins : List ℕ) (page : ℕ) → current_of (record n { pins = pins }) page ≡ current_of n page
 unfolding current_of
 pins_current n pins page = refl
 
@@ -174,7 +163,7 @@ counts_step : (b : Bool) (n : ℕ) → n ≤ cond b 1 0 + n
 counts_step true n = omega arith
 counts_step false n = omega arith
 
-named_in : (n : Noted) (ws : List PageWrite) (page version : ℕ) (name : Link) → Contains (map (next_name n) ws) name → name.page ≡ page →
+named_in : (n : IndexState) (ws : List PageWrite) (page version : ℕ) (name : Link) → Contains (map (next_name n) ws) name → name.page ≡ page →
     name.version ≡ version →
     (version ≡ mention_of n page + 1) × (1 ≤ count_by (is_of page) ws)
 named_in n [] page version name c same at = absurd (Contains-nil name c)
@@ -194,7 +183,7 @@ named_in n (w ∷ ws) page version name c same at =
     ]
 
 -- the names once a batch was opened: those of before, and those of its pages
-named_after_seen : {F : Type 0} (old new : Standing F) (seen : ℕ → ℕ) (tag : ℕ) (batch : Writes) (result : Result (Unit {0}) SubmitError) → IsSeen seen old →
+named_after_seen : {F : Type 0} (old new : DeviceState F) (seen : ℕ → ℕ) (tag : ℕ) (batch : Writes) (result : Result (Unit {0}) SubmitError) → IsSeen seen old →
     new.namings ≡ named_after old.noted batch.entries result old.namings → (page version : ℕ) → IsNamedAt new.namings page version →
     version ≤ seen_after seen (command.Write tag batch) (submit_reply tag (length batch.entries) result) page
 named_after_seen old new seen tag batch (Err e) h names page version named =
@@ -215,7 +204,7 @@ named_after_seen old new seen tag batch (Ok u) h names page version named =
           let most = h.mentions page in omega (arith, both.0, both.1, most))
     ]
 
-pub write_serves : {F : Type 0} (state : F → FlashState) (old new : Standing F) (tag : ℕ) (batch : Writes) (result : Result (Unit {0}) SubmitError)
+pub write_serves : {F : Type 0} (state : F → FlashState) (old new : DeviceState F) (tag : ℕ) (batch : Writes) (result : Result (Unit {0}) SubmitError)
     (r : Reply) →
     Submits (limits_of old.config) (is_spent old.noted.mentions) old.machine new.machine tag batch.entries result →
     new.namings ≡ named_after old.noted batch.entries result old.namings →
@@ -233,12 +222,12 @@ write_serves {F = F} state old new tag batch result r submits names keeps told =
       tells = λ faulted h. write_tells old.config faulted (point_at state old) (point_at state new) tag (length batch.entries) result;
       sure = λ sure h. keeps.unsure ∙ sure;
       seen = λ seen h. record {
-        mentions = λ page. (let same : mention_of new.noted page ≡ mention_of old.noted page = ap (λ (n : Noted). mention_of n page) keeps.noted in
+        mentions = λ page. (let same : mention_of new.noted page ≡ mention_of old.noted page = ap (λ (n : IndexState). mention_of n page) keeps.noted in
             let least = seen_at seen (command.Write tag batch) reply page in let most = h.mentions page in omega arith);
         names = named_after_seen old new seen tag batch result h names;
       };
       versions = λ page lt. inr (
-        ap (λ (n : Noted). current_of n page) keeps.noted ∙ pins_current old.noted new.noted.pins page,
+        ap (λ (n : IndexState). current_of n page) keeps.noted ∙ pins_current old.noted new.noted.pins page,
         ap (λ (m : ArrayState). page_at m.pages page) submits.opens ∙ ap (λ (x : Pages). page_at x page)
             (opened_pages (refusal (limits_of old.config) (is_spent old.noted.mentions) old.machine.entries tag batch.entries) tag batch.entries old.machine),
       );
@@ -256,7 +245,7 @@ pub told_refused : (tag pages : ℕ) (e : SubmitError) (result : Result (Unit {0
 told_refused tag pages e result r told is = told ∙ ap (submit_reply tag pages) (sym is)
 
 -- a read whose reply there was memory for
-pub reads_serve : {F : Type 0} (state : F → FlashState) (protocol : Protocol) (old new : Standing F) (page : ℕ) (bytes : List ℕ)
+pub reads_serve : {F : Type 0} (state : F → FlashState) (protocol : Protocol) (old new : DeviceState F) (page : ℕ) (bytes : List ℕ)
     (result : Result ReadAnswer ReadError) (r : Result Reply Memory) →
     HoldsAlways state protocol new → ReadsPage old.config.logical old.machine.pages page bytes result →
     moment_of (state new.flash) ≡ moment_of (state old.flash) →

@@ -4,7 +4,7 @@ use Rattle.tx_types.specs.declared.config.Config.{Config}
 use Rattle.flash_model.specs.Flash.{FlashState, IsSteady}
 use Rattle.flash_model.specs.Calls.{BothTell, NoMoreToCome}
 use Rattle.flash_model.specs.Operations.{moment_of}
-use Rattle.cut_replay.specs.FlashRun.{mentions_in, opening_point}
+use Rattle.cut_replay.specs.FlashRun.{mentions_in, first_point}
 use Rattle.cut_replay.specs.Bounds.{CountsBreaks}
 use Rattle.cut_replay.specs.Sessions.{point_of, flash_in, IsSoundFlash, StandsAt, Mounted}
 use Rattle.cut_replay.specs.declared.session.Session.{Session}
@@ -18,7 +18,7 @@ pub record Begins {F R : Type 0}
   pub sound : IsSoundFlash its init
   pub up : Bool
   pub mounted : IsSteady init → up ≡ true
-  pub point : point_of state its s ≡ opening_point its up (moment_of init)
+  pub point : point_of state its s ≡ first_point its up (moment_of init)
   pub stands : StandsAt state its (mentions_in its (moment_of init)) false s
   pub told : BothTell NoMoreToCome init.told (state (flash_in s)).told
   pub faults : CountsBreaks [] init (state (flash_in s))

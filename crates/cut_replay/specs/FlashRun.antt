@@ -15,8 +15,8 @@ use Rattle.host_protocol.specs.declared.reply.Reply.{Reply}
 use Rattle.host_protocol.specs.declared.reply.Reply.TheVariants as reply
 use Rattle.tx_engine.specs.ArrayState.{idle}
 use Rattle.tx_engine.specs.Collections.{HasNothingToCollect}
-use Rattle.tx_engine.specs.Exits.{StandsFor}
-use Rattle.tx_engine.specs.Standing.{limits_of}
+use Rattle.tx_engine.specs.Exits.{Represents}
+use Rattle.tx_engine.specs.DeviceState.{limits_of}
 pub use Rattle.array_machine.specs.Breaks.{is_fault}
 use Rattle.cut_replay.specs.Run.{RunState, DoesCommand, NotDone, LosesOpen, MayBeSpent, is_arm, is_break, seen_after}
 
@@ -29,7 +29,7 @@ pub record Point : Type 0 where
 -- the transaction in doubt
 pub record IsPoint (its : Config) (p : Point) : Type 0 where
   pub sound : IsSoundImage its.protocol its.logical (shape_of its) p.moment.image
-  pub array : StandsFor p.state.machine (array_in its.protocol its.logical p.moment.image)
+  pub array : Represents p.state.machine (array_in its.protocol its.logical p.moment.image)
 
 -- a command that asks for no program and no erase
 abbrev pub is_still : Command → Bool
@@ -123,8 +123,8 @@ FlashRun its seen faulted old (c ∷ cs) (r ∷ rs) (p ∷ ps) =
 FlashRun its seen faulted old _ _ _ = ⊥
 
 -- the point at which a run begins: the array of the image, with nothing open
-abbrev pub opening_point : Config → Bool → Moment → Point
-opening_point its its_up its_moment = record {
+abbrev pub first_point : Config → Bool → Moment → Point
+first_point its its_up its_moment = record {
   state =
       record { machine = idle (array_in its.protocol its.logical its_moment.image); up = its_up };
   moment = its_moment;
@@ -138,8 +138,8 @@ mentions_in its m page = mention (records_in its.protocol m.image) page
 pub record IsFlashRun (its : Config) (from : Moment) (cs : List Command) (rs : List Reply)
     (ps : List Point) : Type 0 where
   pub up : Bool
-  pub first : IsPoint its (opening_point its up from)
-  pub runs : FlashRun its (mentions_in its from) false (opening_point its up from) cs rs ps
+  pub first : IsPoint its (first_point its up from)
+  pub runs : FlashRun its (mentions_in its from) false (first_point its up from) cs rs ps
 
 abbrev pub last_moment : Moment → List Point → Moment
 last_moment from [] = from
@@ -151,5 +151,5 @@ last_state from [] = from
 last_state from (p ∷ ps) = last_state p.state ps
 
 -- the state at which it begins
-abbrev pub opening_state : Config → Bool → Moment → RunState
-opening_state its its_up from = (opening_point its its_up from).state
+abbrev pub first_state : Config → Bool → Moment → RunState
+first_state its its_up from = (first_point its its_up from).state

@@ -6,15 +6,15 @@ use Rattle.flash_model.specs.Flash.{FlashState, counted}
 use Rattle.flash_model.specs.Calls.{Carries, BothTell, NoMoreToCome}
 use Rattle.flash_model.specs.Operations.{moment_of}
 use Rattle.version_index.specs.Images.{array_in}
-use Rattle.version_index.specs.Noted.{current_of}
+use Rattle.version_index.specs.IndexState.{current_of}
 use Rattle.collector.specs.declared.unsure.Unsure.TheVariants as unsure
-use Rattle.page_cache.specs.CachedPages.{CachedPage, CachedPages, cached_page, promoted, kept}
+use Rattle.page_cache.specs.PageCacheState.{CachedPage, PageCacheState, cached_page, promoted, kept}
 use Rattle.tx_engine.specs.Always.{IsSeen}
 use Rattle.tx_engine.specs.ArrayState.{page_at, idle}
 use Rattle.tx_engine.specs.Exits.{VersionsTell}
 use Rattle.tx_engine.specs.Naming.{is_spent}
 use Rattle.tx_engine.specs.Read.{ReadsFlash, read_place}
-use Rattle.tx_engine.specs.Standing.{Standing, limits_of}
+use Rattle.tx_engine.specs.DeviceState.{DeviceState, limits_of}
 use Rattle.array_machine.specs.declared.answers.ReadAnswer.{ReadAnswer}
 use Rattle.array_machine.specs.declared.answers.ReadAnswer.TheVariants as answer
 use Rattle.array_machine.specs.declared.answers.ReadError.{ReadError}
@@ -31,31 +31,31 @@ is_step_all command.StepAll = true
 is_step_all _ = false
 
 -- the point of a run at which a device is mounted
-abbrev pub point_at : {F : Type 0} → (F → FlashState) → Standing F → Point
+abbrev pub point_at : {F : Type 0} → (F → FlashState) → DeviceState F → Point
 point_at state s =
     record { state = record { machine = s.machine; up = true }; moment = moment_of (state s.flash) }
 
 -- a cached page is at its current version at most, and where it is at that, its bytes are those of
 -- the array
-pub record IsCachedAs {F : Type 0} (s : Standing F) (e : CachedPage) : Type 0 where
+pub record IsCachedAs {F : Type 0} (s : DeviceState F) (e : CachedPage) : Type 0 where
   pub exists : e.page < s.config.logical
   pub least : e.version ≤ current_of s.noted e.page
   pub current : e.version ≡ current_of s.noted e.page →
       page_at s.machine.pages e.page ≡ Some e.bytes
 
-abbrev pub IsCached : {F : Type 0} → Standing F → List CachedPage → Type 0
+abbrev pub IsCached : {F : Type 0} → DeviceState F → List CachedPage → Type 0
 IsCached s entries = All (IsCachedAs s) entries
 
 -- what a power cut leaves, if the call met one
 pub record MayHaveCut {F : Type 0} (state : F → FlashState) (c : Command)
-    (old new : Standing F) : Type 0 where
+    (old new : DeviceState F) : Type 0 where
   pub may : MayBeCut old.machine.pages c
   pub leaves : CutLeavesOf c old.machine
       (idle (array_in new.config.protocol new.config.logical (state new.flash).image))
 
 -- A command was done on a device, with this reply unless power was cut.
 pub record ServesHere {F : Type 0}
-    (state : F → FlashState) (c : Command) (old new : Standing F) (r : Reply) : Type 0 where
+    (state : F → FlashState) (c : Command) (old new : DeviceState F) (r : Reply) : Type 0 where
   pub config : new.config ≡ old.config
   pub does : DoesCommand (limits_of old.config)
       (is_spent old.noted.mentions) c old.machine r new.machine
@@ -83,13 +83,13 @@ pub record StaysQuiet (old new : FlashState) : Type 0 where
   pub quiet : new.faults ≡ old.faults
 
 -- whether a page is held in the cache at its current version
-abbrev pub is_cached : {F : Type 0} → Standing F → List CachedPage → ℕ → Bool
+abbrev pub is_cached : {F : Type 0} → DeviceState F → List CachedPage → ℕ → Bool
 is_cached s entries page =
     nat_lt page s.config.logical && is_some (cached_page page (current_of s.noted page) entries)
 
 -- A read of a page that is held is answered, and leaves the device and its flash; any other is a
 -- read of the device.
-abbrev pub ReadsThrough : {F : Type 0} → (F → FlashState) → Standing F → Standing F →
+abbrev pub ReadsThrough : {F : Type 0} → (F → FlashState) → DeviceState F → DeviceState F →
     List CachedPage → ℕ →
     List ℕ → List ℕ → Result ReadAnswer ReadError → Type 0
 ReadsThrough state old new entries page before after result =
@@ -98,24 +98,24 @@ ReadsThrough state old new entries page before after result =
     (read_place old.noted old.unsure page) old.flash new.flash before after result)
 
 -- the entry of a page at its current version comes to the front
-abbrev pub brought_forward : {F : Type 0} → Standing F → ℕ → CachedPages → CachedPages
+abbrev pub brought_forward : {F : Type 0} → DeviceState F → ℕ → PageCacheState → PageCacheState
 brought_forward s page cache =
     record cache { entries = promoted page (current_of s.noted page) cache.entries }
 
 -- these bytes of a page come in front, under its current version
-abbrev pub with_page : {F : Type 0} → Standing F → ℕ → List ℕ → CachedPages → CachedPages
+abbrev pub with_page : {F : Type 0} → DeviceState F → ℕ → List ℕ → PageCacheState → PageCacheState
 with_page s page bytes cache =
     record cache { entries = kept page (current_of s.noted page) bytes cache.entries }
 
 -- a page is kept, unless memory ran out
-abbrev pub KeepsPage : {F : Type 0} → Standing F → CachedPages → CachedPages → ℕ → List ℕ →
+abbrev pub KeepsPage : {F : Type 0} → DeviceState F → PageCacheState → PageCacheState → ℕ → List ℕ →
     Result (Unit {0}) Memory → Type 0
 KeepsPage s before after page bytes (Ok u) = after ≡ with_page s page bytes before
 KeepsPage s before after page bytes (Err e) = after ≡ before
 
 -- What a read leaves in the cache: a page that was held comes to the front; a page that was read is
 -- kept, unless memory ran out.
-abbrev pub CachesRead : {F : Type 0} → Standing F → CachedPages → CachedPages → ℕ → List ℕ →
+abbrev pub CachesRead : {F : Type 0} → DeviceState F → PageCacheState → PageCacheState → ℕ → List ℕ →
     Result ReadAnswer ReadError → Result (Unit {0}) Memory → Type 0
 CachesRead s before after page bytes (Ok answer.Page) memory =
     MatchBool (is_cached s before.entries page) (after ≡ brought_forward s page before)
@@ -123,13 +123,13 @@ CachesRead s before after page bytes (Ok answer.Page) memory =
 CachesRead s before after page bytes _ memory = after ≡ before
 
 -- a page that was written and is not held takes a read of the flash
-abbrev pub takes_read : {F : Type 0} → Standing F → List CachedPage → ℕ → Bool
+abbrev pub takes_read : {F : Type 0} → DeviceState F → List CachedPage → ℕ → Bool
 takes_read s entries page =
     nat_lt page s.config.logical && is_some (page_at s.machine.pages page)
     && not (is_cached s entries page)
 
 -- on a live flash a read of a page that takes one is one read, and any other is none
-abbrev pub ReadsOnce : {F : Type 0} → (F → FlashState) → Standing F → Standing F → List CachedPage →
+abbrev pub ReadsOnce : {F : Type 0} → (F → FlashState) → DeviceState F → DeviceState F → List CachedPage →
     ℕ → Type 0
 ReadsOnce state old new entries page =
     (state old.flash).live ≡ true → (state new.flash).reads ≡
@@ -138,7 +138,7 @@ ReadsOnce state old new entries page =
 
 -- a page that is held comes to the front; of another one the bytes of the array are kept, or
 -- nothing changes
-abbrev pub CachesPage : {F : Type 0} → Standing F → CachedPages → CachedPages → ℕ → Type 0
+abbrev pub CachesPage : {F : Type 0} → DeviceState F → PageCacheState → PageCacheState → ℕ → Type 0
 CachesPage s before after page =
     MatchBool (is_cached s before.entries page) (after ≡ brought_forward s page before)
     (((bytes : List ℕ) × (page_at s.machine.pages page ≡ Some bytes)
@@ -146,8 +146,8 @@ CachesPage s before after page =
     ⊎ (after ≡ before))
 
 -- what a command does to the cache, and a read to the count of reads; only a read changes the cache
-abbrev pub CachesCommand : {F : Type 0} → (F → FlashState) → Command → Standing F → Standing F →
-    CachedPages → CachedPages → Type 0
+abbrev pub CachesCommand : {F : Type 0} → (F → FlashState) → Command → DeviceState F → DeviceState F →
+    PageCacheState → PageCacheState → Type 0
 CachesCommand state (command.Read page) old new before after =
     ReadsOnce state old new before.entries page × CachesPage old before after page
 CachesCommand state _ old new before after = after ≡ before

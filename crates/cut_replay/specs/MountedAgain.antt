@@ -5,7 +5,7 @@ use Rattle.flash_model.specs.Flash.{FlashState, counted_by}
 use Rattle.flash_model.specs.Operations.{moment_of}
 use Rattle.host_protocol.specs.declared.reply.Reply.{Reply}
 use Rattle.cut_replay.specs.Run.{NotDone, is_break}
-use Rattle.cut_replay.specs.FlashRun.{Point, opening_point}
+use Rattle.cut_replay.specs.FlashRun.{Point, first_point}
 use Rattle.cut_replay.specs.Bounds.{is_lost}
 
 -- after a reply `cut` or `dropped` the device is mounted, unless the command was not done
@@ -31,5 +31,5 @@ FailedMounts old _ _ failed = ⊥
 pub record CountsMounts (its : Config) (up : Bool) (rs : List Reply) (ps : List Point)
     (old new : FlashState) : Type 0 where
   pub failed : ℕ
-  pub mounts : FailedMounts (opening_point its up (moment_of old)) rs ps failed
+  pub mounts : FailedMounts (first_point its up (moment_of old)) rs ps failed
   pub faults : counted_by (count_by is_break rs + failed) old.faults ≤ new.faults

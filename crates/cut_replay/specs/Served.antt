@@ -8,7 +8,7 @@ use Rattle.flash_model.specs.Operations.{moment_of}
 use Rattle.version_index.specs.Images.{IsLeastImageBreach}
 use Rattle.host_protocol.specs.declared.command.Command.{Command}
 use Rattle.host_protocol.specs.declared.reply.Reply.{Reply}
-use Rattle.cut_replay.specs.FlashRun.{Point, IsFlashRun, last_moment, last_state, opening_state}
+use Rattle.cut_replay.specs.FlashRun.{Point, IsFlashRun, last_moment, last_state, first_state}
 use Rattle.cut_replay.specs.Watching.{ToldReply, Grew, text_of_all, replies_told}
 use Rattle.cut_replay.specs.Bounds.{SpendsTold, LastIsSet, CountsBreaks}
 use Rattle.cut_replay.specs.MountedAgain.{CountsMounts}
@@ -46,7 +46,7 @@ pub record ServesRun
 abbrev pub EndsLive : (its : Config) (cs : List Command) (told : ℕ) (old new : FlashState)
     (before after : Watched) → ServesRun its cs told old new before after → Type 0
 EndsLive its cs told old new before after serves =
-    (last_state (opening_state its serves.run.up (moment_of old)) serves.points).up ≡ true →
+    (last_state (first_state its serves.run.up (moment_of old)) serves.points).up ≡ true →
     new.live ≡ true
 
 -- what serving comes to where the image handed in was sound

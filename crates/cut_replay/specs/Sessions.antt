@@ -14,15 +14,15 @@ use Rattle.version_index.specs.Images.{IsSoundImage, IsLeastImageBreach, array_i
 use Rattle.scan_recovery.specs.Opening.{IsOpened}
 use Rattle.scan_recovery.specs.Reading.{read_more}
 use Rattle.collector.specs.declared.unsure.Unsure.TheVariants as unsure
-use Rattle.page_cache.specs.CachedPages.{CachedPages, CachedPage}
+use Rattle.page_cache.specs.PageCacheState.{PageCacheState, CachedPage}
 use Rattle.tx_engine.specs.ArrayState.{idle}
 use Rattle.tx_engine.specs.Opens.{mount_reads}
-use Rattle.tx_engine.specs.Standing.{Standing}
+use Rattle.tx_engine.specs.DeviceState.{DeviceState}
 use Rattle.host_protocol.specs.declared.command.Command.{Command}
 use Rattle.host_protocol.specs.declared.reply.Reply.{Reply}
 use Rattle.host_protocol.specs.declared.reply.Reply.TheVariants as reply
 use Rattle.cut_replay.specs.Run.{MayBeSpent, is_arm, seen_after}
-use Rattle.cut_replay.specs.FlashRun.{Point, IsPoint, ServesFlash, is_fault, opening_point}
+use Rattle.cut_replay.specs.FlashRun.{Point, IsPoint, ServesFlash, is_fault, first_point}
 use Rattle.cut_replay.specs.Bounds.{is_cut, is_lost, arms_cut, arms_fault, IsSet, CountsBreak}
 use Rattle.cut_replay.specs.MountedAgain.{MountsAfter}
 use Rattle.tx_engine.specs.Always.{IsSeen, HoldsAlways}
@@ -44,14 +44,14 @@ is_mounted (session.Mounted s) = true
 is_mounted (session.Unmounted flash) = false
 
 -- the device that it has is not dropped
-abbrev pub IsKept : {F R : Type 0} → Session F R → Type 0
-IsKept (session.Mounted s) = s.dropped ≡ false
-IsKept (session.Unmounted flash) = Unit {0}
+abbrev pub IsNotDropped : {F R : Type 0} → Session F R → Type 0
+IsNotDropped (session.Mounted s) = s.dropped ≡ false
+IsNotDropped (session.Unmounted flash) = Unit {0}
 
 -- the point of a run that a session is at
 abbrev pub point_of : {F R : Type 0} → (F → FlashState) → Config → Session F R → Point
 point_of state its (session.Mounted s) = point_at state s
-point_of state its (session.Unmounted flash) = opening_point its false (moment_of (state flash))
+point_of state its (session.Unmounted flash) = first_point its false (moment_of (state flash))
 
 -- the image of a flash is sound
 abbrev pub IsSoundFlash : Config → FlashState → Type 0
@@ -61,7 +61,7 @@ IsSoundFlash its s = IsSoundImage its.protocol its.logical (shape_of its) s.imag
 -- is out of date
 pub record FitsMounted {F : Type 0}
     (state : F → FlashState) (its : Config) (cache : List CachedPage)
-    (s : Standing F) : Type 0 where
+    (s : DeviceState F) : Type 0 where
   pub config : s.config ≡ its
   pub check : checked its ≡ Ok (state s.flash).shape
   pub live : (state s.flash).live ≡ true
@@ -76,7 +76,7 @@ Fits state its cache (session.Unmounted flash) = checked its ≡ Ok (state flash
 
 -- `seen` is at least each mention, and nothing is unsure where no fault was met
 pub record StandsMounted {F : Type 0} (seen : ℕ → ℕ) (faulted : Bool)
-    (s : Standing F) : Type 0 where
+    (s : DeviceState F) : Type 0 where
   pub sure : faulted ≡ false → s.unsure ≡ unsure.Nothing
   pub mentions : IsSeen seen s
 
@@ -169,7 +169,7 @@ pub record EndsServing {F R : Type 0}
 -- What mounting a flash comes to: its device, with nothing open, by the reads of one mount; or a
 -- read met a fault.
 pub record MountsIn {F : Type 0} (state : F → FlashState) (its : Config) (flash : F)
-    (s : Standing F) : Type 0 where
+    (s : DeviceState F) : Type 0 where
   pub config : s.config ≡ its
   pub live : (state s.flash).live ≡ true
   pub machine : s.machine ≡ idle (array_in its.protocol its.logical (state flash).image)
@@ -200,8 +200,8 @@ Unmounted state its flash new failed.Memory = StaysQuiet (state flash) (state ne
 
 -- What a command that is no arm does to the cache: on a device that is mounted still, without a
 -- cut or a drop, what it does there; and else nothing is held.
-abbrev pub CachesServed : {F R : Type 0} → (F → FlashState) → Command → Standing F → Reply →
-    Session F R → CachedPages → CachedPages → Type 0
+abbrev pub CachesServed : {F R : Type 0} → (F → FlashState) → Command → DeviceState F → Reply →
+    Session F R → PageCacheState → PageCacheState → Type 0
 CachesServed state c s r (session.Mounted t) before after =
     MatchBool (is_lost r) (after ≡ record before { entries = [] })
     (CachesCommand state c s t before after)
@@ -210,26 +210,26 @@ CachesServed state c s r (session.Unmounted flash) before after =
 
 -- and where the device is mounted first: it begins with an empty cache
 abbrev pub CachesFrom : {F R : Type 0} → (F → FlashState) → Config → Command → Session F R → Reply →
-    Session F R → CachedPages → CachedPages → Type 0
+    Session F R → PageCacheState → PageCacheState → Type 0
 CachesFrom state its c (session.Mounted s) r new before after =
     CachesServed state c s r new before after
 CachesFrom {F = F} {R = R} state its c (session.Unmounted flash) r (session.Mounted t) before
     after =
-    (s : Standing F) × MountsIn state its flash s
+    (s : DeviceState F) × MountsIn state its flash s
     × CachesServed {R = R} state c s r (session.Mounted t) (record before { entries = [] }) after
 CachesFrom state its c (session.Unmounted flash) r (session.Unmounted new) before after =
     after ≡ record before { entries = [] }
 
 -- what a command does to the cache; an arm does nothing
 abbrev pub CachesSession : {F R : Type 0} → (F → FlashState) → Config → Command → Session F R →
-    Reply → Session F R → CachedPages → CachedPages → Type 0
+    Reply → Session F R → PageCacheState → PageCacheState → Type 0
 CachesSession state its c old r new before after =
     MatchBool (is_arm c) (after ≡ before) (CachesFrom state its c old r new before after)
 
 -- an arm of the flash is set, and all else of the session stays
 pub record SetsArmHere {F : Type 0}
     (state : F → FlashState) (protocol : Protocol) (sets : Told → Told → Type 0)
-    (old new : Standing F) : Type 0 where
+    (old new : DeviceState F) : Type 0 where
   pub stays : new ≡ record old { flash = new.flash }
   pub changes : ChangesTold sets (state old.flash) (state new.flash)
   pub always : HoldsAlways state protocol new
@@ -258,13 +258,13 @@ lost_reply false = reply.Cut
 -- and what comes of it: a mount of the flash
 pub record FollowsLoss {F R : Type 0}
     (state : F → FlashState) (its : Config) (old : Session F R)
-    (result : Result (Session F R × Reply) (Ended F)) (before after : CachedPages) : Type 0 where
+    (result : Result (Session F R × Reply) (Ended F)) (before after : PageCacheState) : Type 0 where
   pub mounts : MountsAgain state its (flash_in old) (lost_reply (state (flash_in old)).live) result
   pub emptied : after ≡ record before { entries = [] }
 
 pub record Follows {F R : Type 0}
     (state : F → FlashState) (its : Config) (old : Session F R) (r : Reply)
-    (result : Result (Session F R × Reply) (Ended F)) (before after : CachedPages) : Type 0 where
+    (result : Result (Session F R × Reply) (Ended F)) (before after : PageCacheState) : Type 0 where
   pub went_on : (state (flash_in old)).live ≡ true → (result ≡ Ok (old, r)) × (after ≡ before)
   pub was_cut : (state (flash_in old)).live ≡ false →
       MountsAgain state its (flash_in old) reply.Cut result
@@ -280,7 +280,7 @@ left new (Err why) = Err (record { flash = flash_in new; why = why })
 pub record Serves {F R : Type 0}
     (state : F → FlashState) (its : Config)
     (c : Command) (old : Session F R) (result : Result Reply ServeError) (new : Session F R)
-    (before after : CachedPages) : Type 0 where
+    (before after : PageCacheState) : Type 0 where
   pub fits : OnOk result (Fits state its after.entries new)
   pub serves : IfOk result (λ r. ServesSession state its c old r new)
   pub caches : IfOk result (λ r. CachesSession state its c old r new before after)

@@ -7,7 +7,9 @@ use flash_model::Flash;
 use host_protocol::{Command, Reply};
 use record_list::CommitRule;
 use std::alloc::Global;
-use tx_engine::{Aborted, Collected, Device, Fault, Progress, StepError, SubmitError, held_always};
+use tx_engine::{
+    Aborted, Collected, Device, Fault, Progress, StepError, SubmitError, device_facts,
+};
 use tx_types::{Batch, Bytes, Memory};
 use verdict_report::explain;
 
@@ -19,15 +21,15 @@ pub fn write<F: Flash, R: CommitRule>(device: &mut Device<F, R>, tag: u32, batch
     ensures always { HoldsAlways F.state R.protocol device.new }
 {
     let answer = device.submit(tag, batch);
-    held_always(device);
+    device_facts(device);
     match answer {
         Ok(()) => Reply::Opened(tag, batch.len() as u32),
-        Err(refusal) => refused(tag, refusal),
+        Err(refusal) => submit_reply(tag, refusal),
     }
 }
 
 /// The reply of a refusal.
-fn refused(tag: u32, refusal: SubmitError) -> Reply
+fn submit_reply(tag: u32, refusal: SubmitError) -> Reply
     ensures { (pages : ℕ) → result ≡ submit_reply tag pages (Err refusal) }
 {
     match refusal {
@@ -48,12 +50,12 @@ pub fn step<F: Flash, R: CommitRule>(device: &mut Device<F, R>, tag: u32) -> Rep
     ensures always { HoldsAlways F.state R.protocol device.new }
 {
     let answer = device.step(tag);
-    held_always(device);
-    stepped(tag, answer)
+    device_facts(device);
+    step_reply(tag, answer)
 }
 
 /// The reply of a step.
-pub fn stepped(tag: u32, answer: Result<Progress, StepError>) -> Reply
+pub fn step_reply(tag: u32, answer: Result<Progress, StepError>) -> Reply
     ensures { result ≡ step_reply tag answer }
 {
     match answer {
@@ -71,12 +73,12 @@ pub fn abort<F: Flash, R: CommitRule>(device: &mut Device<F, R>, tag: u32) -> Re
     ensures always { HoldsAlways F.state R.protocol device.new }
 {
     let answer = device.abort(tag);
-    held_always(device);
-    given_up(tag, answer)
+    device_facts(device);
+    abort_reply(tag, answer)
 }
 
 /// The reply of an abort.
-fn given_up(tag: u32, answer: Result<Aborted, StepError>) -> Reply
+fn abort_reply(tag: u32, answer: Result<Aborted, StepError>) -> Reply
     ensures { result ≡ abort_reply tag answer }
 {
     match answer {
@@ -94,12 +96,12 @@ pub fn collect<F: Flash, R: CommitRule>(device: &mut Device<F, R>) -> Reply
     ensures always { HoldsAlways F.state R.protocol device.new }
 {
     let answer = device.collect();
-    held_always(device);
-    won_back(answer)
+    device_facts(device);
+    collect_reply(answer)
 }
 
 /// The reply of a collection.
-fn won_back(answer: Result<Collected, Fault>) -> Reply
+fn collect_reply(answer: Result<Collected, Fault>) -> Reply
     ensures { result ≡ collect_reply answer }
 {
     match answer {
@@ -125,7 +127,7 @@ pub fn report<F: Flash, R: CommitRule>(
     requires kept { device.now.dropped ≡ false }
     ensures { IfOk result (λ r. ServesHere F.state Command.Explain device.now device.now r) }
 {
-    let logical = held_always(device).logical;
+    let logical = device_facts(device).logical;
     let found = device.found()?;
     let mut text = Vec::new(alloc);
     explain::<R>(alloc, &found, logical, &mut text)?;

@@ -3,14 +3,14 @@
 #![tactic(auto)]
 
 mod calls;
-mod doing;
+mod executing;
 mod finishing;
-pub mod laws;
 mod lines;
 mod mounting;
 mod reading;
 mod serving;
 mod session;
+pub mod theorems;
 mod watch;
 
 pub use lines::Lines;

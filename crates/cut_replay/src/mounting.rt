@@ -12,7 +12,7 @@ use host_protocol::Reply;
 use page_cache::PageCache;
 use record_list::CommitRule;
 use std::alloc::Global;
-use tx_engine::{Device, MountError, held_always};
+use tx_engine::{Device, MountError, device_facts};
 use tx_types::Config;
 
 /// Turns power on where it is off, and mounts the device of a flash.
@@ -26,9 +26,9 @@ pub fn mount<F: Power, R: CommitRule>(
     ensures mounted { IfOk result (Mounted F.state config flash) }
     ensures failed { IfErr result (λ e. Unmounted F.state config flash e.flash e.why) }
 {
-    match Device::mount(alloc, powered(flash), config) {
+    match Device::mount(alloc, with_power(flash), config) {
         Ok(device) => {
-            held_always(&device);
+            device_facts(&device);
             Ok(Session::Mounted(device))
         }
         Err((flash, error)) => match error {
@@ -46,7 +46,7 @@ pub fn mount<F: Power, R: CommitRule>(
 }
 
 /// Turns power on where it is off.
-fn powered<F: Power>(mut flash: F) -> F
+fn with_power<F: Power>(mut flash: F) -> F
     ensures { TurnsOn (F.state flash) (F.state result) }
 {
     if !flash.live() {
@@ -69,11 +69,11 @@ pub fn mount_again<F: Power, R: CommitRule>(
     ensures cache { cache.new ≡ record cache.old { entries = [] } }
 {
     cache.clear();
-    replace_with(session, (alloc, config), mounted_anew)
+    replace_with(session, (alloc, config), mount_anew)
 }
 
 /// The session of a flash that is mounted anew.
-fn mounted_anew<F: Power, R: CommitRule>(
+fn mount_anew<F: Power, R: CommitRule>(
     session: Session<F, R>,
     with: (Global, Config),
 ) -> (Session<F, R>, Result<(), ServeError>)
@@ -91,7 +91,7 @@ fn mounted_anew<F: Power, R: CommitRule>(
 
 /// What follows a call of a device. Where power was cut in it the device is mounted again at once,
 /// and the reply is `Cut`.
-pub fn followed<F: Power, R: CommitRule>(
+pub fn remount_if_cut<F: Power, R: CommitRule>(
     alloc: Global,
     config: Config,
     session: &mut Session<F, R>,
@@ -105,12 +105,12 @@ pub fn followed<F: Power, R: CommitRule>(
     if session.flash().live() {
         return Ok(reply);
     }
-    after_loss(alloc, config, session, cache)
+    remount(alloc, config, session, cache)
 }
 
 /// What follows a call after which no transaction is open: power was cut in it, or the device dropped
 /// them. The device is mounted again at once, and the reply is `Cut` or `Dropped`.
-pub fn after_loss<F: Power, R: CommitRule>(
+pub fn remount<F: Power, R: CommitRule>(
     alloc: Global,
     config: Config,
     session: &mut Session<F, R>,

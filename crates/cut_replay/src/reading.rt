@@ -14,7 +14,7 @@ use host_protocol::{Command, Reply};
 use page_cache::PageCache;
 use record_list::CommitRule;
 use std::alloc::Global;
-use tx_engine::{Device, ReadAnswer, ReadError, held_always};
+use tx_engine::{Device, ReadAnswer, ReadError, device_facts};
 use tx_types::{Bytes, Memory};
 
 /// Reads a page, from the cache where that holds it at its current version.
@@ -38,12 +38,12 @@ pub fn read<F: Flash, R: CommitRule>(
     ensures always { HoldsAlways F.state R.protocol device.new }
 {
     let (answer, _) = read_through(device, cache, room, page);
-    held_always(device);
-    told(alloc, page, room, answer)
+    device_facts(device);
+    read_reply(alloc, page, room, answer)
 }
 
 /// The reply of a read.
-fn told(
+fn read_reply(
     alloc: Global,
     page: u32,
     room: &[u8],

@@ -12,15 +12,15 @@ ghost use Rattle.cut_replay.specs.Beginning.{Begins, MountsFirst};
 ghost use Rattle.cut_replay.specs.Served.{ServesSound, ServesUnsound, RefusesUnsound};
 
 use crate::Watch;
-use crate::doing::done;
-use crate::mounting::{after_loss, followed, mount, mount_again};
+use crate::executing::execute;
+use crate::mounting::{mount, mount_again, remount, remount_if_cut};
 use crate::session::{Ended, Session};
 use flash_model::{Arms, Power, Wide};
 use host_protocol::{Command, Reply};
 use page_cache::PageCache;
 use record_list::CommitRule;
 use std::alloc::Global;
-use tx_engine::{Fault, Moved, held_always};
+use tx_engine::{Fault, Moved, device_facts};
 use tx_types::{Config, Memory, Slot};
 
 /// Why the commands were not all served.
@@ -36,7 +36,7 @@ pub enum ServeError {
 
 /// Goes on with several transactions at once on a mounted device. Where that meets a fault, none is
 /// open any more, and the device is mounted again.
-fn serve_together<F: Power + Wide, R: CommitRule>(
+fn serve_step_all<F: Power + Wide, R: CommitRule>(
     alloc: Global,
     config: Config,
     session: &mut Session<F, R>,
@@ -52,10 +52,10 @@ fn serve_together<F: Power + Wide, R: CommitRule>(
     };
     match device.step_all() {
         Ok(Moved { moved, finished }) => {
-            held_always(device);
+            device_facts(device);
             Ok(Reply::Moved(moved, finished))
         }
-        Err(Fault) => after_loss(alloc, config, session, cache),
+        Err(Fault) => remount(alloc, config, session, cache),
     }
 }
 
@@ -78,15 +78,15 @@ fn serve_mounted<F: Power + Wide, R: CommitRule>(
     ensures { Serves F.state config command.now session.old result session.new cache.old cache.new }
 {
     if matches!(command, Command::StepAll) {
-        return serve_together(alloc, config, session, cache);
+        return serve_step_all(alloc, config, session, cache);
     }
     let Session::Mounted(device) = session else {
         unreachable!();
     };
-    let Ok(reply) = done(alloc, device, cache, room, command) else {
+    let Ok(reply) = execute(alloc, device, cache, room, command) else {
         return Err(ServeError::Memory);
     };
-    followed(alloc, config, session, cache, reply)
+    remount_if_cut(alloc, config, session, cache, reply)
 }
 
 /// Serves a command that is no arm where the device is to be mounted first.
@@ -196,7 +196,7 @@ fn serve_all<F: Power + Arms + Wide, R: CommitRule, W: Watch<F>>(
 }
 
 /// A cache and room for a page.
-fn rooms(alloc: Global, page_bytes: u32) -> Result<(PageCache, Vec<u8>), Memory>
+fn buffers(alloc: Global, page_bytes: u32) -> Result<(PageCache, Vec<u8>), Memory>
     ensures size { IfOk result (λ rooms. rooms.0.page_bytes ≡ page_bytes) }
     ensures room { IfOk result (λ rooms. length rooms.1.items ≡ page_bytes) }
 {
@@ -286,7 +286,7 @@ pub fn serve<F: Power + Arms + Wide, R: CommitRule, W: Watch<F>>(
     ensures shape { (F.state result.0).shape ≡ (F.state flash).shape }
     ensures extras { (F.state result.0).extras ≡ (F.state flash).extras }
 {
-    let Ok((mut cache, mut room)) = rooms(alloc, config.page_bytes) else {
+    let Ok((mut cache, mut room)) = buffers(alloc, config.page_bytes) else {
         return (flash, Err(ServeError::Memory));
     };
     match begin(alloc, flash, config, &mut cache) {

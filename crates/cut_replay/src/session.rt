@@ -1,11 +1,11 @@
 ghost use Rattle.std.specs.Prelude.{◌≡◌, ◌≤◌};
 ghost use Rattle.flash_model.specs.Arms.{SetsCut, SetsFault, SetsBadRead};
-ghost use Rattle.cut_replay.specs.Sessions.{flash_in, is_mounted, IsKept, SetsArm};
+ghost use Rattle.cut_replay.specs.Sessions.{flash_in, is_mounted, IsNotDropped, SetsArm};
 
 use crate::ServeError;
 use flash_model::{Arms, Flash, Outcome};
 use record_list::CommitRule;
-use tx_engine::{Device, held_always};
+use tx_engine::{Device, device_facts};
 
 /// A flash on which commands are served.
 #[derive(Drop)]
@@ -56,7 +56,7 @@ impl<F: Arms, R: CommitRule> Session<F, R> {
     /// A program or an erase from now on, the one of this number from 1, will be cut with this
     /// outcome.
     pub fn arm_cut(&mut self, count: u32, outcome: Outcome)
-        requires kept { IsKept self.old }
+        requires kept { IsNotDropped self.old }
         requires count { 1 ≤ count }
         ensures { SetsArm F.state R.protocol (SetsCut (record { count = count; outcome = outcome }))
             self.old self.new }
@@ -64,7 +64,7 @@ impl<F: Arms, R: CommitRule> Session<F, R> {
         match self {
             Session::Mounted(device) => {
                 device.arm_cut(count, outcome);
-                held_always(device);
+                device_facts(device);
             }
             Session::Unmounted(flash) => flash.arm_cut(count, outcome),
         }
@@ -73,7 +73,7 @@ impl<F: Arms, R: CommitRule> Session<F, R> {
     /// A program or an erase from now on, the one of this number from 1, will meet a fault with
     /// this outcome.
     pub fn arm_fault(&mut self, count: u32, outcome: Outcome)
-        requires kept { IsKept self.old }
+        requires kept { IsNotDropped self.old }
         requires count { 1 ≤ count }
         ensures { SetsArm F.state R.protocol (SetsFault (record { count = count; outcome = outcome }))
             self.old self.new }
@@ -81,7 +81,7 @@ impl<F: Arms, R: CommitRule> Session<F, R> {
         match self {
             Session::Mounted(device) => {
                 device.arm_fault(count, outcome);
-                held_always(device);
+                device_facts(device);
             }
             Session::Unmounted(flash) => flash.arm_fault(count, outcome),
         }
@@ -89,14 +89,14 @@ impl<F: Arms, R: CommitRule> Session<F, R> {
 
     /// A read from now on, the one of this number from 1, will meet a fault.
     pub fn arm_bad_read(&mut self, count: u32)
-        requires kept { IsKept self.old }
+        requires kept { IsNotDropped self.old }
         requires count { 1 ≤ count }
         ensures { SetsArm F.state R.protocol (SetsBadRead count) self.old self.new }
     {
         match self {
             Session::Mounted(device) => {
                 device.arm_bad_read(count);
-                held_always(device);
+                device_facts(device);
             }
             Session::Unmounted(flash) => flash.arm_bad_read(count),
         }

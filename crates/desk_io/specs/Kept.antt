@@ -2,14 +2,14 @@
 use Rattle.std.specs.Prelude.{ℕ, List, map, string_bytes, Vec, String}
 use Rattle.std.specs.Global.{Global}
 use Rattle.std.specs.FinMap as files
-use Rattle.desk_io.specs.InMemory.{MemoryDesk}
+use Rattle.desk_io.specs.InMemory.{MemDeskState}
 use Rattle.desk_io.specs.declared.memory.MemDesk.TheInside.{Inside}
 
 -- a file's name and its bytes
 abbrev pub kept_file : String Global × Vec ℕ Global → List ℕ × List ℕ
 kept_file e = (string_bytes e.0, e.1.items)
 
-abbrev pub desk_of : Inside → MemoryDesk
+abbrev pub desk_of : Inside → MemDeskState
 desk_of d = record {
   contents =
       record {

@@ -43,9 +43,9 @@ pub struct MemDesk {
 }
 
 impl Model for MemDesk {
-    ghost use Rattle.desk_io.specs.InMemory.{MemoryDesk, memory_desk_code};
+    ghost use Rattle.desk_io.specs.InMemory.{MemDeskState, memory_desk_code};
 
-    ghost Value = { MemoryDesk };
+    ghost Value = { MemDeskState };
 
     ghost coded = { memory_desk_code };
 
@@ -78,7 +78,7 @@ impl MemDesk {
         ensures err { OnErr result (self.new ≡ self.old) }
     {
         let key = String::from_str(self.alloc, name)?;
-        let copy = copied(self.alloc, bytes)?;
+        let copy = copy(self.alloc, bytes)?;
         self.files.insert(key, copy)?;
         Ok(())
     }
@@ -139,7 +139,7 @@ impl MemDesk {
 }
 
 /// A copy of the bytes.
-fn copied(alloc: Global, bytes: &[u8]) -> Result<Vec<u8>, Memory>
+fn copy(alloc: Global, bytes: &[u8]) -> Result<Vec<u8>, Memory>
     ensures { IfOk result (λ copy. copy.items ≡ bytes.now) }
 {
     let mut copy = Vec::new(alloc);
@@ -148,7 +148,7 @@ fn copied(alloc: Global, bytes: &[u8]) -> Result<Vec<u8>, Memory>
 }
 
 /// The bytes that a call keeps: the first half, rounded down, where it fails, else all.
-fn kept(bytes: &[u8], fails: bool) -> &[u8]
+fn kept_part(bytes: &[u8], fails: bool) -> &[u8]
     ensures { result.now ≡ kept_of bytes.now fails }
 {
     if fails {
@@ -180,7 +180,7 @@ impl Desk for MemDesk {
             self.count(false);
             return Err(LoadError::TooLong);
         }
-        let Ok(loaded) = copied(self.alloc, bytes) else {
+        let Ok(loaded) = copy(self.alloc, bytes) else {
             self.starve();
             return Err(LoadError::Memory);
         };
@@ -194,7 +194,7 @@ impl Desk for MemDesk {
         ensures disk { SavesOnDisk name.now bytes.now result None None }
     {
         let fails = self.fails_next();
-        let Ok(()) = self.put_file(name, kept(bytes, fails)) else {
+        let Ok(()) = self.put_file(name, kept_part(bytes, fails)) else {
             self.starve();
             return Err(SinkError::Memory);
         };
@@ -207,7 +207,7 @@ impl Desk for MemDesk {
         ensures disk { Rests None None }
     {
         let fails = self.fails_next();
-        let Ok(()) = self.said.extend_from_slice(kept(bytes, fails)) else {
+        let Ok(()) = self.said.extend_from_slice(kept_part(bytes, fails)) else {
             self.starve();
             return Err(SinkError::Memory);
         };

@@ -49,7 +49,7 @@ fn first_bytes<F: Read>(
 }
 
 /// What the system tells of a file, field by field.
-fn found(metadata: Metadata) -> Found {
+fn as_found(metadata: Metadata) -> Found {
     Found {
         is_file: metadata.is_file(),
         is_link: metadata.is_symlink(),
@@ -80,15 +80,15 @@ where
     ghost place = { λ _. [] };
 
     fn find(&mut self, name: &str) -> io::Result<Found> {
-        fs::symlink_metadata(self.rt, name).map(found)
+        fs::symlink_metadata(self.rt, name).map(as_found)
     }
 
     fn find_open(&mut self, file: &R::File) -> io::Result<Found> {
-        file.metadata().map(found)
+        file.metadata().map(as_found)
     }
 
     fn find_folder(&mut self, folder: &R::File) -> io::Result<Found> {
-        folder.metadata().map(found)
+        folder.metadata().map(as_found)
     }
 
     fn resolve(&mut self, name: &str) -> io::Result<PathBuf> {

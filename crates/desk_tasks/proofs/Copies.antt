@@ -1,17 +1,18 @@
 -- A flash is made anew from how its slots read and from their bytes.
-use Rattle.std.proofs.Common.{◌≡◌, ℕ, zero, suc, ◌*◌, ◌<◌, List, [], ◌∷◌, length, get_or, map, refl, ap, ap₂, sym, ◌∙◌, arith, length-append, Result, Ok, Err}
-use Rattle.std.specs.Prelude.{All, IfOk}
+use Rattle.desk_tasks.proofs.Common.{◌≡◌, ℕ, suc, ◌*◌, ◌<◌, List, [], ◌∷◌, length, refl, ap, sym, ◌∙◌, arith, Result, Ok, Err, All, Contents, MemFlashState}
+use Rattle.std.proofs.Common.{zero, get_or, map, ap₂, length-append}
+use Rattle.std.specs.Prelude.{IfOk}
 use Rattle.std.specs.List.{flat_map}
 use Rattle.std.proofs.lemmas.List.{get_or-map, length-map, length-replicate, replicate-append-replicate}
 use Rattle.std.proofs.lemmas.List.Elements.{All-head, All-tail}
-use Rattle.list_facts.proofs.Chunks.{take_front, drop_front, first_chunk, later_chunk}
-use Rattle.flash_model.specs.Flash.{Contents, blank, damaged, complete, IsWhole}
+use Rattle.list_lemmas.proofs.Chunks.{take_front, drop_front, first_chunk, later_chunk}
+use Rattle.flash_model.specs.Flash.{blank, damaged, complete, IsWhole}
 use Rattle.flash_model.specs.Calls.{seen_of}
 use Rattle.flash_model.specs.declared.flash.Seen.{Seen}
 use Rattle.tx_types.specs.declared.config.Shape.{Shape}
 use Rattle.tx_types.specs.declared.memory.Memory.{Memory}
 use Rattle.tx_types.specs.Config.{slots_of}
-use Rattle.mem_flash.specs.Memory.{MemoryState, fresh}
+use Rattle.mem_flash.specs.MemFlashState.{fresh}
 use Rattle.desk_tasks.specs.Keeping.{KeptReply, reply_at, no_entry}
 use Rattle.desk_tasks.specs.KeptEntries.{kept_by}
 use Rattle.desk_tasks.specs.declared.kept.Entry.{Entry}
@@ -68,11 +69,11 @@ made_same : (n m : ℕ) (image : List Contents) (seen : List Seen) (cells : List
 made_same n m image seen cells e f g h = rw (e, f, g) (image_same n image h)
 
 -- a flash that is made of them has these slots
-pub copy_is : (n : ℕ) (shape : Shape) (image : List Contents) (seen : List Seen) (cells : List ℕ) (result : Result MemoryState Memory) →
+pub copy_is : (n : ℕ) (shape : Shape) (image : List Contents) (seen : List Seen) (cells : List ℕ) (result : Result MemFlashState Memory) →
     shape.page_bytes ≡ n → seen ≡ map seen_of image → cells ≡ flat_map (cell_of n) image → All (IsWhole n) image →
     IfOk result (λ f. f ≡ fresh shape (image_of shape.page_bytes seen cells)) → IfOk result (λ copy. copy.image ≡ image)
 copy_is n shape image seen cells (Ok f) e g k whole h =
-    ap (λ (s : MemoryState). s.image) h ∙ made_same n shape.page_bytes image seen cells e g k whole
+    ap (λ (s : MemFlashState). s.image) h ∙ made_same n shape.page_bytes image seen cells e g k whole
 copy_is n shape image seen cells (Err m) e g k whole h = h
 
 -- ---- the entries that are kept

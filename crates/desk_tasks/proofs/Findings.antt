@@ -1,47 +1,43 @@
 -- The fate of a comparison, from what is found.
-use Rattle.std.proofs.Common.{◌≡◌, ◌≢◌, ◌⊎◌, inl, inr, ℕ, ◌+◌, ◌-◌, ◌*◌, ◌<◌, ◌≤◌, List, length, Option, None, Some, Result, Ok, Err, refl, sym, ap, ◌∙◌, subst}
-use Rattle.std.proofs.Common.{arith, slice_index}
-use Rattle.std.specs.Prelude.{All, IfErr, IfOk}
+use Rattle.desk_tasks.proofs.Common.{◌≡◌, inl, inr, ℕ, ◌*◌, ◌<◌, List, length, Option, None, Some, Result, Ok, Err, refl, sym, ap, ◌∙◌, subst, arith, All, Config, Protocol, shape_of, Contents, IsSoundImage, array_in, records_in, Ending, Same, array_of_device, ComesTo, Comparing, Judging, Opening, RefusesDevice}
+use Rattle.std.proofs.Common.{◌≢◌, ◌⊎◌, ◌+◌, ◌-◌, ◌≤◌}
+use Rattle.std.proofs.Common.{slice_index}
+use Rattle.std.specs.Prelude.{IfErr, IfOk}
 use Rattle.std.specs.Result.{IsErrAnd}
 use Rattle.std.specs.List.{range_with_len}
 use Rattle.std.proofs.Math.Nat.{mul-le-mul_right}
 use Rattle.std.proofs.lemmas.List.{length-map, ext_get_or}
 use Rattle.std.proofs.lemmas.List.Elements.{All-weaker}
 use Rattle.std.proofs.lemmas.List.FromFn.{length-range_with_len}
-use Rattle.tx_types.specs.declared.config.Config.{Config}
-use Rattle.tx_types.specs.declared.config.Protocol.{Protocol}
-use Rattle.tx_types.specs.Config.{blocks_of, checked, shape_of}
+use Rattle.tx_types.specs.Config.{blocks_of, checked}
 use Rattle.tx_types.proofs.ConfigLemmas.{checked_config}
-use Rattle.flash_model.specs.Flash.{Contents}
 use Rattle.record_list.specs.declared.found.Found.{Found}
 use Rattle.record_list.specs.Records.{IsScanned}
 use Rattle.record_list.specs.SoundList.{Pages as page_law, PagesExist}
-use Rattle.version_index.specs.Images.{IsSoundImage, array_in, records_in}
 use Rattle.version_index.proofs.OfLaws.ImageScans.{records_scanned}
 use Rattle.array_machine.specs.ArrayState.{ArrayState, Pages, idle, page_at}
 use Rattle.verdict_report.specs.Report.{pages}
-use Rattle.desk_tasks.specs.Fate.{Fate, Same, DifferBlank, DifferAt}
-use Rattle.desk_tasks.specs.Checking.{ChecksList, HaveOneShape, DifferAtByte, OneArray, Shapes, BlankAt, ByteAt, array_of_device}
-use Rattle.desk_tasks.specs.Differences.{ComesTo, FindsFirst, IsSomeAt, difference_fate}
+use Rattle.desk_tasks.specs.Ending.{DifferBlank, DifferAt}
+use Rattle.desk_tasks.specs.Checking.{ChecksList, HaveOneShape, DifferAtByte, OneArray, Shapes, BlankAt, ByteAt}
+use Rattle.desk_tasks.specs.Differences.{FindsFirst, IsSomeAt, difference_ending}
 use Rattle.desk_tasks.specs.declared.difference.Difference.{Difference}
 use Rattle.desk_tasks.specs.declared.difference.Difference.TheVariants as difference
-use Rattle.desk_tasks.specs.declared.product.Stop.{Stop}
-use Rattle.desk_tasks.specs.Steps.{Comparing, Judging, Opening}
-use Rattle.desk_tasks.specs.Stops.{RefusesDevice, StopsBy}
+use Rattle.desk_tasks.specs.declared.output.Failure.{Failure}
+use Rattle.desk_tasks.specs.Stops.{StopsBy}
 use Rattle.desk_tasks.proofs.Works.{stops_by}
 
 -- ---- a check
 
-pub judging_device : (its : Config) (image : List Contents) (text : List ℕ) (fate : Fate) → RefusesDevice its image fate → Judging its image text fate
+pub judging_device : (its : Config) (image : List Contents) (text : List ℕ) (fate : Ending) → RefusesDevice its image fate → Judging its image text fate
 judging_device its image text fate h = (Err h.0, h.1, h.2)
 
 judging_list : (its : Config) (image : List Contents) (text : List ℕ) → IsSoundImage its.protocol its.logical (shape_of its) image →
-    (fate : Fate) → ChecksList its.protocol (records_in its.protocol image) its.logical text fate → Judging its image text fate
+    (fate : Ending) → ChecksList its.protocol (records_in its.protocol image) its.logical text fate → Judging its image text fate
 judging_list its image text sound fate (inl (n, same, count, is)) = (Ok tt, sound, (Ok n, (same, count), is))
 judging_list its image text sound fate (inr (k, differs, is)) = (Ok tt, sound, (Err k, differs, is))
 
 pub judging : (its : Config) (image : List Contents) (text : List ℕ) (list : List Found) → IsSoundImage its.protocol its.logical (shape_of its) image →
-    list ≡ records_in its.protocol image → (fate : Fate) → ChecksList its.protocol list its.logical text fate → Judging its image text fate
+    list ≡ records_in its.protocol image → (fate : Ending) → ChecksList its.protocol list its.logical text fate → Judging its image text fate
 judging its image text list sound e fate h =
     judging_list its image text sound fate (subst (λ l. ChecksList its.protocol l its.logical text fate) e h)
 
@@ -66,7 +62,7 @@ scanned_list its image list e = subst (λ l. IsScanned l) (sym e) (records_scann
 -- ---- a comparison
 
 module _ (a : Config) (image : List Contents) (b : Config) (other : List Contents) where
-  pub first_refused : (fate : Fate) → RefusesDevice a image fate → Comparing a image b other fate
+  pub first_refused : (fate : Ending) → RefusesDevice a image fate → Comparing a image b other fate
   first_refused fate h = (Err h.0, h.1, h.2)
 
 array_length : (protocol : Protocol) (logical : ℕ) (image : List Contents) → length (array_in protocol logical image) ≡ logical
@@ -153,13 +149,13 @@ module _ (a : Config) (image : List Contents) (b : Config) (other : List Content
 comparing : (a : Config) (image : List Contents) (b : Config) (other : List Contents) →
     IsSoundImage a.protocol a.logical (shape_of a) image → IsSoundImage b.protocol b.logical (shape_of b) other →
     (one two : ArrayState) → one ≡ idle (array_of_device a image) → two ≡ idle (array_of_device b other) →
-    (fate : Fate) → ComesTo a one.pages b two.pages fate → Comparing a image b other fate
+    (fate : Ending) → ComesTo a one.pages b two.pages fate → Comparing a image b other fate
 comparing a image b other sound other_sound one two e f fate h =
     from (subst (λ pages. ComesTo a pages b (array_of_device b other) fate) (ap (λ (m : ArrayState). m.pages) e)
     (subst (λ pages. ComesTo a one.pages b pages fate) (ap (λ (m : ArrayState). m.pages) f) h))
   where
     by_found : HaveOneShape a b → (found : Option Difference) → FindsFirst (array_of_device a image) (array_of_device b other) a.logical found →
-        Comparing a image b other (difference_fate a.logical found)
+        Comparing a image b other (difference_ending a.logical found)
     by_found shape None finds = arrays_same a image b other sound other_sound shape finds
     by_found shape (Some (difference.Blank page)) finds = blank_differs a image b other sound other_sound shape page finds
     by_found shape (Some (difference.At page at)) finds = byte_differs a image b other sound other_sound shape page at finds
@@ -170,18 +166,18 @@ comparing a image b other sound other_sound one two e f fate h =
 
 -- what the second device comes to beside an array, where its image is sound, and where it is not
 pub opened_second : (a : Config) (pages : Pages) (b : Config) (other : List Contents) → IsSoundImage b.protocol b.logical (shape_of b) other →
-    (two : ArrayState) → two ≡ idle (array_of_device b other) → (fate : Fate) → ComesTo a pages b two.pages fate →
+    (two : ArrayState) → two ≡ idle (array_of_device b other) → (fate : Ending) → ComesTo a pages b two.pages fate →
     Opening b other (ComesTo a pages b (array_of_device b other)) fate
 opened_second a pages b other sound two e fate h =
     (Ok tt, sound, subst (λ others. ComesTo a pages b others fate) (ap (λ (m : ArrayState). m.pages) e) h)
 
-pub second_refused : (a : Config) (pages : Pages) (b : Config) (other : List Contents) (fate : Fate) → RefusesDevice b other fate →
+pub second_refused : (a : Config) (pages : Pages) (b : Config) (other : List Contents) (fate : Ending) → RefusesDevice b other fate →
     Opening b other (ComesTo a pages b (array_of_device b other)) fate
 second_refused a pages b other fate h = (Err h.0, h.1, h.2)
 
 -- and so what two images come to, where the first is sound
 pub first_opened : (a : Config) (image : List Contents) (b : Config) (other : List Contents) → IsSoundImage a.protocol a.logical (shape_of a) image →
-    (one : ArrayState) → one ≡ idle (array_of_device a image) → (fate : Fate) →
+    (one : ArrayState) → one ≡ idle (array_of_device a image) → (fate : Ending) →
     Opening b other (ComesTo a one.pages b (array_of_device b other)) fate → Comparing a image b other fate
 first_opened a image b other sound one e fate (Ok done, other_sound, h) =
     comparing a image b other sound other_sound one (idle (array_of_device b other)) e refl fate h
@@ -190,17 +186,17 @@ first_opened a image b other sound one e fate (Err breach, opens, is) = (Ok tt, 
 -- ---- a number, or why there is none
 
 -- what is done, or refused, in one way is so in another
-pub leads_ok : (P Q : Fate → Type 0) (done : ℕ → Fate) → ((fate : Fate) → P fate → Q fate) → (result : Result ℕ Stop) →
+pub leads_ok : (P Q : Ending → Type 0) (done : ℕ → Ending) → ((fate : Ending) → P fate → Q fate) → (result : Result ℕ Failure) →
     IfOk result (λ n. P (done n)) → IfOk result (λ n. Q (done n))
 leads_ok P Q done leads (Ok n) h = leads (done n) h
 leads_ok P Q done leads (Err e) h = h
 
-pub leads_err : (P Q : Fate → Type 0) → ((fate : Fate) → P fate → Q fate) → (result : Result ℕ Stop) →
+pub leads_err : (P Q : Ending → Type 0) → ((fate : Ending) → P fate → Q fate) → (result : Result ℕ Failure) →
     IfErr result (StopsBy P) → IfErr result (StopsBy Q)
 leads_err P Q leads (Ok n) h = h
 leads_err P Q leads (Err e) h = stops_by P Q leads e h
 
-pub leads_stop : {T : Type 0} → (P Q : Fate → Type 0) → ((fate : Fate) → P fate → Q fate) → (result : Result T Stop) (e : Stop) →
+pub leads_stop : {T : Type 0} → (P Q : Ending → Type 0) → ((fate : Ending) → P fate → Q fate) → (result : Result T Failure) (e : Failure) →
     IsErrAnd result (λ x. x ≡ e) → StopsBy P e → IfErr result (StopsBy Q)
 leads_stop P Q leads (Ok n) e same h = absurd same
 leads_stop P Q leads (Err x) e same h = stops_by P Q leads x (rw same h)

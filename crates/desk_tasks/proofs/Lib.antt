@@ -1,8 +1,9 @@
+mod Common
 pub mod RunLemmas
 pub mod Sound
 pub mod Works
 pub mod Parts
 pub mod Findings
 pub mod Copies
-pub mod KeyFates
+pub mod KeyEndings
 pub mod Retirements

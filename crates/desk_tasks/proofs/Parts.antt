@@ -1,19 +1,12 @@
 -- The fate of a task, from what its parts come to.
-use Rattle.std.proofs.Common.{◌≡◌, ℕ, List, [], ◌++◌, length, Ok, Err, refl}
-use Rattle.tx_types.specs.declared.config.Config.{Config}
-use Rattle.tx_types.specs.declared.config.Protocol.{Protocol}
+use Rattle.desk_tasks.proofs.Common.{◌≡◌, ℕ, List, [], length, Ok, Err, refl, Config, Protocol, shape_of, Contents, Extras, IsSoundImage, Ending, Ran, Explaining, OpensAndServes, Running, Trying, ReadsImage, RefusesDevice, RefusesLine}
+use Rattle.std.proofs.Common.{◌++◌}
 use Rattle.tx_types.specs.declared.config.Protocol.TheVariants.{Scc}
-use Rattle.tx_types.specs.Config.{shape_of}
-use Rattle.flash_model.specs.Flash.{Contents, Extras}
-use Rattle.version_index.specs.Images.{IsSoundImage}
 use Rattle.host_protocol.specs.Files.{IsFile}
 use Rattle.host_protocol.specs.declared.command.Command.{Command}
 use Rattle.drive_gen.specs.Summary.{summary_line}
-use Rattle.desk_tasks.specs.Fate.{Fate, Explained, Ran}
+use Rattle.desk_tasks.specs.Ending.{Explained}
 use Rattle.desk_tasks.specs.Runs.{IsRun, RepliesFresh, blank_image, default_config}
-use Rattle.desk_tasks.specs.Steps.{Explaining, OpensAndServes, Running, Trying}
-use Rattle.image_desk.specs.Loading.{ReadsImage}
-use Rattle.desk_tasks.specs.Stops.{RefusesDevice, RefusesLine}
 use Rattle.version_index.proofs.OfTables.OneBreach.{sound_unbroken}
 use Rattle.desk_tasks.proofs.Sound.{blank_sound}
 
@@ -21,7 +14,7 @@ use Rattle.desk_tasks.proofs.Sound.{blank_sound}
 
 -- it is opened
 pub blank_opens : (protocol : Protocol) (its : Config) (image : List Contents) → its ≡ default_config protocol → image ≡ blank_image its →
-    (fate : Fate) → RefusesDevice its image fate → ⊥
+    (fate : Ending) → RefusesDevice its image fate → ⊥
 blank_opens protocol its image e f fate h =
     let refuses : RefusesDevice (default_config protocol) (blank_image (default_config protocol)) fate = rw (f, e) at h in
     sound_unbroken protocol (default_config protocol).logical (shape_of (default_config protocol)) (blank_image (default_config protocol))
@@ -40,25 +33,25 @@ summed start count protocol before after cs lines text none same h = rw (none, s
 
 -- ---- a try
 
-pub trying_line : (its : Config) (lines : List ℕ) → its ≡ default_config Scc → (fate : Fate) → RefusesLine its.page_bytes lines fate → Trying lines fate
+pub trying_line : (its : Config) (lines : List ℕ) → its ≡ default_config Scc → (fate : Ending) → RefusesLine its.page_bytes lines fate → Trying lines fate
 trying_line its lines e fate h =
     let refuses : RefusesLine (default_config Scc).page_bytes lines fate = rw e at h in (Err refuses.0, refuses.1, refuses.2)
 
 -- ---- a run
 
 pub running_line : (name bytes lines : List ℕ) (its : Config) (image : List Contents) (extras : Extras) → ReadsImage bytes (Ok (its, image, extras)) →
-    (fate : Fate) → RefusesLine its.page_bytes lines fate → Running name bytes lines fate
+    (fate : Ending) → RefusesLine its.page_bytes lines fate → Running name bytes lines fate
 running_line name bytes lines its image extras read fate h = (Ok (its, image, extras), read, ((Err h.0, h.1, h.2), refl))
 
 pub running_on : (name bytes lines : List ℕ) (its : Config) (image : List Contents) (extras : Extras) (cs : List Command) →
     ReadsImage bytes (Ok (its, image, extras)) → IsFile its.page_bytes lines cs →
-    (fate : Fate) → OpensAndServes its image (Ran name its image extras cs) fate → Running name bytes lines fate
+    (fate : Ending) → OpensAndServes its image (Ran name its image extras cs) fate → Running name bytes lines fate
 running_on name bytes lines its image extras cs read file fate h = (Ok (its, image, extras), read, ((Ok cs, file, h), refl))
 
 -- ---- an explanation
 
 pub explaining_device : (bytes : List ℕ) (its : Config) (image : List Contents) (extras : Extras) → ReadsImage bytes (Ok (its, image, extras)) →
-    (fate : Fate) → RefusesDevice its image fate → Explaining bytes fate
+    (fate : Ending) → RefusesDevice its image fate → Explaining bytes fate
 explaining_device bytes its image extras read fate h = (Ok (its, image, extras), read, ((Err h.0, h.1, h.2), refl))
 
 pub explaining_done : (bytes : List ℕ) (its : Config) (image : List Contents) (extras : Extras) → ReadsImage bytes (Ok (its, image, extras)) →

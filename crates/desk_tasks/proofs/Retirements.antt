@@ -1,24 +1,17 @@
 -- Retiring a block of the device of an image, from what its parts come to.
-use Rattle.std.proofs.Common.{◌≡◌, inl, inr, ℕ, Bool, true, false, List, Option, None, Ok, Err, refl, sym, ap, subst, ◌∙◌, unwrap_or}
-use Rattle.tx_types.specs.Config.{shape_of}
-use Rattle.tx_types.specs.declared.config.Config.{Config}
-use Rattle.tx_types.specs.declared.config.Protocol.{Protocol}
-use Rattle.flash_model.specs.Flash.{Contents, Extras, no_extras}
+use Rattle.desk_tasks.proofs.Common.{◌≡◌, inl, inr, ℕ, false, List, Option, None, Ok, Err, refl, sym, ap, subst, ◌∙◌, shape_of, Config, Protocol, Contents, Extras, MemFlashState, loaded, state_of, IsSoundImage, array_in, ReadsImage, Ending, Retiring, RefusesRetirement}
+use Rattle.std.proofs.Common.{Bool, true, unwrap_or}
+use Rattle.flash_model.specs.Flash.{no_extras}
 use Rattle.flash_model.specs.Retiring.{one_more}
-use Rattle.mem_flash.specs.Memory.{MemoryState, loaded, state_of}
-use Rattle.version_index.specs.Images.{IsSoundImage, array_in}
 use Rattle.array_machine.specs.ArrayState.{ArrayState, Pages, idle}
 use Rattle.array_machine.specs.Step.{settled}
 use Rattle.tx_engine.specs.Always.{DevicesStand}
 use Rattle.tx_engine.specs.DeviceCalls.{RetiresDevice}
 use Rattle.tx_engine.specs.Exits.{is_there}
 use Rattle.tx_engine.specs.Opens.{Mounts}
-use Rattle.tx_engine.specs.Standing.{Standing, Stands}
-use Rattle.image_desk.specs.Loading.{ReadsImage}
-use Rattle.desk_tasks.specs.Fate.{Fate, Retired}
+use Rattle.tx_engine.specs.DeviceState.{DeviceState, Stands}
+use Rattle.desk_tasks.specs.Ending.{Retired}
 use Rattle.desk_tasks.specs.Retirements.{IsBlankBlock, LeavesRetired, RetiresIdle, block_refusal}
-use Rattle.desk_tasks.specs.Steps.{Retiring}
-use Rattle.desk_tasks.specs.Stops.{RefusesRetirement}
 
 -- a device with nothing open
 pub idle_again : (s : ArrayState) (pages : Pages) → s ≡ idle pages → s ≡ idle s.pages
@@ -30,7 +23,7 @@ settled_idle true pages = refl
 settled_idle false pages = refl
 
 -- what a device with nothing open is left with
-pub retires_idle : (old new : Standing MemoryState) (block : ℕ) (p : Protocol) → old.machine ≡ idle old.machine.pages → Stands state_of new →
+pub retires_idle : (old new : DeviceState MemFlashState) (block : ℕ) (p : Protocol) → old.machine ≡ idle old.machine.pages → Stands state_of new →
     new.config.protocol ≡ p → DevicesStand state_of p → RetiresDevice state_of old new block (Ok tt) → RetiresIdle old new block
 retires_idle old new block p none stands rule laws retires = record {
   shape = shape;
@@ -55,27 +48,27 @@ retires_idle old new block p none stands rule laws retires = record {
 
 -- ---- the flash that is left, from a device that was mounted
 
-module _ (its : Config) (flash : MemoryState) (opened : Standing MemoryState) (ready : flash ≡ loaded (shape_of its) flash.image flash.extras)
+module _ (its : Config) (flash : MemFlashState) (opened : DeviceState MemFlashState) (ready : flash ≡ loaded (shape_of its) flash.image flash.extras)
     (mounts : Mounts state_of flash its opened) where
   pub opened_shape : opened.flash.shape ≡ shape_of its
-  opened_shape = mounts.carries.shape ∙ ap (λ (s : MemoryState). s.shape) ready
+  opened_shape = mounts.carries.shape ∙ ap (λ (s : MemFlashState). s.shape) ready
 
   opened_extras : opened.flash.extras ≡ flash.extras
   opened_extras = ap (λ extras. unwrap_or extras no_extras) mounts.carries.extras
 
-  pub opened_refusal : (block : ℕ) (refusal : Option Fate) → block_refusal opened.config opened.flash.extras block ≡ refusal →
+  pub opened_refusal : (block : ℕ) (refusal : Option Ending) → block_refusal opened.config opened.flash.extras block ≡ refusal →
       block_refusal its flash.extras block ≡ refusal
   opened_refusal block refusal e =
       subst (λ (c : Config). block_refusal c flash.extras block ≡ refusal) mounts.config
       (subst (λ (x : Extras). block_refusal opened.config x block ≡ refusal) opened_extras e)
 
-  pub leaves_retired : (block : ℕ) (new : Standing MemoryState) (left : MemoryState) →
+  pub leaves_retired : (block : ℕ) (new : DeviceState MemFlashState) (left : MemFlashState) →
       IsSoundImage its.protocol its.logical (shape_of its) flash.image → block_refusal opened.config opened.flash.extras block ≡ None →
       RetiresIdle opened new block → left ≡ new.flash → LeavesRetired its flash block left
   leaves_retired block new left sound none retires is = record {
     refusal = opened_refusal block None none;
-    shape = ap (λ (s : MemoryState). s.shape) is ∙ retires.shape ∙ opened_shape;
-    extras = ap (λ (s : MemoryState). s.extras) is ∙ retires.extras ∙ ap one_more opened_extras;
+    shape = ap (λ (s : MemFlashState). s.shape) is ∙ retires.shape ∙ opened_shape;
+    extras = ap (λ (s : MemFlashState). s.extras) is ∙ retires.extras ∙ ap one_more opened_extras;
     empties = record {
       sound = sound;
       left_sound = rw is (subst (λ (c : Config). IsSoundImage c.protocol c.logical (shape_of its) new.flash.image) mounts.config
@@ -90,7 +83,7 @@ module _ (its : Config) (flash : MemoryState) (opened : Standing MemoryState) (r
 
 module _ (name bytes : List ℕ) (block : ℕ) (its : Config) (image : List Contents) (extras : Extras)
     (read : ReadsImage bytes (Ok (its, image, extras))) where
-  pub retiring_refused : (fate : Fate) → RefusesRetirement its image extras block fate → Retiring name bytes block fate
+  pub retiring_refused : (fate : Ending) → RefusesRetirement its image extras block fate → Retiring name bytes block fate
   retiring_refused fate (inl h) = (Ok (its, image, extras), read, ((Err h.0, h.1, h.2), refl))
   retiring_refused fate (inr h) = (Ok (its, image, extras), read, ((Ok tt, h.0, rw h.1 refl), refl))
 

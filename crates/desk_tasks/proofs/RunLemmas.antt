@@ -1,17 +1,14 @@
 -- What serving gives, as a run from an image on.
-use Rattle.std.proofs.Common.{◌≡◌, ◌⊎◌, ℕ, true, false, List, [], ◌++◌, length, take, None, Some, refl, sym, ap, ap₂, ◌∙◌, subst}
-use Rattle.list_facts.proofs.Lists.{take_whole}
-use Rattle.tx_types.specs.declared.config.Config.{Config}
-use Rattle.tx_types.specs.Config.{shape_of}
-use Rattle.tx_types.specs.declared.config.Protocol.{Protocol}
-use Rattle.flash_model.specs.Flash.{IsSteady, Contents}
+use Rattle.desk_tasks.proofs.Common.{◌≡◌, ℕ, false, List, [], length, take, None, Some, refl, sym, ap, ◌∙◌, subst, Config, shape_of, Protocol, Contents, MemFlashState, loaded, state_of, IsSoundImage, records_in}
+use Rattle.std.proofs.Common.{◌⊎◌, true, ◌++◌, ap₂}
+use Rattle.list_lemmas.proofs.Lists.{take_whole}
+use Rattle.flash_model.specs.Flash.{IsSteady}
 use Rattle.flash_model.specs.Operations.{Moment, moment_of}
-use Rattle.mem_flash.specs.Memory.{MemoryState, loaded, state_of, told_of}
+use Rattle.mem_flash.specs.MemFlashState.{told_of}
 use Rattle.record_list.specs.declared.found.Found.{Found}
-use Rattle.version_index.specs.Images.{IsSoundImage, records_in}
 use Rattle.verdict_report.specs.Report.{report}
 use Rattle.host_protocol.specs.declared.command.Command.{Command}
-use Rattle.cut_replay.specs.FlashRun.{IsFlashRun, last_moment, opening_point, mentions_in}
+use Rattle.cut_replay.specs.FlashRun.{IsFlashRun, last_moment, first_point, mentions_in}
 use Rattle.cut_replay.specs.Served.{ServesRun}
 use Rattle.cut_replay.specs.Watching.{text_of_all}
 use Rattle.cut_replay.specs.Bounds.{AreFew}
@@ -19,20 +16,20 @@ use Rattle.cut_replay.proofs.Runs.{run_lengths}
 use Rattle.desk_tasks.specs.Runs.{IsRun, first_moment}
 
 -- a flash that was just loaded breaks only where it is armed
-pub is_steady : (its : Config) (flash : MemoryState) → flash ≡ loaded (shape_of its) flash.image flash.extras → IsSteady (state_of flash)
+pub is_steady : (its : Config) (flash : MemFlashState) → flash ≡ loaded (shape_of its) flash.image flash.extras → IsSteady (state_of flash)
 is_steady its flash e = record {
   live = ap (λ s. s.live) e;
-  none = let none = ap (λ (s : MemoryState). s.armed) e in subst (λ armed. ((told_of armed).cuts ≡ 0) × ((told_of armed).breaks ≡ 0)) (sym none) (refl, refl);
+  none = let none = ap (λ (s : MemFlashState). s.armed) e in subst (λ armed. ((told_of armed).cuts ≡ 0) × ((told_of armed).breaks ≡ 0)) (sym none) (refl, refl);
 }
 
-pub starts : (its : Config) (flash : MemoryState) → flash ≡ loaded (shape_of its) flash.image flash.extras →
+pub starts : (its : Config) (flash : MemFlashState) → flash ≡ loaded (shape_of its) flash.image flash.extras →
     moment_of (state_of flash) ≡ first_moment flash.image
 starts its flash e =
     ap₂ (λ (a : ℕ) (b : ℕ). let m : Moment = record { image = flash.image; programs = a; erases = b } in m)
-    (ap (λ (s : MemoryState). s.programs) e) (ap (λ (s : MemoryState). s.erases) e)
+    (ap (λ (s : MemFlashState). s.programs) e) (ap (λ (s : MemFlashState). s.erases) e)
 
 -- what serving such a flash gives
-pub is_run : (its : Config) (flash left : MemoryState) (cs : List Command) (before after : List ℕ) →
+pub is_run : (its : Config) (flash left : MemFlashState) (cs : List Command) (before after : List ℕ) →
     flash ≡ loaded (shape_of its) flash.image flash.extras → before ≡ [] →
     IsSoundImage its.protocol its.logical (shape_of its) flash.image →
     ServesRun its cs (length cs) (state_of flash) (state_of left) (record { text = Some before; kept = None }) (record { text = Some after; kept = None }) →
@@ -41,7 +38,7 @@ is_run its flash left cs before after e none is_sound served =
     let start = starts its flash e in
     let told : after ≡ before ++ text_of_all (take (length cs) served.replies) = cc (served.text) in
     let whole = take_whole (length cs) served.replies (run_lengths its (mentions_in its (moment_of (state_of flash))) false
-    (opening_point its served.run.up (moment_of (state_of flash))) cs served.replies served.points served.run.runs).0 in
+    (first_point its served.run.up (moment_of (state_of flash))) cs served.replies served.points served.run.runs).0 in
     let from = subst (λ m. (run : IsFlashRun its m cs served.replies served.points) × ((cs ≡ []) ⊎ (run.up ≡ true))) start
     (served.run, served.up (is_steady its flash e)) in
     record {
@@ -52,7 +49,7 @@ is_run its flash left cs before after e none is_sound served =
       up = from.1;
       last = ap (λ m. m.image) (served.last ∙ ap (λ m. last_moment m served.points) start);
       said = rw (none, whole) at told;
-      few = subst (λ armed. AreFew (told_of armed).cuts (told_of armed).breaks cs served.replies) (ap (λ (s : MemoryState). s.armed) e) served.spends.few;
+      few = subst (λ armed. AreFew (told_of armed).cuts (told_of armed).breaks cs served.replies) (ap (λ (s : MemFlashState). s.armed) e) served.spends.few;
     }
 
 -- the report on the list of the records of an image, under the rule of its protocol

@@ -1,14 +1,13 @@
 -- The blank image of a default device is sound.
-use Rattle.std.proofs.Common.{◌≡◌, ℕ, zero, suc, [], refl, arith}
-use Rattle.std.specs.Prelude.{All, replicate}
+use Rattle.desk_tasks.proofs.Common.{◌≡◌, ℕ, suc, [], refl, arith, All, Protocol, shape_of, IsSoundImage}
+use Rattle.std.proofs.Common.{zero}
+use Rattle.std.specs.Prelude.{replicate}
 use Rattle.std.proofs.lemmas.List.Elements.{All-cons, All-nil}
-use Rattle.tx_types.specs.declared.config.Protocol.{Protocol}
-use Rattle.tx_types.specs.Config.{shape_of}
 use Rattle.flash_model.specs.Flash.{blank}
 use Rattle.record_list.specs.SoundList.{Law, Keeps}
 use Rattle.record_list.specs.Counts.{KeepsCount}
 use Rattle.record_list.specs.Written.{BytesAgree, IsSoundWritten}
-use Rattle.version_index.specs.Images.{IsSoundImage, SlotReads, written_in}
+use Rattle.version_index.specs.Images.{SlotReads, written_in}
 use Rattle.desk_tasks.specs.Runs.{blank_image, default_config}
 
 no_records : (protocol : Protocol) → written_in protocol (blank_image (default_config protocol)) ≡ []

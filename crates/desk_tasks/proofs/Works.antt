@@ -1,86 +1,83 @@
 -- How the work of a task ends, from its parts.
-use Rattle.std.proofs.Common.{◌≡◌, inl, inr, ℕ, suc, ◌<◌, List, [], ◌∷◌, length, Option, None, Some, Result, Ok, Err, refl, ap, ◌∙◌}
-use Rattle.std.specs.Prelude.{All, IfErr, IfSome}
+use Rattle.desk_tasks.proofs.Common.{◌≡◌, inl, inr, ℕ, suc, ◌<◌, List, [], ◌∷◌, length, Option, None, Some, Result, Ok, Err, refl, ap, ◌∙◌, All, Config, Contents, Extras, after_answer, as_before, Ending, Image, Reading}
+use Rattle.std.specs.Prelude.{IfErr, IfSome}
 use Rattle.std.specs.Option.{option_map}
 use Rattle.std.specs.Result.{IsErrAnd}
 use Rattle.std.proofs.lemmas.List.Elements.{All-cons, All-nil}
-use Rattle.tx_types.specs.declared.config.Config.{Config}
-use Rattle.flash_model.specs.Flash.{Contents, Extras}
 use Rattle.desk_io.specs.Desk as found
-use Rattle.desk_io.specs.Desk.{DeskContents, DeskState, FileFound, Finds, after_answer, after_memory, as_before, called, file_at, file_found}
-use Rattle.image_desk.specs.Loading.{Fetches, ImageStops, RefusesImage}
-use Rattle.image_desk.specs.Refusals.{ImageFate, Missing, TooLong, image_refused}
-use Rattle.image_desk.specs.declared.stop.ImageStop.{ImageStop}
-use Rattle.image_desk.specs.declared.stop.ImageStop.TheVariants as image
-use Rattle.desk_tasks.specs.Fate.{Fate, Image}
-use Rattle.desk_tasks.specs.Steps.{IsFate, Reading}
-use Rattle.desk_tasks.specs.Stops.{StopsBy, Works, WorksTo, refused, stop_of}
+use Rattle.desk_io.specs.Desk.{DeskContents, DeskState, FileFound, Finds, after_memory, called, file_at, file_found}
+use Rattle.program_base.specs.Loading.{Fetches, ImageStops, RefusesImage}
+use Rattle.program_base.specs.Refusals.{ImageEnding, Missing, TooLong, image_refused}
+use Rattle.program_base.specs.declared.stop.ImageStop.{ImageStop}
+use Rattle.program_base.specs.declared.stop.ImageStop.TheVariants as image
+use Rattle.desk_tasks.specs.Steps.{IsEnding}
+use Rattle.desk_tasks.specs.Stops.{StopsBy, Works, WorksTo, refused, failure_of}
 use Rattle.desk_tasks.specs.Loads.{CameThrough, FindsBytes, after_loads}
-use Rattle.desk_tasks.specs.Asked.{Asked, IsWorkedAfter, files_of}
-use Rattle.desk_tasks.specs.declared.product.Product.{Product}
-use Rattle.desk_tasks.specs.declared.product.Stop.{Stop}
-use Rattle.desk_tasks.specs.declared.product.Stop.TheVariants as stop
+use Rattle.desk_tasks.specs.Request.{Request, IsWorkedAfter, files_of}
+use Rattle.desk_tasks.specs.declared.output.Output.{Output}
+use Rattle.desk_tasks.specs.declared.output.Failure.{Failure}
+use Rattle.desk_tasks.specs.declared.output.Failure.TheVariants as stop
 
 -- a step that is refused in one way is refused in another
-pub stops_by : (P Q : Fate → Type 0) → ((fate : Fate) → P fate → Q fate) → (stopped : Stop) → StopsBy P stopped → StopsBy Q stopped
+pub stops_by : (P Q : Ending → Type 0) → ((fate : Ending) → P fate → Q fate) → (stopped : Failure) → StopsBy P stopped → StopsBy Q stopped
 stops_by P Q leads (stop.Refused refusal) h = leads (refused refusal) h
 stops_by P Q leads stop.Fault h = h
 stops_by P Q leads stop.Memory h = h
 
 -- work that comes to a fate in one way comes to it in another
-pub works_on : (P Q : Fate → Type 0) → ((fate : Fate) → P fate → Q fate) → (result : Result Product Stop) → WorksTo P result → WorksTo Q result
+pub works_on : (P Q : Ending → Type 0) → ((fate : Ending) → P fate → Q fate) → (result : Result Output Failure) → WorksTo P result → WorksTo Q result
 works_on P Q leads (Ok product) h = (h.0, leads h.0 h.1, h.2, h.3)
 works_on P Q leads (Err stopped) h = stops_by P Q leads stopped h
 
 -- the work stops where a step does
-pub stopped : (P Q : Fate → Type 0) (result : Result Product Stop) (e : Stop) → IsErrAnd result (λ x. x ≡ e) →
-    ((fate : Fate) → P fate → Q fate) → StopsBy P e → WorksTo Q result
+pub stopped : (P Q : Ending → Type 0) (result : Result Output Failure) (e : Failure) → IsErrAnd result (λ x. x ≡ e) →
+    ((fate : Ending) → P fate → Q fate) → StopsBy P e → WorksTo Q result
 stopped P Q (Ok product) e same leads h = absurd same
 stopped P Q (Err x) e same leads h = stops_by P Q leads x (rw same h)
 
 -- what nothing refuses stops only where memory runs out
-pub only_memory : (P : Fate → Type 0) → ((fate : Fate) → P fate → ⊥) → (stopped : Stop) → StopsBy P stopped → stopped ≡ stop.Memory
+pub only_memory : (P : Ending → Type 0) → ((fate : Ending) → P fate → ⊥) → (stopped : Failure) → StopsBy P stopped → stopped ≡ stop.Memory
 only_memory P never (stop.Refused refusal) h = absurd (never (refused refusal) h)
 only_memory P never stop.Fault h = absurd h
 only_memory P never stop.Memory h = refl
 
 -- and so does what stops with it
-pub memory_alone : {T : Type 0} → (result : Result T Stop) (e : Stop) → IsErrAnd result (λ x. x ≡ e) → e ≡ stop.Memory →
+pub memory_alone : {T : Type 0} → (result : Result T Failure) (e : Failure) → IsErrAnd result (λ x. x ≡ e) → e ≡ stop.Memory →
     IfErr result (λ x. x ≡ stop.Memory)
 memory_alone (Ok done) e same memory = absurd same
 memory_alone (Err x) e same memory = same ∙ memory
 
-pub out_of_memory : (Q : Fate → Type 0) (result : Result Product Stop) (e : Stop) → IsErrAnd result (λ x. x ≡ e) →
+pub out_of_memory : (Q : Ending → Type 0) (result : Result Output Failure) (e : Failure) → IsErrAnd result (λ x. x ≡ e) →
     e ≡ stop.Memory → WorksTo Q result
 out_of_memory Q (Ok product) e same memory = absurd same
 out_of_memory Q (Err x) e same memory = rw (same, memory) tt
 
-pub memory_stops : {T : Type 0} → (P : Fate → Type 0) (result : Result T Stop) → IfErr result (λ e. e ≡ stop.Memory) → IfErr result (StopsBy P)
+pub memory_stops : {T : Type 0} → (P : Ending → Type 0) (result : Result T Failure) → IfErr result (λ e. e ≡ stop.Memory) → IfErr result (StopsBy P)
 memory_stops P (Ok done) h = h
 memory_stops P (Err x) h = rw h tt
 
 -- so is what stops where reading an image does
-image_stops_by : (P : ImageFate → Type 0) (Q : Fate → Type 0) → ((why : ImageFate) → P why → Q (Image why)) → (stopped : ImageStop) →
-    ImageStops P stopped → StopsBy Q (stop_of stopped)
+image_stops_by : (P : ImageEnding → Type 0) (Q : Ending → Type 0) → ((why : ImageEnding) → P why → Q (Image why)) → (stopped : ImageStop) →
+    ImageStops P stopped → StopsBy Q (failure_of stopped)
 image_stops_by P Q leads (image.Refused refusal) h = leads (image_refused refusal) h
 image_stops_by P Q leads image.Fault h = h
 image_stops_by P Q leads image.Memory h = h
 
-pub unread : (P : ImageFate → Type 0) (Q : Fate → Type 0) (result : Result Product Stop) (e : ImageStop) → IsErrAnd result (λ x. x ≡ stop_of e) →
-    ((why : ImageFate) → P why → Q (Image why)) → ImageStops P e → WorksTo Q result
+pub unread : (P : ImageEnding → Type 0) (Q : Ending → Type 0) (result : Result Output Failure) (e : ImageStop) → IsErrAnd result (λ x. x ≡ failure_of e) →
+    ((why : ImageEnding) → P why → Q (Image why)) → ImageStops P e → WorksTo Q result
 unread P Q (Ok product) e same leads h = absurd same
 unread P Q (Err x) e same leads h = rw same (image_stops_by P Q leads e h)
 
 -- the work on the bytes of an image stops where reading them does
-pub unread_image : (bytes : List ℕ) (next : Config → List Contents → Extras → Fate → Type 0) (result : Result Product Stop) (e : ImageStop) →
-    IsErrAnd result (λ x. x ≡ stop_of e) → ImageStops (RefusesImage bytes) e → WorksTo (Reading bytes next) result
+pub unread_image : (bytes : List ℕ) (next : Config → List Contents → Extras → Ending → Type 0) (result : Result Output Failure) (e : ImageStop) →
+    IsErrAnd result (λ x. x ≡ failure_of e) → ImageStops (RefusesImage bytes) e → WorksTo (Reading bytes next) result
 unread_image bytes next result e same h =
     unread (RefusesImage bytes) (Reading bytes next) result e same (λ why refuses. (Err refuses.0, refuses.1, (ap Image refuses.2, refl))) h
 
 -- after its loads, the work of a task comes to what its last part comes to
-pub works : (task : Option Asked) (old new : DeskState) (n : ℕ) (comes : Fate → Type 0) (result : Result Product Stop) →
+pub works : (task : Option Request) (old new : DeskState) (n : ℕ) (comes : Ending → Type 0) (result : Result Output Failure) →
     new ≡ after_loads n old → IsWorkedAfter task n → CameThrough task old n →
-    ((fate : Fate) → comes fate → IsFate task old fate n) → WorksTo comes result → Works task old new result
+    ((fate : Ending) → comes fate → IsEnding task old fate n) → WorksTo comes result → Works task old new result
 works task old new n comes (Ok product) loaded all came leads h = (h.0, (n, leads h.0 h.1, loaded), h.2, h.3)
 works task old new n comes (Err (stop.Refused refusal)) loaded all came leads h = (n, leads (refused refusal) h, loaded)
 works task old new n comes (Err stop.Fault) loaded all came leads h = absurd h
@@ -88,11 +85,11 @@ works task old new n comes (Err stop.Memory) loaded all came leads h =
     inr (n, all, came, loaded)
 
 -- the work of a task ends where a load gives no bytes
-unfetched_by : (task : Option Asked) (old mid new : DeskState) (n : ℕ) (name : List ℕ) (stopped : ImageStop) →
+unfetched_by : (task : Option Request) (old mid new : DeskState) (n : ℕ) (name : List ℕ) (stopped : ImageStop) →
     mid ≡ after_loads n old → n < length (files_of task) → CameThrough task old n →
-    (Finds mid name found.Missing → IsFate task old (Image (Missing name)) (suc n)) →
-    (Finds mid name found.TooLong → IsFate task old (Image (TooLong name)) (suc n)) →
-    Fetches mid new name (Err stopped) → Works task old new (Err (stop_of stopped))
+    (Finds mid name found.Missing → IsEnding task old (Image (Missing name)) (suc n)) →
+    (Finds mid name found.TooLong → IsEnding task old (Image (TooLong name)) (suc n)) →
+    Fetches mid new name (Err stopped) → Works task old new (Err (failure_of stopped))
 unfetched_by task old mid new n name (image.Refused refusal) loaded most came missing long h =
     let after : new ≡ after_loads (suc n) old = h.0 ∙ ap (after_answer as_before) loaded in
     elim h.1 [
@@ -102,10 +99,10 @@ unfetched_by task old mid new n name (image.Refused refusal) loaded most came mi
 unfetched_by task old mid new n name image.Fault loaded most came missing long h = (n, most, came, rw (← loaded) h)
 unfetched_by task old mid new n name image.Memory loaded most came missing long h = inl (n, most, came, h ∙ ap after_memory loaded)
 
-pub unfetched : (task : Option Asked) (old mid new : DeskState) (n : ℕ) (name : List ℕ) (stopped : ImageStop) (result : Result Product Stop) →
-    IsErrAnd result (λ x. x ≡ stop_of stopped) → mid ≡ after_loads n old → n < length (files_of task) → CameThrough task old n →
-    (Finds mid name found.Missing → IsFate task old (Image (Missing name)) (suc n)) →
-    (Finds mid name found.TooLong → IsFate task old (Image (TooLong name)) (suc n)) →
+pub unfetched : (task : Option Request) (old mid new : DeskState) (n : ℕ) (name : List ℕ) (stopped : ImageStop) (result : Result Output Failure) →
+    IsErrAnd result (λ x. x ≡ failure_of stopped) → mid ≡ after_loads n old → n < length (files_of task) → CameThrough task old n →
+    (Finds mid name found.Missing → IsEnding task old (Image (Missing name)) (suc n)) →
+    (Finds mid name found.TooLong → IsEnding task old (Image (TooLong name)) (suc n)) →
     Fetches mid new name (Err stopped) → Works task old new result
 unfetched task old mid new n name stopped (Ok product) same loaded most came missing long h = absurd same
 unfetched task old mid new n name stopped (Err x) same loaded most came missing long h =

@@ -9,7 +9,7 @@ use Rattle.array_machine.specs.ArrayState.{Pages, page_at}
 use Rattle.lane_scan.specs.Scans.{DifferFirstAt}
 use Rattle.verdict_report.specs.Report.{pages, report}
 use Rattle.verdict_check.specs.Texts.{IsFirstDifference}
-use Rattle.desk_tasks.specs.Fate.{Fate, Good, WrongLine, Same, DifferShape, DifferBlank, DifferAt}
+use Rattle.desk_tasks.specs.Ending.{Ending, Good, WrongLine, Same, DifferShape, DifferBlank, DifferAt}
 
 -- the text is the report on the records of this image, which explains so many pages; or this is the first line in
 -- which the two differ, or which one of them alone has
@@ -21,14 +21,14 @@ Checks its image text (Err k) =
     IsFirstDifference (report its.protocol (records_in its.protocol image) its.logical) text k
 
 -- the same of a list of records, by the fate
-abbrev pub ChecksList : Protocol → List Found → ℕ → List ℕ → Fate → Type 0
+abbrev pub ChecksList : Protocol → List Found → ℕ → List ℕ → Ending → Type 0
 ChecksList protocol list logical text fate =
     ((n : ℕ) × (text ≡ report protocol list logical) × (n ≡ length (pages list logical)) × (fate ≡ Good n))
     ⊎ ((k : ℕ) × IsFirstDifference (report protocol list logical) text k × (fate ≡ WrongLine k))
 
-abbrev pub check_fate : Result ℕ ℕ → Fate
-check_fate (Ok n) = Good n
-check_fate (Err k) = WrongLine k
+abbrev pub check_ending : Result ℕ ℕ → Ending
+check_ending (Ok n) = Good n
+check_ending (Err k) = WrongLine k
 
 -- the array of a device
 abbrev pub array_of_device : Config → List Contents → Pages
@@ -72,8 +72,8 @@ Compares a image b other (ByteAt page at) =
     HaveOneShape a b × (page < a.logical) × IsFirstPage (array_of_device a image) (array_of_device b other) page
     × DifferAtByte (page_at (array_of_device a image) page) (page_at (array_of_device b other) page) at
 
-abbrev pub comparison_fate : Config → Comparison → Fate
-comparison_fate a OneArray = Same a.logical
-comparison_fate a Shapes = DifferShape
-comparison_fate a (BlankAt page) = DifferBlank page
-comparison_fate a (ByteAt page at) = DifferAt page at
+abbrev pub comparison_ending : Config → Comparison → Ending
+comparison_ending a OneArray = Same a.logical
+comparison_ending a Shapes = DifferShape
+comparison_ending a (BlankAt page) = DifferBlank page
+comparison_ending a (ByteAt page at) = DifferAt page at

@@ -2,7 +2,7 @@
 use Rattle.std.specs.Prelude.{◌≡◌, ◌⊎◌, ℕ, ◌<◌, List, Option, None, Some}
 use Rattle.tx_types.specs.declared.config.Config.{Config}
 use Rattle.array_machine.specs.ArrayState.{Pages, page_at}
-use Rattle.desk_tasks.specs.Fate.{Fate, Same, DifferShape, DifferBlank, DifferAt}
+use Rattle.desk_tasks.specs.Ending.{Ending, Same, DifferShape, DifferBlank, DifferAt}
 use Rattle.desk_tasks.specs.Checking.{HaveOneShape, DifferAtByte}
 use Rattle.desk_tasks.specs.declared.difference.Difference.{Difference}
 use Rattle.desk_tasks.specs.declared.difference.Difference.TheVariants as difference
@@ -26,14 +26,14 @@ FindsFirst a b logical (Some found) =
     × ((p : ℕ) → p < page → page_at a p ≡ page_at b p)
 
 -- the fate where this is the first difference of two arrays of so many pages
-abbrev pub difference_fate : ℕ → Option Difference → Fate
-difference_fate logical None = Same logical
-difference_fate logical (Some (difference.Blank page)) = DifferBlank page
-difference_fate logical (Some (difference.At page at)) = DifferAt page at
+abbrev pub difference_ending : ℕ → Option Difference → Ending
+difference_ending logical None = Same logical
+difference_ending logical (Some (difference.Blank page)) = DifferBlank page
+difference_ending logical (Some (difference.At page at)) = DifferAt page at
 
 -- what comes of comparing two devices of these arrays: their shapes differ, or this is found
-abbrev pub ComesTo : Config → Pages → Config → Pages → Fate → Type 0
+abbrev pub ComesTo : Config → Pages → Config → Pages → Ending → Type 0
 ComesTo a pages b others fate =
     ((HaveOneShape a b → ⊥) × (fate ≡ DifferShape))
     ⊎ (HaveOneShape a b × ((found : Option Difference) × FindsFirst pages others a.logical found
-    × (fate ≡ difference_fate a.logical found)))
+    × (fate ≡ difference_ending a.logical found)))

@@ -14,8 +14,8 @@ use Rattle.image_file.specs.Spelling.{Spells}
 use Rattle.drive_gen.specs.Work.{generated}
 use Rattle.drive_gen.specs.Summary.{summary_line}
 use Rattle.page_keys.specs.declared.command.KeyCommand.{KeyCommand}
-use Rattle.image_desk.specs.Refusals.{line}
-use Rattle.desk_tasks.specs.Fate.{Fate, Tried, Formatted, Ran, Explained, Driven, Keyed, Retired, refusal_line}
+use Rattle.program_base.specs.Refusals.{line}
+use Rattle.desk_tasks.specs.Ending.{Ending, Tried, Formatted, Ran, Explained, Driven, Keyed, Retired, refusal_line}
 use Rattle.desk_tasks.specs.KeyWork.{IsKeysRun}
 use Rattle.desk_tasks.specs.Retirements.{EmptiesBlock, new_extras}
 use Rattle.desk_tasks.specs.Runs.{IsRun, default_config, blank_image}
@@ -26,18 +26,18 @@ pub record SavedFile : Type 0 where
   pub bytes : List ℕ
 
 -- what is saved, and what is said then
-pub record Given : Type 0 where
+pub record OutputState : Type 0 where
   pub saved : Option SavedFile
   pub text : List ℕ
 
 -- the replies of a run on a fresh default device
-pub record IsTried (commands : List Command) (p : Given) : Type 0 where
+pub record IsTried (commands : List Command) (p : OutputState) : Type 0 where
   pub saves_nothing : p.saved ≡ None
   pub left : List Contents
   pub run : IsRun (default_config Scc) (blank_image (default_config Scc)) commands left p.text
 
 -- the file of a blank image, of which so many blocks may be retired and none is, and a line with the number of its slots
-pub record IsFormatted (name : List ℕ) (its : Config) (allowance : ℕ) (p : Given) : Type 0 where
+pub record IsFormatted (name : List ℕ) (its : Config) (allowance : ℕ) (p : OutputState) : Type 0 where
   pub bytes : List ℕ
   pub saves : p.saved ≡ Some (record { name = name; bytes = bytes })
   pub spelled : Spells bytes its (blank_image its) (new_extras allowance)
@@ -47,7 +47,7 @@ pub record IsFormatted (name : List ℕ) (its : Config) (allowance : ℕ) (p : G
 -- the replies of a run from this image on, and the file of the image with which the run ends, under
 -- the same configuration and with the same retired blocks
 pub record IsRan (name : List ℕ) (its : Config) (image : List Contents) (extras : Extras)
-    (commands : List Command) (p : Given) : Type 0 where
+    (commands : List Command) (p : OutputState) : Type 0 where
   pub bytes : List ℕ
   pub saves : p.saved ≡ Some (record { name = name; bytes = bytes })
   pub left : List Contents
@@ -55,14 +55,14 @@ pub record IsRan (name : List ℕ) (its : Config) (image : List Contents) (extra
   pub spelled : Spells bytes its left extras
 
 -- the report on the records of this image, which is sound
-pub record IsExplained (its : Config) (image : List Contents) (p : Given) : Type 0 where
+pub record IsExplained (its : Config) (image : List Contents) (p : OutputState) : Type 0 where
   pub saves_nothing : p.saved ≡ None
   pub sound : IsSoundImage its.protocol its.logical (shape_of its) image
   pub said : p.text ≡ report its.protocol (records_in its.protocol image) its.logical
 
 -- the summary of the replies of a run over the commands that are drawn, on a fresh default device
 -- of this protocol
-pub record IsDriven (start count : ℕ) (protocol : Protocol) (p : Given) : Type 0 where
+pub record IsDriven (start count : ℕ) (protocol : Protocol) (p : OutputState) : Type 0 where
   pub saves_nothing : p.saved ≡ None
   pub left : List Contents
   pub replies : List ℕ
@@ -75,7 +75,7 @@ pub record IsDriven (start count : ℕ) (protocol : Protocol) (p : Given) : Type
 -- the replies of a run of the map machine from this image on, whose pages are buckets, and the file of the image with which
 -- the run ends, under the same configuration and with the same retired blocks
 pub record IsKeyed (name : List ℕ) (its : Config) (image : List Contents) (extras : Extras)
-    (commands : List KeyCommand) (p : Given) : Type 0 where
+    (commands : List KeyCommand) (p : OutputState) : Type 0 where
   pub bytes : List ℕ
   pub saves : p.saved ≡ Some (record { name = name; bytes = bytes })
   pub left : List Contents
@@ -85,7 +85,7 @@ pub record IsKeyed (name : List ℕ) (its : Config) (image : List Contents) (ext
 -- the file of the image in which a block was retired, under the same configuration and with one block more retired, and a
 -- line that names the block
 pub record IsRetired (name : List ℕ) (its : Config) (image : List Contents) (extras : Extras)
-    (block : ℕ) (p : Given) : Type 0 where
+    (block : ℕ) (p : OutputState) : Type 0 where
   pub bytes : List ℕ
   pub saves : p.saved ≡ Some (record { name = name; bytes = bytes })
   pub left : List Contents
@@ -94,12 +94,12 @@ pub record IsRetired (name : List ℕ) (its : Config) (image : List Contents) (e
   pub said : p.text ≡ line (codes "retired " ++ decimal block)
 
 -- a line, and no file: what was found, or a refusal
-pub record IsRefused (text : List ℕ) (p : Given) : Type 0 where
+pub record IsRefused (text : List ℕ) (p : OutputState) : Type 0 where
   pub saves_nothing : p.saved ≡ None
   pub said : p.text ≡ text
 
 -- what a fate gives
-abbrev pub Gives : Fate → Given → Type 0
+abbrev pub Gives : Ending → OutputState → Type 0
 Gives (Tried commands) p = IsTried commands p
 Gives (Formatted name its allowance) p = IsFormatted name its allowance p
 Gives (Ran name its image extras commands) p = IsRan name its image extras commands p

@@ -11,7 +11,7 @@ use Rattle.page_keys.specs.Scripts.{IsScript, IsFirstBadScriptLine}
 use Rattle.page_keys.specs.Stores.{IsFirstBad}
 use Rattle.page_keys.specs.declared.command.KeyCommand.{KeyCommand}
 use Rattle.page_keys.specs.declared.key_reply.KeyReply.{KeyReply}
-use Rattle.desk_tasks.specs.Fate.{Fate, BadLine, BadBucket}
+use Rattle.desk_tasks.specs.Ending.{Ending, BadLine, BadBucket}
 use Rattle.desk_tasks.specs.Runs.{first_moment}
 
 -- There is a run of the map machine over these commands, from the map of this image on, with nothing counted. It ends with
@@ -33,13 +33,13 @@ abbrev pub ParsesScript : List ℕ → Result (List KeyCommand) ℕ → Type 0
 ParsesScript bytes (Ok commands) = IsScript bytes commands
 ParsesScript bytes (Err n) = IsFirstBadScriptLine bytes n
 
-abbrev pub AfterScript : (List KeyCommand → Fate → Type 0) → Result (List KeyCommand) ℕ → Fate →
+abbrev pub AfterScript : (List KeyCommand → Ending → Type 0) → Result (List KeyCommand) ℕ → Ending →
     Type 0
 AfterScript next (Ok commands) fate = next commands fate
 AfterScript next (Err n) fate = fate ≡ BadLine n
 
 -- the bytes of a script are read, and then comes what the commands give
-abbrev pub ParsingScript : List ℕ → (List KeyCommand → Fate → Type 0) → Fate → Type 0
+abbrev pub ParsingScript : List ℕ → (List KeyCommand → Ending → Type 0) → Ending → Type 0
 ParsingScript bytes next fate =
     (parsed : Result (List KeyCommand) ℕ) × ParsesScript bytes parsed × AfterScript next parsed fate
 
@@ -48,11 +48,11 @@ abbrev pub HoldsKeys : Config → List Contents → Result (Unit {0}) ℕ → Ty
 HoldsKeys its image (Ok u) = AreBuckets its (array_in its.protocol its.logical image)
 HoldsKeys its image (Err page) = IsFirstBad its (array_in its.protocol its.logical image) page
 
-abbrev pub AfterBuckets : Fate → Result (Unit {0}) ℕ → Fate → Type 0
+abbrev pub AfterBuckets : Ending → Result (Unit {0}) ℕ → Ending → Type 0
 AfterBuckets done (Ok u) fate = fate ≡ done
 AfterBuckets done (Err page) fate = fate ≡ BadBucket page
 
 -- the store of an image is opened, and then all is done
-abbrev pub OpensStore : Config → List Contents → Fate → Fate → Type 0
+abbrev pub OpensStore : Config → List Contents → Ending → Ending → Type 0
 OpensStore its image done fate =
     (held : Result (Unit {0}) ℕ) × HoldsKeys its image held × AfterBuckets done held fate

@@ -1,6 +1,6 @@
 pub mod Numbers
-pub mod Asked
-pub mod Fate
+pub mod Request
+pub mod Ending
 pub mod Loads
 pub mod Retirements
 pub mod Runs

@@ -4,24 +4,24 @@ use Rattle.tx_types.specs.Config.{blocks_of, shape_of, slots_of}
 use Rattle.tx_types.specs.declared.config.Config.{Config}
 use Rattle.flash_model.specs.Flash.{Contents, Extras, blank, slot_at}
 use Rattle.flash_model.specs.Retiring.{one_more}
-use Rattle.mem_flash.specs.Memory.{MemoryState}
+use Rattle.mem_flash.specs.MemFlashState.{MemFlashState}
 use Rattle.version_index.specs.Images.{IsSoundImage, array_in}
-use Rattle.tx_engine.specs.Standing.{Standing}
-use Rattle.desk_tasks.specs.Fate.{Fate, RefusedBlock, RefusedWorn}
+use Rattle.tx_engine.specs.DeviceState.{DeviceState}
+use Rattle.desk_tasks.specs.Ending.{Ending, RefusedBlock, RefusedWorn}
 
 -- so many blocks may be retired, and none is
 abbrev pub new_extras : ℕ → Extras
 new_extras allowance = record { allowance = allowance; retired = 0 }
 
 -- why no block is left, if none is: as many were retired as may be
-abbrev pub worn_fate : Extras → Option Fate
-worn_fate extras =
+abbrev pub worn_ending : Extras → Option Ending
+worn_ending extras =
     if extras.retired == extras.allowance then Some (RefusedWorn extras.allowance) else None
 
 -- why a block is not retired, if it is not: first that there is no such block, and then that none is left
-abbrev pub block_refusal : Config → Extras → ℕ → Option Fate
+abbrev pub block_refusal : Config → Extras → ℕ → Option Ending
 block_refusal its extras block =
-    if nat_lt block (blocks_of (shape_of its)) then worn_fate extras else Some (RefusedBlock block)
+    if nat_lt block (blocks_of (shape_of its)) then worn_ending extras else Some (RefusedBlock block)
 
 -- each slot of the block is blank
 abbrev pub IsBlankBlock : Config → List Contents → ℕ → Type 0
@@ -39,7 +39,7 @@ pub record EmptiesBlock (its : Config) (image : List Contents) (block : ℕ)
 
 -- A block of a device with nothing open was retired. The image is sound, its array is that of the device, and the block is
 -- all blank in it.
-pub record RetiresIdle (old new : Standing MemoryState) (block : ℕ) : Type 0 where
+pub record RetiresIdle (old new : DeviceState MemFlashState) (block : ℕ) : Type 0 where
   pub shape : new.flash.shape ≡ old.flash.shape
   pub extras : new.flash.extras ≡ one_more old.flash.extras
   pub sound : IsSoundImage old.config.protocol old.config.logical old.flash.shape new.flash.image
@@ -47,8 +47,8 @@ pub record RetiresIdle (old new : Standing MemoryState) (block : ℕ) : Type 0 w
   pub blank : IsBlankBlock old.config new.flash.image block
 
 -- a block of the device of a flash was retired, and this flash is left
-pub record LeavesRetired (its : Config) (flash : MemoryState) (block : ℕ)
-    (left : MemoryState) : Type 0 where
+pub record LeavesRetired (its : Config) (flash : MemFlashState) (block : ℕ)
+    (left : MemFlashState) : Type 0 where
   pub refusal : block_refusal its flash.extras block ≡ None
   pub shape : left.shape ≡ shape_of its
   pub extras : left.extras ≡ one_more flash.extras

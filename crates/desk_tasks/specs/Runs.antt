@@ -10,7 +10,7 @@ use Rattle.version_index.specs.Images.{IsSoundImage}
 use Rattle.tx_engine.specs.ArrayState.{ArrayState}
 use Rattle.host_protocol.specs.declared.command.Command.{Command}
 use Rattle.host_protocol.specs.declared.reply.Reply.{Reply}
-use Rattle.cut_replay.specs.FlashRun.{Point, IsFlashRun, last_moment, last_state, opening_state}
+use Rattle.cut_replay.specs.FlashRun.{Point, IsFlashRun, last_moment, last_state, first_state}
 use Rattle.cut_replay.specs.Watching.{text_of_all}
 use Rattle.cut_replay.specs.Bounds.{AreFew}
 
@@ -58,4 +58,4 @@ RepliesFresh protocol commands text =
 abbrev pub machine_left : {its : Config} {image : List Contents} {commands : List Command}
     {left : List Contents} {text : List ℕ} → IsRun its image commands left text → ArrayState
 machine_left {its = its} {image = image} run =
-    (last_state (opening_state its run.run.up (first_moment image)) run.points).machine
+    (last_state (first_state its run.run.up (first_moment image)) run.points).machine

@@ -15,49 +15,49 @@ use Rattle.image_file.specs.declared.error.ImageError.{ImageError}
 use Rattle.desk_io.specs.Desk as found
 use Rattle.desk_io.specs.Desk.{DeskState, FileFound, Finds}
 use Rattle.tx_types.specs.declared.config.Protocol.TheVariants.{Scc}
-use Rattle.image_desk.specs.Loading.{ReadsImage}
-use Rattle.image_desk.specs.Refusals.{BadWords, Missing, TooLong, BadImage, Unsound}
-use Rattle.desk_tasks.specs.Fate.{Fate, Tried, Formatted, Ran, Explained, Driven, Keyed, Retired, Image, BadLine, BadConfiguration, BadAllowance}
+use Rattle.program_base.specs.Loading.{ReadsImage}
+use Rattle.program_base.specs.Refusals.{BadWords, Missing, TooLong, BadImage, Unsound}
+use Rattle.desk_tasks.specs.Ending.{Ending, Tried, Formatted, Ran, Explained, Driven, Keyed, Retired, Image, BadLine, BadConfiguration, BadAllowance}
 use Rattle.desk_tasks.specs.Retirements.{block_refusal}
 use Rattle.desk_tasks.specs.Runs.{default_config}
-use Rattle.desk_tasks.specs.Asked.{Asked, Try, Format, Run, Explain, Drive, Check, Compare, Keys, Retire}
+use Rattle.desk_tasks.specs.Request.{Request, Try, Format, Run, Explain, Drive, Check, Compare, Keys, Retire}
 use Rattle.desk_tasks.specs.KeyWork.{ParsingScript, OpensStore}
-use Rattle.desk_tasks.specs.Checking.{Checks, check_fate, Comparison, Compares, comparison_fate}
+use Rattle.desk_tasks.specs.Checking.{Checks, check_ending, Comparison, Compares, comparison_ending}
 
 -- ---- loading
 
 -- by what is found at a name: the fate, after so many loads
-abbrev pub AfterLoad : List ℕ → (List ℕ → Fate → ℕ → Type 0) → FileFound → Fate → ℕ → Type 0
+abbrev pub AfterLoad : List ℕ → (List ℕ → Ending → ℕ → Type 0) → FileFound → Ending → ℕ → Type 0
 AfterLoad name next found.Missing fate loads = (fate ≡ Image (Missing name)) × (loads ≡ 1)
 AfterLoad name next found.TooLong fate loads = (fate ≡ Image (TooLong name)) × (loads ≡ 1)
 AfterLoad name next (found.Bytes bytes) fate loads =
     (more : ℕ) × next bytes fate more × (loads ≡ more + 1)
 
 -- the file of this name is loaded, and then comes what its bytes give
-abbrev pub Loading : DeskState → List ℕ → (List ℕ → Fate → ℕ → Type 0) → Fate → ℕ → Type 0
+abbrev pub Loading : DeskState → List ℕ → (List ℕ → Ending → ℕ → Type 0) → Ending → ℕ → Type 0
 Loading desk name next fate loads =
     (found : FileFound) × Finds desk name found × AfterLoad name next found fate loads
 
 -- no file more is loaded
-abbrev pub WithoutLoad : (Fate → Type 0) → Fate → ℕ → Type 0
+abbrev pub WithoutLoad : (Ending → Type 0) → Ending → ℕ → Type 0
 WithoutLoad comes fate loads = comes fate × (loads ≡ 0)
 
 -- ---- reading an image
 
-abbrev pub AfterReading : (Config → List Contents → Extras → Fate → ℕ → Type 0) →
-    Result (Config × List Contents × Extras) ImageError → Fate → ℕ → Type 0
+abbrev pub AfterReading : (Config → List Contents → Extras → Ending → ℕ → Type 0) →
+    Result (Config × List Contents × Extras) ImageError → Ending → ℕ → Type 0
 AfterReading next (Ok read) fate loads = next read.0 read.1 read.2 fate loads
 AfterReading next (Err rule) fate loads = WithoutLoad (λ its. its ≡ Image (BadImage rule)) fate loads
 
 -- the bytes of an image file are read, and then comes what its device gives, which may load more
 abbrev pub ReadingOn :
-    List ℕ → (Config → List Contents → Extras → Fate → ℕ → Type 0) → Fate → ℕ → Type 0
+    List ℕ → (Config → List Contents → Extras → Ending → ℕ → Type 0) → Ending → ℕ → Type 0
 ReadingOn bytes next fate loads =
     (read : Result (Config × List Contents × Extras) ImageError) × ReadsImage bytes read
     × AfterReading next read fate loads
 
 -- the same where nothing more is loaded
-abbrev pub Reading : List ℕ → (Config → List Contents → Extras → Fate → Type 0) → Fate → Type 0
+abbrev pub Reading : List ℕ → (Config → List Contents → Extras → Ending → Type 0) → Ending → Type 0
 Reading bytes next fate =
     ReadingOn bytes (λ its image extras. WithoutLoad (next its image extras)) fate 0
 
@@ -68,12 +68,12 @@ abbrev pub Parses : ℕ → List ℕ → Result (List Command) ℕ → Type 0
 Parses page_bytes bytes (Ok commands) = IsFile page_bytes bytes commands
 Parses page_bytes bytes (Err n) = IsFirstBad page_bytes bytes n
 
-abbrev pub AfterParsing : (List Command → Fate → Type 0) → Result (List Command) ℕ → Fate → Type 0
+abbrev pub AfterParsing : (List Command → Ending → Type 0) → Result (List Command) ℕ → Ending → Type 0
 AfterParsing next (Ok commands) fate = next commands fate
 AfterParsing next (Err n) fate = fate ≡ BadLine n
 
 -- the bytes of a command file are read, and then comes what the commands give
-abbrev pub Parsing : ℕ → List ℕ → (List Command → Fate → Type 0) → Fate → Type 0
+abbrev pub Parsing : ℕ → List ℕ → (List Command → Ending → Type 0) → Ending → Type 0
 Parsing page_bytes bytes next fate =
     (parsed : Result (List Command) ℕ) × Parses page_bytes bytes parsed
     × AfterParsing next parsed fate
@@ -86,93 +86,93 @@ Opens its image (Ok done) = IsSoundImage its.protocol its.logical (shape_of its)
 Opens its image (Err breach) =
     IsLeastImageBreach its.protocol its.logical (shape_of its) image breach
 
-abbrev pub AfterOpening : Fate → Result (Unit {0}) Breach → Fate → Type 0
+abbrev pub AfterOpening : Ending → Result (Unit {0}) Breach → Ending → Type 0
 AfterOpening done (Ok sound) fate = fate ≡ done
 AfterOpening done (Err breach) fate = fate ≡ Image (Unsound breach)
 
 -- the device of an image is opened, and then all is done
-abbrev pub OpensAndServes : Config → List Contents → Fate → Fate → Type 0
+abbrev pub OpensAndServes : Config → List Contents → Ending → Ending → Type 0
 OpensAndServes its image done fate =
     (opened : Result (Unit {0}) Breach) × Opens its image opened × AfterOpening done opened fate
 
-abbrev pub AfterOpened : (Fate → Type 0) → Result (Unit {0}) Breach → Fate → Type 0
+abbrev pub AfterOpened : (Ending → Type 0) → Result (Unit {0}) Breach → Ending → Type 0
 AfterOpened next (Ok sound) fate = next fate
 AfterOpened next (Err breach) fate = fate ≡ Image (Unsound breach)
 
 -- the device of an image is opened, and then comes what it gives
-abbrev pub Opening : Config → List Contents → (Fate → Type 0) → Fate → Type 0
+abbrev pub Opening : Config → List Contents → (Ending → Type 0) → Ending → Type 0
 Opening its image next fate =
     (opened : Result (Unit {0}) Breach) × Opens its image opened × AfterOpened next opened fate
 
 -- ---- the tasks, from the bytes of their files on
 
-abbrev pub Trying : List ℕ → Fate → Type 0
+abbrev pub Trying : List ℕ → Ending → Type 0
 Trying lines =
     Parsing (default_config Scc).page_bytes lines (λ commands fate. fate ≡ Tried commands)
 
-abbrev pub Running : List ℕ → List ℕ → List ℕ → Fate → Type 0
+abbrev pub Running : List ℕ → List ℕ → List ℕ → Ending → Type 0
 Running name bytes lines =
     Reading bytes
     (λ its image extras. Parsing its.page_bytes lines
     (λ commands. OpensAndServes its image (Ran name its image extras commands)))
 
-abbrev pub Explaining : List ℕ → Fate → Type 0
+abbrev pub Explaining : List ℕ → Ending → Type 0
 Explaining bytes = Reading bytes (λ its image extras. OpensAndServes its image (Explained its image))
 
 -- from the device on
-abbrev pub Judging : Config → List Contents → List ℕ → Fate → Type 0
+abbrev pub Judging : Config → List Contents → List ℕ → Ending → Type 0
 Judging its image text =
     Opening its image
-    (λ fate. (check : Result ℕ ℕ) × Checks its image text check × (fate ≡ check_fate check))
+    (λ fate. (check : Result ℕ ℕ) × Checks its image text check × (fate ≡ check_ending check))
 
-abbrev pub Checking : List ℕ → List ℕ → Fate → Type 0
+abbrev pub Checking : List ℕ → List ℕ → Ending → Type 0
 Checking bytes text = Reading bytes (λ its image extras. Judging its image text)
 
 -- from both devices on
-abbrev pub Comparing : Config → List Contents → Config → List Contents → Fate → Type 0
+abbrev pub Comparing : Config → List Contents → Config → List Contents → Ending → Type 0
 Comparing a image b other =
     Opening a image
     (Opening b other
-    (λ fate. (comes : Comparison) × Compares a image b other comes × (fate ≡ comparison_fate a comes)))
+    (λ fate. (comes : Comparison) × Compares a image b other comes × (fate ≡ comparison_ending a comes)))
 
-abbrev pub Keying : List ℕ → List ℕ → List ℕ → Fate → Type 0
+abbrev pub Keying : List ℕ → List ℕ → List ℕ → Ending → Type 0
 Keying name bytes lines =
     Reading bytes
     (λ its image extras. ParsingScript lines
     (λ commands. Opening its image (OpensStore its image (Keyed name its image extras commands))))
 
-abbrev pub Retiring : List ℕ → List ℕ → ℕ → Fate → Type 0
+abbrev pub Retiring : List ℕ → List ℕ → ℕ → Ending → Type 0
 Retiring name bytes block =
     Reading bytes
     (λ its image extras. Opening its image
     (λ fate. fate ≡ unwrap_or (block_refusal its extras block) (Retired name its image extras block)))
 
 -- a configuration is checked, and then how many blocks may be retired
-abbrev pub formatting : List ℕ → Config → ℕ → Result Shape ConfigError → Fate
+abbrev pub formatting : List ℕ → Config → ℕ → Result Shape ConfigError → Ending
 formatting name its allowance (Ok shape) =
     if nat_lt max_allowance allowance then BadAllowance else Formatted name its allowance
 formatting name its allowance (Err rule) = BadConfiguration rule
 
 -- The fate of a task on a desk, which comes after so many loads.
-abbrev pub IsFate : Option Asked → DeskState → Fate → ℕ → Type 0
-IsFate None desk = WithoutLoad (λ fate. fate ≡ Image BadWords)
-IsFate (Some (Try commands)) desk = Loading desk commands (λ lines. WithoutLoad (Trying lines))
-IsFate (Some (Format image its allowance)) desk =
+abbrev pub IsEnding : Option Request → DeskState → Ending → ℕ → Type 0
+IsEnding None desk = WithoutLoad (λ fate. fate ≡ Image BadWords)
+IsEnding (Some (Try commands)) desk = Loading desk commands (λ lines. WithoutLoad (Trying lines))
+IsEnding (Some (Format image its allowance)) desk =
     WithoutLoad (λ fate. fate ≡ formatting image its allowance (checked its))
-IsFate (Some (Run image commands)) desk =
+IsEnding (Some (Run image commands)) desk =
     Loading desk image
     (λ bytes. Loading desk commands (λ lines. WithoutLoad (Running image bytes lines)))
-IsFate (Some (Explain image)) desk = Loading desk image (λ bytes. WithoutLoad (Explaining bytes))
-IsFate (Some (Drive start count protocol)) desk =
+IsEnding (Some (Explain image)) desk = Loading desk image (λ bytes. WithoutLoad (Explaining bytes))
+IsEnding (Some (Drive start count protocol)) desk =
     WithoutLoad (λ fate. fate ≡ Driven start count protocol)
-IsFate (Some (Check image report)) desk =
+IsEnding (Some (Check image report)) desk =
     Loading desk image (λ bytes. Loading desk report (λ text. WithoutLoad (Checking bytes text)))
-IsFate (Some (Compare first second)) desk =
+IsEnding (Some (Compare first second)) desk =
     Loading desk first
     (λ bytes. ReadingOn bytes (λ a image extras. Loading desk second
     (λ others. WithoutLoad (Reading others (λ b other more. Comparing a image b other)))))
-IsFate (Some (Keys image script)) desk =
+IsEnding (Some (Keys image script)) desk =
     Loading desk image
     (λ bytes. Loading desk script (λ lines. WithoutLoad (Keying image bytes lines)))
-IsFate (Some (Retire image block)) desk =
+IsEnding (Some (Retire image block)) desk =
     Loading desk image (λ bytes. WithoutLoad (Retiring image bytes block))

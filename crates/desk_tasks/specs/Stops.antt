@@ -5,28 +5,28 @@ use Rattle.tx_types.specs.declared.config.Config.{Config}
 use Rattle.flash_model.specs.Flash.{Contents, Extras}
 use Rattle.record_list.specs.declared.found.Breach.{Breach}
 use Rattle.desk_io.specs.Desk.{DeskState}
-use Rattle.image_desk.specs.Refusals.{Unsound, image_refused}
-use Rattle.image_desk.specs.declared.stop.ImageStop.{ImageStop}
-use Rattle.image_desk.specs.declared.stop.ImageStop.TheVariants as image
-use Rattle.desk_tasks.specs.Fate.{Fate, Image, BadLine, BadBucket, BadConfiguration, BadAllowance, RefusedBlock, RefusedWorn, WrongLine, DifferShape, DifferBlank}
-use Rattle.desk_tasks.specs.Fate.{DifferAt, status}
-use Rattle.desk_tasks.specs.Gives.{Given, SavedFile, Gives}
+use Rattle.program_base.specs.Refusals.{Unsound, image_refused}
+use Rattle.program_base.specs.declared.stop.ImageStop.{ImageStop}
+use Rattle.program_base.specs.declared.stop.ImageStop.TheVariants as image
+use Rattle.desk_tasks.specs.Ending.{Ending, Image, BadLine, BadBucket, BadConfiguration, BadAllowance, RefusedBlock, RefusedWorn, WrongLine, DifferShape, DifferBlank}
+use Rattle.desk_tasks.specs.Ending.{DifferAt, status}
+use Rattle.desk_tasks.specs.Gives.{OutputState, SavedFile, Gives}
 use Rattle.desk_tasks.specs.KeyWork.{HoldsKeys, ParsesScript}
 use Rattle.desk_tasks.specs.Retirements.{block_refusal}
-use Rattle.desk_tasks.specs.Steps.{IsFate, Parses, Opens}
+use Rattle.desk_tasks.specs.Steps.{IsEnding, Parses, Opens}
 use Rattle.desk_tasks.specs.Loads.{LoadFails, WorkRunsOut, after_loads}
-use Rattle.desk_tasks.specs.Asked.{Asked}
+use Rattle.desk_tasks.specs.Request.{Request}
 use Rattle.desk_tasks.specs.declared.refusal.Refusal.{Refusal}
 use Rattle.desk_tasks.specs.declared.refusal.Refusal.TheVariants as refusal
-use Rattle.desk_tasks.specs.declared.product.Stop.{Stop}
-use Rattle.desk_tasks.specs.declared.product.Stop.TheVariants as stop
-use Rattle.desk_tasks.specs.declared.product.Text.{Text}
-use Rattle.desk_tasks.specs.declared.product.Text.TheVariants as text
-use Rattle.desk_tasks.specs.declared.product.File.{File}
-use Rattle.desk_tasks.specs.declared.product.Product.{Product}
+use Rattle.desk_tasks.specs.declared.output.Failure.{Failure}
+use Rattle.desk_tasks.specs.declared.output.Failure.TheVariants as stop
+use Rattle.desk_tasks.specs.declared.output.Text.{Text}
+use Rattle.desk_tasks.specs.declared.output.Text.TheVariants as text
+use Rattle.desk_tasks.specs.declared.output.File.{File}
+use Rattle.desk_tasks.specs.declared.output.Output.{Output}
 
 -- the fate that a refusal is
-abbrev pub refused : Refusal → Fate
+abbrev pub refused : Refusal → Ending
 refused (refusal.Image why) = Image (image_refused why)
 refused (refusal.BadLine n) = BadLine n
 refused (refusal.BadBucket page) = BadBucket page
@@ -40,10 +40,10 @@ refused (refusal.DifferBlank page) = DifferBlank page
 refused (refusal.DifferAt page at) = DifferAt page at
 
 -- why work stops where work on an image file does
-abbrev pub stop_of : ImageStop → Stop
-stop_of (image.Refused why) = stop.Refused (refusal.Image why)
-stop_of image.Fault = stop.Fault
-stop_of image.Memory = stop.Memory
+abbrev pub failure_of : ImageStop → Failure
+failure_of (image.Refused why) = stop.Refused (refusal.Image why)
+failure_of image.Fault = stop.Fault
+failure_of image.Memory = stop.Memory
 
 -- the bytes of a text
 abbrev pub bytes_of : Text → List ℕ
@@ -54,55 +54,55 @@ abbrev pub file_saved : File → SavedFile
 file_saved f = record { name = f.name.now; bytes = f.bytes.items }
 
 -- what a product of the work stands for
-abbrev pub given_of : Product → Given
-given_of p = record { saved = option_map file_saved p.saved; text = bytes_of p.text }
+abbrev pub output_of : Output → OutputState
+output_of p = record { saved = option_map file_saved p.saved; text = bytes_of p.text }
 
 -- this line of a command file is the first bad one
-abbrev pub RefusesLine : ℕ → List ℕ → Fate → Type 0
+abbrev pub RefusesLine : ℕ → List ℕ → Ending → Type 0
 RefusesLine page_bytes bytes fate = (n : ℕ) × Parses page_bytes bytes (Err n) × (fate ≡ BadLine n)
 
 -- the image of a device breaks this law first
-abbrev pub RefusesDevice : Config → List Contents → Fate → Type 0
+abbrev pub RefusesDevice : Config → List Contents → Ending → Type 0
 RefusesDevice its image fate =
     (breach : Breach) × Opens its image (Err breach) × (fate ≡ Image (Unsound breach))
 
 -- this line of a key script is the first bad one
-abbrev pub RefusesScript : List ℕ → Fate → Type 0
+abbrev pub RefusesScript : List ℕ → Ending → Type 0
 RefusesScript bytes fate = (n : ℕ) × ParsesScript bytes (Err n) × (fate ≡ BadLine n)
 
 -- the image of a device breaks this law first, or it is sound and this is its least page that is no bucket
-abbrev pub RefusesStore : Config → List Contents → Fate → Type 0
+abbrev pub RefusesStore : Config → List Contents → Ending → Type 0
 RefusesStore its image fate =
     RefusesDevice its image fate
     ⊎ (Opens its image (Ok tt)
     × ((page : ℕ) × HoldsKeys its image (Err page) × (fate ≡ BadBucket page)))
 
 -- the image of a device breaks this law first, or it is sound and the block is refused so
-abbrev pub RefusesRetirement : Config → List Contents → Extras → ℕ → Fate → Type 0
+abbrev pub RefusesRetirement : Config → List Contents → Extras → ℕ → Ending → Type 0
 RefusesRetirement its image extras block fate =
     RefusesDevice its image fate
     ⊎ (Opens its image (Ok tt) × (block_refusal its extras block ≡ Some fate))
 
 -- a step that asks nothing of the desk is refused so, or memory runs out
-abbrev pub StopsBy : (Fate → Type 0) → Stop → Type 0
+abbrev pub StopsBy : (Ending → Type 0) → Failure → Type 0
 StopsBy comes (stop.Refused refusal) = comes (refused refusal)
 StopsBy comes stop.Fault = ⊥
 StopsBy comes stop.Memory = Unit {0}
 
 -- work that asks nothing of the desk is done: it comes to such a fate, with what it gives
-abbrev pub WorksTo : (Fate → Type 0) → Result Product Stop → Type 0
+abbrev pub WorksTo : (Ending → Type 0) → Result Output Failure → Type 0
 WorksTo comes (Ok product) =
-    (fate : Fate) × comes fate × (status fate ≡ 0) × Gives fate (given_of product)
+    (fate : Ending) × comes fate × (status fate ≡ 0) × Gives fate (output_of product)
 WorksTo comes (Err stopped) = StopsBy comes stopped
 
 -- a fate decides, and its loads were made
-abbrev pub Comes : Option Asked → DeskState → DeskState → Fate → Type 0
-Comes task old new fate = (loads : ℕ) × IsFate task old fate loads × (new ≡ after_loads loads old)
+abbrev pub Comes : Option Request → DeskState → DeskState → Ending → Type 0
+Comes task old new fate = (loads : ℕ) × IsEnding task old fate loads × (new ≡ after_loads loads old)
 
 -- the work for a task gives what its fate gives, or stops
-abbrev pub Works : Option Asked → DeskState → DeskState → Result Product Stop → Type 0
+abbrev pub Works : Option Request → DeskState → DeskState → Result Output Failure → Type 0
 Works task old new (Ok product) =
-    (fate : Fate) × Comes task old new fate × (status fate ≡ 0) × Gives fate (given_of product)
+    (fate : Ending) × Comes task old new fate × (status fate ≡ 0) × Gives fate (output_of product)
 Works task old new (Err (stop.Refused refusal)) = Comes task old new (refused refusal)
 Works task old new (Err stop.Fault) = LoadFails task old new
 Works task old new (Err stop.Memory) = WorkRunsOut task old new

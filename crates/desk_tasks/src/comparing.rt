@@ -2,30 +2,30 @@ ghost use Rattle.std.specs.Prelude.{◌≡◌, ◌==◌, ◌&&◌, ◌<◌, ◌+
 ghost use Rattle.std.specs.Fmt.{decimal};
 ghost use Rattle.tx_types.specs.Config.{checked, shape_of};
 ghost use Rattle.flash_model.specs.Flash.{IsSteady};
-ghost use Rattle.mem_flash.specs.Memory.{loaded, state_of};
+ghost use Rattle.mem_flash.specs.MemFlashState.{loaded, state_of};
 ghost use Rattle.durable_folder.specs.Histories.{Rests};
-ghost use Rattle.image_desk.specs.Refusals.{line};
-ghost use Rattle.desk_tasks.specs.Fate.{Same};
+ghost use Rattle.program_base.specs.Refusals.{line};
+ghost use Rattle.desk_tasks.specs.Ending.{Same};
 ghost use Rattle.desk_tasks.specs.Checking.{HaveOneShape, array_of_device};
 ghost use Rattle.array_machine.specs.ArrayState.{page_at};
 ghost use Rattle.array_machine.specs.Read.{ReadsPage};
 ghost use Rattle.lane_scan.specs.Scans.{DifferFirstAt};
 ghost use Rattle.desk_tasks.specs.declared.difference.Difference.TheVariants.{At};
-ghost use Rattle.desk_tasks.specs.Differences.{ComesTo, DiffersAt, FindsFirst, difference_fate};
+ghost use Rattle.desk_tasks.specs.Differences.{ComesTo, DiffersAt, FindsFirst, difference_ending};
 ghost use Rattle.desk_tasks.specs.Steps.{Comparing, Opening, Reading};
 ghost use Rattle.desk_tasks.specs.Stops.{StopsBy, Works, WorksTo};
-ghost use Rattle.desk_tasks.specs.Asked.{Compare};
+ghost use Rattle.desk_tasks.specs.Request.{Compare};
 
 use crate::devices::sound_device;
 use crate::difference::Difference;
-use crate::product::{Product, Stop, Text};
+use crate::output::{Failure, Output, Text};
 use crate::refusal::Refusal;
 use bpcc_commit::Bpcc;
 use desk_io::Desk;
 use flash_model::steady_stays;
-use image_desk::{fetch, read_device};
 use lane_scan::first_difference;
 use mem_flash::MemFlash;
+use program_base::{load_file, open_image};
 use record_list::CommitRule;
 use scc_commit::Scc;
 use std::alloc::{AllocError, Global};
@@ -33,42 +33,42 @@ use tx_engine::{Device, ReadAnswer};
 use tx_types::{Config, Memory, Protocol};
 
 /// Compares the arrays of two image files. The first one is read before the second is loaded.
-pub fn to_compare<'a, D: Desk>(
+pub fn do_compare<'a, D: Desk>(
     alloc: Global,
     first: &'a str,
     second: &'a str,
     desk: &mut D,
-) -> Result<Product<'a>, Stop<'a>>
+) -> Result<Output<'a>, Failure<'a>>
     ensures works { Works (Some (Compare first.now second.now)) (D.state desk.old) (D.state desk.new) result }
     ensures disk { Rests (D.disk desk.old) (D.disk desk.new) }
 {
-    let bytes = fetch(first, desk)?;
-    let (config, flash) = read_device(alloc, bytes)?;
-    match fetch(second, desk) {
-        Ok(others) => compared_with(alloc, config, flash, others),
+    let bytes = load_file(first, desk)?;
+    let (config, flash) = open_image(alloc, bytes)?;
+    match load_file(second, desk) {
+        Ok(others) => compare_from_bytes(alloc, config, flash, others),
         Err(stop) => {
             drop(flash);
-            Err(Stop::from(stop))
+            Err(Failure::from(stop))
         }
     }
 }
 
 /// What a comparison gives, from the bytes of the second file on.
-fn compared_with<'a>(
+fn compare_from_bytes<'a>(
     alloc: Global,
     config: Config,
     flash: MemFlash,
     others: Vec<u8>,
-) -> Result<Product<'a>, Stop<'a>>
+) -> Result<Output<'a>, Failure<'a>>
     requires check { checked config ≡ Ok (shape_of config) }
     requires ready { flash ≡ loaded (shape_of config) flash.image flash.extras }
     ensures { WorksTo (Reading others.items (λ b other more. Comparing config flash.image b other)) result }
 {
-    let (second, other) = match read_device(alloc, others) {
+    let (second, other) = match open_image(alloc, others) {
         Ok(read) => read,
         Err(stop) => {
             drop(flash);
-            return Err(Stop::from(stop));
+            return Err(Failure::from(stop));
         }
     };
     compare_devices(alloc, config, flash, second, other)
@@ -81,16 +81,16 @@ fn compare_devices<'a>(
     flash: MemFlash,
     second: Config,
     other: MemFlash,
-) -> Result<Product<'a>, Stop<'a>>
+) -> Result<Output<'a>, Failure<'a>>
     requires check { checked config ≡ Ok (shape_of config) }
     requires ready { flash ≡ loaded (shape_of config) flash.image flash.extras }
     requires second_check { checked second ≡ Ok (shape_of second) }
     requires second_ready { other ≡ loaded (shape_of second) other.image other.extras }
     ensures { WorksTo (Comparing config flash.image second other.image) result }
 {
-    let logical = compared(alloc, config, flash, second, other)?;
+    let logical = compare_flashes(alloc, config, flash, second, other)?;
     let line = same_line(alloc, logical)?;
-    Ok(Product {
+    Ok(Output {
         saved: None,
         text: Text::Other(line),
     })
@@ -105,13 +105,13 @@ fn same_line(alloc: Global, logical: u32) -> Result<Vec<u8>, AllocError>
 }
 
 /// The number of pages of two devices, where their arrays are one.
-fn compared(
+fn compare_flashes(
     alloc: Global,
     config: Config,
     flash: MemFlash,
     second: Config,
     other: MemFlash,
-) -> Result<u32, Stop<'static>>
+) -> Result<u32, Failure<'static>>
     requires check { checked config ≡ Ok (shape_of config) }
     requires ready { flash ≡ loaded (shape_of config) flash.image flash.extras }
     requires second_check { checked second ≡ Ok (shape_of second) }
@@ -120,19 +120,19 @@ fn compared(
     ensures err { IfErr result (StopsBy (Comparing config flash.image second other.image)) }
 {
     match config.protocol {
-        Protocol::Scc => compared_to::<Scc>(alloc, config, flash, second, other),
-        Protocol::Bpcc => compared_to::<Bpcc>(alloc, config, flash, second, other),
+        Protocol::Scc => compare_first_by::<Scc>(alloc, config, flash, second, other),
+        Protocol::Bpcc => compare_first_by::<Bpcc>(alloc, config, flash, second, other),
     }
 }
 
 /// The same under the rule of the first.
-fn compared_to<R: CommitRule>(
+fn compare_first_by<R: CommitRule>(
     alloc: Global,
     config: Config,
     flash: MemFlash,
     second: Config,
     other: MemFlash,
-) -> Result<u32, Stop<'static>>
+) -> Result<u32, Failure<'static>>
     requires check { checked config ≡ Ok (shape_of config) }
     requires rule { config.protocol ≡ R.protocol }
     requires ready { flash ≡ loaded (shape_of config) flash.image flash.extras }
@@ -142,19 +142,19 @@ fn compared_to<R: CommitRule>(
     ensures err { IfErr result (StopsBy (Comparing config flash.image second other.image)) }
 {
     match second.protocol {
-        Protocol::Scc => compared_by::<R, Scc>(alloc, config, flash, second, other),
-        Protocol::Bpcc => compared_by::<R, Bpcc>(alloc, config, flash, second, other),
+        Protocol::Scc => compare_by::<R, Scc>(alloc, config, flash, second, other),
+        Protocol::Bpcc => compare_by::<R, Bpcc>(alloc, config, flash, second, other),
     }
 }
 
 /// The same under both rules.
-fn compared_by<R: CommitRule, S: CommitRule>(
+fn compare_by<R: CommitRule, S: CommitRule>(
     alloc: Global,
     config: Config,
     flash: MemFlash,
     second: Config,
     other: MemFlash,
-) -> Result<u32, Stop<'static>>
+) -> Result<u32, Failure<'static>>
     requires check { checked config ≡ Ok (shape_of config) }
     requires rule { config.protocol ≡ R.protocol }
     requires ready { flash ≡ loaded (shape_of config) flash.image flash.extras }
@@ -184,7 +184,7 @@ fn compare_to_flash<R: CommitRule, S: CommitRule>(
     one: &mut Device<MemFlash, R>,
     second: Config,
     other: MemFlash,
-) -> Result<u32, Stop<'static>>
+) -> Result<u32, Failure<'static>>
     requires kept { one.old.dropped ≡ false }
     requires config { one.old.config ≡ config }
     requires steady { IsSteady (state_of one.old.flash) }
@@ -199,19 +199,19 @@ fn compare_to_flash<R: CommitRule, S: CommitRule>(
         (ComesTo config one.old.machine.pages second (array_of_device second other.image)))) }
 {
     let mut two = sound_device::<S>(alloc, other, second)?;
-    let outcome = compared_devices(alloc, config, one, second, &mut two);
+    let outcome = compare_opened(alloc, config, one, second, &mut two);
     drop(two.close());
     outcome
 }
 
 /// The same of two devices.
-fn compared_devices<R: CommitRule, S: CommitRule>(
+fn compare_opened<R: CommitRule, S: CommitRule>(
     alloc: Global,
     config: Config,
     one: &mut Device<MemFlash, R>,
     second: Config,
     two: &mut Device<MemFlash, S>,
-) -> Result<u32, Stop<'static>>
+) -> Result<u32, Failure<'static>>
     requires kept { one.old.dropped ≡ false }
     requires two_kept { two.old.dropped ≡ false }
     requires config { one.old.config ≡ config }
@@ -224,21 +224,21 @@ fn compared_devices<R: CommitRule, S: CommitRule>(
         StopsBy (ComesTo config one.old.machine.pages second two.old.machine.pages)) }
 {
     if !have_one_shape(config, second) {
-        return Err(Stop::Refused(Refusal::DifferShape));
+        return Err(Failure::Refused(Refusal::DifferShape));
     }
     let found = first_difference_of(alloc, one, two, config)?;
     outcome(config.logical, found)
 }
 
 /// What a comparison of arrays of so many pages comes to.
-fn outcome(logical: u32, found: Option<Difference>) -> Result<u32, Stop<'static>>
-    ensures ok { IfOk result (λ n. Same n ≡ difference_fate logical found) }
-    ensures err { IfErr result (StopsBy (λ fate. fate ≡ difference_fate logical found)) }
+fn outcome(logical: u32, found: Option<Difference>) -> Result<u32, Failure<'static>>
+    ensures ok { IfOk result (λ n. Same n ≡ difference_ending logical found) }
+    ensures err { IfErr result (StopsBy (λ fate. fate ≡ difference_ending logical found)) }
 {
     match found {
         None => Ok(logical),
-        Some(Difference::Blank(page)) => Err(Stop::Refused(Refusal::DifferBlank(page))),
-        Some(Difference::At { page, at }) => Err(Stop::Refused(Refusal::DifferAt { page, at })),
+        Some(Difference::Blank(page)) => Err(Failure::Refused(Refusal::DifferBlank(page))),
+        Some(Difference::At { page, at }) => Err(Failure::Refused(Refusal::DifferAt { page, at })),
     }
 }
 

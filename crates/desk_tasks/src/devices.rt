@@ -2,7 +2,7 @@ ghost use Rattle.std.specs.Prelude.{◌≡◌, ◌≤◌, false, All, Ok, IfOk, 
 ghost use Rattle.tx_types.specs.Config.{checked, shape_of};
 ghost use Rattle.flash_model.specs.Flash.{IsSteady};
 ghost use Rattle.version_index.specs.Notes.{found_in};
-ghost use Rattle.mem_flash.specs.Memory.{fresh, loaded, state_of};
+ghost use Rattle.mem_flash.specs.MemFlashState.{fresh, loaded, state_of};
 ghost use Rattle.tx_engine.specs.Opens.{Mounts};
 ghost use Rattle.host_protocol.specs.Commands.{Suits};
 ghost use Rattle.host_protocol.specs.Files.{IsFile};
@@ -13,18 +13,18 @@ ghost use Rattle.verdict_report.specs.Report.{report};
 ghost use Rattle.desk_tasks.specs.Runs.{IsRun, blank_image, default_config};
 ghost use Rattle.desk_tasks.specs.Stops.{RefusesDevice, RefusesLine, StopsBy};
 
-use crate::product::Stop;
+use crate::output::Failure;
 use crate::refusal::Refusal;
 use bpcc_commit::Bpcc;
 use cut_replay::{Lines, ServeError, serve};
 use flash_model::steady_stays;
 use host_protocol::{Command, TextError, parse};
-use image_desk::ImageRefusal;
 use mem_flash::MemFlash;
+use program_base::ImageRefusal;
 use record_list::{Breach, CommitRule, Found};
 use scc_commit::Scc;
 use std::alloc::Global;
-use tx_engine::laws::devices_stand;
+use tx_engine::theorems::device_invariant;
 use tx_engine::{Device, MountError};
 use tx_types::{Config, Memory, Protocol};
 use verdict_report::explain;
@@ -67,7 +67,7 @@ pub fn read_commands(
     alloc: Global,
     bytes: &[u8],
     page_bytes: u32,
-) -> Result<Vec<Command>, Stop<'static>>
+) -> Result<Vec<Command>, Failure<'static>>
     requires { length bytes.now ≤ MAX_FILE_BYTES }
     ensures file { IfOk result (λ list. IsFile page_bytes bytes.now list.items) }
     ensures suits { IfOk result (λ list. All (Suits page_bytes) list.items) }
@@ -75,18 +75,18 @@ pub fn read_commands(
 {
     match parse(alloc, bytes, page_bytes) {
         Ok(list) => Ok(list),
-        Err(TextError::Line(n)) => Err(Stop::Refused(Refusal::BadLine(n))),
-        Err(TextError::Memory) => Err(Stop::Memory),
+        Err(TextError::Line(n)) => Err(Failure::Refused(Refusal::BadLine(n))),
+        Err(TextError::Memory) => Err(Failure::Memory),
     }
 }
 
 /// Serves commands on the device of a flash.
-pub fn served(
+pub fn serve_flash(
     alloc: Global,
     flash: MemFlash,
     config: Config,
     list: &[Command],
-) -> Result<ServedFlash, Stop<'static>>
+) -> Result<ServedFlash, Failure<'static>>
     requires check { checked config ≡ Ok (shape_of config) }
     requires ready { flash ≡ loaded (shape_of config) flash.image flash.extras }
     requires suits { All (Suits config.page_bytes) list.now }
@@ -96,18 +96,18 @@ pub fn served(
     ensures err { IfErr result (StopsBy (RefusesDevice config flash.image)) }
 {
     match config.protocol {
-        Protocol::Scc => served_by::<Scc>(alloc, flash, config, list),
-        Protocol::Bpcc => served_by::<Bpcc>(alloc, flash, config, list),
+        Protocol::Scc => serve_by::<Scc>(alloc, flash, config, list),
+        Protocol::Bpcc => serve_by::<Bpcc>(alloc, flash, config, list),
     }
 }
 
 /// The same under a rule.
-fn served_by<R: CommitRule>(
+fn serve_by<R: CommitRule>(
     alloc: Global,
     flash: MemFlash,
     config: Config,
     list: &[Command],
-) -> Result<ServedFlash, Stop<'static>>
+) -> Result<ServedFlash, Failure<'static>>
     requires check { checked config ≡ Ok (shape_of config) }
     requires rule { config.protocol ≡ R.protocol }
     requires ready { flash ≡ loaded (shape_of config) flash.image flash.extras }
@@ -127,16 +127,20 @@ fn served_by<R: CommitRule>(
             match error {
                 ServeError::Unsound { law, slot } => {
                     let breach = Breach { law, slot };
-                    Err(Stop::Refused(Refusal::Image(ImageRefusal::Unsound(breach))))
+                    Err(Failure::Refused(Refusal::Image(ImageRefusal::Unsound(breach))))
                 }
-                ServeError::Memory => Err(Stop::Memory),
+                ServeError::Memory => Err(Failure::Memory),
             }
         }
     }
 }
 
 /// The report on the records of a device.
-pub fn explained(alloc: Global, flash: MemFlash, config: Config) -> Result<Vec<u8>, Stop<'static>>
+pub fn explain_flash(
+    alloc: Global,
+    flash: MemFlash,
+    config: Config,
+) -> Result<Vec<u8>, Failure<'static>>
     requires check { checked config ≡ Ok (shape_of config) }
     requires ready { flash ≡ loaded (shape_of config) flash.image flash.extras }
     ensures sound { OnOk result (
@@ -146,17 +150,17 @@ pub fn explained(alloc: Global, flash: MemFlash, config: Config) -> Result<Vec<u
     ensures err { IfErr result (StopsBy (RefusesDevice config flash.image)) }
 {
     match config.protocol {
-        Protocol::Scc => explained_by::<Scc>(alloc, flash, config),
-        Protocol::Bpcc => explained_by::<Bpcc>(alloc, flash, config),
+        Protocol::Scc => explain_by::<Scc>(alloc, flash, config),
+        Protocol::Bpcc => explain_by::<Bpcc>(alloc, flash, config),
     }
 }
 
 /// The same under a rule.
-fn explained_by<R: CommitRule>(
+fn explain_by<R: CommitRule>(
     alloc: Global,
     flash: MemFlash,
     config: Config,
-) -> Result<Vec<u8>, Stop<'static>>
+) -> Result<Vec<u8>, Failure<'static>>
     requires check { checked config ≡ Ok (shape_of config) }
     requires rule { config.protocol ≡ R.protocol }
     requires ready { flash ≡ loaded (shape_of config) flash.image flash.extras }
@@ -186,7 +190,7 @@ fn report_on<R: CommitRule>(
     alloc: Global,
     list: &[Found],
     logical: u32,
-) -> Result<Vec<u8>, Stop<'static>>
+) -> Result<Vec<u8>, Failure<'static>>
     ensures ok { IfOk result (λ text. text.items ≡ report R.protocol list.now logical) }
     ensures err { IfErr result (λ e. e ≡ Stop.Memory) }
 {
@@ -200,7 +204,7 @@ pub fn sound_device<R: CommitRule>(
     alloc: Global,
     flash: MemFlash,
     config: Config,
-) -> Result<Device<MemFlash, R>, Stop<'static>>
+) -> Result<Device<MemFlash, R>, Failure<'static>>
     requires check { checked config ≡ Ok (shape_of config) }
     requires rule { config.protocol ≡ R.protocol }
     requires ready { flash ≡ loaded (shape_of config) flash.image flash.extras }
@@ -212,19 +216,19 @@ pub fn sound_device<R: CommitRule>(
     ensures steady { IfOk result (λ d. IsSteady (state_of d.flash)) }
     ensures err { IfErr result (StopsBy (RefusesDevice config flash.image)) }
 {
-    let device = opened::<R>(alloc, flash, config)?;
-    devices_stand::<MemFlash, R>();
+    let device = open_device::<R>(alloc, flash, config)?;
+    device_invariant::<MemFlash, R>();
     steady_stays();
     let _ = device.config();
     Ok(device)
 }
 
 /// A device that is opened from its flash.
-fn opened<R: CommitRule>(
+fn open_device<R: CommitRule>(
     alloc: Global,
     flash: MemFlash,
     config: Config,
-) -> Result<Device<MemFlash, R>, Stop<'static>>
+) -> Result<Device<MemFlash, R>, Failure<'static>>
     requires check { checked config ≡ Ok (shape_of config) }
     requires rule { config.protocol ≡ R.protocol }
     requires ready { flash ≡ loaded (shape_of config) flash.image flash.extras }
@@ -238,9 +242,9 @@ fn opened<R: CommitRule>(
             match error {
                 MountError::Unsound { law, slot } => {
                     let breach = Breach { law, slot };
-                    Err(Stop::Refused(Refusal::Image(ImageRefusal::Unsound(breach))))
+                    Err(Failure::Refused(Refusal::Image(ImageRefusal::Unsound(breach))))
                 }
-                MountError::Memory => Err(Stop::Memory),
+                MountError::Memory => Err(Failure::Memory),
                 MountError::Fault => unreachable!(),
             }
         }

@@ -3,7 +3,7 @@ ghost use Rattle.std.specs.Prelude.{map, flat_map};
 ghost use Rattle.flash_model.specs.Flash.{slot_at};
 ghost use Rattle.flash_model.specs.Calls.{seen_of};
 ghost use Rattle.flash_model.specs.Operations.{moment_of};
-ghost use Rattle.mem_flash.specs.Memory.{state_of};
+ghost use Rattle.mem_flash.specs.MemFlashState.{state_of};
 ghost use Rattle.mem_flash.specs.Slots.{cell_of};
 ghost use Rattle.host_protocol.specs.Replies.{text_of};
 ghost use Rattle.cut_replay.specs.Watching.{Grew};
@@ -141,7 +141,7 @@ impl Watch<MemFlash> for Kept {
         reply_text(self.alloc, reply, &mut text)?;
         let entry = Entry {
             text,
-            flash: copied(self.alloc, flash)?,
+            flash: copy_flash(self.alloc, flash)?,
             programs: flash.programs(),
             erases: flash.erases(),
         };
@@ -151,7 +151,7 @@ impl Watch<MemFlash> for Kept {
 }
 
 /// A flash of the same shape with the same slots.
-fn copied(alloc: Global, flash: &MemFlash) -> Result<MemFlash, Memory>
+fn copy_flash(alloc: Global, flash: &MemFlash) -> Result<MemFlash, Memory>
     ensures shape { IfOk result (λ copy. copy.shape ≡ flash.now.shape) }
     ensures slots { IfOk result (λ copy. copy.image ≡ flash.now.image) }
 {

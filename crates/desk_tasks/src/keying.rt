@@ -2,24 +2,24 @@ ghost use Rattle.std.specs.Prelude.{◌≡◌, ◌≤◌, All, Ok, Some, IfOk, I
 ghost use Rattle.durable_folder.specs.Histories.{Rests};
 ghost use Rattle.desk_io.specs.Desk.{max_file_bytes};
 ghost use Rattle.host_protocol.specs.declared.file.TheConstants.{MAX_FILE_BYTES};
-ghost use Rattle.mem_flash.specs.Memory.{loaded};
+ghost use Rattle.mem_flash.specs.MemFlashState.{loaded};
 ghost use Rattle.page_keys.specs.Scripts.{IsScript, SuitsKeys};
 ghost use Rattle.tx_types.specs.Config.{checked, shape_of};
-ghost use Rattle.desk_tasks.specs.Fate.{Keyed};
+ghost use Rattle.desk_tasks.specs.Ending.{Keyed};
 ghost use Rattle.desk_tasks.specs.KeyWork.{IsKeysRun, OpensStore};
 ghost use Rattle.desk_tasks.specs.Steps.{Keying, Opening};
 ghost use Rattle.desk_tasks.specs.Stops.{RefusesScript, RefusesStore, StopsBy, Works, WorksTo};
-ghost use Rattle.desk_tasks.specs.Asked.{Keys};
+ghost use Rattle.desk_tasks.specs.Request.{Keys};
 
-use crate::product::{File, Product, Stop, Text};
+use crate::output::{Failure, File, Output, Text};
 use crate::refusal::Refusal;
-use crate::tasks::leave;
+use crate::tasks::leak_at_exit;
 use bpcc_commit::Bpcc;
 use desk_io::Desk;
-use image_desk::{ImageRefusal, fetch, read_device};
 use image_file::into_image;
 use mem_flash::MemFlash;
 use page_keys::{KeyCommand, KeyServeError, KeyTextError, key_serve, parse_keys};
+use program_base::{ImageRefusal, load_file, open_image};
 use record_list::{Breach, CommitRule};
 use scc_commit::Scc;
 use std::alloc::Global;
@@ -33,35 +33,35 @@ struct KeptKeys {
 }
 
 /// Serves a key script on the store of an image file, which is then saved.
-pub fn to_keys<'a, D: Desk>(
+pub fn do_keys<'a, D: Desk>(
     alloc: Global,
     image: &'a str,
     script: &'a str,
     desk: &mut D,
-) -> Result<Product<'a>, Stop<'a>>
+) -> Result<Output<'a>, Failure<'a>>
     ensures works { Works (Some (Keys image.now script.now)) (D.state desk.old) (D.state desk.new) result }
     ensures disk { Rests (D.disk desk.old) (D.disk desk.new) }
 {
-    let bytes = fetch(image, desk)?;
-    let lines = fetch(script, desk)?;
-    keyed(alloc, image, bytes, &lines)
+    let bytes = load_file(image, desk)?;
+    let lines = load_file(script, desk)?;
+    keys_from_bytes(alloc, image, bytes, &lines)
 }
 
 /// What a key script gives, from the bytes of its files on.
-fn keyed<'a>(
+fn keys_from_bytes<'a>(
     alloc: Global,
     name: &'a str,
     bytes: Vec<u8>,
     lines: &[u8],
-) -> Result<Product<'a>, Stop<'a>>
+) -> Result<Output<'a>, Failure<'a>>
     requires { length lines.now ≤ max_file_bytes }
     ensures { WorksTo (Keying name.now bytes.items lines.now) result }
 {
-    let (config, flash) = read_device(alloc, bytes)?;
+    let (config, flash) = open_image(alloc, bytes)?;
     match read_script(alloc, lines) {
         Ok(list) => {
             let product = run_keys(alloc, name, config, flash, &list);
-            leave(list);
+            leak_at_exit(list);
             product
         }
         Err(stop) => {
@@ -78,23 +78,23 @@ fn run_keys<'a>(
     config: Config,
     flash: MemFlash,
     list: &[KeyCommand],
-) -> Result<Product<'a>, Stop<'a>>
+) -> Result<Output<'a>, Failure<'a>>
     requires check { checked config ≡ Ok (shape_of config) }
     requires ready { flash ≡ loaded (shape_of config) flash.image flash.extras }
     requires suits { All SuitsKeys list.now }
     ensures { WorksTo (Opening config flash.image (OpensStore config flash.image
         (Keyed name.now config flash.image flash.extras list.now))) result }
 {
-    let KeptKeys { flash, replies } = served_keys(alloc, flash, config, list)?;
+    let KeptKeys { flash, replies } = serve_keys(alloc, flash, config, list)?;
     let saved = into_image(alloc, &config, flash)?;
-    Ok(Product {
+    Ok(Output {
         saved: Some(File { name, bytes: saved }),
         text: Text::Other(replies),
     })
 }
 
 /// The commands of a key script.
-fn read_script(alloc: Global, bytes: &[u8]) -> Result<Vec<KeyCommand>, Stop<'static>>
+fn read_script(alloc: Global, bytes: &[u8]) -> Result<Vec<KeyCommand>, Failure<'static>>
     requires { length bytes.now ≤ MAX_FILE_BYTES }
     ensures script { IfOk result (λ list. IsScript bytes.now list.items) }
     ensures suits { IfOk result (λ list. All SuitsKeys list.items) }
@@ -102,18 +102,18 @@ fn read_script(alloc: Global, bytes: &[u8]) -> Result<Vec<KeyCommand>, Stop<'sta
 {
     match parse_keys(alloc, bytes) {
         Ok(list) => Ok(list),
-        Err(KeyTextError::Line(n)) => Err(Stop::Refused(Refusal::BadLine(n))),
-        Err(KeyTextError::Memory) => Err(Stop::Memory),
+        Err(KeyTextError::Line(n)) => Err(Failure::Refused(Refusal::BadLine(n))),
+        Err(KeyTextError::Memory) => Err(Failure::Memory),
     }
 }
 
 /// Serves the commands of a script on the store of a flash.
-fn served_keys(
+fn serve_keys(
     alloc: Global,
     flash: MemFlash,
     config: Config,
     list: &[KeyCommand],
-) -> Result<KeptKeys, Stop<'static>>
+) -> Result<KeptKeys, Failure<'static>>
     requires check { checked config ≡ Ok (shape_of config) }
     requires ready { flash ≡ loaded (shape_of config) flash.image flash.extras }
     requires suits { All SuitsKeys list.now }
@@ -124,18 +124,18 @@ fn served_keys(
     ensures err { IfErr result (StopsBy (RefusesStore config flash.image)) }
 {
     match config.protocol {
-        Protocol::Scc => served_keys_by::<Scc>(alloc, flash, config, list),
-        Protocol::Bpcc => served_keys_by::<Bpcc>(alloc, flash, config, list),
+        Protocol::Scc => serve_keys_by::<Scc>(alloc, flash, config, list),
+        Protocol::Bpcc => serve_keys_by::<Bpcc>(alloc, flash, config, list),
     }
 }
 
 /// The same under a rule.
-fn served_keys_by<R: CommitRule>(
+fn serve_keys_by<R: CommitRule>(
     alloc: Global,
     flash: MemFlash,
     config: Config,
     list: &[KeyCommand],
-) -> Result<KeptKeys, Stop<'static>>
+) -> Result<KeptKeys, Failure<'static>>
     requires check { checked config ≡ Ok (shape_of config) }
     requires rule { config.protocol ≡ R.protocol }
     requires ready { flash ≡ loaded (shape_of config) flash.image flash.extras }
@@ -156,10 +156,10 @@ fn served_keys_by<R: CommitRule>(
             match error {
                 KeyServeError::Unsound { law, slot } => {
                     let breach = Breach { law, slot };
-                    Err(Stop::Refused(Refusal::Image(ImageRefusal::Unsound(breach))))
+                    Err(Failure::Refused(Refusal::Image(ImageRefusal::Unsound(breach))))
                 }
-                KeyServeError::Bucket(page) => Err(Stop::Refused(Refusal::BadBucket(page))),
-                KeyServeError::Memory => Err(Stop::Memory),
+                KeyServeError::Bucket(page) => Err(Failure::Refused(Refusal::BadBucket(page))),
+                KeyServeError::Memory => Err(Failure::Memory),
             }
         }
     }

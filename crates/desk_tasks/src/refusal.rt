@@ -1,11 +1,11 @@
 ghost use Rattle.std.specs.Prelude.{◌≡◌, ◌++◌, IfOk, codes};
 ghost use Rattle.std.specs.Fmt.{decimal};
 ghost use Rattle.std.specs.String.{string_bytes};
-ghost use Rattle.image_desk.specs.Refusals.{line};
-ghost use Rattle.desk_tasks.specs.Fate.{config_word, refusal_line, status};
+ghost use Rattle.program_base.specs.Refusals.{line};
+ghost use Rattle.desk_tasks.specs.Ending.{config_word, refusal_line, status};
 ghost use Rattle.desk_tasks.specs.Stops.{refused};
 
-use image_desk::ImageRefusal;
+use program_base::ImageRefusal;
 use std::alloc::{AllocError, Global};
 use tx_types::ConfigError;
 

@@ -2,59 +2,59 @@ ghost use Rattle.std.specs.Prelude.{◌≡◌, ◌++◌, false, Ok, None, Some, 
 ghost use Rattle.std.specs.Fmt.{decimal};
 ghost use Rattle.tx_types.specs.Config.{checked, shape_of};
 ghost use Rattle.flash_model.specs.Flash.{IsSteady};
-ghost use Rattle.mem_flash.specs.Memory.{loaded, state_of};
+ghost use Rattle.mem_flash.specs.MemFlashState.{loaded, state_of};
 ghost use Rattle.array_machine.specs.ArrayState.{idle};
 ghost use Rattle.durable_folder.specs.Histories.{Rests};
-ghost use Rattle.image_desk.specs.Refusals.{line};
+ghost use Rattle.program_base.specs.Refusals.{line};
 ghost use Rattle.desk_tasks.specs.Retirements.{LeavesRetired, RetiresIdle, block_refusal};
 ghost use Rattle.desk_tasks.specs.Steps.{Retiring};
 ghost use Rattle.desk_tasks.specs.Stops.{RefusesRetirement, StopsBy, Works, WorksTo};
-ghost use Rattle.desk_tasks.specs.Asked.{Retire};
+ghost use Rattle.desk_tasks.specs.Request.{Retire};
 
 use crate::devices::sound_device;
-use crate::product::{File, Product, Stop, Text};
+use crate::output::{Failure, File, Output, Text};
 use crate::refusal::Refusal;
 use bpcc_commit::Bpcc;
 use desk_io::Desk;
 use flash_model::retiring_composes;
-use image_desk::{fetch, read_device};
 use image_file::into_image;
 use mem_flash::MemFlash;
+use program_base::{load_file, open_image};
 use record_list::CommitRule;
 use scc_commit::Scc;
 use std::alloc::{AllocError, Global};
-use tx_engine::laws::devices_stand;
+use tx_engine::theorems::device_invariant;
 use tx_engine::{Device, RetireError};
 use tx_types::{Block, Config, Protocol};
 
 /// Retires a block of the device of an image file, which is then saved.
-pub fn to_retire<'a, D: Desk>(
+pub fn do_retire<'a, D: Desk>(
     alloc: Global,
     image: &'a str,
     block: Block,
     desk: &mut D,
-) -> Result<Product<'a>, Stop<'a>>
+) -> Result<Output<'a>, Failure<'a>>
     ensures works { Works (Some (Retire image.now block.0)) (D.state desk.old) (D.state desk.new) result }
     ensures disk { Rests (D.disk desk.old) (D.disk desk.new) }
 {
-    let bytes = fetch(image, desk)?;
-    retired(alloc, image, bytes, block)
+    let bytes = load_file(image, desk)?;
+    retire_from_bytes(alloc, image, bytes, block)
 }
 
 /// What retiring a block gives, from the bytes of its image on.
-fn retired<'a>(
+fn retire_from_bytes<'a>(
     alloc: Global,
     name: &'a str,
     bytes: Vec<u8>,
     block: Block,
-) -> Result<Product<'a>, Stop<'a>>
+) -> Result<Output<'a>, Failure<'a>>
     ensures { WorksTo (Retiring name.now bytes.items block.0) result }
 {
-    let (config, flash) = read_device(alloc, bytes)?;
-    let left = replaced(alloc, flash, config, block)?;
+    let (config, flash) = open_image(alloc, bytes)?;
+    let left = retire_in_flash(alloc, flash, config, block)?;
     let saved = into_image(alloc, &config, left)?;
     let line = retired_line(alloc, block)?;
-    Ok(Product {
+    Ok(Output {
         saved: Some(File { name, bytes: saved }),
         text: Text::Other(line),
     })
@@ -69,30 +69,30 @@ fn retired_line(alloc: Global, block: Block) -> Result<Vec<u8>, AllocError>
 }
 
 /// The flash of a device in which a block was retired.
-fn replaced(
+fn retire_in_flash(
     alloc: Global,
     flash: MemFlash,
     config: Config,
     block: Block,
-) -> Result<MemFlash, Stop<'static>>
+) -> Result<MemFlash, Failure<'static>>
     requires check { checked config ≡ Ok (shape_of config) }
     requires ready { flash ≡ loaded (shape_of config) flash.image flash.extras }
     ensures ok { IfOk result (LeavesRetired config flash block.0) }
     ensures err { IfErr result (StopsBy (RefusesRetirement config flash.image flash.extras block.0)) }
 {
     match config.protocol {
-        Protocol::Scc => replaced_by::<Scc>(alloc, flash, config, block),
-        Protocol::Bpcc => replaced_by::<Bpcc>(alloc, flash, config, block),
+        Protocol::Scc => retire_by::<Scc>(alloc, flash, config, block),
+        Protocol::Bpcc => retire_by::<Bpcc>(alloc, flash, config, block),
     }
 }
 
 /// The same under a rule.
-fn replaced_by<R: CommitRule>(
+fn retire_by<R: CommitRule>(
     alloc: Global,
     flash: MemFlash,
     config: Config,
     block: Block,
-) -> Result<MemFlash, Stop<'static>>
+) -> Result<MemFlash, Failure<'static>>
     requires check { checked config ≡ Ok (shape_of config) }
     requires rule { config.protocol ≡ R.protocol }
     requires ready { flash ≡ loaded (shape_of config) flash.image flash.extras }
@@ -115,7 +115,7 @@ fn replaced_by<R: CommitRule>(
 fn retire<R: CommitRule>(
     device: &mut Device<MemFlash, R>,
     block: Block,
-) -> Result<(), Stop<'static>>
+) -> Result<(), Failure<'static>>
     requires kept { device.old.dropped ≡ false }
     requires steady { IsSteady (state_of device.old.flash) }
     requires shape { device.old.flash.shape ≡ shape_of device.old.config }
@@ -127,14 +127,14 @@ fn retire<R: CommitRule>(
         block_refusal device.old.config device.old.flash.extras block.0 ≡ Some fate)) }
 {
     retiring_composes();
-    devices_stand::<MemFlash, R>();
+    device_invariant::<MemFlash, R>();
     match device.retire(block) {
         Ok(()) => {
             let _ = device.config();
             Ok(())
         }
-        Err(RetireError::Range) => Err(Stop::Refused(Refusal::NoBlock(block.0))),
-        Err(RetireError::Worn(allowance)) => Err(Stop::Refused(Refusal::Worn(allowance))),
+        Err(RetireError::Range) => Err(Failure::Refused(Refusal::NoBlock(block.0))),
+        Err(RetireError::Worn(allowance)) => Err(Failure::Refused(Refusal::Worn(allowance))),
         Err(RetireError::Fault) => unreachable!(),
     }
 }

@@ -4,101 +4,103 @@ ghost use Rattle.durable_folder.specs.Histories.{Rests};
 ghost use Rattle.desk_io.specs.Desk.{DeskState, max_file_bytes};
 ghost use Rattle.drive_gen.specs.Summary.{summary_line};
 ghost use Rattle.host_protocol.specs.Commands.{Suits};
-ghost use Rattle.image_desk.specs.Refusals.{line};
-ghost use Rattle.desk_tasks.specs.Fate.{Driven, Ran};
+ghost use Rattle.program_base.specs.Refusals.{line};
+ghost use Rattle.desk_tasks.specs.Ending.{Driven, Ran};
 ghost use Rattle.desk_tasks.specs.Runs.{RepliesFresh, default_config};
 ghost use Rattle.desk_tasks.specs.Steps.{Explaining, OpensAndServes, Running, Trying, formatting};
 ghost use Rattle.desk_tasks.specs.Stops.{Works, WorksTo};
-ghost use Rattle.desk_tasks.specs.Asked.{Drive, Explain, Format, Run, Try};
-ghost use Rattle.mem_flash.specs.Memory.{loaded};
+ghost use Rattle.desk_tasks.specs.Request.{Drive, Explain, Format, Run, Try};
+ghost use Rattle.mem_flash.specs.MemFlashState.{loaded};
 ghost use Rattle.tx_types.specs.Config.{checked, shape_of};
 
-use crate::devices::{ServedFlash, blank_flash, default_config, explained, read_commands, served};
-use crate::product::{File, Product, Stop, Text};
+use crate::devices::{
+    ServedFlash, blank_flash, default_config, explain_flash, read_commands, serve_flash,
+};
+use crate::output::{Failure, File, Output, Text};
 use crate::refusal::Refusal;
 use cut_replay::Lines;
 use desk_io::Desk;
 use drive_gen::{commands, summary};
 use flash_model::MAX_ALLOWANCE;
 use host_protocol::Command;
-use image_desk::{fetch, read_device};
 use image_file::{blank_image, into_image};
 use mem_flash::MemFlash;
+use program_base::{load_file, open_image};
 use std::alloc::{AllocError, Global};
 use std::mem::forget;
 use tx_types::{Config, Protocol};
 
 /// Serves the commands of a file on a fresh device.
-pub fn to_try<'a, D: Desk>(
+pub fn do_try<'a, D: Desk>(
     alloc: Global,
     name: &'a str,
     desk: &mut D,
-) -> Result<Product<'a>, Stop<'a>>
+) -> Result<Output<'a>, Failure<'a>>
     ensures works { Works (Some (Try name.now)) (D.state desk.old) (D.state desk.new) result }
     ensures disk { Rests (D.disk desk.old) (D.disk desk.new) }
 {
-    let lines = fetch(name, desk)?;
-    tried(alloc, &lines)
+    let lines = load_file(name, desk)?;
+    try_from_bytes(alloc, &lines)
 }
 
 /// Serves the commands of a file on the device of an image file, which is then saved.
-pub fn to_run<'a, D: Desk>(
+pub fn do_run<'a, D: Desk>(
     alloc: Global,
     image: &'a str,
     script: &'a str,
     desk: &mut D,
-) -> Result<Product<'a>, Stop<'a>>
+) -> Result<Output<'a>, Failure<'a>>
     ensures works { Works (Some (Run image.now script.now)) (D.state desk.old) (D.state desk.new) result }
     ensures disk { Rests (D.disk desk.old) (D.disk desk.new) }
 {
-    let bytes = fetch(image, desk)?;
-    let lines = fetch(script, desk)?;
-    ran(alloc, image, bytes, &lines)
+    let bytes = load_file(image, desk)?;
+    let lines = load_file(script, desk)?;
+    run_from_bytes(alloc, image, bytes, &lines)
 }
 
 /// Reports on the records of an image file.
-pub fn to_explain<'a, D: Desk>(
+pub fn do_explain<'a, D: Desk>(
     alloc: Global,
     image: &'a str,
     desk: &mut D,
-) -> Result<Product<'a>, Stop<'a>>
+) -> Result<Output<'a>, Failure<'a>>
     ensures works { Works (Some (Explain image.now)) (D.state desk.old) (D.state desk.new) result }
     ensures disk { Rests (D.disk desk.old) (D.disk desk.new) }
 {
-    let bytes = fetch(image, desk)?;
-    reported(alloc, bytes)
+    let bytes = load_file(image, desk)?;
+    explain_from_bytes(alloc, bytes)
 }
 
 /// What a try gives, from the bytes of its commands on.
-fn tried<'a>(alloc: Global, lines: &[u8]) -> Result<Product<'a>, Stop<'a>>
+fn try_from_bytes<'a>(alloc: Global, lines: &[u8]) -> Result<Output<'a>, Failure<'a>>
     requires { length lines.now ≤ max_file_bytes }
     ensures { WorksTo (Trying lines.now) result }
 {
     let protocol = Protocol::Scc;
     let list = read_commands(alloc, lines, default_config(protocol).page_bytes)?;
     let replies = serve_fresh(alloc, protocol, &list);
-    leave(list);
-    Ok(Product {
+    leak_at_exit(list);
+    Ok(Output {
         saved: None,
         text: Text::Replies(replies?),
     })
 }
 
 /// What a run gives, from the bytes of its files on.
-fn ran<'a>(
+fn run_from_bytes<'a>(
     alloc: Global,
     name: &'a str,
     bytes: Vec<u8>,
     lines: &[u8],
-) -> Result<Product<'a>, Stop<'a>>
+) -> Result<Output<'a>, Failure<'a>>
     requires { length lines.now ≤ max_file_bytes }
     ensures { WorksTo (Running name.now bytes.items lines.now) result }
 {
-    let (config, flash) = read_device(alloc, bytes)?;
+    let (config, flash) = open_image(alloc, bytes)?;
     match read_commands(alloc, lines, config.page_bytes) {
         Ok(list) => {
             let product = run_commands(alloc, name, config, flash, &list);
-            leave(list);
+            leak_at_exit(list);
             product
         }
         Err(stop) => {
@@ -115,52 +117,52 @@ fn run_commands<'a>(
     config: Config,
     flash: MemFlash,
     list: &[Command],
-) -> Result<Product<'a>, Stop<'a>>
+) -> Result<Output<'a>, Failure<'a>>
     requires check { checked config ≡ Ok (shape_of config) }
     requires ready { flash ≡ loaded (shape_of config) flash.image flash.extras }
     requires suits { All (Suits config.page_bytes) list.now }
     ensures { WorksTo (OpensAndServes config flash.image
         (Ran name.now config flash.image flash.extras list.now)) result }
 {
-    let ServedFlash { flash, replies } = served(alloc, flash, config, list)?;
+    let ServedFlash { flash, replies } = serve_flash(alloc, flash, config, list)?;
     let saved = into_image(alloc, &config, flash)?;
-    Ok(Product {
+    Ok(Output {
         saved: Some(File { name, bytes: saved }),
         text: Text::Replies(replies),
     })
 }
 
 /// What an explanation gives, from the bytes of its image on.
-fn reported<'a>(alloc: Global, bytes: Vec<u8>) -> Result<Product<'a>, Stop<'a>>
+fn explain_from_bytes<'a>(alloc: Global, bytes: Vec<u8>) -> Result<Output<'a>, Failure<'a>>
     ensures { WorksTo (Explaining bytes.items) result }
 {
-    let (config, flash) = read_device(alloc, bytes)?;
-    let report = explained(alloc, flash, config)?;
-    Ok(Product {
+    let (config, flash) = open_image(alloc, bytes)?;
+    let report = explain_flash(alloc, flash, config)?;
+    Ok(Output {
         saved: None,
         text: Text::Other(report),
     })
 }
 
 /// The image of a blank device, so many blocks of which may be retired, and a line that says so.
-pub fn formatted<'a>(
+pub fn do_format<'a>(
     alloc: Global,
     name: &'a str,
     config: Config,
     allowance: u32,
-) -> Result<Product<'a>, Stop<'a>>
+) -> Result<Output<'a>, Failure<'a>>
     ensures { WorksTo (λ fate. fate ≡ formatting name.now config allowance (checked config)) result }
 {
     let shape = match config.check() {
         Ok(shape) => shape,
-        Err(rule) => return Err(Stop::Refused(Refusal::BadConfiguration(rule))),
+        Err(rule) => return Err(Failure::Refused(Refusal::BadConfiguration(rule))),
     };
     if allowance > MAX_ALLOWANCE {
-        return Err(Stop::Refused(Refusal::BadAllowance));
+        return Err(Failure::Refused(Refusal::BadAllowance));
     }
     let bytes = blank_image(alloc, &config, shape, allowance)?;
     let line = formatted_line(alloc, name, shape.slots())?;
-    Ok(Product {
+    Ok(Output {
         saved: Some(File { name, bytes }),
         text: Text::Other(line),
     })
@@ -176,18 +178,18 @@ fn formatted_line(alloc: Global, name: &str, slots: u32) -> Result<Vec<u8>, Allo
 }
 
 /// The summary of the replies to commands that are drawn.
-pub fn driven<'a>(
+pub fn do_drive<'a>(
     alloc: Global,
     start: u64,
     count: u32,
     protocol: Protocol,
-) -> Result<Product<'a>, Stop<'a>>
+) -> Result<Output<'a>, Failure<'a>>
     ensures { WorksTo (λ fate. fate ≡ Driven start count protocol) result }
 {
     let list = commands(alloc, start, count, default_config(protocol))?;
     let line = sum_up(alloc, start, count, protocol, &list);
-    leave(list);
-    Ok(Product {
+    leak_at_exit(list);
+    Ok(Output {
         saved: None,
         text: Text::Other(line?),
     })
@@ -200,7 +202,7 @@ fn sum_up(
     count: u32,
     protocol: Protocol,
     list: &[Command],
-) -> Result<Vec<u8>, Stop<'static>>
+) -> Result<Vec<u8>, Failure<'static>>
     requires { All (Suits (default_config protocol).page_bytes) list.now }
     ensures ok { IfOk result (λ line. (replies : List ℕ) × RepliesFresh protocol list.now replies
         × (line.items ≡ summary_line start count protocol (length list.now) replies)) }
@@ -221,20 +223,24 @@ fn sum_up(
 }
 
 /// Serves commands on a fresh device, and answers the replies.
-fn serve_fresh(alloc: Global, protocol: Protocol, list: &[Command]) -> Result<Lines, Stop<'static>>
+fn serve_fresh(
+    alloc: Global,
+    protocol: Protocol,
+    list: &[Command],
+) -> Result<Lines, Failure<'static>>
     requires { All (Suits (default_config protocol).page_bytes) list.now }
     ensures ok { IfOk result (RepliesFresh protocol list.now) }
     ensures err { IfErr result (λ e. e ≡ Stop.Memory) }
 {
     let config = default_config(protocol);
     let blank = blank_flash(alloc, config)?;
-    let ServedFlash { flash, replies } = served(alloc, blank, config, list)?;
+    let ServedFlash { flash, replies } = serve_flash(alloc, blank, config, list)?;
     drop(flash);
     Ok(replies)
 }
 
 /// Leaves the memory of commands to the end of the program, which is near: to give that of each command back would
 /// take longer than to make them, and nothing is to be put there.
-pub fn leave<T: Drop>(list: Vec<T>) {
+pub fn leak_at_exit<T: Drop>(list: Vec<T>) {
     forget(list);
 }

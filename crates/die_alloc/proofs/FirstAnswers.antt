@@ -3,7 +3,7 @@ use Rattle.std.proofs.Common.{◌≡◌, ℕ, ◌+◌, ◌-◌, ◌<◌, ◌≤�
 use Rattle.std.specs.List.{range_with_len}
 use Rattle.std.specs.Option.{option_or}
 use Rattle.std.proofs.lemmas.Bool.{cases_lt}
-use Rattle.list_facts.proofs.Options.{option_or_some, option_or_none, option_or_assoc}
+use Rattle.list_lemmas.proofs.Options.{option_or_some, option_or_none, option_or_assoc}
 use Rattle.die_alloc.specs.NextSlot.{first_answer}
 
 -- of a range that is not empty, the first number is asked first

@@ -3,4 +3,4 @@ pub mod OpenBlocks
 pub mod NextSlots
 pub mod Changes
 pub mod RankedBlocks
-pub mod Exchanges
+pub mod Swaps

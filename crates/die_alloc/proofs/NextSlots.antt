@@ -5,33 +5,33 @@ use Rattle.std.specs.Option.{IsNone, option_or}
 use Rattle.std.proofs.Math.Nat.{mul_comm, div-eq_of_lt-le}
 use Rattle.std.proofs.lemmas.Bool.{cases_lt}
 use Rattle.std.proofs.lemmas.Nat.{div_below, div-add-mod', mod_below, mul-add-lt, div-mul-add, mod-mul-add}
-use Rattle.list_facts.proofs.Options.{option_or_some, option_or_none}
+use Rattle.list_lemmas.proofs.Options.{option_or_some, option_or_none}
 use Rattle.tx_types.specs.Config.{IsShape, blocks_of}
 use Rattle.tx_types.specs.declared.config.Shape.{Shape}
 use Rattle.flash_model.specs.Operations.{die_of}
-use Rattle.die_alloc.specs.BlockTable.{BlockTable, IsBlockTable, used_of, HasRoom, IsFull, IsFullIn, IsFirstFree, block_of_slot}
+use Rattle.die_alloc.specs.BlocksState.{BlocksState, IsBlocksState, used_of, HasRoom, IsFull, IsFullIn, IsFirstFree, block_of_slot}
 use Rattle.die_alloc.specs.NextSlot.{first_answer, open_block, next_block, first_unused, die_after}
 use Rattle.die_alloc.proofs.FirstAnswers.{first_answer-append, answer_of_one, no_answer}
 use Rattle.die_alloc.proofs.OpenBlocks.{die_lies, open_block_has_room, no_open_block}
 
 -- the block with room in the first die from the cursor on that has one, and in the first one before the cursor
-abbrev pub from_cursor : BlockTable → Option ℕ
+abbrev pub from_cursor : BlocksState → Option ℕ
 from_cursor t = first_answer (open_block t) (range_with_len t.cursor (t.shape.dies - t.cursor))
 
-abbrev pub before_cursor : BlockTable → Option ℕ
+abbrev pub before_cursor : BlocksState → Option ℕ
 before_cursor t = first_answer (open_block t) (range_with_len 0 t.cursor)
 
-pub next_block_split : (t : BlockTable) → next_block t ≡ option_or (from_cursor t) (before_cursor t)
+pub next_block_split : (t : BlocksState) → next_block t ≡ option_or (from_cursor t) (before_cursor t)
 unfolding next_block
 next_block_split t = first_answer-append (open_block t) (range_with_len t.cursor (t.shape.dies - t.cursor)) (range_with_len 0 t.cursor)
 
 -- the open block of a die is one of the table, lies in the die, and has room
-pub record Stands (t : BlockTable) (die block : ℕ) : Type 0 where
+pub record Stands (t : BlocksState) (die block : ℕ) : Type 0 where
   pub within : block < blocks_of t.shape
   pub lies : block / t.shape.blocks_per_die ≡ die
   pub room : HasRoom t block
 
-pub open_block_stands : (t : BlockTable) → IsBlockTable t → (die block : ℕ) → die < t.shape.dies → open_block t die ≡ Some block
+pub open_block_stands : (t : BlocksState) → IsBlocksState t → (die block : ℕ) → die < t.shape.dies → open_block t die ≡ Some block
     → Stands t die block
 open_block_stands t h die block below e =
     let found = open_block_has_room t h die block below e in
@@ -42,7 +42,7 @@ open_block_stands t h die block below e =
     }
 
 -- a die has none exactly where no block of it has room
-pub no_open_block_where_full : (t : BlockTable) → IsBlockTable t → (die : ℕ) → die < t.shape.dies → IsNone (open_block t die) ↔ IsFullIn t die
+pub no_open_block_where_full : (t : BlocksState) → IsBlocksState t → (die : ℕ) → die < t.shape.dies → IsNone (open_block t die) ↔ IsFullIn t die
 no_open_block_where_full t h die below = by_block (open_block t die) refl
   where
     by_block : (o : Option ℕ) → open_block t die ≡ o → IsNone o ↔ IsFullIn t die
@@ -60,7 +60,7 @@ no_open_block_where_full t h die below = by_block (open_block t die) refl
         (λ no. cc, λ full. absurd (full block stands.within stands.lies stands.room))
 
 -- the block that is programmed next is one of the table, and has room
-pub next_block_has_room : (t : BlockTable) → IsBlockTable t → (block : ℕ) → next_block t ≡ Some block
+pub next_block_has_room : (t : BlocksState) → IsBlocksState t → (block : ℕ) → next_block t ≡ Some block
     → (block < blocks_of t.shape) × HasRoom t block
 next_block_has_room t h block e =
     elim (option_or_some (from_cursor t) (before_cursor t) block (sym (next_block_split t) ∙ e)) [
@@ -78,7 +78,7 @@ next_block_has_room t h block e =
     from_die die below e = let stands = open_block_stands t h die block below e in (stands.within, stands.room)
 
 -- where there is none, no block has room
-pub no_next_block : (t : BlockTable) → IsBlockTable t → next_block t ≡ None → IsFull t
+pub no_next_block : (t : BlocksState) → IsBlocksState t → next_block t ≡ None → IsFull t
 no_next_block t h e block within room =
     let none = option_or_none (from_cursor t) (before_cursor t) (sym (next_block_split t) ∙ e) in
     let size = t.shape.blocks_per_die in
@@ -96,7 +96,7 @@ no_next_block t h e block within room =
     no_open_block t h die block below gives_none (omega (arith, split)) (omega (arith, split, rest)) room
 
 -- a block with room has fewer used slots than it has slots
-pub room_left : (t : BlockTable) → IsBlockTable t → (block : ℕ) → block < blocks_of t.shape → HasRoom t block
+pub room_left : (t : BlocksState) → IsBlocksState t → (block : ℕ) → block < blocks_of t.shape → HasRoom t block
     → used_of t block < t.shape.pages_per_block
 room_left t h block within room =
     let may = h.bounds block within in
@@ -106,7 +106,7 @@ room_left t h block within room =
     ]
 
 -- so the slot that follows the used ones is the first free slot of the block
-pub first_unused_is_free : (t : BlockTable) → IsBlockTable t → (block : ℕ) → block < blocks_of t.shape → HasRoom t block
+pub first_unused_is_free : (t : BlocksState) → IsBlocksState t → (block : ℕ) → block < blocks_of t.shape → HasRoom t block
     → IsFirstFree t (first_unused t block).0
 first_unused_is_free t h block within room =
     let left = room_left t h block within room in
@@ -122,7 +122,7 @@ first_unused_is_free t h block within room =
     }
 
 -- and lies in the die of its block
-pub die_of-first_unused : (t : BlockTable) → IsBlockTable t → (die block : ℕ) → Stands t die block
+pub die_of-first_unused : (t : BlocksState) → IsBlocksState t → (die block : ℕ) → Stands t die block
     → die_of t.shape (first_unused t block).0 ≡ die
 die_of-first_unused t h die block stands =
     ap (λ n. n / t.shape.blocks_per_die)
@@ -130,7 +130,7 @@ die_of-first_unused t h die block stands =
     ∙ stands.lies
 
 -- no block is programmed next exactly where none has room
-pub no_block_where_full : (t : BlockTable) → IsBlockTable t → IsNone (next_block t) ↔ IsFull t
+pub no_block_where_full : (t : BlocksState) → IsBlocksState t → IsNone (next_block t) ↔ IsFull t
 no_block_where_full t h = by_block (next_block t) refl
   where
     by_block : (o : Option ℕ) → next_block t ≡ o → IsNone o ↔ IsFull t
@@ -140,7 +140,7 @@ no_block_where_full t h = by_block (next_block t) refl
         (λ no. cc, λ full. absurd (full block found.0 found.1))
 
 -- the cursor plays no part in what is free
-pub is_first_free_moved : (t : BlockTable) (at die : ℕ) → IsFirstFree t at → IsFirstFree (record t { cursor = die }) at
+pub is_first_free_moved : (t : BlocksState) (at die : ℕ) → IsFirstFree t at → IsFirstFree (record t { cursor = die }) at
 is_first_free_moved t at die h = record { free = record { within = h.free.within; room = h.free.room; unused = h.free.unused }; first = h.first }
 
 pub ruleset next_blocks = (next_block_split, next_block_has_room, no_block_where_full)

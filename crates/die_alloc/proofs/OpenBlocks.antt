@@ -7,13 +7,13 @@ use Rattle.std.proofs.lemmas.List.{get_or-drop, get_or-take}
 use Rattle.std.proofs.lemmas.List.Quantifiers.{position-Some}
 use Rattle.tx_types.specs.declared.config.BlockState.{BlockState}
 use Rattle.tx_types.specs.declared.config.BlockState.TheVariants.{Spare, Clean, Part, Shut}
-use Rattle.die_alloc.specs.BlockTable.{BlockTable, block_state, no_block, HasRoom, IsBlockTable}
+use Rattle.die_alloc.specs.BlocksState.{BlocksState, block_state, no_block, HasRoom, IsBlocksState}
 use Rattle.std.proofs.lemmas.Nat.{row_fits_turned}
-use Rattle.list_facts.proofs.Options.{option_or_some, option_or_none}
-use Rattle.list_facts.proofs.Positions.{position-all}
+use Rattle.list_lemmas.proofs.Options.{option_or_some, option_or_none}
+use Rattle.list_lemmas.proofs.Positions.{position-all}
 use Rattle.die_alloc.specs.NextSlot.{is_part, is_clean, lowest_block, open_block, die_blocks}
 
-module _ (test : BlockState → Bool) (t : BlockTable) (die : ℕ) where
+module _ (test : BlockState → Bool) (t : BlocksState) (die : ℕ) where
   -- the die lies in the table
   abbrev pub Lies : Type 0
   Lies = die * t.shape.blocks_per_die + t.shape.blocks_per_die ≤ length t.blocks
@@ -68,12 +68,12 @@ clean_is Part h = cc
 clean_is Shut h = cc
 
 -- the dies of a block table lie in it
-pub die_lies : (t : BlockTable) → IsBlockTable t → (die : ℕ) → die < t.shape.dies
+pub die_lies : (t : BlocksState) → IsBlocksState t → (die : ℕ) → die < t.shape.dies
     → die * t.shape.blocks_per_die + t.shape.blocks_per_die ≤ length t.blocks
 die_lies t h die below = rw h.count (row_fits_turned die t.shape.blocks_per_die t.shape.blocks_per_die t.shape.dies below (omega arith))
 
 -- the block of a die that has room
-pub open_block_has_room : (t : BlockTable) → IsBlockTable t → (die block : ℕ) → die < t.shape.dies → open_block t die ≡ Some block
+pub open_block_has_room : (t : BlocksState) → IsBlocksState t → (die block : ℕ) → die < t.shape.dies → open_block t die ≡ Some block
     → (die * t.shape.blocks_per_die ≤ block) × (block < die * t.shape.blocks_per_die + t.shape.blocks_per_die) × HasRoom t block
 unfolding open_block
 open_block_has_room t h die block below e =
@@ -84,7 +84,7 @@ open_block_has_room t h die block below e =
     ]
 
 -- where a die has none, no block of it has room
-pub no_open_block : (t : BlockTable) → IsBlockTable t → (die block : ℕ) → die < t.shape.dies → open_block t die ≡ None
+pub no_open_block : (t : BlocksState) → IsBlocksState t → (die block : ℕ) → die < t.shape.dies → open_block t die ≡ None
     → die * t.shape.blocks_per_die ≤ block → block < die * t.shape.blocks_per_die + t.shape.blocks_per_die → HasRoom t block → ⊥
 unfolding open_block
 no_open_block t h die block below e low high room =

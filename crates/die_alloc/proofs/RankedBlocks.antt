@@ -9,14 +9,14 @@ use Rattle.std.proofs.lemmas.List.{get_or-drop, get_or-take, get_or-set_same, ge
 use Rattle.std.proofs.lemmas.List.{set-get_or}
 use Rattle.std.proofs.lemmas.Nat.{div_below, div-mul-add, mod-mul-add, div-add-mod', mod_below, row_fits_turned}
 use Rattle.std.proofs.Math.Nat.{mul_comm, mul-le-mul_right}
-use Rattle.plain_tables.specs.Greatest.{IsFirstGreatest}
-use Rattle.list_facts.proofs.Positions.{position-at, position-none}
+use Rattle.dense_tables.specs.Greatest.{IsFirstGreatest}
+use Rattle.list_lemmas.proofs.Positions.{position-at, position-none}
 use Rattle.tx_types.specs.Config.{IsShape, blocks_of}
 use Rattle.tx_types.specs.declared.config.Shape.{Shape}
 use Rattle.tx_types.specs.declared.config.BlockState.{BlockState}
 use Rattle.tx_types.specs.declared.config.BlockState.TheVariants.{Spare, Clean, Part, Shut}
 use Rattle.die_alloc.specs.declared.block_use.BlockUse.{BlockUse}
-use Rattle.die_alloc.specs.BlockTable.{BlockTable, IsBlockTable, no_block}
+use Rattle.die_alloc.specs.BlocksState.{BlocksState, IsBlocksState, no_block}
 use Rattle.die_alloc.specs.NextSlot.{is_part, is_clean, lowest_block, open_block, die_blocks}
 use Rattle.die_alloc.specs.Ranks.{rank_of, AreRanksOf, AreRanks}
 use Rattle.die_alloc.proofs.OpenBlocks.{length_of_die, die_lies}
@@ -33,7 +33,7 @@ none_not_clean Spare low = refl
 none_not_clean Clean low = absurd (omega arith)
 none_not_clean Shut low = refl
 
-module _ (t : BlockTable) (table : IsBlockTable t) (ranks : List (List ℕ)) (are : AreRanks t.shape t.blocks ranks) (die : ℕ) (below : die < t.shape.dies) where
+module _ (t : BlocksState) (table : IsBlocksState t) (ranks : List (List ℕ)) (are : AreRanks t.shape t.blocks ranks) (die : ℕ) (below : die < t.shape.dies) where
   abbrev xs : List ℕ
   xs = get_or ranks die []
 
@@ -276,7 +276,7 @@ of_die P s blocks ranks read die are below is holds =
     subst P (is ∙ get_or_default ranks die read [] (let n = are.dies in omega arith)) holds
 
 -- the place of a block in its die, and in the table
-pub place_in_die : (t : BlockTable) (ranks : List (List ℕ)) (die at : ℕ) → IsBlockTable t → AreRanks t.shape t.blocks ranks → die < t.shape.dies →
+pub place_in_die : (t : BlocksState) (ranks : List (List ℕ)) (die at : ℕ) → IsBlocksState t → AreRanks t.shape t.blocks ranks → die < t.shape.dies →
     IsFirstGreatest (get_or ranks die []) at → (at < t.shape.blocks_per_die) × (die * t.shape.blocks_per_die + at < blocks_of t.shape)
 place_in_die t ranks die at table are below first =
     let place = place_fits t table ranks are die below at first in

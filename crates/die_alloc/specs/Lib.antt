@@ -1,5 +1,5 @@
-pub mod BlockTable
+pub mod BlocksState
 pub mod NextSlot
 pub mod Ranks
-pub mod Kept
+pub mod Blocks
 pub mod Opening

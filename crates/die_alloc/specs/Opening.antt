@@ -6,7 +6,7 @@ use Rattle.tx_types.specs.declared.config.BlockState.TheVariants.{Spare, Clean, 
 use Rattle.tx_types.specs.Config.{blocks_of}
 use Rattle.flash_model.specs.declared.flash.Seen.{Seen}
 use Rattle.die_alloc.specs.declared.block_use.BlockUse.{BlockUse}
-use Rattle.die_alloc.specs.BlockTable.{BlockTable, with_use}
+use Rattle.die_alloc.specs.BlocksState.{BlocksState, with_use}
 use Rattle.flash_model.specs.Readings.{reads_blank, seen_in_block, reads_blank_block}
 
 -- how many of the first slots are used: those up to the last one that is not blank
@@ -23,7 +23,7 @@ use_in shape slots spare block =
     else record { state = Shut; used = used_in (seen_in_block shape slots block) }
 
 -- the block table of slots that read so, with this spare
-abbrev pub opening_table : Shape → List Seen → ℕ → BlockTable
+abbrev pub opening_table : Shape → List Seen → ℕ → BlocksState
 opening_table shape slots spare = record {
   shape = shape;
   blocks = map (use_in shape slots spare) (range_with_len 0 (blocks_of shape));
@@ -32,6 +32,6 @@ opening_table shape slots spare = record {
 }
 
 -- the table once the slots of a block were looked at: where one is used and it is not the spare, it is shut
-abbrev pub with_slots : BlockTable → ℕ → List Seen → BlockTable
+abbrev pub with_slots : BlocksState → ℕ → List Seen → BlocksState
 with_slots t block slots =
     if used_in slots == 0 || block == t.spare then t else with_use t block Shut (used_in slots)

@@ -4,7 +4,7 @@ use Rattle.tx_types.specs.declared.config.Shape.{Shape}
 use Rattle.tx_types.specs.declared.config.BlockState.{BlockState}
 use Rattle.tx_types.specs.declared.config.BlockState.TheVariants.{Spare, Clean, Part, Shut}
 use Rattle.die_alloc.specs.declared.block_use.BlockUse.{BlockUse}
-use Rattle.die_alloc.specs.BlockTable.{no_block}
+use Rattle.die_alloc.specs.BlocksState.{no_block}
 
 -- a block with a blank tail comes before a clean one; one without room has rank 0
 abbrev pub rank_of : BlockState → ℕ

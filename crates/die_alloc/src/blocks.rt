@@ -1,13 +1,13 @@
 ghost use Rattle.std.specs.Prelude.{◌≡◌, ◌≢◌, ◌-◌, ◌*◌, ◌/◌, ◌%◌, ◌<◌, ◌≤◌, ◌↔◌, IfOk, IfSome, IfNone, IsNone};
 ghost use Rattle.tx_types.specs.Config.{IsShape, slots_of, blocks_of};
 ghost use Rattle.flash_model.specs.Operations.{die_of};
-ghost use Rattle.die_alloc.specs.BlockTable.{IsBlockTable, MayHave, block_state, used_of, fresh_table, with_slot, with_use, table_with_spare, HasRoom, IsFree, IsFirstFree, IsFull, IsFullIn};
+ghost use Rattle.die_alloc.specs.BlocksState.{IsBlocksState, MayHave, block_state, used_of, fresh_table, with_slot, with_use, table_with_spare, HasRoom, IsFree, IsFirstFree, IsFull, IsFullIn};
 ghost use Rattle.die_alloc.specs.NextSlot.{next_slot, next_slot_in, first_unused, next_block, open_block, die_after, after_next_slot, first_answer};
 ghost use Rattle.std.specs.List.{range_with_len};
 
 use crate::block_use::BlockUse;
 use crate::ranks::{keep, ranks};
-use plain_tables::{Divisor, Peaks};
+use dense_tables::{MaxTree, Reciprocal};
 use std::alloc::Global;
 use std::marker::Model;
 use tx_types::{Block, BlockState, Memory, Shape, Slot};
@@ -17,26 +17,26 @@ use tx_types::{Block, BlockState, Memory, Shape, Slot};
 pub struct Blocks {
     shape: Shape,
     /// The pages of a block, and the blocks of a die.
-    pages: Divisor,
-    die_blocks: Divisor,
+    pages: Reciprocal,
+    die_blocks: Reciprocal,
     blocks: Vec<BlockUse>,
     spare: Block,
     /// The die at which the search for a slot begins.
     cursor: u32,
     /// Of each die the ranks of its blocks.
-    ranks: Vec<Peaks>,
+    ranks: Vec<MaxTree>,
 }
 
 impl Model for Blocks {
-    ghost use Rattle.die_alloc.specs.BlockTable.{BlockTable};
+    ghost use Rattle.die_alloc.specs.BlocksState.{BlocksState};
 
-    ghost Value = { BlockTable };
+    ghost Value = { BlocksState };
 
-    ghost use Rattle.die_alloc.specs.Kept.{table_of, IsKept};
+    ghost use Rattle.die_alloc.specs.Blocks.{table_of, BlocksInvariant};
 
     ghost view = { table_of };
 
-    ghost invariant = { IsKept };
+    ghost invariant = { BlocksInvariant };
 }
 
 impl Blocks {
@@ -44,7 +44,7 @@ impl Blocks {
     pub fn new(alloc: Global, shape: Shape) -> Result<Blocks, Memory>
         requires { IsShape shape }
         ensures fresh { IfOk result (λ b. b ≡ fresh_table shape) }
-        ensures table { IfOk result IsBlockTable }
+        ensures table { IfOk result IsBlocksState }
     {
         let last = shape.blocks() - 1;
         let mut blocks = vec![in alloc; BlockUse::CLEAN; shape.blocks() as usize]?;
@@ -52,8 +52,8 @@ impl Blocks {
         let ranks = ranks(alloc, shape, &blocks)?;
         Ok(Blocks {
             shape,
-            pages: Divisor::new(shape.pages_per_block),
-            die_blocks: Divisor::new(shape.blocks_per_die),
+            pages: Reciprocal::new(shape.pages_per_block),
+            die_blocks: Reciprocal::new(shape.blocks_per_die),
             blocks,
             spare: Block(last),
             cursor: 0,
@@ -71,7 +71,7 @@ impl Blocks {
         ensures free { IfSome result (λ at. IsFirstFree self.new at.0) }
         ensures full { IsNone result ↔ IsFull self.old }
         ensures unchanged { IfNone result (self.new ≡ self.old) }
-        ensures table { IsBlockTable self.new }
+        ensures table { IsBlocksState self.new }
     {
         let block = self.next_block()?;
         let at = self.first_unused(block);
@@ -89,7 +89,7 @@ impl Blocks {
         ensures free { IfSome result (λ at. IsFirstFree self.new at.0) }
         ensures die { IfSome result (λ at. die_of self.old.shape at.0 ≡ die) }
         ensures full { IsNone result ↔ IsFullIn self.old die }
-        ensures table { IsBlockTable self.new }
+        ensures table { IsBlocksState self.new }
     {
         let block = self.open_block(die)?;
         Some(self.first_unused(block))
@@ -148,7 +148,7 @@ impl Blocks {
     fn open_block(&self, die: u32) -> Option<u32>
         requires { die < self.now.shape.dies }
         ensures block { result ≡ open_block self.now die }
-        ensures table { IsBlockTable self.now }
+        ensures table { IsBlocksState self.now }
     {
         let place = self.ranks[die as usize].first_greatest()?;
         Some(die * self.shape.blocks_per_die + place as u32)
@@ -158,7 +158,7 @@ impl Blocks {
     pub fn state(&self, block: Block) -> BlockState
         requires { block.0 < blocks_of self.now.shape }
         ensures state { result ≡ block_state self.now block.0 }
-        ensures table { IsBlockTable self.now }
+        ensures table { IsBlocksState self.now }
     {
         self.blocks[block.0 as usize].state
     }
@@ -167,7 +167,7 @@ impl Blocks {
     pub fn used(&self, block: Block) -> u32
         requires { block.0 < blocks_of self.now.shape }
         ensures used { result ≡ used_of self.now block.0 }
-        ensures table { IsBlockTable self.now }
+        ensures table { IsBlocksState self.now }
     {
         self.blocks[block.0 as usize].used
     }
@@ -175,7 +175,7 @@ impl Blocks {
     /// The block that is kept for the collector.
     pub fn spare(&self) -> Block
         ensures spare { result.0 ≡ self.now.spare }
-        ensures table { IsBlockTable self.now }
+        ensures table { IsBlocksState self.now }
     {
         self.spare
     }
@@ -184,7 +184,7 @@ impl Blocks {
     pub fn note_used(&mut self, at: Slot)
         requires { IsFree self.old at.0 }
         ensures used { self.new ≡ with_slot self.old at.0 }
-        ensures table { IsBlockTable self.new }
+        ensures table { IsBlocksState self.new }
     {
         let block = self.pages.quotient(at.0);
         let used = at.0 - block * self.shape.pages_per_block + 1;
@@ -211,7 +211,7 @@ impl Blocks {
         requires no_spare { state ≢ BlockState.Spare }
         requires fits { MayHave self.old.shape.pages_per_block state used }
         ensures set { self.new ≡ with_use self.old block.0 state used }
-        ensures table { IsBlockTable self.new }
+        ensures table { IsBlocksState self.new }
     {
         let now = BlockUse { state, used };
         keep(
@@ -228,7 +228,7 @@ impl Blocks {
     pub fn make_spare(&mut self, block: Block)
         requires { block.0 < blocks_of self.old.shape }
         ensures spare { self.new ≡ table_with_spare self.old block.0 }
-        ensures table { IsBlockTable self.new }
+        ensures table { IsBlocksState self.new }
     {
         let (shape, old) = (self.shape, self.spare.0);
         keep(
@@ -251,15 +251,15 @@ impl Blocks {
     }
 
     /// Makes a block the spare that is not, and gives the one that was it this state and this number of used slots.
-    pub fn exchange(&mut self, block: Block, state: BlockState, used: u32)
+    pub fn swap_spare(&mut self, block: Block, state: BlockState, used: u32)
         requires exists { block.0 < blocks_of self.old.shape }
         requires not_the_spare { block.0 ≢ self.old.spare }
         requires no_spare { state ≢ BlockState.Spare }
         requires fits { MayHave self.old.shape.pages_per_block state used }
         ensures exchanged { self.new
             ≡ with_use (table_with_spare self.old block.0) self.old.spare state used }
-        ensures between { IsBlockTable (table_with_spare self.old block.0) }
-        ensures table { IsBlockTable self.new }
+        ensures between { IsBlocksState (table_with_spare self.old block.0) }
+        ensures table { IsBlocksState self.new }
     {
         let (shape, old) = (self.shape, self.spare.0);
         keep(

@@ -3,7 +3,7 @@ ghost use Rattle.tx_types.specs.Config.{IsShape, blocks_of};
 ghost use Rattle.die_alloc.specs.Ranks.{rank_of, AreRanksOf, AreRanks};
 
 use crate::block_use::BlockUse;
-use plain_tables::{Divisor, Peaks};
+use dense_tables::{MaxTree, Reciprocal};
 use std::alloc::Global;
 use tx_types::{BlockState, Memory, Shape};
 
@@ -20,7 +20,7 @@ fn rank(state: BlockState) -> u32
 }
 
 /// The ranks of the blocks of each die.
-pub fn ranks(alloc: Global, shape: Shape, blocks: &[BlockUse]) -> Result<Vec<Peaks>, Memory>
+pub fn ranks(alloc: Global, shape: Shape, blocks: &[BlockUse]) -> Result<Vec<MaxTree>, Memory>
     requires shape { IsShape shape }
     requires blocks { length blocks.now ≡ blocks_of shape }
     ensures { IfOk result (λ ranks. AreRanks shape blocks.now ranks.items) }
@@ -35,11 +35,11 @@ pub fn ranks(alloc: Global, shape: Shape, blocks: &[BlockUse]) -> Result<Vec<Pea
 }
 
 /// The ranks of the blocks of a die.
-fn die_ranks(alloc: Global, blocks: &[BlockUse]) -> Result<Peaks, Memory>
+fn die_ranks(alloc: Global, blocks: &[BlockUse]) -> Result<MaxTree, Memory>
     requires { length blocks.now < 2 ^ 32 }
     ensures { IfOk result (AreRanksOf blocks.now) }
 {
-    let mut ranks = Peaks::new(alloc, blocks.len())?;
+    let mut ranks = MaxTree::new(alloc, blocks.len())?;
     for (place, block) in blocks.iter().enumerate() {
         ranks.set(place, rank(block.state));
     }
@@ -49,9 +49,9 @@ fn die_ranks(alloc: Global, blocks: &[BlockUse]) -> Result<Peaks, Memory>
 /// Keeps this of a block, and its rank where that is another one.
 pub fn keep(
     shape: Shape,
-    die_blocks: &Divisor,
+    die_blocks: &Reciprocal,
     blocks: &mut Vec<BlockUse>,
-    ranks: &mut Vec<Peaks>,
+    ranks: &mut Vec<MaxTree>,
     block: u32,
     now: BlockUse,
 )
@@ -74,7 +74,7 @@ pub fn keep(
 }
 
 /// Gives a block of a die another rank.
-fn set_rank(ranks: &mut Vec<Peaks>, die: usize, place: usize, rank: u32)
+fn set_rank(ranks: &mut Vec<MaxTree>, die: usize, place: usize, rank: u32)
     requires die { die < length ranks.old.items }
     requires place { place < length (slice_index_or ranks.old.items die []) }
     ensures { ranks.new.items

@@ -1,11 +1,10 @@
 -- States of the generator, one after the other, and what is drawn from them.
-use Rattle.std.proofs.Common.{◌≡◌, ℕ, suc, ◌+◌, ◌∷◌, length, refl, add-one}
+use Rattle.drive_gen.proofs.Common.{◌≡◌, ℕ, suc, ◌+◌, ◌∷◌, length, refl, next_state, generator_after, drawn_batch, drawn_write, page_count, Config}
+use Rattle.std.proofs.Common.{add-one}
 use Rattle.std.proofs.lemmas.List.FromFn.{length-map-range_with_len}
-use Rattle.drive_gen.specs.Generator.{next_state, generator_after}
 use Rattle.drive_gen.specs.declared.kind.Kind.TheVariants as kind
-use Rattle.drive_gen.specs.Work.{aborted, drawn_batch, drawn_cut, drawn_kind, drawn_write, written_at_once, page_count, state_behind, state_behind_all}
+use Rattle.drive_gen.specs.Work.{aborted, drawn_cut, drawn_kind, written_at_once, state_behind, state_behind_all}
 use Rattle.drive_gen.specs.Work.{transaction}
-use Rattle.tx_types.specs.declared.config.Config.{Config}
 
 next_is : (x k : ℕ) → next_state (generator_after x k) ≡ generator_after x (suc k)
 unfolding generator_after

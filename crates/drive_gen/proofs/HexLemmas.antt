@@ -1,7 +1,8 @@
 -- The sum of the bytes that digits spell.
-use Rattle.std.proofs.Common.{◌≡◌, ℕ, suc, ◌+◌, ◌*◌, ◌<◌, ◌≤◌, List, [], ◌∷◌, length, drop, get_or, refl, arith}
+use Rattle.drive_gen.proofs.Common.{◌≡◌, ℕ, suc, ◌+◌, ◌<◌, ◌≤◌, List, [], ◌∷◌, length, drop, refl, arith, sum_of_bytes}
+use Rattle.std.proofs.Common.{◌*◌, get_or}
 use Rattle.std.proofs.lemmas.Bool.Decides.{nat_tests}
-use Rattle.drive_gen.specs.Summary.{digit_value, sum_of_bytes}
+use Rattle.drive_gen.specs.Summary.{digit_value}
 
 -- two digits more
 pub sum_more : (digits : List ℕ) → 2 ≤ length digits

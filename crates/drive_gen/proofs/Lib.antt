@@ -1,2 +1,3 @@
+mod Common
 pub mod DrawLemmas
 pub mod HexLemmas

@@ -26,14 +26,14 @@ pub fn summary(
     ensures err { OnErr result (out.new.items ≡ out.old.items) }
 {
     let (tally, stats) = count_lines(replies);
-    let mut line = asked(alloc, start, count, protocol, list.len())?;
+    let mut line = line_start(alloc, start, count, protocol, list.len())?;
     add_counted(alloc, &tally, stats, &mut line)?;
     out.extend_from_slice(&line)?;
     Ok(())
 }
 
 /// What was asked for: the beginning of the line.
-fn asked(
+fn line_start(
     alloc: Global,
     start: u64,
     count: u32,

@@ -1,24 +1,16 @@
 -- A file that is made in place, where there was nothing.
-use Rattle.std.proofs.Common.{◌≡◌, ◌≢◌, ◌⊎◌, inl, inr, ℕ, ◌<◌, ◌++◌, Bool, true, false, List, [], ◌∷◌, Option, None, Some, Result, Ok, Err, refl, sym, ap, ◌∙◌}
-use Rattle.std.proofs.Common.{arith}
-use Rattle.std.specs.Result.{IsErr}
-use Rattle.std.specs.IoError.{error_kind}
-use Rattle.std.specs.declared.io.Error.{Error}
-use Rattle.durable_folder.specs.declared.answers.Replaced.{Replaced}
+use Rattle.durable_folder.proofs.Common.{◌≡◌, ◌≢◌, ◌⊎◌, inl, inr, ℕ, ◌<◌, ◌++◌, Bool, true, false, List, [], ◌∷◌, Option, None, Some, Result, Ok, Err, refl, sym, ap, ◌∙◌, arith, IsErr, error_kind, Error, Replaced, FolderState, SomeOf, MayHold, LeavesOf, IsFree, file_of, newest, target, Handle, SparesNames, OfFile, quiet, IsLate, History, Answer, Turns, Runs, HasFile, IsSaved, AfterOk, Overwrites, WritesOver, folder_of, Prepares, ReplaceOrNotEnds, ReplacesOrNot, IsInPlace, SavesAt}
 use Rattle.durable_folder.specs.declared.answers.Replaced.TheVariants as replaced
-use Rattle.durable_folder.specs.FolderState.{FolderState, SomeOf, MayHold, LeavesOf, Leaves, IsFree, file_of, newest, target}
-use Rattle.durable_folder.specs.Calls.{Handle, SparesNames, OfFile, Makes, OpensOrCreates, OpensFolder, SettlesNames, Resolves, opened_at}
-use Rattle.durable_folder.specs.Counting.{is_denied, these_if, quiet}
-use Rattle.durable_folder.specs.Answers.{IsLate}
-use Rattle.durable_folder.specs.Histories.{History, Answer, Turns, Runs, CannotSync, HasFile, IsSaved}
-use Rattle.durable_folder.specs.InPlace.{AfterOk, Overwrites, WritesOver}
-use Rattle.durable_folder.specs.Places.{folder_of}
-use Rattle.durable_folder.specs.Saving.{MaySettle, SettlesFolder, Prepares, ReplaceOrNotEnds, ReplacesOrNot}
-use Rattle.durable_folder.specs.Ways.{KeepsOrTears, IsTornLeft, IsInPlace, SavesAt, IsBorn, Bears, WritesNew, Settles, SyncsFolderOf, MakesThrough}
+use Rattle.durable_folder.specs.FolderState.{Leaves}
+use Rattle.durable_folder.specs.Calls.{Makes, OpensOrCreates, OpensFolder, SyncsNames, Resolves, opened_at}
+use Rattle.durable_folder.specs.Counting.{is_denied, these_if}
+use Rattle.durable_folder.specs.Histories.{CannotSync}
+use Rattle.durable_folder.specs.Saving.{MaySyncNames, SyncsNamesOf}
+use Rattle.durable_folder.specs.Ways.{KeepsOrTears, IsTornLeft, IsBorn, Bears, WritesNew, AddsNoName, SyncsFolderOf, MakesThrough}
 use Rattle.durable_folder.proofs.Blocks.{holds_one}
 use Rattle.durable_folder.proofs.Heads.{after_err, after_ok_map}
 use Rattle.durable_folder.proofs.Passing.{runs_of, runs_weaker, runs_then, runs_counted}
-use Rattle.durable_folder.proofs.Putting.{settled_file}
+use Rattle.durable_folder.proofs.Putting.{synced_file}
 use Rattle.durable_folder.proofs.Replacements.{some_entry, entry_some, leaves_of_files, saved_file, prepares_keeps}
 use Rattle.durable_folder.proofs.Tearing.{tears_less}
 
@@ -123,7 +115,7 @@ old_entry g t v left es fresh same (Some f) among x =
     let at : MayHold (t.files f) x.0 = rw (same f other) at x.1 in
     entry_some (LeavesOf t left) (Some f) es among (x.0, at, x.2)
 
-born_name : (name bytes : List ℕ) (g : ℕ) (t u v : FolderState) → IsBorn name bytes g t u → Settles u v → (left : Option (List ℕ)) →
+born_name : (name bytes : List ℕ) (g : ℕ) (t u v : FolderState) → IsBorn name bytes g t u → AddsNoName u v → (left : Option (List ℕ)) →
     Leaves v name left → Leaves t name left ⊎ ((left ≡ Some bytes) ⊎ IsTornLeft left)
 born_name name bytes g t u v born settles left x =
     let e = some_entry (LeavesOf v left) (v.names name) x in
@@ -134,15 +126,15 @@ born_name name bytes g t u v born settles left x =
           (λ f other. settles.files.files f ∙ born.spares.files f other) e.0 old e.2)
     ]
 
-born_other : (name bytes : List ℕ) (g : ℕ) (t u v : FolderState) → IsBorn name bytes g t u → Settles u v → (n : List ℕ) → n ≢ name →
+born_other : (name bytes : List ℕ) (g : ℕ) (t u v : FolderState) → IsBorn name bytes g t u → AddsNoName u v → (n : List ℕ) → n ≢ name →
     (left : Option (List ℕ)) → Leaves v n left → Leaves t n left
 born_other name bytes g t u v born settles n apart left x =
     let e = some_entry (LeavesOf v left) (v.names n) x in
     let among : SomeOf (λ f. f ≡ e.0) (t.names n) = rw (born.spares.names n apart) at (settles.names n e.0 e.1) in
     old_entry g t v left (t.names n) (born.is_fresh n) (λ f other. settles.files.files f ∙ born.spares.files f other) e.0 among e.2
 
-settled_keeps : (name bytes : List ℕ) (s t v : FolderState) → Prepares name s t → Settles t v → KeepsOrTears name bytes s v
-settled_keeps name bytes s t v prepares settles =
+synced_keeps : (name bytes : List ℕ) (s t v : FolderState) → Prepares name s t → AddsNoName t v → KeepsOrTears name bytes s v
+synced_keeps name bytes s t v prepares settles =
     let keeps = tears_less name bytes s t (prepares_keeps name bytes s t prepares) in
     let back : (n : List ℕ) (left : Option (List ℕ)) → Leaves v n left → Leaves t n left = λ n left x.
     let e = some_entry (LeavesOf v left) (v.names n) x in
@@ -152,9 +144,9 @@ settled_keeps name bytes s t v prepares settles =
       others = λ n apart taken left x. keeps.others n apart taken left (back n left x);
     }
 
-pub grown_keeps : (name bytes : List ℕ) (s t u v : FolderState) → Prepares name s t → Bears name bytes t u → Settles u v → KeepsOrTears name bytes s v
+pub grown_keeps : (name bytes : List ℕ) (s t u v : FolderState) → Prepares name s t → Bears name bytes t u → AddsNoName u v → KeepsOrTears name bytes s v
 grown_keeps name bytes s t u v prepares (inl same) settles =
-    let at : Settles t v = rw same at settles in settled_keeps name bytes s t v prepares at
+    let at : AddsNoName t v = rw same at settles in synced_keeps name bytes s t v prepares at
 grown_keeps name bytes s t u v prepares (inr b) settles =
     let keeps = prepares_keeps name bytes s t prepares in
     record {
@@ -165,16 +157,16 @@ grown_keeps name bytes s t u v prepares (inr b) settles =
       others = λ n apart taken left x. inl (keeps.others n apart taken left (born_other name bytes b.0 t u v b.1 settles n apart left x));
     }
 
-pub settles_none : (s : FolderState) → Settles s s
-settles_none s = record { names = λ n f x. x; files = record { files = λ f. refl; fixed = refl } }
+pub syncs_none : (s : FolderState) → AddsNoName s s
+syncs_none s = record { names = λ n f x. x; files = record { files = λ f. refl; fixed = refl } }
 
 -- the folder of a name that was made
-may_settle_settles : (place : List ℕ) (s t : FolderState) → MaySettle place s t → Settles s t
-may_settle_settles place s t (inl same) = rw same (settles_none s)
-may_settle_settles place s t (inr x) = record { names = x.others; files = x.files }
+may_sync_syncs : (place : List ℕ) (s t : FolderState) → MaySyncNames place s t → AddsNoName s t
+may_sync_syncs place s t (inl same) = rw same (syncs_none s)
+may_sync_syncs place s t (inr x) = record { names = x.others; files = x.files }
 
-still_settles : (s t : FolderState) → t ≡ s → Settles s t
-still_settles s t same = rw same (settles_none s)
+still_syncs : (s t : FolderState) → t ≡ s → AddsNoName s t
+still_syncs s t same = rw same (syncs_none s)
 
 opens_folder_stays : {X : Type 0} (place : X → List ℕ) (folder : List ℕ) (r : Result X Error) (s t : FolderState) → OpensFolder place folder r s t →
     t ≡ s
@@ -184,8 +176,8 @@ opens_folder_stays place folder (Err e) s t x = x
 pub folder_not_opened : {X : Type 0} (place : X → List ℕ) (name folder : List ℕ) (r : Result X Error) (result : Result (Unit {0}) Error) (n : Answer)
     (a b : Option History) → IsErr result → Turns (OpensFolder place folder r) n a b → SyncsFolderOf name result a b
 folder_not_opened place name folder r result n a b err turn =
-    runs_weaker a b (runs_of (OpensFolder place folder r) n a b turn) (λ s t x. still_settles s t (opens_folder_stays place folder r s t x))
-    (λ h k x. (still_settles h.now k.now (opens_folder_stays place folder r h.now k.now x.0), after_err result _ err))
+    runs_weaker a b (runs_of (OpensFolder place folder r) n a b turn) (λ s t x. still_syncs s t (opens_folder_stays place folder r s t x))
+    (λ h k x. (still_syncs h.now k.now (opens_folder_stays place folder r h.now k.now x.0), after_err result _ err))
 
 denied_notes : (denied : Bool) (name folder : List ℕ) (before : List (List ℕ)) (k : History) → folder ≡ folder_of name → denied ≡ true →
     k.unsynced ≡ these_if denied folder ++ before → CannotSync name k
@@ -196,24 +188,24 @@ pub folder_denied : {X : Type 0} (place : X → List ℕ) (name folder : List �
     folder ≡ folder_of name → is_denied (error_kind e) ≡ true → n.unsynced ≡ these_if (is_denied (error_kind e)) folder →
     Turns (OpensFolder place folder (Err e)) n a b → SyncsFolderOf name (Ok tt) a b
 folder_denied place name folder e n a b is denied counts turn =
-    runs_weaker a b (runs_of (OpensFolder place folder (Err e)) n a b turn) (λ s t x. still_settles s t x)
+    runs_weaker a b (runs_of (OpensFolder place folder (Err e)) n a b turn) (λ s t x. still_syncs s t x)
     (λ h k x.
     let noted = denied_notes (is_denied (error_kind e)) name folder h.unsynced k is denied (x.2 ∙ ap (λ places. places ++ h.unsynced) counts) in
     let has : HasFile name (file_of h.now name) k = (ap (λ s. file_of s name) x.0, inr noted) in
-    (still_settles h.now k.now x.0, has))
+    (still_syncs h.now k.now x.0, has))
 
 pub folder_synced : {X : Type 0} (place : X → List ℕ) (name folder : List ℕ) (opened : X) (result : Result (Unit {0}) Error) (a b c : Option History)
-    → folder ≡ folder_of name → Turns (OpensFolder place folder (Ok opened)) quiet a b → SettlesFolder (place opened) result b c →
+    → folder ≡ folder_of name → Turns (OpensFolder place folder (Ok opened)) quiet a b → SyncsNamesOf (place opened) result b c →
     SyncsFolderOf name result a c
 folder_synced place name folder opened result a b c is turn settles =
     runs_then a b c (runs_of (OpensFolder place folder (Ok opened)) quiet a b turn) settles.run
-    (λ s t x. still_settles s t x.0)
-    (λ h k u x y. let at : MaySettle (place opened) h.now u = rw x.0.0 at y in may_settle_settles (place opened) h.now u at)
-    (λ h k l x y. let at : MaySettle (place opened) h.now l.now = rw x.0.0 at y.0 in (
-      may_settle_settles (place opened) h.now l.now at,
-      after_ok_map result (SettlesNames (place opened) k.now l.now ⊎ SomeOf (λ p. p ≡ place opened) l.unsynced)
+    (λ s t x. still_syncs s t x.0)
+    (λ h k u x y. let at : MaySyncNames (place opened) h.now u = rw x.0.0 at y in may_sync_syncs (place opened) h.now u at)
+    (λ h k l x y. let at : MaySyncNames (place opened) h.now l.now = rw x.0.0 at y.0 in (
+      may_sync_syncs (place opened) h.now l.now at,
+      after_ok_map result (SyncsNames (place opened) k.now l.now ⊎ SomeOf (λ p. p ≡ place opened) l.unsynced)
           (HasFile name (file_of h.now name) l)
-          (λ there. rw x.0.0 at (settled_file name (place opened) k.now l (x.0.1 ∙ is) y.0 there)) y.1,
+          (λ there. rw x.0.0 at (synced_file name (place opened) k.now l (x.0.1 ∙ is) y.0 there)) y.1,
     ))
 
 -- after a refusal the name is still free
@@ -238,7 +230,7 @@ made_new name bytes Known r result a b ends replaces = inl (runs_weaker a b repl
 -- a refusal, and a new file in place
 pub record IsMaking (name bytes : List ℕ) (w : Result (Unit {0}) Error) (h k : History) : Type 0 where
   pub refused : h.refusals < k.refusals
-  pub keeps : IsFree h.now name → (v : FolderState) → Settles k.now v → KeepsOrTears name bytes h.now v
+  pub keeps : IsFree h.now name → (v : FolderState) → AddsNoName k.now v → KeepsOrTears name bytes h.now v
   pub whole : IsFree h.now name → AfterOk w ((file : ℕ) × (file_of k.now name ≡ Some file) × (k.now.files file ≡ bytes ∷ []))
 
 bears_here : (name bytes : List ℕ) (t u : FolderState) → IsFree t name → (file_of t (target t name) ≡ None → Bears (target t name) bytes t u) →
@@ -252,7 +244,7 @@ making name bytes r answer w a b c is refused replaces writes =
     runs_then a b c replaces (runs_counted b c writes) (λ s t x free. tears_less name bytes s t x)
     (λ h k u x y free.
     let p = none_refused name bytes r answer is refused h k x in
-    grown_keeps name bytes h.now k.now u u p.0 (bears_here name bytes k.now u (free_still name h.now k.now p.0 free) y) (settles_none u))
+    grown_keeps name bytes h.now k.now u u p.0 (bears_here name bytes k.now u (free_still name h.now k.now p.0 free) y) (syncs_none u))
     (λ h k l x y.
     let p = none_refused name bytes r answer is refused h k x in
     record {
@@ -271,7 +263,7 @@ not_making name bytes w result a c err runs =
     inr (runs_weaker a c runs (λ s t x. x) (λ h k x free. (inr (inr (inr x.refused)), after_err result (IsInPlace name bytes h k) err)))
 
 -- a name that was made, once its folder is synced
-saved_made : (name bytes : List ℕ) (g : ℕ) (k l : History) → Settles k.now l.now → file_of k.now name ≡ Some g → k.now.files g ≡ bytes ∷ [] →
+saved_made : (name bytes : List ℕ) (g : ℕ) (k l : History) → AddsNoName k.now l.now → file_of k.now name ≡ Some g → k.now.files g ≡ bytes ∷ [] →
     HasFile name (file_of k.now name) l → IsSaved name bytes l
 saved_made name bytes g k l settles named whole has =
     let at : HasFile name (Some g) l = rw named at has in saved_file name bytes g l at (settles.files.files g ∙ whole)
@@ -305,7 +297,7 @@ fixed_on name bytes s t (inr b) = b.1.spares.fixed
 pub through_not_written : (name bytes : List ℕ) (w result : Result (Unit {0}) Error) (a b : Option History) → IsErr result →
     WritesNew name bytes w a b → MakesThrough name bytes result a b
 through_not_written name bytes w result a b err writes =
-    runs_weaker a b writes (λ s t x nothing. grown_keeps (target s name) bytes s s t t (inl refl) (x nothing) (settles_none t))
+    runs_weaker a b writes (λ s t x nothing. grown_keeps (target s name) bytes s s t t (inl refl) (x nothing) (syncs_none t))
     (λ h k x nothing. after_err result _ err)
 
 pub resolves_stays : {P : Type 0} (text : P → List ℕ) (name : List ℕ) (r : Result P Error) (s t : FolderState) → Resolves text name r s t → t ≡ s
@@ -324,9 +316,9 @@ pub through_resolved : {P : Type 0} (text : P → List ℕ) (name bytes : List �
     Runs (λ s t. file_of s (target s name) ≡ None → KeepsOrTears (target s name) bytes s t) (ThroughAt text name bytes w r) a c
 through_resolved text name bytes w r n a b c writes turn =
     runs_then a b c writes (runs_of (Resolves text name r) n b c turn)
-    (λ s t x nothing. grown_keeps (target s name) bytes s s t t (inl refl) (x nothing) (settles_none t))
+    (λ s t x nothing. grown_keeps (target s name) bytes s s t t (inl refl) (x nothing) (syncs_none t))
     (λ h k u x y nothing.
-    let same : Settles k.now u = still_settles k.now u (resolves_stays text name r k.now u y) in
+    let same : AddsNoName k.now u = still_syncs k.now u (resolves_stays text name r k.now u y) in
     grown_keeps (target h.now name) bytes h.now h.now k.now u (inl refl) (x nothing).0 same)
     (λ h k l x y. (k.now, resolves_stays text name r k.now l.now y.0, y.0, x))
 
@@ -346,7 +338,7 @@ pub through_synced : {P : Type 0} (text : P → List ℕ) (name bytes : List ℕ
 through_synced text name bytes path w result a c d ok runs syncs =
     runs_then a c d runs syncs (λ s t x. x)
     (λ h k u x y nothing.
-    let at : Settles x.0 u = rw x.1 at y in
+    let at : AddsNoName x.0 u = rw x.1 at y in
     grown_keeps (target h.now name) bytes h.now h.now x.0 u (inl refl) (x.3 nothing).0 at)
     (λ h k l x y nothing.
     let b = x.3 nothing in

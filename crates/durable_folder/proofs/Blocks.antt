@@ -1,9 +1,8 @@
 -- What files of several versions may hold.
-use Rattle.std.proofs.Common.{◌≡◌, ◌⊎◌, inl, inr, ℕ, zero, suc, ◌+◌, ◌*◌, ◌/◌, ◌<◌, ◌≤◌, max, List, [], ◌∷◌, length, ◌∙◌, arith}
+use Rattle.durable_folder.proofs.Common.{◌≡◌, ◌⊎◌, inl, inr, ℕ, ◌+◌, ◌<◌, ◌≤◌, max, List, [], ◌∷◌, length, ◌∙◌, arith, ext_get_or, cases_lt, SomeOf, MayHold, byte_at, newest}
+use Rattle.std.proofs.Common.{zero, suc, ◌*◌, ◌/◌}
 use Rattle.std.specs.List.{AllByRecursion}
-use Rattle.std.proofs.lemmas.List.{ext_get_or}
-use Rattle.std.proofs.lemmas.Bool.{cases_lt}
-use Rattle.durable_folder.specs.FolderState.{SomeOf, MayHold, HasBlock, byte_at, newest}
+use Rattle.durable_folder.specs.FolderState.{HasBlock}
 use Rattle.durable_folder.specs.InPlace.{IsTorn}
 
 -- a place stands in its block

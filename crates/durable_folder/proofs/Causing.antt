@@ -1,25 +1,18 @@
 -- Why a call failed, call after call.
-use Rattle.std.proofs.Common.{◌≡◌, ◌≢◌, ◌⊎◌, inl, inr, ℕ, ◌+◌, Bool, true, false, cond, ◌||◌, List, [], ◌∷◌, Option, None, Some, Result, Ok, Err, refl, sym, ap}
-use Rattle.std.proofs.Common.{◌∙◌, arith}
-use Rattle.std.specs.Result.{IsErr, IsErrAnd}
-use Rattle.std.specs.IoError.{error_kind}
-use Rattle.std.specs.declared.io.Error.{Error}
+use Rattle.durable_folder.proofs.Common.{◌≡◌, ◌≢◌, ◌⊎◌, inl, inr, ℕ, ◌+◌, Bool, true, false, cond, List, [], ◌∷◌, Option, None, Some, Result, Ok, Err, refl, sym, ap, ◌∙◌, arith, IsErr, error_kind, Error, Replaced, Found, FolderState, file_of, newest, Handle, Finds, FindsOpen, refusal_of, IsLate, is_refusal, is_absence, quiet, error_answer, never, History, Turns, Runs, Answer, IsMade, Fills, IsLater, AtNow, cases_lt}
+use Rattle.std.proofs.Common.{◌||◌}
+use Rattle.std.specs.Result.{IsErrAnd}
 use Rattle.std.specs.declared.io.ErrorKind.{ErrorKind}
 use Rattle.std.specs.declared.io.ErrorKind.TheVariants as kind
-use Rattle.durable_folder.specs.declared.answers.Replaced.{Replaced}
 use Rattle.durable_folder.specs.declared.answers.Replaced.TheVariants as replaced
-use Rattle.durable_folder.specs.declared.folder.Found.{Found}
-use Rattle.durable_folder.specs.FolderState.{FolderState, file_of, newest}
-use Rattle.durable_folder.specs.Calls.{Handle, Finds, FindsOpen, Creates}
-use Rattle.durable_folder.specs.Answers.{refusal_of, sync_answer, unless_unable, IsLate, IsSettled}
-use Rattle.durable_folder.specs.Counting.{unless_so, is_refusal, is_unable, is_denied, is_absence, is_presence, is_passed_over, quiet, error_answer, never}
+use Rattle.durable_folder.specs.Calls.{Creates}
+use Rattle.durable_folder.specs.Answers.{sync_answer, unless_unable, IsNamesSyncAnswer}
+use Rattle.durable_folder.specs.Counting.{unless_so, is_unable, is_denied, is_presence, is_passed_over}
 use Rattle.durable_folder.specs.Counting.{answer_to, answer_to_sync_folder, noted_answer}
-use Rattle.durable_folder.specs.Histories.{History, Turns, Runs, Answer}
-use Rattle.durable_folder.specs.Saving.{IsMade, Tries, FillEnds, Fills}
-use Rattle.durable_folder.specs.Causes.{HasFailed, IsLater, HasFault, HasCause, AtNow, IsNamed, TakenBelow, IsCause, IsPassedOver}
+use Rattle.durable_folder.specs.Saving.{Tries, FillEnds}
+use Rattle.durable_folder.specs.Causes.{HasFailed, HasFault, HasCause, IsNamed, TakenBelow, IsCause, IsPassedOver}
 use Rattle.durable_folder.specs.Places.{IsBeside}
 use Rattle.durable_folder.proofs.Writing.{of_file_names}
-use Rattle.std.proofs.lemmas.Bool.{cases_lt}
 
 -- a call, by what its answer counts as
 pub turn_later : (S : FolderState → FolderState → Type 0) (n : Answer) (a b : Option History) → Turns S n a b → IsLater a b
@@ -69,9 +62,9 @@ late_was_err (Ok done) (Ok answer) late err = absurd (cc)
 late_was_err (Ok done) (Err e) late err = absurd late
 late_was_err (Err e) result late err = refl
 
-pub settled_fault : (S : FolderState → FolderState → Type 0) (place : List ℕ) (r result : Result (Unit {0}) Error) (a b : Option History) →
-    IsSettled r result → Turns S (answer_to_sync_folder place r) a b → HasFault result a b
-settled_fault S place r result a b settles turn =
+pub synced_fault : (S : FolderState → FolderState → Type 0) (place : List ℕ) (r result : Result (Unit {0}) Error) (a b : Option History) →
+    IsNamesSyncAnswer r result → Turns S (answer_to_sync_folder place r) a b → HasFault result a b
+synced_fault S place r result a b settles turn =
     (turn_later S (answer_to_sync_folder place r) a b turn, λ err. sync_failed S place r a b turn (late_was_err (sync_answer r) result settles.is err))
 
 -- a refusal is no error

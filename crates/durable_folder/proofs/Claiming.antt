@@ -1,20 +1,15 @@
 -- Claiming a file before it is saved.
-use Rattle.std.proofs.Common.{◌≡◌, ◌⊎◌, inl, inr, ℕ, Bool, true, false, List, Option, None, Some, Result, Ok, Err, refl, sym, ap, ◌∙◌}
-use Rattle.std.specs.Result.{IsErr, IsErrAnd}
-use Rattle.std.specs.IoError.{error_kind}
-use Rattle.std.specs.declared.io.Error.{Error}
+use Rattle.durable_folder.proofs.Common.{◌≡◌, ◌⊎◌, inl, inr, ℕ, Bool, true, false, List, Option, None, Some, Result, Ok, Err, refl, sym, ap, ◌∙◌, IsErr, error_kind, Error, Found, Handle, Opens, FindsOpen, AtNow, IsLater, FolderState, IsFree, file_of, target, History, Answer, Turns, Learns, Rests, IsStale, IsSeen}
+use Rattle.std.specs.Result.{IsErrAnd}
 use Rattle.std.specs.declared.io.ErrorKind.TheVariants as kind
-use Rattle.durable_folder.specs.declared.folder.Found.{Found}
 use Rattle.durable_folder.specs.declared.folder.Lock.{Lock}
 use Rattle.durable_folder.specs.declared.folder.Lock.TheVariants as lock
-use Rattle.durable_folder.specs.Calls.{Handle, Opens, FindsOpen, Locks, IsUnchanged, if_plain, is_elsewhere, locked_by}
-use Rattle.durable_folder.specs.Causes.{AtNow, HasFailed, IsLater, HasCause}
+use Rattle.durable_folder.specs.Calls.{Locks, IsUnchanged, if_plain, is_elsewhere, locked_by}
+use Rattle.durable_folder.specs.Causes.{HasFailed, HasCause}
 use Rattle.durable_folder.specs.Counting.{answer_to_lock}
-use Rattle.durable_folder.specs.FolderState.{FolderState, IsFree, file_of, target}
-use Rattle.durable_folder.specs.Histories.{History, Answer, Turns, Learns, Rests}
-use Rattle.durable_folder.specs.Locking.{LeadsToFile, IsTaken, IsStale, IsClaimed, Claims, IsClaimCause, HasClaimCause, IsOpenAt, Holds, IsLocked}
+use Rattle.durable_folder.specs.Locking.{LeadsToFile, IsTaken, IsClaimed, Claims, IsClaimCause, HasClaimCause, IsOpenAt, Holds, IsLocked}
 use Rattle.durable_folder.specs.Locking.{AsksLock, IsSameFinding, IsAsLoaded, IsFoundSo, IsPlainAt, Compares, IsNothing, IsRefusedIf, IsNoPlain, WhereFirst, HasSaveCause}
-use Rattle.durable_folder.specs.Ways.{IsSeen, IsSpecial, Looks}
+use Rattle.durable_folder.specs.Ways.{IsSpecial, Looks}
 use Rattle.durable_folder.proofs.Causing.{turn_failed, turn_later, later_then, then_failed}
 use Rattle.durable_folder.proofs.Learning.{learns, learns_then, learns_weaker, learns_rests, rests_then, turn_rests, opens_learns, finds_learns}
 use Rattle.durable_folder.proofs.Learning.{finds_rests, rests_known, Tells}

@@ -1,17 +1,10 @@
 -- Filling a new file.
-use Rattle.std.proofs.Common.{◌≡◌, ℕ, ◌+◌, max, Bool, true, false, List, [], ◌∷◌, length, Option, Result, Ok, Err, refl, sym, ap, ◌∙◌, arith}
-use Rattle.std.specs.Result.{is_ok, is_err, IsErr}
-use Rattle.std.proofs.lemmas.List.{ext_get_or}
-use Rattle.std.specs.declared.io.Error.{Error}
-use Rattle.durable_folder.specs.declared.answers.Replaced.{Replaced}
+use Rattle.durable_folder.proofs.Common.{◌≡◌, ℕ, ◌+◌, max, Bool, true, false, List, [], ◌∷◌, length, Option, Result, Ok, Err, refl, sym, ap, ◌∙◌, arith, IsErr, ext_get_or, Error, Replaced, Found, FolderState, byte_at, newest, Handle, OfFile, Written, Writes, Synced, SyncsFile, Finds, FindsOpen, History, Turns, Runs, Answer, Rests, AfterOk, Fills}
+use Rattle.std.specs.Result.{is_ok, is_err}
 use Rattle.durable_folder.specs.declared.answers.Replaced.TheVariants as replaced
-use Rattle.durable_folder.specs.declared.folder.Found.{Found}
-use Rattle.durable_folder.specs.FolderState.{FolderState, byte_at, newest}
-use Rattle.durable_folder.specs.Calls.{Handle, OfFile, Overlaid, Written, Writes, Synced, SyncsFile, Stays, Finds, FindsOpen}
+use Rattle.durable_folder.specs.Calls.{Overlaid, Stays}
 use Rattle.durable_folder.specs.Counting.{answer_to_give}
-use Rattle.durable_folder.specs.Histories.{History, Turns, Runs, Answer, Rests}
-use Rattle.durable_folder.specs.InPlace.{AfterOk}
-use Rattle.durable_folder.specs.Saving.{Gives, WritesWhole, Fills}
+use Rattle.durable_folder.specs.Saving.{Gives, WritesWhole}
 use Rattle.durable_folder.proofs.Heads.{after_err, then_synced}
 use Rattle.durable_folder.proofs.Making.{still_then}
 use Rattle.durable_folder.proofs.Passing.{runs_of, runs_weaker, runs_then, runs_counted}

@@ -1,21 +1,12 @@
 -- A replacement, part after part.
-use Rattle.std.proofs.Common.{◌≡◌, ◌≢◌, inl, inr, ℕ, ◌+◌, ◌<◌, ◌≤◌, Bool, true, false, not, nat_eq, eq-eqb, cond, List, [], ◌∷◌, Option, None, Some, Result, Ok}
-use Rattle.std.proofs.Common.{Err, refl, sym, ap, ◌∙◌, arith}
-use Rattle.std.specs.Result.{IsErr}
-use Rattle.std.specs.IoError.{error_kind}
-use Rattle.std.specs.declared.io.Error.{Error}
-use Rattle.durable_folder.specs.declared.answers.Replaced.{Replaced}
+use Rattle.durable_folder.proofs.Common.{◌≡◌, ◌≢◌, inl, inr, ℕ, ◌+◌, ◌<◌, ◌≤◌, Bool, true, false, cond, List, [], ◌∷◌, Option, None, Some, Result, Ok, Err, refl, sym, ap, ◌∙◌, arith, IsErr, error_kind, Error, Replaced, FolderState, SomeOf, file_of, newest, Handle, SparesNames, SparesFiles, OfFile, is_refusal, if_so, refusal_of, History, Turns, Runs, Answer, Rests, HasFile, folder_of, Found, KeepsOrReplaces, IsNew, IsMade, Prepares, Fills, Shifts, ReplaceOrNotEnds, ReplacesOrNot}
+use Rattle.std.proofs.Common.{not, nat_eq, eq-eqb}
 use Rattle.durable_folder.specs.declared.answers.Replaced.TheVariants as replaced
-use Rattle.durable_folder.specs.FolderState.{FolderState, SomeOf, file_of, newest}
-use Rattle.durable_folder.specs.Calls.{Handle, SparesNames, SparesFiles, OfFile, Removes, OpensFolder, FindsFolder}
-use Rattle.durable_folder.specs.Counting.{is_refusal, if_so}
-use Rattle.durable_folder.specs.Answers.{refusal_of}
-use Rattle.durable_folder.specs.Histories.{History, IsPlaceOf, Turns, Runs, IsTold, Answer, Rests, HasFile}
-use Rattle.durable_folder.specs.Places.{folder_of}
-use Rattle.durable_folder.specs.declared.folder.Found.{Found}
+use Rattle.durable_folder.specs.Calls.{Removes, OpensFolder, FindsFolder}
+use Rattle.durable_folder.specs.Histories.{IsPlaceOf, IsTold}
 use Rattle.durable_folder.specs.declared.replacing.Owner.{Owner}
-use Rattle.durable_folder.specs.Saving.{KeepsOrReplaces, IsNew, IsMade, Prepares, WasRefused, FillEnds, Fills, Shifts, PutEnds, Puts, Aside, FinishSteps}
-use Rattle.durable_folder.specs.Saving.{FinishEnds, Ends, ReplaceEnds, ReplacesBy, Replaces, Mounted, ReplaceOrNotEnds, ReplacesOrNot}
+use Rattle.durable_folder.specs.Saving.{WasRefused, FillEnds, PutEnds, Puts, Aside, FinishSteps}
+use Rattle.durable_folder.specs.Saving.{FinishEnds, Ends, ReplaceEnds, ReplacesBy, Replaces, Mounted}
 use Rattle.durable_folder.proofs.Passing.{runs_of, runs_weaker, runs_then, runs_counted, runs_ended}
 use Rattle.durable_folder.proofs.Putting.{put_err}
 use Rattle.durable_folder.proofs.Replacements.{prepares_keeps, shifts_keeps, saved_file, aside_prepares, new_filled, differs}

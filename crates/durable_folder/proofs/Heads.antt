@@ -1,15 +1,11 @@
 -- The parts of a save in place, call after call.
-use Rattle.std.proofs.Common.{◌≡◌, ◌⊎◌, inl, inr, ℕ, ◌+◌, ◌<◌, ◌≤◌, List, [], ◌∷◌, length, take, drop, replicate, Option, Result, Ok, Err, refl, ap, ◌∙◌, arith}
+use Rattle.durable_folder.proofs.Common.{◌≡◌, ◌⊎◌, inl, inr, ℕ, ◌+◌, ◌<◌, ◌≤◌, List, [], ◌∷◌, length, take, drop, Option, Result, Ok, Err, refl, ap, ◌∙◌, arith, cases_lt, IsErr, Error, byte_at, Handle, Written, Writes, Synced, SyncsFile, History, Turns, Answer, AfterOk, OneSuch, MayTear, AllTorn, WholeOrTorn, IsCleared, IsHeadless, FileRuns}
+use Rattle.std.proofs.Common.{replicate}
 use Rattle.std.proofs.Common.{length-drop}
 use Rattle.std.proofs.Math.ListN.{get_or-eq_default}
 use Rattle.std.proofs.lemmas.List.{get_or-replicate}
-use Rattle.std.proofs.lemmas.Bool.{cases_lt}
-use Rattle.std.specs.Result.{IsErr}
-use Rattle.std.specs.declared.io.Error.{Error}
-use Rattle.durable_folder.specs.FolderState.{byte_at}
-use Rattle.durable_folder.specs.Calls.{Handle, Written, Writes, Lengthened, ResizesFile, Synced, SyncsFile, Seeks}
-use Rattle.durable_folder.specs.Histories.{History, Turns, Answer}
-use Rattle.durable_folder.specs.InPlace.{AfterOk, OneSuch, MayTear, AllTorn, WholeOrTorn, IsCleared, IsHeadless, IsHead, FileRuns, ClearsHead, WritesRest}
+use Rattle.durable_folder.specs.Calls.{Lengthened, ResizesFile, Seeks}
+use Rattle.durable_folder.specs.InPlace.{IsHead, ClearsHead, WritesRest}
 use Rattle.durable_folder.specs.InPlace.{WritesHead}
 use Rattle.durable_folder.proofs.Versions.{zeros_written, zeros_synced, cleared_torn, rest_written, rest_sized, rest_synced, headless_torn, head_written}
 use Rattle.durable_folder.proofs.Versions.{head_synced}

@@ -1,17 +1,8 @@
 -- A save from the name to where it leads.
-use Rattle.std.proofs.Common.{◌≡◌, ◌≢◌, ◌⊎◌, inl, inr, ℕ, ◌<◌, ◌≤◌, true, false, List, Option, None, Some, Result, Ok, Err, refl, sym, ap, ◌∙◌, arith}
-use Rattle.std.specs.Result.{IsErr}
-use Rattle.std.specs.IoError.{error_kind}
-use Rattle.std.specs.declared.io.Error.{Error}
+use Rattle.durable_folder.proofs.Common.{◌≡◌, ◌≢◌, ◌⊎◌, inl, inr, ℕ, ◌<◌, ◌≤◌, true, false, List, Option, None, Some, Result, Ok, Err, refl, sym, ap, ◌∙◌, arith, IsErr, error_kind, Error, Found, FolderState, file_of, target, Handle, Finds, Opens, AtNow, AllTaken, History, Answer, Turns, Runs, Learns, IsSaved, AfterOk, WritesOver, KeepsOrReplaces, IsInPlace, SavesAt, IsSeen, WasFound}
 use Rattle.std.specs.declared.io.ErrorKind.TheVariants as kind
-use Rattle.durable_folder.specs.declared.folder.Found.{Found}
-use Rattle.durable_folder.specs.FolderState.{FolderState, file_of, target}
-use Rattle.durable_folder.specs.Calls.{Handle, Finds, Opens, Resolves}
-use Rattle.durable_folder.specs.Causes.{AtNow, AllTaken}
-use Rattle.durable_folder.specs.Histories.{History, Answer, Turns, Runs, Learns, IsSaved}
-use Rattle.durable_folder.specs.InPlace.{AfterOk, WritesOver}
-use Rattle.durable_folder.specs.Saving.{KeepsOrReplaces}
-use Rattle.durable_folder.specs.Ways.{MustBeInPlace, IsInPlace, SavesAt, IsSeen, Looks, WasFound, is_link, MakesThrough, LeadsNowhere, LeadsTo, Saves}
+use Rattle.durable_folder.specs.Calls.{Resolves}
+use Rattle.durable_folder.specs.Ways.{MustBeInPlace, Looks, is_link, MakesThrough, LeadsNowhere, LeadsTo, Saves}
 use Rattle.durable_folder.proofs.Heads.{after_err, after_ok_map}
 use Rattle.durable_folder.proofs.Learning.{learns, learns_then}
 use Rattle.durable_folder.proofs.Passing.{runs_of, runs_none, runs_weaker, runs_then, runs_counted}

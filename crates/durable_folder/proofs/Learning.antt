@@ -1,11 +1,6 @@
 -- What calls tell that change nothing.
-use Rattle.std.proofs.Common.{◌≡◌, ℕ, false, List, Option, None, Some, Result, Ok, Err, refl, ◌∙◌}
-use Rattle.std.specs.declared.io.Error.{Error}
-use Rattle.durable_folder.specs.declared.folder.Found.{Found}
-use Rattle.durable_folder.specs.Calls.{Handle, Opens, FindsOpen, IsUnchanged}
-use Rattle.durable_folder.specs.Causes.{AtNow}
-use Rattle.durable_folder.specs.FolderState.{FolderState}
-use Rattle.durable_folder.specs.Histories.{History, Answer, Turns, Learns, Rests}
+use Rattle.durable_folder.proofs.Common.{◌≡◌, ℕ, false, List, Option, None, Some, Result, Ok, Err, refl, ◌∙◌, Error, Found, Handle, Opens, FindsOpen, AtNow, FolderState, History, Answer, Turns, Learns, Rests}
+use Rattle.durable_folder.specs.Calls.{IsUnchanged}
 use Rattle.durable_folder.proofs.Passing.{runs_none, runs_of, runs_weaker, runs_then}
 
 pub learns : (S : FolderState → FolderState → Type 0) (P : FolderState → Type 0) (n : Answer) (a b : Option History) → Turns S n a b →

@@ -1,3 +1,4 @@
+mod Common
 mod Bearing
 mod Blocks
 mod Causing

@@ -1,16 +1,12 @@
 -- Making a new file beside another one.
-use Rattle.std.proofs.Common.{◌≡◌, ◌≢◌, inl, inr, ℕ, ◌+◌, ◌≤◌, true, false, List, Option, None, Some, Ok, Err, sym, ap, ◌∙◌, arith}
+use Rattle.durable_folder.proofs.Common.{◌≡◌, ◌≢◌, inl, inr, ℕ, ◌+◌, ◌≤◌, true, false, List, Option, None, Some, Ok, Err, sym, ap, ◌∙◌, arith, error_kind, Error, FolderState, newest, Handle, is_refusal, if_so, quiet, error_answer, History, Turns, Runs, Answer, IsNew, IsMade, Prepares}
 use Rattle.std.proofs.lemmas.Slice.Eq.{bytes_eq-Decides}
 use Rattle.std.specs.Str.{bytes_eq}
-use Rattle.std.specs.IoError.{error_kind}
-use Rattle.std.specs.declared.io.Error.{Error}
 use Rattle.std.specs.declared.io.ErrorKind.TheVariants as kind
-use Rattle.durable_folder.specs.FolderState.{FolderState, newest}
-use Rattle.durable_folder.specs.Calls.{Handle, Creates, Makes}
-use Rattle.durable_folder.specs.Counting.{is_refusal, is_passed_over, if_so, quiet, error_answer}
-use Rattle.durable_folder.specs.Histories.{History, Turns, Runs, Answer}
+use Rattle.durable_folder.specs.Calls.{Creates, Makes}
+use Rattle.durable_folder.specs.Counting.{is_passed_over}
 use Rattle.durable_folder.specs.Places.{IsLeftover}
-use Rattle.durable_folder.specs.Saving.{IsNew, IsMade, Prepares, WasRefused, Tries}
+use Rattle.durable_folder.specs.Saving.{WasRefused, Tries}
 use Rattle.durable_folder.proofs.Passing.{runs_of, runs_weaker, runs_then, runs_counted}
 
 -- nothing has changed

@@ -1,13 +1,7 @@
 -- A save in place, part after part.
-use Rattle.std.proofs.Common.{◌≡◌, inl, inr, ℕ, false, List, [], ◌∷◌, Option, None, Some, Result, Ok, Err, refl, ap, ◌∙◌}
-use Rattle.std.specs.Result.{IsErr}
-use Rattle.std.specs.declared.io.Error.{Error}
-use Rattle.durable_folder.specs.declared.folder.Found.{Found}
-use Rattle.durable_folder.specs.FolderState.{FolderState}
-use Rattle.durable_folder.specs.Calls.{Handle, OfFile, FindsOpen, Written, Writes, Synced, SyncsFile}
-use Rattle.durable_folder.specs.Histories.{History, Turns, Answer}
-use Rattle.durable_folder.specs.InPlace.{AfterOk, OneSuch, MayTear, AllTorn, WholeOrTorn, Overwrites, IsCleared, IsHeadless, FileRuns, ClearsHead, WritesRest}
-use Rattle.durable_folder.specs.InPlace.{IsNoFile, WritesHead, WritesOver}
+use Rattle.durable_folder.proofs.Common.{◌≡◌, inl, inr, ℕ, false, List, [], ◌∷◌, Option, None, Some, Result, Ok, Err, refl, ap, ◌∙◌, IsErr, Error, Found, FolderState, Handle, OfFile, FindsOpen, Written, Writes, Synced, SyncsFile, History, Turns, Answer, AfterOk, OneSuch, MayTear, AllTorn, WholeOrTorn, Overwrites, IsCleared, IsHeadless, FileRuns, WritesOver}
+use Rattle.durable_folder.specs.InPlace.{ClearsHead, WritesRest}
+use Rattle.durable_folder.specs.InPlace.{IsNoFile, WritesHead}
 use Rattle.durable_folder.proofs.Heads.{after_err}
 use Rattle.durable_folder.proofs.Passing.{runs_of, runs_weaker, runs_then}
 use Rattle.durable_folder.proofs.Writing.{Change, of_file_stays, file_stays, file_weaker, file_then}

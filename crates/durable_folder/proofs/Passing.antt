@@ -1,8 +1,8 @@
 -- Runs of calls follow one another.
-use Rattle.std.proofs.Common.{◌≡◌, ◌+◌, List, [], ◌∷◌, ◌++◌, Option, None, Some, refl, sym, ap, ◌∙◌, append_assoc, arith, ◌≤◌}
+use Rattle.durable_folder.proofs.Common.{◌≡◌, ◌+◌, List, [], ◌∷◌, ◌++◌, Option, None, Some, refl, sym, ap, ◌∙◌, arith, ◌≤◌, FolderState, newest, History, Turns, Runs, Answer}
+use Rattle.std.proofs.Common.{append_assoc}
 use Rattle.std.specs.List.{AllByRecursion}
-use Rattle.durable_folder.specs.FolderState.{FolderState, newest}
-use Rattle.durable_folder.specs.Histories.{History, Turns, Runs, IsTold, Answer}
+use Rattle.durable_folder.specs.Histories.{IsTold}
 
 -- what holds of each of two lists holds of both
 all_of_both : {X : Type 0} (P : X → Type 0) (xs ys : List X) → AllByRecursion P xs → AllByRecursion P ys → AllByRecursion P (xs ++ ys)

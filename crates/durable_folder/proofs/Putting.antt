@@ -1,19 +1,11 @@
 -- Putting a new file in its place.
-use Rattle.std.proofs.Common.{◌≡◌, ◌≢◌, ◌⊎◌, inl, inr, ℕ, ◌+◌, ◌≤◌, Bool, true, false, cond, List, [], ◌∷◌, Option, None, Some, Result, Ok, Err, refl, sym, ap}
-use Rattle.std.proofs.Common.{◌∙◌, ◌++◌, arith}
-use Rattle.std.specs.Result.{IsErr}
-use Rattle.std.specs.IoError.{error_kind}
-use Rattle.std.specs.declared.io.Error.{Error}
-use Rattle.durable_folder.specs.declared.answers.Replaced.{Replaced}
+use Rattle.durable_folder.proofs.Common.{◌≡◌, ◌≢◌, ◌⊎◌, inl, inr, ℕ, ◌+◌, ◌≤◌, Bool, true, false, cond, List, [], ◌∷◌, Option, None, Some, Result, Ok, Err, refl, sym, ap, ◌∙◌, ◌++◌, arith, IsErr, error_kind, Error, Replaced, FolderState, SomeOf, file_of, newest, SparesFiles, is_refusal, if_so, error_answer, refusal_of, IsLate, folder_of, History, Turns, Answer, HasFile, AfterOk, Shifts}
 use Rattle.durable_folder.specs.declared.answers.Replaced.TheVariants as replaced
-use Rattle.durable_folder.specs.FolderState.{FolderState, SomeOf, file_of, newest}
-use Rattle.durable_folder.specs.Calls.{SparesFiles, Moves, Renames, Drops, Removes, SyncsFolder, SettlesNames}
-use Rattle.durable_folder.specs.Counting.{is_unable, is_refusal, if_so, these_if, error_answer, answer_to_sync_folder}
-use Rattle.durable_folder.specs.Answers.{refusal_of, sync_answer, unless_unable, IsLate, IsSettled}
-use Rattle.durable_folder.specs.Places.{folder_of}
-use Rattle.durable_folder.specs.Histories.{History, Turns, IsPlaceOf, Answer, CannotSync, HasFile}
-use Rattle.durable_folder.specs.InPlace.{AfterOk}
-use Rattle.durable_folder.specs.Saving.{Shifts, PutEnds, Puts, MaySettle, SettlesFolder}
+use Rattle.durable_folder.specs.Calls.{Moves, Renames, Drops, Removes, SyncsFolder, SyncsNames}
+use Rattle.durable_folder.specs.Counting.{is_unable, these_if, answer_to_sync_folder}
+use Rattle.durable_folder.specs.Answers.{sync_answer, unless_unable, IsNamesSyncAnswer}
+use Rattle.durable_folder.specs.Histories.{IsPlaceOf, CannotSync}
+use Rattle.durable_folder.specs.Saving.{PutEnds, Puts, MaySyncNames, SyncsNamesOf}
 use Rattle.durable_folder.proofs.Heads.{after_ok_map}
 use Rattle.durable_folder.proofs.Passing.{runs_of, runs_weaker, runs_then, runs_counted}
 
@@ -48,7 +40,7 @@ renames_shifts beside name (Ok done) s t x differ = moves_shifts beside name s t
 renames_shifts beside name (Err error) s t x differ = stays_shifts beside name s t x
 
 -- a folder that is synced, or is not
-synced_shifts : (beside name place : List ℕ) (s t u : FolderState) → Shifts beside name s t → MaySettle place t u → Shifts beside name s u
+synced_shifts : (beside name place : List ℕ) (s t u : FolderState) → Shifts beside name s t → MaySyncNames place t u → Shifts beside name s u
 synced_shifts beside name place s t u x (inl same) = rw (sym same) at x
 synced_shifts beside name place s t u x (inr y) = record {
   here = λ e z. x.here e (y.others name e z);
@@ -56,9 +48,9 @@ synced_shifts beside name place s t u x (inr y) = record {
   files = files_then s t u x.files y.files;
 }
 
-may_settle : (place : List ℕ) (r : Result (Unit {0}) Error) (s t : FolderState) → SyncsFolder place r s t → MaySettle place s t
-may_settle place (Ok done) s t x = inr x
-may_settle place (Err error) s t x = inl x
+may_sync : (place : List ℕ) (r : Result (Unit {0}) Error) (s t : FolderState) → SyncsFolder place r s t → MaySyncNames place s t
+may_sync place (Ok done) s t x = inr x
+may_sync place (Err error) s t x = inl x
 
 -- the answer Ok after a folder that is not synced
 unable_noted : (unable : Bool) (error : Error) (place : List ℕ) (before : List (List ℕ)) (k : History) →
@@ -66,11 +58,11 @@ unable_noted : (unable : Bool) (error : Error) (place : List ℕ) (before : List
 unable_noted true error place before k x ok = rw x (inl refl)
 unable_noted false error place before k x ok = absurd (cc)
 
-settled_ok : (place : List ℕ) (r : Result (Unit {0}) Error) (s : FolderState) (before : List (List ℕ)) (k : History) → SyncsFolder place r s k.now →
+synced_ok : (place : List ℕ) (r : Result (Unit {0}) Error) (s : FolderState) (before : List (List ℕ)) (k : History) → SyncsFolder place r s k.now →
     k.unsynced ≡ (answer_to_sync_folder place r).unsynced ++ before → sync_answer r ≡ Ok tt →
-    SettlesNames place s k.now ⊎ SomeOf (λ p. p ≡ place) k.unsynced
-settled_ok place (Ok done) s before k y x ok = inl y
-settled_ok place (Err error) s before k y x ok = inr (unable_noted (is_unable (error_kind error)) error place before k x ok)
+    SyncsNames place s k.now ⊎ SomeOf (λ p. p ≡ place) k.unsynced
+synced_ok place (Ok done) s before k y x ok = inl y
+synced_ok place (Err error) s before k y x ok = inr (unable_noted (is_unable (error_kind error)) error place before k x ok)
 
 if_ok : (result : Result (Unit {0}) Error) (P : Type 0) → (result ≡ Ok tt → P) → AfterOk result P
 if_ok (Ok done) P f = f refl
@@ -81,37 +73,37 @@ late_ok (Ok done) result late ok = refl
 late_ok (Err error) (Ok done) late ok = absurd late
 late_ok (Err error) (Err other) late ok = absurd (cc)
 
-pub settled : (place : List ℕ) (r result : Result (Unit {0}) Error) (a b : Option History) → IsSettled r result →
-    Turns (SyncsFolder place r) (answer_to_sync_folder place r) a b → SettlesFolder place result a b
-settled place r result a b settles turn = record {
-  run = runs_weaker a b (runs_of (SyncsFolder place r) (answer_to_sync_folder place r) a b turn) (λ s t x. may_settle place r s t x)
+pub names_synced : (place : List ℕ) (r result : Result (Unit {0}) Error) (a b : Option History) → IsNamesSyncAnswer r result →
+    Turns (SyncsFolder place r) (answer_to_sync_folder place r) a b → SyncsNamesOf place result a b
+names_synced place r result a b settles turn = record {
+  run = runs_weaker a b (runs_of (SyncsFolder place r) (answer_to_sync_folder place r) a b turn) (λ s t x. may_sync place r s t x)
       (λ h k x. (
-        may_settle place r h.now k.now x.0,
-        if_ok result (SettlesNames place h.now k.now ⊎ SomeOf (λ p. p ≡ place) k.unsynced)
-            (λ ok. settled_ok place r h.now h.unsynced k x.0 x.2 (late_ok (sync_answer r) result settles.is ok)),
+        may_sync place r h.now k.now x.0,
+        if_ok result (SyncsNames place h.now k.now ⊎ SomeOf (λ p. p ≡ place) k.unsynced)
+            (λ ok. synced_ok place r h.now h.unsynced k x.0 x.2 (late_ok (sync_answer r) result settles.is ok)),
       ));
 }
 
 -- a name of a folder that is synced, or is not, has the file that it had
-settled_now : (name place : List ℕ) (s t : FolderState) → place ≡ folder_of name → MaySettle place s t → file_of t name ≡ file_of s name
-settled_now name place s t is (inl same) = ap (λ u. file_of u name) same
-settled_now name place s t is (inr y) = ap (newest None) (y.here name (sym is))
+synced_now : (name place : List ℕ) (s t : FolderState) → place ≡ folder_of name → MaySyncNames place s t → file_of t name ≡ file_of s name
+synced_now name place s t is (inl same) = ap (λ u. file_of u name) same
+synced_now name place s t is (inr y) = ap (newest None) (y.here name (sym is))
 
-settled_sync : (name place : List ℕ) (s : FolderState) (l : History) → place ≡ folder_of name →
-    SettlesNames place s l.now ⊎ SomeOf (λ p. p ≡ place) l.unsynced → (l.now.names name ≡ file_of s name ∷ []) ⊎ CannotSync name l
-settled_sync name place s l is (inl y) = inl (y.here name (sym is))
-settled_sync name place s l is (inr cannot) = inr (rw is at cannot)
+synced_sync : (name place : List ℕ) (s : FolderState) (l : History) → place ≡ folder_of name →
+    SyncsNames place s l.now ⊎ SomeOf (λ p. p ≡ place) l.unsynced → (l.now.names name ≡ file_of s name ∷ []) ⊎ CannotSync name l
+synced_sync name place s l is (inl y) = inl (y.here name (sym is))
+synced_sync name place s l is (inr cannot) = inr (rw is at cannot)
 
-pub settled_file : (name place : List ℕ) (s : FolderState) (l : History) → place ≡ folder_of name → MaySettle place s l.now →
-    SettlesNames place s l.now ⊎ SomeOf (λ p. p ≡ place) l.unsynced → HasFile name (file_of s name) l
-settled_file name place s l is may synced = (settled_now name place s l.now is may, settled_sync name place s l is synced)
+pub synced_file : (name place : List ℕ) (s : FolderState) (l : History) → place ≡ folder_of name → MaySyncNames place s l.now →
+    SyncsNames place s l.now ⊎ SomeOf (λ p. p ≡ place) l.unsynced → HasFile name (file_of s name) l
+synced_file name place s l is may synced = (synced_now name place s l.now is may, synced_sync name place s l is synced)
 
 -- what is at the name then
-done_put : (beside name place : List ℕ) (s t : FolderState) (l : History) → place ≡ folder_of name → Moves beside name s t → MaySettle place t l.now →
-    SettlesNames place t l.now ⊎ SomeOf (λ p. p ≡ place) l.unsynced → HasFile name (file_of s beside) l
+done_put : (beside name place : List ℕ) (s t : FolderState) (l : History) → place ≡ folder_of name → Moves beside name s t → MaySyncNames place t l.now →
+    SyncsNames place t l.now ⊎ SomeOf (λ p. p ≡ place) l.unsynced → HasFile name (file_of s beside) l
 done_put beside name place s t l is m may synced =
     let arrived : file_of t name ≡ file_of s beside = ap (newest None) m.arrives in
-    let has : HasFile name (file_of t name) l = settled_file name place t l is may synced in
+    let has : HasFile name (file_of t name) l = synced_file name place t l is may synced in
     rw arrived at has
 
 pub put_err : (beside name : List ℕ) (r : Result Replaced Error) (h k : History) → IsErr r → PutEnds beside name r h k
@@ -125,39 +117,39 @@ ends_put beside name r result h k (inl err) x = put_err beside name result h k e
 ends_put beside name (Ok done) result h k (inr ok) x = rw ok.1 x
 ends_put beside name (Err e) result h k (inr ok) x = absurd (cc)
 
-put_settled_told : (beside name place : List ℕ) (n : Answer) (r : Result (Unit {0}) Error) (result : Result Replaced Error) (a b c : Option History) →
+put_synced_told : (beside name place : List ℕ) (n : Answer) (r : Result (Unit {0}) Error) (result : Result Replaced Error) (a b c : Option History) →
     IsErr result ⊎ ((r ≡ Ok tt) × (result ≡ Ok replaced.Done)) → place ≡ folder_of name → Turns (Renames beside name (Ok tt)) n a b →
-    SettlesFolder place r b c → Puts beside name result a c
-put_settled_told beside name place n r result a b c why is first last = record {
+    SyncsNamesOf place r b c → Puts beside name result a c
+put_synced_told beside name place n r result a b c why is first last = record {
   run = runs_then a b c (runs_of (Renames beside name (Ok tt)) n a b first) last.run
       (λ s t x differ. renames_shifts beside name (Ok tt) s t x differ)
       (λ h k u x y differ. synced_shifts beside name place h.now k.now u (renames_shifts beside name (Ok tt) h.now k.now x.0 differ) y)
       (λ h k l x y differ. (
         synced_shifts beside name place h.now k.now l.now (renames_shifts beside name (Ok tt) h.now k.now x.0 differ) y.0,
         ends_put beside name r result h l why
-            (after_ok_map r (SettlesNames place k.now l.now ⊎ SomeOf (λ p. p ≡ place) l.unsynced)
+            (after_ok_map r (SyncsNames place k.now l.now ⊎ SomeOf (λ p. p ≡ place) l.unsynced)
             (HasFile name (file_of h.now beside) l)
             (λ synced. done_put beside name place h.now k.now l is (x.0.0 differ) y.0 synced) y.1),
       ));
 }
 
-put_settled : (beside name place : List ℕ) (n : Answer) (r : Result (Unit {0}) Error) (result : Result Replaced Error) (a b c : Option History) →
+put_synced : (beside name place : List ℕ) (n : Answer) (r : Result (Unit {0}) Error) (result : Result Replaced Error) (a b c : Option History) →
     IsErr result ⊎ ((r ≡ Ok tt) × (result ≡ Ok replaced.Done)) → IsPlaceOf place name a → Turns (Renames beside name (Ok tt)) n a b →
-    SettlesFolder place r b c → Puts beside name result a c
-put_settled beside name place n r result None None None why is first last = record { run = record { run = tt } }
-put_settled beside name place n r result None None (Some l) why is first last = absurd last.run.run
-put_settled beside name place n r result None (Some k) c why is first last = absurd first
-put_settled beside name place n r result (Some h) b c why is first last =
-    put_settled_told beside name place n r result (Some h) b c why (is.is tt) first last
+    SyncsNamesOf place r b c → Puts beside name result a c
+put_synced beside name place n r result None None None why is first last = record { run = record { run = tt } }
+put_synced beside name place n r result None None (Some l) why is first last = absurd last.run.run
+put_synced beside name place n r result None (Some k) c why is first last = absurd first
+put_synced beside name place n r result (Some h) b c why is first last =
+    put_synced_told beside name place n r result (Some h) b c why (is.is tt) first last
 
 pub put_not_synced : (beside name place : List ℕ) (n : Answer) (r : Result (Unit {0}) Error) (result : Result Replaced Error) (a b c : Option History) →
-    IsErr result → IsPlaceOf place name a → Turns (Renames beside name (Ok tt)) n a b → SettlesFolder place r b c → Puts beside name result a c
-put_not_synced beside name place n r result a b c err is first last = put_settled beside name place n r result a b c (inl err) is first last
+    IsErr result → IsPlaceOf place name a → Turns (Renames beside name (Ok tt)) n a b → SyncsNamesOf place r b c → Puts beside name result a c
+put_not_synced beside name place n r result a b c err is first last = put_synced beside name place n r result a b c (inl err) is first last
 
 pub put_done : (beside name place : List ℕ) (n : Answer) (r : Result (Unit {0}) Error) (a b c : Option History) → r ≡ Ok tt →
-    IsPlaceOf place name a → Turns (Renames beside name (Ok tt)) n a b → SettlesFolder place r b c → Puts beside name (Ok replaced.Done) a c
+    IsPlaceOf place name a → Turns (Renames beside name (Ok tt)) n a b → SyncsNamesOf place r b c → Puts beside name (Ok replaced.Done) a c
 put_done beside name place n r a b c ok is first last =
-    put_settled beside name place n r (Ok replaced.Done) a b c (inr (ok, refl)) is first last
+    put_synced beside name place n r (Ok replaced.Done) a b c (inr (ok, refl)) is first last
 
 removes_shifts : (beside name : List ℕ) (r : Result (Unit {0}) Error) (s t : FolderState) → beside ≢ name → Removes beside r s t →
     Shifts beside name s t

@@ -1,17 +1,11 @@
 -- Reading a file.
-use Rattle.std.proofs.Common.{◌≡◌, inl, inr, refl, ℕ, List, take, drop, Option, None, Some, Result, Ok, Err, Vec, ap, ◌∙◌}
-use Rattle.std.specs.Global.{Global}
-use Rattle.std.specs.Result.{IsErr}
-use Rattle.std.specs.IoError.{error_kind}
-use Rattle.std.specs.declared.io.Error.{Error}
+use Rattle.durable_folder.proofs.Common.{◌≡◌, inl, inr, refl, ℕ, List, take, drop, Option, None, Some, Result, Ok, Err, ap, ◌∙◌, Global, IsErr, error_kind, Error, Found, Handle, Opens, FindsOpen, FolderState, file_of, target, History, Answer, Turns, Rests, is_absence, error_answer}
+use Rattle.std.proofs.Common.{Vec}
 use Rattle.std.specs.declared.io.ErrorKind.TheVariants as kind
-use Rattle.durable_folder.specs.declared.folder.Found.{Found}
 use Rattle.durable_folder.specs.declared.loading.Loaded.{Loaded}
-use Rattle.durable_folder.specs.Calls.{Handle, Opens, FindsOpen, Reads}
-use Rattle.durable_folder.specs.FolderState.{FolderState, bytes_of, file_of, target}
-use Rattle.durable_folder.specs.Histories.{History, Answer, Turns, Rests}
+use Rattle.durable_folder.specs.Calls.{Reads}
+use Rattle.durable_folder.specs.FolderState.{bytes_of}
 use Rattle.durable_folder.specs.Causes.{HasFault}
-use Rattle.durable_folder.specs.Counting.{is_absence, error_answer}
 use Rattle.durable_folder.specs.Locking.{IsLoaded, Loads, HasLoadCause, IsRead, ReadsWhole, IsOnceOpen}
 use Rattle.durable_folder.proofs.Causing.{turn_later, then_failed, unless_failed, not_absent}
 use Rattle.durable_folder.proofs.Learning.{learns, learns_then, rests_then, rests_learns, turn_rests, opens_learns, finds_learns}

@@ -1,9 +1,7 @@
 -- What a replacement leaves.
-use Rattle.std.proofs.Common.{◌≡◌, ◌≢◌, inl, inr, ℕ, List, [], ◌∷◌, Option, None, Some, refl, sym, ap, ◌∙◌}
-use Rattle.durable_folder.specs.FolderState.{FolderState, SomeOf, MayHold, LeavesOf, Leaves, file_of, newest}
-use Rattle.durable_folder.specs.Calls.{SparesNames, SparesFiles}
-use Rattle.durable_folder.specs.Histories.{History, HasFile, IsSaved}
-use Rattle.durable_folder.specs.Saving.{KeepsOrReplaces, IsOther, IsNew, Prepares, Shifts}
+use Rattle.durable_folder.proofs.Common.{◌≡◌, ◌≢◌, inl, inr, ℕ, List, [], ◌∷◌, Option, None, Some, refl, sym, ap, ◌∙◌, FolderState, SomeOf, MayHold, LeavesOf, file_of, newest, SparesNames, SparesFiles, History, HasFile, IsSaved, KeepsOrReplaces, IsNew, Prepares, Shifts}
+use Rattle.durable_folder.specs.FolderState.{Leaves}
+use Rattle.durable_folder.specs.Saving.{IsOther}
 use Rattle.durable_folder.proofs.Blocks.{holds_one}
 
 -- one of them, as a value

@@ -1,24 +1,15 @@
 -- What a save leaves at a name that has a file.
-use Rattle.std.proofs.Common.{◌≡◌, ◌≢◌, ◌⊎◌, inl, inr, ℕ, ◌<◌, ◌≤◌, Bool, true, false, List, [], ◌∷◌, Option, None, Some, Result, Ok, Err, refl, sym, ap, ◌∙◌}
-use Rattle.std.proofs.Common.{arith}
-use Rattle.std.specs.Result.{IsErr}
-use Rattle.std.specs.declared.io.Error.{Error}
-use Rattle.durable_folder.specs.declared.answers.Replaced.{Replaced}
+use Rattle.durable_folder.proofs.Common.{◌≡◌, ◌≢◌, ◌⊎◌, inl, inr, ℕ, ◌<◌, ◌≤◌, Bool, true, false, List, [], ◌∷◌, Option, None, Some, Result, Ok, Err, refl, sym, ap, ◌∙◌, arith, IsErr, Error, Replaced, Found, FolderState, SomeOf, MayHold, LeavesOf, file_of, target, Handle, SparesNames, OfFile, Opens, History, Turns, Runs, Answer, IsSaved, AfterOk, Overwrites, WritesOver, folder_of, KeepsOrReplaces, Prepares, ReplaceOrNotEnds, ReplacesOrNot, IsInPlace, SavesAt, WasFound, cases_lt}
 use Rattle.durable_folder.specs.declared.answers.Replaced.TheVariants as replaced
-use Rattle.durable_folder.specs.declared.folder.Found.{Found}
 use Rattle.durable_folder.specs.declared.replacing.Owner.{Owner}
-use Rattle.durable_folder.specs.FolderState.{FolderState, SomeOf, MayHold, LeavesOf, IsShared, file_of, target}
-use Rattle.durable_folder.specs.Calls.{Handle, SparesNames, OfFile, Opens, IsFound, if_plain}
-use Rattle.durable_folder.specs.Histories.{History, Turns, Runs, Answer, IsSaved}
-use Rattle.durable_folder.specs.InPlace.{AfterOk, Overwrites, WritesOver}
-use Rattle.durable_folder.specs.Places.{folder_of}
-use Rattle.durable_folder.specs.Saving.{IsOther, KeepsOrReplaces, Prepares, ReplaceOrNotEnds, ReplacesOrNot}
-use Rattle.durable_folder.specs.Ways.{IsTornLeft, KeepsOrTears, IsSpecial, MustBeInPlace, MustStay, IsInPlace, ReplacesFound, SavesAt, WasFound}
+use Rattle.durable_folder.specs.FolderState.{IsShared}
+use Rattle.durable_folder.specs.Calls.{IsFound, if_plain}
+use Rattle.durable_folder.specs.Saving.{IsOther}
+use Rattle.durable_folder.specs.Ways.{IsTornLeft, KeepsOrTears, IsSpecial, MustBeInPlace, MustStay, ReplacesFound}
 use Rattle.durable_folder.proofs.Heads.{after_ok_map, after_err}
 use Rattle.durable_folder.proofs.Passing.{runs_of, runs_weaker, runs_then, runs_counted}
 use Rattle.durable_folder.proofs.Replacements.{taken_apart, prepares_keeps}
 use Rattle.durable_folder.proofs.Writing.{of_file_names}
-use Rattle.std.proofs.lemmas.Bool.{cases_lt}
 
 same_or_not : (f g : ℕ) → (f ≡ g) ⊎ (f ≢ g)
 same_or_not f g = elim (cases_lt f g) [

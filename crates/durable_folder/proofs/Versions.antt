@@ -1,12 +1,10 @@
 -- What the calls of a save in place make of the versions of a file.
-use Rattle.std.proofs.Common.{◌≡◌, inl, inr, ℕ, ◌+◌, ◌-◌, ◌<◌, ◌≤◌, max, List, [], ◌∷◌, length, take, drop, Result, Ok, Err, sym, ap, ◌∙◌, arith}
+use Rattle.durable_folder.proofs.Common.{◌≡◌, inl, inr, ℕ, ◌+◌, ◌<◌, ◌≤◌, max, List, [], ◌∷◌, length, take, drop, Result, Ok, Err, sym, ap, ◌∙◌, arith, ext_get_or, cases_lt, Error, MayHold, byte_at, newest, Written, Synced, AfterOk, OneSuch, MayTear, AllTorn, WholeOrTorn, IsCleared, IsHeadless}
+use Rattle.std.proofs.Common.{◌-◌}
 use Rattle.std.proofs.Math.ListN.{get_or-eq_default}
-use Rattle.std.proofs.lemmas.List.{ext_get_or, get_or-take, get_or-drop, length-drop}
-use Rattle.std.proofs.lemmas.Bool.{cases_lt}
-use Rattle.std.specs.declared.io.Error.{Error}
-use Rattle.durable_folder.specs.FolderState.{MayHold, byte_at, newest}
-use Rattle.durable_folder.specs.Calls.{Overlaid, Resized, Versions, Written, Lengthened, Synced}
-use Rattle.durable_folder.specs.InPlace.{AfterOk, OneSuch, MayTear, AllTorn, WholeOrTorn, IsCleared, IsHeadless, IsHead}
+use Rattle.std.proofs.lemmas.List.{get_or-take, get_or-drop, length-drop}
+use Rattle.durable_folder.specs.Calls.{Overlaid, Resized, Versions, Lengthened}
+use Rattle.durable_folder.specs.InPlace.{IsHead}
 use Rattle.durable_folder.proofs.Blocks.{holds_one, all_torn, cleared_holds, finished_holds}
 
 -- whatever a write answers, no more is left than after one that was answered Ok

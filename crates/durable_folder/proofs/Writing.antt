@@ -1,10 +1,6 @@
 -- Calls on one open file, one after another.
-use Rattle.std.proofs.Common.{◌≡◌, ℕ, List, Option, None, Some, Result, Ok, Err, refl, ap, ◌∙◌}
-use Rattle.std.specs.declared.io.Error.{Error}
-use Rattle.durable_folder.specs.FolderState.{FolderState}
-use Rattle.durable_folder.specs.Calls.{Handle, SparesNames, OfFile, Seeks}
-use Rattle.durable_folder.specs.Histories.{History, Turns, Answer}
-use Rattle.durable_folder.specs.InPlace.{FileRuns}
+use Rattle.durable_folder.proofs.Common.{◌≡◌, ℕ, List, Option, None, Some, Result, Ok, Err, refl, ap, ◌∙◌, Error, FolderState, Handle, SparesNames, OfFile, History, Turns, Answer, FileRuns}
+use Rattle.durable_folder.specs.Calls.{Seeks}
 use Rattle.durable_folder.proofs.Passing.{runs_of, runs_weaker, runs_then}
 
 abbrev pub Change : Type 1

@@ -27,5 +27,5 @@ IsLate (Err error) (Err answer) = error_kind answer ≢ kind.OutOfMemory
 IsLate _ _ = ⊥
 
 -- the answer of syncing a folder, in place of that of the system
-pub record IsSettled (done result : Result (Unit {0}) Error) : Type 0 where
+pub record IsNamesSyncAnswer (done result : Result (Unit {0}) Error) : Type 0 where
   pub is : IsLate (sync_answer done) result

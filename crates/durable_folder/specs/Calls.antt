@@ -210,13 +210,13 @@ Removes name (Ok done) s t = Drops name s t
 Removes name (Err error) s t = t ≡ s
 
 -- A folder that is synced has its names durably. No name may have a file that it might not have had.
-pub record SettlesNames (place : List ℕ) (s t : FolderState) : Type 0 where
+pub record SyncsNames (place : List ℕ) (s t : FolderState) : Type 0 where
   pub here : (n : List ℕ) → folder_of n ≡ place → t.names n ≡ file_of s n ∷ []
   pub others : (n : List ℕ) (f : Option ℕ) → SomeOf (λ g. g ≡ f) (t.names n) → SomeOf (λ g. g ≡ f) (s.names n)
   pub files : SparesFiles s t
 
 abbrev pub SyncsFolder : List ℕ → Result (Unit {0}) Error → FolderState → FolderState → Type 0
-SyncsFolder place (Ok done) s t = SettlesNames place s t
+SyncsFolder place (Ok done) s t = SyncsNames place s t
 SyncsFolder place (Err error) s t = t ≡ s
 
 -- nothing changes

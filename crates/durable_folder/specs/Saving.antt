@@ -6,7 +6,7 @@ use Rattle.durable_folder.specs.declared.answers.Replaced.{Replaced}
 use Rattle.durable_folder.specs.declared.answers.Replaced.TheVariants as replaced
 use Rattle.durable_folder.specs.FolderState.{FolderState, SomeOf, Leaves, file_of}
 use Rattle.std.specs.declared.io.ErrorKind.TheVariants as kind
-use Rattle.durable_folder.specs.Calls.{Handle, Spares, SparesFiles, OfFile, Creates, SettlesNames, opened_at}
+use Rattle.durable_folder.specs.Calls.{Handle, Spares, SparesFiles, OfFile, Creates, SyncsNames, opened_at}
 use Rattle.durable_folder.specs.Counting.{is_refusal, is_passed_over, quiet, error_answer}
 use Rattle.durable_folder.specs.Histories.{History, Turns, Runs, HasFile, IsSaved}
 use Rattle.durable_folder.specs.Places.{folder_of, IsLeftover}
@@ -80,13 +80,13 @@ abbrev pub Fills : Handle → List ℕ → Result Replaced Error → Option Hist
 Fills file bytes result = Runs (OfFile (λ old new. Unit {0}) file.file) (FillEnds file bytes result)
 
 -- nothing has changed, or the names of the folder are there durably
-abbrev pub MaySettle : List ℕ → FolderState → FolderState → Type 0
-MaySettle place s t = (t ≡ s) ⊎ SettlesNames place s t
+abbrev pub MaySyncNames : List ℕ → FolderState → FolderState → Type 0
+MaySyncNames place s t = (t ≡ s) ⊎ SyncsNames place s t
 
 -- A folder is synced. After Ok its names are there durably, or the system cannot sync it.
-pub record SettlesFolder (place : List ℕ) (result : Result (Unit {0}) Error) (old new : Option History) : Type 0 where
-  pub run : Runs (MaySettle place)
-      (λ h k. MaySettle place h.now k.now × AfterOk result (SettlesNames place h.now k.now ⊎ SomeOf (λ p. p ≡ place) k.unsynced)) old new
+pub record SyncsNamesOf (place : List ℕ) (result : Result (Unit {0}) Error) (old new : Option History) : Type 0 where
+  pub run : Runs (MaySyncNames place)
+      (λ h k. MaySyncNames place h.now k.now × AfterOk result (SyncsNames place h.now k.now ⊎ SomeOf (λ p. p ≡ place) k.unsynced)) old new
 
 -- the first name may have given its file to the second one, or lost it
 pub record Shifts (beside name : List ℕ) (s t : FolderState) : Type 0 where

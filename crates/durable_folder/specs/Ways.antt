@@ -126,15 +126,15 @@ WritesNew name bytes result =
     AfterOk result ((file : ℕ) × (file_of k.now (target h.now name) ≡ Some file) × (k.now.files file ≡ bytes ∷ [])))
 
 -- no name may have a file that it might not have had, and no file changes
-pub record Settles (s t : FolderState) : Type 0 where
+pub record AddsNoName (s t : FolderState) : Type 0 where
   pub names : (n : List ℕ) (f : Option ℕ) → SomeOf (λ g. g ≡ f) (t.names n) → SomeOf (λ g. g ≡ f) (s.names n)
   pub files : SparesFiles s t
 
 -- After Ok the name has its file, durably unless the system cannot sync its folder.
 abbrev pub SyncsFolderOf : List ℕ → Result (Unit {0}) Error → Option History → Option History → Type 0
 SyncsFolderOf name result =
-    Runs Settles
-    (λ h k. Settles h.now k.now × AfterOk result (HasFile name (file_of h.now name) k))
+    Runs AddsNoName
+    (λ h k. AddsNoName h.now k.now × AfterOk result (HasFile name (file_of h.now name) k))
 
 -- What making a file comes to that a link leads to.
 abbrev pub MakesThrough : List ℕ → List ℕ → Result (Unit {0}) Error → Option History → Option History → Type 0

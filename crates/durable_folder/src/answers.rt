@@ -1,6 +1,6 @@
 //! Answers of the system, and what a save makes of them.
 ghost use Rattle.std.specs.Prelude.{◌≡◌};
-ghost use Rattle.durable_folder.specs.Answers.{IsLate, IsSettled, refusal_of, sync_answer};
+ghost use Rattle.durable_folder.specs.Answers.{IsLate, IsNamesSyncAnswer, refusal_of, sync_answer};
 
 use std::io;
 use std::io::{Error, ErrorKind};
@@ -15,7 +15,7 @@ pub enum Replaced {
 
 /// An answer that comes when the file may have changed. Then it is no want of memory, after which
 /// nothing has.
-pub fn late(done: io::Result<()>) -> io::Result<()>
+pub fn as_fault(done: io::Result<()>) -> io::Result<()>
     ensures { IsLate done result }
 {
     match done {
@@ -26,7 +26,7 @@ pub fn late(done: io::Result<()>) -> io::Result<()>
 
 /// Whether the system gives no leave for a new file in this folder or of this name, or to put one in
 /// the place of what is there, or met another error.
-pub fn refused(error: Error) -> io::Result<Replaced>
+pub fn refusal_of(error: Error) -> io::Result<Replaced>
     ensures { result ≡ refusal_of error }
 {
     match error.kind() {
@@ -40,7 +40,7 @@ pub fn refused(error: Error) -> io::Result<Replaced>
 }
 
 /// The answer of syncing a folder or a device. Some systems can't do that, and say so.
-pub fn synced(done: io::Result<()>) -> io::Result<()>
+pub fn sync_answer(done: io::Result<()>) -> io::Result<()>
     ensures { result ≡ sync_answer done }
 {
     match done {
@@ -50,8 +50,8 @@ pub fn synced(done: io::Result<()>) -> io::Result<()>
 }
 
 /// The answer of syncing a folder whose names may have changed.
-pub fn settled(done: io::Result<()>) -> io::Result<()>
-    ensures { IsSettled done result }
+pub fn names_sync_answer(done: io::Result<()>) -> io::Result<()>
+    ensures { IsNamesSyncAnswer done result }
 {
-    late(synced(done))
+    as_fault(sync_answer(done))
 }

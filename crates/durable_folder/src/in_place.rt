@@ -5,7 +5,7 @@ ghost use Rattle.durable_folder.specs.Histories.{History};
 ghost use Rattle.durable_folder.specs.InPlace.{IsHead, IsNoFile, ClearsHead, WritesRest, WritesHead, WritesOver};
 
 use crate::Folder;
-use crate::answers::{late, synced};
+use crate::answers::{as_fault, sync_answer};
 use std::io;
 
 /// How many bytes of a file that is written in place are zeros until the rest is there.
@@ -56,7 +56,7 @@ fn write_special<F: Folder>(folder: &mut F, file: &mut F::File, bytes: &[u8]) ->
     ensures fault { HasFault result (F.told folder.old) (F.told folder.new) }
 {
     folder.write(file, bytes)?;
-    synced(folder.sync(file))
+    sync_answer(folder.sync(file))
 }
 
 /// Writes over a plain file. Its first bytes are zeros until the rest is in the system's store, so that a
@@ -89,5 +89,5 @@ pub fn write_through<F: Folder>(folder: &mut F, file: F::File, bytes: &[u8]) -> 
     ensures fault { HasFault result (F.told folder.old) (F.told folder.new) }
 {
     let mut file = file;
-    late(write_over(folder, &mut file, bytes))
+    as_fault(write_over(folder, &mut file, bytes))
 }

@@ -2,7 +2,6 @@
 #![tactic(auto)]
 
 mod answers;
-mod beside;
 mod folder;
 mod in_place;
 mod loading;
@@ -10,7 +9,8 @@ mod locking;
 mod new_file;
 mod replacing;
 mod saving;
-mod settling;
+mod syncing;
+mod temporary_names;
 
 pub use folder::{Folder, Found, Lock};
 pub use loading::{Loaded, load};

@@ -9,7 +9,7 @@ ghost use Rattle.durable_folder.specs.Locking.{AsksLock, Claims, Compares, HasCl
 ghost use Rattle.durable_folder.specs.Ways.{Saves};
 
 use crate::replacing::is_same;
-use crate::saving::{look, save};
+use crate::saving::{save, stat};
 use crate::{Folder, Found, Lock};
 use std::alloc::Global;
 use std::io;
@@ -148,7 +148,7 @@ pub fn claim<F: Folder>(
     ensures claims { Claims F.handle loaded.now name.now result (F.told folder.old) (F.told folder.new) }
     ensures cause { HasClaimCause (IsStale loaded.now name.now) result (F.told folder.old) (F.told folder.new) }
 {
-    match look(folder, name) {
+    match stat(folder, name) {
         Ok(Some(_)) => claim_there(folder, name, loaded),
         Ok(None) => nothing_there::<F>(loaded),
         Err(error) => Err(error),

@@ -6,7 +6,7 @@ ghost use Rattle.durable_folder.specs.Saving.{MakesNew, Tries};
 ghost use Rattle.std.specs.Path.{path_buf_bytes};
 
 use crate::Folder;
-use crate::beside::{MAX_TRIES, name_beside};
+use crate::temporary_names::{MAX_TRIES, temporary_name};
 use std::alloc::Global;
 use std::io;
 use std::io::{Error, ErrorKind};
@@ -54,7 +54,7 @@ pub fn new_file<F: Folder>(
 {
     let mode = if is_owned { OWN_MODE } else { ANY_MODE };
     for number in 1..MAX_TRIES + 1 {
-        let Ok(beside) = name_beside(alloc, name, number) else {
+        let Ok(beside) = temporary_name(alloc, name, number) else {
             return Err(Error::from(ErrorKind::OutOfMemory));
         };
         // A long name may be the name that is tried for itself.

@@ -5,10 +5,10 @@ ghost use Rattle.durable_folder.specs.Causes.{AllTaken, AtNow, HasCause, HasFail
 ghost use Rattle.durable_folder.specs.Histories.{IsPlaceOf, Rests};
 ghost use Rattle.durable_folder.specs.Saving.{Gives, WritesWhole, Fills, Puts, Ends, ReplacesBy, Mounted, ReplacesOrNot};
 
-use crate::answers::{Replaced, refused};
-use crate::beside::folder_of;
+use crate::answers::{Replaced, refusal_of};
 use crate::new_file::{NewFile, new_file};
-use crate::settling::settle;
+use crate::syncing::sync_names;
+use crate::temporary_names::folder_of;
 use crate::{Folder, Found};
 use std::alloc::Global;
 use std::fs::Permissions;
@@ -100,12 +100,12 @@ fn put<F: Folder>(
 {
     match folder.rename(beside, name) {
         Ok(()) => {
-            settle(folder, place)?;
+            sync_names(folder, place)?;
             Ok(Replaced::Done)
         }
         Err(error) => {
             folder.remove(beside)?;
-            refused(error)
+            refusal_of(error)
         }
     }
 }
@@ -195,7 +195,7 @@ fn replace_in<F: Folder>(
     }
     match new_file(folder, alloc, name, owner.is_some()) {
         Ok(new) => replace_by(folder, place, new, name, owner, bytes),
-        Err(error) => refused(error),
+        Err(error) => refusal_of(error),
     }
 }
 
@@ -230,6 +230,6 @@ pub fn replace<F: Folder>(
 {
     match folder.open_folder(folder_of(name)) {
         Ok(place) => replace_in(folder, alloc, &place, name, owner, bytes),
-        Err(closed) => refused(closed),
+        Err(closed) => refusal_of(closed),
     }
 }

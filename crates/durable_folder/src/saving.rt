@@ -5,18 +5,18 @@ ghost use Rattle.durable_folder.specs.Causes.{AllTaken, AtNow, HasCause, HasFaul
 ghost use Rattle.durable_folder.specs.FolderState.{IsFree, target};
 ghost use Rattle.durable_folder.specs.Ways.{LeadsTo, ReplacesFound, SavesAt, SavesKnowing, Looks, WasFound, WritesNew, SyncsFolderOf, MakesThrough, Saves, is_link};
 
-use crate::answers::{Replaced, late};
-use crate::beside::folder_of;
+use crate::answers::{Replaced, as_fault};
 use crate::in_place::write_through;
 use crate::replacing::{Owner, replace};
-use crate::settling::settle;
+use crate::syncing::sync_names;
+use crate::temporary_names::folder_of;
 use crate::{Folder, Found};
 use std::alloc::Global;
 use std::io;
 use std::io::ErrorKind;
 
 /// What stands at a name, if anything does.
-pub fn look<F: Folder>(folder: &mut F, name: &str) -> io::Result<Option<Found>>
+pub fn stat<F: Folder>(folder: &mut F, name: &str) -> io::Result<Option<Found>>
     ensures looks { Looks name.now result (F.told folder.old) (F.told folder.new) }
     ensures fault { HasFault result (F.told folder.old) (F.told folder.new) }
 {
@@ -43,7 +43,7 @@ pub fn save<F: Folder>(folder: &mut F, alloc: Global, name: &str, bytes: &[u8]) 
     ensures saves { Saves name.now bytes.now result (F.told folder.old) (F.told folder.new) }
     ensures cause { HasCause (AtNow (λ s. AllTaken (target s name.now) s) (F.told folder.old)) result (F.told folder.old) (F.told folder.new) }
 {
-    let found = look(folder, name)?;
+    let found = stat(folder, name)?;
     if is_link(&found) {
         return save_through(folder, alloc, name, bytes);
     }
@@ -91,7 +91,7 @@ fn save_target<F: Folder>(folder: &mut F, alloc: Global, at: &str, bytes: &[u8])
     ensures saves { (name : List ℕ) → SavesKnowing (LeadsTo name at.now) name bytes.now result (F.told folder.old) (F.told folder.new) }
     ensures cause { HasCause (AtNow (AllTaken at.now) (F.told folder.old)) result (F.told folder.old) (F.told folder.new) }
 {
-    let found = look(folder, at)?;
+    let found = stat(folder, at)?;
     save_at(folder, alloc, at, found, bytes)
 }
 
@@ -113,7 +113,7 @@ fn make_through<F: Folder>(folder: &mut F, name: &str, bytes: &[u8]) -> io::Resu
     write_new(folder, name, bytes)?;
     match folder.resolve(name) {
         Ok(target) => sync_folder_of(folder, target.as_str()),
-        Err(error) => late(Err(error)),
+        Err(error) => as_fault(Err(error)),
     }
 }
 
@@ -124,9 +124,9 @@ fn sync_folder_of<F: Folder>(folder: &mut F, name: &str) -> io::Result<()>
     ensures fault { HasFault result (F.told folder.old) (F.told folder.new) }
 {
     match folder.open_folder(folder_of(name)) {
-        Ok(place) => settle(folder, &place),
+        Ok(place) => sync_names(folder, &place),
         Err(error) if error.kind() == ErrorKind::PermissionDenied => Ok(()),
-        Err(error) => late(Err(error)),
+        Err(error) => as_fault(Err(error)),
     }
 }
 

@@ -5,7 +5,7 @@ use std::io::ErrorKind;
 
 mod losing;
 
-use losing::{LosingFolder, Setting};
+use losing::{CrashingFolder, Setting};
 
 const OLD: [u8; 100] = [b'o'; 100];
 
@@ -75,7 +75,7 @@ impl Case {
 }
 
 /// Fills a folder in which a save begins: with `f`, if it is there, another file, and one that a killed run left.
-fn prepare(folder: &mut LosingFolder, is_there: bool) -> Result<(), AllocError> {
+fn prepare(folder: &mut CrashingFolder, is_there: bool) -> Result<(), AllocError> {
     if is_there {
         folder.put("f", &OLD)?;
     }
@@ -105,7 +105,7 @@ fn are_whole(all: &[Option<Vec<u8>>], it: &Case, is_in_place: bool, must_be_new:
 
 /// Whether all that a loss of power may leave of `f` may be so: the new bytes alone, where a save that could sync
 /// answered Ok.
-fn is_left_whole(folder: &LosingFolder, it: &Case, is_ok: bool) -> bool {
+fn is_left_whole(folder: &CrashingFolder, it: &Case, is_ok: bool) -> bool {
     let must_be_new = is_ok && !folder.is_unsynced;
     match folder.crash_contents("f") {
         Ok(all) => are_whole(&all, it, folder.is_in_place, must_be_new),
@@ -124,7 +124,7 @@ fn are_all(all: &[Option<Vec<u8>>], bytes: &[u8]) -> bool {
 }
 
 /// Whether a file stays as it is, whatever a loss of power leaves.
-fn stays(folder: &LosingFolder, name: &str, bytes: &[u8]) -> bool {
+fn stays(folder: &CrashingFolder, name: &str, bytes: &[u8]) -> bool {
     match folder.crash_contents(name) {
         Ok(all) => are_all(&all, bytes),
         Err(_) => false,
@@ -133,13 +133,13 @@ fn stays(folder: &LosingFolder, name: &str, bytes: &[u8]) -> bool {
 
 /// Whether a save of which no call fails is in place only where it has to be, and answers Ok. A file that was made
 /// through a link has no folder to be synced, where that can't be told.
-fn is_done(folder: &LosingFolder, it: &Case, is_ok: bool) -> bool {
+fn is_done(folder: &CrashingFolder, it: &Case, is_ok: bool) -> bool {
     let is_lost = it.is_nowhere() && it.setting == Setting::Unresolved;
     folder.is_in_place == it.is_in_place() && is_ok == !is_lost
 }
 
 /// Whether this folder may be what a save has come to.
-fn is_sound(folder: &LosingFolder, it: &Case, is_ok: bool) -> bool {
+fn is_sound(folder: &CrashingFolder, it: &Case, is_ok: bool) -> bool {
     is_left_whole(folder, it, is_ok)
         && stays(folder, "f.saving", b"left")
         && stays(folder, "other", b"other")
@@ -147,7 +147,7 @@ fn is_sound(folder: &LosingFolder, it: &Case, is_ok: bool) -> bool {
 }
 
 /// The number of calls of a save, where all that a loss of power may leave is as it should be.
-fn save_over(folder: &mut LosingFolder, alloc: Global, it: &Case) -> Option<u32> {
+fn save_over(folder: &mut CrashingFolder, alloc: Global, it: &Case) -> Option<u32> {
     if prepare(folder, it.is_there).is_err() {
         return None;
     }
@@ -161,7 +161,7 @@ fn save_over(folder: &mut LosingFolder, alloc: Global, it: &Case) -> Option<u32>
 
 /// The same, of a save in a folder of its own.
 fn save_counting_calls(alloc: Global, it: &Case) -> Option<u32> {
-    let mut folder = LosingFolder::new(alloc, it.setting, it.fails, it.kind, it.is_cut);
+    let mut folder = CrashingFolder::new(alloc, it.setting, it.fails, it.kind, it.is_cut);
     save_over(&mut folder, alloc, it)
 }
 
@@ -219,20 +219,25 @@ fn each_call_may_fail_or_lose_power(rt: HostRuntime) {
 }
 
 /// A folder of this kind in which the file `f` is, and no call fails.
-fn folder_of(alloc: Global, setting: Setting) -> Result<LosingFolder, AllocError> {
-    let mut folder = LosingFolder::new(alloc, setting, 0, ErrorKind::Other, false);
+fn folder_of(alloc: Global, setting: Setting) -> Result<CrashingFolder, AllocError> {
+    let mut folder = CrashingFolder::new(alloc, setting, 0, ErrorKind::Other, false);
     prepare(&mut folder, true)?;
     Ok(folder)
 }
 
 /// Whether a save that claims the file first answers Ok and keeps it open.
-fn is_saved(folder: &mut LosingFolder, alloc: Global, name: &str, loaded: &Option<Found>) -> bool {
+fn is_saved(
+    folder: &mut CrashingFolder,
+    alloc: Global,
+    name: &str,
+    loaded: &Option<Found>,
+) -> bool {
     let mut held = None;
     save_held(folder, alloc, name, &NEW, loaded, &mut held).is_ok() && held.is_some()
 }
 
 /// What is found of a file that is loaded whole.
-fn load_found(folder: &mut LosingFolder, name: &str) -> Option<Found> {
+fn load_found(folder: &mut CrashingFolder, name: &str) -> Option<Found> {
     let loaded = load(folder, name, 1000).ok()?;
     if loaded.bytes.as_slice() == OLD.as_slice() {
         Some(loaded.found)
@@ -263,7 +268,7 @@ enum Since {
 
 /// Whether a file that was loaded is saved, where nothing was done to it since, and only there.
 fn is_saved_if_unchanged(
-    folder: &mut LosingFolder,
+    folder: &mut CrashingFolder,
     alloc: Global,
     name: &str,
     since: Since,

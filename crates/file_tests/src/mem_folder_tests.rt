@@ -70,7 +70,9 @@ fn is_named(folder: &mut MemFolder, verb: &str, name: &str, other: &str) -> bool
         "move" => folder.rename(name, other).is_ok(),
         "remove" => folder.remove(name).is_ok(),
         "settle" => settle(folder).is_ok(),
-        "lose" => folder.lose_power(crash_choice(name), crash_choice(other)).is_ok(),
+        "lose" => folder
+            .lose_power(crash_choice(name), crash_choice(other))
+            .is_ok(),
         _ => is_seen(folder, verb, name, other),
     }
 }

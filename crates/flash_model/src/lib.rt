@@ -4,18 +4,18 @@
 mod arms;
 mod cached;
 mod flash;
-mod laws;
 mod outcome;
 mod retire;
+mod theorems;
 mod wide;
 
 pub use arms::{Arms, Power};
 pub use cached::{Cached, NotDurable};
 pub use flash::{Broken, Flash, SPARE_BYTES, Seen};
-pub use laws::{
+pub use outcome::{Arm, Outcome};
+pub use retire::{MAX_ALLOWANCE, Retire};
+pub use theorems::{
     calls_compose, fires_are_programs, images_stay, loads_come_in_order, operations_move,
     retiring_composes, steady_stays,
 };
-pub use outcome::{Arm, Outcome};
-pub use retire::{MAX_ALLOWANCE, Retire};
 pub use wide::Wide;

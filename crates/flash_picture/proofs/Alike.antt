@@ -1,28 +1,16 @@
 -- The picture of records in order of their names is that of the list.
-use Rattle.std.proofs.Common.{◌≡◌, ℕ, ◌==◌, ◌&&◌, nat_lt, List, ◌++◌, sym, Bool, map, ap, ap₂, ◌∙◌, refl}
+use Rattle.flash_picture.proofs.Common.{◌≡◌, ℕ, ◌==◌, nat_lt, List, ◌++◌, sym, Bool, map, ap, ap₂, ◌∙◌, refl, flat_map, list_any, range_with_len, Rec, Config, Protocol, shape_of, Scc, Bpcc, Found, is_held, Sorts, Note, found_in, Cell, Holds, Marks, cell_of, cells_of, end_of, walk_line}
+use Rattle.std.proofs.Common.{◌&&◌}
 use mathlib.Core.Path.{fun_ext}
-use Rattle.std.specs.List.{flat_map, list_any, range_with_len}
 use Rattle.std.proofs.lemmas.List.Sorted.{list_any-IsPermutation}
-use Rattle.tx_types.specs.declared.record.Rec.{Rec}
-use Rattle.tx_types.specs.declared.config.Config.{Config}
-use Rattle.tx_types.specs.declared.config.Protocol.{Protocol}
-use Rattle.tx_types.specs.Config.{shape_of}
-use Rattle.tx_types.specs.declared.config.Protocol.TheVariants.{Scc, Bpcc}
-use Rattle.record_list.specs.declared.found.Found.{Found}
 use Rattle.record_list.specs.Verdict.{straddles}
-use Rattle.record_list.specs.Current.{answers_for, is_held}
-use Rattle.record_chart.specs.Charts.{Sorts}
-use Rattle.record_chart.proofs.OfSort.Alike.{cur_alike, responsible_alike}
-use Rattle.version_index.specs.declared.note.Note.{Note}
+use Rattle.record_list.specs.Current.{answers_for}
+use Rattle.sorted_records.proofs.OfSort.Alike.{cur_alike, responsible_alike}
 use Rattle.version_index.specs.declared.note.Note.TheVariants as note
-use Rattle.version_index.specs.Notes.{found_in}
-use Rattle.flash_picture.specs.declared.cell.Cell.{Cell}
-use Rattle.flash_picture.specs.declared.cell.Cell.TheVariants.{Holds}
-use Rattle.flash_picture.specs.declared.marks.Marks.{Marks}
-use Rattle.flash_picture.specs.Cells.{cell_of, rank_by}
+use Rattle.flash_picture.specs.Cells.{rank_by}
 use Rattle.flash_picture.specs.Map.{map_text}
-use Rattle.flash_picture.specs.Picture.{breach_line, cells_of, heading, parts, picture}
-use Rattle.flash_picture.specs.Walks.{end_of, walk_line, walks_text}
+use Rattle.flash_picture.specs.Picture.{breach_line, heading, parts, picture}
+use Rattle.flash_picture.specs.Walks.{walks_text}
 use Rattle.flash_picture.proofs.Shown.{end_alike, line_alike}
 
 module _ (list sorted : List Found) (is : Sorts list sorted) where

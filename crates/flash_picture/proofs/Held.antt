@@ -1,26 +1,21 @@
 -- A record is held where some loose record asks for its name, at a link above its back version.
-use Rattle.std.proofs.Common.{◌≡◌, ℕ, ◌+◌, ◌<◌, max, Bool, true, ◌&&◌, ◌||◌, nat_lt, Option, Some, None, List, [], ◌∷◌, length, get_or, slice_set, position}
-use Rattle.std.proofs.Common.{take, cond, refl, sym, ap, ap₂, ◌∙◌, inl, inr, arith, ltb-true, lt-ltb}
-use Rattle.std.specs.List.{list_any}
+use Rattle.flash_picture.proofs.Common.{◌≡◌, ℕ, ◌+◌, ◌<◌, Bool, true, ◌||◌, nat_lt, Option, Some, None, List, [], ◌∷◌, length, get_or, position, take, cond, refl, sym, ap, ap₂, ◌∙◌, inl, inr, arith, lt-ltb, list_any, false≢true, cases_Bool, cases_lt, cond-true, cond-false, le-ltb, Protocol, Scc, Bpcc, Link, Rec, Found, has_name, is_same, name_of, is_held}
+use Rattle.std.proofs.Common.{max, ◌&&◌, slice_set}
+use Rattle.std.proofs.Common.{ltb-true}
 use Rattle.std.proofs.Math.Nat.{le-max_left, le-max_right, max-le, max-eq_left}
-use Rattle.std.proofs.lemmas.Bool.{false≢true, cases_Bool, cases_eq, cases_lt, cond-true, cond-false, and_parts, and_from, le-ltb}
+use Rattle.std.proofs.lemmas.Bool.{cases_eq, and_parts, and_from}
 use Rattle.std.proofs.lemmas.List.{length-set, get_or-set_same, get_or-set_other}
 use Rattle.std.proofs.lemmas.List.Quantifiers.{position-Some}
-use Rattle.list_facts.proofs.Values.{one_test}
-use Rattle.tx_types.specs.declared.config.Protocol.{Protocol}
-use Rattle.tx_types.specs.declared.config.Protocol.TheVariants.{Scc, Bpcc}
-use Rattle.tx_types.specs.declared.record.Link.{Link}
-use Rattle.tx_types.specs.declared.record.Rec.{Rec}
-use Rattle.record_chart.specs.Standings.{Judged}
-use Rattle.record_chart.proofs.OfWalk.WalkOrbits.{absent_at}
-use Rattle.record_list.specs.declared.found.Found.{Found}
-use Rattle.record_list.specs.Records.{greatest, has_name, is_present, is_same, name_of, nothing, record_at}
-use Rattle.record_list.specs.Current.{answers_for, cur, is_held, is_loose, responsible}
+use Rattle.list_lemmas.proofs.Values.{one_test}
+use Rattle.sorted_records.specs.CurrentVersions.{CurrentVersionsState}
+use Rattle.sorted_records.proofs.OfWalk.WalkOrbits.{absent_at}
+use Rattle.record_list.specs.Records.{greatest, is_present, nothing, record_at}
+use Rattle.record_list.specs.Current.{answers_for, cur, is_loose, responsible}
 use Rattle.record_list.proofs.OfFacts.Greatest.{greatest_step}
 use Rattle.record_list.proofs.OfFacts.Held.{answer_of, answers}
 use Rattle.record_list.proofs.OfFacts.Names.{greatest_least, has_name_true, is_same_own, is_same_true, present_in}
 use Rattle.straddle_sets.proofs.Responsibles.{has_responsible}
-use Rattle.flash_picture.specs.Held.{AreAsked, asked_name, asks_at, if_asked, place_named, raised}
+use Rattle.flash_picture.specs.Held.{AreAsked, asked_name, asks_at, if_asked, place_of_name, raised}
 
 -- ---- a record is held where its back version is below the greatest link of those that ask for its name
 
@@ -152,7 +147,7 @@ size_raised : (o : Option ℕ) (version : ℕ) (xs : List ℕ) → length (raise
 size_raised None version xs = refl
 size_raised (Some place) version xs = length-set xs place (max (get_or xs place 0) version)
 
-module _ (j : Judged) where
+module _ (j : CurrentVersionsState) where
   abbrev of : Link → Rec → ℕ
   of name = asks_at j.protocol j.list j.logical name
 
@@ -163,7 +158,7 @@ module _ (j : Judged) where
     -- what a place has, after a name was asked for at a version
     raised_at : (o : Option Link) (version : ℕ) (name : Link) (place none g : ℕ) → position (λ f. has_name name f.rec) j.list ≡ Some place →
         get_or asked place 0 ≡ g → get_or asked place none ≡ g → place < length asked →
-        get_or (raised (place_named j.list o) version asked) place none ≡ max g (if_asked name o version)
+        get_or (raised (place_of_name j.list o) version asked) place none ≡ max g (if_asked name o version)
     raised_at None version name place none g at had has low = has ∙ sym (max-eq_left (omega arith))
     raised_at (Some n) version name place none g at had has low = by_place (position (λ f. has_name n f.rec) j.list) refl
       where
@@ -187,9 +182,9 @@ module _ (j : Judged) where
         ]
 
     pub asked_more : AreAsked j (take (i + 1) j.list)
-        (raised (place_named j.list (asked_name j.protocol j.list j.logical rec)) rec.next.version asked)
+        (raised (place_of_name j.list (asked_name j.protocol j.list j.logical rec)) rec.next.version asked)
     asked_more = record {
-      size = size_raised (place_named j.list (asked_name j.protocol j.list j.logical rec)) rec.next.version asked ∙ before.size;
+      size = size_raised (place_of_name j.list (asked_name j.protocol j.list j.logical rec)) rec.next.version asked ∙ before.size;
       each = λ name place none at.
           let low = (position-Some (λ f. has_name name f.rec) j.list place nothing at).0 in
           let size = before.size in

@@ -1,22 +1,13 @@
 -- Which steps are shown of a walk.
-use Rattle.std.proofs.Common.{◌≡◌, ℕ, zero, suc, ◌+◌, ◌-◌, ◌<◌, ◌≤◌, min, true, false, ◌||◌, nat_lt, cond, Option, None, Some, List, [], ◌∷◌, ◌++◌, length, map}
-use Rattle.std.proofs.Common.{take, refl, sym, ap, ap₂, ◌∙◌, inl, inr, arith, append-nil, append_assoc, codes, lt-ltb}
-use Rattle.std.proofs.lemmas.Bool.{cases_Bool, cases_lt, cond-true, cond-false, le-ltb}
-use Rattle.std.specs.List.{flat_map}
-use Rattle.tx_types.specs.declared.record.Link.{Link}
-use Rattle.tx_types.specs.declared.config.Protocol.{Protocol}
-use Rattle.record_list.specs.declared.found.Found.{Found}
-use Rattle.record_list.specs.Records.{is_same}
-use Rattle.record_list.specs.Verdict.{newest_name, link_of}
-use Rattle.record_chart.specs.Charts.{Sorts}
-use Rattle.record_chart.proofs.OfSort.Alike.{newest_alike, newest_name_alike, link_alike, why_alike}
+use Rattle.flash_picture.proofs.Common.{◌≡◌, ℕ, zero, suc, ◌+◌, ◌-◌, ◌<◌, ◌≤◌, true, false, ◌||◌, nat_lt, cond, Option, None, Some, List, [], ◌∷◌, ◌++◌, length, map, take, refl, sym, ap, ap₂, ◌∙◌, inl, inr, arith, append-nil, append_assoc, codes, lt-ltb, cases_Bool, cases_lt, cond-true, cond-false, le-ltb, flat_map, Link, Protocol, Found, is_same, newest_name, link_of, Sorts, To, steps_rows, walk_rows, walk_takes, end_of, leaving_at, left_from, step_text, walk_line}
+use Rattle.std.proofs.Common.{min}
+use Rattle.sorted_records.proofs.OfSort.Alike.{newest_alike, newest_name_alike, link_alike, why_alike}
 use Rattle.verdict_report.specs.Walks.{is_end, walk_links}
 use Rattle.flash_picture.specs.declared.walk.Step.{Step}
-use Rattle.flash_picture.specs.declared.walk.Step.TheVariants.{To}
 use Rattle.flash_picture.specs.declared.walk.End.{End}
 use Rattle.flash_picture.specs.Pieces.{next_line}
-use Rattle.flash_picture.specs.Svg.{steps_begin, steps_rows, walk_rows, walk_takes}
-use Rattle.flash_picture.specs.Walks.{end_by, end_of, end_text, last_steps, left_at, left_from, start_text, step_text, steps_of, steps_over, walk_line}
+use Rattle.flash_picture.specs.Svg.{steps_begin}
+use Rattle.flash_picture.specs.Walks.{end_by, end_text, last_steps, start_text, steps_of, steps_over}
 
 one_less : (a b : ℕ) → nat_lt (suc a) (suc b) ≡ nat_lt a b
 one_less a b = elim (cases_lt a b) [
@@ -122,14 +113,14 @@ module _ (list sorted : List Found) (is : Sorts list sorted) where
       ∙ ap (f list (newest_name sorted page) (suc logical)) (link_alike list sorted is (newest_name sorted page))
       ∙ ap (λ n. f list n (suc logical) (link_of list n)) (newest_name_alike list sorted is page)
 
-  pub left_at_alike : (logical page : ℕ) → left_at sorted logical page ≡ left_at list logical page
-  left_at_alike logical page = first_alike left_from left_alike logical page
+  pub leaving_at_alike : (logical page : ℕ) → leaving_at sorted logical page ≡ leaving_at list logical page
+  leaving_at_alike logical page = first_alike left_from left_alike logical page
 
   pub steps_alike : (logical page : ℕ) → steps_of sorted logical page ≡ steps_of list logical page
-  steps_alike logical page = ap₂ steps_over (first_alike walk_links links_alike logical page) (left_at_alike logical page)
+  steps_alike logical page = ap₂ steps_over (first_alike walk_links links_alike logical page) (leaving_at_alike logical page)
 
   pub end_alike : (protocol : Protocol) (logical page : ℕ) → end_of protocol sorted logical page ≡ end_of protocol list logical page
-  end_alike protocol logical page = ap₂ end_by (why_alike list sorted is protocol logical page) (left_at_alike logical page)
+  end_alike protocol logical page = ap₂ end_by (why_alike list sorted is protocol logical page) (leaving_at_alike logical page)
 
   -- the line of a page, and its lines in SVG
   pub line_alike : (logical page : ℕ) (end : Option End) → walk_line sorted logical page end ≡ walk_line list logical page end

@@ -1,30 +1,18 @@
 -- The cells and labels of a picture in SVG are those of which the words tell.
-use Rattle.std.proofs.Common.{◌≡◌, ℕ, zero, suc, ◌+◌, ◌<◌, ◌≤◌, Bool, true, None, Some, List, [], ◌∷◌, ◌++◌, filter, flat_map, AllPairs, Contains, refl, sym}
-use Rattle.std.proofs.Common.{ap, ◌∙◌, append_assoc, codes, arith, inl, inr}
-use Rattle.std.specs.List.{join_with_byte, range_with_len}
-use Rattle.std.proofs.lemmas.Bool.{false≢true, cases_Bool, cases_lt, cond-true, cond-false}
-use Rattle.list_facts.proofs.Membership.{Contains-cases, Contains-first, Contains-nil, Contains-rest}
-use Rattle.list_facts.proofs.Pairs.{pairs_head, pairs_tail}
-use Rattle.tx_types.specs.declared.config.Config.{Config}
-use Rattle.tx_types.specs.declared.record.Link.{Link}
-use Rattle.tx_types.specs.declared.record.Rec.{Rec}
-use Rattle.tx_types.specs.Config.{blocks_of, shape_of, slots_of}
-use Rattle.version_index.specs.declared.note.Note.{Note}
+use Rattle.flash_picture.proofs.Common.{◌≡◌, ℕ, zero, suc, ◌+◌, ◌<◌, ◌≤◌, Bool, true, None, Some, List, [], ◌∷◌, ◌++◌, refl, sym, ap, ◌∙◌, append_assoc, codes, arith, inl, inr, join_with_byte, range_with_len, false≢true, cases_Bool, cases_lt, cond-true, cond-false, Config, Link, Rec, shape_of, Note, found_in, note_at, Found, has_name, Marks, cell_of, cell_words, is_named, slot_text, word_if, height, cells_of, above, arrow_svg, cell_svg, die_heading, grid_of, label_svg, lines_svg, walk_svg, walks_svg, walks_take}
+use Rattle.std.proofs.Common.{filter, flat_map, AllPairs, Contains}
+use Rattle.list_lemmas.proofs.Membership.{Contains-cases, Contains-first, Contains-nil, Contains-rest}
+use Rattle.list_lemmas.proofs.Pairs.{pairs_head, pairs_tail}
+use Rattle.tx_types.specs.Config.{blocks_of, slots_of}
 use Rattle.version_index.specs.declared.note.Note.TheVariants as note
-use Rattle.version_index.specs.Notes.{found_in, note_at}
 use Rattle.version_index.proofs.OfTables.FoundIn.{found, found_in_ascending, holds_within, noted_from, noted_in}
-use Rattle.record_list.specs.declared.found.Found.{Found}
-use Rattle.record_list.specs.Records.{has_name}
 use Rattle.record_list.proofs.OfFacts.Names.{has_name_true, has_own_name}
-use Rattle.flash_picture.specs.declared.marks.Marks.{Marks}
-use Rattle.flash_picture.specs.Cells.{cell_of, cell_words, is_named, slot_text, word_if}
-use Rattle.flash_picture.specs.Grid.{bottom, height}
+use Rattle.flash_picture.specs.Grid.{bottom}
 use Rattle.flash_picture.specs.Laws.{ArrowTells, HoldsName, IsLowest, Shows, SvgCellTells, SvgLabelTells, SvgWalkTells, arrow_of}
 use Rattle.flash_picture.specs.Pieces.{attribute}
 use Rattle.flash_picture.proofs.Tells.{cell_noted}
-use Rattle.flash_picture.specs.Picture.{cells_of}
-use Rattle.flash_picture.specs.Svg.{above, arrow_svg, arrow_to, arrows_svg, breach_svg, cell_svg, die_heading, first_slot, grid_of, label_svg, lines_svg}
-use Rattle.flash_picture.specs.Svg.{map_svg, slot_named, svg, target, walk_svg, walks_svg, walks_take}
+use Rattle.flash_picture.specs.Svg.{arrow_to, arrows_svg, breach_svg, first_slot}
+use Rattle.flash_picture.specs.Svg.{map_svg, slot_named, svg, target}
 
 -- what a part of a text shows, the text shows
 shows_left : (x y part : List ℕ) → Shows x part → Shows (x ++ y) part

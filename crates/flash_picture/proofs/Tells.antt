@@ -1,32 +1,21 @@
 -- What the words of cells and labels tell.
-use Rattle.std.proofs.Common.{◌≡◌, ◌⊎◌, ◌↔◌, ℕ, ◌<◌, Bool, true, false, ◌==◌, ◌||◌, nat_lt, cond, List, [], ◌∷◌, ◌++◌, get_or, Contains, Option, Some, None}
-use Rattle.std.proofs.Common.{codes, refl, sym, ap, ◌∙◌, subst, inl, inr, arith}
-use Rattle.std.specs.List.{list_any}
+use Rattle.flash_picture.proofs.Common.{◌≡◌, ℕ, ◌<◌, Bool, true, false, ◌==◌, ◌||◌, nat_lt, cond, List, [], ◌∷◌, ◌++◌, get_or, Option, Some, None, codes, refl, sym, ap, ◌∙◌, inl, inr, arith, list_any, cases_Bool, cases_lt, cond-true, cond-false, false≢true, Config, Protocol, Link, Rec, Found, Note, found_in, note_at, is_held, Cell, Blank, Damaged, Holds, Marks, cell_at, cell_of, cell_words, is_named, name_word, word_if, cells_of}
+use Rattle.std.proofs.Common.{◌⊎◌, ◌↔◌, Contains}
+use Rattle.std.proofs.Common.{subst}
 use Rattle.std.specs.Fmt.{decimal}
-use Rattle.std.proofs.lemmas.Bool.{cases_Bool, cases_lt, cond-true, cond-false, lt-ltb, ltb-true, false≢true}
+use Rattle.std.proofs.lemmas.Bool.{lt-ltb, ltb-true}
 use Rattle.std.proofs.lemmas.Bool.Decides.{eqb_tells}
-use Rattle.list_facts.proofs.Membership.{Contains-nil, Contains-here, Contains-rest, Contains-cases, Contains-one}
+use Rattle.list_lemmas.proofs.Membership.{Contains-nil, Contains-here, Contains-rest, Contains-cases, Contains-one}
 use Rattle.std.proofs.lemmas.List.Elements.{Contains-append_left, Contains-append_right, Contains-append_cases}
 use Rattle.std.proofs.Math.ListN.{get_or-map}
 use Rattle.tx_types.specs.declared.config.Block.{Block}
-use Rattle.tx_types.specs.declared.config.Config.{Config}
-use Rattle.tx_types.specs.declared.config.Protocol.{Protocol}
-use Rattle.tx_types.specs.declared.record.Link.{Link}
-use Rattle.tx_types.specs.declared.record.Rec.{Rec}
 use Rattle.record_list.specs.declared.found.Breach.{Breach}
-use Rattle.record_list.specs.declared.found.Found.{Found}
-use Rattle.version_index.specs.declared.note.Note.{Note}
 use Rattle.version_index.specs.declared.note.Note.TheVariants as note
-use Rattle.version_index.specs.Notes.{found_in, note_at}
-use Rattle.record_list.specs.Current.{cur, is_held}
+use Rattle.record_list.specs.Current.{cur}
 use Rattle.flash_picture.specs.declared.cell.Rank.{Rank}
 use Rattle.flash_picture.specs.declared.cell.Rank.TheVariants.{Current, Loose, Stale}
-use Rattle.flash_picture.specs.declared.cell.Cell.{Cell}
-use Rattle.flash_picture.specs.declared.cell.Cell.TheVariants.{Blank, Damaged, Holds}
-use Rattle.flash_picture.specs.declared.marks.Marks.{Marks}
-use Rattle.flash_picture.specs.Cells.{cell_at, cell_of, cell_words, is_named, name_word, rank_by, rank_word, word_if}
+use Rattle.flash_picture.specs.Cells.{rank_by, rank_word}
 use Rattle.flash_picture.specs.Map.{is_spare}
-use Rattle.flash_picture.specs.Picture.{cells_of}
 use Rattle.flash_picture.specs.Laws.{CellTells, IsNamed, LabelTells, WordsTell}
 
 -- a name is no word without a dot

@@ -1,12 +1,8 @@
 -- Texts that grow, and words with spaces between them.
-use Rattle.std.proofs.Common.{◌≡◌, ℕ, ◌+◌, List, [], ◌∷◌, ◌++◌, sym, ap, ◌∙◌, append-nil, append_assoc, codes}
-use Rattle.std.specs.List.{flat_map, join_with_byte, range_with_len}
+use Rattle.flash_picture.proofs.Common.{◌≡◌, ℕ, ◌+◌, List, [], ◌∷◌, ◌++◌, sym, ap, ◌∙◌, append-nil, append_assoc, codes, flat_map, join_with_byte, range_with_len, name_of, Cell, Blank, Damaged, Holds, cell_words, name_word, word_if}
 use Rattle.std.proofs.lemmas.List.Concat.{flat_map-append}
-use Rattle.list_facts.proofs.Ranges.{flat_more}
-use Rattle.record_list.specs.Records.{name_of}
-use Rattle.flash_picture.specs.declared.cell.Cell.{Cell}
-use Rattle.flash_picture.specs.declared.cell.Cell.TheVariants.{Blank, Damaged, Holds}
-use Rattle.flash_picture.specs.Cells.{after_spaces, cell_words, name_word, rank_word, word_if}
+use Rattle.list_lemmas.proofs.Ranges.{flat_more}
+use Rattle.flash_picture.specs.Cells.{after_spaces, rank_word}
 
 -- words with a space between each two are the first, and the others with a space before each
 pub joined : (word : List ℕ) (words : List (List ℕ)) → join_with_byte 32 (word ∷ words) ≡ word ++ after_spaces words

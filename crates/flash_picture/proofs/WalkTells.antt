@@ -1,27 +1,19 @@
 -- What the walk of a page tells.
-use Rattle.std.proofs.Common.{◌≡◌, ◌↔◌, ℕ, zero, suc, ◌-◌, ◌<◌, ◌≤◌, Bool, true, false, ◌==◌, ◌||◌, nat_lt, cond, Option, None, Some, List, [], ◌∷◌, ◌++◌}
-use Rattle.std.proofs.Common.{length, map, take, get_or, IsTrue, codes, refl, sym, ap, ◌∙◌, inl, inr, arith, append-nil, lt-ltb}
-use Rattle.std.specs.List.{flat_map}
-use Rattle.std.proofs.lemmas.Bool.{false≢true, cases_Bool, cond-true, cond-false, le-ltb}
+use Rattle.flash_picture.proofs.Common.{◌≡◌, ℕ, zero, suc, ◌-◌, ◌<◌, ◌≤◌, Bool, true, false, ◌==◌, ◌||◌, nat_lt, cond, Option, None, Some, List, [], ◌∷◌, ◌++◌, length, map, take, get_or, codes, refl, sym, ap, ◌∙◌, inl, inr, arith, append-nil, lt-ltb, flat_map, false≢true, cases_Bool, cond-true, cond-false, le-ltb, Protocol, Scc, Bpcc, Link, Found, is_same, link_of, newest_name, To, name_word, leaving_at, left_from, step_text, walk_line}
+use Rattle.std.proofs.Common.{◌↔◌}
+use Rattle.std.proofs.Common.{IsTrue}
 use Rattle.std.proofs.lemmas.List.{take_all}
 use Rattle.std.proofs.lemmas.List.Concat.{flat_map-append}
-use Rattle.tx_types.specs.declared.config.Protocol.{Protocol}
-use Rattle.tx_types.specs.declared.config.Protocol.TheVariants.{Scc, Bpcc}
-use Rattle.tx_types.specs.declared.record.Link.{Link}
-use Rattle.record_list.specs.declared.found.Found.{Found}
 use Rattle.record_list.specs.declared.found.Why.{Why}
 use Rattle.record_list.specs.declared.found.Why.TheVariants as reason
-use Rattle.record_list.specs.Records.{is_same}
-use Rattle.record_list.specs.Verdict.{is_ahead, is_behind, is_committed, link_of, newest_name, passed, straddling, why}
+use Rattle.record_list.specs.Verdict.{is_ahead, is_behind, is_committed, why_below_newest, straddling, why}
 use Rattle.verdict_report.specs.Walks.{is_end}
 use Rattle.verdict_report.proofs.WalkLemmas.{after, after_end, after_more, after_none, walk_decides}
 use Rattle.flash_picture.specs.declared.walk.End.{End}
 use Rattle.flash_picture.specs.declared.walk.End.TheVariants.{Absent, Straddled, TooLong}
 use Rattle.verdict_report.specs.Walks.{links_of}
-use Rattle.flash_picture.specs.declared.walk.Step.TheVariants.{To}
-use Rattle.flash_picture.specs.Cells.{name_word}
 use Rattle.flash_picture.specs.Laws.{WalkSays, WalkTells, arrows_text, last_of}
-use Rattle.flash_picture.specs.Walks.{end_by, last_steps, leaving, left_at, left_from, step_text, steps_over, walk_line}
+use Rattle.flash_picture.specs.Walks.{end_by, last_steps, leaving, steps_over}
 
 -- the last of a link and those after it
 abbrev final : Link → List Link → Link
@@ -67,8 +59,8 @@ module _ (list : List Found) (start : Link) where
         ∙ ap (λ links. leaving list (final link links)) (sym (after_more list start (suc turns) link goes))
   ]
 
-pub left_at_last : (list : List Found) (logical page : ℕ) (none : Link) → left_at list logical page ≡ leaving list (last_of list logical page none)
-left_at_last list logical page none =
+pub leaving_at_last : (list : List Found) (logical page : ℕ) (none : Link) → leaving_at list logical page ≡ leaving list (last_of list logical page none)
+leaving_at_last list logical page none =
     let start = newest_name list page in
     let link = link_of list start in
     left_last list start logical link ∙ ap (leaving list) (sym (final_at link (after list start logical link) none))
@@ -93,7 +85,7 @@ straddled_by (reason.Straddled v) o version = (
 )
 
 -- a link below the newest of its page does not show that a record is absent
-not_absent : (protocol : Protocol) (list : List Found) (link : Link) → passed protocol list link ≡ reason.Absent → ⊥
+not_absent : (protocol : Protocol) (list : List Found) (link : Link) → why_below_newest protocol list link ≡ reason.Absent → ⊥
 not_absent Scc list link e = cc
 not_absent Bpcc list link e = elim (cases_Bool (straddling list link == 0)) [
   | inl nil ↦ (let p = cond-true (straddling list link == 0) reason.Passed (reason.Straddled (straddling list link)) nil in cc)
@@ -128,18 +120,18 @@ walk_tells protocol list logical page =
     let decides = walk_decides protocol list logical page in
     let start = newest_name list page in
     record {
-      drawn = drawn_by (why protocol list logical page) (left_at list logical page);
+      drawn = drawn_by (why protocol list logical page) (leaving_at list logical page);
       links = decides;
-      last = λ link none e. left_there link (last_of list logical page none) (sym (left_at_last list logical page none) ∙ e);
+      last = λ link none e. left_there link (last_of list logical page none) (sym (leaving_at_last list logical page none) ∙ e);
       absent = λ none. (
           let last = last_of list logical page none in
-          rw (decides.last none, left_at_last list logical page none)
-          (absent_by (is_ahead list last) (is_behind list last) (is_same last start) (passed protocol list last) last (not_absent protocol list last)));
-      straddled = straddled_by (why protocol list logical page) (left_at list logical page);
+          rw (decides.last none, leaving_at_last list logical page none)
+          (absent_by (is_ahead list last) (is_behind list last) (is_same last start) (why_below_newest protocol list last) last (not_absent protocol list last)));
+      straddled = straddled_by (why protocol list logical page) (leaving_at list logical page);
       too_long = λ none. (
           let last = last_of list logical page none in
-          rw (decides.last none, left_at_last list logical page none)
-          (long_by (is_ahead list last) (is_behind list last) (is_same last start) (passed protocol list last) last (not_absent protocol list last)));
+          rw (decides.last none, leaving_at_last list logical page none)
+          (long_by (is_ahead list last) (is_behind list last) (is_same last start) (why_below_newest protocol list last) last (not_absent protocol list last)));
     }
   where
     left_there : (link last : Link) → leaving list last ≡ Some link → link ≡ last
@@ -175,7 +167,7 @@ pub walk_says : (protocol : Protocol) (list : List Found) (logical page : ℕ) �
 walk_says protocol list logical page =
     let tells = walk_tells protocol list logical page in
     let links = links_of list logical page in
-    let last = left_at list logical page in
+    let last = leaving_at list logical page in
     record {
       nothing = λ counts. ap (walk_line list logical page) (tells.drawn.1 counts);
       absent = λ none ahead. ap (walk_line list logical page) ((tells.absent none).1 ahead);

@@ -4,7 +4,7 @@ use Rattle.tx_types.specs.declared.config.Protocol.{Protocol}
 use Rattle.tx_types.specs.declared.config.Protocol.TheVariants.{Scc, Bpcc}
 use Rattle.tx_types.specs.declared.record.Link.{Link}
 use Rattle.tx_types.specs.declared.record.Rec.{Rec}
-use Rattle.record_chart.specs.Standings.{Judged}
+use Rattle.sorted_records.specs.CurrentVersions.{CurrentVersionsState}
 use Rattle.record_list.specs.declared.found.Found.{Found}
 use Rattle.record_list.specs.Records.{greatest, has_name, is_same}
 use Rattle.record_list.specs.Current.{is_loose, responsible}
@@ -30,12 +30,12 @@ abbrev pub asks_at : Protocol → List Found → ℕ → Link → Rec → ℕ
 asks_at protocol list logical name r = if_asked name (asked_name protocol list logical r) r.next.version
 
 -- the place of the first record of a name, if there is a name and a record
-abbrev pub place_named : List Found → Option Link → Option ℕ
-place_named list None = None
-place_named list (Some name) = position (λ f. has_name name f.rec) list
+abbrev pub place_of_name : List Found → Option Link → Option ℕ
+place_of_name list None = None
+place_of_name list (Some name) = position (λ f. has_name name f.rec) list
 
 -- for the first record of each name the greatest version at which one of these records links that asks for the name
-pub record AreAsked (j : Judged) (some : List Found) (asked : List ℕ) : Type 0 where
+pub record AreAsked (j : CurrentVersionsState) (some : List Found) (asked : List ℕ) : Type 0 where
   pub size : length asked ≡ length j.list
   pub each : (name : Link) (place none : ℕ) → position (λ f. has_name name f.rec) j.list ≡ Some place →
       slice_index_or asked place none ≡ greatest (asks_at j.protocol j.list j.logical name) some

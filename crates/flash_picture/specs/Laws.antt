@@ -23,7 +23,7 @@ use Rattle.flash_picture.specs.Cells.{cell_at, cell_of, cell_words, is_named, na
 use Rattle.flash_picture.specs.Map.{label_words}
 use Rattle.flash_picture.specs.Picture.{cells_of}
 use Rattle.flash_picture.specs.Svg.{arrow_svg, arrow_to, cell_svg, grid_of, label_svg, svg, walk_svg}
-use Rattle.flash_picture.specs.Walks.{end_of, left_at, step_text, steps_of, walk_text}
+use Rattle.flash_picture.specs.Walks.{end_of, leaving_at, step_text, steps_of, walk_text}
 
 -- the cell of a slot that holds this record, among these records, says a word
 abbrev pub Says : Protocol → List Found → ℕ → Rec → List ℕ → Type 0
@@ -68,7 +68,7 @@ last_of list logical page none =
 pub record WalkTells (protocol : Protocol) (list : List Found) (logical page : ℕ) : Type 0 where
   pub drawn : (end_of protocol list logical page ≡ None) ↔ IsTrue (is_committed (why protocol list logical page))
   pub links : IsDecidingWalk protocol list logical page (links_of list logical page)
-  pub last : (link none : Link) → left_at list logical page ≡ Some link → link ≡ last_of list logical page none
+  pub last : (link none : Link) → leaving_at list logical page ≡ Some link → link ≡ last_of list logical page none
   pub absent : (none : Link) → (end_of protocol list logical page ≡ Some Absent) ↔ IsTrue (is_ahead list (last_of list logical page none))
   pub straddled : (version : ℕ) → (end_of protocol list logical page ≡ Some (Straddled version)) ↔ (why protocol list logical page ≡ reason.Straddled version)
   pub too_long : (none : Link) → (end_of protocol list logical page ≡ Some TooLong)
@@ -95,10 +95,10 @@ pub record WalkSays (protocol : Protocol) (list : List Found) (logical page : �
       walk_text protocol list logical page ≡ line_with list logical page (codes " too long")
   pub few : length (links_of list logical page) ≤ 16 →
       flat_map step_text (steps_of list logical page) ≡ arrows_text (links_of list logical page)
-  pub many : (link : Link) → 16 < length (links_of list logical page) → left_at list logical page ≡ Some link →
+  pub many : (link : Link) → 16 < length (links_of list logical page) → leaving_at list logical page ≡ Some link →
       flat_map step_text (steps_of list logical page)
       ≡ arrows_text (take 16 (links_of list logical page)) ++ (codes " .." ++ arrows_text (link ∷ []))
-  pub given_up : 16 < length (links_of list logical page) → left_at list logical page ≡ None →
+  pub given_up : 16 < length (links_of list logical page) → leaving_at list logical page ≡ None →
       flat_map step_text (steps_of list logical page) ≡ arrows_text (take 16 (links_of list logical page)) ++ codes " .."
 
 -- ---- in SVG

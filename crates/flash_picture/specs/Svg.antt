@@ -171,8 +171,8 @@ columns_with columns step =
     (if nat_lt full_columns columns then 0 else columns) + length (step_text step)
 
 -- how many lines it begins
-abbrev pub rows_begun : ℕ → ℕ
-rows_begun columns = if nat_lt full_columns columns then 1 else 0
+abbrev pub count_rows : ℕ → ℕ
+count_rows columns = if nat_lt full_columns columns then 1 else 0
 
 -- steps behind so many columns, and how many lines they begin
 abbrev pub steps_rows : ℕ → List Step → List ℕ
@@ -181,7 +181,7 @@ steps_rows columns (step ∷ steps) = step_row columns step ++ steps_rows (colum
 
 abbrev pub steps_begin : ℕ → List Step → ℕ
 steps_begin columns [] = 0
-steps_begin columns (step ∷ steps) = rows_begun columns + steps_begin (columns_with columns step) steps
+steps_begin columns (step ∷ steps) = count_rows columns + steps_begin (columns_with columns step) steps
 
 -- a walk from a record, in lines, and how many these are
 abbrev pub rows_text : Link → List Step → End → List ℕ

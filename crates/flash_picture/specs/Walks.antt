@@ -9,8 +9,8 @@ use Rattle.record_list.specs.declared.found.Why.{Why}
 use Rattle.record_list.specs.declared.found.Why.TheVariants as reason
 use Rattle.record_list.specs.Records.{is_same, record_at}
 use Rattle.record_list.specs.Verdict.{newest_name, link_of, is_ahead, is_behind, why}
-use Rattle.record_chart.specs.declared.orbit.Orbit.{Orbit}
-use Rattle.record_chart.specs.declared.orbit.Orbit.TheVariants.{Ends, Round, Aside}
+use Rattle.sorted_records.specs.declared.orbit.Orbit.{Orbit}
+use Rattle.sorted_records.specs.declared.orbit.Orbit.TheVariants.{Ends, Round, Aside}
 use Rattle.verdict_report.specs.Walks.{links_of}
 use Rattle.flash_picture.specs.declared.walk.End.{End}
 use Rattle.flash_picture.specs.declared.walk.End.TheVariants.{Absent, Straddled, TooLong}
@@ -34,16 +34,16 @@ left_from list start (suc turns) link =
     else left_from list start turns (link_of list link)
 
 -- that of the walk from the newest record of a page
-abbrev pub left_at : List Found → ℕ → ℕ → Option Link
-left_at list logical page =
+abbrev pub leaving_at : List Found → ℕ → ℕ → Option Link
+leaving_at list logical page =
     left_from list (newest_name list page) (suc logical) (link_of list (newest_name list page))
 
 -- the same from the orbit of the place of that record
-abbrev pub left_by : List Found → ℕ → Orbit → Option Link
-left_by list logical (Ends after at) =
+abbrev pub leaving_by : List Found → ℕ → Orbit → Option Link
+leaving_by list logical (Ends after at) =
     if nat_lt logical after then None else leaving list (record_at list at).next
-left_by list logical (Round turns) = None
-left_by list logical Aside = None
+leaving_by list logical (Round turns) = None
+leaving_by list logical Aside = None
 
 -- ---- what is shown of a walk
 
@@ -64,7 +64,7 @@ steps_over links last =
 
 -- the steps of the walk from the newest record of a page
 abbrev pub steps_of : List Found → ℕ → ℕ → List Step
-steps_of list logical page = steps_over (links_of list logical page) (left_at list logical page)
+steps_of list logical page = steps_over (links_of list logical page) (leaving_at list logical page)
 
 -- how a walk ends, by what decides the verdict and by where it leaves the newest records; nothing where the newest
 -- version counts
@@ -77,7 +77,7 @@ end_by (reason.Straddled version) last = Some (Straddled version)
 
 -- how the walk from the newest record of a page ends
 abbrev pub end_of : Protocol → List Found → ℕ → ℕ → Option End
-end_of protocol list logical page = end_by (why protocol list logical page) (left_at list logical page)
+end_of protocol list logical page = end_by (why protocol list logical page) (leaving_at list logical page)
 
 -- ---- its text
 

@@ -2,18 +2,18 @@
 //! name is responsible where its back version is below a link of those that ask.
 ghost use Rattle.std.specs.Prelude.{◌≡◌, ◌<◌, Some, IfOk, IfSome, length};
 ghost use Rattle.record_list.specs.Current.{is_held};
-ghost use Rattle.flash_picture.specs.Held.{AreAsked, asked_in_bpcc, asked_name, place_named, raised};
+ghost use Rattle.flash_picture.specs.Held.{AreAsked, asked_in_bpcc, asked_name, place_of_name, raised};
 
-use record_chart::Standing;
+use sorted_records::CurrentVersions;
 use std::alloc::Global;
 use tx_types::{Link, Memory, Protocol, Rec};
 
 /// For the first record of each name the greatest version at which a loose record links that asks for the name,
 /// 0 where none does. Under Simple Cyclic Commit none does.
-pub fn asked_versions(alloc: Global, standing: &Standing) -> Result<Vec<u64>, Memory>
+pub fn asked_versions(alloc: Global, standing: &CurrentVersions) -> Result<Vec<u64>, Memory>
     ensures { IfOk result (λ asked. AreAsked standing.now standing.now.list asked.items) }
 {
-    let records = standing.chart().records();
+    let records = standing.sorted_records().records();
     let mut asked = vec![in alloc; 0; records.len()]?;
     for at in 0..records.len() {
         ask(standing, records[at].rec, &mut asked);
@@ -22,18 +22,18 @@ pub fn asked_versions(alloc: Global, standing: &Standing) -> Result<Vec<u64>, Me
 }
 
 /// Notes what a record asks for.
-fn ask(standing: &Standing, rec: Rec, asked: &mut Vec<u64>)
+fn ask(standing: &CurrentVersions, rec: Rec, asked: &mut Vec<u64>)
     requires { length asked.old.items ≡ length standing.now.list }
     ensures { let s = standing.now in asked.new.items ≡ raised
-        (place_named s.list (asked_name s.protocol s.list s.logical rec)) rec.next.version asked.old.items }
+        (place_of_name s.list (asked_name s.protocol s.list s.logical rec)) rec.next.version asked.old.items }
 {
-    if let Some(place) = place_named(standing, asked_name(standing, rec)) {
+    if let Some(place) = place_of_name(standing, asked_name(standing, rec)) {
         raise(place, rec.next.version, asked);
     }
 }
 
 /// The name of the record that is responsible for a loose one, if there is one; nothing for any other record.
-fn asked_name(standing: &Standing, rec: Rec) -> Option<Link>
+fn asked_name(standing: &CurrentVersions, rec: Rec) -> Option<Link>
     ensures { let s = standing.now in result ≡ asked_name s.protocol s.list s.logical rec }
 {
     match standing.protocol() {
@@ -43,7 +43,7 @@ fn asked_name(standing: &Standing, rec: Rec) -> Option<Link>
 }
 
 /// The same under Back Pointer Cyclic Commit.
-fn asked_in_bpcc(standing: &Standing, rec: Rec) -> Option<Link>
+fn asked_in_bpcc(standing: &CurrentVersions, rec: Rec) -> Option<Link>
     requires { standing.now.protocol ≡ Protocol.Bpcc }
     ensures { let s = standing.now in result ≡ asked_in_bpcc s.list s.logical rec }
 {
@@ -59,12 +59,12 @@ fn asked_in_bpcc(standing: &Standing, rec: Rec) -> Option<Link>
 }
 
 /// The place of the first record of a name, if there is a name and a record.
-fn place_named(standing: &Standing, name: Option<Link>) -> Option<u32>
-    ensures place { result ≡ place_named standing.now.list name }
+fn place_of_name(standing: &CurrentVersions, name: Option<Link>) -> Option<u32>
+    ensures place { result ≡ place_of_name standing.now.list name }
     ensures within { IfSome result (λ place. place < length standing.now.list) }
 {
     match name {
-        Some(name) => standing.chart().find(name),
+        Some(name) => standing.sorted_records().find(name),
         None => None,
     }
 }
@@ -79,7 +79,7 @@ fn raise(place: u32, version: u64, asked: &mut Vec<u64>)
 }
 
 /// Whether a record is responsible for a loose one, by what those ask for.
-pub fn is_held(standing: &Standing, asked: &[u64], rec: Rec) -> bool
+pub fn is_held(standing: &CurrentVersions, asked: &[u64], rec: Rec) -> bool
     requires { AreAsked standing.now standing.now.list asked.now }
     ensures { let s = standing.now in result ≡ is_held s.protocol s.list s.logical rec }
 {
@@ -87,7 +87,7 @@ pub fn is_held(standing: &Standing, asked: &[u64], rec: Rec) -> bool
         page: rec.page,
         version: rec.version,
     };
-    match standing.chart().find(name) {
+    match standing.sorted_records().find(name) {
         Some(place) => rec.back < asked[place as usize],
         None => false,
     }

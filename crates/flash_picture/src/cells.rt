@@ -4,13 +4,13 @@ ghost use Rattle.flash_picture.specs.Held.{AreAsked};
 
 use crate::asked::{asked_versions, is_held};
 use crate::cell::{Cell, Rank};
-use record_chart::Standing;
+use sorted_records::CurrentVersions;
 use std::alloc::Global;
 use tx_types::Memory;
 use version_index::Note;
 
 /// The cells of slots of which this is noted.
-pub fn cells(alloc: Global, standing: &Standing, notes: &[Note]) -> Result<Vec<Cell>, Memory>
+pub fn cells(alloc: Global, standing: &CurrentVersions, notes: &[Note]) -> Result<Vec<Cell>, Memory>
     ensures { let s = standing.now in
         IfOk result (λ cells. cells.items ≡ map (cell_of s.protocol s.list s.logical) notes.now) }
 {
@@ -23,7 +23,7 @@ pub fn cells(alloc: Global, standing: &Standing, notes: &[Note]) -> Result<Vec<C
 }
 
 /// The cell of a slot of which this is noted.
-fn cell(standing: &Standing, asked: &[u64], note: Note) -> Cell
+fn cell(standing: &CurrentVersions, asked: &[u64], note: Note) -> Cell
     requires { AreAsked standing.now standing.now.list asked.now }
     ensures { let s = standing.now in result ≡ cell_of s.protocol s.list s.logical note }
 {

@@ -3,7 +3,7 @@ ghost use Rattle.std.specs.Fmt.{decimal};
 ghost use Rattle.std.specs.List.{cons_option};
 ghost use Rattle.tx_types.specs.Config.{IsShape, checked, shape_of, slots_of};
 ghost use Rattle.version_index.specs.Notes.{found_at, found_in};
-ghost use Rattle.record_chart.specs.Charts.{Sorts};
+ghost use Rattle.sorted_records.specs.SortedRecords.{Sorts};
 ghost use Rattle.flash_picture.specs.Picture.{breach_line, heading, parts, picture, protocol_word};
 
 use crate::cells::cells;
@@ -11,8 +11,8 @@ use crate::map::Map;
 use crate::marks::Marks;
 use crate::text::{add_number, append};
 use crate::walk::write_walks;
-use record_chart::{Chart, Standing};
 use record_list::{Breach, Found};
+use sorted_records::{CurrentVersions, SortedRecords};
 use std::alloc::{AllocError, Global};
 use tx_types::{Config, Memory, Protocol, Shape, Slot};
 use version_index::Note;
@@ -59,7 +59,7 @@ fn write_picture(
     requires whole { length notes.now ≡ slots_of (shape_of config) }
     ensures { OnOk result (text.new.items ≡ text.old.items ++ picture config notes.now marks) }
 {
-    let standing = standing_of(alloc, config, notes)?;
+    let standing = current_versions_of(alloc, config, notes)?;
     match cells(alloc, &standing, notes) {
         Ok(cells) => {
             let map = Map {
@@ -67,7 +67,7 @@ fn write_picture(
                 cells: &cells,
                 marks,
             };
-            let outcome = write_parts(alloc, config, standing.chart(), &map, text);
+            let outcome = write_parts(alloc, config, standing.sorted_records(), &map, text);
             drop(standing);
             outcome
         }
@@ -82,7 +82,7 @@ fn write_picture(
 fn write_parts(
     alloc: Global,
     config: Config,
-    chart: &Chart,
+    chart: &SortedRecords,
     map: &Map<'_>,
     text: &mut Vec<u8>,
 ) -> Result<(), Memory>
@@ -110,26 +110,30 @@ pub fn shape(config: Config) -> Shape
 }
 
 /// Where the pages stand among the records that are noted.
-pub fn standing_of(alloc: Global, config: Config, notes: &[Note]) -> Result<Standing, Memory>
+pub fn current_versions_of(
+    alloc: Global,
+    config: Config,
+    notes: &[Note],
+) -> Result<CurrentVersions, Memory>
     requires { length notes.now < 2 ^ 32 }
     ensures sorts { IfOk result (λ s. Sorts (found_in notes.now) s.list) }
     ensures standing { IfOk result (λ s.
         s ≡ record { protocol = config.protocol; logical = config.logical; list = s.list }) }
 {
-    let chart = charted(alloc, notes)?;
-    Ok(Standing::new(alloc, chart, config.protocol, config.logical)?)
+    let chart = sort_notes(alloc, notes)?;
+    Ok(CurrentVersions::new(alloc, chart, config.protocol, config.logical)?)
 }
 
 /// The records that are noted, in order of their names.
-fn charted(alloc: Global, notes: &[Note]) -> Result<Chart, Memory>
+fn sort_notes(alloc: Global, notes: &[Note]) -> Result<SortedRecords, Memory>
     requires { length notes.now < 2 ^ 32 }
     ensures { IfOk result (λ chart. Sorts (found_in notes.now) chart) }
 {
-    Ok(Chart::of(alloc, &found(alloc, notes)?)?)
+    Ok(SortedRecords::of(alloc, &noted_records(alloc, notes)?)?)
 }
 
 /// The records that are noted, in the order of their slots.
-fn found(alloc: Global, notes: &[Note]) -> Result<Vec<Found>, Memory>
+fn noted_records(alloc: Global, notes: &[Note]) -> Result<Vec<Found>, Memory>
     requires { length notes.now < 2 ^ 32 }
     ensures { IfOk result (λ list. list.items ≡ found_in notes.now) }
 {

@@ -8,12 +8,12 @@ use crate::grid::{Grid, Spot};
 use crate::legend::{write_head, write_legend};
 use crate::map::Map;
 use crate::marks::Marks;
-use crate::picture::{shape, standing_of, write_heading};
+use crate::picture::{current_versions_of, shape, write_heading};
 use crate::pieces::{add_attribute, open_words};
 use crate::svg_lines::{write_breach, write_walks};
 use crate::svg_map::Plan;
 use crate::text::{add, append};
-use record_chart::Chart;
+use sorted_records::SortedRecords;
 use std::alloc::{AllocError, Global};
 use tx_types::{Config, Memory};
 use version_index::Note;
@@ -51,7 +51,7 @@ fn write_svg(
     requires whole { length notes.now ≡ slots_of (shape_of config) }
     ensures { OnOk result (text.new.items ≡ text.old.items ++ svg config notes.now marks) }
 {
-    let standing = standing_of(alloc, config, notes)?;
+    let standing = current_versions_of(alloc, config, notes)?;
     match cells(alloc, &standing, notes) {
         Ok(cells) => {
             let map = Map {
@@ -59,7 +59,7 @@ fn write_svg(
                 cells: &cells,
                 marks,
             };
-            let outcome = write_map(alloc, config, &map, standing.chart(), text);
+            let outcome = write_map(alloc, config, &map, standing.sorted_records(), text);
             drop(standing);
             outcome
         }
@@ -75,7 +75,7 @@ fn write_map(
     alloc: Global,
     config: Config,
     map: &Map<'_>,
-    chart: &Chart,
+    chart: &SortedRecords,
     text: &mut Vec<u8>,
 ) -> Result<(), Memory>
     requires { IsShape map.now.shape }
@@ -107,7 +107,7 @@ fn write_drawing(
     alloc: Global,
     config: Config,
     plan: &Plan<'_>,
-    chart: &Chart,
+    chart: &SortedRecords,
     walks: &mut Vec<u8>,
     text: &mut Vec<u8>,
 ) -> Result<(), Memory>

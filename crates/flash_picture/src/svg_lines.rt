@@ -1,13 +1,13 @@
 //! The lines below the map of a picture in SVG.
 ghost use Rattle.std.specs.Prelude.{◌≡◌, ◌+◌, ◌*◌, ◌≤◌, ◌++◌, IfOk, OnOk, codes, length};
-ghost use Rattle.flash_picture.specs.Svg.{breach_svg, columns_with, rows_begun, rows_taken, rows_text, step_row, steps_begin, steps_rows, walk_rows, walk_takes, walks_svg, walks_take};
+ghost use Rattle.flash_picture.specs.Svg.{breach_svg, columns_with, count_rows, rows_taken, rows_text, step_row, steps_begin, steps_rows, walk_rows, walk_takes, walks_svg, walks_take};
 ghost use Rattle.flash_picture.specs.Walks.{step_text};
 
 use crate::picture::write_law;
 use crate::text::add;
 use crate::walk::{End, Step, newest_name, steps, write_start};
-use record_chart::Chart;
 use record_list::Breach;
+use sorted_records::SortedRecords;
 use std::alloc::{AllocError, Global};
 use tx_types::{Link, Memory, Protocol};
 
@@ -17,7 +17,7 @@ const FULL_COLUMNS: usize = 120;
 /// Appends the walks of all pages whose newest version does not count, and answers how many lines they are.
 pub fn write_walks(
     alloc: Global,
-    chart: &Chart,
+    chart: &SortedRecords,
     protocol: Protocol,
     logical: u32,
     text: &mut Vec<u8>,
@@ -37,7 +37,7 @@ pub fn write_walks(
 /// Appends the walk of a page that ends so, if its newest version does not count, and answers how many lines it is.
 fn write_walk(
     alloc: Global,
-    chart: &Chart,
+    chart: &SortedRecords,
     logical: u32,
     page: u32,
     end: Option<End>,
@@ -81,15 +81,15 @@ fn write_steps(steps: &[Step], first: usize, text: &mut Vec<u8>) -> Result<u64, 
     let mut columns = first;
     let mut begun = 0;
     for step in steps {
-        begun += rows_begun(columns);
+        begun += count_rows(columns);
         columns = write_step(*step, columns, text)?;
     }
     Ok(begun)
 }
 
 /// How many lines a step begins behind so many columns.
-fn rows_begun(columns: usize) -> u64
-    ensures rows { result ≡ rows_begun columns }
+fn count_rows(columns: usize) -> u64
+    ensures rows { result ≡ count_rows columns }
     ensures few { result ≤ 1 }
 {
     if columns > FULL_COLUMNS { 1 } else { 0 }

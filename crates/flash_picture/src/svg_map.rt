@@ -13,8 +13,8 @@ use crate::grid::{Grid, Spot};
 use crate::map::Map;
 use crate::pieces::{add_curve, add_rectangle, open_group, open_words};
 use crate::text::{add, add_count, add_name, add_number};
-use record_chart::Chart;
 use record_list::Found;
+use sorted_records::SortedRecords;
 use std::alloc::AllocError;
 use tx_types::{Block, Slot};
 
@@ -164,7 +164,7 @@ impl Plan<'_> {
     }
 
     /// Appends the arrows from all cells.
-    pub fn write_arrows(&self, chart: &Chart, text: &mut Vec<u8>) -> Result<(), AllocError>
+    pub fn write_arrows(&self, chart: &SortedRecords, text: &mut Vec<u8>) -> Result<(), AllocError>
         requires { IsGrid self.now.grid }
         ensures { let p = self.now in OnOk result (text.new.items
             ≡ text.old.items ++ arrows_svg p.grid chart.now p.map.cells.now p.map.marks) }
@@ -176,7 +176,12 @@ impl Plan<'_> {
     }
 
     /// Appends the arrow from the cell of a slot.
-    fn write_arrow(&self, chart: &Chart, slot: Slot, text: &mut Vec<u8>) -> Result<(), AllocError>
+    fn write_arrow(
+        &self,
+        chart: &SortedRecords,
+        slot: Slot,
+        text: &mut Vec<u8>,
+    ) -> Result<(), AllocError>
         requires { IsGrid self.now.grid }
         ensures { let p = self.now in OnOk result (text.new.items
             ≡ text.old.items ++ arrow_svg p.grid chart.now p.map.cells.now p.map.marks slot.0) }
@@ -223,13 +228,13 @@ fn write_links(cell: Cell, text: &mut Vec<u8>) -> Result<(), AllocError>
 }
 
 /// The slot to which the record of a cell links, if there is one.
-fn target(chart: &Chart, cell: Cell) -> Option<Slot>
+fn target(chart: &SortedRecords, cell: Cell) -> Option<Slot>
     ensures { result ≡ target chart.now cell }
 {
     match cell {
         Cell::Blank => None,
         Cell::Damaged => None,
-        Cell::Holds { rec, .. } => first_slot(chart.named(rec.next)),
+        Cell::Holds { rec, .. } => first_slot(chart.with_name(rec.next)),
     }
 }
 

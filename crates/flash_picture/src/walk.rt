@@ -3,13 +3,13 @@
 ghost use Rattle.std.specs.Prelude.{◌≡◌, suc, ◌<◌, ◌≤◌, ◌++◌, IfOk, IfSome, OnOk, length};
 ghost use Rattle.std.specs.List.{flat_map};
 ghost use Rattle.record_list.specs.Verdict.{link_of, newest_name};
-ghost use Rattle.record_chart.specs.Charts.{EndsBelow};
+ghost use Rattle.sorted_records.specs.SortedRecords.{EndsBelow};
 ghost use Rattle.verdict_report.specs.Walks.{is_end, walk_links};
-ghost use Rattle.flash_picture.specs.Walks.{end_by, end_of, end_text, last_steps, leaving, left_at, left_by, line_text, start_text, step_text, steps_of, steps_over, walk_line, walks_text};
+ghost use Rattle.flash_picture.specs.Walks.{end_by, end_of, end_text, last_steps, leaving, leaving_at, leaving_by, line_text, start_text, step_text, steps_of, steps_over, walk_line, walks_text};
 
 use crate::text::{add, add_name, add_number};
-use record_chart::{Chart, Orbit};
 use record_list::Why;
+use sorted_records::{Orbit, SortedRecords};
 use std::alloc::{AllocError, Global};
 use tx_types::{Link, Memory, Protocol};
 
@@ -53,12 +53,17 @@ impl Step {
 
 impl End {
     /// How the walk from the newest record of a page ends; nothing where its version counts.
-    pub fn of_page(chart: &Chart, protocol: Protocol, logical: u32, page: u32) -> Option<End>
+    pub fn of_page(
+        chart: &SortedRecords,
+        protocol: Protocol,
+        logical: u32,
+        page: u32,
+    ) -> Option<End>
         ensures { result ≡ end_of protocol chart.now logical page }
     {
         end_by(
             chart.why(protocol, logical, page),
-            left_at(chart, logical, page),
+            leaving_at(chart, logical, page),
         )
     }
 
@@ -91,19 +96,19 @@ fn end_by(why: Why, last: Option<Link>) -> Option<End>
 }
 
 /// The link at which the walk from the newest record of a page leaves the newest records, if it does.
-fn left_at(chart: &Chart, logical: u32, page: u32) -> Option<Link>
-    ensures { result ≡ left_at chart.now logical page }
+fn leaving_at(chart: &SortedRecords, logical: u32, page: u32) -> Option<Link>
+    ensures { result ≡ leaving_at chart.now logical page }
 {
     match chart.orbit(page) {
-        Some(orbit) => left_by(chart, logical, orbit),
+        Some(orbit) => leaving_by(chart, logical, orbit),
         None => None,
     }
 }
 
 /// The same from the orbit of the place of that record.
-fn left_by(chart: &Chart, logical: u32, orbit: Orbit) -> Option<Link>
+fn leaving_by(chart: &SortedRecords, logical: u32, orbit: Orbit) -> Option<Link>
     requires { EndsBelow (length chart.now) orbit }
-    ensures { result ≡ left_by chart.now logical orbit }
+    ensures { result ≡ leaving_by chart.now logical orbit }
 {
     match orbit {
         Orbit::Ends { after, at } => {
@@ -119,7 +124,7 @@ fn left_by(chart: &Chart, logical: u32, orbit: Orbit) -> Option<Link>
 }
 
 /// A link, where it is to a version above, or below, the newest of its page.
-fn leaving(chart: &Chart, link: Link) -> Option<Link>
+fn leaving(chart: &SortedRecords, link: Link) -> Option<Link>
     ensures { result ≡ leaving chart.now link }
 {
     if link.version != chart.newest(link.page) {
@@ -130,18 +135,29 @@ fn leaving(chart: &Chart, link: Link) -> Option<Link>
 }
 
 /// The steps that are shown of the walk from the newest record of a page.
-pub fn steps(alloc: Global, chart: &Chart, logical: u32, page: u32) -> Result<Vec<Step>, Memory>
+pub fn steps(
+    alloc: Global,
+    chart: &SortedRecords,
+    logical: u32,
+    page: u32,
+) -> Result<Vec<Step>, Memory>
     ensures steps { IfOk result (λ steps. steps.items ≡ steps_of chart.now logical page) }
     ensures few { IfOk result (λ steps. length steps.items ≤ 18) }
 {
     let start = newest_name(chart, page);
-    steps_from(alloc, chart, logical, start, left_at(chart, logical, page))
+    steps_from(
+        alloc,
+        chart,
+        logical,
+        start,
+        leaving_at(chart, logical, page),
+    )
 }
 
 /// The same from a record, where the walk leaves the newest records at this link.
 fn steps_from(
     alloc: Global,
-    chart: &Chart,
+    chart: &SortedRecords,
     logical: u32,
     start: Link,
     last: Option<Link>,
@@ -177,14 +193,14 @@ fn push_last(last: Option<Link>, steps: &mut Vec<Step>) -> Result<(), Memory>
 }
 
 /// Whether a walk from the record `start` ends at this link.
-fn is_end(chart: &Chart, start: Link, link: Link) -> bool
+fn is_end(chart: &SortedRecords, start: Link, link: Link) -> bool
     ensures { result ≡ is_end chart.now start link }
 {
     link.version != chart.newest(link.page) || link == start
 }
 
 /// The name of the newest record of a page.
-pub fn newest_name(chart: &Chart, page: u32) -> Link
+pub fn newest_name(chart: &SortedRecords, page: u32) -> Link
     ensures { result ≡ newest_name chart.now page }
 {
     Link {
@@ -196,7 +212,7 @@ pub fn newest_name(chart: &Chart, page: u32) -> Link
 /// Appends a line for each page whose newest version does not count.
 pub fn write_walks(
     alloc: Global,
-    chart: &Chart,
+    chart: &SortedRecords,
     protocol: Protocol,
     logical: u32,
     text: &mut Vec<u8>,
@@ -214,7 +230,7 @@ pub fn write_walks(
 /// Appends the line of a page whose walk ends so, if its newest version does not count.
 fn write_walk(
     alloc: Global,
-    chart: &Chart,
+    chart: &SortedRecords,
     logical: u32,
     page: u32,
     end: Option<End>,

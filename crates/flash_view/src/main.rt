@@ -2,7 +2,7 @@
 #![tactic(auto)]
 
 use desk_io::{RealDesk, RealFolder};
-use image_desk::unread;
+use program_base::status_of_bad_args;
 use std::env;
 use std::process::ExitCode;
 pub use view_command_line::top;
@@ -10,7 +10,7 @@ pub use view_command_line::top;
 fn main(rt: HostRuntime) -> ExitCode {
     let args = match env::args(&rt) {
         Ok(args) => args,
-        Err(error) => return ExitCode::from(unread(error.kind())),
+        Err(error) => return ExitCode::from(status_of_bad_args(error.kind())),
     };
     let mut words = Vec::new(rt.alloc());
     for word in args.skip(1) {

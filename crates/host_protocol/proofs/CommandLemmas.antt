@@ -1,16 +1,16 @@
 -- A line is at most one command.
-use Rattle.std.proofs.Common.{◌≡◌, ℕ, ◌≤◌, List, [], ◌∷◌, map, refl, sym, ap, ◌∙◌, arith, Some}
+use Rattle.host_protocol.proofs.Common.{◌≡◌, ℕ, ◌≤◌, List, [], ◌∷◌, map, refl, sym, ap, ◌∙◌, arith, Some, page_write_of, number_of}
 use Rattle.std.specs.Prelude.{sum, nat_le, All}
 use Rattle.std.specs.List.{AllZip, AllByRecursion}
 use Rattle.std.proofs.lemmas.Bool.{leb-true}
 use Rattle.std.proofs.lemmas.List.Elements.{All-from_recursion}
 use Rattle.std.proofs.lemmas.Option.{cond_some, option_and_then_some}
-use Rattle.list_facts.proofs.Lists.{same_somes}
+use Rattle.list_lemmas.proofs.Lists.{same_somes}
 use Rattle.flash_model.specs.declared.outcome.Outcome.{Outcome}
 use Rattle.flash_model.specs.declared.outcome.Outcome.TheVariants as outcome
 use Rattle.tx_types.specs.Batch.{PageWrite, Writes}
-use Rattle.host_protocol.specs.Commands.{IsCommand, AreOperands, AreWriteOperands, IsArm, verb_of, outcome_word, page_write_of, alone, Suits}
-use Rattle.host_protocol.specs.Numbers.{number_of, count_of, positive}
+use Rattle.host_protocol.specs.Commands.{IsCommand, AreOperands, AreWriteOperands, IsArm, verb_of, outcome_word, alone, Suits}
+use Rattle.host_protocol.specs.Numbers.{count_of, positive}
 use Rattle.host_protocol.specs.Verbs.{word_of}
 use Rattle.host_protocol.specs.declared.command.Command.{Command}
 use Rattle.host_protocol.specs.declared.command.Command.TheVariants as command

@@ -1,26 +1,17 @@
 -- The page and the contents that an entry gives.
-use Rattle.std.proofs.Common.{◌≡◌, ℕ, ◌+◌, ◌*◌, ◌/◌, ◌<◌, ◌≤◌, ◌≢◌, true, false, ◌⊎◌, inl, inr, List, [], ◌∷◌, length, take, drop, refl, ap, sym, ◌∙◌, arith}
-use Rattle.std.proofs.Common.{Option, Some}
-use Rattle.std.proofs.Common.{None, Result, Ok, Err}
-use Rattle.std.specs.Prelude.{position, codes}
-use Rattle.std.specs.List.{slice_split, position_or_len}
-use Rattle.std.specs.Str.{bytes_eq}
-use Rattle.std.proofs.lemmas.Bool.{eqb-true, false_from_ne_true, le-leb, lt-leb}
-use Rattle.std.proofs.lemmas.List.Sums.{passes_at_first}
+use Rattle.host_protocol.proofs.Common.{◌≡◌, ℕ, ◌+◌, ◌*◌, ◌/◌, ◌<◌, ◌≤◌, ◌≢◌, true, false, ◌⊎◌, inl, inr, List, [], ◌∷◌, length, take, drop, refl, ap, sym, ◌∙◌, arith, Option, Some, None, Result, Ok, Err, position, slice_split, position_or_len, bytes_eq, eqb-true, passes_at_first, position_some, option_map, LineError, Bad, Memory, number_of, page_value, page_write_of}
+use Rattle.std.specs.Prelude.{codes}
+use Rattle.std.proofs.lemmas.Bool.{false_from_ne_true, le-leb, lt-leb}
 use Rattle.std.proofs.lemmas.Slice.Eq.{bytes_eq-Decides}
-use Rattle.list_facts.proofs.Positions.{position_some}
 use Rattle.hex.proofs.HexLemmas.{decode_of-ok}
 use Rattle.hex.specs.Hex.{decode_of, is_hex_digit}
 use Rattle.hex.specs.declared.error.FromHexError.{FromHexError}
 use Rattle.std.specs.Prelude.{IfOk}
-use Rattle.std.specs.Option.{unwrap_or, option_map}
+use Rattle.std.specs.Option.{unwrap_or}
 use Rattle.std.specs.Result.{result_ok}
 use Rattle.host_protocol.specs.Reading.{AnswersAs, Fails}
-use Rattle.host_protocol.specs.declared.error.LineError.{LineError}
-use Rattle.host_protocol.specs.declared.error.LineError.TheVariants.{Bad, Memory}
 use Rattle.tx_types.specs.Batch.{padded}
-use Rattle.host_protocol.specs.Numbers.{number_of}
-use Rattle.host_protocol.specs.Commands.{page_contents, page_value, contents_from, page_write_of, page_write_from, write_of_texts, is_equals}
+use Rattle.host_protocol.specs.Commands.{page_contents, contents_from, page_write_from, write_of_texts, is_equals}
 use Rattle.host_protocol.proofs.PartLemmas.{parts, split_some, split_none}
 
 -- a word without an equals sign has no two parts

@@ -1,6 +1,5 @@
 -- How the commands of a file grow, line by line.
-use Rattle.std.proofs.Common.{◌≡◌, ℕ, ◌+◌, ◌-◌, ◌<◌, ◌≤◌, ◌⊎◌, inl, inr, true, false, List, [], ◌∷◌, ◌++◌, length, take, drop, refl, ap, ◌∙◌, arith, Option}
-use Rattle.std.proofs.Common.{Some, None, length-append}
+use Rattle.host_protocol.proofs.Common.{◌≡◌, ℕ, ◌+◌, ◌-◌, ◌<◌, ◌≤◌, ◌⊎◌, inl, inr, true, false, List, [], ◌∷◌, ◌++◌, length, take, drop, refl, ap, ◌∙◌, arith, Option, Some, None, length-append, entries_in, lines_of, LineError, Bad, Memory}
 use Rattle.std.specs.Prelude.{filter, sum_by, IfNone, IfSome}
 use Rattle.std.specs.List.{AllZip}
 use Rattle.std.specs.Option.{option_to_list}
@@ -9,14 +8,11 @@ use Rattle.std.proofs.Math.Seq.{take-length}
 use Rattle.std.proofs.lemmas.Bool.{cases_order}
 use Rattle.std.proofs.lemmas.List.Elements.{filter-append}
 use Rattle.std.proofs.lemmas.List.Sums.{sum_by-append, sum_by_push}
-use Rattle.list_facts.proofs.Lists.{Next, take_shorter}
-use Rattle.list_facts.proofs.Pairs.{zip_front, zip_same, zip_push}
+use Rattle.list_lemmas.proofs.Lists.{Next, take_shorter}
+use Rattle.list_lemmas.proofs.Pairs.{zip_front, zip_same, zip_push}
 use Rattle.host_protocol.specs.Commands.{IsCommand}
-use Rattle.host_protocol.specs.Files.{AreCommands, AreGood, IsFile, IsFirstBad, entries_in, is_command_line}
-use Rattle.host_protocol.specs.Lines.{lines_of}
+use Rattle.host_protocol.specs.Files.{AreCommands, AreGood, IsFile, IsFirstBad, is_command_line}
 use Rattle.host_protocol.specs.Reading.{AddsCommand, AddsNone, EndsAt, text_error}
-use Rattle.host_protocol.specs.declared.error.LineError.{LineError}
-use Rattle.host_protocol.specs.declared.error.LineError.TheVariants.{Bad, Memory}
 use Rattle.host_protocol.specs.declared.error.TextError.{TextError}
 use Rattle.host_protocol.specs.declared.error.TextError.TheVariants as text
 use Rattle.host_protocol.specs.declared.command.Command.{Command}

@@ -1,18 +1,12 @@
 -- The entry at the beginning of a line.
-use Rattle.std.proofs.Common.{◌≡◌, ◌≢◌, ℕ, ◌+◌, ◌-◌, ◌<◌, ◌≤◌, true, false, not, ◌⊎◌, inl, inr, List, length, take, drop, get_or, slice_index, refl, ap, sym}
-use Rattle.std.proofs.Common.{subst, ◌∙◌, arith}
-use Rattle.std.proofs.Common.{Option, Some, None, take-take, drop-drop, get_or-drop, length-drop, length-take, unwrap_or}
-use Rattle.std.specs.Prelude.{position}
-use Rattle.std.specs.List.{position_or_len}
-use Rattle.std.specs.Option.{option_map}
-use Rattle.std.proofs.lemmas.Bool.{cases_lt, eqb-true}
-use Rattle.std.proofs.lemmas.List.{drop-take, get_or-take}
-use Rattle.std.proofs.lemmas.List.Sums.{position_or_len_is, fails_before_first, passes_at_first, prefix_len_is, prefix_len_passes, prefix_len-le-length}
+use Rattle.host_protocol.proofs.Common.{◌≡◌, ◌≢◌, ℕ, ◌+◌, ◌-◌, ◌<◌, ◌≤◌, true, false, not, ◌⊎◌, inl, inr, List, length, take, drop, get_or, slice_index, refl, ap, sym, ◌∙◌, arith, Option, Some, None, length-drop, unwrap_or, position, position_or_len, option_map, cases_lt, eqb-true, get_or-take, passes_at_first, prefix_len-le-length, position_some, page_value, page_write_of, words_of, is_space_or_tab, number_of, is_digit, digits_in}
+use Rattle.std.proofs.Common.{subst}
+use Rattle.std.proofs.Common.{take-take, drop-drop, get_or-drop, length-take}
+use Rattle.std.proofs.lemmas.List.{drop-take}
+use Rattle.std.proofs.lemmas.List.Sums.{position_or_len_is, fails_before_first, prefix_len_is, prefix_len_passes}
 use Rattle.std.proofs.lemmas.List.Sums.{AllPass-from_list_all}
-use Rattle.list_facts.proofs.Positions.{position-at, position_some, position_end}
-use Rattle.host_protocol.specs.Commands.{page_value, page_write_of, is_equals}
-use Rattle.host_protocol.specs.Lines.{words_of, is_space_or_tab}
-use Rattle.host_protocol.specs.Numbers.{number_of, is_digit, digits_in}
+use Rattle.list_lemmas.proofs.Positions.{position-at, position_end}
+use Rattle.host_protocol.specs.Commands.{is_equals}
 use Rattle.host_protocol.specs.Reading.{BeginsWithPage, BeginsWithEntry, BeginsWithOther}
 use Rattle.host_protocol.proofs.EntryLemmas.{entry_around, entry_none}
 use Rattle.host_protocol.proofs.NumberLemmas.{number_digits}

@@ -1,10 +1,8 @@
 -- The first line of a file.
-use Rattle.std.proofs.Common.{◌≡◌, ℕ, ◌+◌, ◌<◌, Bool, List, [], ◌∷◌, length, take, drop, refl, arith, Some, None}
-use Rattle.std.specs.Prelude.{position}
-use Rattle.std.specs.List.{slice_split}
+use Rattle.host_protocol.proofs.Common.{◌≡◌, ℕ, ◌+◌, ◌<◌, Bool, List, [], ◌∷◌, length, take, drop, refl, arith, Some, None, position, slice_split, lines_of}
 use Rattle.std.specs.Str.Lines.{strip_carriage_return}
 use Rattle.std.proofs.lemmas.List.{nil_from_length}
-use Rattle.host_protocol.specs.Lines.{lines_of, is_line_feed, ended_parts}
+use Rattle.host_protocol.specs.Lines.{is_line_feed, ended_parts}
 use Rattle.host_protocol.proofs.PartLemmas.{Parts, parts, split_some, split_none}
 
 -- a part that others follow is a line

@@ -1,14 +1,14 @@
 -- The number that the digits at the beginning of a text are.
-use Rattle.std.proofs.Common.{◌≡◌, ℕ, ◌<◌, ◌≤◌, Bool, true, false, ◌&&◌, ◌⊎◌, inl, inr, List, length, take, min, refl, ap, sym, ◌∙◌, arith, Some, None}
+use Rattle.host_protocol.proofs.Common.{◌≡◌, ℕ, ◌<◌, ◌≤◌, Bool, true, false, ◌⊎◌, inl, inr, List, length, take, refl, ap, sym, ◌∙◌, arith, Some, None, cases_lt, get_or-take, prefix_len-le-length, number_of, is_digit, digits_in}
+use Rattle.std.proofs.Common.{◌&&◌, min}
 use Rattle.std.proofs.Common.{take_all, length-take, if◌then◌else◌}
 use Rattle.std.specs.Prelude.{nat_le}
 use Rattle.std.specs.List.{list_all}
 use Rattle.tx_types.specs.Limits.{max_u32}
-use Rattle.std.proofs.lemmas.Bool.{le-leb, lt-leb, cases_lt}
-use Rattle.std.proofs.lemmas.List.{get_or-take}
+use Rattle.std.proofs.lemmas.Bool.{le-leb, lt-leb}
 use Rattle.std.proofs.lemmas.List.Folds.{list_all_at}
-use Rattle.std.proofs.lemmas.List.Sums.{list_all-from_AllPass, prefix_len_passes, prefix_len_stops, prefix_len-le-length}
-use Rattle.host_protocol.specs.Numbers.{number_of, is_digit, digits_in, value_of}
+use Rattle.std.proofs.lemmas.List.Sums.{list_all-from_AllPass, prefix_len_passes, prefix_len_stops}
+use Rattle.host_protocol.specs.Numbers.{value_of}
 
 -- the digits that a text begins with
 digits_pass : (text : List ℕ) → list_all is_digit (take (digits_in text) text) ≡ true

@@ -1,12 +1,9 @@
 -- The parts of a list between the elements that a test finds.
-use Rattle.std.proofs.Common.{◌≡◌, ℕ, suc, ◌+◌, ◌-◌, ◌<◌, Bool, true, false, not, List, [], ◌∷◌, length, take, drop, refl, arith, Some, None, length-drop}
-use Rattle.std.specs.Prelude.{position}
-use Rattle.std.specs.List.{slice_split, position_or_len}
+use Rattle.host_protocol.proofs.Common.{◌≡◌, ℕ, suc, ◌+◌, ◌-◌, ◌<◌, Bool, true, false, not, List, [], ◌∷◌, length, take, drop, refl, arith, Some, None, length-drop, position, slice_split, position_or_len, prefix_len-le-length, position_some}
 use Rattle.std.proofs.Math.ListN.{drop_of_length-le}
 use Rattle.std.proofs.Math.Seq.{take-length}
 use Rattle.std.proofs.lemmas.List.Splits.{slice_split_first}
-use Rattle.std.proofs.lemmas.List.Sums.{prefix_len-le-length}
-use Rattle.list_facts.proofs.Positions.{position_some, none_whole}
+use Rattle.list_lemmas.proofs.Positions.{none_whole}
 
 pub one_more : (n : ℕ) → 1 + n ≡ suc n
 one_more n = omega arith

@@ -1,10 +1,10 @@
 -- A search for a byte, as the first place of a list that passes a test.
-use Rattle.std.proofs.Common.{◌≡◌, ℕ, Bool, true, false, List, Option, Some, None, sym, subst, take, arith}
-use Rattle.std.specs.Prelude.{position, is_some}
+use Rattle.host_protocol.proofs.Common.{◌≡◌, ℕ, Bool, true, false, List, Option, Some, None, sym, take, arith, position, get_or-take, length-take, passes_at_first, position_some}
+use Rattle.std.proofs.Common.{subst}
+use Rattle.std.specs.Prelude.{is_some}
 use Rattle.std.proofs.lemmas.Bool.{false_from_ne_true}
-use Rattle.std.proofs.lemmas.List.{get_or-take, length-take}
-use Rattle.std.proofs.lemmas.List.Sums.{fails_before_first, passes_at_first}
-use Rattle.list_facts.proofs.Positions.{position-at, position-none, position_some}
+use Rattle.std.proofs.lemmas.List.Sums.{fails_before_first}
+use Rattle.list_lemmas.proofs.Positions.{position-at, position-none}
 use Rattle.memchr.specs.Find.{IsFirstByte}
 
 pub found_first : (test : ℕ → Bool) (bytes : List ℕ) (found : Option ℕ) → IsFirstByte test bytes found → found ≡ position test bytes

@@ -1,14 +1,10 @@
 -- The first word of a line.
-use Rattle.std.proofs.Common.{◌≡◌, ℕ, suc, ◌<◌, Bool, true, false, not, List, [], ◌∷◌, length, take, drop, get_or, refl, sym, ap, ◌∙◌, arith, Some, None}
-use Rattle.std.proofs.Common.{unwrap_or, length-drop, drop-cons}
-use Rattle.std.specs.Prelude.{position}
-use Rattle.std.specs.List.{position_or_len}
+use Rattle.host_protocol.proofs.Common.{◌≡◌, ℕ, suc, ◌<◌, Bool, true, false, not, List, [], ◌∷◌, length, take, drop, get_or, refl, sym, ap, ◌∙◌, arith, Some, None, unwrap_or, length-drop, position, position_or_len, length-take, passes_at_first, position_some, words_of, is_space_or_tab}
+use Rattle.std.proofs.Common.{drop-cons}
 use Rattle.std.proofs.Math.ListN.{drop_of_length-le}
 use Rattle.std.proofs.lemmas.Bool.{not-true}
-use Rattle.std.proofs.lemmas.List.{length-take}
-use Rattle.std.proofs.lemmas.List.Sums.{passes_at_first}
-use Rattle.list_facts.proofs.Positions.{position_some, none_whole, position_end}
-use Rattle.host_protocol.specs.Lines.{words_of, is_space_or_tab, has_bytes}
+use Rattle.list_lemmas.proofs.Positions.{none_whole, position_end}
+use Rattle.host_protocol.specs.Lines.{has_bytes}
 use Rattle.host_protocol.proofs.PartLemmas.{one_more, parts, rest_from, rest_is}
 
 -- where a line's first word begins

@@ -25,7 +25,7 @@ ghost use Rattle.host_protocol.specs.Numbers.{number_of};
 ghost use Rattle.host_protocol.specs.Reading.{AnswersAs, BeginsWithEntry, BeginsWithOther, BeginsWithPage};
 
 use crate::error::LineError;
-use crate::hexadecimal::decoded;
+use crate::hexadecimal::decode;
 use crate::numbers::leading_number;
 use crate::words::{first_blank, first_filled};
 use memchr::memchr;
@@ -115,5 +115,5 @@ fn contents<'a>(text: &[u8], page_bytes: u32, room: &'a mut Vec<u8>) -> Result<&
     if text.is_empty() || text.len() / 2 > page_bytes as usize {
         return Err(LineError::Bad);
     }
-    decoded(text, room)
+    decode(text, room)
 }

@@ -12,7 +12,7 @@ use tx_types::Memory;
 const NO_DIGIT: u8 = 255;
 
 /// The bytes that a text of digits tells, two digits for each. They are written into the room.
-pub fn decoded<'a>(text: &[u8], room: &'a mut Vec<u8>) -> Result<&'a [u8], LineError>
+pub fn decode<'a>(text: &[u8], room: &'a mut Vec<u8>) -> Result<&'a [u8], LineError>
     ensures { AnswersAs (λ v. v.now) result (result_ok (decode_of text.now)) }
 {
     if text.len() % 2 != 0 {

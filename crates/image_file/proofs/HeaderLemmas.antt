@@ -1,32 +1,28 @@
 -- A header and its numbers.
-use Rattle.std.proofs.Common.{◌≡◌, ℕ, zero, suc, ◌+◌, ◌-◌, ◌*◌, ◌^◌, ◌<◌, ◌≤◌, Bool, true, false, not, eqb, ◌||◌, ◌⊎◌, List, [], ◌∷◌, ◌++◌, length, take, drop}
-use Rattle.std.proofs.Common.{replicate, slice_range, Option, Some, None, Result, Ok, Err, refl, sym, ap, subst, ◌∙◌, inl, inr, arith}
+use Rattle.image_file.proofs.Common.{◌≡◌, ℕ, zero, suc, ◌+◌, ◌-◌, ◌*◌, ◌<◌, ◌≤◌, true, false, not, eqb, List, [], ◌∷◌, ◌++◌, length, take, drop, replicate, slice_range, Option, Some, None, Ok, Err, refl, sym, ap, subst, ◌∙◌, arith, option_map, flat_map, length-append, length-take, length-drop, checked, shape_of, slots_of, Config, Shape, checked_config, Extras, header_of, number_at, config_in, extras_in, shape_in, broken_header, ImageError}
+use Rattle.std.proofs.Common.{◌^◌, Bool, ◌||◌, ◌⊎◌}
+use Rattle.std.proofs.Common.{Result, inl, inr}
 use Rattle.std.specs.Prelude.{is_some, unwrap_or, nat_le, nat_eq, codes, if◌then◌else◌}
 use Rattle.std.specs.Int.{w32, to_le_bytes}
-use Rattle.std.specs.Option.{option_map, option_or}
+use Rattle.std.specs.Option.{option_or}
 use Rattle.std.specs.Result.{result_err}
-use Rattle.std.specs.List.{flat_map, starts_with}
+use Rattle.std.specs.List.{starts_with}
 use Rattle.std.proofs.lemmas.Bool.{and_parts, cases_eq, ne_eqb, eqb-false, leb-true, le-leb}
-use Rattle.std.proofs.lemmas.List.{length-append, length-take, length-drop, drop-drop}
+use Rattle.std.proofs.lemmas.List.{drop-drop}
 use Rattle.std.proofs.lemmas.Nat.{le_bytes_4, from_le_bytes-to_le_bytes_4}
 use Rattle.std.proofs.lemmas.Slice.Eq.{bytes_eq-Decides}
 use Rattle.std.proofs.Math.Seq.{take-add}
 use Rattle.std.proofs.Math.Nat.{mul-le-mul_right}
-use Rattle.list_facts.proofs.Bytes.{IsBytes, IsBytes-take, IsBytes-drop}
-use Rattle.list_facts.proofs.Options.{option_or_none}
-use Rattle.tx_types.specs.Config.{checked, shape_of, blocks_of, slots_of, IsConfig}
-use Rattle.tx_types.specs.declared.config.Config.{Config}
+use Rattle.list_lemmas.proofs.Bytes.{IsBytes, IsBytes-take, IsBytes-drop}
+use Rattle.list_lemmas.proofs.Options.{option_or_none}
+use Rattle.tx_types.specs.Config.{blocks_of, IsConfig}
 use Rattle.tx_types.specs.declared.config.ConfigError.{ConfigError}
 use Rattle.tx_types.specs.declared.config.Protocol.{Protocol}
 use Rattle.tx_types.specs.declared.config.Protocol.TheVariants.{Scc, Bpcc}
-use Rattle.tx_types.specs.declared.config.Shape.{Shape}
-use Rattle.tx_types.proofs.ConfigLemmas.{checked_config}
-use Rattle.flash_model.specs.Flash.{Extras, no_extras}
+use Rattle.flash_model.specs.Flash.{no_extras}
 use Rattle.lane_scan.specs.Scans.{all_equal}
-use Rattle.image_file.specs.Spelling.{first_magic, second_magic, code_of, numbers_of, header_of}
-use Rattle.image_file.specs.Rules.{number_at, protocol_of, config_in, is_second, told_in, extras_in, reserved_from, is_allowed, shape_in, unless, broken_rest}
-use Rattle.image_file.specs.Rules.{broken_header}
-use Rattle.image_file.specs.declared.error.ImageError.{ImageError}
+use Rattle.image_file.specs.Spelling.{first_magic, second_magic, code_of, numbers_of}
+use Rattle.image_file.specs.Rules.{protocol_of, is_second, told_in, reserved_from, is_allowed, unless, broken_rest}
 use Rattle.image_file.specs.declared.error.ImageError.TheVariants as error
 use Rattle.image_file.proofs.ImageLemmas.{all_equal-is}
 

@@ -1,22 +1,18 @@
 -- States and bytes on one side, and what the slots hold on the other.
-use Rattle.std.proofs.Common.{◌≡◌, ℕ, zero, suc, ◌+◌, ◌*◌, true, false, not, eqb, List, [], ◌∷◌, ◌++◌, map, length, take, drop, replicate, Some, None, refl, ap}
-use Rattle.std.proofs.Common.{◌∙◌, inl, inr, arith}
-use Rattle.std.specs.Prelude.{is_none, unwrap_or}
-use Rattle.std.specs.List.{All, flat_map, zip}
+use Rattle.image_file.proofs.Common.{◌≡◌, ℕ, zero, suc, ◌+◌, ◌*◌, true, false, not, eqb, List, [], ◌∷◌, ◌++◌, map, length, take, drop, replicate, Some, None, refl, ap, ◌∙◌, arith, is_none, flat_map, eq-eqb, length-append, length-take, length-drop, Seen, Blank, Contents, seen_of, cell_bytes, cell_of, state_byte, seen_from, all_seen, is_filled, wrong_state, wrong_bytes}
+use Rattle.std.proofs.Common.{inl, inr}
+use Rattle.std.specs.Prelude.{unwrap_or}
+use Rattle.std.specs.List.{All, zip}
 use Rattle.std.specs.Simd.{first_chunks}
-use Rattle.std.proofs.lemmas.Bool.{and_parts, cases_eq, eq-eqb, eqb-true, ne_eqb, not-false}
-use Rattle.std.proofs.lemmas.List.{replicate-append-replicate, length-append, length-replicate, length-take, length-drop, take-append-drop, take_at, drop_at}
+use Rattle.std.proofs.lemmas.Bool.{and_parts, cases_eq, eqb-true, ne_eqb, not-false}
+use Rattle.std.proofs.lemmas.List.{replicate-append-replicate, length-replicate, take-append-drop, take_at, drop_at}
 use Rattle.std.proofs.lemmas.List.Elements.{All-tail}
-use Rattle.list_facts.proofs.Positions.{position-pass, position-rest}
-use Rattle.flash_model.specs.declared.flash.Seen.{Seen}
-use Rattle.flash_model.specs.declared.flash.Seen.TheVariants.{Blank, Complete, Damaged}
-use Rattle.flash_model.specs.Flash.{Contents, blank, damaged, complete, IsWhole}
-use Rattle.flash_model.specs.Calls.{seen_of}
+use Rattle.list_lemmas.proofs.Positions.{position-pass, position-rest}
+use Rattle.flash_model.specs.declared.flash.Seen.TheVariants.{Complete, Damaged}
+use Rattle.flash_model.specs.Flash.{blank, damaged, complete, IsWhole}
 use Rattle.lane_scan.specs.Scans.{all_equal}
-use Rattle.mem_flash.specs.Slots.{cell_bytes, cell_of, contents_of, image_of, IsFilled}
+use Rattle.mem_flash.specs.Slots.{contents_of, image_of, IsFilled}
 use Rattle.mem_flash.proofs.Images.{seen_of-contents_of, cell_of-contents_of}
-use Rattle.image_file.specs.Spelling.{state_byte}
-use Rattle.image_file.specs.Rules.{seen_from, all_seen, is_filled, wrong_state, wrong_bytes}
 
 -- ---- bytes that are all one
 

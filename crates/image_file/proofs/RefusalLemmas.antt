@@ -1,15 +1,9 @@
 -- What the code found, as the first rule that is broken.
-use Rattle.std.proofs.Common.{◌≡◌, ℕ, List, length, Option, Some, None, Ok, Err, refl, ap, ◌∙◌}
+use Rattle.image_file.proofs.Common.{◌≡◌, ℕ, List, length, Option, Some, None, Ok, Err, refl, ap, ◌∙◌, eq-eqb, image_bytes, Config, Contents, Extras, cell_bytes, config_in, image_in, extras_in, shape_in, states_in, cells_in, all_seen, wrong_state, wrong_bytes, number_at, broken_header, broken_slots, ImageError}
 use Rattle.std.specs.Option.{option_or, option_map_or}
-use Rattle.std.proofs.lemmas.Bool.{eq-eqb}
-use Rattle.tx_types.specs.Config.{image_bytes}
-use Rattle.tx_types.specs.declared.config.Config.{Config}
-use Rattle.flash_model.specs.Flash.{Contents, Extras}
-use Rattle.mem_flash.specs.Slots.{cell_bytes}
 use Rattle.image_file.specs.Spelling.{Spells}
-use Rattle.image_file.specs.Rules.{config_in, image_in, extras_in, reading, shape_in, states_in, cells_in, all_seen, wrong_state, wrong_bytes, number_at}
-use Rattle.image_file.specs.Rules.{broken_header, broken_slots, first_broken, IsRefusal}
-use Rattle.image_file.specs.declared.error.ImageError.{ImageError}
+use Rattle.image_file.specs.Rules.{reading}
+use Rattle.image_file.specs.Rules.{first_broken, IsRefusal}
 use Rattle.image_file.specs.declared.error.ImageError.TheVariants as error
 use Rattle.image_file.proofs.SpellingLemmas.{first_broken-spelling}
 

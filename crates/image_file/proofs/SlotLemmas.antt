@@ -1,16 +1,14 @@
 -- The first slot that breaks a rule.
-use Rattle.std.proofs.Common.{◌≡◌, ℕ, ◌+◌, ◌*◌, ◌<◌, ◌≤◌, Bool, true, false, not, List, [], length, get_or, Some, None, ap, sym, ◌∙◌, arith}
+use Rattle.image_file.proofs.Common.{◌≡◌, ℕ, ◌+◌, ◌*◌, ◌<◌, ◌≤◌, true, false, not, List, [], length, get_or, Some, None, ap, sym, ◌∙◌, arith, Seen, Blank, is_filled, wrong_bytes, cell_bytes}
+use Rattle.std.proofs.Common.{Bool}
 use Rattle.std.specs.List.{zip}
 use Rattle.std.specs.Fork.{slice_chunk}
 use Rattle.std.specs.Simd.{first_chunks}
 use Rattle.std.proofs.lemmas.Bool.{not-false}
 use Rattle.std.proofs.lemmas.Slice.Zip.{length-zip, get_or-zip}
-use Rattle.list_facts.proofs.Positions.{position-at, position-none, position-all}
-use Rattle.list_facts.proofs.Chunks.{chunk_end, length-slice_chunk, length-first_chunks, get_or-first_chunks}
-use Rattle.flash_model.specs.declared.flash.Seen.{Seen}
-use Rattle.flash_model.specs.declared.flash.Seen.TheVariants.{Blank}
-use Rattle.image_file.specs.Rules.{is_filled, wrong_bytes}
-use Rattle.mem_flash.specs.Slots.{cell_bytes, AreFilled}
+use Rattle.list_lemmas.proofs.Positions.{position-at, position-none, position-all}
+use Rattle.list_lemmas.proofs.Chunks.{chunk_end, length-slice_chunk, length-first_chunks, get_or-first_chunks}
+use Rattle.mem_flash.specs.Slots.{AreFilled}
 use Rattle.image_file.proofs.ImageLemmas.{IsFilled-tested}
 
 module _ (size : ℕ) (seen : List Seen) (cells : List ℕ) where

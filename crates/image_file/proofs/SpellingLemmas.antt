@@ -1,27 +1,17 @@
 -- A configuration and slots have one spelling, and what breaks no rule is one.
-use Rattle.std.proofs.Common.{◌≡◌, ◌↔◌, ℕ, ◌+◌, ◌-◌, ◌*◌, ◌≤◌, eqb, List, ◌++◌, map, length, take, drop, slice_range, Option, Some, None, Ok, Err, refl, sym}
-use Rattle.std.proofs.Common.{ap, subst, ◌∙◌, arith}
-use Rattle.std.specs.Option.{option_map, option_map_or}
-use Rattle.std.specs.List.{flat_map}
-use Rattle.std.proofs.lemmas.Bool.{eqb-true, eq-eqb}
-use Rattle.std.proofs.lemmas.List.{append_assoc, length-append, length-map, length-take, length-drop, take-append-drop, drop-drop, take_at, drop_at}
+use Rattle.image_file.proofs.Common.{◌≡◌, ℕ, ◌+◌, ◌-◌, ◌*◌, ◌≤◌, eqb, List, ◌++◌, map, length, take, drop, slice_range, Option, Some, None, Ok, Err, refl, sym, ap, subst, ◌∙◌, arith, option_map, flat_map, eq-eqb, length-append, length-take, length-drop, checked, shape_of, slots_of, image_bytes, Config, Shape, checked_config, Seen, Contents, Extras, seen_of, cell_bytes, cell_of, header_of, state_byte, config_in, extras_in, shape_in, states_in, cells_in, all_seen, image_in, wrong_state, wrong_bytes, number_at, broken_header, broken_slots, ImageError}
+use Rattle.std.proofs.Common.{◌↔◌}
+use Rattle.std.specs.Option.{option_map_or}
+use Rattle.std.proofs.lemmas.Bool.{eqb-true}
+use Rattle.std.proofs.lemmas.List.{append_assoc, length-map, take-append-drop, drop-drop, take_at, drop_at}
 use Rattle.std.proofs.Math.Seq.{take-add}
-use Rattle.list_facts.proofs.Bytes.{IsBytes}
-use Rattle.list_facts.proofs.Options.{option_or_none, map_none}
-use Rattle.tx_types.specs.Config.{checked, shape_of, slots_of, image_bytes}
-use Rattle.tx_types.specs.declared.config.Config.{Config}
-use Rattle.tx_types.specs.declared.config.Shape.{Shape}
-use Rattle.tx_types.proofs.ConfigLemmas.{checked_config}
-use Rattle.flash_model.specs.declared.flash.Seen.{Seen}
-use Rattle.flash_model.specs.Flash.{Contents, IsImage, Extras}
+use Rattle.list_lemmas.proofs.Bytes.{IsBytes}
+use Rattle.list_lemmas.proofs.Options.{option_or_none, map_none}
+use Rattle.flash_model.specs.Flash.{IsImage}
 use Rattle.flash_model.specs.Retiring.{max_allowance}
-use Rattle.flash_model.specs.Calls.{seen_of}
-use Rattle.mem_flash.specs.Slots.{cell_bytes, cell_of}
 use Rattle.mem_flash.proofs.Images.{length-image_of, All-image_of}
-use Rattle.image_file.specs.Spelling.{header_of, state_byte, spelling, CanBeSpelled, Spells}
-use Rattle.image_file.specs.Rules.{config_in, extras_in, shape_in, states_in, cells_in, all_seen, image_in, wrong_state, wrong_bytes, number_at, broken_header}
-use Rattle.image_file.specs.Rules.{broken_slots, first_broken, reading}
-use Rattle.image_file.specs.declared.error.ImageError.{ImageError}
+use Rattle.image_file.specs.Spelling.{spelling, CanBeSpelled, Spells}
+use Rattle.image_file.specs.Rules.{first_broken, reading}
 use Rattle.image_file.specs.declared.error.ImageError.TheVariants as error
 use Rattle.image_file.proofs.ImageLemmas.{states-all_seen, states-image_of, cells-image_of, all_seen-states, wrong_state-states, length-cells, image_of-cells}
 use Rattle.image_file.proofs.ImageLemmas.{wrong_bytes-cells}

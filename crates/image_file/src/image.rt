@@ -3,7 +3,7 @@ ghost use Rattle.std.specs.Result.{IsOkUnless};
 ghost use Rattle.tx_types.specs.Config.{checked, shape_of, IsShape};
 ghost use Rattle.tx_types.specs.declared.config.Config.{Config};
 ghost use Rattle.flash_model.specs.Flash.{Contents, Extras};
-ghost use Rattle.mem_flash.specs.Memory.{loaded, fresh};
+ghost use Rattle.mem_flash.specs.MemFlashState.{loaded, fresh};
 ghost use Rattle.image_file.specs.Spelling.{Spells};
 ghost use Rattle.image_file.specs.Rules.{shape_in, image_in, broken_slots, first_broken, reading, IsRefusal};
 ghost use Rattle.image_file.specs.States.{AreSlotsOf};

@@ -4,12 +4,12 @@
 mod error;
 mod header;
 mod image;
-mod laws;
 mod sizes;
 mod slots;
+mod theorems;
 mod writing;
 
 pub use error::ImageError;
 pub use image::{read_image, take_image};
-pub use laws::{one_spelling, spelled_images};
+pub use theorems::{one_spelling, spelled_images};
 pub use writing::{blank_image, into_image, write_image};

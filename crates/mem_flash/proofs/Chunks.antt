@@ -1,10 +1,6 @@
 -- A flat list as chunks of one size: reading one, writing over one, and filling some.
-use Rattle.std.proofs.Common.{◌≡◌, ℕ, ◌+◌, ◌-◌, ◌*◌, ◌<◌, ◌≤◌, List, length, get_or, drop, arith, rules}
-use Rattle.std.specs.Fork.{slice_chunk}
-use Rattle.std.proofs.lemmas.List.{places, same_lists, length-append, length-take, length-drop}
-use Rattle.std.proofs.Math.Nat.{mul-le-mul_right}
-use Rattle.list_facts.proofs.Chunks.{chunk_end}
-use Rattle.mem_flash.specs.Slots.{overwritten}
+use Rattle.mem_flash.proofs.Common.{◌≡◌, ℕ, ◌+◌, ◌-◌, ◌*◌, ◌<◌, ◌≤◌, List, length, get_or, drop, arith, rules, slice_chunk, length-append, length-drop, mul-le-mul_right, chunk_end, overwritten}
+use Rattle.std.proofs.lemmas.List.{places, same_lists, length-take}
 
 -- writing over a part of a list
 module _ {A : Type 0} (old : List A) (from : ℕ) (new : List A) (within : from + length new ≤ length old) where

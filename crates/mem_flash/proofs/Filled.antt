@@ -1,14 +1,11 @@
 -- Some slots in a row lose their contents: they are filled with one byte, and marked as blank or as damaged.
-use Rattle.std.proofs.Common.{◌≡◌, ◌≢◌, ◌⊎◌, inl, inr, ℕ, ◌+◌, ◌-◌, ◌*◌, ◌<◌, ◌≤◌, List, [], length, get_or, replicate, refl, ap, sym, ◌∙◌, arith}
-use Rattle.std.specs.Fork.{slice_chunk}
+use Rattle.mem_flash.proofs.Common.{◌≡◌, ◌≢◌, ℕ, ◌+◌, ◌-◌, ◌*◌, ◌<◌, ◌≤◌, List, [], length, get_or, replicate, refl, ap, sym, ◌∙◌, arith, slice_chunk, length-replicate, mul-le-mul_right, chunk_end, Seen, Blank, Complete, Contents, blank, overwritten, cell_bytes, contents_of, image_of, IsFilled, AreFilled}
+use Rattle.std.proofs.Common.{◌⊎◌, inl, inr}
 use Rattle.std.proofs.lemmas.Bool.{cases_lt}
-use Rattle.std.proofs.lemmas.List.{length-replicate, get_or-replicate, ext_get_or}
-use Rattle.std.proofs.Math.Nat.{mul-le-mul_right}
-use Rattle.list_facts.proofs.Chunks.{slice_chunk-replicate, chunk_end}
-use Rattle.flash_model.specs.declared.flash.Seen.{Seen}
-use Rattle.flash_model.specs.declared.flash.Seen.TheVariants.{Blank, Damaged, Complete}
-use Rattle.flash_model.specs.Flash.{Contents, blank}
-use Rattle.mem_flash.specs.Slots.{overwritten, cell_bytes, contents_of, filler, image_of, IsFilled, AreFilled}
+use Rattle.std.proofs.lemmas.List.{get_or-replicate, ext_get_or}
+use Rattle.list_lemmas.proofs.Chunks.{slice_chunk-replicate}
+use Rattle.flash_model.specs.declared.flash.Seen.TheVariants.{Damaged}
+use Rattle.mem_flash.specs.Slots.{filler}
 use Rattle.mem_flash.proofs.Chunks.{length-overwritten, get_or-overwritten_below, get_or-overwritten_in, get_or-overwritten_above, slice_chunk-written}
 use Rattle.mem_flash.proofs.Chunks.{slice_chunk-written_before, slice_chunk-written_behind}
 use Rattle.mem_flash.proofs.Images.{length-image_of, get_or-image_of}

@@ -1,14 +1,13 @@
 -- What the slots hold by their states and their bytes: slot by slot, after a program, and after an erase.
-use Rattle.std.proofs.Common.{◌≡◌, ℕ, zero, suc, ◌+◌, ◌-◌, ◌*◌, ◌<◌, ◌≤◌, List, [], ◌∷◌, length, get_or, take, drop, replicate, refl, ap, sym, ◌∙◌, arith}
-use Rattle.std.specs.Fork.{slice_chunk}
+use Rattle.mem_flash.proofs.Common.{◌≡◌, ℕ, ◌+◌, ◌-◌, ◌*◌, ◌<◌, ◌≤◌, List, [], length, get_or, take, drop, replicate, refl, ap, sym, ◌∙◌, arith, slice_chunk, length-drop, length-replicate, chunk_end, Seen, Blank, Complete, Contents, blank, cell_bytes, contents_of, image_of, IsFilled, AreFilled}
+use Rattle.std.proofs.Common.{zero, suc, ◌∷◌}
 use Rattle.std.specs.List.{All, flat_map}
-use Rattle.std.proofs.lemmas.List.{take-replicate, drop-replicate, take-append-drop, length-take, length-drop, length-replicate, get_or-replicate}
-use Rattle.list_facts.proofs.Chunks.{chunk_end, length-slice_chunk, slice_chunk-suc, slice_chunk-replicate}
-use Rattle.flash_model.specs.declared.flash.Seen.{Seen}
-use Rattle.flash_model.specs.declared.flash.Seen.TheVariants.{Blank, Damaged, Complete}
-use Rattle.flash_model.specs.Flash.{Contents, blank, IsWhole}
+use Rattle.std.proofs.lemmas.List.{take-replicate, drop-replicate, take-append-drop, length-take, get_or-replicate}
+use Rattle.list_lemmas.proofs.Chunks.{length-slice_chunk, slice_chunk-suc, slice_chunk-replicate}
+use Rattle.flash_model.specs.declared.flash.Seen.TheVariants.{Damaged}
+use Rattle.flash_model.specs.Flash.{IsWhole}
 use Rattle.flash_model.specs.Calls.{seen_of, page_of, spare_area_of}
-use Rattle.mem_flash.specs.Slots.{cell_bytes, cell_of, contents_of, image_of, IsFilled, AreFilled}
+use Rattle.mem_flash.specs.Slots.{cell_of}
 
 -- one slot
 

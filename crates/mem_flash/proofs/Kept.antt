@@ -1,18 +1,12 @@
 -- What the slots are after the calls, by what these write.
-use Rattle.std.proofs.Common.{◌≡◌, ◌≢◌, ℕ, add-one, ◌+◌, ◌*◌, ◌<◌, ◌≤◌, List, [], ◌++◌, length, get_or, set, take, drop, replicate, refl, ap, sym, ◌∙◌, arith}
-use Rattle.std.specs.Fork.{slice_chunk}
+use Rattle.mem_flash.proofs.Common.{◌≡◌, ◌≢◌, ℕ, ◌+◌, ◌*◌, ◌<◌, ◌≤◌, List, [], ◌++◌, length, get_or, set, take, drop, replicate, refl, ap, sym, ◌∙◌, arith, slice_chunk, length-set, length-append, length-drop, length-replicate, mul-le-mul_right, chunk_end, slots_of, Shape, Seen, Blank, Complete, Contents, blank, overwritten, cell_bytes, contents_of, image_of, IsFilled, AreFilled}
+use Rattle.std.proofs.Common.{add-one}
 use Rattle.std.specs.List.{flat_map}
-use Rattle.std.proofs.lemmas.List.{length-set, get_or_read, set_split, length-append, length-drop, length-replicate}
-use Rattle.std.proofs.Math.Nat.{mul-le-mul_right}
-use Rattle.list_facts.proofs.Chunks.{chunk_end}
-use Rattle.tx_types.specs.Config.{slots_of}
-use Rattle.tx_types.specs.declared.config.Shape.{Shape}
-use Rattle.flash_model.specs.declared.flash.Seen.{Seen}
-use Rattle.flash_model.specs.declared.flash.Seen.TheVariants.{Blank, Complete}
-use Rattle.flash_model.specs.Flash.{Contents, blank, complete, slot_at, IsImage}
+use Rattle.std.proofs.lemmas.List.{get_or_read, set_split}
+use Rattle.flash_model.specs.Flash.{complete, slot_at, IsImage}
 use Rattle.flash_model.specs.Calls.{seen_of, page_of, spare_area_of}
-use Rattle.mem_flash.specs.Slots.{overwritten, cell_bytes, cell_of, contents_of, filler, image_of, IsFilled, AreFilled}
-use Rattle.mem_flash.specs.SlotsInside.{AreStored, cells_of}
+use Rattle.mem_flash.specs.Slots.{cell_of, filler}
+use Rattle.mem_flash.specs.SlotsInside.{SlotsInvariant, cells_of}
 use Rattle.mem_flash.specs.declared.slots.Slots.TheInside.{Inside}
 use Rattle.mem_flash.proofs.Images.{length-image_of, cells-image_of, All-image_of, AreFilled-blank, image_of-blank, get_or-image_of, seen_of-contents_of}
 use Rattle.mem_flash.proofs.Images.{cell_of-contents_of, page_of-contents_of, spare_area_of-contents_of}
@@ -30,7 +24,7 @@ pub image_of-all_blank : (shape : Shape) (states : List Seen) (cells : List ℕ)
     → image_of shape.page_bytes states cells ≡ replicate (slots_of shape) blank
 image_of-all_blank shape states cells states_are = rw states_are (image_of-blank shape.page_bytes (slots_of shape) cells)
 
-module _ (f : Inside) (stored : AreStored f) where
+module _ (f : Inside) (stored : SlotsInvariant f) where
   abbrev page : ℕ
   page = f.shape.page_bytes
 
@@ -120,7 +114,7 @@ module _ (f : Inside) (stored : AreStored f) where
 
     pub AreStored-programmed : (g : Inside) → g.shape ≡ f.shape → g.head ≡ f.head
         → g.seen.items ≡ set states at Complete → g.bytes.items ≡ overwritten f.bytes.items (f.head + at * size) (bytes ++ spare_area)
-        → AreStored g
+        → SlotsInvariant g
     AreStored-programmed g same same_head states_are bytes_are = record {
       shape = rw same stored.shape;
       slots = rw (states_are, same) (length-set states at Complete ∙ stored.slots);
@@ -149,7 +143,7 @@ module _ (f : Inside) (stored : AreStored f) where
 
     pub AreStored-filled : (g : Inside) → g.shape ≡ f.shape → g.head ≡ f.head
         → g.seen.items ≡ overwritten states i (replicate m how)
-        → g.bytes.items ≡ overwritten f.bytes.items (f.head + i * size) (replicate (m * size) (filler how)) → AreStored g
+        → g.bytes.items ≡ overwritten f.bytes.items (f.head + i * size) (replicate (m * size) (filler how)) → SlotsInvariant g
     AreStored-filled g same same_head states_are bytes_are = record {
       shape = rw same stored.shape;
       slots = rw (states_are, same) (length-filled_states page states cells bytes_long i m all_inside how bare ∙ stored.slots);

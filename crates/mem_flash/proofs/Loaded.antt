@@ -1,17 +1,15 @@
 -- The programs that registers hold, and what is left of them.
-use Rattle.std.proofs.Common.{◌≡◌, ℕ, zero, suc, ◌+◌, ◌<◌, ◌≤◌, List, [], ◌∷◌, ◌++◌, length, get_or, take, drop, map, replicate, Option, None, Some, refl, ap}
-use Rattle.std.proofs.Common.{ap₂, ◌∙◌, subst, arith}
-use Rattle.std.proofs.lemmas.List.{at_drop_more, take_all, drop_all, append-nil, length-map}
+use Rattle.mem_flash.proofs.Common.{◌≡◌, ℕ, ◌+◌, ◌<◌, ◌≤◌, List, [], ◌++◌, length, get_or, take, drop, map, replicate, Option, None, refl, ap, ap₂, ◌∙◌, subst, arith, length-map, Shape, Contents, Load, load_in, loads_of, AreRegisters}
+use Rattle.std.proofs.Common.{zero, suc, ◌∷◌, Some}
+use Rattle.std.proofs.lemmas.List.{at_drop_more, take_all, drop_all, append-nil}
 use Rattle.std.proofs.lemmas.List.Elements.{All-map}
-use Rattle.tx_types.specs.declared.config.Shape.{Shape}
 use Rattle.tx_types.specs.declared.config.Slot.{Slot}
 use Rattle.flash_model.specs.declared.outcome.Outcome.{Outcome}
 use Rattle.flash_model.specs.declared.outcome.Outcome.TheVariants as outcome
-use Rattle.flash_model.specs.Flash.{Contents}
-use Rattle.flash_model.specs.Operations.{Load, program_of, image_left, left_each}
+use Rattle.flash_model.specs.Operations.{program_of, image_left, left_each}
 use Rattle.flash_model.specs.Firing.{loads_in}
 use Rattle.flash_model.proofs.FireLemmas.{load_left_is}
-use Rattle.mem_flash.specs.Registers.{load_in, loads_of, HasPage, AreRegisters, outcome_after, outcomes_from}
+use Rattle.mem_flash.specs.Registers.{HasPage, outcome_after, outcomes_from}
 use Rattle.mem_flash.specs.declared.registers.Register.{Register}
 
 -- the program that a register holds with this slot

@@ -1,14 +1,10 @@
 -- A slot is written and marked as complete.
-use Rattle.std.proofs.Common.{◌≡◌, ◌≢◌, ◌⊎◌, inl, inr, ℕ, ◌+◌, ◌*◌, ◌<◌, ◌≤◌, List, ◌++◌, length, get_or, set, refl, sym, ◌∙◌, arith}
-use Rattle.std.specs.Fork.{slice_chunk}
+use Rattle.mem_flash.proofs.Common.{◌≡◌, ◌≢◌, ℕ, ◌+◌, ◌*◌, ◌<◌, ◌≤◌, List, ◌++◌, length, get_or, set, refl, sym, ◌∙◌, arith, slice_chunk, length-append, length-set, mul-le-mul_right, Seen, Blank, Complete, blank, overwritten, cell_bytes, image_of, IsFilled, AreFilled}
+use Rattle.std.proofs.Common.{◌⊎◌, inl, inr}
 use Rattle.std.proofs.lemmas.Bool.{cases_eq, cases_lt}
-use Rattle.std.proofs.lemmas.List.{length-append, length-set, get_or-set_same, get_or-set_other, ext_get_or, take_at, drop_at}
-use Rattle.std.proofs.Math.Nat.{mul-le-mul_right}
-use Rattle.list_facts.proofs.Chunks.{slice_chunk-only}
-use Rattle.flash_model.specs.declared.flash.Seen.{Seen}
-use Rattle.flash_model.specs.declared.flash.Seen.TheVariants.{Blank, Complete}
-use Rattle.flash_model.specs.Flash.{blank, complete}
-use Rattle.mem_flash.specs.Slots.{overwritten, cell_bytes, image_of, IsFilled, AreFilled}
+use Rattle.std.proofs.lemmas.List.{get_or-set_same, get_or-set_other, ext_get_or, take_at, drop_at}
+use Rattle.list_lemmas.proofs.Chunks.{slice_chunk-only}
+use Rattle.flash_model.specs.Flash.{complete}
 use Rattle.mem_flash.proofs.Chunks.{length-overwritten, slice_chunk-written, slice_chunk-written_before, slice_chunk-written_behind}
 use Rattle.mem_flash.proofs.Images.{length-image_of, get_or-image_of}
 

@@ -10,7 +10,7 @@ use Rattle.flash_model.specs.Flash.{blank, counted, counted_by}
 use Rattle.flash_model.specs.Operations.{Operation, with_block, image_left, left_each, programs_after, erases_after}
 use Rattle.flash_model.specs.Firing.{no_loads, loads_in}
 use Rattle.flash_model.specs.Retiring.{one_more}
-use Rattle.mem_flash.specs.Memory.{MemoryState}
+use Rattle.mem_flash.specs.MemFlashState.{MemFlashState}
 use Rattle.mem_flash.specs.Registers.{outcomes_from}
 use Rattle.mem_flash.specs.declared.armed.Armed.{Armed}
 
@@ -45,7 +45,7 @@ operation_down armed =
 
 -- The outcome with which the next program, erase, retirement or fire is broken, none where it will be done. Where a cut and
 -- a fault come due the cut decides, and without power all stays as before.
-abbrev pub broken_by : MemoryState → Option Outcome
+abbrev pub broken_by : MemFlashState → Option Outcome
 broken_by s = if s.live then option_or (due s.armed.cut) (due s.armed.fault) else Some outcome.None
 
 abbrev pub answered : Option Outcome → Result (Unit {0}) Broken
@@ -53,7 +53,7 @@ answered None = Ok tt
 answered (Some how) = Err (record {})
 
 -- the flash once a program, an erase, a retirement or a fire has met the arms, which count while power is on
-abbrev pub met : MemoryState → MemoryState
+abbrev pub met : MemFlashState → MemFlashState
 met s = record s {
   live = s.live && is_none (due s.armed.cut);
   faults = if is_some (broken_by s) then counted s.faults else s.faults;
@@ -61,7 +61,7 @@ met s = record s {
 }
 
 -- the flash after a program or an erase
-abbrev pub operated : MemoryState → Operation → MemoryState
+abbrev pub operated : MemFlashState → Operation → MemFlashState
 operated s o = record (met s) {
   image = image_left s.shape s.image o (unwrap_or (broken_by s) outcome.All);
   programs = if is_some (broken_by s) then s.programs else programs_after o s.programs;
@@ -69,15 +69,15 @@ operated s o = record (met s) {
 }
 
 -- a fire has nothing to do: nothing is loaded, and power is on
-abbrev pub is_idle : MemoryState → Bool
+abbrev pub is_idle : MemFlashState → Bool
 is_idle s = s.live && (length (loads_in s.registers) == 0)
 
 -- the outcome with which a fire is broken: it meets the arms as one program does, unless it has nothing to do
-abbrev pub fire_broken_by : MemoryState → Option Outcome
+abbrev pub fire_broken_by : MemFlashState → Option Outcome
 fire_broken_by s = if is_idle s then None else broken_by s
 
 -- the flash once all programs that are loaded were started together, with the outcome that they met
-abbrev pub started : MemoryState → MemoryState
+abbrev pub started : MemFlashState → MemFlashState
 started s =
     let loads = loads_in s.registers in
     record (met s) {
@@ -87,32 +87,32 @@ started s =
     }
 
 -- the flash after a fire
-abbrev pub fired : MemoryState → MemoryState
+abbrev pub fired : MemFlashState → MemFlashState
 fired s = if is_idle s then s else started s
 
 -- the flash with a fresh block in the place of this one
-abbrev pub replaced : MemoryState → ℕ → MemoryState
+abbrev pub replaced : MemFlashState → ℕ → MemFlashState
 replaced s block = record s {
   image = with_block s.shape s.image block blank;
   extras = one_more s.extras;
 }
 
 -- the flash once a block was to be retired, with this outcome: no block can be replaced in part
-abbrev pub retired : MemoryState → ℕ → Outcome → MemoryState
+abbrev pub retired : MemFlashState → ℕ → Outcome → MemFlashState
 retired s block outcome.None = s
 retired s block outcome.All = replaced s block
 retired s block outcome.Bad = replaced s block
 
 -- the flash after a retirement, which meets the arms as a program or an erase does, and is counted as neither
-abbrev pub after_retiring : MemoryState → ℕ → MemoryState
+abbrev pub after_retiring : MemFlashState → ℕ → MemFlashState
 after_retiring s block = retired (met s) block (unwrap_or (broken_by s) outcome.All)
 
 -- the next read is broken: it is the one that is to fail, or power is off
-abbrev pub is_read_broken : MemoryState → Bool
+abbrev pub is_read_broken : MemFlashState → Bool
 is_read_broken s = not s.live || comes_due s.armed.bad_read
 
 -- the flash after a read, which is counted while power is on
-abbrev pub after_read : MemoryState → MemoryState
+abbrev pub after_read : MemFlashState → MemFlashState
 after_read s = record s {
   faults = if is_read_broken s then counted s.faults else s.faults;
   reads = if s.live then counted s.reads else s.reads;

@@ -1,6 +1,6 @@
 pub mod Breaking
-pub mod Memory
+pub mod MemFlashState
 pub mod Registers
 pub mod Slots
 pub mod SlotsInside
-pub mod Standing
+pub mod MemFlash

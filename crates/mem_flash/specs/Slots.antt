@@ -9,7 +9,7 @@ use Rattle.flash_model.specs.Flash.{Contents, blank, damaged, complete}
 use Rattle.flash_model.specs.Calls.{page_of, spare_area_of}
 
 -- the slots of a flash of this shape, in order
-pub record SlotImage : Type 0 where
+pub record SlotsState : Type 0 where
   pub shape : Shape
   pub image : List Contents
 

@@ -3,7 +3,7 @@ ghost use Rattle.tx_types.specs.Config.{slots_of};
 ghost use Rattle.flash_model.specs.Operations.{CanDo, fire};
 ghost use Rattle.flash_model.specs.Calls.{Carries, Operates};
 ghost use Rattle.flash_model.specs.Firing.{no_loads, loads_in, IsFreeAt, with_load};
-ghost use Rattle.mem_flash.specs.Memory.{state_of};
+ghost use Rattle.mem_flash.specs.MemFlashState.{state_of};
 ghost use Rattle.mem_flash.specs.Breaking.{broken_by, answered, met, started, fire_broken_by, fired};
 
 use crate::MemFlash;

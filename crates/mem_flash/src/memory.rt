@@ -9,7 +9,7 @@ ghost use Rattle.flash_model.specs.Calls.{Carries, Reads, ReadsSpareArea, Progra
 ghost use Rattle.flash_model.specs.Arms.{TurnsOn, ArmsCut, ArmsFault, ArmsBadRead};
 ghost use Rattle.flash_model.specs.Retiring.{Retires, max_allowance};
 ghost use Rattle.mem_flash.specs.Slots.{cell_bytes, cell_of, image_of, AreFilled};
-ghost use Rattle.mem_flash.specs.Memory.{state_of, fresh, blank_flash};
+ghost use Rattle.mem_flash.specs.MemFlashState.{state_of, fresh, blank_flash};
 ghost use Rattle.mem_flash.specs.Breaking.{broken_by, answered, met, operated, retired, after_retiring, is_read_broken, after_read};
 
 use crate::armed::{Armed, count_down, count_read};
@@ -42,15 +42,15 @@ pub struct MemFlash {
 }
 
 impl Model for MemFlash {
-    ghost use Rattle.mem_flash.specs.Memory.{MemoryState};
+    ghost use Rattle.mem_flash.specs.MemFlashState.{MemFlashState};
 
-    ghost Value = { MemoryState };
+    ghost Value = { MemFlashState };
 
-    ghost use Rattle.mem_flash.specs.Standing.{memory_of, IsKept};
+    ghost use Rattle.mem_flash.specs.MemFlash.{memory_of, MemFlashInvariant};
 
     ghost view = { memory_of };
 
-    ghost invariant = { IsKept };
+    ghost invariant = { MemFlashInvariant };
 }
 
 impl MemFlash {

@@ -30,15 +30,15 @@ pub struct Slots {
 }
 
 impl Model for Slots {
-    ghost use Rattle.mem_flash.specs.Slots.{SlotImage};
+    ghost use Rattle.mem_flash.specs.Slots.{SlotsState};
 
-    ghost Value = { SlotImage };
+    ghost Value = { SlotsState };
 
-    ghost use Rattle.mem_flash.specs.SlotsInside.{slots_inside, AreStored};
+    ghost use Rattle.mem_flash.specs.SlotsInside.{slots_inside, SlotsInvariant};
 
     ghost view = { slots_inside };
 
-    ghost invariant = { AreStored };
+    ghost invariant = { SlotsInvariant };
 }
 
 impl Slots {

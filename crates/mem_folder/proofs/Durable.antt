@@ -1,18 +1,14 @@
 -- What was saved in a folder in memory is there after a loss of power.
-use Rattle.std.proofs.Common.{◌≡◌, inl, inr, ℕ, ◌≤◌, List, [], ◌∷◌, None, Some, Ok, Vec, length, take, refl, sym, ap, ◌∙◌, arith}
+use Rattle.mem_folder.proofs.Common.{◌≡◌, inl, inr, ℕ, ◌≤◌, List, [], ◌∷◌, None, Some, Ok, Vec, length, take, refl, sym, ap, ◌∙◌, arith, Global, FolderState, MayHold, SomeOf, newest, named, state_of, IsLeft, unsynced_of, Change, MemPlace}
 use Rattle.std.proofs.lemmas.List.{take_all}
-use Rattle.std.specs.Global.{Global}
-use Rattle.durable_folder.specs.FolderState.{FolderState, IsDurable, Leaves, LeavesOf, MayHold, SomeOf, file_of, newest}
+use Rattle.durable_folder.specs.FolderState.{IsDurable, Leaves, LeavesOf, file_of}
 use Rattle.durable_folder.specs.Histories.{IsSaved}
 use Rattle.durable_folder.specs.Locking.{IsLoaded, Loads}
 use Rattle.durable_folder.specs.Places.{folder_of}
 use Rattle.durable_folder.specs.Ways.{Saves}
 use Rattle.durable_folder.specs.declared.loading.Loaded.{Loaded}
-use Rattle.mem_folder.specs.Changes.{held, named, state_of}
-use Rattle.mem_folder.specs.Losing.{IsLeft}
-use Rattle.mem_folder.specs.Telling.{history_of, unsynced_of}
-use Rattle.mem_folder.specs.declared.change.Change.{Change}
-use Rattle.mem_folder.specs.declared.files.MemPlace.{MemPlace}
+use Rattle.mem_folder.specs.Changes.{held}
+use Rattle.mem_folder.specs.Telling.{history_of}
 use Rattle.mem_folder.specs.declared.note.Note.{Note}
 
 -- of no folder it was said that it cannot be synced

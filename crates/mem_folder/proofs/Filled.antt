@@ -1,10 +1,8 @@
 -- A name and a file have a version at any time.
-use Rattle.std.proofs.Common.{◌≡◌, ℕ, ◌==◌, Bool, true, false, List, [], ◌∷◌, Option, None, Some, bytes_eq, string_bytes, if◌then◌else◌, refl}
-use Rattle.durable_folder.specs.FolderState.{newest}
-use Rattle.mem_folder.specs.Changes.{alone, last_alone, named_after, named_from, named, held_after, held_from, held}
-use Rattle.mem_folder.specs.declared.change.Left.{Left}
+use Rattle.mem_folder.proofs.Common.{◌≡◌, ℕ, Bool, true, false, List, [], ◌∷◌, Option, None, Some, bytes_eq, string_bytes, refl, newest, alone, named_after, named, held_after, Left, Change}
+use Rattle.std.proofs.Common.{◌==◌, if◌then◌else◌}
+use Rattle.mem_folder.specs.Changes.{last_alone, named_from, held_from, held}
 use Rattle.mem_folder.specs.declared.change.Left.TheVariants as left
-use Rattle.mem_folder.specs.declared.change.Change.{Change}
 use Rattle.mem_folder.specs.declared.change.Change.TheVariants as change
 
 -- there is one

@@ -1,12 +1,8 @@
 -- What the calls do that change the bytes of a file.
-use Rattle.std.proofs.Common.{◌≡◌, ℕ, List, [], ◌∷◌, Vec, Result, Ok, Err, refl, ap, ◌∙◌}
-use Rattle.std.specs.Global.{Global}
-use Rattle.std.specs.declared.io.Error.{Error}
-use Rattle.durable_folder.specs.FolderState.{newest}
+use Rattle.mem_folder.proofs.Common.{◌≡◌, ℕ, List, [], ◌∷◌, Vec, Ok, Err, refl, ap, ◌∙◌, Global, Error, newest, filled, overlay, state_of, Change}
+use Rattle.std.proofs.Common.{Result}
 use Rattle.durable_folder.specs.Calls.{SparesNames, Written, Lengthened, Synced}
-use Rattle.mem_folder.specs.Bytes.{filled, overlay}
-use Rattle.mem_folder.specs.Changes.{held, state_of}
-use Rattle.mem_folder.specs.declared.change.Change.{Change}
+use Rattle.mem_folder.specs.Changes.{held}
 use Rattle.mem_folder.specs.declared.change.Change.TheVariants as change
 use Rattle.mem_folder.proofs.Laying.{is_overlaid, is_resized, not_written, not_lengthened}
 use Rattle.mem_folder.proofs.Steps.{IsNoted, wrote, synced}

@@ -1,12 +1,11 @@
 -- What is written over the bytes of a file.
-use Rattle.std.proofs.Common.{◌≡◌, inl, inr, ℕ, ◌+◌, ◌-◌, ◌<◌, min, List, [], ◌∷◌, ◌++◌, length, take, drop, replicate, sym, ap, ◌∙◌, arith, Err}
+use Rattle.mem_folder.proofs.Common.{◌≡◌, inl, inr, ℕ, ◌+◌, ◌<◌, List, [], ◌∷◌, ◌++◌, length, take, sym, ap, ◌∙◌, arith, Err, Error, MayHold, newest, filled, overlay}
+use Rattle.std.proofs.Common.{◌-◌, min, drop, replicate}
 use Rattle.std.proofs.Math.ListN.{get_or-eq_default}
 use Rattle.std.proofs.lemmas.List.{get_or-take, get_or-drop, get_or_append_left, get_or-append_right, get_or-replicate, length-append, length-drop, length-take, length-replicate}
 use Rattle.std.proofs.lemmas.Bool.{cases_lt}
-use Rattle.std.specs.declared.io.Error.{Error}
-use Rattle.durable_folder.specs.FolderState.{MayHold, byte_at, newest}
+use Rattle.durable_folder.specs.FolderState.{byte_at}
 use Rattle.durable_folder.specs.Calls.{Overlaid, Resized, Written, Lengthened}
-use Rattle.mem_folder.specs.Bytes.{filled, overlay}
 
 filled-length : (size : ℕ) (old : List ℕ) → length (filled size old) ≡ size
 filled-length size old =

@@ -1,3 +1,4 @@
+mod Common
 pub mod Durable
 pub mod Filled
 pub mod Holding

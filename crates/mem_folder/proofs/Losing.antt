@@ -1,10 +1,7 @@
 -- What a loss of power leaves of a folder in memory.
-use Rattle.std.proofs.Common.{inl, inr, ℕ, ◌≤◌, List, [], ◌∷◌, ◌++◌, Option, None, Some, length, ◌∙◌}
-use Rattle.durable_folder.specs.FolderState.{FolderState, HasBlock, LeavesOf, MayHold, SomeOf}
-use Rattle.mem_folder.specs.Changes.{alone, held, named, state_of}
-use Rattle.mem_folder.specs.Losing.{IsLeft}
-use Rattle.mem_folder.specs.declared.change.Left.{Left}
-use Rattle.mem_folder.specs.declared.change.Change.{Change}
+use Rattle.mem_folder.proofs.Common.{inl, inr, ℕ, ◌≤◌, List, [], ◌∷◌, ◌++◌, Option, None, Some, length, ◌∙◌, FolderState, MayHold, SomeOf, alone, named, state_of, IsLeft, Left, Change}
+use Rattle.durable_folder.specs.FolderState.{HasBlock, LeavesOf}
+use Rattle.mem_folder.specs.Changes.{held}
 use Rattle.mem_folder.specs.declared.change.Change.TheVariants as change
 use Rattle.mem_folder.proofs.Filled.{held_filled, named_filled, one_alone}
 use Rattle.mem_folder.proofs.Numbers.{of_alone}

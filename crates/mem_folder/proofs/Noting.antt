@@ -1,11 +1,10 @@
 -- The folders that are noted.
-use Rattle.std.proofs.Common.{◌≡◌, inl, inr, ℕ, true, List, [], ◌∷◌, ◌++◌, map, Err, sym, ap, ◌∙◌}
+use Rattle.mem_folder.proofs.Common.{◌≡◌, inl, inr, ℕ, true, List, [], ◌∷◌, ◌++◌, Err, sym, ap, ◌∙◌, Error, unsynced_of, MemPlace}
+use Rattle.std.proofs.Common.{map}
 use Rattle.std.proofs.lemmas.List.{reverse-append}
 use Rattle.std.specs.IoError.{error_kind}
-use Rattle.std.specs.declared.io.Error.{Error}
 use Rattle.durable_folder.specs.Counting.{answer_to_open_folder, answer_to_sync_folder, is_denied, is_unable, these_if}
-use Rattle.mem_folder.specs.Telling.{AreNoted, Notes, place_of, unsynced_of}
-use Rattle.mem_folder.specs.declared.files.MemPlace.{MemPlace}
+use Rattle.mem_folder.specs.Telling.{AreNoted, Notes, place_of}
 
 pub noted_more : (noted : List MemPlace) (place : MemPlace) → unsynced_of (noted ++ place ∷ []) ≡ place_of place ∷ unsynced_of noted
 noted_more noted place = ap (map place_of) (reverse-append noted (place ∷ []))

@@ -1,10 +1,8 @@
 -- The numbers of files.
-use Rattle.std.proofs.Common.{◌≡◌, ◌⊎◌, inl, inr, ℕ, ◌+◌, ◌<◌, Bool, true, false, List, [], ◌∷◌, Option, None, Some, length, take, get_or, bytes_eq, string_bytes, if◌then◌else◌, arith}
-use Rattle.durable_folder.specs.FolderState.{SomeOf}
-use Rattle.mem_folder.specs.Changes.{AllBelow, IsAbove, IsFresh, alone, last_alone, named, named_after, number_of}
-use Rattle.mem_folder.specs.declared.change.Left.{Left}
+use Rattle.mem_folder.proofs.Common.{◌≡◌, inl, inr, ℕ, ◌+◌, ◌<◌, Bool, true, false, List, [], ◌∷◌, Option, None, Some, length, take, bytes_eq, string_bytes, arith, SomeOf, AllBelow, IsFresh, alone, named, named_after, Left, Change}
+use Rattle.std.proofs.Common.{◌⊎◌, get_or, if◌then◌else◌}
+use Rattle.mem_folder.specs.Changes.{IsAbove, last_alone, number_of}
 use Rattle.mem_folder.specs.declared.change.Left.TheVariants as left
-use Rattle.mem_folder.specs.declared.change.Change.{Change}
 use Rattle.mem_folder.specs.declared.change.Change.TheVariants as change
 use Rattle.mem_folder.proofs.Seeing.{named-more}
 

@@ -1,8 +1,8 @@
 -- What a name and a file had after one change more.
-use Rattle.std.proofs.Common.{◌≡◌, ℕ, ◌+◌, ◌<◌, List, [], ◌∷◌, ◌++◌, Option, None, length, take, get_or, refl, ap, ◌∙◌}
+use Rattle.mem_folder.proofs.Common.{◌≡◌, ℕ, ◌+◌, ◌<◌, List, [], ◌∷◌, ◌++◌, Option, None, length, take, refl, ap, ◌∙◌, named_after, named, held_after, Change}
+use Rattle.std.proofs.Common.{get_or}
 use Rattle.std.proofs.lemmas.List.{take_more}
-use Rattle.mem_folder.specs.Changes.{named_after, named_from, named, held_after, held_from, held}
-use Rattle.mem_folder.specs.declared.change.Change.{Change}
+use Rattle.mem_folder.specs.Changes.{named_from, held_from, held}
 
 -- one change more
 pub named_from-append : (name : List ℕ) (had : List (Option ℕ)) (cs : List Change) (c : Change) →

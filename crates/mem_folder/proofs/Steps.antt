@@ -1,15 +1,12 @@
 -- What each change does to the state of a folder.
-use Rattle.std.proofs.Common.{◌≡◌, ◌≢◌, ℕ, ◌==◌, Bool, true, false, List, [], ◌∷◌, ◌++◌, Option, None, Some, String, Vec, bytes_eq, string_bytes, refl, sym, ap, ◌∙◌, inl, inr, Result, Ok, Err, IfErr, OnOk}
+use Rattle.mem_folder.proofs.Common.{◌≡◌, ℕ, Bool, true, false, List, [], ◌∷◌, ◌++◌, Option, None, Some, Vec, bytes_eq, string_bytes, refl, sym, ap, ◌∙◌, inl, inr, Ok, Err, Global, SomeOf, newest, Error, IsFresh, named_after, named, held_after, state_of, Change}
+use Rattle.std.proofs.Common.{◌≢◌, ◌==◌, String, Result, IfErr, OnOk}
 use Rattle.std.specs.Bool.{Decides}
-use Rattle.std.specs.Global.{Global}
 use Rattle.std.proofs.lemmas.Slice.Eq.{bytes_eq-Decides}
 use Rattle.std.proofs.lemmas.Bool.Decides.{Decides-eqb}
-use Rattle.durable_folder.specs.FolderState.{SomeOf, newest}
-use Rattle.std.specs.declared.io.Error.{Error}
-use Rattle.durable_folder.specs.Calls.{Makes, Moves, Drops, SettlesNames, SparesNames, Renames, Removes, SyncsFolder}
-use Rattle.mem_folder.specs.Changes.{IsFresh, named_after, named, held_after, held, state_of}
+use Rattle.durable_folder.specs.Calls.{Makes, Moves, Drops, SyncsNames, SparesNames, Renames, Removes, SyncsFolder}
+use Rattle.mem_folder.specs.Changes.{held}
 use Rattle.mem_folder.specs.Telling.{IsStarved}
-use Rattle.mem_folder.specs.declared.change.Change.{Change}
 use Rattle.mem_folder.specs.declared.change.Change.TheVariants as change
 use Rattle.mem_folder.proofs.Filled.{IsFilled, named_filled}
 use Rattle.mem_folder.proofs.Seeing.{named_from-append, held_from-append}
@@ -102,7 +99,7 @@ newest_is_one f [] h one = absurd h
 newest_is_one f (x ∷ xs) h (inl is) = inl is
 newest_is_one f (x ∷ xs) h (inr none) = absurd none
 
-pub settles : (cs : List Change) (place : List ℕ) → SettlesNames place (state_of cs) (state_of (cs ++ change.Settled ∷ []))
+pub settles : (cs : List Change) (place : List ℕ) → SyncsNames place (state_of cs) (state_of (cs ++ change.Settled ∷ []))
 settles cs place = record {
   here = λ n _. named-append cs change.Settled n;
   others = λ n f one. newest_is_one f (named cs n) (named_filled cs n) (rw (named-append cs change.Settled n) at one);

@@ -1,12 +1,7 @@
 -- One call more in what a folder in memory tells.
-use Rattle.std.proofs.Common.{◌+◌, List, ◌∷◌, ◌++◌, Some, Vec, refl, sym, ap}
-use Rattle.std.specs.Global.{Global}
-use Rattle.durable_folder.specs.FolderState.{FolderState}
+use Rattle.mem_folder.proofs.Common.{◌+◌, List, ◌∷◌, ◌++◌, Some, Vec, refl, sym, ap, Global, FolderState, state_of, unsynced_of, Change, MemPlace}
 use Rattle.durable_folder.specs.Histories.{Answer, Turns}
-use Rattle.mem_folder.specs.Changes.{state_of}
-use Rattle.mem_folder.specs.Telling.{AreNoted, IsCountOf, IsNoteOf, failures_in, history_of, refusals_in, unsynced_of}
-use Rattle.mem_folder.specs.declared.change.Change.{Change}
-use Rattle.mem_folder.specs.declared.files.MemPlace.{MemPlace}
+use Rattle.mem_folder.specs.Telling.{AreNoted, IsCountOf, IsNoteOf, failures_in, history_of, refusals_in}
 use Rattle.mem_folder.specs.declared.note.Note.{Note}
 
 -- a call that may have noted a folder

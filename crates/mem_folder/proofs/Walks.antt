@@ -1,11 +1,8 @@
 -- A struct that owns nothing, in the proofs of a log's functions.
-use Rattle.std.proofs.Common.{List, [], ◌∷◌, refl}
-use seplogic.Ra.Ura.{Ura}
-use mir.Val.{Val, vstruct, vcons, vnil}
-use types.Logic.{Logic}
-use types.Kit.{Goal, Step, step, Item, ‵, ◌$◌, move, fjoin, fpack, feq_i}
-use denote.RattleType.{RattleType, Valss}
-use denote.Steps.{nothing}
+use Rattle.mem_folder.proofs.Common.{List, [], ◌∷◌, refl, Ura, Val, Logic, ‵, ◌$◌, move, fjoin, RattleType, nothing}
+use mir.Val.{vstruct, vcons, vnil}
+use types.Kit.{Goal, Step, step, Item, fpack, feq_i}
+use denote.RattleType.{Valss}
 use denote.Struct.Struct.{Struct, within}
 
 -- a struct by its fields alone: what it owns does not read its name

@@ -8,7 +8,7 @@ use Rattle.std.proofs.lemmas.Bool.Decides.{nat_tests}
 use Rattle.std.proofs.lemmas.List.{take_all, take-map, length-map}
 use Rattle.lru.specs.LruCache as lru
 use Rattle.page_cache.specs.declared.entries.Key.{Key}
-use Rattle.page_cache.specs.CachedPages.{cached_page, without_page, promoted, kept}
+use Rattle.page_cache.specs.PageCacheState.{cached_page, without_page, promoted, kept}
 use Rattle.page_cache.specs.Entries.{page_in, pages_in}
 use Rattle.page_cache.proofs.Pages.{length-without}
 

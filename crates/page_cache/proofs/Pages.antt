@@ -5,7 +5,7 @@ use Rattle.std.specs.Option.{is_some, option_map, option_map_or}
 use Rattle.std.proofs.lemmas.Bool.Decides.{nat_tests}
 use Rattle.std.proofs.lemmas.List.{length-take}
 use Rattle.std.proofs.lemmas.Bool.{and_parts}
-use Rattle.page_cache.specs.CachedPages.{CachedPage, has_key, has_page_size, cached_page, without_page, promoted, kept}
+use Rattle.page_cache.specs.PageCacheState.{CachedPage, has_key, has_page_size, cached_page, without_page, promoted, kept}
 
 turned : (a b c : Bool) → (a && (b && c)) ≡ (b && (a && c))
 turned true true c = refl

@@ -2,7 +2,7 @@
 use Rattle.std.specs.Prelude.{ℕ, List, map, Vec}
 use Rattle.std.specs.declared.alloc.Global.{Global}
 use Rattle.lru.specs.LruCache.{LruCache}
-use Rattle.page_cache.specs.CachedPages.{CachedPage}
+use Rattle.page_cache.specs.PageCacheState.{CachedPage}
 use Rattle.page_cache.specs.declared.entries.Key.{Key}
 
 -- the page of an entry

@@ -1,3 +1,3 @@
-pub mod CachedPages
+pub mod PageCacheState
 pub mod Entries
-pub mod Kept
+pub mod PageCache

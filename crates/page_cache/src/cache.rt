@@ -1,6 +1,6 @@
 ghost use Rattle.std.specs.Prelude.{◌≡◌, [], length, is_some, IfOk, OnOk, OnErr};
 ghost use Rattle.std.specs.Option.{option_map_or};
-ghost use Rattle.page_cache.specs.CachedPages.{IsPageCache, cached_page, promoted, kept};
+ghost use Rattle.page_cache.specs.PageCacheState.{IsPageCacheState, cached_page, promoted, kept};
 
 use crate::entries::{Entries, bytes_of, promote, put};
 use lru::LruCache;
@@ -22,15 +22,15 @@ pub struct PageCache {
 }
 
 impl Model for PageCache {
-    ghost use Rattle.page_cache.specs.CachedPages.{CachedPages};
+    ghost use Rattle.page_cache.specs.PageCacheState.{PageCacheState};
 
-    ghost Value = { CachedPages };
+    ghost Value = { PageCacheState };
 
-    ghost use Rattle.page_cache.specs.Kept.{pages_of, IsKept};
+    ghost use Rattle.page_cache.specs.PageCache.{pages_of, PageCacheInvariant};
 
     ghost view = { pages_of };
 
-    ghost invariant = { IsKept };
+    ghost invariant = { PageCacheInvariant };
 }
 
 impl PageCache {
@@ -58,7 +58,7 @@ impl PageCache {
         } }
         ensures bytes { into.new ≡
             option_map_or (λ e. e.bytes) (cached_page page version self.old.entries) into.old }
-        ensures cache { IsPageCache self.new }
+        ensures cache { IsPageCacheState self.new }
     {
         let Some(bytes) = bytes_of(&self.pages, page, version) else {
             return false;
@@ -77,7 +77,7 @@ impl PageCache {
           entries = kept page version bytes.now self.old.entries;
         }) }
         ensures err { OnErr result (self.new ≡ self.old) }
-        ensures cache { IsPageCache self.new }
+        ensures cache { IsPageCacheState self.new }
     {
         let copy = Vec::from_slice(self.alloc, bytes)?;
         put(&mut self.pages, page, version, copy)

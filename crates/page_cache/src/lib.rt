@@ -3,7 +3,7 @@
 
 mod cache;
 mod entries;
-mod laws;
+mod theorems;
 
 pub use cache::PageCache;
-pub use laws::kept_pages_are_found;
+pub use theorems::kept_pages_are_found;

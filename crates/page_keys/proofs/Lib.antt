@@ -1,3 +1,4 @@
+mod Common
 pub mod OfBucket
 pub mod OfPut
 pub mod OfStore

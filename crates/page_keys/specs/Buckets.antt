@@ -26,8 +26,8 @@ pub record IsEntry (e : Pair) : Type 0 where
   pub value : length e.1 ≤ 15
 
 -- the bytes of a page as a store of keys reads it: zeros where it is blank
-abbrev pub shown : ℕ → Option (List ℕ) → List ℕ
-shown page_bytes value = unwrap_or value (replicate page_bytes 0)
+abbrev pub encodes : ℕ → Option (List ℕ) → List ℕ
+encodes page_bytes value = unwrap_or value (replicate page_bytes 0)
 
 -- the bytes are these entries
 pub record HoldsEntries (page_bytes : ℕ) (bytes : List ℕ) (pairs : List Pair) : Type 0 where
@@ -50,14 +50,14 @@ IsBucket page_bytes logical page bytes =
     (pairs : List Pair) × IsBucketOf page_bytes logical page bytes pairs
 
 -- an array shows a map: each page has the map's entries of its keys, in ascending order
-abbrev pub ShowsMap : Config → Pages → KeyMap → Type 0
-ShowsMap its pages m =
+abbrev pub EncodesMap : Config → Pages → KeyMap → Type 0
+EncodesMap its pages m =
     (page : ℕ) → page < its.logical →
-    HoldsEntries its.page_bytes (shown its.page_bytes (page_at pages page))
+    HoldsEntries its.page_bytes (encodes its.page_bytes (page_at pages page))
     (map.entries (part its.logical page m))
 
 -- each page of an array is a bucket
 abbrev pub AreBuckets : Config → Pages → Type 0
 AreBuckets its pages =
     (page : ℕ) → page < its.logical →
-    IsBucket its.page_bytes its.logical page (shown its.page_bytes (page_at pages page))
+    IsBucket its.page_bytes its.logical page (encodes its.page_bytes (page_at pages page))

@@ -32,9 +32,9 @@ with_value m key None = map.remove m key
 with_value m key (Some value) = map.insert m key value
 
 -- the map after all changes, in their order
-abbrev pub after : KeyMap → List Change → KeyMap
-after m [] = m
-after m (c ∷ cs) = after (with_value m c.key c.value) cs
+abbrev pub apply : KeyMap → List Change → KeyMap
+apply m [] = m
+apply m (c ∷ cs) = apply (with_value m c.key c.value) cs
 
 abbrev pub hash_more : ℕ → ℕ → ℕ
 hash_more h byte = (h * 31 + byte) % 2 ^ 32

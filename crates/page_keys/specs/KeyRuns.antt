@@ -13,8 +13,8 @@ use Rattle.flash_model.specs.declared.outcome.Outcome.{Outcome}
 use Rattle.record_list.specs.Records.{mention}
 use Rattle.version_index.specs.Images.{IsSoundImage, array_in, records_in}
 use Rattle.array_machine.specs.Run.{MayBeSpent}
-use Rattle.page_keys.specs.Buckets.{ShowsMap}
-use Rattle.page_keys.specs.KeyMaps.{KeyMap, after, seen_by}
+use Rattle.page_keys.specs.Buckets.{EncodesMap}
+use Rattle.page_keys.specs.KeyMaps.{KeyMap, apply, seen_by}
 use Rattle.page_keys.specs.Puts.{put_refusal}
 use Rattle.page_keys.specs.declared.answers.PutError.{PutError}
 use Rattle.page_keys.specs.declared.answers.PutError.TheVariants as refused
@@ -32,7 +32,7 @@ pub record KeyPoint : Type 0 where
 -- the image is sound, and its array shows the map
 pub record IsKeyPoint (its : Config) (p : KeyPoint) : Type 0 where
   pub sound : IsSoundImage its.protocol its.logical (shape_of its) p.flash.image
-  pub shows : ShowsMap its (array_in its.protocol its.logical p.flash.image) p.keys
+  pub shows : EncodesMap its (array_in its.protocol its.logical p.flash.image) p.keys
 
 -- the map, the image and what was counted of programs and erases are as before
 pub record Stays (old new : KeyPoint) : Type 0 where
@@ -61,7 +61,7 @@ RefusesPut its spent cs e old new = (put_refusal its spent old.keys cs ≡ Some 
 pub record TakesPut (its : Config) (spent : ℕ → Bool) (cs : List Change) (old new : KeyPoint) :
     Type 0 where
   pub allowed : put_refusal its spent old.keys cs ≡ None
-  pub keys : new.keys ≡ after old.keys cs
+  pub keys : new.keys ≡ apply old.keys cs
 
 -- power was cut in it, or it met a fault: all its changes are made or none is
 pub record BreaksPut (its : Config) (spent : ℕ → Bool) (cs : List Change) (old new : KeyPoint) :
@@ -207,6 +207,6 @@ is_stored _ = false
 abbrev pub ChangesAtOnce : KeyPoint → List KeyCommand → List KeyReply → List KeyPoint → Type 0
 ChangesAtOnce old [] [] [] = Unit {0}
 ChangesAtOnce old (c ∷ cs) (r ∷ rs) (p ∷ ps) =
-    ((p.keys ≡ old.keys) ⊎ (p.keys ≡ after old.keys (changes_in c)))
-    × (is_stored r ≡ true → p.keys ≡ after old.keys (changes_in c)) × ChangesAtOnce p cs rs ps
+    ((p.keys ≡ old.keys) ⊎ (p.keys ≡ apply old.keys (changes_in c)))
+    × (is_stored r ≡ true → p.keys ≡ apply old.keys (changes_in c)) × ChangesAtOnce p cs rs ps
 ChangesAtOnce old _ _ _ = ⊥

@@ -13,10 +13,10 @@ use Rattle.array_machine.specs.Run.{MayBeSpent}
 use Rattle.tx_engine.specs.Always.{IsSeen, HoldsAlways}
 use Rattle.tx_engine.specs.ArrayState.{idle}
 use Rattle.tx_engine.specs.Naming.{is_spent}
-use Rattle.page_keys.specs.Buckets.{AreBuckets, ShowsMap}
+use Rattle.page_keys.specs.Buckets.{AreBuckets, EncodesMap}
 use Rattle.page_keys.specs.KeyMaps.{KeyMap}
 use Rattle.page_keys.specs.KeyRuns.{KeyPoint, key_at, DoesKeys, ServesKeys, is_key_cut, is_key_fault, mentions_in, seen_after}
-use Rattle.page_keys.specs.Stores.{Keyed, HasKeys, IsFirstBad}
+use Rattle.page_keys.specs.Stores.{KeyStoreState, HasKeys, IsFirstBad}
 use Rattle.page_keys.specs.declared.command.KeyCommand.{KeyCommand}
 use Rattle.page_keys.specs.declared.answers.PutError.{PutError}
 use Rattle.page_keys.specs.declared.answers.PutError.TheVariants as refused
@@ -48,7 +48,7 @@ pub record IsKeyImage (its : Config) (s : FlashState) : Type 0 where
   pub buckets : AreBuckets its (array_in its.protocol its.logical s.image)
 
 -- an open store is live and can be used
-pub record FitsMounted {F : Type 0} (state : F → FlashState) (its : Config) (k : Keyed F) :
+pub record FitsMounted {F : Type 0} (state : F → FlashState) (its : Config) (k : KeyStoreState F) :
     Type 0 where
   pub usable : k.broken ≡ false
   pub config : k.device.config ≡ its
@@ -63,14 +63,14 @@ Fits state its (session.Mounted k) = FitsMounted state its k
 Fits state its (session.Unmounted flash) = checked its ≡ Ok (state flash).shape
 
 -- the array shows the map, and `seen` is at least each mention
-pub record StandsMounted {F : Type 0} (its : Config) (seen : ℕ → ℕ) (m : KeyMap) (k : Keyed F) :
+pub record StandsMounted {F : Type 0} (its : Config) (seen : ℕ → ℕ) (m : KeyMap) (k : KeyStoreState F) :
     Type 0 where
-  pub shows : ShowsMap its k.device.machine.pages m
+  pub shows : EncodesMap its k.device.machine.pages m
   pub mentions : IsSeen seen k.device
 
 pub record StandsUnmounted (its : Config) (seen : ℕ → ℕ) (m : KeyMap) (s : FlashState) : Type 0 where
   pub sound : IsSoundImage its.protocol its.logical (shape_of its) s.image
-  pub shows : ShowsMap its (array_in its.protocol its.logical s.image) m
+  pub shows : EncodesMap its (array_in its.protocol its.logical s.image) m
   pub mentions : (page : ℕ) → page < its.logical → mentions_in its (moment_of s) page ≤ seen page
 
 abbrev pub StandsAt : {F R : Type 0} → (F → FlashState) → Config → (ℕ → ℕ) → KeyMap →
@@ -132,7 +132,7 @@ pub record Ends (its : Config) (old new : FlashState) (why : KeyServeError) : Ty
   pub still : StaysQuiet old new
 
 -- a store was opened over the flash, by reads alone
-pub record Opens {F : Type 0} (state : F → FlashState) (its : Config) (flash : F) (k : Keyed F) :
+pub record Opens {F : Type 0} (state : F → FlashState) (its : Config) (flash : F) (k : KeyStoreState F) :
     Type 0 where
   pub fits : FitsMounted state its k
   pub machine : k.device.machine
@@ -154,7 +154,7 @@ IsUsable (session.Unmounted flash) = Unit {0}
 
 -- a cut is to come, and all else stays
 pub record SetsCutHere {F : Type 0} (state : F → FlashState) (protocol : Protocol) (count : ℕ)
-    (what : Outcome) (old new : Keyed F) : Type 0 where
+    (what : Outcome) (old new : KeyStoreState F) : Type 0 where
   pub stays : new ≡ record old { device = record old.device { flash = new.device.flash } }
   pub arms : ArmsCut (state old.device.flash) (state new.device.flash) count what
   pub keys : HasKeys new.device
@@ -180,13 +180,13 @@ reply_of cs refused.Memory = None
 
 -- What a command that is no arm does on a store, with this reply unless power was cut.
 pub record DoesHere {F : Type 0} (state : F → FlashState) (c : KeyCommand) (m : KeyMap)
-    (old new : Keyed F) (r : KeyReply) : Type 0 where
+    (old new : KeyStoreState F) (r : KeyReply) : Type 0 where
   pub left : KeyMap
   pub does : DoesKeys old.device.config (is_spent old.device.noted.mentions) c
       (record { keys = m; flash = state old.device.flash }) r
       (record { keys = left; flash = state new.device.flash })
-  pub shows : is_key_fault r ≡ false → ShowsMap new.device.config new.device.machine.pages left
-  pub image : is_key_fault r ≡ true → ShowsMap new.device.config
+  pub shows : is_key_fault r ≡ false → EncodesMap new.device.config new.device.machine.pages left
+  pub image : is_key_fault r ≡ true → EncodesMap new.device.config
       (array_in new.device.config.protocol new.device.config.logical (state new.device.flash).image)
       left
   pub config : new.device.config ≡ old.device.config
@@ -196,14 +196,14 @@ pub record DoesHere {F : Type 0} (state : F → FlashState) (c : KeyCommand) (m 
       IsSeen (seen_after old.device.config seen c r) new.device
   pub whole : is_key_cut r ≡ false
 
-abbrev pub DoesFor : {F : Type 0} → (F → FlashState) → KeyCommand → Keyed F → Keyed F → KeyReply →
+abbrev pub DoesFor : {F : Type 0} → (F → FlashState) → KeyCommand → KeyStoreState F → KeyStoreState F → KeyReply →
     Type 0
 DoesFor state c old new r =
-    (m : KeyMap) → ShowsMap old.device.config old.device.machine.pages m →
+    (m : KeyMap) → EncodesMap old.device.config old.device.machine.pages m →
     DoesHere state c m old new r
 
 -- there was no memory for a put, which changed nothing
-pub record MemoryLeaves {F : Type 0} (state : F → FlashState) (old new : Keyed F) : Type 0 where
+pub record MemoryLeaves {F : Type 0} (state : F → FlashState) (old new : KeyStoreState F) : Type 0 where
   pub config : new.device.config ≡ old.device.config
   pub moment : moment_of (state new.device.flash) ≡ moment_of (state old.device.flash)
   pub carries : Carries (state old.device.flash) (state new.device.flash) false

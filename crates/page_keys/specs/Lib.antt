@@ -12,7 +12,7 @@ pub mod Puts
 pub mod Putting
 pub mod ScriptReading
 pub mod Scripts
-pub mod Shorts
+pub mod ShortBytes
 pub mod StoreParts
 pub mod Stores
 pub mod Writing

@@ -7,18 +7,18 @@ use Rattle.flash_model.specs.Operations.{moment_of}
 use Rattle.version_index.specs.Images.{array_in}
 use Rattle.tx_engine.specs.Always.{IsSeen}
 use Rattle.tx_engine.specs.Naming.{is_spent}
-use Rattle.page_keys.specs.Buckets.{ShowsMap}
-use Rattle.page_keys.specs.KeyMaps.{KeyMap, after, pages_of, seen_by}
+use Rattle.page_keys.specs.Buckets.{EncodesMap}
+use Rattle.page_keys.specs.KeyMaps.{KeyMap, apply, pages_of, seen_by}
 use Rattle.page_keys.specs.Putting.{is_failed, is_put_fault}
 use Rattle.page_keys.specs.Puts.{early_refusal, put_refusal}
-use Rattle.page_keys.specs.Stores.{Keyed}
+use Rattle.page_keys.specs.Stores.{KeyStoreState}
 use Rattle.page_keys.specs.Writing.{Moved}
 use Rattle.page_keys.specs.declared.answers.PutError.{PutError}
 use Rattle.page_keys.specs.declared.answers.PutError.TheVariants as refused
 use Rattle.page_keys.specs.declared.changes.Change.{Change}
 
 -- the array and the image are as before, and the store can be used
-pub record StaysPut {F : Type 0} (state : F → FlashState) (old new : Keyed F) : Type 0 where
+pub record StaysPut {F : Type 0} (state : F → FlashState) (old new : KeyStoreState F) : Type 0 where
   pub config : new.device.config ≡ old.device.config
   pub machine : new.device.machine ≡ old.device.machine
   pub mentions : new.device.noted.mentions ≡ old.device.noted.mentions
@@ -28,30 +28,30 @@ pub record StaysPut {F : Type 0} (state : F → FlashState) (old new : Keyed F) 
   pub usable : new.broken ≡ false
 
 -- all changes are made
-pub record MakesAll {F : Type 0} (state : F → FlashState) (old new : Keyed F) (m : KeyMap)
+pub record MakesAll {F : Type 0} (state : F → FlashState) (old new : KeyStoreState F) (m : KeyMap)
     (cs : List Change) : Type 0 where
   pub taken : put_refusal old.device.config (is_spent old.device.noted.mentions) m cs ≡ None
-  pub shows : ShowsMap new.device.config new.device.machine.pages (after m cs)
+  pub shows : EncodesMap new.device.config new.device.machine.pages (apply m cs)
   pub moved : Moved state old.device new.device false
   pub seen : (seen : ℕ → ℕ) → IsSeen seen old.device →
       IsSeen (seen_by old.device.config.logical cs seen) new.device
   pub usable : new.broken ≡ false
 
 -- the image shows the map as it was, or with all changes, which were not refused
-pub record MakesAllOrNone {F : Type 0} (state : F → FlashState) (old new : Keyed F) (m : KeyMap)
+pub record MakesAllOrNone {F : Type 0} (state : F → FlashState) (old new : KeyStoreState F) (m : KeyMap)
     (cs : List Change) : Type 0 where
   pub tried : early_refusal old.device.config cs ≡ None
   pub left : let array = array_in new.device.config.protocol new.device.config.logical
       (state new.device.flash).image in
-      ShowsMap new.device.config array m
+      EncodesMap new.device.config array m
       ⊎ ((put_refusal old.device.config (is_spent old.device.noted.mentions) m cs ≡ None)
-      × ShowsMap new.device.config array (after m cs))
+      × EncodesMap new.device.config array (apply m cs))
   pub moved : Moved state old.device new.device true
   pub seen : (seen : ℕ → ℕ) → IsSeen seen old.device →
       IsSeen (seen_by old.device.config.logical cs seen) new.device
   pub broken : new.broken ≡ true
 
-abbrev pub PutGives : {F : Type 0} → (F → FlashState) → Keyed F → Keyed F → KeyMap →
+abbrev pub PutGives : {F : Type 0} → (F → FlashState) → KeyStoreState F → KeyStoreState F → KeyMap →
     List Change → Result (Unit {0}) PutError → Type 0
 PutGives state old new m cs (Ok u) = MakesAll state old new m cs
 PutGives state old new m cs (Err refused.Fault) = MakesAllOrNone state old new m cs
@@ -63,7 +63,7 @@ PutGives state old new m cs (Err e) =
 
 -- How a put reads. Each page of its keys is read at most once before it writes, and none where its changes alone refuse it: then the
 -- flash is this one. A put that is refused, or finds no memory, leaves it so.
-pub record ReadsFirst {F : Type 0} (state : F → FlashState) (old new : Keyed F) (cs : List Change)
+pub record ReadsFirst {F : Type 0} (state : F → FlashState) (old new : KeyStoreState F) (cs : List Change)
     (result : Result (Unit {0}) PutError) : Type 0 where
   pub read : F
   pub moment : moment_of (state read) ≡ moment_of (state old.device.flash)

@@ -6,7 +6,7 @@ use Rattle.std.specs.Str.{bytes_eq}
 use Rattle.std.specs.FinMap as keys
 use Rattle.tx_types.specs.Batch.{PageWrite}
 use Rattle.tx_types.specs.declared.config.Config.{Config}
-use Rattle.page_keys.specs.KeyMaps.{KeyMap, after, part, pages_of}
+use Rattle.page_keys.specs.KeyMaps.{KeyMap, apply, part, pages_of}
 use Rattle.page_keys.specs.Buckets.{bucket_bytes}
 use Rattle.page_keys.specs.declared.changes.Change.{Change}
 use Rattle.page_keys.specs.declared.answers.PutError.{PutError}
@@ -51,7 +51,7 @@ is_over its m page =
 abbrev pub full : Config → KeyMap → List Change → Option PutError
 full its m cs =
     option_map (λ page. refused.Bucket page)
-    (find (is_over its (after m cs)) (pages_of its.logical cs))
+    (find (is_over its (apply m cs)) (pages_of its.logical cs))
 
 abbrev pub spent_among : Config → (ℕ → Bool) → List Change → Option PutError
 spent_among its spent cs =
@@ -71,4 +71,4 @@ write_of its m page = record {
 
 -- what a put writes: each page that a key falls in, as the map has it then
 abbrev pub put_writes : Config → KeyMap → List Change → List PageWrite
-put_writes its m cs = map (write_of its (after m cs)) (pages_of its.logical cs)
+put_writes its m cs = map (write_of its (apply m cs)) (pages_of its.logical cs)

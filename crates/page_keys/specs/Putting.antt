@@ -4,7 +4,7 @@ use Rattle.std.specs.FinMap as keys
 use Rattle.tx_types.specs.Batch.{PageWrite}
 use Rattle.tx_types.specs.declared.config.Config.{Config}
 use Rattle.page_keys.specs.Buckets.{entry_bytes}
-use Rattle.page_keys.specs.KeyMaps.{KeyMap, after, part}
+use Rattle.page_keys.specs.KeyMaps.{KeyMap, apply, part}
 use Rattle.page_keys.specs.Puts.{is_over, full, put_writes}
 use Rattle.page_keys.specs.declared.changes.Change.{Change}
 use Rattle.page_keys.specs.declared.answers.PutError.{PutError}
@@ -21,14 +21,14 @@ is_failed (Err e) = is_put_fault e
 -- the bytes of the entries that a page has after changes, which fit
 pub record HasNewBytes (its : Config) (m : KeyMap) (cs : List Change) (page : ℕ)
     (bytes : List ℕ) : Type 0 where
-  pub bytes_are : bytes ≡ flat_map entry_bytes (keys.entries (part its.logical page (after m cs)))
+  pub bytes_are : bytes ≡ flat_map entry_bytes (keys.entries (part its.logical page (apply m cs)))
   pub within : length bytes ≤ its.page_bytes
-  pub fits : is_over its (after m cs) page ≡ false
+  pub fits : is_over its (apply m cs) page ≡ false
 
 -- they do not fit, or memory ran out, or a read failed
 abbrev pub IsTooMuch : Config → KeyMap → List Change → ℕ → PutError → Type 0
 IsTooMuch its m cs page (refused.Bucket full_page) =
-    (full_page ≡ page) × (is_over its (after m cs) page ≡ true)
+    (full_page ≡ page) × (is_over its (apply m cs) page ≡ true)
 IsTooMuch its m cs page refused.Fault = Unit {0}
 IsTooMuch its m cs page refused.Memory = Unit {0}
 IsTooMuch its m cs page _ = ⊥

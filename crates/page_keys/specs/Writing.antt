@@ -10,7 +10,7 @@ use Rattle.tx_engine.specs.ArrayState.{ArrayState, Pages, put, idle}
 use Rattle.tx_engine.specs.Always.{IsSeen}
 use Rattle.tx_engine.specs.Submit.{spent_page, is_of}
 use Rattle.tx_engine.specs.Naming.{is_spent}
-use Rattle.tx_engine.specs.Standing.{Standing}
+use Rattle.tx_engine.specs.DeviceState.{DeviceState}
 use Rattle.array_machine.specs.declared.mark.Mark.TheVariants.{Plain}
 use Rattle.array_machine.specs.declared.answers.SubmitError.TheVariants as submit
 use Rattle.page_keys.specs.declared.answers.PutError.{PutError}
@@ -22,14 +22,14 @@ seen_more seen writes page =
     if list_any (is_of page) writes then seen page + 1 else seen page
 
 -- what stays of a device, and how its flash moved
-pub record Moved {F : Type 0} (state : F → FlashState) (old new : Standing F)
+pub record Moved {F : Type 0} (state : F → FlashState) (old new : DeviceState F)
     (broken : Bool) : Type 0 where
   pub config : new.config ≡ old.config
   pub moves : FlashMoves (state old.flash) (state new.flash) broken
   pub carries : Carries (state old.flash) (state new.flash) broken
 
 -- the array has all the writes, and nothing is open
-pub record Writes {F : Type 0} (state : F → FlashState) (old new : Standing F)
+pub record Writes {F : Type 0} (state : F → FlashState) (old new : DeviceState F)
     (writes : List PageWrite) : Type 0 where
   pub unspent : spent_page (is_spent old.noted.mentions) writes ≡ None
   pub machine : new.machine ≡ idle (put old.machine.pages writes)
@@ -37,7 +37,7 @@ pub record Writes {F : Type 0} (state : F → FlashState) (old new : Standing F)
   pub seen : (seen : ℕ → ℕ) → IsSeen seen old → IsSeen (seen_more seen writes) new
 
 -- nothing changed but what is pinned
-pub record Refuses {F : Type 0} (old new : Standing F) : Type 0 where
+pub record Refuses {F : Type 0} (old new : DeviceState F) : Type 0 where
   pub config : new.config ≡ old.config
   pub machine : new.machine ≡ old.machine
   pub flash : new.flash ≡ old.flash
@@ -45,7 +45,7 @@ pub record Refuses {F : Type 0} (old new : Standing F) : Type 0 where
   pub namings : new.namings ≡ old.namings
 
 -- the image has the array, or that with all the writes
-pub record Breaks {F : Type 0} (state : F → FlashState) (old new : Standing F)
+pub record Breaks {F : Type 0} (state : F → FlashState) (old new : DeviceState F)
     (writes : List PageWrite) : Type 0 where
   pub unspent : spent_page (is_spent old.noted.mentions) writes ≡ None
   pub moved : Moved state old new true
@@ -53,7 +53,7 @@ pub record Breaks {F : Type 0} (state : F → FlashState) (old new : Standing F)
   pub left : let array = array_in new.config.protocol new.config.logical (state new.flash).image in
       (array ≡ old.machine.pages) ⊎ (array ≡ put old.machine.pages writes)
 
-abbrev pub WritesNot : {F : Type 0} → (F → FlashState) → Standing F → Standing F →
+abbrev pub WritesNot : {F : Type 0} → (F → FlashState) → DeviceState F → DeviceState F →
     List PageWrite → PutError → Type 0
 WritesNot state old new writes (refused.Spent page) =
     (spent_page (is_spent old.noted.mentions) writes ≡ Some (submit.Spent page)) × Refuses old new

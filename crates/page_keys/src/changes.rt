@@ -1,6 +1,6 @@
 ghost use Rattle.std.specs.Prelude.{◌≡◌, ◌≤◌, ◌++◌, ◌∷◌, [], Some, None, length, OnOk, OnErr};
 
-use crate::short::{MAX_SHORT, Short};
+use crate::short_bytes::{MAX_SHORT, ShortBytes};
 use std::alloc::Global;
 use std::marker::Model;
 use tx_types::Memory;
@@ -8,8 +8,8 @@ use tx_types::Memory;
 /// A key and its new value, or none where the key is removed.
 #[derive(Drop)]
 pub struct Change {
-    pub key: Short,
-    pub value: Option<Short>,
+    pub key: ShortBytes,
+    pub value: Option<ShortBytes>,
 }
 
 /// The changes that a put makes, in order, seen as a list.
@@ -46,8 +46,8 @@ impl Changes {
         ensures err { OnErr result (self.new ≡ self.old) }
     {
         self.push(Change {
-            key: Short::new(key),
-            value: Some(Short::new(value)),
+            key: ShortBytes::new(key),
+            value: Some(ShortBytes::new(value)),
         })
     }
 
@@ -59,7 +59,7 @@ impl Changes {
         ensures err { OnErr result (self.new ≡ self.old) }
     {
         self.push(Change {
-            key: Short::new(key),
+            key: ShortBytes::new(key),
             value: None,
         })
     }

@@ -6,12 +6,12 @@ ghost use Rattle.page_keys.specs.Buckets.{entry_bytes};
 
 use crate::changes::Change;
 use crate::grouping::Placed;
-use crate::short::Short;
+use crate::short_bytes::ShortBytes;
 use std::cmp::Ordering;
 use tx_types::Memory;
 
 /// A key with its value.
-pub(crate) type Entry = (Short, Short);
+pub(crate) type Entry = (ShortBytes, ShortBytes);
 
 /// Where a key stands among entries in ascending order, or else where it may be put.
 fn place(entries: &[Entry], key: &[u8]) -> Result<usize, usize>
@@ -37,14 +37,14 @@ fn change(entries: &mut Vec<Entry>, change: &Change) -> Result<(), Memory>
     let key = change.key.as_slice();
     match place(entries, key) {
         Ok(at) => match &change.value {
-            Some(value) => entries[at] = (change.key.copied(), value.copied()),
+            Some(value) => entries[at] = (change.key.copy(), value.copy()),
             None => {
                 let _ = entries.remove(at);
             }
         },
         Err(at) => {
             if let Some(value) = &change.value {
-                entries.insert(at, (change.key.copied(), value.copied()))?;
+                entries.insert(at, (change.key.copy(), value.copy()))?;
             }
         }
     }

@@ -20,13 +20,17 @@ pub(crate) fn by_page<'a>(
     requires { 0 < logical }
     ensures { IfOk result (λ v. IsByPage logical changes.now v.items) }
 {
-    let mut placed = placed(alloc, logical, changes)?;
+    let mut placed = pair_with_pages(alloc, logical, changes)?;
     placed.sort_by_key(|one| one.0)?;
     Ok(placed)
 }
 
 /// The changes in their order, each with the page of its key.
-fn placed<'a>(alloc: Global, logical: u32, changes: &'a [Change]) -> Result<Vec<Placed<'a>>, Memory>
+fn pair_with_pages<'a>(
+    alloc: Global,
+    logical: u32,
+    changes: &'a [Change],
+) -> Result<Vec<Placed<'a>>, Memory>
     requires { 0 < logical }
     ensures { IfOk result (λ v. (page : ℕ) →
         changes_of (at_page page v.items) ≡ of_page logical page changes.now) }

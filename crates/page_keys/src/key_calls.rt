@@ -9,14 +9,14 @@ use crate::answers::PutError;
 use crate::changes::{Change, Changes};
 use crate::command::KeyCommand;
 use crate::key_reply::KeyReply;
-use crate::short::{MAX_SHORT, Short};
+use crate::short_bytes::{MAX_SHORT, ShortBytes};
 use crate::store::KeyStore;
 use flash_model::Flash;
 use record_list::CommitRule;
 use tx_types::Memory;
 
 /// Does a command that is no arm on a store. Where power was cut the reply is to be `Cut` in place of `Fault`.
-pub(crate) fn done<F: Flash, R: CommitRule>(
+pub(crate) fn execute<F: Flash, R: CommitRule>(
     store: &mut KeyStore<F, R>,
     command: &KeyCommand,
 ) -> Result<KeyReply, Memory>
@@ -47,7 +47,7 @@ fn put<F: Flash, R: CommitRule>(
     store.config();
     match store.put(changes) {
         Ok(()) => Ok(KeyReply::Stored(changes.as_slice().len() as u32)),
-        Err(refusal) => match refused(changes.as_slice(), refusal) {
+        Err(refusal) => match put_reply(changes.as_slice(), refusal) {
             Some(reply) => Ok(reply),
             None => Err(Memory),
         },
@@ -55,7 +55,7 @@ fn put<F: Flash, R: CommitRule>(
 }
 
 /// The reply of a put that was not done, none for want of memory.
-fn refused(changes: &[Change], refusal: PutError) -> Option<KeyReply>
+fn put_reply(changes: &[Change], refusal: PutError) -> Option<KeyReply>
     ensures { result ≡ reply_of changes.now refusal }
 {
     match refusal {
@@ -70,12 +70,12 @@ fn refused(changes: &[Change], refusal: PutError) -> Option<KeyReply>
 }
 
 /// The key of the change at this place, from 0.
-fn key_at(changes: &[Change], i: u32) -> Short
+fn key_at(changes: &[Change], i: u32) -> ShortBytes
     ensures { result ≡ key_at changes.now i }
 {
     match changes.get(i as usize) {
-        Some(change) => Short::new(change.key.as_slice()),
-        None => Short::new(b""),
+        Some(change) => ShortBytes::new(change.key.as_slice()),
+        None => ShortBytes::new(b""),
     }
 }
 
@@ -88,8 +88,8 @@ fn get<F: Flash, R: CommitRule>(store: &mut KeyStore<F, R>, key: &[u8]) -> KeyRe
     store.config();
     let mut into = [0; MAX_SHORT];
     match store.get(key, &mut into) {
-        Ok(Some(len)) => KeyReply::Value(Short::new(key), Short::new(&into[..len])),
-        Ok(None) => KeyReply::Absent(Short::new(key)),
+        Ok(Some(len)) => KeyReply::Value(ShortBytes::new(key), ShortBytes::new(&into[..len])),
+        Ok(None) => KeyReply::Absent(ShortBytes::new(key)),
         Err(_) => KeyReply::Fault,
     }
 }

@@ -3,7 +3,7 @@ ghost use Rattle.page_keys.specs.KeyReplies.{key_text};
 ghost use Rattle.host_protocol.specs.Replies.{line_of};
 ghost use Rattle.hex.specs.Hex.{encode_lower};
 
-use crate::short::{MAX_SHORT, Short};
+use crate::short_bytes::{MAX_SHORT, ShortBytes};
 use host_protocol::add_line;
 use tx_types::Memory;
 
@@ -13,9 +13,9 @@ pub enum KeyReply {
     /// All changes of a put were made, so many.
     Stored(u32),
     /// The key and its value.
-    Value(Short, Short),
+    Value(ShortBytes, ShortBytes),
     /// The key, which is absent.
-    Absent(Short),
+    Absent(ShortBytes),
     /// The cut is to come.
     Armed,
     /// Power was cut.
@@ -25,7 +25,7 @@ pub enum KeyReply {
     /// A put without changes.
     RefusedEmpty,
     /// The key stood in the put before.
-    RefusedRepeated(Short),
+    RefusedRepeated(ShortBytes),
     /// The put has keys in so many pages, more than may be pending.
     RefusedWide(u32),
     /// The page would not hold its entries.
@@ -67,7 +67,7 @@ fn append(bytes: &[u8], out: &mut Vec<u8>) -> Result<(), Memory>
 }
 
 /// Appends the line of a key and its value.
-fn add_value(key: &Short, value: &Short, out: &mut Vec<u8>) -> Result<(), Memory>
+fn add_value(key: &ShortBytes, value: &ShortBytes, out: &mut Vec<u8>) -> Result<(), Memory>
     ensures ok { OnOk result
         (out.new.items ≡ out.old.items ++ key_text (KeyReply.Value key.now value.now)) }
     ensures err { OnErr result (out.new.items ≡ out.old.items) }
@@ -85,7 +85,7 @@ fn add_value(key: &Short, value: &Short, out: &mut Vec<u8>) -> Result<(), Memory
 }
 
 /// Appends the line of some words and a key.
-fn add_key(words: &[u8], key: &Short, out: &mut Vec<u8>) -> Result<(), Memory>
+fn add_key(words: &[u8], key: &ShortBytes, out: &mut Vec<u8>) -> Result<(), Memory>
     requires { length words.now < 100 }
     ensures ok { OnOk result
         (out.new.items ≡ out.old.items ++ line_of (words.now ∷ encode_lower key.now ∷ [])) }

@@ -8,7 +8,7 @@ ghost use Rattle.page_keys.specs.KeyServed.{BeginsKeys, RefusesKeys, ServesScrip
 ghost use Rattle.page_keys.specs.Scripts.{SuitsKeys};
 
 use crate::command::KeyCommand;
-use crate::key_calls::done;
+use crate::key_calls::execute;
 use crate::key_error::KeyServeError;
 use crate::key_reply::{KeyReply, key_reply_text};
 use crate::key_session::{KeySession, mount, mount_again};
@@ -36,17 +36,17 @@ fn serve_mounted<F: Power, R: CommitRule>(
     let KeySession::Mounted(store) = session else {
         unreachable!();
     };
-    let reply = done(store, command)?;
+    let reply = execute(store, command)?;
     store.config();
     let KeyReply::Fault = reply else {
         return Ok(reply);
     };
     session.close();
-    Ok(broken(session.live()))
+    Ok(break_reply(session.live()))
 }
 
 /// The reply to a command in which the flash met a fault, by whether power is on.
-fn broken(live: bool) -> KeyReply
+fn break_reply(live: bool) -> KeyReply
     ensures { result ≡ if live then KeyReply.Fault else KeyReply.Cut }
 {
     if live { KeyReply::Fault } else { KeyReply::Cut }
@@ -73,7 +73,7 @@ fn serve_unmounted<F: Power, R: CommitRule>(
     if session.is_mounted() {
         serve_mounted(config, session, command)
     } else {
-        Ok(broken(session.live()))
+        Ok(break_reply(session.live()))
     }
 }
 

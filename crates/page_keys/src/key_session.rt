@@ -10,7 +10,7 @@ use core::mem::replace_with;
 use flash_model::{Arms, Flash, Outcome, Power};
 use record_list::CommitRule;
 use std::alloc::Global;
-use tx_engine::{Device, MountError, held_always};
+use tx_engine::{Device, MountError, device_facts};
 use tx_types::Config;
 
 /// A flash on which a key script is served.
@@ -54,7 +54,7 @@ impl<F: Flash, R: CommitRule> KeySession<F, R> {
     pub fn close(&mut self)
         ensures { self.new ≡ KeySession.Unmounted (flash_in self.old) }
     {
-        replace_with(self, (), closed)
+        replace_with(self, (), without_store)
     }
 }
 
@@ -76,7 +76,10 @@ impl<F: Arms, R: CommitRule> KeySession<F, R> {
 }
 
 /// The session without its store.
-fn closed<F: Flash, R: CommitRule>(session: KeySession<F, R>, with: ()) -> (KeySession<F, R>, ())
+fn without_store<F: Flash, R: CommitRule>(
+    session: KeySession<F, R>,
+    with: (),
+) -> (KeySession<F, R>, ())
     ensures { result.0 ≡ KeySession.Unmounted (flash_in session) }
 {
     (KeySession::Unmounted(session.into_flash()), with)
@@ -93,9 +96,9 @@ pub(crate) fn mount<F: Power, R: CommitRule>(
     ensures mounted { IfOk result (Mounts F.state config flash) }
     ensures failed { IfErr result (λ e. Ends config (F.state flash) (F.state e.0) e.1) }
 {
-    match Device::mount(alloc, powered(flash), config) {
+    match Device::mount(alloc, with_power(flash), config) {
         Ok(device) => {
-            held_always(&device);
+            device_facts(&device);
             match KeyStore::over(alloc, device) {
                 Ok(store) => {
                     store.config();
@@ -128,11 +131,11 @@ pub(crate) fn mount_again<F: Power, R: CommitRule>(
     ensures failed { IfErr result (Ends config (F.state (flash_in session.old))
         (F.state (flash_in session.new))) }
 {
-    replace_with(session, (alloc, config), mounted_anew)
+    replace_with(session, (alloc, config), mount_anew)
 }
 
 /// The session of a flash whose store is opened anew.
-fn mounted_anew<F: Power, R: CommitRule>(
+fn mount_anew<F: Power, R: CommitRule>(
     session: KeySession<F, R>,
     with: (Global, Config),
 ) -> (KeySession<F, R>, Result<(), KeyServeError>)
@@ -150,7 +153,7 @@ fn mounted_anew<F: Power, R: CommitRule>(
 }
 
 /// Turns power on where it is off.
-fn powered<F: Power>(mut flash: F) -> F
+fn with_power<F: Power>(mut flash: F) -> F
     ensures { TurnsOn (F.state flash) (F.state result) }
 {
     if !flash.live() {

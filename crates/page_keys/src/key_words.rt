@@ -6,12 +6,12 @@ ghost use Rattle.page_keys.specs.declared.changes.Change.{Change};
 
 use crate::changes::{Change, Changes};
 use crate::script_error::LineError;
-use crate::short::{MAX_SHORT, Short};
+use crate::short_bytes::{MAX_SHORT, ShortBytes};
 use host_protocol::{around_equals, first_word, no_word};
 use std::alloc::Global;
 
 /// The one to fifteen bytes that digits tell, two digits for each.
-fn short(digits: &[u8]) -> Option<Short>
+fn short(digits: &[u8]) -> Option<ShortBytes>
     ensures { result ≡ key_of digits.now }
 {
     let len = digits.len() / 2;
@@ -22,7 +22,7 @@ fn short(digits: &[u8]) -> Option<Short>
     if !decode(digits, &mut room[..len]) {
         return None;
     }
-    Some(Short::new(&room[..len]))
+    Some(ShortBytes::new(&room[..len]))
 }
 
 /// Reads digits into room for half as many bytes, and says whether they are all digits, two for each byte.
@@ -35,7 +35,7 @@ fn decode(digits: &[u8], into: &mut [u8]) -> bool
 }
 
 /// The key that is the only word.
-pub(crate) fn only_key(words: &[u8]) -> Result<Short, LineError>
+pub(crate) fn only_key(words: &[u8]) -> Result<ShortBytes, LineError>
     ensures ok { IfOk result (IsKeyWord (words_of words.now)) }
     ensures bad { IsErrOf result LineError.Bad → (key : List ℕ) → ¬ IsKeyWord (words_of words.now) key }
 {
@@ -83,14 +83,14 @@ fn change_of_texts(key: &[u8], text: &[u8]) -> Option<Change>
 
 /// The new value that a text tells, which is none for a removal.
 #[tactic(auto, unfolding(crate::specs::Scripts::new_value_of))]
-fn new_value(text: &[u8]) -> Option<Option<Short>>
+fn new_value(text: &[u8]) -> Option<Option<ShortBytes>>
     ensures { result ≡ new_value_of text.now }
 {
     if text == b"~".as_slice() {
         return Some(None);
     }
     if text == b"-".as_slice() {
-        return Some(Some(Short::new(b"")));
+        return Some(Some(ShortBytes::new(b"")));
     }
     Some(Some(short(text)?))
 }

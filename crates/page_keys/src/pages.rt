@@ -1,7 +1,7 @@
 ghost use Rattle.std.specs.Prelude.{◌≡◌, ◌<◌, ◌≤◌, ◌+◌, ◌⊎◌, ℕ, [], false, length, replicate, OnOk, OnErr, IfErr};
 ghost use Rattle.std.specs.Result.{is_err};
 ghost use Rattle.tx_engine.specs.ArrayState.{page_at};
-ghost use Rattle.page_keys.specs.Buckets.{shown, AreBuckets};
+ghost use Rattle.page_keys.specs.Buckets.{encodes, AreBuckets};
 ghost use Rattle.page_keys.specs.Stores.{OnlyReads, OpensNot, is_key_fault};
 
 use crate::answers::KeyError;
@@ -9,7 +9,7 @@ use crate::reading;
 use flash_model::Flash;
 use record_list::CommitRule;
 use std::alloc::Global;
-use tx_engine::{Device, Fault, ReadAnswer, held_always};
+use tx_engine::{Device, Fault, ReadAnswer, device_facts};
 
 /// Reads a page as a store of keys does, with zeros where it is blank.
 pub(crate) fn read_page<F: Flash, R: CommitRule>(
@@ -21,7 +21,7 @@ pub(crate) fn read_page<F: Flash, R: CommitRule>(
     requires room { length room.old ≡ device.old.config.page_bytes }
     requires exists { page < device.old.config.logical }
     ensures shown { OnOk result (room.new
-        ≡ shown device.old.config.page_bytes (page_at device.old.machine.pages page)) }
+        ≡ encodes device.old.config.page_bytes (page_at device.old.machine.pages page)) }
     ensures reads { OnlyReads F.state device.old device.new (is_err result) }
     ensures once { (F.state device.new.flash).reads ≤ (F.state device.old.flash).reads + 1 }
 {
@@ -57,7 +57,7 @@ pub(crate) fn check_all<F: Flash, R: CommitRule>(
     ensures err { IfErr result (OpensNot device.old) }
     ensures stopped { IfErr result (λ e. OnlyReads F.state device.old device.new (is_key_fault e)) }
 {
-    let logical = held_always(device).logical;
+    let logical = device_facts(device).logical;
     let mut entries = Vec::new(alloc);
     for page in 0..logical {
         read_page(device, room, page)?;

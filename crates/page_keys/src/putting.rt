@@ -2,7 +2,7 @@ ghost use Rattle.std.specs.Prelude.{◌≡◌, List, ◌<◌, ◌≤◌, ◌+◌
 ghost use Rattle.tx_engine.specs.ArrayState.{page_at};
 ghost use Rattle.page_keys.specs.Groups.{changes_of};
 ghost use Rattle.page_keys.specs.KeyMaps.{KeyMap, of_page, pages_of};
-ghost use Rattle.page_keys.specs.Buckets.{ShowsMap};
+ghost use Rattle.page_keys.specs.Buckets.{EncodesMap};
 ghost use Rattle.std.specs.List.{AllByRecursion};
 ghost use Rattle.page_keys.specs.Puts.{IsKeyChange, repeated};
 ghost use Rattle.page_keys.specs.Stores.{HasKeys, OnlyReads};
@@ -18,7 +18,7 @@ use crate::reading::{ENTRY_BYTES, entries_in};
 use flash_model::Flash;
 use record_list::CommitRule;
 use std::alloc::Global;
-use tx_engine::{Device, held_always};
+use tx_engine::{Device, device_facts};
 use tx_types::Batch;
 
 /// Room for the entries of a page and for their bytes, which each page of a put uses in turn.
@@ -54,18 +54,18 @@ fn rewrite<F: Flash, R: CommitRule>(
     requires exists { page < device.old.config.logical }
     ensures bytes { OnOk result ((m : KeyMap) (cs : List Change) →
         of_page device.old.config.logical page cs ≡ changes_of changes.now →
-        ShowsMap device.old.config device.old.machine.pages m →
+        EncodesMap device.old.config device.old.machine.pages m →
         HasNewBytes device.old.config m cs page scratch.new.bytes.items) }
     ensures within { OnOk result (length scratch.new.bytes.items ≤ device.old.config.page_bytes) }
     ensures refused { IfErr result (λ e. (m : KeyMap) (cs : List Change) →
         of_page device.old.config.logical page cs ≡ changes_of changes.now →
-        repeated [] cs ≡ None → ShowsMap device.old.config device.old.machine.pages m →
+        repeated [] cs ≡ None → EncodesMap device.old.config device.old.machine.pages m →
         IsTooMuch device.old.config m cs page e) }
     ensures reads { OnlyReads F.state device.old device.new (is_failed result) }
     ensures once { (F.state device.new.flash).reads ≤ (F.state device.old.flash).reads + 1 }
 {
     let Scratch { entries, bytes } = scratch;
-    let config = held_always(device);
+    let config = device_facts(device);
     let most = config.page_bytes as usize / ENTRY_BYTES;
     if count_values(changes) > most {
         return Err(PutError::Bucket(page));
@@ -83,7 +83,7 @@ fn rewrite<F: Flash, R: CommitRule>(
 }
 
 /// What a put writes of the pages of its keys, which differ. Each of them is read, once.
-pub(crate) fn rewritten_all<F: Flash, R: CommitRule>(
+pub(crate) fn rewrite_all<F: Flash, R: CommitRule>(
     alloc: Global,
     device: &mut Device<F, R>,
     room: &mut [u8],
@@ -99,16 +99,16 @@ pub(crate) fn rewritten_all<F: Flash, R: CommitRule>(
     requires pages { pages.now ≡ pages_of device.old.config.logical changes.now }
     ensures size { IfOk result (λ b. b.page_bytes ≡ device.old.config.page_bytes) }
     ensures writes { IfOk result (λ b. (m : KeyMap) →
-        ShowsMap device.old.config device.old.machine.pages m →
+        EncodesMap device.old.config device.old.machine.pages m →
         HasWrites device.old.config m changes.now b.entries) }
     ensures refused { IfErr result (λ e. (m : KeyMap) →
-        ShowsMap device.old.config device.old.machine.pages m →
+        EncodesMap device.old.config device.old.machine.pages m →
         IsFull device.old.config m changes.now e) }
     ensures reads { OnlyReads F.state device.old device.new (is_failed result) }
     ensures count { (F.state device.new.flash).reads
         ≤ (F.state device.old.flash).reads + length pages.now }
 {
-    let config = held_always(device);
+    let config = device_facts(device);
     let placed = by_page(alloc, config.logical, changes)?;
     let mut batch = Batch::with_room(alloc, config.page_bytes, pages.len())?;
     for page in pages {

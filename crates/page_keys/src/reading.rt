@@ -5,7 +5,7 @@ ghost use Rattle.page_keys.specs.Entries.{GivesValue};
 
 use crate::entries::Entry;
 use crate::hashing::bucket;
-use crate::short::{FIELD_BYTES, MAX_SHORT, Short, all_zero};
+use crate::short_bytes::{FIELD_BYTES, MAX_SHORT, ShortBytes, all_zero};
 use std::cmp::Ordering;
 use tx_types::Memory;
 
@@ -19,8 +19,8 @@ fn read_entry(bytes: &[u8]) -> Option<Entry>
     ensures none { IfNone result ((e : Pair) → IsEntry e → bytes.now ≢ entry_bytes e) }
 {
     let (first, second) = bytes.split_at(FIELD_BYTES);
-    let key = Short::read(first)?;
-    let value = Short::read(second)?;
+    let key = ShortBytes::read(first)?;
+    let value = ShortBytes::read(second)?;
     if key.as_slice().is_empty() {
         return None;
     }
@@ -73,7 +73,7 @@ fn known_entry(bytes: &[u8]) -> Entry
     ensures { (e : Pair) → IsEntry e → bytes.now ≡ entry_bytes e → result ≡ e }
 {
     let (key, value) = bytes.split_at(FIELD_BYTES);
-    (Short::of_field(key), Short::of_field(value))
+    (ShortBytes::of_field(key), ShortBytes::of_field(value))
 }
 
 /// Reads the entries of a page that is a bucket.

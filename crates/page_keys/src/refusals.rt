@@ -16,7 +16,7 @@ const FEW: usize = 16;
 
 /// The pages of the keys of a put, in ascending order, unless its changes alone are refused. `Memory` comes only where they
 /// are not.
-pub(crate) fn checked(
+pub(crate) fn check_changes(
     alloc: Global,
     config: Config,
     changes: &[Change],
@@ -52,7 +52,7 @@ fn pages(alloc: Global, logical: u32, changes: &[Change]) -> Result<Vec<u32>, Me
     ensures few { IfOk result (λ v. length v.items ≤ logical) }
 {
     if changes.len() > FEW {
-        return Ok(listed(alloc, &page_set(alloc, logical, changes)?)?);
+        return Ok(list_pages(alloc, &page_set(alloc, logical, changes)?)?);
     }
     let mut pages = Vec::new(alloc);
     for change in changes {
@@ -92,7 +92,7 @@ fn page_set(alloc: Global, logical: u32, changes: &[Change]) -> Result<BTreeSet<
 }
 
 /// The pages of a set, in ascending order.
-fn listed(alloc: Global, pages: &BTreeSet<u32>) -> Result<Vec<u32>, Memory>
+fn list_pages(alloc: Global, pages: &BTreeSet<u32>) -> Result<Vec<u32>, Memory>
     ensures { IfOk result (λ v. v.items ≡ pages.now.keys) }
 {
     let mut list = Vec::new(alloc);

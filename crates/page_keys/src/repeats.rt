@@ -18,15 +18,15 @@ pub(crate) fn first_repeated(alloc: Global, changes: &[Change]) -> Option<PutErr
     ensures { result ≡ repeated [] changes.now }
 {
     if changes.len() > FEW {
-        if let Ok(found) = found_by_set(alloc, changes) {
+        if let Ok(found) = find_by_set(alloc, changes) {
             return found;
         }
     }
-    found_by_looking(changes)
+    find_by_looking(changes)
 }
 
 /// The refusal of the first change whose key stood earlier, by a set of the keys.
-fn found_by_set(alloc: Global, changes: &[Change]) -> Result<Option<PutError>, Memory>
+fn find_by_set(alloc: Global, changes: &[Change]) -> Result<Option<PutError>, Memory>
     requires { length changes.now < 2 ^ 32 }
     ensures { IfOk result (λ found. found ≡ repeated [] changes.now) }
 {
@@ -40,7 +40,7 @@ fn found_by_set(alloc: Global, changes: &[Change]) -> Result<Option<PutError>, M
 }
 
 /// The refusal of the first change whose key stood earlier, without memory.
-fn found_by_looking(changes: &[Change]) -> Option<PutError>
+fn find_by_looking(changes: &[Change]) -> Option<PutError>
     requires { length changes.now < 2 ^ 32 }
     ensures { result ≡ repeated [] changes.now }
 {

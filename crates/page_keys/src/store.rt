@@ -4,11 +4,11 @@ ghost use Rattle.std.specs.FinMap.{get};
 ghost use Rattle.flash_model.specs.Arms.{ArmsCut};
 ghost use Rattle.tx_engine.specs.Always.{HoldsAlways};
 ghost use Rattle.page_keys.specs.KeyMaps.{KeyMap};
-ghost use Rattle.page_keys.specs.Buckets.{ShowsMap};
+ghost use Rattle.page_keys.specs.Buckets.{EncodesMap};
 ghost use Rattle.page_keys.specs.Entries.{GivesValue};
 ghost use Rattle.std.specs.List.{AllByRecursion};
 ghost use Rattle.tx_engine.specs.ArrayState.{put};
-ghost use Rattle.tx_engine.specs.Standing.{limits_of};
+ghost use Rattle.tx_engine.specs.DeviceState.{limits_of};
 ghost use Rattle.tx_engine.specs.Submit.{first_refusals};
 ghost use Rattle.page_keys.specs.Buckets.{AreBuckets};
 ghost use Rattle.page_keys.specs.PutAnswers.{PutGives, ReadsFirst};
@@ -21,16 +21,16 @@ use crate::answers::{KeyError, PutError};
 use crate::changes::Changes;
 use crate::hashing::bucket;
 use crate::pages::{check_all, read_page};
-use crate::putting::{Scratch, rewritten_all};
+use crate::putting::{Scratch, rewrite_all};
 use crate::reading::value_in;
-use crate::refusals::checked;
-use crate::short::MAX_SHORT;
+use crate::refusals::check_changes;
+use crate::short_bytes::MAX_SHORT;
 use crate::writing;
 use flash_model::{Arms, Flash, Outcome};
 use record_list::CommitRule;
 use std::alloc::Global;
 use std::marker::Model;
-use tx_engine::{Device, Fault, held_always};
+use tx_engine::{Device, Fault, device_facts};
 use tx_types::{Batch, Config};
 
 /// A store of short keys over a device: a map, of which a put changes all its keys at once, whatever breaks.
@@ -46,15 +46,15 @@ pub struct KeyStore<F: Flash, R: CommitRule> {
 }
 
 impl<F: Flash, R: CommitRule> Model for KeyStore<F, R> {
-    ghost use Rattle.page_keys.specs.Stores.{Keyed};
+    ghost use Rattle.page_keys.specs.Stores.{KeyStoreState};
 
-    ghost Value = { Keyed F };
+    ghost Value = { KeyStoreState F };
 
-    ghost use Rattle.page_keys.specs.StoreParts.{keyed_in, IsKeyed};
+    ghost use Rattle.page_keys.specs.StoreParts.{keyed_in, KeyStoreInvariant};
 
     ghost view = { keyed_in };
 
-    ghost invariant = { IsKeyed };
+    ghost invariant = { KeyStoreInvariant };
 }
 
 impl<F: Flash, R: CommitRule> KeyStore<F, R> {
@@ -72,7 +72,7 @@ impl<F: Flash, R: CommitRule> KeyStore<F, R> {
         ensures back { IfErr result (λ e. OnlyReads F.state device e.0 (is_key_fault e.1)) }
     {
         let mut device = device;
-        let page_bytes = held_always(&device).page_bytes;
+        let page_bytes = device_facts(&device).page_bytes;
         let Ok(mut room) = vec![in alloc; 0; page_bytes as usize] else {
             return Err((device, KeyError::Memory));
         };
@@ -94,14 +94,14 @@ impl<F: Flash, R: CommitRule> KeyStore<F, R> {
         ensures always { HoldsAlways F.state R.protocol self.now.device }
         ensures keys { self.now.broken ≡ false → HasKeys self.now.device }
     {
-        held_always(&self.device)
+        device_facts(&self.device)
     }
 
     /// The number of bytes of a key's value, which are copied to the front of the room; none where the key is absent.
     pub fn get(&mut self, key: &[u8], into: &mut [u8; 15]) -> Result<Option<usize>, Fault>
         requires { self.old.broken ≡ false }
         ensures gives { IfOk result (λ found. (m : KeyMap) →
-            ShowsMap self.old.device.config self.old.device.machine.pages m →
+            EncodesMap self.old.device.config self.old.device.machine.pages m →
             GivesValue (get m key.now) found into.old into.new) }
         ensures few { IfOk result (λ found. IfSome found (λ len. len ≤ MAX_SHORT)) }
         ensures reads { OnlyReads F.state self.old.device self.new.device (is_err result) }
@@ -109,7 +109,7 @@ impl<F: Flash, R: CommitRule> KeyStore<F, R> {
         ensures once { (F.state self.new.device.flash).reads
             ≤ (F.state self.old.device.flash).reads + 1 }
     {
-        let page = bucket(key, held_always(&self.device).logical);
+        let page = bucket(key, device_facts(&self.device).logical);
         read_page(&mut self.device, &mut self.room, page)?;
         Ok(value_in(&self.room, key, into))
     }
@@ -121,14 +121,14 @@ impl<F: Flash, R: CommitRule> KeyStore<F, R> {
         requires keys { AllByRecursion IsKeyChange changes.now }
         requires few { length changes.now < 2 ^ 32 }
         ensures gives { (m : KeyMap) →
-            ShowsMap self.old.device.config self.old.device.machine.pages m →
+            EncodesMap self.old.device.config self.old.device.machine.pages m →
             PutGives F.state self.old self.new m changes.now result }
         ensures reads { ReadsFirst F.state self.old self.new changes.now result }
     {
-        let config = held_always(&self.device);
+        let config = device_facts(&self.device);
         let list = changes.as_slice();
-        let pages = checked(self.alloc, config, list)?;
-        match rewritten_all(
+        let pages = check_changes(self.alloc, config, list)?;
+        match rewrite_all(
             self.alloc,
             &mut self.device,
             &mut self.room,

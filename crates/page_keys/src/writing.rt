@@ -1,12 +1,12 @@
 ghost use Rattle.std.specs.Prelude.{◌≡◌, ℕ, false, [], None, OnOk, IfErr};
-ghost use Rattle.tx_engine.specs.Standing.{limits_of};
+ghost use Rattle.tx_engine.specs.DeviceState.{limits_of};
 ghost use Rattle.tx_engine.specs.Submit.{first_refusals};
 ghost use Rattle.page_keys.specs.Writing.{Writes, WritesNot};
 
 use crate::answers::PutError;
 use flash_model::Flash;
 use record_list::CommitRule;
-use tx_engine::{Device, Progress, SubmitError, held_always};
+use tx_engine::{Device, Progress, SubmitError, device_facts};
 use tx_types::Batch;
 
 /// Writes a batch as one transaction, on a device on which nothing is open. Only a page that has no version left is refused.
@@ -23,20 +23,20 @@ pub(crate) fn write<F: Flash, R: CommitRule>(
     ensures kept { device.new.dropped ≡ false }
 {
     if let Err(refusal) = device.submit(0, batch) {
-        return Err(spent(refusal));
+        return Err(spent_refusal(refusal));
     }
-    held_always(device);
+    device_facts(device);
     'steps: loop {
         match device.step(0) {
             Ok(Progress::Wrote { .. }) => {
-                held_always(device);
+                device_facts(device);
             }
             Ok(Progress::Done) => {
-                held_always(device);
+                device_facts(device);
                 return Ok(());
             }
             Err(_) => {
-                held_always(device);
+                device_facts(device);
                 return Err(PutError::Fault);
             }
         }
@@ -44,7 +44,7 @@ pub(crate) fn write<F: Flash, R: CommitRule>(
 }
 
 /// The refusal of a page that has no version left.
-fn spent(refusal: SubmitError) -> PutError
+fn spent_refusal(refusal: SubmitError) -> PutError
     requires { (page : ℕ) × (refusal ≡ SubmitError.Spent page) }
     ensures { (page : ℕ) → refusal ≡ SubmitError.Spent page → result ≡ PutError.Spent page }
 {

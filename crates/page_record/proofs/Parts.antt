@@ -3,8 +3,8 @@ use Rattle.std.proofs.Common.{◌≡◌, ℕ, ◌+◌, ◌^◌, ◌<◌, ◌≤�
 use Rattle.std.specs.Int.{w32, w64, to_le_bytes}
 use Rattle.std.proofs.lemmas.Bool.{and_parts, eqb-true}
 use Rattle.std.proofs.lemmas.Nat.{le_bytes_4, le_bytes_8}
-use Rattle.list_facts.proofs.Bytes.{IsBytes, IsBytes-range}
-use Rattle.list_facts.proofs.Lists.{length-range}
+use Rattle.list_lemmas.proofs.Bytes.{IsBytes, IsBytes-range}
+use Rattle.list_lemmas.proofs.Lists.{length-range}
 use Rattle.page_record.specs.Rules.{number_at, are_zeros}
 
 -- bytes that are all 0

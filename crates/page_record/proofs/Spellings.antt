@@ -12,9 +12,9 @@ use Rattle.std.proofs.lemmas.Option.{cond_some}
 use Rattle.std.proofs.Math.Bool.{and-false}
 use Rattle.std.proofs.lemmas.Nat.{mod_below, from_le_bytes-to_le_bytes_4, from_le_bytes-to_le_bytes_8}
 use Rattle.std.proofs.lemmas.Slice.Eq.{bytes_eq-Decides}
-use Rattle.list_facts.proofs.Lists.{joined, next_two, split_at, length-range}
-use Rattle.list_facts.proofs.Chunks.{drop_front}
-use Rattle.list_facts.proofs.Bytes.{IsBytes, tested, tests}
+use Rattle.list_lemmas.proofs.Lists.{joined, next_two, split_at, length-range}
+use Rattle.list_lemmas.proofs.Chunks.{drop_front}
+use Rattle.list_lemmas.proofs.Bytes.{IsBytes, tested, tests}
 use Rattle.tx_types.specs.declared.config.Protocol.{Protocol}
 use Rattle.tx_types.specs.declared.config.Protocol.TheVariants.{Scc, Bpcc}
 use Rattle.tx_types.specs.declared.record.Rec.{Rec}

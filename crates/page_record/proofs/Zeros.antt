@@ -4,8 +4,8 @@ use Rattle.std.specs.Int.{w32, w64, to_le_bytes, from_le_bytes}
 use Rattle.std.proofs.lemmas.Bool.{eqb-true, eq-eqb}
 use Rattle.std.proofs.lemmas.List.{take_all, length-drop}
 use Rattle.std.proofs.lemmas.List.Folds.{list_all-append}
-use Rattle.list_facts.proofs.Lists.{split_at, length-range}
-use Rattle.list_facts.proofs.Bytes.{IsBytes}
+use Rattle.list_lemmas.proofs.Lists.{split_at, length-range}
+use Rattle.list_lemmas.proofs.Bytes.{IsBytes}
 use Rattle.page_record.specs.Rules.{number_at, are_zeros}
 use Rattle.page_record.proofs.Parts.{zeros, number_at-w32, number_at-w64}
 

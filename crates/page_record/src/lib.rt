@@ -2,12 +2,12 @@
 #![tactic(auto)]
 
 mod error;
-mod laws;
 mod layout;
 mod reading;
+mod theorems;
 mod writing;
 
 pub use error::SpareError;
-pub use laws::{first_rule, one_spelling, spelled_records};
 pub use reading::read_spare;
+pub use theorems::{first_rule, one_spelling, spelled_records};
 pub use writing::write_spare;

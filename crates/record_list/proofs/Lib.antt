@@ -1,3 +1,4 @@
+mod Common
 pub mod OfFacts
 pub mod OfWalks
 pub mod OfChanges

@@ -19,8 +19,8 @@ abbrev pub linked_at : ℕ → Rec → ℕ
 linked_at page r = if r.next.page == page then r.next.version else 0
 
 -- the greatest version at which a record mentions this page, as its own or as its link's
-abbrev pub mentioned_at : ℕ → Rec → ℕ
-mentioned_at page r = max (version_of page r) (linked_at page r)
+abbrev pub mention_at : ℕ → Rec → ℕ
+mention_at page r = max (version_of page r) (linked_at page r)
 
 -- whether a record mentions this page below a version, by either mention
 abbrev pub mentions_below : ℕ → ℕ → Rec → Bool
@@ -38,7 +38,7 @@ newest list page = greatest (version_of page) list
 
 -- the greatest version at which a record mentions a page, 0 for none
 abbrev pub mention : List Found → ℕ → ℕ
-mention list page = greatest (mentioned_at page) list
+mention list page = greatest (mention_at page) list
 
 -- the greatest version of a page below a version, 0 for none
 abbrev pub next_older : List Found → ℕ → ℕ → ℕ

@@ -7,7 +7,7 @@ use Rattle.tx_types.specs.declared.record.Rec.{Rec}
 use Rattle.tx_types.specs.declared.config.Protocol.{Protocol}
 use Rattle.tx_types.specs.declared.config.Protocol.TheVariants.{Scc, Bpcc}
 use Rattle.record_list.specs.declared.found.Found.{Found}
-use Rattle.record_list.specs.Records.{mentioned_at, name_of, is_present}
+use Rattle.record_list.specs.Records.{mention_at, name_of, is_present}
 use Rattle.record_list.specs.Current.{cur}
 
 -- the names that a transaction writes: distinct pages, each at a version, no more than may be pending
@@ -46,7 +46,7 @@ pub record IsBegun (protocol : Protocol) (list : List Found) (logical : ℕ)
   pub asked : All (λ f. IsAsked protocol list logical names f.rec) list
   pub others :
       All (λ f. (Contains names (name_of f.rec) → ⊥) →
-      All (λ name. mentioned_at name.page f.rec < name.version) names) list
+      All (λ name. mention_at name.page f.rec < name.version) names) list
 
 -- it is begun, and a name is absent
 pub record InProgress (protocol : Protocol) (list : List Found) (logical : ℕ)

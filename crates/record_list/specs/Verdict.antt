@@ -51,9 +51,9 @@ abbrev pub straddling : List Found → Link → ℕ
 straddling list name = greatest (straddling_version name) list
 
 -- what a link below the newest version of its page shows
-abbrev pub passed : Protocol → List Found → Link → Why
-passed Scc list link = Passed
-passed Bpcc list link =
+abbrev pub why_below_newest : Protocol → List Found → Link → Why
+why_below_newest Scc list link = Passed
+why_below_newest Bpcc list link =
     if straddling list link == 0 then Passed else Straddled (straddling list link)
 
 -- a link to a version above, or below, the newest of its page
@@ -68,7 +68,7 @@ abbrev pub walk : Protocol → List Found → Link → ℕ → Link → Why
 walk protocol list start zero link = Absent
 walk protocol list start (suc turns) link =
     if is_ahead list link then Absent
-    else if is_behind list link then passed protocol list link
+    else if is_behind list link then why_below_newest protocol list link
     else if is_same link start then Cycle
     else walk protocol list start turns (link_of list link)
 

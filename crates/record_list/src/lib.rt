@@ -2,20 +2,20 @@
 //! trait of a commit protocol.
 #![tactic(auto)]
 
+mod audit;
 mod count_law;
 mod found;
-mod laws;
 mod plain;
 mod rule;
 mod theorems;
 mod walks;
 
-pub use count_law::counts;
-pub use found::{Breach, Found, Verdict, Why};
-pub use laws::{
+pub use audit::{
     breach_at, first_contradiction, first_early_link, first_misplaced, first_shared_link,
     first_without_current, is_loose, mentions_below,
 };
+pub use count_law::counts;
+pub use found::{Breach, Found, Verdict, Why};
 pub use plain::{mention, newest, next_older, present};
 pub use rule::CommitRule;
 pub use theorems::{

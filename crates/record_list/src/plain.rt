@@ -1,7 +1,7 @@
 #![tactic(auto, using(crate::proofs::OfFacts::Greatest::greatest_step))]
 
 ghost use Rattle.std.specs.Prelude.{◌≡◌};
-ghost use Rattle.record_list.specs.Records.{newest, mention, next_older, is_present, mentioned_at};
+ghost use Rattle.record_list.specs.Records.{newest, mention, next_older, is_present, mention_at};
 
 use crate::Found;
 use tx_types::{Link, Rec};
@@ -25,14 +25,14 @@ pub fn mention(list: &[Found], page: u32) -> u64
 {
     let mut best = 0;
     for found in list {
-        best = best.max(mentioned_at(&found.rec, page));
+        best = best.max(mention_at(&found.rec, page));
     }
     best
 }
 
 /// The greatest version at which this record mentions the page, 0 where it does not.
-fn mentioned_at(rec: &Rec, page: u32) -> u64
-    ensures { result ≡ mentioned_at page rec.now }
+fn mention_at(rec: &Rec, page: u32) -> u64
+    ensures { result ≡ mention_at page rec.now }
 {
     let own = if rec.page == page { rec.version } else { 0 };
     let linked = if rec.next.page == page {

@@ -1,7 +1,7 @@
 #![tactic(auto, using(crate::proofs::OfFacts::Greatest::greatest_step))]
 
 ghost use Rattle.std.specs.Prelude.{◌≡◌};
-ghost use Rattle.record_list.specs.Verdict.{link_of, back_of, straddling, passed, why, verdict_of};
+ghost use Rattle.record_list.specs.Verdict.{link_of, back_of, straddling, why_below_newest, why, verdict_of};
 ghost use Rattle.record_list.specs.Current.{cur};
 
 use crate::{Found, Verdict, Why, newest, next_older};
@@ -47,8 +47,8 @@ pub fn straddling(list: &[Found], name: Link) -> u64
 }
 
 /// What a link shows that leads below the newest version of its page.
-fn passed(protocol: Protocol, list: &[Found], link: Link) -> Why
-    ensures { result ≡ passed protocol list.now link }
+fn why_below_newest(protocol: Protocol, list: &[Found], link: Link) -> Why
+    ensures { result ≡ why_below_newest protocol list.now link }
 {
     match protocol {
         Protocol::Scc => Why::Passed,
@@ -76,7 +76,7 @@ pub fn reason(protocol: Protocol, list: &[Found], logical: u32, page: u32) -> Wh
             return Why::Absent;
         }
         if link.version < top {
-            return passed(protocol, list, link);
+            return why_below_newest(protocol, list, link);
         }
         if link.page == start.page && link.version == start.version {
             return Why::Cycle;

@@ -1,3 +1,4 @@
+mod Common
 pub mod OfScan
 pub mod OfLaws
 pub mod OfLinks

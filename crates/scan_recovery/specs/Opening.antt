@@ -12,8 +12,8 @@ use Rattle.record_list.specs.declared.found.Breach.{Breach}
 use Rattle.record_list.specs.SoundList.{IsSoundList, IsLeastBreach}
 use Rattle.record_list.specs.Counts.{IsLeastMiscount}
 use Rattle.record_list.specs.Written.{HasRemovable}
-use Rattle.die_alloc.specs.BlockTable.{BlockTable}
-use Rattle.version_index.specs.Noted.{Noted, IsNotedFrom, with_spare}
+use Rattle.die_alloc.specs.BlocksState.{BlocksState}
+use Rattle.version_index.specs.IndexState.{IndexState, IsNotedFrom, with_spare}
 use Rattle.flash_model.specs.Readings.{seen_in}
 use Rattle.die_alloc.specs.Opening.{opening_table}
 use Rattle.version_index.specs.Opening.{IsHighest, IsChosenFrom, IsChosenSpare, opening_noted}
@@ -33,11 +33,11 @@ FindsSpare protocol logical shape slots list (Some spare) =
 
 -- what is noted of slots that read so and hold these records, and their block table
 pub record IsOpenedFrom
-    (config : Config) (slots : List Seen) (list : List Found) (noted : Noted)
-    (table : BlockTable) : Type 0 where
+    (config : Config) (slots : List Seen) (list : List Found) (noted : IndexState)
+    (table : BlocksState) : Type 0 where
   pub spare : ℕ
   pub chosen : IsChosenFrom config.protocol config.logical (shape_of config) slots list spare
-  pub scan : Noted
+  pub scan : IndexState
   pub scanned : IsNotedFrom config slots list scan
   pub noted_is : noted ≡ with_spare scan spare
   pub table_is : table ≡ opening_table (shape_of config) slots spare
@@ -52,8 +52,8 @@ IsBroken protocol list logical shape b =
     × IsLeastMiscount list b)
 
 -- the tables of a device that was opened from this image
-pub record IsOpened (config : Config) (image : List Contents) (noted : Noted)
-    (table : BlockTable) : Type 0 where
+pub record IsOpened (config : Config) (image : List Contents) (noted : IndexState)
+    (table : BlocksState) : Type 0 where
   pub spare : ℕ
   pub chosen : IsChosenSpare config image spare
   pub noted_is : noted ≡ opening_noted config image spare

@@ -8,11 +8,11 @@ use Rattle.tx_types.specs.declared.record.Rec.{Rec}
 use Rattle.record_list.specs.declared.found.Found.{Found}
 use Rattle.record_list.specs.Records.{name_of, has_name, is_same, is_present, record_at, nothing}
 use Rattle.record_list.specs.SoundList.{follow, CurrentIsPresent, LinkHasCounted, LooseIsShown, LooseEnds}
-use Rattle.record_chart.specs.Charts.{is_below}
-use Rattle.record_chart.specs.Standings.{Judged}
-use Rattle.record_chart.specs.declared.orbit.Orbit.{Orbit}
-use Rattle.record_chart.specs.Orbits.{AreOrbits}
-use Rattle.record_chart.specs.NameGraph.{name_graph}
+use Rattle.sorted_records.specs.SortedRecords.{is_below}
+use Rattle.sorted_records.specs.CurrentVersions.{CurrentVersionsState}
+use Rattle.sorted_records.specs.declared.orbit.Orbit.{Orbit}
+use Rattle.sorted_records.specs.Orbits.{AreOrbits}
+use Rattle.sorted_records.specs.NameGraph.{name_graph}
 
 -- the lowest slot of a record of which the fact does not hold, nothing where it holds of each
 abbrev pub FindsLowest : (Found → Type 0) → List Found → Option Slot → Type 0
@@ -55,7 +55,7 @@ abbrev pub LeadsOut : List Found → Link → Type 0
 LeadsOut list name = (n : ℕ) × (is_present list (follow list name n) ≡ false)
 
 -- the orbits of all links are known, or the protocol is the one of which law 7 does not speak
-abbrev pub KnowsOrbits : Judged → Option (List Orbit) → Type 0
+abbrev pub KnowsOrbits : CurrentVersionsState → Option (List Orbit) → Type 0
 KnowsOrbits s None = s.protocol ≡ Scc
 KnowsOrbits s (Some orbits) = AreOrbits (name_graph s.list) orbits
 
@@ -112,12 +112,12 @@ HasAbsent list n absent = (k : ℕ) → k < n → slice_index_or (name_graph lis
     Contains absent (slice_index_or list k nothing)
 
 -- a record keeps laws 4 to 7
-pub record IsKept (s : Judged) (f : Found) : Type 0 where
+pub record KeepsLaws (s : CurrentVersionsState) (f : Found) : Type 0 where
   pub present : CurrentIsPresent s.protocol s.list s.logical f
   pub counted : LinkHasCounted s.protocol s.list s.logical f
   pub shown : LooseIsShown s.protocol s.list s.logical f
   pub ends : LooseEnds s.protocol s.list s.logical f
 
 -- each of these records does
-abbrev pub AreKept : Judged → List Found → Type 0
-AreKept s records = All (IsKept s) records
+abbrev pub KeepLaws : CurrentVersionsState → List Found → Type 0
+KeepLaws s records = All (KeepsLaws s) records

@@ -2,17 +2,21 @@
 ghost use Rattle.std.specs.Prelude.{◌↔◌, IsTrue};
 ghost use Rattle.record_list.specs.SoundList.{LooseEnds};
 ghost use Rattle.record_list.specs.Search.{FindsFirst};
-ghost use Rattle.record_chart.specs.Orbits.{AreOrbits};
-ghost use Rattle.record_chart.specs.NameGraph.{name_graph};
+ghost use Rattle.sorted_records.specs.Orbits.{AreOrbits};
+ghost use Rattle.sorted_records.specs.NameGraph.{name_graph};
 ghost use Rattle.scan_recovery.specs.Searches.{KnowsOrbits, LeadsOut};
 
-use record_chart::{Chart, Orbit, Orbits, Standing};
 use record_list::Found;
+use sorted_records::{CurrentVersions, Orbit, Orbits, SortedRecords};
 use tx_types::{Link, Protocol};
 
 /// The index of the first of these records that breaks law 7, which speaks of Back Pointer Cyclic Commit
 /// alone: where it is loose, its links lead to an absent name.
-pub fn endless(standing: &Standing, orbits: &Option<Orbits>, records: &[Found]) -> Option<usize>
+pub fn endless(
+    standing: &CurrentVersions,
+    orbits: &Option<Orbits>,
+    records: &[Found],
+) -> Option<usize>
     requires { KnowsOrbits standing.now orbits.now }
     ensures { let s = standing.now in
         FindsFirst (LooseEnds s.protocol s.list s.logical) records.now result }
@@ -27,7 +31,7 @@ pub fn endless(standing: &Standing, orbits: &Option<Orbits>, records: &[Found]) 
 #[inline(always)]
 #[tactic(auto, unfolding(record_list::specs::SoundList::LooseEnds))]
 pub fn is_ending(
-    standing: &Standing,
+    standing: &CurrentVersions,
     orbits: &Option<Orbits>,
     found: &Found,
     near: &mut usize,
@@ -45,18 +49,23 @@ pub fn is_ending(
 /// Whether the links of a record, if it is loose, lead to an absent name, by the orbits of all links.
 #[inline(always)]
 #[tactic(auto, unfolding(record_list::specs::SoundList::LooseEnds))]
-fn is_ending_by(standing: &Standing, orbits: &Orbits, found: &Found, near: &mut usize) -> bool
+fn is_ending_by(
+    standing: &CurrentVersions,
+    orbits: &Orbits,
+    found: &Found,
+    near: &mut usize,
+) -> bool
     requires { AreOrbits (name_graph standing.now.list) orbits.now }
     ensures { let s = standing.now in
         IsTrue result ↔ LooseEnds s.protocol s.list s.logical found.now }
 {
     standing.protocol() == Protocol::Scc
         || !standing.is_loose(found.rec)
-        || leads_out(standing.chart(), orbits, found.rec.next, near)
+        || leads_out(standing.sorted_records(), orbits, found.rec.next, near)
 }
 
 /// Whether the links from a name lead to an absent one.
-fn leads_out(chart: &Chart, orbits: &Orbits, name: Link, near: &mut usize) -> bool
+fn leads_out(chart: &SortedRecords, orbits: &Orbits, name: Link, near: &mut usize) -> bool
     requires { AreOrbits (name_graph chart.now) orbits.now }
     ensures { IsTrue result ↔ LeadsOut chart.now name }
 {

@@ -4,15 +4,15 @@ ghost use Rattle.record_list.specs.Records.{name_of, record_at};
 ghost use Rattle.record_list.specs.Current.{is_held};
 ghost use Rattle.scan_recovery.specs.Removable.{AreCopies, AreHeld, answerer_by};
 
-use record_chart::Standing;
+use sorted_records::CurrentVersions;
 use std::alloc::{AllocError, Global};
 use tx_types::{Link, Protocol, Rec};
 
 /// For each record whether it is the first of a name that is responsible for a loose record.
-pub fn held_places(alloc: Global, standing: &Standing) -> Result<Vec<bool>, AllocError>
+pub fn held_places(alloc: Global, standing: &CurrentVersions) -> Result<Vec<bool>, AllocError>
     ensures { IfOk result (λ held. AreHeld standing.now standing.now.list held.items) }
 {
-    let records = standing.chart().records();
+    let records = standing.sorted_records().records();
     let mut held = vec![in alloc; false; records.len()]?;
     for at in 0..records.len() {
         if let Some(place) = answerer(standing, records[at].rec) {
@@ -24,7 +24,7 @@ pub fn held_places(alloc: Global, standing: &Standing) -> Result<Vec<bool>, Allo
 
 /// The place of the first record of the name that is responsible for a loose record. There is none for
 /// any other record, and where none is responsible.
-fn answerer(standing: &Standing, rec: Rec) -> Option<u32>
+fn answerer(standing: &CurrentVersions, rec: Rec) -> Option<u32>
     ensures { let s = standing.now in
         result ≡ answerer_by s.protocol s.list s.logical rec }
 {
@@ -37,7 +37,7 @@ fn answerer(standing: &Standing, rec: Rec) -> Option<u32>
             let version = standing.responsible(rec.next);
             if 0 < version {
                 let page = rec.next.page;
-                standing.chart().find(Link { page, version })
+                standing.sorted_records().find(Link { page, version })
             } else {
                 None
             }
@@ -46,14 +46,14 @@ fn answerer(standing: &Standing, rec: Rec) -> Option<u32>
 }
 
 /// Whether a record of the chart is responsible for a loose one.
-pub fn is_held(standing: &Standing, held: &[bool], at: usize) -> bool
+pub fn is_held(standing: &CurrentVersions, held: &[bool], at: usize) -> bool
     requires copies { AreCopies standing.now.list }
     requires held { AreHeld standing.now standing.now.list held.now }
     requires within { at < length standing.now.list }
     ensures { let s = standing.now in
         result ≡ is_held s.protocol s.list s.logical (record_at s.list at) }
 {
-    let chart = standing.chart();
+    let chart = standing.sorted_records();
     let rec = chart.records()[at].rec;
     match chart.find(name_of(rec)) {
         Some(place) => held[place as usize],

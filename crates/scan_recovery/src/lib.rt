@@ -2,10 +2,10 @@
 //! breaks.
 #![tactic(auto)]
 
+mod audit;
 mod endings;
 mod error;
 mod held;
-mod laws;
 mod opening;
 mod own_links;
 mod recovery;

@@ -4,8 +4,8 @@ ghost use Rattle.record_list.specs.Records.{IsScanned};
 ghost use Rattle.record_list.specs.SoundList.{PagesExist, CopiesAgree, IsSoundList};
 ghost use Rattle.record_list.specs.Written.{HasRemovable};
 ghost use Rattle.record_list.specs.Counts.{HasCounts, IsFirstMiscount};
-ghost use Rattle.record_chart.specs.Charts.{Sorts, list_of};
-ghost use Rattle.die_alloc.specs.BlockTable.{IsBlockTable};
+ghost use Rattle.sorted_records.specs.SortedRecords.{Sorts, list_of};
+ghost use Rattle.die_alloc.specs.BlocksState.{IsBlocksState};
 ghost use Rattle.version_index.specs.Notes.{complete_slots};
 ghost use Rattle.die_alloc.specs.Opening.{used_in, opening_table, with_slots};
 ghost use Rattle.record_list.specs.declared.found.Found.{Found};
@@ -16,12 +16,12 @@ ghost use Rattle.scan_recovery.specs.Recovered.{IfUnsound, is_read_failure};
 ghost use Rattle.scan_recovery.specs.Searches.{KnowsOrbits};
 
 use crate::RecoverError;
-use crate::laws::first_breach;
+use crate::audit::first_breach;
 use crate::spare::{chosen_spare, is_blank, slots_in};
 use die_alloc::Blocks;
 use flash_model::Seen;
-use record_chart::{Charted, Orbits, Standing, counts, has_count, name_orbits};
 use record_list::{Breach, CommitRule, Found};
+use sorted_records::{CurrentVersions, Orbits, SortedWithList, counts, has_count, name_orbits};
 use std::alloc::{AllocError, Global};
 use std::mem::drop;
 use tx_types::{Block, BlockState, Config, Memory, Protocol, Shape, Slot};
@@ -34,7 +34,7 @@ pub fn open_tables<R: CommitRule>(
     config: Config,
     shape: Shape,
     seen: Vec<Seen>,
-    charted: Charted,
+    charted: SortedWithList,
 ) -> Result<(Index<R>, Blocks), RecoverError>
     requires check { checked config ≡ Ok shape }
     requires rule { config.protocol ≡ R.protocol }
@@ -55,20 +55,20 @@ pub fn open_tables<R: CommitRule>(
         (IsBroken R.protocol (list_of charted.list charted.chart) config.logical shape)) }
     ensures no_fault { is_read_failure result ≡ false }
 {
-    let Charted { chart, list } = charted;
-    let standing = Standing::new(alloc, chart, config.protocol, config.logical)?;
-    open_standing(alloc, config, shape, seen, list, &standing)
+    let SortedWithList { chart, list } = charted;
+    let standing = CurrentVersions::new(alloc, chart, config.protocol, config.logical)?;
+    open_current_versions(alloc, config, shape, seen, list, &standing)
 }
 
 /// The same, where it is known how the pages stand. The list, where the chart does not have it, is given back before
 /// the tables are made, which may have its place.
-fn open_standing<R: CommitRule>(
+fn open_current_versions<R: CommitRule>(
     alloc: Global,
     config: Config,
     shape: Shape,
     seen: Vec<Seen>,
     list: Option<Vec<Found>>,
-    standing: &Standing,
+    standing: &CurrentVersions,
 ) -> Result<(Index<R>, Blocks), RecoverError>
     requires check { checked config ≡ Ok shape }
     requires rule { config.protocol ≡ R.protocol }
@@ -91,7 +91,7 @@ fn open_standing<R: CommitRule>(
         (IsBroken R.protocol (list_of list standing.now.list) config.logical shape)) }
     ensures no_fault { is_read_failure result ≡ false }
 {
-    let by_slot = standing.chart().list_of(&list);
+    let by_slot = standing.sorted_records().list_of(&list);
     let spare = lawful_spare(alloc, shape, &seen, by_slot, standing)?;
     drop(list);
     let opened = tables_with_spare(alloc, config, shape, &seen, standing, spare)?;
@@ -105,7 +105,7 @@ fn tables_with_spare<R: CommitRule>(
     config: Config,
     shape: Shape,
     seen: &[Seen],
-    standing: &Standing,
+    standing: &CurrentVersions,
     spare: Block,
 ) -> Result<(Index<R>, Blocks), Memory>
     requires check { checked config ≡ Ok shape }
@@ -120,7 +120,7 @@ fn tables_with_spare<R: CommitRule>(
         IfOk result (λ opened. IsOpenedFrom config seen.now list opened.0 opened.1) }
 {
     let blocks = block_table(alloc, shape, seen, spare)?;
-    let mut index = Index::from_standing(alloc, config, seen, standing)?;
+    let mut index = Index::from_current_versions(alloc, config, seen, standing)?;
     index.set_spare(spare);
     Ok((index, blocks))
 }
@@ -132,7 +132,7 @@ fn lawful_spare(
     shape: Shape,
     seen: &[Seen],
     list: &[Found],
-    standing: &Standing,
+    standing: &CurrentVersions,
 ) -> Result<Block, RecoverError>
     requires shape { IsShape shape }
     requires seen { length seen.now ≡ slots_of shape }
@@ -151,7 +151,7 @@ fn lawful_spare(
         IfErr result (λ e. IfUnsound e (IsBroken s.protocol list.now s.logical shape)) }
     ensures no_fault { is_read_failure result ≡ false }
 {
-    let orbits = asked_orbits(alloc, standing, list)?;
+    let orbits = orbits_if_asked(alloc, standing, list)?;
     spare_by_orbits(alloc, shape, seen, list, standing, &orbits)
 }
 
@@ -161,7 +161,7 @@ fn spare_by_orbits(
     shape: Shape,
     seen: &[Seen],
     list: &[Found],
-    standing: &Standing,
+    standing: &CurrentVersions,
     orbits: &Option<Orbits>,
 ) -> Result<Block, RecoverError>
     requires shape { IsShape shape }
@@ -200,9 +200,9 @@ fn spare_by_orbits(
 
 /// Where the links of all records lead, if laws 7 and 9 ask for it: the one speaks of Back Pointer Cyclic
 /// Commit alone, the other of records that have a count.
-fn asked_orbits(
+fn orbits_if_asked(
     alloc: Global,
-    standing: &Standing,
+    standing: &CurrentVersions,
     list: &[Found],
 ) -> Result<Option<Orbits>, AllocError>
     ensures known { IfOk result (KnowsOrbits standing.now) }
@@ -212,11 +212,11 @@ fn asked_orbits(
     if standing.protocol() == Protocol::Scc && !has_count(list) {
         return Ok(None);
     }
-    Ok(Some(name_orbits(alloc, standing.chart())?))
+    Ok(Some(name_orbits(alloc, standing.sorted_records())?))
 }
 
 /// The slot that law 9 names, where it is broken, of a list that keeps law 2.
-fn miscount(standing: &Standing, orbits: &Option<Orbits>, list: &[Found]) -> Option<Breach>
+fn miscount(standing: &CurrentVersions, orbits: &Option<Orbits>, list: &[Found]) -> Option<Breach>
     requires scanned { IsScanned list.now }
     requires sorts { Sorts list.now standing.now.list }
     requires copies { All (CopiesAgree list.now) list.now }
@@ -226,7 +226,7 @@ fn miscount(standing: &Standing, orbits: &Option<Orbits>, list: &[Found]) -> Opt
 {
     match orbits {
         None => None,
-        Some(orbits) => counts(standing.chart(), orbits, list),
+        Some(orbits) => counts(standing.sorted_records(), orbits, list),
     }
 }
 
@@ -254,17 +254,17 @@ fn note_block(blocks: &mut Blocks, slots: &[Seen], block: Block)
     requires exists { block.0 < blocks_of blocks.old.shape }
     requires slots { length slots.now ≡ blocks.old.shape.pages_per_block }
     ensures noted { blocks.new ≡ with_slots blocks.old block.0 slots.now }
-    ensures table { IsBlockTable blocks.new }
+    ensures table { IsBlocksState blocks.new }
 {
     let spare = blocks.spare();
-    let used = used_in(slots);
+    let used = count_used(slots);
     if used > 0 && block != spare {
         blocks.set(block, BlockState::Shut, used);
     }
 }
 
 /// How many of the first slots are used: those up to the last one that is not blank.
-fn used_in(slots: &[Seen]) -> u32
+fn count_used(slots: &[Seen]) -> u32
     requires { length slots.now ≤ 256 }
     ensures used { result ≡ used_in slots.now }
     ensures within { result ≤ length slots.now }

@@ -3,19 +3,19 @@
 
 ghost use Rattle.std.specs.Prelude.{◌≡◌, ℕ, ◌<◌, true, false, length, slice_index_or, slice_set, Some, None, IsNone, IfOk, Contains};
 ghost use Rattle.record_list.specs.Records.{name_of, record_at};
-ghost use Rattle.record_chart.specs.NameGraph.{name_graph};
+ghost use Rattle.sorted_records.specs.NameGraph.{name_graph};
 ghost use Rattle.scan_recovery.specs.Searches.{HaveOwnLinks, HasAbsent, AreLinkedOnce, AreAbsentOnce, IsAsBefore, NotesLink, is_above};
 
 use crate::held::mark;
 use crate::removable::has_name_of;
 use crate::shared_links::lowest_sharer;
-use record_chart::{Chart, sort_by_link};
 use record_list::Found;
+use sorted_records::{SortedRecords, sort_by_link};
 use std::alloc::{AllocError, Global};
 use tx_types::Link;
 
 /// Whether any two records with one link have one name.
-pub fn have_own_links(alloc: Global, chart: &Chart) -> Result<bool, AllocError>
+pub fn have_own_links(alloc: Global, chart: &SortedRecords) -> Result<bool, AllocError>
     ensures { IfOk result (λ own. own ≡ true → HaveOwnLinks chart.now) }
 {
     if !are_linked_once(alloc, chart)? {
@@ -33,7 +33,7 @@ pub fn have_own_links(alloc: Global, chart: &Chart) -> Result<bool, AllocError>
 }
 
 /// Whether any two records whose links lead to one place have one name.
-fn are_linked_once(alloc: Global, chart: &Chart) -> Result<bool, AllocError>
+fn are_linked_once(alloc: Global, chart: &SortedRecords) -> Result<bool, AllocError>
     ensures { IfOk result (λ once. once ≡ true → AreLinkedOnce chart.now (length chart.now)) }
 {
     let records = chart.records();
@@ -88,7 +88,7 @@ fn is_as_before(records: &[Found], targets: &[Option<u32>], place: u32, at: usiz
 }
 
 /// Whether links that lead to no record rise in the order of names, so that no two of them are one.
-fn are_absent_once(chart: &Chart) -> bool
+fn are_absent_once(chart: &SortedRecords) -> bool
     ensures { result ≡ true → AreAbsentOnce chart.now (length chart.now) }
 {
     let records = chart.records();
@@ -118,7 +118,7 @@ fn is_above(top: Option<Link>, link: Link) -> bool
 }
 
 /// The records of which the link leads to no record.
-fn with_absent_links(alloc: Global, chart: &Chart) -> Result<Vec<Found>, AllocError>
+fn with_absent_links(alloc: Global, chart: &SortedRecords) -> Result<Vec<Found>, AllocError>
     ensures { IfOk result (λ absent. HasAbsent chart.now (length chart.now) absent.items) }
 {
     let records = chart.records();

@@ -7,7 +7,7 @@ ghost use Rattle.flash_model.specs.Operations.{moment_of};
 ghost use Rattle.version_index.specs.Images.{IsSoundImage, written_in, IsLeastImageBreach};
 ghost use Rattle.record_list.specs.SoundList.{Copies};
 ghost use Rattle.record_list.specs.Written.{KeepsWritten};
-ghost use Rattle.record_chart.specs.Charts.{Sorts, list_of};
+ghost use Rattle.sorted_records.specs.SortedRecords.{Sorts, list_of};
 ghost use Rattle.scan_recovery.specs.Scans.{IsScanOf, WasScanned};
 ghost use Rattle.scan_recovery.specs.Opening.{IsOpened};
 ghost use Rattle.scan_recovery.specs.Recovered.{IfUnsound, is_read_failure, ReadsFor};
@@ -18,8 +18,8 @@ use crate::scan::{Scanned, scan};
 use crate::twins::first_contradiction;
 use die_alloc::Blocks;
 use flash_model::{Flash, Seen};
-use record_chart::{Chart, Charted};
 use record_list::CommitRule;
+use sorted_records::{SortedRecords, SortedWithList};
 use std::alloc::Global;
 use tx_types::Config;
 use version_index::Index;
@@ -71,7 +71,7 @@ fn sound_scan<F: Flash>(
     alloc: Global,
     flash: &mut F,
     config: Config,
-) -> Result<(Vec<Seen>, Charted), RecoverError>
+) -> Result<(Vec<Seen>, SortedWithList), RecoverError>
     ensures scan { let image = (F.state flash.old).image in
         IfOk result (λ s. IsScanOf config.protocol config.logical image
         s.0.items (list_of s.1.list s.1.chart)) }
@@ -96,7 +96,7 @@ fn sound_scan_by<F: Flash>(
     config: Config,
     one: &mut [u8],
     two: &mut [u8],
-) -> Result<(Vec<Seen>, Charted), RecoverError>
+) -> Result<(Vec<Seen>, SortedWithList), RecoverError>
     requires whole { IsFlash (F.state flash.old) }
     requires one { length one.old ≡ (F.state flash.old).shape.page_bytes }
     requires two { length two.old ≡ (F.state flash.old).shape.page_bytes }
@@ -113,7 +113,7 @@ fn sound_scan_by<F: Flash>(
 {
     let scanned = scan(alloc, flash, config, one)?;
     let Scanned { seen, list } = scanned;
-    let charted = Chart::of_own(alloc, list, config.protocol)?;
+    let charted = SortedRecords::of_own(alloc, list, config.protocol)?;
     match try_law_two(flash, &charted, one, two) {
         Ok(()) => Ok((seen, charted)),
         Err(error) => {
@@ -126,7 +126,7 @@ fn sound_scan_by<F: Flash>(
 /// Tries law 2 of records that were scanned and charted.
 fn try_law_two<F: Flash>(
     flash: &mut F,
-    charted: &Charted,
+    charted: &SortedWithList,
     one: &mut [u8],
     two: &mut [u8],
 ) -> Result<(), RecoverError>

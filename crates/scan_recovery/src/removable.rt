@@ -7,15 +7,15 @@ ghost use Rattle.scan_recovery.specs.Opening.{FindsHighest};
 ghost use Rattle.scan_recovery.specs.Removable.{AreCopies, AreHeld, AreFixed, is_counted, stands_outside, is_fixed};
 
 use crate::held::{held_places, is_held, mark, name_of};
-use record_chart::Standing;
 use record_list::Found;
+use sorted_records::CurrentVersions;
 use std::alloc::{AllocError, Global};
 use tx_types::{Block, Rec, Shape, Slot};
 
 /// The highest removable block, if there is one. Records of one name are equal.
 pub fn highest_removable(
     alloc: Global,
-    standing: &Standing,
+    standing: &CurrentVersions,
     shape: Shape,
 ) -> Result<Option<Block>, AllocError>
     requires copies { AreCopies standing.now.list }
@@ -30,7 +30,11 @@ pub fn highest_removable(
 }
 
 /// For each block whether a record is current or held and stands in this block alone.
-fn fixed_blocks(alloc: Global, standing: &Standing, shape: Shape) -> Result<Vec<bool>, AllocError>
+fn fixed_blocks(
+    alloc: Global,
+    standing: &CurrentVersions,
+    shape: Shape,
+) -> Result<Vec<bool>, AllocError>
     requires copies { AreCopies standing.now.list }
     requires exists { All (λ f. f.slot.0 < slots_of shape) standing.now.list }
     requires shape { IsShape shape }
@@ -38,7 +42,7 @@ fn fixed_blocks(alloc: Global, standing: &Standing, shape: Shape) -> Result<Vec<
 {
     let held = held_places(alloc, standing)?;
     let mut fixed = vec![in alloc; false; shape.blocks() as usize]?;
-    let records = standing.chart().records();
+    let records = standing.sorted_records().records();
     for at in 0..records.len() {
         let block = block_of(shape, records[at].slot);
         if is_fixed(standing, &held, shape, at, block) {
@@ -49,7 +53,13 @@ fn fixed_blocks(alloc: Global, standing: &Standing, shape: Shape) -> Result<Vec<
 }
 
 /// Whether the record at an index is current or held and stands in a block alone.
-fn is_fixed(standing: &Standing, held: &[bool], shape: Shape, at: usize, block: Block) -> bool
+fn is_fixed(
+    standing: &CurrentVersions,
+    held: &[bool],
+    shape: Shape,
+    at: usize,
+    block: Block,
+) -> bool
     requires copies { AreCopies standing.now.list }
     requires held { AreHeld standing.now standing.now.list held.now }
     requires within { at < length standing.now.list }
@@ -57,27 +67,31 @@ fn is_fixed(standing: &Standing, held: &[bool], shape: Shape, at: usize, block: 
     ensures { result ≡ is_fixed standing.now shape
         (slice_index_or standing.now.list at nothing) block.0 }
 {
-    let rec = standing.chart().records()[at].rec;
+    let rec = standing.sorted_records().records()[at].rec;
     is_counted(standing, held, at) && !stands_outside(standing, shape, block, rec)
 }
 
 /// Whether the record at an index is current or held.
-fn is_counted(standing: &Standing, held: &[bool], at: usize) -> bool
+fn is_counted(standing: &CurrentVersions, held: &[bool], at: usize) -> bool
     requires copies { AreCopies standing.now.list }
     requires held { AreHeld standing.now standing.now.list held.now }
     requires within { at < length standing.now.list }
     ensures { result ≡ is_counted standing.now (record_at standing.now.list at) }
 {
-    let rec = standing.chart().records()[at].rec;
+    let rec = standing.sorted_records().records()[at].rec;
     rec.version == standing.current(rec.page) || is_held(standing, held, at)
 }
 
 /// Whether a slot outside a block holds a record of this record's name.
-fn stands_outside(standing: &Standing, shape: Shape, block: Block, rec: Rec) -> bool
+fn stands_outside(standing: &CurrentVersions, shape: Shape, block: Block, rec: Rec) -> bool
     requires { 0 < shape.pages_per_block }
     ensures { result ≡ stands_outside standing.now shape block.0 rec }
 {
-    any_outside(standing.chart().named(name_of(rec)), shape, block)
+    any_outside(
+        standing.sorted_records().with_name(name_of(rec)),
+        shape,
+        block,
+    )
 }
 
 /// Whether one of these records stands outside a block.

@@ -1,14 +1,14 @@
 //! Law 3, by the records in order of their links.
 ghost use Rattle.std.specs.Prelude.{◌≡◌, IfOk, length};
 ghost use Rattle.record_list.specs.Records.{IsScanned};
-ghost use Rattle.record_chart.specs.Charts.{Sorts};
+ghost use Rattle.sorted_records.specs.SortedRecords.{Sorts};
 ghost use Rattle.record_list.specs.SoundList.{LinksDiffer};
 ghost use Rattle.scan_recovery.specs.Searches.{FindsLowest, IsLowestSharer, lower, share_link};
 
 use crate::own_links::have_own_links;
 use crate::removable::has_name_of;
-use record_chart::{Chart, sort_by_link};
 use record_list::Found;
+use sorted_records::{SortedRecords, sort_by_link};
 use std::alloc::{AllocError, Global};
 use tx_types::{Rec, Slot};
 
@@ -16,7 +16,7 @@ use tx_types::{Rec, Slot};
 /// The records are in order of their names too.
 pub fn lowest_shared_link(
     alloc: Global,
-    chart: &Chart,
+    chart: &SortedRecords,
     list: &[Found],
 ) -> Result<Option<Slot>, AllocError>
     requires scanned { IsScanned list.now }

@@ -3,7 +3,7 @@ ghost use Rattle.std.specs.List.{list_all};
 ghost use Rattle.tx_types.specs.Config.{IsShape, slots_of, blocks_of};
 ghost use Rattle.record_list.specs.Records.{IsScanned};
 ghost use Rattle.record_list.specs.SoundList.{CopiesAgree};
-ghost use Rattle.record_chart.specs.Charts.{Sorts};
+ghost use Rattle.sorted_records.specs.SortedRecords.{Sorts};
 ghost use Rattle.version_index.specs.Notes.{complete_slots};
 ghost use Rattle.flash_model.specs.Readings.{reads_blank, seen_in_block};
 ghost use Rattle.version_index.specs.Opening.{IsBlankBlock};
@@ -11,8 +11,8 @@ ghost use Rattle.scan_recovery.specs.Opening.{FindsHighest, FindsSpare};
 
 use crate::removable::highest_removable;
 use flash_model::Seen;
-use record_chart::Standing;
 use record_list::Found;
+use sorted_records::CurrentVersions;
 use std::alloc::{AllocError, Global};
 use tx_types::{Block, Shape};
 
@@ -22,7 +22,7 @@ pub fn chosen_spare(
     alloc: Global,
     seen: &[Seen],
     list: &[Found],
-    standing: &Standing,
+    standing: &CurrentVersions,
     shape: Shape,
 ) -> Result<Option<Block>, AllocError>
     requires scanned { IsScanned list.now }

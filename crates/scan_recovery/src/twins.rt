@@ -3,15 +3,15 @@ ghost use Rattle.tx_types.specs.Config.{slots_of};
 ghost use Rattle.flash_model.specs.Flash.{slot_at};
 ghost use Rattle.flash_model.specs.Calls.{page_of};
 ghost use Rattle.record_list.specs.Search.{FindsFirst};
-ghost use Rattle.record_chart.specs.Charts.{Sorts};
+ghost use Rattle.sorted_records.specs.SortedRecords.{Sorts};
 ghost use Rattle.scan_recovery.specs.Reading.{ReadsAll, ReadsSome};
 ghost use Rattle.scan_recovery.specs.Searches.{NextDiffers};
 ghost use Rattle.scan_recovery.specs.Twins.{lowest_of, is_compared, compared, AgreesWithLowest, compared_to};
 
 use crate::removable::has_name_of;
 use flash_model::{Broken, Flash};
-use record_chart::Chart;
 use record_list::Found;
+use sorted_records::SortedRecords;
 use tx_types::{Link, Rec, Slot};
 
 /// The index of the first record that breaks law 2: it differs from the lowest record of its name,
@@ -20,7 +20,7 @@ use tx_types::{Link, Rec, Slot};
 pub fn first_contradiction<F: Flash>(
     flash: &mut F,
     list: &[Found],
-    chart: &Chart,
+    chart: &SortedRecords,
     one: &mut [u8],
     two: &mut [u8],
 ) -> Result<Option<usize>, Broken>
@@ -63,7 +63,7 @@ fn names_differ(records: &[Found]) -> bool
 /// Whether a record is equal to the lowest one of its name, and so are the bytes of the two slots.
 fn agrees<F: Flash>(
     flash: &mut F,
-    chart: &Chart,
+    chart: &SortedRecords,
     found: Found,
     one: &mut [u8],
     two: &mut [u8],
@@ -93,7 +93,7 @@ fn agrees<F: Flash>(
 }
 
 /// The lowest record of the name that a record has.
-fn lowest_of(chart: &Chart, rec: Rec) -> Option<Found>
+fn lowest_of(chart: &SortedRecords, rec: Rec) -> Option<Found>
     ensures { result ≡ lowest_of chart.now rec }
 {
     let place = chart.find(Link {

@@ -1,6 +1,7 @@
+mod Common
 pub mod OfRecords
-pub mod OfNeeds
+pub mod OfLiveSlots
 pub mod OfSlots
 pub mod OfAnswerers
-pub mod OfWaits
-pub mod OfGiven
+pub mod OfWaitList
+pub mod OfBaseTables

@@ -4,7 +4,7 @@ use Rattle.std.specs.List.{range_with_len}
 use Rattle.record_list.specs.Written.{is_slot}
 
 -- the marks of places, and how many places each group has
-pub record Marks : Type 0 where
+pub record BlockCountsState : Type 0 where
   pub marks : List Bool
   pub size : ℕ
 
@@ -16,17 +16,17 @@ unfoldable pub marked_in : List Bool → ℕ → ℕ → ℕ
 marked_in marks size group = count_by (is_marked marks) (range_with_len (group * size) size)
 
 -- which slots are needed, how many slots a block has, how many blocks there are, and the spare block
-pub record Needed : Type 0 where
+pub record LiveSlotsState : Type 0 where
   pub needed : List Bool
   pub size : ℕ
   pub blocks : ℕ
   pub spare : Option ℕ
 
 -- how many slots of a block are not needed, none where it is the spare
-abbrev pub unmarked_in : Needed → ℕ → ℕ
+abbrev pub unmarked_in : LiveSlotsState → ℕ → ℕ
 unmarked_in n block =
     if is_slot block n.spare then 0 else n.size - marked_in n.needed n.size block
 
 -- of each block
-abbrev pub unmarked_numbers : Needed → List ℕ
+abbrev pub unmarked_numbers : LiveSlotsState → List ℕ
 unmarked_numbers n = map (unmarked_in n) (range_with_len 0 n.blocks)

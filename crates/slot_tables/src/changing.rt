@@ -1,7 +1,7 @@
 ghost use Rattle.std.specs.Prelude.{◌≡◌, ℕ, ◌<◌, [], length, slice_set, Some, None, IfSome, IsSomeAnd};
 ghost use Rattle.tx_types.specs.Config.{slots_of, blocks_of};
 ghost use Rattle.tx_types.specs.declared.record.Rec.{Rec};
-ghost use Rattle.slot_tables.specs.Kept.{record_at, added, given_up, IsNewest, copies_of};
+ghost use Rattle.slot_tables.specs.TablesState.{record_at, added, given_up, IsNewest, copies_of};
 ghost use Rattle.slot_tables.specs.Versions.{HasFree};
 ghost use Rattle.slot_tables.specs.Copies.{HoldsNone, NumbersBelow};
 
@@ -20,8 +20,8 @@ impl Tables {
         ensures within { result < slots_of self.old.shape }
         ensures added { self.new ≡ added self.old result rec.now }
     {
-        let number = self.given.records.add(rec);
-        self.given.settle_home(&mut self.needs, Some(number));
+        let number = self.base.records.add(rec);
+        self.base.refresh_home(&mut self.live, Some(number));
         number
     }
 
@@ -32,7 +32,7 @@ impl Tables {
         requires copies { copies_of self.old.slots number ≡ [] }
         ensures { self.new ≡ given_up self.old page number }
     {
-        self.given.records.give_up(page, number);
+        self.base.records.give_up(page, number);
     }
 
     /// Says what a slot holds. Where it is a record this goes through its copies below the slot.
@@ -55,12 +55,12 @@ impl Tables {
         requires none { HoldsNone to }
         ensures { self.new ≡ record self.old { slots = slice_set self.old.slots at.0 to } }
     {
-        let left = number_in(self.given.slots.get(at.0));
-        self.given.slots.set(at.0, to);
+        let left = number_in(self.base.slots.get(at.0));
+        self.base.slots.set(at.0, to);
         let blank = is_blank(to);
         self.blanks.set(at.0, blank);
-        if self.needs.is_needed(at.0) {
-            self.given.move_need(&mut self.needs, at.0, left);
+        if self.live.is_needed(at.0) {
+            self.base.move_need(&mut self.live, at.0, left);
         }
     }
 
@@ -70,14 +70,14 @@ impl Tables {
         requires number { NumbersBelow (slots_of self.old.shape) to }
         ensures { self.new ≡ record self.old { slots = slice_set self.old.slots at.0 to } }
     {
-        let left = number_in(self.given.slots.get(at.0));
+        let left = number_in(self.base.slots.get(at.0));
         let joined = number_in(to);
-        let old = self.given.home_of(left);
-        let other = self.given.home_of(joined);
-        self.given.slots.set(at.0, to);
+        let old = self.base.home_of(left);
+        let other = self.base.home_of(joined);
+        self.base.slots.set(at.0, to);
         self.blanks.set(at.0, is_blank(to));
-        self.given.settle_moved(&mut self.needs, old, left);
-        self.given.settle_moved(&mut self.needs, other, joined);
+        self.base.refresh_moved(&mut self.live, old, left);
+        self.base.refresh_moved(&mut self.live, other, joined);
     }
 
     /// Says which record of a page is current.
@@ -86,10 +86,10 @@ impl Tables {
         requires number { IfSome to (λ number. number < slots_of self.old.shape) }
         ensures { self.new ≡ record self.old { current = slice_set self.old.current page to } }
     {
-        let before = self.given.current.get(page);
-        self.given.current.set(page, to);
-        self.given.settle_home(&mut self.needs, before);
-        self.given.settle_home(&mut self.needs, to);
+        let before = self.base.current.get(page);
+        self.base.current.set(page, to);
+        self.base.refresh_home(&mut self.live, before);
+        self.base.refresh_home(&mut self.live, to);
     }
 
     /// Says which record answers for a record.
@@ -100,13 +100,13 @@ impl Tables {
         ensures { self.new
             ≡ record self.old { answerers = slice_set self.old.answerers number to } }
     {
-        let before = self.given.answers.get(number);
+        let before = self.base.answers.get(number);
         if before.is_none() && to.is_none() {
             return;
         }
-        self.given.answers.set(number, to);
-        self.given.settle_home(&mut self.needs, before);
-        self.given.settle_home(&mut self.needs, to);
+        self.base.answers.set(number, to);
+        self.base.refresh_home(&mut self.live, before);
+        self.base.refresh_home(&mut self.live, to);
     }
 
     /// Says for which page a record waits.
@@ -116,7 +116,7 @@ impl Tables {
         requires page { IfSome to (λ page. page < length self.old.pages) }
         ensures { self.new ≡ record self.old { waits = slice_set self.old.waits number to } }
     {
-        self.given.waits.set(number, to);
+        self.base.waits.set(number, to);
     }
 
     /// Pins a page at a version, in place of an older one. Version 0 pins none, and no record of the page
@@ -128,11 +128,11 @@ impl Tables {
             r.page ≡ page → 0 < r.version }
         ensures { self.new ≡ record self.old { pins = slice_set self.old.pins page version } }
     {
-        let before = self.given.pinned_number(page);
-        let now = self.given.records.number_of(page, version);
-        self.given.pins[page as usize] = version;
-        self.given.settle_home(&mut self.needs, before);
-        self.given.settle_home(&mut self.needs, now);
+        let before = self.base.pinned_number(page);
+        let now = self.base.records.number_of(page, version);
+        self.base.pins[page as usize] = version;
+        self.base.refresh_home(&mut self.live, before);
+        self.base.refresh_home(&mut self.live, now);
     }
 
     /// Pins a page at no version. None of its records has version 0.
@@ -143,9 +143,9 @@ impl Tables {
             r.page ≡ page → 0 < r.version }
         ensures { self.new ≡ record self.old { pins = slice_set self.old.pins page 0 } }
     {
-        let before = self.given.pinned_number(page);
-        self.given.pins[page as usize] = 0;
-        self.given.settle_home(&mut self.needs, before);
+        let before = self.base.pinned_number(page);
+        self.base.pins[page as usize] = 0;
+        self.base.refresh_home(&mut self.live, before);
     }
 
     /// Makes a block the spare. This goes through the slots of the old and the new spare.
@@ -153,12 +153,12 @@ impl Tables {
         requires { block.0 < blocks_of self.old.shape }
         ensures { self.new ≡ record self.old { spare = Some block.0 } }
     {
-        let before = self.given.spare;
-        self.given.spare = Some(block);
-        self.needs.set_spare(block);
+        let before = self.base.spare;
+        self.base.spare = Some(block);
+        self.live.set_spare(block);
         if let Some(old) = before {
-            self.given.settle_block(&mut self.needs, before, old);
+            self.base.refresh_block(&mut self.live, before, old);
         }
-        self.given.settle_block(&mut self.needs, before, block);
+        self.base.refresh_block(&mut self.live, before, block);
     }
 }

@@ -1,5 +1,5 @@
 ghost use Rattle.std.specs.Prelude.{◌≡◌, ◌<◌, ◌≤◌, length, replicate, slice_set, count_by, None, IfOk};
-ghost use Rattle.slot_tables.specs.Kept.{number_at, is_some_number};
+ghost use Rattle.slot_tables.specs.TablesState.{number_at, is_some_number};
 
 use std::alloc::{AllocError, Global};
 use std::marker::Model;
@@ -16,11 +16,11 @@ impl Model for Current {
 
     ghost Value = { List (Option ℕ) };
 
-    ghost use Rattle.slot_tables.specs.KeptCurrent.{current_of, AreCurrent};
+    ghost use Rattle.slot_tables.specs.Current.{current_of, CurrentInvariant};
 
     ghost view = { current_of };
 
-    ghost invariant = { AreCurrent };
+    ghost invariant = { CurrentInvariant };
 }
 
 impl Current {
@@ -43,7 +43,7 @@ impl Current {
     }
 
     /// How many pages have a current record.
-    pub fn written(&self) -> usize
+    pub fn count_written(&self) -> usize
         ensures { result ≡ count_by is_some_number self.now }
     {
         self.written

@@ -1,6 +1,6 @@
 ghost use Rattle.std.specs.Prelude.{◌≡◌, ◌+◌, ◌<◌, ◌≤◌, [], ◌++◌, length, map, vec_len, vec_capacity};
 ghost use Rattle.tx_types.specs.Config.{slots_of};
-ghost use Rattle.slot_tables.specs.Kept.{copies_of, WaitsBelow};
+ghost use Rattle.slot_tables.specs.TablesState.{copies_of, WaitsBelow};
 ghost use Rattle.slot_tables.specs.Gathered.{block_at, blocks_of_copies, copies_below, AreGathered};
 
 use crate::Tables;
@@ -15,8 +15,8 @@ impl Tables {
         ensures len { vec_len into.new ≡ vec_len into.old + length (copies_of self.now.slots number) }
         ensures room { vec_capacity into.new ≡ vec_capacity into.old }
     {
-        let size = self.given.shape.pages_per_block;
-        self.given.slots.put_blocks(size, number, into);
+        let size = self.base.shape.pages_per_block;
+        self.base.slots.put_blocks(size, number, into);
     }
 
     /// Puts the block of each slot that holds a record which waits for a page at a version below this one
@@ -30,7 +30,7 @@ impl Tables {
         ensures len { vec_len into.new ≡ length into.new.items }
         ensures room { vec_capacity into.new ≡ vec_capacity into.old }
     {
-        let waiting = self.given.waits.by_page();
+        let waiting = self.base.waits.by_page();
         let mut next = waiting.first(page);
         while let Some(number) = next {
             self.put_below(number, below, into);
@@ -47,7 +47,7 @@ impl Tables {
         ensures len { vec_len into.new ≡ vec_len into.old + length (copies_below self.now below number) }
         ensures room { vec_capacity into.new ≡ vec_capacity into.old }
     {
-        if self.given.links_below(number, below) {
+        if self.base.links_below(number, below) {
             self.put_blocks(number, into);
         }
     }

@@ -3,21 +3,21 @@
 //! follows from it is looked up: where a record is read, which slots are needed, and how many are garbage.
 #![tactic(auto)]
 
-mod answers;
+mod base_tables;
+mod block_counts;
 mod changing;
 mod current;
-mod filling;
 mod gathering;
-mod given;
-mod grown;
-mod needs;
+mod lazy_table;
+mod live_slots;
 mod reading;
 mod records;
+mod responsibilities;
 mod slots;
 mod tables;
-mod tally;
-mod waits;
+mod tables_builder;
+mod wait_list;
 
-pub use filling::Filling;
 pub use slots::SlotUse;
 pub use tables::Tables;
+pub use tables_builder::TablesBuilder;

@@ -3,9 +3,9 @@ ghost use Rattle.std.specs.List.{All, slice_get};
 ghost use Rattle.std.specs.Option.{option_map, option_and_then};
 ghost use Rattle.tx_types.specs.Config.{slots_of, blocks_of};
 ghost use Rattle.tx_types.specs.declared.record.Rec.{Rec};
-ghost use Rattle.plain_tables.specs.ChainLists.{next_in};
-ghost use Rattle.plain_tables.specs.Greatest.{greatest, group_of, IsFirstGreatest};
-ghost use Rattle.slot_tables.specs.Kept.{use_at, copies_of, record_at, numbers_at, number_at, home, copy_off, is_answerer, is_wanted, is_needed, garbage_of, garbage_numbers, blanks_of, written_of, WaitsBelow, IsLowestToGo, lower, IsKept};
+ghost use Rattle.dense_tables.specs.LinkedLists.{next_in};
+ghost use Rattle.dense_tables.specs.Greatest.{greatest, group_of, IsFirstGreatest};
+ghost use Rattle.slot_tables.specs.TablesState.{use_at, copies_of, record_at, numbers_at, number_at, home, copy_off, is_answerer, is_wanted, is_needed, garbage_of, garbage_numbers, blanks_of, written_of, WaitsBelow, IsLowestToGo, lower, IsTablesState};
 ghost use Rattle.slot_tables.specs.declared.slots.SlotUse.TheVariants as slot;
 ghost use Rattle.slot_tables.specs.Copies.{NumbersBelow};
 ghost use Rattle.slot_tables.specs.Versions.{Names};
@@ -18,9 +18,9 @@ impl Tables {
     /// The shape of the flash.
     pub fn shape(&self) -> Shape
         ensures shape { result ≡ self.now.shape }
-        ensures kept { IsKept self.now }
+        ensures kept { IsTablesState self.now }
     {
-        self.given.shape
+        self.base.shape
     }
 
     /// What a slot holds.
@@ -29,7 +29,7 @@ impl Tables {
         ensures slot { result ≡ use_at self.now.slots at.0 }
         ensures within { NumbersBelow (slots_of self.now.shape) result }
     {
-        self.given.slots.get(at.0)
+        self.base.slots.get(at.0)
     }
 
     /// The record of a number.
@@ -37,7 +37,7 @@ impl Tables {
         requires { number < slots_of self.now.shape }
         ensures { result ≡ record_at self.now.records number }
     {
-        self.given.records.get(number)
+        self.base.records.get(number)
     }
 
     /// The number of the newest record of a page.
@@ -46,7 +46,7 @@ impl Tables {
         ensures newest { result ≡ slice_get (numbers_at self.now.pages page) 0 }
         ensures within { IfSome result (λ number. number < slots_of self.now.shape) }
     {
-        self.given.records.newest(page)
+        self.base.records.newest(page)
     }
 
     /// The number of the next older record of the page of this one.
@@ -55,7 +55,7 @@ impl Tables {
         ensures { IfSome (record_at self.now.records number) (λ r.
             result ≡ next_in (numbers_at self.now.pages r.page) number) }
     {
-        self.given.records.older(number)
+        self.base.records.older(number)
     }
 
     /// The number of the record of a page with this version. This goes through the records of the page
@@ -67,7 +67,7 @@ impl Tables {
         ensures names { (number : ℕ) (r : Rec) → record_at self.now.records number ≡ Some r →
             Names page version r ↔ (result ≡ Some number) }
     {
-        self.given.records.number_of(page, version)
+        self.base.records.number_of(page, version)
     }
 
     /// The number of the current record of a page.
@@ -76,14 +76,14 @@ impl Tables {
         ensures current { result ≡ number_at self.now.current page }
         ensures within { IfSome result (λ number. number < slots_of self.now.shape) }
     {
-        self.given.current.get(page)
+        self.base.current.get(page)
     }
 
     /// How many pages have a current record.
-    pub fn written(&self) -> usize
+    pub fn count_written(&self) -> usize
         ensures { result ≡ written_of self.now }
     {
-        self.given.current.written()
+        self.base.current.count_written()
     }
 
     /// The number of the record that answers for this one.
@@ -91,7 +91,7 @@ impl Tables {
         requires { number < slots_of self.now.shape }
         ensures { result ≡ number_at self.now.answerers number }
     {
-        self.given.answers.get(number)
+        self.base.answers.get(number)
     }
 
     /// Whether a record answers for another one.
@@ -99,7 +99,7 @@ impl Tables {
         requires { number < slots_of self.now.shape }
         ensures { result ≡ is_answerer self.now.answerers number }
     {
-        self.given.answers.has(number)
+        self.base.answers.has(number)
     }
 
     /// The page that a record waits for.
@@ -107,7 +107,7 @@ impl Tables {
         requires { number < slots_of self.now.shape }
         ensures { result ≡ number_at self.now.waits number }
     {
-        self.given.waits.get(number)
+        self.base.waits.get(number)
     }
 
     /// The number of some record that waits for a page.
@@ -117,10 +117,10 @@ impl Tables {
         ensures none { IfNone result ((number : ℕ) → number_at self.now.waits number ≡ Some page → ⊥) }
         ensures within { IfSome result (λ number. number < slots_of self.now.shape) }
     {
-        if self.given.waits.is_idle() {
+        if self.base.waits.is_idle() {
             return None;
         }
-        self.given.waits.by_page().first(page)
+        self.base.waits.by_page().first(page)
     }
 
     /// The lowest slot of a record that waits for a page at a version below this one.
@@ -130,14 +130,14 @@ impl Tables {
         ensures none { IfNone result ((at number : ℕ) →
             use_at self.now.slots at ≡ slot.Holds number → WaitsBelow self.now page below number → ⊥) }
     {
-        if self.given.waits.is_idle() {
+        if self.base.waits.is_idle() {
             return None;
         }
-        let waiting = self.given.waits.by_page();
+        let waiting = self.base.waits.by_page();
         let mut lowest = None;
         let mut next = waiting.first(page);
         while let Some(number) = next {
-            lowest = lower(lowest, self.given.first_below(number, below));
+            lowest = lower(lowest, self.base.first_below(number, below));
             next = waiting.next(number);
         }
         match lowest {
@@ -147,18 +147,18 @@ impl Tables {
     }
 
     /// The version at which a page is pinned, 0 for none.
-    pub fn pinned(&self, page: u32) -> u64
+    pub fn pinned_version(&self, page: u32) -> u64
         requires { page < length self.now.pages }
         ensures { result ≡ slice_index self.now.pins page }
     {
-        self.given.pins[page as usize]
+        self.base.pins[page as usize]
     }
 
     /// The spare block, once it is chosen.
     pub fn spare(&self) -> Option<Block>
         ensures { option_map (λ block. block.0) result ≡ self.now.spare }
     {
-        self.given.spare
+        self.base.spare
     }
 
     /// The lowest slot that holds the record of a number.
@@ -166,7 +166,7 @@ impl Tables {
         requires { number < slots_of self.now.shape }
         ensures { option_map (λ at. at.0) result ≡ slice_get (copies_of self.now.slots number) 0 }
     {
-        self.given.slots.first(number).map(Slot)
+        self.base.slots.first(number).map(Slot)
     }
 
     /// Where the record of a number is read: its lowest slot outside the spare, or its lowest slot where it
@@ -175,7 +175,7 @@ impl Tables {
         requires { number < slots_of self.now.shape }
         ensures { option_map (λ at. at.0) result ≡ home self.now number }
     {
-        self.given.home_of(Some(number)).map(Slot)
+        self.base.home_of(Some(number)).map(Slot)
     }
 
     /// The lowest slot outside a block that holds the record of a number. This goes through its copies in
@@ -184,9 +184,9 @@ impl Tables {
         requires { number < slots_of self.now.shape }
         ensures { option_map (λ at. at.0) result ≡ copy_off self.now block.0 number }
     {
-        self.given
+        self.base
             .slots
-            .first_off(self.given.shape, Some(block), number)
+            .first_off(self.base.shape, Some(block), number)
             .map(Slot)
     }
 
@@ -196,7 +196,7 @@ impl Tables {
         ensures { option_map (λ at. at.0) result
             ≡ option_and_then (home self.now) (number_at self.now.current page) }
     {
-        self.given.home_of(self.given.current.get(page)).map(Slot)
+        self.base.home_of(self.base.current.get(page)).map(Slot)
     }
 
     /// The lowest slot outside a block that holds the current record of a page.
@@ -205,12 +205,12 @@ impl Tables {
         ensures { option_map (λ at. at.0) result
             ≡ option_and_then (copy_off self.now block.0) (number_at self.now.current page) }
     {
-        match self.given.current.get(page) {
+        match self.base.current.get(page) {
             None => None,
             Some(number) => self
-                .given
+                .base
                 .slots
-                .first_off(self.given.shape, Some(block), number)
+                .first_off(self.base.shape, Some(block), number)
                 .map(Slot),
         }
     }
@@ -220,7 +220,7 @@ impl Tables {
         requires { number < slots_of self.now.shape }
         ensures { result ≡ is_wanted self.now number }
     {
-        self.given.is_wanted(number)
+        self.base.is_wanted(number)
     }
 
     /// Whether a slot is the home of a record that is current, answers for another one, or is pinned.
@@ -228,7 +228,7 @@ impl Tables {
         requires { at.0 < slots_of self.now.shape }
         ensures { result ≡ is_needed self.now at.0 }
     {
-        self.needs.is_needed(at.0)
+        self.live.is_needed(at.0)
     }
 
     /// The number of blank slots of a block.
@@ -245,7 +245,7 @@ impl Tables {
         requires { block.0 < blocks_of self.now.shape }
         ensures { result ≡ garbage_of self.now shut block.0 }
     {
-        let unneeded = self.needs.unneeded(block);
+        let unneeded = self.live.garbage(block);
         if shut {
             return unneeded;
         }
@@ -258,7 +258,7 @@ impl Tables {
         ensures none { IsNone result ↔ All (λ x. x ≡ 0) (garbage_numbers self.now) }
         ensures first { IfSome result (λ block. IsFirstGreatest (garbage_numbers self.now) block.0) }
     {
-        self.needs.most_unneeded()
+        self.live.most_garbage()
     }
 
     /// The most garbage that one of sixteen blocks has if all are shut.
@@ -266,7 +266,7 @@ impl Tables {
         requires { 16 * sixteen < blocks_of self.now.shape }
         ensures { result ≡ greatest (group_of 16 (garbage_numbers self.now) sixteen) }
     {
-        self.needs.most_among(sixteen)
+        self.live.most_garbage_among(sixteen)
     }
 
     /// The most garbage that one of 256 blocks has if all are shut.
@@ -274,7 +274,7 @@ impl Tables {
         requires { 256 * group < blocks_of self.now.shape }
         ensures { result ≡ greatest (group_of 256 (garbage_numbers self.now) group) }
     {
-        self.needs.most_among_256(group)
+        self.live.most_garbage_among_256(group)
     }
 }
 

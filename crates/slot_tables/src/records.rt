@@ -1,12 +1,12 @@
 ghost use Rattle.std.specs.Prelude.{◌≡◌, ℕ, ◌+◌, ◌<◌, ◌≤◌, ◌↔◌, ◌∷◌, [], length, replicate, slice_set, Some, None, IfOk, IfSome, IsSomeAnd};
 ghost use Rattle.std.specs.List.{remove, slice_get};
-ghost use Rattle.plain_tables.specs.ChainLists.{index_in, next_in};
+ghost use Rattle.dense_tables.specs.LinkedLists.{index_in, next_in};
 ghost use Rattle.tx_types.specs.declared.record.Rec.{Rec};
-ghost use Rattle.slot_tables.specs.Kept.{record_at, numbers_at, AreVersions, IsNewest};
+ghost use Rattle.slot_tables.specs.TablesState.{record_at, numbers_at, AreVersions, IsNewest};
 ghost use Rattle.slot_tables.specs.Versions.{Names, HasFree, IsTaken};
 
-use crate::grown::Grown;
-use plain_tables::Chains;
+use crate::lazy_table::LazyTable;
+use dense_tables::LinkedLists;
 use std::alloc::{AllocError, Global};
 use std::marker::Model;
 use tx_types::Rec;
@@ -14,9 +14,9 @@ use tx_types::Rec;
 /// The record of each number, and of each page the numbers of its records, newest first.
 #[derive(Drop)]
 pub struct Records {
-    records: Grown<Option<Rec>>,
+    records: LazyTable<Option<Rec>>,
     /// Behind the pages a list of the numbers that lost their record.
-    lists: Chains,
+    lists: LinkedLists,
     /// How many pages there are.
     pages: u32,
     /// The first of the numbers that never had a record.
@@ -24,15 +24,15 @@ pub struct Records {
 }
 
 impl Model for Records {
-    ghost use Rattle.slot_tables.specs.Versions.{Numbered};
+    ghost use Rattle.slot_tables.specs.Versions.{RecordsState};
 
-    ghost Value = { Numbered };
+    ghost Value = { RecordsState };
 
-    ghost use Rattle.slot_tables.specs.KeptRecords.{numbered_of, AreNumbered};
+    ghost use Rattle.slot_tables.specs.Records.{numbered_of, RecordsInvariant};
 
     ghost view = { numbered_of };
 
-    ghost invariant = { AreNumbered };
+    ghost invariant = { RecordsInvariant };
 }
 
 impl Records {
@@ -44,8 +44,8 @@ impl Records {
             r ≡ record { records = replicate count None; pages = replicate pages [] }) }
     {
         Ok(Records {
-            records: Grown::new(alloc, count, None)?,
-            lists: Chains::new(alloc, pages + 1, count)?,
+            records: LazyTable::new(alloc, count, None)?,
+            lists: LinkedLists::new(alloc, pages + 1, count)?,
             pages,
             unused: 0,
         })
@@ -142,7 +142,7 @@ impl Records {
 
 /// Takes a number out of the list of a key, or the first unused one where the list is empty.
 #[inline(always)]
-fn take_number(lists: &mut Chains, key: u32, unused: &mut u32) -> u32
+fn take_number(lists: &mut LinkedLists, key: u32, unused: &mut u32) -> u32
     requires key { key < length lists.old.lists }
     requires few { unused.old ≤ 65536 }
     ensures { IsTaken lists.old lists.new key unused.old unused.new result }

@@ -3,13 +3,13 @@ ghost use Rattle.std.specs.List.{insert, remove, position_or_len, slice_get};
 ghost use Rattle.std.specs.Option.{option_map};
 ghost use Rattle.record_list.specs.Written.{is_outside_spare};
 ghost use Rattle.tx_types.specs.Config.{IsShape};
-ghost use Rattle.plain_tables.specs.ChainLists.{AreDisjoint, list_of, with_list, index_in, IsListed};
+ghost use Rattle.dense_tables.specs.LinkedLists.{AreDisjoint, list_of, with_list, index_in, IsListed};
 ghost use Rattle.slot_tables.specs.declared.slots.SlotUse.TheVariants as slot;
-ghost use Rattle.slot_tables.specs.Kept.{use_at, copies_of, home_in, number_in, is_blank};
+ghost use Rattle.slot_tables.specs.TablesState.{use_at, copies_of, home_in, number_in, is_blank};
 ghost use Rattle.slot_tables.specs.Gathered.{block_at};
 ghost use Rattle.slot_tables.specs.Copies.{is_above, last_of, HoldsNone, NumbersBelow, Rises};
 
-use plain_tables::Chains;
+use dense_tables::LinkedLists;
 use std::alloc::{AllocError, Global};
 use std::marker::Model;
 use tx_types::{Block, Shape};
@@ -27,7 +27,7 @@ pub enum SlotUse {
 #[derive(Drop)]
 pub struct Slots {
     uses: Vec<SlotUse>,
-    copies: Chains,
+    copies: LinkedLists,
 }
 
 impl Model for Slots {
@@ -36,11 +36,11 @@ impl Model for Slots {
 
     ghost Value = { List SlotUse };
 
-    ghost use Rattle.slot_tables.specs.KeptSlots.{uses_of, AreSlots};
+    ghost use Rattle.slot_tables.specs.Slots.{uses_of, SlotsInvariant};
 
     ghost view = { uses_of };
 
-    ghost invariant = { AreSlots };
+    ghost invariant = { SlotsInvariant };
 }
 
 impl Slots {
@@ -51,7 +51,7 @@ impl Slots {
     {
         Ok(Slots {
             uses: vec![in alloc; SlotUse::Blank; count as usize]?,
-            copies: Chains::new(alloc, count, count)?,
+            copies: LinkedLists::new(alloc, count, count)?,
         })
     }
 
@@ -172,7 +172,7 @@ fn is_in_block(size: u32, block: Block, at: u32) -> bool
 }
 
 /// Puts a place into the rising list of a key, where it is not.
-fn put_in_order(lists: &mut Chains, key: u32, at: u32)
+fn put_in_order(lists: &mut LinkedLists, key: u32, at: u32)
     requires key { key < length lists.old.lists }
     requires place { at < lists.old.places }
     requires rises { Rises (list_of lists.old key) }
@@ -187,7 +187,7 @@ fn put_in_order(lists: &mut Chains, key: u32, at: u32)
 }
 
 /// The last place of a rising list that is below another one.
-fn last_below(lists: &Chains, key: u32, at: u32) -> Option<u32>
+fn last_below(lists: &LinkedLists, key: u32, at: u32) -> Option<u32>
     requires key { key < length lists.now.lists }
     requires rises { Rises (list_of lists.now key) }
     ensures { result ≡ last_of (list_of lists.now key)

@@ -1,11 +1,11 @@
 ghost use Rattle.std.specs.Prelude.{◌≡◌, ◌≤◌, IfOk};
 ghost use Rattle.tx_types.specs.Config.{IsShape, slots_of};
-ghost use Rattle.slot_tables.specs.Kept.{blank_tables};
+ghost use Rattle.slot_tables.specs.TablesState.{blank_tables};
 
-use crate::filling::Filling;
-use crate::given::Given;
-use crate::needs::Needs;
-use crate::tally::Tally;
+use crate::base_tables::BaseTables;
+use crate::block_counts::BlockCounts;
+use crate::live_slots::LiveSlots;
+use crate::tables_builder::TablesBuilder;
 use std::alloc::{AllocError, Global};
 use std::marker::Model;
 use tx_types::Shape;
@@ -15,21 +15,21 @@ use tx_types::Shape;
 /// looked up. All memory is taken when the tables are made.
 #[derive(Drop)]
 pub struct Tables {
-    pub(crate) given: Given,
-    pub(crate) blanks: Tally,
-    pub(crate) needs: Needs,
+    pub(crate) base: BaseTables,
+    pub(crate) blanks: BlockCounts,
+    pub(crate) live: LiveSlots,
 }
 
 impl Model for Tables {
-    ghost use Rattle.slot_tables.specs.Kept.{Kept};
+    ghost use Rattle.slot_tables.specs.TablesState.{TablesState};
 
-    ghost Value = { Kept };
+    ghost Value = { TablesState };
 
-    ghost use Rattle.slot_tables.specs.Tables.{tables_of, AreTables};
+    ghost use Rattle.slot_tables.specs.Tables.{tables_of, TablesInvariant};
 
     ghost view = { tables_of };
 
-    ghost invariant = { AreTables };
+    ghost invariant = { TablesInvariant };
 }
 
 impl Tables {
@@ -39,6 +39,6 @@ impl Tables {
         requires pages { logical ≤ slots_of shape }
         ensures { IfOk result (λ t. t ≡ blank_tables shape logical) }
     {
-        Filling::new(alloc, shape, logical)?.finish(alloc)
+        TablesBuilder::new(alloc, shape, logical)?.finish(alloc)
     }
 }

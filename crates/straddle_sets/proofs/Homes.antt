@@ -5,8 +5,8 @@ use Rattle.std.specs.List.{list_any, position, position_or_len}
 use Rattle.std.specs.Option.{is_some}
 use Rattle.std.proofs.lemmas.Bool.{cases_Bool, both_ways, cond-true, cond-false, or_parts, not_from_true, not_from_false}
 use Rattle.std.proofs.lemmas.List.Folds.{list_any_none}
-use Rattle.list_facts.proofs.Membership.{all_from, Contains-cases, Contains-nil}
-use Rattle.list_facts.proofs.Tests.{any_of}
+use Rattle.list_lemmas.proofs.Membership.{all_from, Contains-cases, Contains-nil}
+use Rattle.list_lemmas.proofs.Tests.{any_of}
 use Rattle.tx_types.specs.declared.record.Rec.{Rec}
 use Rattle.tx_types.specs.declared.config.Protocol.TheVariants.{Bpcc}
 use Rattle.record_list.specs.declared.found.Found.{Found}

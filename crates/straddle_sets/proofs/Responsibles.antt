@@ -3,8 +3,8 @@ use Rattle.std.proofs.Common.{◌≡◌, ℕ, ◌<◌, Bool, ◌&&◌, ltb, List
 use Rattle.std.specs.List.{list_any}
 use Rattle.std.specs.Option.{is_some}
 use Rattle.std.proofs.lemmas.Bool.{and_parts, and_from}
-use Rattle.list_facts.proofs.Tests.{any_of, any_from}
-use Rattle.list_facts.proofs.Values.{one_test}
+use Rattle.list_lemmas.proofs.Tests.{any_of, any_from}
+use Rattle.list_lemmas.proofs.Values.{one_test}
 use Rattle.tx_types.specs.declared.record.Link.{Link}
 use Rattle.tx_types.specs.declared.record.Rec.{Rec}
 use Rattle.tx_types.specs.declared.config.Protocol.TheVariants.{Bpcc}

@@ -1,4 +1,5 @@
-pub mod OfStanding
+mod Common
+pub mod OfDevice
 pub mod OfSettle
 pub mod OfStep
 pub mod OfWrite
@@ -7,6 +8,6 @@ pub mod OfAbort
 pub mod OfCollect
 pub mod OfMount
 pub mod OfTables
-pub mod OfOpenings
+pub mod OfTransactions
 pub mod OfLaws
 pub mod OfStepAll

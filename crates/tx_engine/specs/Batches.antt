@@ -14,8 +14,8 @@ use Rattle.record_list.specs.Records.{is_present}
 use Rattle.record_list.specs.Transaction.{back_version}
 use Rattle.version_index.specs.Images.{IsSoundImage, array_in}
 use Rattle.version_index.specs.Notes.{found_in}
-use Rattle.version_index.specs.Noted.{Noted, block_to_go, programmed}
-use Rattle.die_alloc.specs.BlockTable.{BlockTable, with_slot}
+use Rattle.version_index.specs.IndexState.{IndexState, block_to_go, programmed}
+use Rattle.die_alloc.specs.BlocksState.{BlocksState, with_slot}
 use Rattle.die_alloc.specs.NextSlot.{next_slot_in}
 use Rattle.collector.specs.Looking.{reads_after}
 use Rattle.collector.specs.Settling.{slots_read}
@@ -27,19 +27,19 @@ use Rattle.array_machine.specs.declared.answers.Progress.{Progress}
 use Rattle.tx_engine.specs.ArrayState.{Entry, Pages, idle, put}
 use Rattle.tx_engine.specs.DeviceCalls.{StepsDevice}
 use Rattle.tx_engine.specs.Exits.{Exits, MentionsAtMost, VersionsRise, is_there, plain_writes, settled_writes}
-use Rattle.tx_engine.specs.OpenTable.{Opening}
+use Rattle.tx_engine.specs.OpenTransactionsState.{TransactionState}
 use Rattle.tx_engine.specs.Settling.{is_at_last, is_whole, link_place, with_settlement}
-use Rattle.tx_engine.specs.Standing.{Standing, name_at, write_at}
+use Rattle.tx_engine.specs.DeviceState.{DeviceState, name_at, write_at}
 use Rattle.tx_engine.specs.Step.{settled}
 use Rattle.tx_engine.specs.Writing.{WritesNothing}
 use Rattle.tx_engine.specs.declared.jobs.Job.{Job}
 
 -- the open transactions of a device, each with the names that it writes, in the order of their opening
-abbrev pub openings_of : {F : Type 0} → Standing F → List Opening
-openings_of s = map (λ (e, x). record { entry = e; naming = x }) (zip s.machine.entries s.namings)
+abbrev pub transactions_of : {F : Type 0} → DeviceState F → List TransactionState
+transactions_of s = map (λ (e, x). record { entry = e; naming = x }) (zip s.machine.entries s.namings)
 
 -- the record that a transaction writes next
-abbrev pub record_due : Noted → Opening → Rec
+abbrev pub record_due : IndexState → TransactionState → Rec
 record_due n o =
     let name = name_at o.naming o.entry.done in
     record {
@@ -52,52 +52,52 @@ record_due n o =
     }
 
 -- a transaction is not whole, the record of its next page is not there, and none must go before
-abbrev pub is_ready : Noted → Opening → Bool
+abbrev pub is_ready : IndexState → TransactionState → Bool
 is_ready n o =
     let name = name_at o.naming o.entry.done in
     (not (is_whole o.entry.mark) && not (is_present (found_in n.notes) name))
     && is_none (block_to_go n name.page name.version)
 
 -- the slots that are programmed next in these dies, of those that have room
-abbrev pub slots_next : BlockTable → List ℕ → List Slot
+abbrev pub slots_next : BlocksState → List ℕ → List Slot
 slots_next t dies = filter_map (next_slot_in t) dies
 
 -- The first transactions that are ready, each with the slot of a die of its own: the first one in the lowest die that has room,
 -- and as many as there are such dies at most.
-abbrev pub chosen_from : Noted → BlockTable → List ℕ → List Opening → List (Slot × Opening)
+abbrev pub chosen_from : IndexState → BlocksState → List ℕ → List TransactionState → List (Slot × TransactionState)
 chosen_from n t dies os = zip (slots_next t dies) (take_while (is_ready n) os)
 
-abbrev pub chosen_in : Noted → BlockTable → List Opening → List (Slot × Opening)
+abbrev pub chosen_in : IndexState → BlocksState → List TransactionState → List (Slot × TransactionState)
 chosen_in n t os = chosen_from n t (range_with_len 0 t.shape.dies) os
 
 -- those of a device, by the tables that are known once the place was read whose contents were not known
-abbrev pub chosen_of : {F : Type 0} → (F → FlashState) → Standing F → List (Slot × Opening)
+abbrev pub chosen_of : {F : Type 0} → (F → FlashState) → DeviceState F → List (Slot × TransactionState)
 chosen_of state s =
     let known = with_settlement state s in
-    chosen_in known.noted known.table (openings_of (record known { machine = settled (is_there state s) s.machine }))
+    chosen_in known.noted known.table (transactions_of (record known { machine = settled (is_there state s) s.machine }))
 
 -- the program of a transaction's next page in a slot: the slot and the record
-abbrev pub jobs_of : Noted → List (Slot × Opening) → List Job
+abbrev pub jobs_of : IndexState → List (Slot × TransactionState) → List Job
 jobs_of n chosen = map (λ (at, o). record { slot = at; rec = record_due n o }) chosen
 
 -- the same with all that is programmed
-abbrev pub load_due : Noted → Slot → Opening → Load
+abbrev pub load_due : IndexState → Slot → TransactionState → Load
 load_due n at o = record {
   at = at.0;
   bytes = bytes_in n.config.page_bytes (write_at o.entry o.entry.done);
   spare_area = spelling n.config.protocol (record_due n o);
 }
 
-abbrev pub loads_of : Noted → List (Slot × Opening) → List Load
+abbrev pub loads_of : IndexState → List (Slot × TransactionState) → List Load
 loads_of n chosen = map (λ (at, o). load_due n at o) chosen
 
 -- each of these records is noted
-abbrev pub noted_each : Noted → List Job → Noted
+abbrev pub noted_each : IndexState → List Job → IndexState
 noted_each n [] = n
 noted_each n (job ∷ jobs) = noted_each (programmed n job.slot.0 job.rec) jobs
 
 -- each of their slots is used
-abbrev pub used_each : BlockTable → List Job → BlockTable
+abbrev pub used_each : BlocksState → List Job → BlocksState
 used_each t [] = t
 used_each t (job ∷ jobs) = used_each (with_slot t job.slot.0) jobs
 
@@ -112,8 +112,8 @@ takes_each pages (e ∷ es) = takes_each (put pages (taken_writes e)) es
 
 -- The chosen transactions were written by one fire, which is all that was done to the flash, and their records are noted. Slots
 -- were read to settle alone.
-pub record WritesAtOnce {F : Type 0} (state : F → FlashState) (old new : Standing F)
-    (chosen : List (Slot × Opening)) : Type 0 where
+pub record WritesAtOnce {F : Type 0} (state : F → FlashState) (old new : DeviceState F)
+    (chosen : List (Slot × TransactionState)) : Type 0 where
   pub does :
       let known = with_settlement state old in
       Does (state old.flash).shape (moment_of (state old.flash)) (fire (loads_of known.noted chosen) ∷ [])
@@ -128,14 +128,14 @@ pub record WritesAtOnce {F : Type 0} (state : F → FlashState) (old new : Stand
       ≡ reads_after (slots_read old.noted old.unsure) (state old.flash).reads
 
 -- the first open transaction, if there is one, took a step
-abbrev pub StepsFirst : {F : Type 0} → (F → FlashState) → Standing F → Standing F → Moved → List Entry → Type 0
+abbrev pub StepsFirst : {F : Type 0} → (F → FlashState) → DeviceState F → DeviceState F → Moved → List Entry → Type 0
 StepsFirst state old new answer [] = Unit {0}
 StepsFirst state old new answer (e ∷ es) =
     (answer.moved ≡ 1) × ((progress : Progress) × StepsDevice state old new e.tag (Ok progress))
 
 -- Open transactions went on, as many as it says. Where some were chosen, all of them and no others were written at once; where
 -- none was, the first one took a step.
-pub record MovesDevice {F : Type 0} (state : F → FlashState) (old new : Standing F)
+pub record MovesDevice {F : Type 0} (state : F → FlashState) (old new : DeviceState F)
     (answer : Moved) : Type 0 where
   pub steps : StepsAllAs (is_there state old) old.machine new.machine answer
   pub exits : Exits state old new false
@@ -150,7 +150,7 @@ pub record MovesDevice {F : Type 0} (state : F → FlashState) (old new : Standi
 
 -- A fault was met, and the device is not used any more. The image is sound, and its array is what a cut may leave. Where some
 -- transactions were chosen, nothing was done to the flash but their fire, if it was started.
-pub record DropsDevice {F : Type 0} (state : F → FlashState) (old new : Standing F) : Type 0 where
+pub record DropsDevice {F : Type 0} (state : F → FlashState) (old new : DeviceState F) : Type 0 where
   pub dropped : new.dropped ≡ true
   pub config : new.config ≡ old.config
   pub sound : IsSoundImage old.config.protocol old.config.logical (state new.flash).shape
@@ -168,7 +168,7 @@ pub record DropsDevice {F : Type 0} (state : F → FlashState) (old new : Standi
       (moment_of (state new.flash))
 
 -- Open transactions of a device went on together, or a fault was met.
-pub record StepsAllDevice {F : Type 0} (state : F → FlashState) (old new : Standing F)
+pub record StepsAllDevice {F : Type 0} (state : F → FlashState) (old new : DeviceState F)
     (result : Result Moved Fault) : Type 0 where
   pub moves : IfOk result (MovesDevice state old new)
   pub dropped : OnErr result (DropsDevice state old new)

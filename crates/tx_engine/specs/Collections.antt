@@ -7,13 +7,13 @@ use Rattle.record_list.specs.Current.{IsCurrent, is_held}
 use Rattle.version_index.specs.Images.{records_in}
 use Rattle.tx_engine.specs.ArrayState.{Entry}
 use Rattle.flash_model.specs.Flash.{FlashState, Contents, damaged}
-use Rattle.version_index.specs.Noted.{Noted}
-use Rattle.die_alloc.specs.BlockTable.{BlockTable}
+use Rattle.version_index.specs.IndexState.{IndexState}
+use Rattle.die_alloc.specs.BlocksState.{BlocksState}
 pub use Rattle.collector.specs.Calls.{CollectsOne, CollectsNothing}
 use Rattle.array_machine.specs.declared.answers.Collected.{Collected}
 use Rattle.array_machine.specs.declared.answers.Collected.TheVariants.{One, Nothing}
 
-abbrev pub CollectsTables : FlashState → FlashState → Noted → Noted → BlockTable → BlockTable →
+abbrev pub CollectsTables : FlashState → FlashState → IndexState → IndexState → BlocksState → BlocksState →
     Collected → Type 0
 CollectsTables old new n n' t t' One = CollectsOne old new n n' t t'
 CollectsTables old new n n' t t' Nothing = CollectsNothing old new n n' t t'

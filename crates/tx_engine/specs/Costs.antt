@@ -1,16 +1,16 @@
 -- How many programs and erases a step takes.
 use Rattle.std.specs.Prelude.{◌≡◌, ℕ, ◌+◌, ◌-◌, ◌*◌, ◌≤◌, IfSome}
 use Rattle.flash_model.specs.Flash.{FlashState}
-use Rattle.die_alloc.specs.BlockTable.{IsFull}
+use Rattle.die_alloc.specs.BlocksState.{IsFull}
 use Rattle.collector.specs.Going.{blocks_to_go}
 use Rattle.tx_types.specs.declared.record.Link.{Link}
 use Rattle.tx_engine.specs.Settling.{with_settlement}
-use Rattle.tx_engine.specs.Standing.{Standing}
+use Rattle.tx_engine.specs.DeviceState.{DeviceState}
 use Rattle.tx_engine.specs.Writing.{next_of}
 
 -- The counts rise at most by one collection for each block that holds a record which must go, by one collection
 -- more, and by one program.
-pub record StepCosts {F : Type 0} (state : F → FlashState) (old new : Standing F)
+pub record StepCosts {F : Type 0} (state : F → FlashState) (old new : DeviceState F)
     (name : Link) : Type 0 where
   pub programs : (state new.flash).programs
       ≤ (state old.flash).programs + (blocks_to_go old.noted name.page name.version + 1) *
@@ -23,6 +23,6 @@ pub record StepCosts {F : Type 0} (state : F → FlashState) (old new : Standing
       × ((state new.flash).erases ≡ (state old.flash).erases)
 
 -- the costs of a step, by the tables that are known once the place was read whose contents were not known
-abbrev pub CostsStep : {F : Type 0} → (F → FlashState) → Standing F → Standing F → ℕ → Type 0
+abbrev pub CostsStep : {F : Type 0} → (F → FlashState) → DeviceState F → DeviceState F → ℕ → Type 0
 CostsStep state old new tag =
     IfSome (next_of old tag) (StepCosts state (with_settlement state old) new)

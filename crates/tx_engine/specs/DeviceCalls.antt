@@ -10,7 +10,7 @@ use Rattle.flash_model.specs.Calls.{Carries}
 use Rattle.flash_model.specs.Flash.{FlashState, blank, slot_at}
 use Rattle.flash_model.specs.Operations.{moment_of}
 use Rattle.flash_model.specs.Retiring.{one_more}
-use Rattle.version_index.specs.Noted.{Noted}
+use Rattle.version_index.specs.IndexState.{IndexState}
 use Rattle.collector.specs.declared.unsure.Unsure.TheVariants as unsure
 use Rattle.collector.specs.Looking.{ReadsAtMost, reads_after}
 use Rattle.collector.specs.Matches.{AllOfBlock}
@@ -37,7 +37,7 @@ use Rattle.tx_engine.specs.Opens.{FailsToMount, Mounts, ReadsUnmounted}
 use Rattle.tx_engine.specs.Read.{ReadsFlash, ReadsPage, is_read_fault, read_place}
 use Rattle.tx_engine.specs.Retire.{AnswersRetire, RetireExits, RetireRises, RetireTables, RetiresAs, retire_refusal}
 use Rattle.tx_engine.specs.Settling.{CollectFails, HasTables, settlement_of}
-use Rattle.tx_engine.specs.Standing.{Standing, limits_of}
+use Rattle.tx_engine.specs.DeviceState.{DeviceState, limits_of}
 use Rattle.tx_engine.specs.Step.{AbortsAs, StepsAs}
 use Rattle.tx_engine.specs.Submit.{Submits}
 use Rattle.tx_engine.specs.Writing.{BringsPage, StepNotes, next_of, open_of}
@@ -45,7 +45,7 @@ use Rattle.tx_engine.specs.declared.mount.MountError.{MountError}
 use Rattle.tx_engine.specs.declared.retire.RetireError.{RetireError}
 
 -- A transaction was opened, or refused. All stays but the array machine, the names, and the pins of what is opened.
-pub record SubmitsDevice {F : Type 0} (old new : Standing F) (tag : ℕ) (writes : List PageWrite)
+pub record SubmitsDevice {F : Type 0} (old new : DeviceState F) (tag : ℕ) (writes : List PageWrite)
     (result : Result (Unit {0}) SubmitError) : Type 0 where
   pub submits : Submits (limits_of old.config) (is_spent old.noted.mentions) old.machine new.machine
       tag writes result
@@ -54,13 +54,13 @@ pub record SubmitsDevice {F : Type 0} (old new : Standing F) (tag : ℕ) (writes
 
 -- A flash was mounted, or it comes back as it was.
 pub record MountsDevice {F : Type 0} (state : F → FlashState) (flash : F) (its : Config)
-    (result : Result (Standing F) (F × MountError)) : Type 0 where
+    (result : Result (DeviceState F) (F × MountError)) : Type 0 where
   pub mounted : IfOk result (Mounts state flash its)
   pub failed : IfErr result (λ e. FailsToMount state flash its e.0 e.1)
   pub reads : IfErr result (λ e. ReadsUnmounted state flash its e.0 e.1)
 
 -- A transaction went on by a page, or a fault was met.
-pub record StepsDevice {F : Type 0} (state : F → FlashState) (old new : Standing F) (tag : ℕ)
+pub record StepsDevice {F : Type 0} (state : F → FlashState) (old new : DeviceState F) (tag : ℕ)
     (result : Result Progress StepError) : Type 0 where
   pub steps : StepsAs (is_there state old) old.machine new.machine tag result
   pub exits : Exits state old new (is_step_fault result)
@@ -80,7 +80,7 @@ pub record StepsDevice {F : Type 0} (state : F → FlashState) (old new : Standi
   pub failed : result ≡ Err error.Fault → StepBreaks state old new tag
 
 -- A transaction was given up, or it was too late for that, or a fault was met.
-pub record AbortsDevice {F : Type 0} (state : F → FlashState) (old new : Standing F) (tag : ℕ)
+pub record AbortsDevice {F : Type 0} (state : F → FlashState) (old new : DeviceState F) (tag : ℕ)
     (result : Result Aborted StepError) : Type 0 where
   pub aborts : AbortsAs (is_there state old) old.machine new.machine tag result
   pub exits : Exits state old new (is_abort_fault result)
@@ -96,7 +96,7 @@ pub record AbortsDevice {F : Type 0} (state : F → FlashState) (old new : Stand
       (ReadsAtMost (slots_read old.noted old.unsure) (state old.flash).reads (state new.flash).reads)
 
 -- The block with the most garbage was collected, or there was no garbage, or a fault was met.
-pub record CollectsDevice {F : Type 0} (state : F → FlashState) (old new : Standing F)
+pub record CollectsDevice {F : Type 0} (state : F → FlashState) (old new : DeviceState F)
     (result : Result Collected Fault) : Type 0 where
   pub collects : CollectsAs (is_there state old) old.machine new.machine result
   pub exits : Exits state old new (is_err result)
@@ -112,11 +112,11 @@ pub record CollectsDevice {F : Type 0} (state : F → FlashState) (old new : Sta
       new.machine.entries
 
 -- all slots of a block are blank
-abbrev pub IsBlankBlock : FlashState → Noted → ℕ → Type 0
+abbrev pub IsBlankBlock : FlashState → IndexState → ℕ → Type 0
 IsBlankBlock s n block = AllOfBlock n block (λ slot. slot_at s.image slot ≡ blank)
 
 -- A block was replaced by a fresh one, or that was refused, or a fault was met.
-pub record RetiresDevice {F : Type 0} (state : F → FlashState) (old new : Standing F) (block : ℕ)
+pub record RetiresDevice {F : Type 0} (state : F → FlashState) (old new : DeviceState F) (block : ℕ)
     (result : Result (Unit {0}) RetireError) : Type 0 where
   pub refusal : AnswersRetire
       (retire_refusal (state old.flash).shape (state old.flash).extras block) old new result
@@ -131,7 +131,7 @@ pub record RetiresDevice {F : Type 0} (state : F → FlashState) (old new : Stan
       ((state new.flash).extras ≡ option_map one_more (state old.flash).extras)
 
 -- A page was read as the array has it, or a fault was met. Only the flash may have changed.
-pub record ReadsDevice {F : Type 0} (state : F → FlashState) (old new : Standing F) (page : ℕ)
+pub record ReadsDevice {F : Type 0} (state : F → FlashState) (old new : DeviceState F) (page : ℕ)
     (before into : List ℕ) (result : Result ReadAnswer ReadError) : Type 0 where
   pub reads : ReadsPage old.config.logical old.machine.pages page into result
   pub flash : ReadsFlash state (read_place old.noted old.unsure page) old.flash new.flash before
@@ -141,7 +141,7 @@ pub record ReadsDevice {F : Type 0} (state : F → FlashState) (old new : Standi
   pub stays : new ≡ record old { flash = new.flash }
 
 -- The numbers of a device: those of its array machine, of its flash, and the garbage slots outside the spare.
-pub record TellsDevice {F : Type 0} (state : F → FlashState) (s : Standing F)
+pub record TellsDevice {F : Type 0} (state : F → FlashState) (s : DeviceState F)
     (told : Stats) : Type 0 where
   pub machine : TellsStats s.machine told
   pub programs : told.programs ≡ (state s.flash).programs
@@ -150,6 +150,6 @@ pub record TellsDevice {F : Type 0} (state : F → FlashState) (s : Standing F)
       (range_with_len 0 (blocks_of (shape_of s.config)))
 
 -- The flash of a device was armed, and nothing else changed.
-pub record ArmsDevice {F : Type 0} (old new : Standing F) (Armed : Type 0) : Type 0 where
+pub record ArmsDevice {F : Type 0} (old new : DeviceState F) (Armed : Type 0) : Type 0 where
   pub arms : Armed
   pub stays : new ≡ record old { flash = new.flash }

@@ -9,13 +9,13 @@ use Rattle.flash_model.specs.Calls.{Carries}
 use Rattle.flash_model.specs.Moves.{FlashMoves}
 use Rattle.record_list.specs.Records.{mention}
 use Rattle.version_index.specs.Images.{records_in, current_in}
-use Rattle.version_index.specs.Noted.{Noted, current_of, mention_of}
+use Rattle.version_index.specs.IndexState.{IndexState, current_of, mention_of}
 use Rattle.tx_engine.specs.ArrayState.{ArrayState, Entry, is_doubted, page_at, entry_of}
-pub use Rattle.array_machine.specs.ArrayState.{StandsFor}
+pub use Rattle.array_machine.specs.ArrayState.{Represents}
 use Rattle.array_machine.specs.declared.mark.Mark.{Mark}
 use Rattle.array_machine.specs.declared.mark.Mark.TheVariants.{Plain, Doubt, Whole}
 use Rattle.tx_engine.specs.Step.{settled, doubted}
-use Rattle.tx_engine.specs.Standing.{Standing, Naming}
+use Rattle.tx_engine.specs.DeviceState.{DeviceState, Naming}
 use Rattle.array_machine.specs.declared.answers.Progress.{Progress}
 use Rattle.array_machine.specs.declared.answers.Progress.TheVariants as progress
 use Rattle.array_machine.specs.declared.answers.StepError.{StepError}
@@ -25,13 +25,13 @@ use Rattle.array_machine.specs.declared.answers.Collected.{Collected}
 use Rattle.array_machine.specs.declared.answers.Fault.{Fault}
 
 -- whether the image has another version of the first of these pages than the one that is known
-abbrev pub has_moved : Noted → List Contents → List Link → Bool
+abbrev pub has_moved : IndexState → List Contents → List Link → Bool
 has_moved n image [] = false
 has_moved n image (name ∷ names) =
     not (current_in n.config.protocol n.config.logical image name.page == current_of n name.page)
 
 -- whether the transaction in doubt is there: the image has another version of its first page than the one that is known
-abbrev pub is_there : {F : Type 0} → (F → FlashState) → Standing F → Bool
+abbrev pub is_there : {F : Type 0} → (F → FlashState) → DeviceState F → Bool
 is_there state s =
     list_any (λ (e, x). is_doubted e.mark && has_moved s.noted (state s.flash).image x.names)
     (zip s.machine.entries s.namings)
@@ -65,7 +65,7 @@ is_abort_fault (Err failed.Unknown) = false
 is_abort_fault (Err failed.Fault) = true
 
 -- The version of each page that the array takes rises, and that of every other page stays.
-pub record VersionsRise {F : Type 0} (old new : Standing F) (taken : List PageWrite) : Type 0 where
+pub record VersionsRise {F : Type 0} (old new : DeviceState F) (taken : List PageWrite) : Type 0 where
   pub rises : All (λ w. current_of old.noted w.page < current_of new.noted w.page) taken
   pub stays : (page : ℕ) → page < old.config.logical → All (λ w. w.page ≢ page) taken →
       current_of new.noted page ≡ current_of old.noted page
@@ -76,21 +76,21 @@ IsNamedAt namings page version =
     Any (λ x. Any (λ name. (name.page ≡ page) × (name.version ≡ version)) x.names) namings
 
 -- a mention stays, or rises to the version at which an open transaction names the page
-abbrev pub MentionsRise : Noted → Noted → List Naming → Type 0
+abbrev pub MentionsRise : IndexState → IndexState → List Naming → Type 0
 MentionsRise old new namings =
     (page : ℕ) → page < old.config.logical →
     (mention_of new page ≡ mention_of old page)
     ⊎ ((mention_of old page < mention_of new page) × IsNamedAt namings page (mention_of new page))
 
 -- The state did not settle and no version rose; or it settled, and those rose that settling takes in.
-abbrev pub SettlesOrNot : {F : Type 0} → Bool → Standing F → Standing F → Type 0
+abbrev pub SettlesOrNot : {F : Type 0} → Bool → DeviceState F → DeviceState F → Type 0
 SettlesOrNot there old new =
     ((new.machine.pages ≡ old.machine.pages) × VersionsRise old new [])
     ⊎ ((new.machine.pages ≡ (settled there old.machine).pages)
     × VersionsRise old new (settled_writes there old.machine))
 
 -- which versions rise in a step
-abbrev pub StepRises : {F : Type 0} → Bool → Standing F → Standing F → ℕ →
+abbrev pub StepRises : {F : Type 0} → Bool → DeviceState F → DeviceState F → ℕ →
     Result Progress StepError → Type 0
 StepRises there old new tag (Ok progress) =
     VersionsRise old new (settled_writes there old.machine
@@ -99,19 +99,19 @@ StepRises there old new tag (Err failed.Unknown) = VersionsRise old new []
 StepRises there old new tag (Err failed.Fault) = SettlesOrNot there old new
 
 -- which versions rise in an abort: after a fault all is as before
-abbrev pub AbortRises : {F : Type 0} → Bool → Standing F → Standing F → Result Aborted StepError →
+abbrev pub AbortRises : {F : Type 0} → Bool → DeviceState F → DeviceState F → Result Aborted StepError →
     Type 0
 AbortRises there old new (Ok aborted) = VersionsRise old new (settled_writes there old.machine)
 AbortRises there old new (Err e) = VersionsRise old new []
 
 -- which versions rise in a collection
-abbrev pub CollectRises : {F : Type 0} → Bool → Standing F → Standing F → Result Collected Fault →
+abbrev pub CollectRises : {F : Type 0} → Bool → DeviceState F → DeviceState F → Result Collected Fault →
     Type 0
 CollectRises there old new (Ok collected) = VersionsRise old new (settled_writes there old.machine)
 CollectRises there old new (Err fault) = SettlesOrNot there old new
 
 -- versions never fall, and a page whose version is as it was has the bytes that it had
-abbrev pub VersionsTell : {F : Type 0} → Standing F → Standing F → Type 0
+abbrev pub VersionsTell : {F : Type 0} → DeviceState F → DeviceState F → Type 0
 VersionsTell old new =
     (page : ℕ) → page < old.config.logical →
     (current_of old.noted page < current_of new.noted page)
@@ -120,7 +120,7 @@ VersionsTell old new =
 
 -- What each call that works on the flash keeps of what is known: the configuration, the versions, the mentions, and that
 -- no transaction is named anew. The device is not dropped.
-pub record ExitsTables {F : Type 0} (old new : Standing F) : Type 0 where
+pub record ExitsTables {F : Type 0} (old new : DeviceState F) : Type 0 where
   pub config : new.config ≡ old.config
   pub versions : VersionsTell old new
   pub mentions : MentionsRise old.noted new.noted old.namings
@@ -128,14 +128,14 @@ pub record ExitsTables {F : Type 0} (old new : Standing F) : Type 0 where
   pub kept : new.dropped ≡ false
 
 -- and with it what the flash carries over, and the operations by which its moment moves
-pub record Exits {F : Type 0} (state : F → FlashState) (old new : Standing F)
+pub record Exits {F : Type 0} (state : F → FlashState) (old new : DeviceState F)
     (broken : Bool) : Type 0 where
   pub tables : ExitsTables old new
   pub moves : FlashMoves (state old.flash) (state new.flash) broken
   pub carries : Carries (state old.flash) (state new.flash) broken
 
 -- a page is mentioned in the image at most as the tables have it, or as an open transaction names it
-abbrev pub MentionsAtMost : Noted → List Naming → List Contents → Type 0
+abbrev pub MentionsAtMost : IndexState → List Naming → List Contents → Type 0
 MentionsAtMost n namings image =
     (page : ℕ) → page < n.config.logical →
     (mention (records_in n.config.protocol image) page ≤ mention_of n page)

@@ -3,9 +3,9 @@ use Rattle.std.specs.Prelude.{◌≡◌, ℕ, nat_le, Bool, false, List, [], ◌
 use Rattle.tx_types.specs.Batch.{PageWrite}
 use Rattle.tx_types.specs.Limits.{max_version}
 use Rattle.tx_types.specs.declared.record.Link.{Link}
-use Rattle.version_index.specs.Noted.{Noted}
-use Rattle.tx_engine.specs.OpenTable.{next_name}
-use Rattle.tx_engine.specs.Standing.{Standing, Naming}
+use Rattle.version_index.specs.IndexState.{IndexState}
+use Rattle.tx_engine.specs.OpenTransactionsState.{next_name}
+use Rattle.tx_engine.specs.DeviceState.{DeviceState, Naming}
 use Rattle.array_machine.specs.declared.answers.SubmitError.{SubmitError}
 
 -- the page has no version left
@@ -18,14 +18,14 @@ with_pins pins [] = pins
 with_pins pins (name ∷ names) = with_pins (slice_set pins name.page name.version) names
 
 -- the names of the open transactions after a batch, which is named where it was opened
-abbrev pub named_after : Noted → List PageWrite → Result (Unit {0}) SubmitError → List Naming →
+abbrev pub named_after : IndexState → List PageWrite → Result (Unit {0}) SubmitError → List Naming →
     List Naming
 named_after n writes (Ok u) namings =
     namings ++ record { names = map (next_name n) writes; noted_count = 0 } ∷ []
 named_after n writes (Err e) namings = namings
 
 -- Only the array machine, the names and the pins may have changed. The device is not dropped.
-pub record KeepsTables {F : Type 0} (old new : Standing F) : Type 0 where
+pub record KeepsTables {F : Type 0} (old new : DeviceState F) : Type 0 where
   pub flash : new.flash ≡ old.flash
   pub config : new.config ≡ old.config
   pub table : new.table ≡ old.table

@@ -12,8 +12,8 @@ use Rattle.scan_recovery.specs.Recovered.{reads_again}
 use Rattle.scan_recovery.specs.Twins.{compared}
 use Rattle.collector.specs.declared.unsure.Unsure.TheVariants as unsure
 use Rattle.tx_engine.specs.ArrayState.{idle}
-use Rattle.tx_engine.specs.Standing.{Standing}
-use Rattle.tx_engine.specs.Stored.{Stored}
+use Rattle.tx_engine.specs.DeviceState.{DeviceState}
+use Rattle.tx_engine.specs.StoreState.{StoreState}
 use Rattle.tx_engine.specs.declared.mount.MountError.{MountError}
 use Rattle.tx_engine.specs.declared.mount.MountError.TheVariants as mount
 
@@ -24,7 +24,7 @@ mount_reads its s = slots_of s.shape + 2 * compared (records_in its.protocol s.i
 
 -- The device stands for the array of the image, with nothing open. Its tables are those of the image, and it is not dropped.
 pub record Mounts {F : Type 0} (state : F → FlashState) (flash : F) (its : Config)
-    (s : Standing F) : Type 0 where
+    (s : DeviceState F) : Type 0 where
   pub config : s.config ≡ its
   pub machine : s.machine ≡ idle (array_in its.protocol its.logical (state flash).image)
   pub namings : s.namings ≡ []
@@ -60,7 +60,7 @@ ReadsUnmounted state flash its new mount.Memory =
 
 -- The tables are those of the image, which stays.
 pub record StoresOpened {F : Type 0} (state : F → FlashState) (flash : F) (its : Config)
-    (s : Stored F) : Type 0 where
+    (s : StoreState F) : Type 0 where
   pub tables : IsOpened its (state flash).image s.noted s.table
   pub unsure : s.unsure ≡ unsure.Nothing
   pub moment : moment_of (state s.flash) ≡ moment_of (state flash)

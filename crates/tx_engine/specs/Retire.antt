@@ -6,23 +6,23 @@ use Rattle.tx_types.specs.declared.config.Shape.{Shape}
 use Rattle.flash_model.specs.declared.flash.Broken.{Broken}
 use Rattle.flash_model.specs.Flash.{FlashState, Extras}
 use Rattle.flash_model.specs.Retiring.{CarriesRetiring, MayRetire, RetiresAfter, RetiresTorn}
-use Rattle.version_index.specs.Noted.{current_of}
-use Rattle.collector.specs.Going.{IsTreated}
+use Rattle.version_index.specs.IndexState.{current_of}
+use Rattle.collector.specs.Going.{IsEvicted}
 use Rattle.collector.specs.Looking.{reads_after}
 use Rattle.collector.specs.Preserves.{Preserves}
 use Rattle.collector.specs.Retiring.{RetiresBlock, RetiresNone, RetiringBreaks, moved_slots, retiring_first}
 use Rattle.collector.specs.Settling.{slots_read}
-use Rattle.collector.specs.Store.{IsSure}
+use Rattle.collector.specs.StoreParts.{IsSure}
 use Rattle.tx_engine.specs.ArrayState.{ArrayState}
 use Rattle.tx_engine.specs.Breaking.{BreaksThen}
 use Rattle.tx_engine.specs.Calls.{IsReady}
 use Rattle.tx_engine.specs.Exits.{ExitsTables, VersionsRise, SettlesOrNot, settled_writes}
-use Rattle.tx_engine.specs.OpenTable.{OpenTable}
+use Rattle.tx_engine.specs.OpenTransactionsState.{OpenTransactionsState}
 use Rattle.tx_engine.specs.Settling.{StaysUnread, settlement_of}
-use Rattle.tx_engine.specs.Standing.{Standing, Stands}
+use Rattle.tx_engine.specs.DeviceState.{DeviceState, Stands}
 use Rattle.tx_engine.specs.Step.{settled}
-use Rattle.tx_engine.specs.Stored.{Stored, store_in}
-use Rattle.tx_engine.specs.Tables.{standing_in}
+use Rattle.tx_engine.specs.StoreState.{StoreState, store_in}
+use Rattle.tx_engine.specs.Tables.{device_in}
 use Rattle.tx_engine.specs.declared.retire.RetireError.{RetireError}
 use Rattle.tx_engine.specs.declared.retire.RetireError.TheVariants as failed
 
@@ -45,7 +45,7 @@ IsDoneOrFault (Err (failed.Worn allowance)) = ⊥
 IsDoneOrFault (Err failed.Fault) = Unit {0}
 
 -- where there is a refusal it is the answer, and nothing changes; else the block is retired, or there is a fault
-abbrev pub AnswersRetire : {F : Type 0} → Option RetireError → Standing F → Standing F →
+abbrev pub AnswersRetire : {F : Type 0} → Option RetireError → DeviceState F → DeviceState F →
     Result (Unit {0}) RetireError → Type 0
 AnswersRetire None old new result = IsDoneOrFault result
 AnswersRetire (Some refusal) old new result = (result ≡ Err refusal) × (new ≡ old)
@@ -58,7 +58,7 @@ RetiresAs there old new (Err (failed.Worn allowance)) = new ≡ old
 RetiresAs there old new (Err failed.Fault) = (new ≡ old) ⊎ (new ≡ settled there old)
 
 -- which versions rise: those of the transaction in doubt, where it settles
-abbrev pub RetireRises : {F : Type 0} → Bool → Standing F → Standing F →
+abbrev pub RetireRises : {F : Type 0} → Bool → DeviceState F → DeviceState F →
     Result (Unit {0}) RetireError → Type 0
 RetireRises there old new (Ok done) = VersionsRise old new (settled_writes there old.machine)
 RetireRises there old new (Err failed.Range) = VersionsRise old new []
@@ -73,7 +73,7 @@ is_retire_fault (Err failed.Fault) = true
 
 -- What was done to the flash. After Ok these operations, by the tables that are known once the place is settled, and then the
 -- block was replaced. After a fault operations of which the last may be broken, or all of them and then a replacement that broke.
-abbrev pub RetireEnds : {F : Type 0} → (F → FlashState) → Standing F → Standing F → ℕ →
+abbrev pub RetireEnds : {F : Type 0} → (F → FlashState) → DeviceState F → DeviceState F → ℕ →
     Result (Unit {0}) RetireError → Type 0
 RetireEnds state old new block (Ok done) =
     let found = settlement_of state old in
@@ -86,7 +86,7 @@ RetireEnds state old new block (Err failed.Fault) =
     ⊎ RetiresTorn (state old.flash) (state new.flash) block
 
 -- what retiring a block keeps of what is known, what it did to the flash, and what the flash carries over
-pub record RetireExits {F : Type 0} (state : F → FlashState) (old new : Standing F) (block : ℕ)
+pub record RetireExits {F : Type 0} (state : F → FlashState) (old new : DeviceState F) (block : ℕ)
     (result : Result (Unit {0}) RetireError) : Type 0 where
   pub tables : ExitsTables old new
   pub ends : RetireEnds state old new block result
@@ -94,9 +94,9 @@ pub record RetireExits {F : Type 0} (state : F → FlashState) (old new : Standi
 
 -- What retiring a block does to the tables that are known once the place was read, each of its slots once: as where the block is
 -- collected, or erased where it is the spare. Each slot that is copied is read once.
-pub record RetiresKnown {F : Type 0} (state : F → FlashState) (old new : Standing F)
+pub record RetiresKnown {F : Type 0} (state : F → FlashState) (old new : DeviceState F)
     (block : ℕ) : Type 0 where
-  pub treated : IsTreated (settlement_of state old).noted (settlement_of state old).table block
+  pub treated : IsEvicted (settlement_of state old).noted (settlement_of state old).table block
       new.noted new.table
   pub reads : (state new.flash).reads ≡ reads_after
       (length (moved_slots (settlement_of state old).noted (settlement_of state old).table.spare block))
@@ -104,7 +104,7 @@ pub record RetiresKnown {F : Type 0} (state : F → FlashState) (old new : Stand
 
 -- The place was read, and by the tables that are known then retiring the block broke off. The blocks are as they were known, and
 -- what was noted then is kept.
-pub record RetiringFails {F : Type 0} (state : F → FlashState) (old new : Standing F)
+pub record RetiringFails {F : Type 0} (state : F → FlashState) (old new : DeviceState F)
     (block : ℕ) : Type 0 where
   pub breaks : BreaksThen state old (λ between.
       RetiringBreaks (settlement_of state old).noted between (state new.flash)
@@ -113,7 +113,7 @@ pub record RetiringFails {F : Type 0} (state : F → FlashState) (old new : Stan
   pub kept : Preserves (settlement_of state old).noted new.noted
 
 -- What becomes of the tables. After a fault the place could not be read, or it was read and then retiring the block broke off.
-abbrev pub RetireTables : {F : Type 0} → (F → FlashState) → Standing F → Standing F → ℕ →
+abbrev pub RetireTables : {F : Type 0} → (F → FlashState) → DeviceState F → DeviceState F → ℕ →
     Result (Unit {0}) RetireError → Type 0
 RetireTables state old new block (Ok done) = RetiresKnown state old new block
 RetireTables state old new block (Err failed.Range) = new ≡ old
@@ -122,7 +122,7 @@ RetireTables state old new block (Err failed.Fault) =
     StaysUnread state old new ⊎ RetiringFails state old new block
 
 -- What is left of a settled device: it stands for the same array, no version changed, and what is noted is kept.
-pub record LeavesTables {F : Type 0} (state : F → FlashState) (old new : Standing F) : Type 0 where
+pub record LeavesTables {F : Type 0} (state : F → FlashState) (old new : DeviceState F) : Type 0 where
   pub stands : Stands state new
   pub machine : new.machine ≡ old.machine
   pub tables : ExitsTables old new
@@ -137,21 +137,21 @@ pub record RefusesRetiring (s : FlashState) (block : ℕ) (result : Option Retir
   pub left : IfNone result (MayRetire s)
 
 -- The tables match the flash and no place is unsure, and a block exists and may be retired.
-pub record CanRetire {F : Type 0} (state : F → FlashState) (p : Protocol) (s : Stored F)
+pub record CanRetire {F : Type 0} (state : F → FlashState) (p : Protocol) (s : StoreState F)
     (block : ℕ) : Type 0 where
   pub sure : IsSure p (store_in state s)
   pub exists : block < blocks_of (shape_of s.noted.config)
   pub left : MayRetire (state s.flash)
 
 -- a block of a settled device exists and may be retired
-pub record CanRetireSettled {F : Type 0} (state : F → FlashState) (p : Protocol) (S : Stored F)
-    (O : OpenTable) (block : ℕ) : Type 0 where
+pub record CanRetireSettled {F : Type 0} (state : F → FlashState) (p : Protocol) (S : StoreState F)
+    (O : OpenTransactionsState) (block : ℕ) : Type 0 where
   pub ready : IsReady state p S O
   pub exists : block < blocks_of (shape_of S.noted.config)
   pub left : MayRetire (state S.flash)
 
 -- A settled device retired a block.
-pub record RetiresSettled {F : Type 0} (state : F → FlashState) (p : Protocol) (S S' : Stored F)
-    (O : OpenTable) (block : ℕ) (result : Result (Unit {0}) Broken) : Type 0 where
-  pub left : LeavesTables state (standing_in state S O) (standing_in state S' O)
+pub record RetiresSettled {F : Type 0} (state : F → FlashState) (p : Protocol) (S S' : StoreState F)
+    (O : OpenTransactionsState) (block : ℕ) (result : Result (Unit {0}) Broken) : Type 0 where
+  pub left : LeavesTables state (device_in state S O) (device_in state S' O)
   pub retires : RetiresBlock p (store_in state S) (store_in state S') block result

@@ -13,37 +13,37 @@ use Rattle.record_list.specs.Records.{name_of}
 use Rattle.record_list.specs.Transaction.{back_version}
 use Rattle.record_list.specs.Written.{PageText}
 use Rattle.version_index.specs.Notes.{found_in}
-use Rattle.version_index.specs.Noted.{Noted, block_to_go, programmed}
-use Rattle.die_alloc.specs.BlockTable.{BlockTable, IsFull, with_slot}
+use Rattle.version_index.specs.IndexState.{IndexState, block_to_go, programmed}
+use Rattle.die_alloc.specs.BlocksState.{BlocksState, IsFull, with_slot}
 use Rattle.die_alloc.specs.NextSlot.{next_slot, after_next_slot}
 use Rattle.collector.specs.Collecting.{CollectsForRoom}
-use Rattle.collector.specs.Going.{blocks_to_go, TreatsAll}
+use Rattle.collector.specs.Going.{blocks_to_go, EvictsAll}
 use Rattle.collector.specs.Looking.{reads_after}
 use Rattle.collector.specs.Preserves.{IsThere, Preserves}
 use Rattle.collector.specs.Settling.{slots_read}
 use Rattle.tx_engine.specs.ArrayState.{Entry, has_tag}
 use Rattle.tx_engine.specs.Settling.{AddsOnly, HasTables, StaysUnread, link_place, settlement_of, with_settlement}
-use Rattle.tx_engine.specs.Standing.{Standing, Naming, name_at, text_in, write_at}
+use Rattle.tx_engine.specs.DeviceState.{DeviceState, Naming, name_at, text_in, write_at}
 use Rattle.array_machine.specs.declared.answers.Progress.{Progress}
 use Rattle.array_machine.specs.declared.answers.StepError.{StepError}
 
 -- the open transaction with a tag and the names that it writes, if there is one
-abbrev pub open_of : {F : Type 0} → Standing F → ℕ → Option (Entry × Naming)
+abbrev pub open_of : {F : Type 0} → DeviceState F → ℕ → Option (Entry × Naming)
 open_of s tag = find (λ (e, x). has_tag tag e) (zip s.machine.entries s.namings)
 
 -- the name that it writes next
-abbrev pub next_of : {F : Type 0} → Standing F → ℕ → Option Link
+abbrev pub next_of : {F : Type 0} → DeviceState F → ℕ → Option Link
 next_of s tag = option_map (λ (e, x). name_at x e.done) (open_of s tag)
 
 -- The record of the next page was there already: the tables are the settled ones but for the pins, and no slot was read but to
 -- settle.
-pub record WritesNothing {F : Type 0} (state : F → FlashState) (old new : Standing F) : Type 0 where
+pub record WritesNothing {F : Type 0} (state : F → FlashState) (old new : DeviceState F) : Type 0 where
   pub tables : HasTables (settlement_of state old) new
   pub reads : (state new.flash).reads
       ≡ reads_after (slots_read old.noted old.unsure) (state old.flash).reads
 
 -- A slot is found for a record: where a block has room it is the next one, and else the next one after a collection.
-pub record TakesSlot (n : Noted) (t : BlockTable) (n' : Noted) (t' : BlockTable)
+pub record TakesSlot (n : IndexState) (t : BlocksState) (n' : IndexState) (t' : BlocksState)
     (at : Slot) : Type 0 where
   pub direct : (IsFull t → ⊥) → (next_slot t ≡ Some at) × (n' ≡ n) × (t' ≡ after_next_slot t)
   pub collects : IsFull t → CollectsForRoom n t n' t' at
@@ -68,17 +68,17 @@ due_record page_bytes e x = record {
 -- nothing was done. Then a slot was found. There the record was programmed that is asked for, with the bytes of its page, and it
 -- is noted there. That program came last. Where nothing had to go and a block had room, it is all that was done to the
 -- flash.
-pub record WritesRecord {F : Type 0} (state : F → FlashState) (known new : Standing F)
+pub record WritesRecord {F : Type 0} (state : F → FlashState) (known new : DeviceState F)
     (asked : DueRecord) : Type 0 where
-  pub cleared : Noted
-  pub cleared_table : BlockTable
+  pub cleared : IndexState
+  pub cleared_table : BlocksState
   pub kept : Preserves known.noted cleared
-  pub turns : TreatsAll asked.name.page asked.name.version known.noted known.table cleared cleared_table
+  pub turns : EvictsAll asked.name.page asked.name.version known.noted known.table cleared cleared_table
   pub idle : blocks_to_go known.noted asked.name.page asked.name.version ≡ 0 →
       (cleared ≡ known.noted) × (cleared_table ≡ known.table)
   pub clear : block_to_go cleared asked.name.page asked.name.version ≡ None
-  pub open_noted : Noted
-  pub open_table : BlockTable
+  pub open_noted : IndexState
+  pub open_table : BlocksState
   pub at : Slot
   pub slot : TakesSlot cleared cleared_table open_noted open_table at
   pub rec : Rec
@@ -102,7 +102,7 @@ pub record WritesRecord {F : Type 0} (state : F → FlashState) (known new : Sta
   pub table : new.table ≡ with_slot open_table at.0
 
 -- what a step did that answered, of a transaction with these names: the record of its next page was there, or was written
-pub record BringsPage {F : Type 0} (state : F → FlashState) (old new : Standing F) (e : Entry)
+pub record BringsPage {F : Type 0} (state : F → FlashState) (old new : DeviceState F) (e : Entry)
     (x : Naming) : Type 0 where
   pub there : IsThere (settlement_of state old).noted (name_at x e.done) →
       WritesNothing state old new
@@ -111,7 +111,7 @@ pub record BringsPage {F : Type 0} (state : F → FlashState) (old new : Standin
 
 -- Which records a step notes: that of its next page at most. Where it failed the place could not be read, or what was known
 -- then is kept, and no record is new.
-abbrev pub StepNotes : {F : Type 0} → (F → FlashState) → Standing F → Standing F → ℕ →
+abbrev pub StepNotes : {F : Type 0} → (F → FlashState) → DeviceState F → DeviceState F → ℕ →
     Result Progress StepError → Type 0
 StepNotes state old new tag (Ok progress) =
     IfSome (next_of old tag) (λ name. AddsOnly name (settlement_of state old).noted new.noted)

@@ -17,17 +17,17 @@ impl<F: Flash, R: CommitRule> Device<F, R> {
         requires kept { self.old.dropped ≡ false }
         ensures { AbortsDevice F.state self.old self.new tag result }
     {
-        let Some(at) = self.openings.position(tag) else {
+        let Some(at) = self.transactions.position(tag) else {
             return Err(StepError::Unknown);
         };
-        let Ok(()) = settle(&mut self.store, &mut self.openings) else {
+        let Ok(()) = settle(&mut self.store, &mut self.transactions) else {
             return Err(StepError::Fault);
         };
-        let aborted = match self.openings.mark(at) {
+        let aborted = match self.transactions.mark(at) {
             Mark::Whole => Aborted::Late,
             Mark::Plain | Mark::Doubt => Aborted::Gone,
         };
-        close(&mut self.store, &mut self.openings, at);
+        close(&mut self.store, &mut self.transactions, at);
         Ok(aborted)
     }
 }

@@ -2,18 +2,18 @@ ghost use Rattle.std.specs.Prelude.{◌≡◌, false};
 ghost use Rattle.tx_engine.specs.Always.{HoldsAlways};
 
 use crate::Device;
-use crate::laws::{cuts_leave, devices_stand};
+use crate::theorems::{crash_states, device_invariant};
 use flash_model::Flash;
 use record_list::CommitRule;
 use tx_types::Config;
 
 /// The configuration of a device that is not dropped, and what holds of its flash whatever was broken before.
-pub fn held_always<F: Flash, R: CommitRule>(device: &Device<F, R>) -> Config
+pub fn device_facts<F: Flash, R: CommitRule>(device: &Device<F, R>) -> Config
     requires kept { device.now.dropped ≡ false }
     ensures config { result ≡ device.now.config }
     ensures always { HoldsAlways F.state R.protocol device.now }
 {
-    devices_stand::<F, R>();
-    cuts_leave::<F, R>();
+    device_invariant::<F, R>();
+    crash_states::<F, R>();
     device.config()
 }

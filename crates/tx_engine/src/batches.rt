@@ -1,25 +1,25 @@
 ghost use Rattle.std.specs.Prelude.{◌≡◌, ◌<◌, ◌≤◌, false, length, vec_capacity};
-ghost use Rattle.die_alloc.specs.BlockTable.{with_slot};
+ghost use Rattle.die_alloc.specs.BlocksState.{with_slot};
 ghost use Rattle.die_alloc.specs.NextSlot.{next_slot_in};
 ghost use Rattle.flash_model.specs.Firing.{loads_in};
 ghost use Rattle.flash_model.specs.Operations.{CanDo, fire};
-ghost use Rattle.version_index.specs.Noted.{programmed};
+ghost use Rattle.version_index.specs.IndexState.{programmed};
 ghost use Rattle.tx_engine.specs.BatchCalls.{CanCountAll, CanLoadAll, CanLoadJob, CanMove, CanNoteEach, CanNoteJob, CanWriteAll, ClearsRegisters, CountsAll, FiresStored, LoadsEach, LoadsJob, MovesAll, MovesFirst, NotesEach, WritesAll, finished_by, is_due_clear};
 ghost use Rattle.tx_engine.specs.Batches.{StepsAllDevice, chosen_in, jobs_of};
 ghost use Rattle.tx_engine.specs.Calls.{CanAdvance, IsReady};
-ghost use Rattle.tx_engine.specs.OpenTable.{opening_at};
+ghost use Rattle.tx_engine.specs.OpenTransactionsState.{transaction_at};
 ghost use Rattle.tx_engine.specs.declared.jobs.TheConstants.{MOST_DIES};
 
 use crate::Device;
 use crate::jobs::Job;
-use crate::laws::{cuts_leave, devices_stand};
-use crate::openings::Openings;
+use crate::open_transactions::OpenTransactions;
 use crate::settling::{note_next, settle};
-use crate::step::{advance, count_next, is_due};
+use crate::step::{acknowledge_page, advance, must_program};
 use crate::store::Store;
+use crate::theorems::{crash_states, device_invariant};
 use crate::writing::next_record;
 use array_machine::{Fault, Moved, Progress};
-use collector::laws;
+use collector::theorems;
 use flash_model::{Broken, Flash, Wide, loads_come_in_order};
 use page_record::write_spare;
 use record_list::CommitRule;
@@ -33,13 +33,14 @@ impl<F: Wide, R: CommitRule> Device<F, R> {
         requires kept { self.old.dropped ≡ false }
         ensures { StepsAllDevice F.state self.old self.new result }
     {
-        devices_stand::<F, R>();
-        cuts_leave::<F, R>();
-        let Ok(()) = settle(&mut self.store, &mut self.openings) else {
+        device_invariant::<F, R>();
+        crash_states::<F, R>();
+        let Ok(()) = settle(&mut self.store, &mut self.transactions) else {
             self.dropped = true;
             return Err(Fault);
         };
-        let Ok(moved) = move_all(&mut self.store, &mut self.openings, &mut self.room.jobs) else {
+        let Ok(moved) = move_all(&mut self.store, &mut self.transactions, &mut self.room.jobs)
+        else {
             self.dropped = true;
             return Err(Fault);
         };
@@ -50,34 +51,38 @@ impl<F: Wide, R: CommitRule> Device<F, R> {
 /// Open transactions of a settled device go on together.
 fn move_all<F: Wide, R: CommitRule>(
     store: &mut Store<F, R>,
-    openings: &mut Openings,
+    transactions: &mut OpenTransactions,
     jobs: &mut Vec<Job>,
 ) -> Result<Moved, Broken>
-    requires can { CanMove F.state R.protocol store.old openings.old }
+    requires can { CanMove F.state R.protocol store.old transactions.old }
     requires room { MOST_DIES ≤ vec_capacity jobs.old }
-    ensures moves { MovesAll F.state store.old store.new openings.old openings.new result }
+    ensures moves { MovesAll F.state store.old store.new transactions.old transactions.new result }
     ensures room { vec_capacity jobs.old ≤ vec_capacity jobs.new }
 {
-    if openings.count() == 0 {
+    if transactions.count() == 0 {
         return Ok(Moved {
             moved: 0,
             finished: 0,
         });
     }
-    plan(store, openings, jobs);
+    plan(store, transactions, jobs);
     if jobs.is_empty() {
-        return step_first(store, openings);
+        return step_first(store, transactions);
     }
-    write_all(store, openings, jobs)?;
-    Ok(count_all(store, openings, jobs.len() as u32))
+    write_all(store, transactions, jobs)?;
+    Ok(count_all(store, transactions, jobs.len() as u32))
 }
 
 /// The programs of the first transactions that are ready, each in a die of its own.
-fn plan<F: Wide, R: CommitRule>(store: &mut Store<F, R>, openings: &Openings, jobs: &mut Vec<Job>)
-    requires ready { IsReady F.state R.protocol store.old openings.now }
+fn plan<F: Wide, R: CommitRule>(
+    store: &mut Store<F, R>,
+    transactions: &OpenTransactions,
+    jobs: &mut Vec<Job>,
+)
+    requires ready { IsReady F.state R.protocol store.old transactions.now }
     requires room { MOST_DIES ≤ vec_capacity jobs.old }
     ensures jobs { jobs.new.items ≡ jobs_of store.old.noted
-        (chosen_in store.old.noted store.old.table openings.now.all) }
+        (chosen_in store.old.noted store.old.table transactions.now.all) }
     ensures stays { store.new ≡ store.old }
     ensures room { vec_capacity jobs.old ≤ vec_capacity jobs.new }
 {
@@ -87,44 +92,48 @@ fn plan<F: Wide, R: CommitRule>(store: &mut Store<F, R>, openings: &Openings, jo
             continue;
         };
         let at = jobs.len();
-        if at == openings.count() as usize || !is_ready(store, openings, at) {
+        if at == transactions.count() as usize || !is_ready(store, transactions, at) {
             return;
         }
-        let rec = next_record(store, openings, at);
+        let rec = next_record(store, transactions, at);
         jobs.push(Job { slot, rec }).unwrap();
     }
 }
 
 /// Whether the next page of the transaction at an index is to be written, and no record must go before.
-fn is_ready<F: Wide, R: CommitRule>(store: &Store<F, R>, openings: &Openings, at: usize) -> bool
-    requires ready { IsReady F.state R.protocol store.now openings.now }
-    requires at { at < length openings.now.all }
-    ensures { result ≡ is_due_clear store.now.noted (opening_at openings.now at) }
+fn is_ready<F: Wide, R: CommitRule>(
+    store: &Store<F, R>,
+    transactions: &OpenTransactions,
+    at: usize,
+) -> bool
+    requires ready { IsReady F.state R.protocol store.now transactions.now }
+    requires at { at < length transactions.now.all }
+    ensures { result ≡ is_due_clear store.now.noted (transaction_at transactions.now at) }
 {
-    if !is_due(openings, at) {
+    if !must_program(transactions, at) {
         return false;
     }
-    let name = openings.name(at, openings.done(at));
+    let name = transactions.name(at, transactions.done_count(at));
     store.index().must_go(name.page, name.version).is_none()
 }
 
 /// The first open transaction of a settled device takes a step.
 fn step_first<F: Wide, R: CommitRule>(
     store: &mut Store<F, R>,
-    openings: &mut Openings,
+    transactions: &mut OpenTransactions,
 ) -> Result<Moved, Broken>
-    requires { CanAdvance F.state R.protocol store.old openings.old 0 }
-    ensures { MovesFirst F.state store.old store.new openings.old openings.new result }
+    requires { CanAdvance F.state R.protocol store.old transactions.old 0 }
+    ensures { MovesFirst F.state store.old store.new transactions.old transactions.new result }
 {
-    let progress = advance(store, openings, 0)?;
+    let progress = advance(store, transactions, 0)?;
     Ok(Moved {
         moved: 1,
-        finished: finished(progress),
+        finished: count_finished(progress),
     })
 }
 
 /// One where a transaction is done, else none.
-fn finished(progress: Progress) -> u32
+fn count_finished(progress: Progress) -> u32
     ensures { result ≡ finished_by progress }
 {
     match progress {
@@ -136,57 +145,68 @@ fn finished(progress: Progress) -> u32
 /// Writes the next page of each of the first transactions at once, and notes their records.
 fn write_all<F: Wide, R: CommitRule>(
     store: &mut Store<F, R>,
-    openings: &mut Openings,
+    transactions: &mut OpenTransactions,
     jobs: &[Job],
 ) -> Result<(), Broken>
-    requires { CanWriteAll F.state R.protocol store.old openings.old jobs.now }
-    ensures { WritesAll F.state store.old store.new openings.old openings.new jobs.now result }
+    requires { CanWriteAll F.state R.protocol store.old transactions.old jobs.now }
+    ensures { WritesAll F.state store.old store.new transactions.old transactions.new jobs.now result }
 {
-    laws::images_stand::<R>();
-    laws::noted_writes::<R>();
-    laws::arrays_stay::<R>();
-    load_all(store, openings, jobs);
+    theorems::image_is_sound::<R>();
+    theorems::noting_keeps::<R>();
+    theorems::array_stays::<R>();
+    load_all(store, transactions, jobs);
     store.fire()?;
-    note_all(store, openings, jobs);
+    note_all(store, transactions, jobs);
     Ok(())
 }
 
 /// Loads each of these programs.
-fn load_all<F: Wide, R: CommitRule>(store: &mut Store<F, R>, openings: &Openings, jobs: &[Job])
-    requires { CanLoadAll F.state store.old openings.now jobs.now }
-    ensures { LoadsEach F.state F.registers store.old store.new openings.now jobs.now }
+fn load_all<F: Wide, R: CommitRule>(
+    store: &mut Store<F, R>,
+    transactions: &OpenTransactions,
+    jobs: &[Job],
+)
+    requires { CanLoadAll F.state store.old transactions.now jobs.now }
+    ensures { LoadsEach F.state F.registers store.old store.new transactions.now jobs.now }
 {
     loads_come_in_order();
     store.clear_registers();
     for at in 0..jobs.len() {
-        store.load(jobs[at], openings.bytes(at, openings.done(at)));
+        store.load(
+            jobs[at],
+            transactions.bytes(at, transactions.done_count(at)),
+        );
     }
 }
 
 /// Notes each of these records.
-fn note_all<F: Wide, R: CommitRule>(store: &mut Store<F, R>, openings: &mut Openings, jobs: &[Job])
-    requires { CanNoteEach store.old.noted store.old.table openings.old 0 jobs.now }
-    ensures { NotesEach store.old store.new openings.old openings.new jobs.now }
+fn note_all<F: Wide, R: CommitRule>(
+    store: &mut Store<F, R>,
+    transactions: &mut OpenTransactions,
+    jobs: &[Job],
+)
+    requires { CanNoteEach store.old.noted store.old.table transactions.old 0 jobs.now }
+    ensures { NotesEach store.old store.new transactions.old transactions.new jobs.now }
 {
     for at in 0..jobs.len() {
         store.note(jobs[at]);
-        note_next(openings, at);
+        note_next(transactions, at);
     }
 }
 
 /// So many of the first transactions, whose next pages are noted, go on without the flash.
 fn count_all<F: Wide, R: CommitRule>(
     store: &mut Store<F, R>,
-    openings: &mut Openings,
+    transactions: &mut OpenTransactions,
     moved: u32,
 ) -> Moved
-    requires { CanCountAll F.state R.protocol store.old openings.old moved }
-    ensures { CountsAll F.state store.old store.new openings.old openings.new moved result }
+    requires { CanCountAll F.state R.protocol store.old transactions.old moved }
+    ensures { CountsAll F.state store.old store.new transactions.old transactions.new moved result }
 {
     let mut gone = 0;
     for turn in 0..moved {
         let at = (turn - gone) as usize;
-        gone += finished(count_next(store, openings, at));
+        gone += count_finished(acknowledge_page(store, transactions, at));
     }
     Moved {
         moved,

@@ -1,7 +1,7 @@
-ghost use Rattle.tx_engine.specs.OpenTable.{opening_at};
+ghost use Rattle.tx_engine.specs.OpenTransactionsState.{transaction_at};
 ghost use Rattle.tx_engine.specs.Calls.{CanClose, CanUnpin, Closes, Unpins};
 
-use crate::openings::Openings;
+use crate::open_transactions::OpenTransactions;
 use crate::store::Store;
 use flash_model::Flash;
 use record_list::CommitRule;
@@ -9,22 +9,26 @@ use record_list::CommitRule;
 /// The transaction at an index goes, and its pages are pinned no more.
 pub(crate) fn close<F: Flash, R: CommitRule>(
     store: &mut Store<F, R>,
-    openings: &mut Openings,
+    transactions: &mut OpenTransactions,
     at: usize,
 )
-    requires { CanClose F.state R.protocol store.old openings.old at }
-    ensures { Closes F.state store.old store.new openings.old openings.new at }
+    requires { CanClose F.state R.protocol store.old transactions.old at }
+    ensures { Closes F.state store.old store.new transactions.old transactions.new at }
 {
-    unpin(store, openings, at);
-    openings.remove(at);
+    unpin(store, transactions, at);
+    transactions.remove(at);
 }
 
 /// The pages of the transaction at an index are pinned no more.
-fn unpin<F: Flash, R: CommitRule>(store: &mut Store<F, R>, openings: &Openings, at: usize)
-    requires { CanUnpin store.old.noted openings.now at }
-    ensures { Unpins store.old store.new (opening_at openings.now at).naming.names }
+fn unpin<F: Flash, R: CommitRule>(
+    store: &mut Store<F, R>,
+    transactions: &OpenTransactions,
+    at: usize,
+)
+    requires { CanUnpin store.old.noted transactions.now at }
+    ensures { Unpins store.old store.new (transaction_at transactions.now at).naming.names }
 {
-    for place in 0..openings.pages(at) {
-        store.unpin(openings.name(at, place).page);
+    for place in 0..transactions.pages(at) {
+        store.unpin(transactions.name(at, place).page);
     }
 }

@@ -4,11 +4,11 @@ ghost use Rattle.tx_engine.specs.Collections.{answer_of};
 ghost use Rattle.tx_engine.specs.DeviceCalls.{CollectsDevice};
 
 use crate::Device;
-use crate::openings::Openings;
+use crate::open_transactions::OpenTransactions;
 use crate::settling::settle;
 use crate::store::Store;
 use array_machine::{Collected, Fault};
-use collector::laws;
+use collector::theorems;
 use flash_model::{Broken, Flash};
 use record_list::CommitRule;
 
@@ -20,10 +20,10 @@ impl<F: Flash, R: CommitRule> Device<F, R> {
         requires kept { self.old.dropped ≡ false }
         ensures { CollectsDevice F.state self.old self.new result }
     {
-        let Ok(()) = settle(&mut self.store, &mut self.openings) else {
+        let Ok(()) = settle(&mut self.store, &mut self.transactions) else {
             return Err(Fault);
         };
-        let Ok(collected) = collect_settled(&mut self.store, &self.openings) else {
+        let Ok(collected) = collect_settled(&mut self.store, &self.transactions) else {
             return Err(Fault);
         };
         Ok(collected)
@@ -33,14 +33,14 @@ impl<F: Flash, R: CommitRule> Device<F, R> {
 /// Collects the block with the most garbage of a device that settled, if there is any.
 fn collect_settled<F: Flash, R: CommitRule>(
     store: &mut Store<F, R>,
-    openings: &Openings,
+    transactions: &OpenTransactions,
 ) -> Result<Collected, Broken>
-    requires ready { IsReady F.state R.protocol store.old openings.now }
-    ensures { CollectsSettled F.state store.old store.new openings.now result }
+    requires ready { IsReady F.state R.protocol store.old transactions.now }
+    ensures { CollectsSettled F.state store.old store.new transactions.now result }
 {
-    laws::arrays_stay::<R>();
-    laws::images_stand::<R>();
-    laws::tidy_images();
+    theorems::array_stays::<R>();
+    theorems::image_is_sound::<R>();
+    theorems::no_garbage_means_tidy();
     let any = store.collect()?;
     Ok(answer_of(any))
 }

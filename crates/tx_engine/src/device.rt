@@ -1,8 +1,8 @@
 ghost use Rattle.std.specs.Prelude.{◌≡◌, false};
-ghost use Rattle.tx_engine.specs.Standing.{Stands};
+ghost use Rattle.tx_engine.specs.DeviceState.{Stands};
 
-use crate::jobs::JobRoom;
-use crate::openings::Openings;
+use crate::jobs::JobBuffer;
+use crate::open_transactions::OpenTransactions;
 use crate::store::Store;
 use flash_model::Flash;
 use record_list::CommitRule;
@@ -14,23 +14,23 @@ use tx_types::Config;
 #[derive(Drop)]
 pub struct Device<F: Flash, R: CommitRule> {
     pub(crate) store: Store<F, R>,
-    pub(crate) openings: Openings,
+    pub(crate) transactions: OpenTransactions,
     /// Room for the programs that are done together.
-    pub(crate) room: JobRoom,
+    pub(crate) room: JobBuffer,
     /// Whether it met a fault that left more of its flash unknown than its tables can say.
     pub(crate) dropped: bool,
 }
 
 impl<F: Flash, R: CommitRule> Model for Device<F, R> {
-    ghost use Rattle.tx_engine.specs.Standing.{Standing};
+    ghost use Rattle.tx_engine.specs.DeviceState.{DeviceState};
 
-    ghost Value = { Standing F };
+    ghost Value = { DeviceState F };
 
-    ghost use Rattle.tx_engine.specs.Tables.{standing_of, IsStanding};
+    ghost use Rattle.tx_engine.specs.Tables.{device_of, DeviceInvariant};
 
-    ghost view = { standing_of F.state };
+    ghost view = { device_of F.state };
 
-    ghost invariant = { IsStanding F.state R.protocol };
+    ghost invariant = { DeviceInvariant F.state R.protocol };
 }
 
 impl<F: Flash, R: CommitRule> Device<F, R> {

@@ -16,15 +16,15 @@ pub struct Job {
 
 /// Room for a program in each die, so that no call but `new` takes memory.
 #[derive(Drop)]
-pub struct JobRoom {
+pub struct JobBuffer {
     pub(crate) jobs: Vec<Job>,
     ghost enough: { MOST_DIES ≤ vec_capacity jobs },
 }
 
-impl JobRoom {
+impl JobBuffer {
     /// Takes the memory.
-    pub fn new(alloc: Global) -> Result<JobRoom, AllocError> {
-        Ok(JobRoom {
+    pub fn new(alloc: Global) -> Result<JobBuffer, AllocError> {
+        Ok(JobBuffer {
             jobs: Vec::with_capacity(alloc, MOST_DIES)?,
         })
     }

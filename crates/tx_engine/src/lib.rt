@@ -10,22 +10,22 @@ mod closing;
 mod collect;
 mod device;
 mod jobs;
-pub mod laws;
 mod mount;
-mod openings;
-mod pending;
+mod open_transactions;
+mod pending_writes;
 mod programming;
 mod read;
 mod refusals;
 mod retire;
 mod settling;
+mod stats;
 mod step;
 mod store;
 mod submit;
-mod telling;
+pub mod theorems;
 mod writing;
 
-pub use always::held_always;
+pub use always::device_facts;
 pub use array_machine::{
     Aborted, Collected, Fault, Mark, Moved, Progress, ReadAnswer, ReadError, StepError, SubmitError,
 };

@@ -3,8 +3,8 @@ ghost use Rattle.tx_types.specs.Config.{checked, IsConfig};
 ghost use Rattle.tx_engine.specs.DeviceCalls.{MountsDevice};
 
 use crate::Device;
-use crate::jobs::JobRoom;
-use crate::openings::Openings;
+use crate::jobs::JobBuffer;
+use crate::open_transactions::OpenTransactions;
 use crate::store::Store;
 use flash_model::Flash;
 use record_list::CommitRule;
@@ -30,12 +30,12 @@ impl<F: Flash, R: CommitRule> Device<F, R> {
         requires rule { config.protocol ≡ R.protocol }
         ensures { MountsDevice F.state flash config result }
     {
-        collector::laws::images_stand::<R>();
+        collector::theorems::image_is_sound::<R>();
         let store = Store::<F, R>::open(alloc, flash, config)?;
-        match device_rooms(alloc, store.config()) {
-            Ok((openings, room)) => Ok(Device {
+        match device_buffers(alloc, store.config()) {
+            Ok((transactions, room)) => Ok(Device {
                 store,
-                openings,
+                transactions,
                 room,
                 dropped: false,
             }),
@@ -45,7 +45,7 @@ impl<F: Flash, R: CommitRule> Device<F, R> {
 }
 
 /// What a device keeps beside its store, with no transaction open.
-fn device_rooms(alloc: Global, config: Config) -> Result<(Openings, JobRoom), Memory>
+fn device_buffers(alloc: Global, config: Config) -> Result<(OpenTransactions, JobBuffer), Memory>
     requires { IsConfig config }
     ensures { IfOk result (λ rooms. rooms.0 ≡ record {
       page_bytes = config.page_bytes;
@@ -54,7 +54,7 @@ fn device_rooms(alloc: Global, config: Config) -> Result<(Openings, JobRoom), Me
       all = [];
     }) }
 {
-    let room = JobRoom::new(alloc)?;
-    let openings = Openings::new(alloc, config)?;
-    Ok((openings, room))
+    let room = JobBuffer::new(alloc)?;
+    let transactions = OpenTransactions::new(alloc, config)?;
+    Ok((transactions, room))
 }

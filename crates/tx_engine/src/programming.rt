@@ -1,5 +1,5 @@
-ghost use Rattle.collector.specs.Store.{IsSure, store_of};
-ghost use Rattle.tx_engine.specs.Stored.{CanWrite, WritesOwn};
+ghost use Rattle.collector.specs.StoreParts.{IsSure, store_parts};
+ghost use Rattle.tx_engine.specs.StoreState.{CanWrite, WritesOwn};
 
 use collector::Unsure;
 use die_alloc::Blocks;
@@ -20,11 +20,11 @@ pub(crate) fn write_record<F: Flash, R: CommitRule>(
     rec: Rec,
     bytes: &[u8],
 ) -> Result<(), Broken>
-    requires sure { IsSure R.protocol (store_of (F.state flash.old) index.old blocks.old unsure.old) }
-    requires can { CanWrite (store_of (F.state flash.old) index.old blocks.old unsure.old)
+    requires sure { IsSure R.protocol (store_parts (F.state flash.old) index.old blocks.old unsure.old) }
+    requires can { CanWrite (store_parts (F.state flash.old) index.old blocks.old unsure.old)
         at rec bytes.now }
-    ensures { WritesOwn (store_of (F.state flash.old) index.old blocks.old unsure.old)
-        (store_of (F.state flash.new) index.new blocks.new unsure.new) at rec bytes.now result }
+    ensures { WritesOwn (store_parts (F.state flash.old) index.old blocks.old unsure.old)
+        (store_parts (F.state flash.new) index.new blocks.new unsure.new) at rec bytes.now result }
 {
     let mut spare_area = [0; 64];
     write_spare(rec, index.config().protocol, &mut spare_area);

@@ -1,10 +1,10 @@
 ghost use Rattle.std.specs.Prelude.{◌≡◌, ◌≤◌, ◌==◌, ◌<◌, [], length, take, All};
 ghost use Rattle.std.specs.List.{list_any};
-ghost use Rattle.tx_engine.specs.PendingPages.{owned_page};
+ghost use Rattle.tx_engine.specs.PendingWrites.{owned_page};
 ghost use Rattle.tx_engine.specs.Submit.{is_of, or_else, empty, range, repeated, full};
 
 use crate::SubmitError;
-use crate::pending::OpenTransaction;
+use crate::pending_writes::Transaction;
 use tx_types::Batch;
 
 /// The refusal of a batch that is empty, has a page which is not below the number of logical pages,
@@ -62,7 +62,7 @@ fn stands_before(batch: &Batch, count: usize, page: u32) -> bool
 }
 
 /// Whether an open transaction has this tag.
-pub fn is_tag_used(all: &[OpenTransaction], tag: u32) -> bool
+pub fn is_tag_used(all: &[Transaction], tag: u32) -> bool
     ensures { result ≡ list_any (λ o. o.tag == tag) all.now }
 {
     all.iter().any(|o| o.tag == tag)

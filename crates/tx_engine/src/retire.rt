@@ -2,13 +2,13 @@ ghost use Rattle.std.specs.Prelude.{◌≡◌, false};
 ghost use Rattle.collector.specs.Retiring.{RetiresBlock};
 ghost use Rattle.tx_engine.specs.DeviceCalls.{RetiresDevice};
 ghost use Rattle.tx_engine.specs.Retire.{CanRetire, CanRetireSettled, RefusesRetiring, RetiresSettled};
-ghost use Rattle.tx_engine.specs.Stored.{store_in};
+ghost use Rattle.tx_engine.specs.StoreState.{store_in};
 
 use crate::Device;
-use crate::openings::Openings;
+use crate::open_transactions::OpenTransactions;
 use crate::settling::settle;
 use crate::store::Store;
-use collector::{laws, retire_block};
+use collector::{retire_block, theorems};
 use flash_model::{Broken, Retire};
 use record_list::CommitRule;
 use tx_types::Block;
@@ -68,10 +68,10 @@ impl<F: Retire, R: CommitRule> Device<F, R> {
         if let Some(refusal) = self.store.retire_refusal(block) {
             return Err(refusal);
         }
-        let Ok(()) = settle(&mut self.store, &mut self.openings) else {
+        let Ok(()) = settle(&mut self.store, &mut self.transactions) else {
             return Err(RetireError::Fault);
         };
-        let Ok(()) = retire_settled(&mut self.store, &self.openings, block) else {
+        let Ok(()) = retire_settled(&mut self.store, &self.transactions, block) else {
             return Err(RetireError::Fault);
         };
         Ok(())
@@ -81,12 +81,12 @@ impl<F: Retire, R: CommitRule> Device<F, R> {
 /// Retires a block of a device that settled.
 fn retire_settled<F: Retire, R: CommitRule>(
     store: &mut Store<F, R>,
-    openings: &Openings,
+    transactions: &OpenTransactions,
     block: Block,
 ) -> Result<(), Broken>
-    requires { CanRetireSettled F.state R.protocol store.old openings.now block.0 }
-    ensures { RetiresSettled F.state R.protocol store.old store.new openings.now block.0 result }
+    requires { CanRetireSettled F.state R.protocol store.old transactions.now block.0 }
+    ensures { RetiresSettled F.state R.protocol store.old store.new transactions.now block.0 result }
 {
-    laws::arrays_stay::<R>();
+    theorems::array_stays::<R>();
     store.retire(block)
 }

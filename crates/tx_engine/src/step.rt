@@ -1,12 +1,12 @@
 ghost use Rattle.std.specs.Prelude.{◌≡◌, ◌<◌, false, length};
 ghost use Rattle.tx_engine.specs.Calls.{AdvancesTo, CanAdvance, CanCount, CountsNext};
 ghost use Rattle.tx_engine.specs.DeviceCalls.{StepsDevice};
-ghost use Rattle.tx_engine.specs.OpenTable.{opening_at};
-ghost use Rattle.tx_engine.specs.Settling.{is_due};
+ghost use Rattle.tx_engine.specs.OpenTransactionsState.{transaction_at};
+ghost use Rattle.tx_engine.specs.Settling.{must_program};
 
 use crate::Device;
 use crate::closing::close;
-use crate::openings::Openings;
+use crate::open_transactions::OpenTransactions;
 use crate::settling::settle;
 use crate::store::Store;
 use crate::writing::write_next;
@@ -23,13 +23,13 @@ impl<F: Flash, R: CommitRule> Device<F, R> {
         requires kept { self.old.dropped ≡ false }
         ensures { StepsDevice F.state self.old self.new tag result }
     {
-        let Some(at) = self.openings.position(tag) else {
+        let Some(at) = self.transactions.position(tag) else {
             return Err(StepError::Unknown);
         };
-        let Ok(()) = settle(&mut self.store, &mut self.openings) else {
+        let Ok(()) = settle(&mut self.store, &mut self.transactions) else {
             return Err(StepError::Fault);
         };
-        let Ok(progress) = advance(&mut self.store, &mut self.openings, at) else {
+        let Ok(progress) = advance(&mut self.store, &mut self.transactions, at) else {
             return Err(StepError::Fault);
         };
         Ok(progress)
@@ -40,48 +40,48 @@ impl<F: Flash, R: CommitRule> Device<F, R> {
 /// noted, and counted.
 pub(crate) fn advance<F: Flash, R: CommitRule>(
     store: &mut Store<F, R>,
-    openings: &mut Openings,
+    transactions: &mut OpenTransactions,
     at: usize,
 ) -> Result<Progress, Broken>
-    requires { CanAdvance F.state R.protocol store.old openings.old at }
-    ensures { AdvancesTo F.state store.old store.new openings.old openings.new at result }
+    requires { CanAdvance F.state R.protocol store.old transactions.old at }
+    ensures { AdvancesTo F.state store.old store.new transactions.old transactions.new at result }
 {
-    if !is_due(openings, at) {
-        return Ok(count_next(store, openings, at));
+    if !must_program(transactions, at) {
+        return Ok(acknowledge_page(store, transactions, at));
     }
-    write_next(store, openings, at)?;
-    Ok(count_next(store, openings, at))
+    write_next(store, transactions, at)?;
+    Ok(acknowledge_page(store, transactions, at))
 }
 
 /// Whether the next page of the transaction at an index is to be written.
-pub(crate) fn is_due(openings: &Openings, at: usize) -> bool
-    requires { at < length openings.now.all }
-    ensures { result ≡ is_due (opening_at openings.now at) }
+pub(crate) fn must_program(transactions: &OpenTransactions, at: usize) -> bool
+    requires { at < length transactions.now.all }
+    ensures { result ≡ must_program (transaction_at transactions.now at) }
 {
-    match openings.mark(at) {
+    match transactions.mark(at) {
         Mark::Whole => false,
-        Mark::Plain | Mark::Doubt => openings.noted_count(at) == openings.done(at),
+        Mark::Plain | Mark::Doubt => transactions.noted_count(at) == transactions.done_count(at),
     }
 }
 
 /// A transaction whose next page is noted, or which is whole, goes on without the flash.
-pub(crate) fn count_next<F: Flash, R: CommitRule>(
+pub(crate) fn acknowledge_page<F: Flash, R: CommitRule>(
     store: &mut Store<F, R>,
-    openings: &mut Openings,
+    transactions: &mut OpenTransactions,
     at: usize,
 ) -> Progress
-    requires { CanCount F.state R.protocol store.old openings.old at }
-    ensures { CountsNext F.state store.old store.new openings.old openings.new at result }
+    requires { CanCount F.state R.protocol store.old transactions.old at }
+    ensures { CountsNext F.state store.old store.new transactions.old transactions.new at result }
 {
-    match openings.mark(at) {
+    match transactions.mark(at) {
         Mark::Whole => {
-            close(store, openings, at);
+            close(store, transactions, at);
             Progress::Done
         }
         Mark::Plain | Mark::Doubt => {
-            let all = openings.pages(at);
-            let done = openings.done(at) + 1;
-            openings.set_done(at, done);
+            let all = transactions.pages(at);
+            let done = transactions.done_count(at) + 1;
+            transactions.set_done_count(at, done);
             Progress::Wrote { done, all }
         }
     }

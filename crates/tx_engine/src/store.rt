@@ -4,21 +4,21 @@ ghost use Rattle.tx_types.specs.Config.{checked, shape_of, blocks_of};
 ghost use Rattle.flash_model.specs.Operations.{moment_of};
 ghost use Rattle.version_index.specs.Images.{IsSoundImage};
 ghost use Rattle.version_index.specs.Notes.{found_in};
-ghost use Rattle.version_index.specs.Noted.{current_of, pinned, unpinned};
+ghost use Rattle.version_index.specs.IndexState.{current_of, pinned, unpinned};
 ghost use Rattle.scan_recovery.specs.Opening.{IsOpened};
 ghost use Rattle.scan_recovery.specs.Reading.{ReadsAll};
-ghost use Rattle.collector.specs.Calls.{CollectsMost};
+ghost use Rattle.collector.specs.Calls.{CollectsVictim};
 ghost use Rattle.collector.specs.Matches.{CanTake};
-ghost use Rattle.collector.specs.Store.{IsSure};
+ghost use Rattle.collector.specs.StoreParts.{IsSure};
 ghost use Rattle.collector.specs.Victim.{garbage_in};
 ghost use Rattle.tx_engine.specs.Opens.{mount_reads, FailsToMount, ReadsUnmounted};
 ghost use Rattle.tx_engine.specs.Read.{ReadsKnown};
 ghost use Rattle.tx_engine.specs.StoreCalls.{CanClear, CanFind, ClearsStored, FindsStored, OpensStore, PlacesPage, SettlesStored};
-ghost use Rattle.tx_engine.specs.Stored.{CanWrite, IsStored, WritesOwn, store_in};
+ghost use Rattle.tx_engine.specs.StoreState.{CanWrite, IsStoreState, WritesOwn, store_in};
 
 use crate::MountError;
 use crate::programming::write_record;
-use collector::{BlockRoom, Settled, Unsure, collect_most, laws};
+use collector::{BlockBuffer, Settled, Unsure, collect_victim, theorems};
 use die_alloc::Blocks;
 use flash_model::{Broken, Flash};
 use record_list::{CommitRule, Found};
@@ -40,19 +40,19 @@ pub struct Store<F: Flash, R: CommitRule> {
     /// Room for one page.
     pub(crate) room: Vec<u8>,
     /// Room for the blocks that are cleared.
-    pub(crate) going: BlockRoom,
+    pub(crate) going: BlockBuffer,
 }
 
 impl<F: Flash, R: CommitRule> Model for Store<F, R> {
-    ghost use Rattle.tx_engine.specs.Stored.{Stored};
+    ghost use Rattle.tx_engine.specs.StoreState.{StoreState};
 
-    ghost Value = { Stored F };
+    ghost Value = { StoreState F };
 
-    ghost use Rattle.tx_engine.specs.StoreTables.{stored_of, IsStoreKept};
+    ghost use Rattle.tx_engine.specs.StoreTables.{stored_of, StoreInvariant};
 
     ghost view = { stored_of };
 
-    ghost invariant = { IsStoreKept };
+    ghost invariant = { StoreInvariant };
 }
 
 impl<F: Flash, R: CommitRule> Store<F, R> {
@@ -62,8 +62,8 @@ impl<F: Flash, R: CommitRule> Store<F, R> {
         requires rule { config.protocol ≡ R.protocol }
         ensures { OpensStore F.state R.protocol flash config result }
     {
-        laws::opened_tables_match();
-        let Ok((room, going)) = rooms(alloc, flash.shape()) else {
+        theorems::opened_tables_match();
+        let Ok((room, going)) = buffers(alloc, flash.shape()) else {
             return Err((flash, MountError::Memory));
         };
         match recover_tables(alloc, &mut flash, config) {
@@ -118,7 +118,7 @@ impl<F: Flash, R: CommitRule> Store<F, R> {
 
     /// The number of garbage slots outside the spare.
     pub fn garbage(&self) -> u32
-        requires stored { IsStored F.state R.protocol self.now }
+        requires stored { IsStoreState F.state R.protocol self.now }
         ensures { result ≡ sum_by (garbage_in self.now.noted self.now.table)
             (range_with_len 0 (blocks_of (shape_of self.now.noted.config))) }
     {
@@ -131,7 +131,7 @@ impl<F: Flash, R: CommitRule> Store<F, R> {
 
     /// The number of garbage slots of a block, none in the spare.
     fn garbage_in(&self, block: Block) -> u32
-        requires stored { IsStored F.state R.protocol self.now }
+        requires stored { IsStoreState F.state R.protocol self.now }
         requires exists { block.0 < blocks_of (shape_of self.now.noted.config) }
         ensures garbage { result ≡ garbage_in self.now.noted self.now.table block.0 }
         ensures few { result ≤ self.now.noted.config.pages_per_block }
@@ -141,8 +141,8 @@ impl<F: Flash, R: CommitRule> Store<F, R> {
     }
 
     /// The noted records, in the order of their slots.
-    pub fn found(&self) -> Result<Vec<Found>, Memory>
-        requires stored { IsStored F.state R.protocol self.now }
+    pub fn noted_records(&self) -> Result<Vec<Found>, Memory>
+        requires stored { IsStoreState F.state R.protocol self.now }
         ensures { IfOk result (λ list. list.items ≡ found_in self.now.noted.notes) }
     {
         let slots = self.flash.shape().slots();
@@ -160,7 +160,7 @@ impl<F: Flash, R: CommitRule> Store<F, R> {
     /// answered without the flash. While the erase of a collected block is unsure, a
     /// page whose record stands there is read from its copy.
     pub fn read(&mut self, page: u32, into: &mut [u8]) -> Result<bool, Broken>
-        requires stored { IsStored F.state R.protocol self.old }
+        requires stored { IsStoreState F.state R.protocol self.old }
         requires page { page < self.old.noted.config.logical }
         requires room { length into.old ≡ self.old.noted.config.page_bytes }
         ensures reads { ReadsKnown F.state self.old self.new page into.old into.new result }
@@ -177,11 +177,11 @@ impl<F: Flash, R: CommitRule> Store<F, R> {
     /// The slot from which a page is read, if it is not blank. While the erase of a collected block
     /// is unsure it lies outside that block.
     fn place_of(&self, page: u32) -> Option<Slot>
-        requires stored { IsStored F.state R.protocol self.now }
+        requires stored { IsStoreState F.state R.protocol self.now }
         requires page { page < self.now.noted.config.logical }
         ensures { PlacesPage F.state self.now page result }
     {
-        laws::known_images_stand::<R>();
+        theorems::known_image_is_sound::<R>();
         if self.index.discards(page) {
             return None;
         }
@@ -196,7 +196,7 @@ impl<F: Flash, R: CommitRule> Store<F, R> {
     /// Finds out what a broken operation left, if there was one. The image stays. After a failed
     /// read all is as before.
     pub fn settle(&mut self) -> Result<Settled, Broken>
-        requires stored { IsStored F.state R.protocol self.old }
+        requires stored { IsStoreState F.state R.protocol self.old }
         requires own { CanTake self.old.noted self.old.table self.old.unsure }
         ensures { SettlesStored F.state self.old self.new result }
     {
@@ -215,10 +215,10 @@ impl<F: Flash, R: CommitRule> Store<F, R> {
     /// Makes the spare blank and collects the block with the most garbage: whether there is any.
     pub fn collect(&mut self) -> Result<bool, Broken>
         requires { IsSure R.protocol (store_in F.state self.old) }
-        ensures { CollectsMost R.protocol (store_in F.state self.old) (store_in F.state self.new)
+        ensures { CollectsVictim R.protocol (store_in F.state self.old) (store_in F.state self.new)
             result }
     {
-        collect_most(
+        collect_victim(
             &mut self.flash,
             &mut self.index,
             &mut self.blocks,
@@ -229,12 +229,12 @@ impl<F: Flash, R: CommitRule> Store<F, R> {
 
     /// Treats each block that holds a record which must go before the version `below` of a page is
     /// programmed.
-    pub fn clear(&mut self, page: u32, below: u64) -> Result<(), Broken>
+    pub fn clear_superseded(&mut self, page: u32, below: u64) -> Result<(), Broken>
         requires { CanClear F.state R.protocol self.old
             (record { page = page; version = below }) }
         ensures { ClearsStored F.state R.protocol self.old self.new page below result }
     {
-        collector::clear(
+        collector::clear_superseded(
             &mut self.flash,
             &mut self.index,
             &mut self.blocks,
@@ -247,11 +247,11 @@ impl<F: Flash, R: CommitRule> Store<F, R> {
     }
 
     /// The slot that is programmed next. Where no block has room one is collected first.
-    pub fn free_slot(&mut self) -> Result<Slot, Broken>
+    pub fn allocate_slot(&mut self) -> Result<Slot, Broken>
         requires { CanFind F.state R.protocol self.old }
         ensures { FindsStored F.state R.protocol self.old self.new result }
     {
-        collector::free_slot(
+        collector::allocate_slot(
             &mut self.flash,
             &mut self.index,
             &mut self.blocks,
@@ -306,11 +306,11 @@ impl<F: Flash, R: CommitRule> Store<F, R> {
 }
 
 /// Room for one page, and for the blocks that are cleared.
-fn rooms(alloc: Global, shape: Shape) -> Result<(Vec<u8>, BlockRoom), Memory>
+fn buffers(alloc: Global, shape: Shape) -> Result<(Vec<u8>, BlockBuffer), Memory>
     ensures { IfOk result (λ rooms. length rooms.0.items ≡ shape.page_bytes) }
 {
     let room = vec![in alloc; 0; shape.page_bytes as usize]?;
-    let going = BlockRoom::new(alloc)?;
+    let going = BlockBuffer::new(alloc)?;
     Ok((room, going))
 }
 

@@ -1,16 +1,16 @@
 ghost use Rattle.std.specs.Prelude.{◌≡◌, ◌<◌, if◌then◌else◌};
 ghost use Rattle.record_list.specs.Transaction.{back_version};
 ghost use Rattle.version_index.specs.Notes.{found_in};
-ghost use Rattle.tx_engine.specs.OpenTable.{HasPlace, bytes_due, name_due, opening_at, with_opening, with_mark};
+ghost use Rattle.tx_engine.specs.OpenTransactionsState.{HasPlace, bytes_due, name_due, transaction_at, with_transaction, with_mark};
 ghost use Rattle.tx_engine.specs.Settling.{is_at_last};
-ghost use Rattle.tx_engine.specs.Stored.{WritesOwn, store_in};
+ghost use Rattle.tx_engine.specs.StoreState.{WritesOwn, store_in};
 ghost use Rattle.tx_engine.specs.Calls.{CanProgram, CanWriteNext, ClearsFor, FindsFor, IsClearFor, IsReadyFor, IsRecordDue, WritesPage};
 
 use crate::Mark;
-use crate::openings::Openings;
+use crate::open_transactions::OpenTransactions;
 use crate::settling::note_next;
 use crate::store::Store;
-use collector::laws;
+use collector::theorems;
 use flash_model::{Broken, Flash};
 use record_list::CommitRule;
 use tx_types::{Link, Protocol, Rec, Slot};
@@ -21,76 +21,76 @@ use tx_types::{Link, Protocol, Rec, Slot};
 /// doubt.
 pub(crate) fn write_next<F: Flash, R: CommitRule>(
     store: &mut Store<F, R>,
-    openings: &mut Openings,
+    transactions: &mut OpenTransactions,
     at: usize,
 ) -> Result<(), Broken>
-    requires { CanWriteNext F.state R.protocol store.old openings.old at }
-    ensures { WritesPage F.state store.old store.new openings.old openings.new at result }
+    requires { CanWriteNext F.state R.protocol store.old transactions.old at }
+    ensures { WritesPage F.state store.old store.new transactions.old transactions.new at result }
 {
-    laws::images_stand::<R>();
-    laws::noted_writes::<R>();
-    clear(store, openings, at)?;
-    let slot = find_slot(store, openings, at)?;
-    let rec = next_record(store, openings, at);
-    if let Err(broken) = program(store, openings, at, slot, rec) {
-        doubt_last(openings, at);
+    theorems::image_is_sound::<R>();
+    theorems::noting_keeps::<R>();
+    clear_superseded(store, transactions, at)?;
+    let slot = find_slot(store, transactions, at)?;
+    let rec = next_record(store, transactions, at);
+    if let Err(broken) = program(store, transactions, at, slot, rec) {
+        doubt_last(transactions, at);
         return Err(broken);
     }
-    note_next(openings, at);
+    note_next(transactions, at);
     Ok(())
 }
 
 /// Treats each block that holds a record which must go before the next page of the transaction at an
 /// index is written.
-fn clear<F: Flash, R: CommitRule>(
+fn clear_superseded<F: Flash, R: CommitRule>(
     store: &mut Store<F, R>,
-    openings: &Openings,
+    transactions: &OpenTransactions,
     at: usize,
 ) -> Result<(), Broken>
-    requires { IsReadyFor F.state R.protocol store.old openings.now at }
-    ensures { ClearsFor F.state R.protocol store.old store.new openings.now
-        (name_due openings.now at) result }
+    requires { IsReadyFor F.state R.protocol store.old transactions.now at }
+    ensures { ClearsFor F.state R.protocol store.old store.new transactions.now
+        (name_due transactions.now at) result }
 {
-    laws::arrays_stay::<R>();
-    let name = openings.name(at, openings.done(at));
-    store.clear(name.page, name.version)
+    theorems::array_stays::<R>();
+    let name = transactions.name(at, transactions.done_count(at));
+    store.clear_superseded(name.page, name.version)
 }
 
 /// The slot in which its record is programmed. Where no block has room one is collected first.
 fn find_slot<F: Flash, R: CommitRule>(
     store: &mut Store<F, R>,
-    openings: &Openings,
+    transactions: &OpenTransactions,
     at: usize,
 ) -> Result<Slot, Broken>
-    requires { IsClearFor F.state R.protocol store.old openings.now at }
-    ensures { FindsFor F.state R.protocol store.old store.new openings.now
-        (name_due openings.now at) result }
+    requires { IsClearFor F.state R.protocol store.old transactions.now at }
+    ensures { FindsFor F.state R.protocol store.old store.new transactions.now
+        (name_due transactions.now at) result }
 {
-    laws::arrays_stay::<R>();
-    store.free_slot()
+    theorems::array_stays::<R>();
+    store.allocate_slot()
 }
 
 /// The record that the transaction at an index writes next.
 pub(crate) fn next_record<F: Flash, R: CommitRule>(
     store: &Store<F, R>,
-    openings: &Openings,
+    transactions: &OpenTransactions,
     at: usize,
 ) -> Rec
-    requires next { HasPlace openings.now at (opening_at openings.now at).entry.done }
-    requires page { (name_due openings.now at).page < store.now.noted.config.logical }
-    ensures { IsRecordDue store.now.noted openings.now at result }
+    requires next { HasPlace transactions.now at (transaction_at transactions.now at).entry.done }
+    requires page { (name_due transactions.now at).page < store.now.noted.config.logical }
+    ensures { IsRecordDue store.now.noted transactions.now at result }
 {
-    let pages = openings.pages(at);
-    let done = openings.done(at);
-    let Link { page, version } = openings.name(at, done);
+    let pages = transactions.pages(at);
+    let done = transactions.done_count(at);
+    let Link { page, version } = transactions.name(at, done);
     let place = if done + 1 == pages { 0 } else { done + 1 };
     Rec {
         page,
         version,
-        next: openings.name(at, place),
+        next: transactions.name(at, place),
         back: back_version(store, page),
         count: pages,
-        discard: openings.discards(at, done),
+        discard: transactions.discards(at, done),
     }
 }
 
@@ -109,27 +109,31 @@ fn back_version<F: Flash, R: CommitRule>(store: &Store<F, R>, page: u32) -> u64
 /// Programs the next record of the transaction at an index with its page.
 fn program<F: Flash, R: CommitRule>(
     store: &mut Store<F, R>,
-    openings: &Openings,
+    transactions: &OpenTransactions,
     at: usize,
     slot: Slot,
     rec: Rec,
 ) -> Result<(), Broken>
-    requires { CanProgram R.protocol (store_in F.state store.old) openings.now at slot rec }
+    requires { CanProgram R.protocol (store_in F.state store.old) transactions.now at slot rec }
     ensures { WritesOwn (store_in F.state store.old) (store_in F.state store.new) slot rec
-        (bytes_due openings.now at) result }
+        (bytes_due transactions.now at) result }
 {
-    store.write(slot, rec, openings.bytes(at, openings.done(at)))
+    store.write(
+        slot,
+        rec,
+        transactions.bytes(at, transactions.done_count(at)),
+    )
 }
 
 /// The transaction at an index is in doubt where it was writing its last page.
-fn doubt_last(openings: &mut Openings, at: usize)
-    requires { HasPlace openings.old at (opening_at openings.old at).entry.done }
-    ensures { openings.new ≡ (if is_at_last (opening_at openings.old at).entry
-        then with_opening openings.old at (with_mark (opening_at openings.old at) Mark.Doubt)
-        else openings.old) }
+fn doubt_last(transactions: &mut OpenTransactions, at: usize)
+    requires { HasPlace transactions.old at (transaction_at transactions.old at).entry.done }
+    ensures { transactions.new ≡ (if is_at_last (transaction_at transactions.old at).entry
+        then with_transaction transactions.old at (with_mark (transaction_at transactions.old at) Mark.Doubt)
+        else transactions.old) }
 {
-    let pages = openings.pages(at);
-    if openings.done(at) + 1 == pages {
-        openings.set_mark(at, Mark::Doubt);
+    let pages = transactions.pages(at);
+    if transactions.done_count(at) + 1 == pages {
+        transactions.set_mark(at, Mark::Doubt);
     }
 }

@@ -7,12 +7,12 @@ use Rattle.std.specs.Fork.{slice_chunk}
 use Rattle.std.specs.Simd.{first_chunks}
 use Rattle.std.proofs.lemmas.List.{take-append-le, drop-append-le, take_all, length-drop, length-append, length-replicate, length-map, get_or-map, map-append}
 use Rattle.std.proofs.lemmas.List.Elements.{All-push, All-get_or}
-use Rattle.list_facts.proofs.Chunks.{chunk_end, length-first_chunks, get_or-first_chunks}
+use Rattle.list_lemmas.proofs.Chunks.{chunk_end, length-first_chunks, get_or-first_chunks}
 use Rattle.byteorder.specs.Endian.{little_number}
 use Rattle.byteorder.specs.Numbers.{little_number-reads_back}
 use Rattle.tx_types.specs.Batch.{PageWrite, no_write, padded, contents_of}
 use Rattle.tx_types.specs.declared.target.Target.{Target}
-use Rattle.tx_types.specs.Entries.{cell_of, is_discard, value_if, write_of, writes_in, HasZeros, AreWhole}
+use Rattle.tx_types.specs.Entries.{cell_of, is_discard, value_if, write_of, writes_in, HasZeros, BatchInvariant}
 
 pub length-writes_in : (size count : ℕ) (cells : List ℕ) → length (writes_in size count cells) ≡ count
 length-writes_in size count cells = length-map (first_chunks (5 + size) count cells) write_of ∙ length-first_chunks (5 + size) count cells
@@ -25,7 +25,7 @@ get_or-writes_in size count cells k below =
     ∙ ap write_of (get_or-first_chunks (5 + size) count cells k [] below)
 
 -- the bytes of an entry are the contents that its value has
-pub contents_at : (size count : ℕ) (cells : List ℕ) (k : ℕ) → k < count → AreWhole size count cells →
+pub contents_at : (size count : ℕ) (cells : List ℕ) (k : ℕ) → k < count → BatchInvariant size count cells →
     drop 5 (slice_chunk cells (5 + size) k) ≡ contents_of size (write_of (slice_chunk cells (5 + size) k)).value
 contents_at size count cells k below are = by_flag (slice_chunk cells (5 + size) k) (is_discard (slice_chunk cells (5 + size) k)) zeros
   where
@@ -88,13 +88,13 @@ zeros_of-cell : (t : Target) (size : ℕ) (bytes : List ℕ) → (t.discard ≡ 
 zeros_of-cell t size bytes none discards =
     ap (padded size) (none (sym (flag_back t.discard) ∙ discards)) ∙ padded_none size
 
-pub AreWhole-append : (size count more : ℕ) (cells : List ℕ) (t : Target) (bytes : List ℕ) → more ≡ count + 1 → AreWhole size count cells →
-    length bytes ≤ size → (t.discard ≡ true → bytes ≡ []) → AreWhole size more (cells ++ cell_of t size bytes)
+pub AreWhole-append : (size count more : ℕ) (cells : List ℕ) (t : Target) (bytes : List ℕ) → more ≡ count + 1 → BatchInvariant size count cells →
+    length bytes ≤ size → (t.discard ≡ true → bytes ≡ []) → BatchInvariant size more (cells ++ cell_of t size bytes)
 AreWhole-append size count more cells t bytes one are short none =
     let next : more ≡ suc count = omega arith in
     let whole = are.whole in
     let long = length-cell t size bytes short in
-    subst (λ n. AreWhole size n (cells ++ cell_of t size bytes)) (sym next) (record {
+    subst (λ n. BatchInvariant size n (cells ++ cell_of t size bytes)) (sym next) (record {
       whole = let sum = length-append cells (cell_of t size bytes) in omega arith;
       zeros =
           subst (All (HasZeros size)) (sym (first_chunks-append (5 + size) count cells (cell_of t size bytes) whole long))
@@ -107,7 +107,7 @@ is_empty-writes_in size zero cells = (λ _. refl, λ _. refl)
 is_empty-writes_in size (suc count) cells = (λ yes. absurd (cc (yes, eqb-suc-zero count)), λ none. absurd cc)
 
 -- the bytes of an entry are there
-pub cell_within : (size count : ℕ) (cells : List ℕ) (i : ℕ) → AreWhole size count cells → i < length (writes_in size count cells) →
+pub cell_within : (size count : ℕ) (cells : List ℕ) (i : ℕ) → BatchInvariant size count cells → i < length (writes_in size count cells) →
     i * (5 + size) + (5 + size) ≤ length cells
 cell_within size count cells i are below =
     let whole = are.whole in

@@ -48,6 +48,6 @@ abbrev pub HasZeros : ℕ → List ℕ → Type 0
 HasZeros size cell = is_discard cell ≡ true → drop 5 cell ≡ replicate size 0
 
 -- there are the bytes of a whole page for each, and those of a page that is discarded are zeros
-pub record AreWhole (size count : ℕ) (cells : List ℕ) : Type 0 where
+pub record BatchInvariant (size count : ℕ) (cells : List ℕ) : Type 0 where
   pub whole : length cells ≡ count * (5 + size)
   pub zeros : All (HasZeros size) (first_chunks (5 + size) count cells)

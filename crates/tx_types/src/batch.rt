@@ -25,11 +25,11 @@ impl Model for Batch {
 
     ghost Value = { Writes };
 
-    ghost use Rattle.tx_types.specs.Entries.{writes_of, AreWhole};
+    ghost use Rattle.tx_types.specs.Entries.{writes_of, BatchInvariant};
 
     ghost view = { λ b. writes_of b.page_bytes b.count b.cells.items };
 
-    ghost invariant = { λ b. AreWhole b.page_bytes b.count b.cells.items };
+    ghost invariant = { λ b. BatchInvariant b.page_bytes b.count b.cells.items };
 }
 
 impl Batch {

@@ -4,7 +4,7 @@
 
 pub use command_line::{Kept, top};
 use desk_io::{RealDesk, RealFolder};
-use image_desk::unread;
+use program_base::status_of_bad_args;
 use std::alloc::Global;
 use std::fs::File;
 use std::process::ExitCode;
@@ -15,7 +15,7 @@ use std::{env, fs, io};
 const FREED_BYTES: usize = (1 << 25) - (1 << 16);
 
 fn main(rt: HostRuntime) -> ExitCode {
-    keep_freed(rt.alloc());
+    keep_heap(rt.alloc());
     let standard = open_standard(&rt);
     let status = serve(&rt);
     drop(standard);
@@ -36,7 +36,7 @@ fn open_standard(rt: &HostRuntime) -> [io::Result<File>; 3] {
 fn serve(rt: &HostRuntime) -> ExitCode {
     let args = match env::args(rt) {
         Ok(args) => args,
-        Err(error) => return ExitCode::from(unread(error.kind())),
+        Err(error) => return ExitCode::from(status_of_bad_args(error.kind())),
     };
     let mut words = Vec::new(rt.alloc());
     for word in args.skip(1) {
@@ -53,6 +53,6 @@ fn serve(rt: &HostRuntime) -> ExitCode {
 /// Lets the C library keep memory that is freed: it gives back to the system what is free beyond twice the largest
 /// piece that ever was. A device that is mounted again takes the same tables once more.
 #[inline(never)]
-fn keep_freed(alloc: Global) {
+fn keep_heap(alloc: Global) {
     let _ = Vec::<u8>::with_capacity(alloc, FREED_BYTES);
 }

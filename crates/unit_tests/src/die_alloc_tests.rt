@@ -1,6 +1,6 @@
 ghost use Rattle.std.specs.Prelude.{◌≡◌, ◌<◌};
 ghost use Rattle.tx_types.specs.Config.{blocks_of};
-ghost use Rattle.die_alloc.specs.BlockTable.{fresh_table};
+ghost use Rattle.die_alloc.specs.BlocksState.{fresh_table};
 
 use crate::samples::{says, word, word_count};
 use die_alloc::Blocks;

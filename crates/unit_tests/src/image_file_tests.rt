@@ -1,6 +1,6 @@
 ghost use Rattle.std.specs.Prelude.{◌≡◌, ◌≤◌, Ok, IfSome, length};
 ghost use Rattle.tx_types.specs.Config.{checked};
-ghost use Rattle.mem_flash.specs.Memory.{blank_flash};
+ghost use Rattle.mem_flash.specs.MemFlashState.{blank_flash};
 
 use crate::image_file_rows::reads;
 use crate::samples::change;

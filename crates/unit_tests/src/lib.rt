@@ -8,6 +8,8 @@ mod command_lines;
 #[cfg(test)]
 mod cycles;
 #[cfg(test)]
+mod dense_tables_tests;
+#[cfg(test)]
 mod die_alloc_tests;
 #[cfg(test)]
 mod drive_gen_tests;
@@ -30,10 +32,6 @@ mod page_cache_tests;
 #[cfg(test)]
 mod page_record_tests;
 #[cfg(test)]
-mod plain_tables_tests;
-#[cfg(test)]
-mod record_chart_tests;
-#[cfg(test)]
 mod record_list_tests;
 #[cfg(test)]
 mod samples;
@@ -41,6 +39,8 @@ mod samples;
 mod scc_commit_tests;
 #[cfg(test)]
 mod slot_tables_tests;
+#[cfg(test)]
+mod sorted_records_tests;
 #[cfg(test)]
 mod straddle_sets_tests;
 #[cfg(test)]

@@ -1,7 +1,7 @@
 ghost use Rattle.std.specs.Prelude.{◌≡◌, ◌≤◌, ◌<◌, length, replicate, IfOk, OnErr};
 ghost use Rattle.tx_types.specs.Config.{IsShape, slots_of, blocks_of};
 ghost use Rattle.flash_model.specs.Operations.{CanProgram, die_of};
-ghost use Rattle.mem_flash.specs.Memory.{blank_flash};
+ghost use Rattle.mem_flash.specs.MemFlashState.{blank_flash};
 
 use flash_model::{Arms, Flash, Outcome, Power, Retire, Seen, Wide, loads_come_in_order};
 use mem_flash::MemFlash;

@@ -2,7 +2,7 @@
 
 ghost use Rattle.std.specs.Prelude.{ℕ, ◌≡◌, ◌<◌, [], length, IsTrue, IfSome, Some};
 ghost use Rattle.tx_types.specs.Config.{slots_of, blocks_of};
-ghost use Rattle.slot_tables.specs.Kept.{record_at, copies_of, IsNewest};
+ghost use Rattle.slot_tables.specs.TablesState.{record_at, copies_of, IsNewest};
 ghost use Rattle.slot_tables.specs.Versions.{HasFree};
 
 use slot_tables::{SlotUse, Tables};
@@ -135,7 +135,7 @@ fn is_wanted(tables: &Tables, number: u32) -> bool
     };
     rec.page < PAGES
         && (tables.current(rec.page) == Some(number)
-            || tables.pinned(rec.page) == rec.version
+            || tables.pinned_version(rec.page) == rec.version
             || is_answerer(tables, number))
 }
 

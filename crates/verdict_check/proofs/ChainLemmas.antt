@@ -1,15 +1,9 @@
 -- The pages whose newest records lead behind, chained by the pages to which they lead.
-use Rattle.std.proofs.Common.{◌≡◌, ◌≢◌, ℕ, suc, ◌+◌, ◌<◌, ◌≤◌, ◌==◌, eqb-true, Option, None, Some, List, length, set, get_or, sym, ap, ◌∙◌, subst, inl, inr}
-use Rattle.std.proofs.Common.{arith, get_or-set_same, get_or-set_other, lt-ltb, le-ltb}
+use Rattle.verdict_check.proofs.Common.{◌≡◌, ◌≢◌, ℕ, suc, ◌+◌, ◌<◌, ◌≤◌, ◌==◌, eqb-true, Option, None, Some, List, length, set, get_or, sym, ap, ◌∙◌, subst, inl, inr, arith, get_or-set_same, get_or-set_other, cases_eq, cond-true, cond-false, get_or_default, length-set, Found, newest, version_of, nothing, is_behind, place_at}
+use Rattle.std.proofs.Common.{lt-ltb, le-ltb}
 use Rattle.std.specs.Prelude.{All}
-use Rattle.std.proofs.lemmas.Bool.{cases_eq, cond-true, cond-false}
-use Rattle.std.proofs.lemmas.List.{get_or_default, length-set}
-use Rattle.list_facts.proofs.Values.{if_positive}
-use Rattle.record_list.specs.declared.found.Found.{Found}
-use Rattle.record_list.specs.Records.{newest, version_of, nothing}
-use Rattle.record_list.specs.Verdict.{is_behind}
+use Rattle.list_lemmas.proofs.Values.{if_positive}
 use Rattle.record_list.proofs.OfFacts.Names.{greatest_attained}
-use Rattle.verdict_check.specs.Places.{place_at}
 use Rattle.verdict_check.specs.Straddlers.{newest_link, page_behind, IsLastInto, AreLast, AreBefore}
 
 -- a page that has a version has a record in the list

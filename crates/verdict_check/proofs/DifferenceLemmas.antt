@@ -1,9 +1,7 @@
 -- The first line in which a text differs from one of these lines.
-use Rattle.std.proofs.Common.{◌≡◌, ◌≢◌, ℕ, zero, suc, ◌+◌, ◌-◌, ◌<◌, Bool, true, false, not, ◌==◌, Some, None, List, [], ◌∷◌, ◌++◌, length, slice_get, refl}
-use Rattle.std.proofs.Common.{sym, ap, ◌∙◌, subst, inl, inr, arith, append_assoc, append-nil}
-use Rattle.std.specs.List.{list_all, concat, AllByRecursion}
-use Rattle.std.proofs.lemmas.Bool.{cases_Bool, cond-true, cond-false, and_parts}
-use Rattle.verdict_check.specs.Texts.{with_first, text_lines, IsFirstDifference, behind}
+use Rattle.verdict_check.proofs.Common.{◌≡◌, ◌≢◌, ℕ, zero, suc, ◌+◌, ◌-◌, ◌<◌, Bool, true, false, ◌==◌, Some, None, List, [], ◌∷◌, ◌++◌, length, refl, sym, ap, ◌∙◌, subst, inl, inr, arith, append_assoc, append-nil, list_all, concat, AllByRecursion, cases_Bool, cond-true, cond-false, and_parts, behind}
+use Rattle.std.proofs.Common.{not, slice_get}
+use Rattle.verdict_check.specs.Texts.{with_first, text_lines, IsFirstDifference}
 use Rattle.verdict_check.proofs.TextLemmas.{behind_same}
 
 -- a byte that is no line feed

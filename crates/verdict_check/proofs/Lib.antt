@@ -1,8 +1,9 @@
+mod Common
 pub mod TextLemmas
 pub mod PlaceLemmas
 pub mod ChainLemmas
 pub mod StraddlerLemmas
-pub mod CourseLemmas
+pub mod WalkEndLemmas
 pub mod LineLemmas
 pub mod DifferenceLemmas
 pub mod PlainLemmas

@@ -1,27 +1,17 @@
 -- What is read of a line, part by part.
-use Rattle.std.proofs.Common.{◌≡◌, ℕ, ◌+◌, ◌<◌, ◌||◌, min, add-one, Option, List, [], ◌∷◌, ◌++◌, length, get_or, map, take, refl, sym, ap, ◌∙◌, arith}
-use Rattle.std.proofs.Common.{append-nil, append_assoc, codes, decimal, false}
+use Rattle.verdict_check.proofs.Common.{◌≡◌, ℕ, ◌+◌, ◌<◌, Option, List, [], ◌∷◌, ◌++◌, length, get_or, map, refl, sym, ap, ◌∙◌, arith, append-nil, append_assoc, codes, decimal, false, get_or_default, Link, Protocol, Scc, Found, Why, newest, same_name, newest_name, link_of, verdict_of, is_ahead, is_behind, why, cur, links_of, verdict_word, reason_words, walk_words, verdict_line, after_spaces, left_behind}
+use Rattle.std.proofs.Common.{◌||◌, min, add-one, take}
 use Rattle.std.proofs.lemmas.Grind.{take_at_read}
 use Rattle.std.proofs.lemmas.Bool.{or_parts, ltb-false}
-use Rattle.std.proofs.lemmas.List.{map-append, take_min, get_or_default}
+use Rattle.std.proofs.lemmas.List.{map-append, take_min}
 use Rattle.std.proofs.lemmas.List.Concat.{flat_map-append}
-use Rattle.tx_types.specs.declared.record.Link.{Link}
-use Rattle.tx_types.specs.declared.config.Protocol.{Protocol}
-use Rattle.tx_types.specs.declared.config.Protocol.TheVariants.{Scc}
-use Rattle.record_list.specs.declared.found.Found.{Found}
-use Rattle.record_list.specs.declared.found.Why.{Why}
-use Rattle.record_list.specs.Records.{newest, is_same}
-use Rattle.record_list.proofs.OfFacts.Names.{same_name}
-use Rattle.record_list.specs.Verdict.{newest_name, link_of, verdict_of, is_ahead, is_behind, why}
-use Rattle.record_list.specs.Current.{cur}
-use Rattle.verdict_report.specs.Walks.{links_of, is_end}
+use Rattle.record_list.specs.Records.{is_same}
+use Rattle.verdict_report.specs.Walks.{is_end}
 use Rattle.verdict_report.proofs.WalkLemmas.{walk_decides}
-use Rattle.verdict_report.specs.Report.{verdict_word, reason_words, link_word, more_words, most_links, walk_words, page_line, verdict_line}
-use Rattle.verdict_report.specs.Lines.{after_spaces}
+use Rattle.verdict_report.specs.Report.{link_word, more_words, most_links, page_line}
 use Rattle.verdict_report.proofs.LineLemmas.{line_parts}
 use Rattle.verdict_check.specs.declared.expected.Expected.{Expected}
 use Rattle.verdict_check.specs.Expected.{IsExpected}
-use Rattle.verdict_check.specs.Texts.{left_behind}
 use Rattle.verdict_check.proofs.TextLemmas.{both, four, no_piece}
 
 -- with one link more

@@ -1,12 +1,9 @@
 -- The greatest versions below the newest ones, noted record by record.
-use Rattle.std.proofs.Common.{◌≡◌, ℕ, ◌+◌, ◌<◌, ◌≤◌, max, List, length, set, sym, ap, ◌∙◌, inl, inr, arith, get_or-set_same, get_or-set_other}
-use Rattle.std.proofs.lemmas.Bool.{cases_eq}
-use Rattle.std.proofs.lemmas.Bool.Decides.{nat_tests}
-use Rattle.tx_types.specs.declared.record.Rec.{Rec}
-use Rattle.record_list.specs.declared.found.Found.{Found}
-use Rattle.record_list.specs.Records.{newest, version_below, record_at}
+use Rattle.verdict_check.proofs.Common.{◌≡◌, ℕ, ◌+◌, ◌<◌, ◌≤◌, List, length, set, sym, ap, ◌∙◌, inl, inr, arith, get_or-set_same, get_or-set_other, cases_eq, nat_tests, Rec, Found, newest, record_at, AreOlder}
+use Rattle.std.proofs.Common.{max}
+use Rattle.record_list.specs.Records.{version_below}
 use Rattle.record_list.proofs.OfFacts.Greatest.{greatest_step}
-use Rattle.verdict_check.specs.Older.{version_at, AreOlder}
+use Rattle.verdict_check.specs.Older.{version_at}
 
 -- a version below the newest of its page is taken in
 pub noted_below : (older : List ℕ) (list : List Found) (r : Rec) (page : ℕ) → r.page < length older → r.version < newest list r.page →

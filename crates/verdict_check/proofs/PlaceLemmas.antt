@@ -1,21 +1,15 @@
 -- The first of the newest records of a page.
-use Rattle.std.proofs.Common.{◌≡◌, ◌≢◌, ℕ, ◌<◌, ◌≤◌, zero, suc, All, false, ◌==◌, Option, Some, None, List, length, get_or, position, refl, sym, ap, ◌∙◌, subst}
-use Rattle.std.proofs.Common.{inl, inr, arith, eqb-true, eq-eqb, ne_eqb}
-use Rattle.std.proofs.lemmas.Bool.{cases_eq, cases_lt, cond-true, cond-false}
-use Rattle.std.proofs.lemmas.Bool.Decides.{nat_tests}
-use Rattle.std.proofs.lemmas.List.{get_or_default, get_or_past}
-use Rattle.std.proofs.lemmas.List.Elements.{Contains-get_or}
-use Rattle.std.proofs.lemmas.List.Quantifiers.{position-Some}
-use Rattle.list_facts.proofs.Positions.{position-at, position-none, position-all}
-use Rattle.list_facts.proofs.Values.{if_positive}
-use Rattle.tx_types.specs.declared.record.Link.{Link}
-use Rattle.record_list.specs.declared.found.Found.{Found}
-use Rattle.record_list.specs.Records.{version_of, newest, has_name, record_at, nothing, IsScanned}
-use Rattle.record_list.specs.Verdict.{newest_name, link_of}
-use Rattle.record_list.proofs.OfFacts.Names.{greatest_attained, greatest_bound, greatest_least, has_name_true, same_name}
-use Rattle.record_chart.specs.Charts.{place_of}
-use Rattle.record_chart.proofs.OfWalk.WalkOrbits.{link_found, link_nowhere}
-use Rattle.verdict_check.specs.Places.{newest_place, IsNewestAt, place_at, IsNewestOf, AreNewestOf, ArePlaces}
+use Rattle.verdict_check.proofs.Common.{◌≡◌, ◌≢◌, ℕ, ◌<◌, ◌≤◌, zero, suc, false, ◌==◌, Option, Some, None, List, length, get_or, refl, sym, ap, ◌∙◌, subst, inl, inr, arith, eqb-true, eq-eqb, cases_eq, cond-true, cond-false, nat_tests, get_or_default, Contains-get_or, position-Some, Link, Found, version_of, newest, has_name, record_at, nothing, IsScanned, newest_name, link_of, same_name, newest_place, IsNewestAt, place_at, AreNewestOf}
+use Rattle.std.proofs.Common.{All, position}
+use Rattle.std.proofs.Common.{ne_eqb}
+use Rattle.std.proofs.lemmas.Bool.{cases_lt}
+use Rattle.std.proofs.lemmas.List.{get_or_past}
+use Rattle.list_lemmas.proofs.Positions.{position-at, position-none, position-all}
+use Rattle.list_lemmas.proofs.Values.{if_positive}
+use Rattle.record_list.proofs.OfFacts.Names.{greatest_attained, greatest_bound, greatest_least, has_name_true}
+use Rattle.sorted_records.specs.SortedRecords.{place_of}
+use Rattle.sorted_records.proofs.OfWalk.WalkOrbits.{link_found, link_nowhere}
+use Rattle.verdict_check.specs.Places.{IsNewestOf, ArePlaces}
 
 -- what bounds the version of each record of a page bounds its newest
 top_is : (list : List Found) (page place : ℕ) → IsNewestOf list (length list) page (Some place) → newest list page ≡ (record_at list place).version

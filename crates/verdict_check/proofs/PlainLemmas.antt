@@ -1,23 +1,14 @@
 -- The words of a report have no spaces and no line feeds.
-use Rattle.std.proofs.Common.{◌≡◌, ℕ, zero, suc, ◌/◌, ◌%◌, ◌<◌, ◌==◌, ◌||◌, Bool, true, false, not, List, [], ◌∷◌, ◌++◌, length, map, take, refl, ap, ◌∙◌, inl}
-use Rattle.std.proofs.Common.{inr, arith, codes, if◌then◌else◌}
-use Rattle.std.specs.List.{list_all, join_with_byte, AllByRecursion}
+use Rattle.verdict_check.proofs.Common.{◌≡◌, ℕ, zero, suc, ◌<◌, ◌==◌, Bool, true, false, List, [], ◌∷◌, ◌++◌, length, map, refl, ap, ◌∙◌, inl, inr, arith, codes, if◌then◌else◌, list_all, AllByRecursion, cases_Bool, cond-true, cond-false, and_parts, nat_tests, Link, Protocol, Found, Why, Cycle, Absent, newest, verdict_of, why, cur, links_of, verdict_word, reason_words, walk_words, verdict_line, last_line}
+use Rattle.std.proofs.Common.{◌/◌, ◌%◌, ◌||◌, not, take}
+use Rattle.std.specs.List.{join_with_byte}
 use Rattle.std.specs.Fmt.{decimal, digits, digits_onto, digit_glyph}
-use Rattle.std.proofs.lemmas.Bool.{cases_Bool, cond-true, cond-false, and_parts, and_from}
-use Rattle.std.proofs.lemmas.Bool.Decides.{nat_tests}
+use Rattle.std.proofs.lemmas.Bool.{and_from}
 use Rattle.std.proofs.lemmas.List.Folds.{list_all-append}
-use Rattle.tx_types.specs.declared.record.Link.{Link}
-use Rattle.tx_types.specs.declared.config.Protocol.{Protocol}
-use Rattle.record_list.specs.declared.found.Found.{Found}
-use Rattle.record_list.specs.declared.found.Why.{Why}
-use Rattle.record_list.specs.declared.found.Why.TheVariants.{Cycle, Passed, Absent, Straddled}
+use Rattle.record_list.specs.declared.found.Why.TheVariants.{Passed, Straddled}
 use Rattle.record_list.specs.declared.found.Verdict.{Verdict}
 use Rattle.record_list.specs.declared.found.Verdict.TheVariants.{Committed, Uncommitted}
-use Rattle.record_list.specs.Records.{newest}
-use Rattle.record_list.specs.Verdict.{verdict_of, why}
-use Rattle.record_list.specs.Current.{cur}
-use Rattle.verdict_report.specs.Walks.{links_of}
-use Rattle.verdict_report.specs.Report.{line_of, verdict_word, reason_words, link_word, most_links, more_words, walk_words, verdict_line, last_line}
+use Rattle.verdict_report.specs.Report.{line_of, link_word, most_links, more_words}
 use Rattle.verdict_check.proofs.DifferenceLemmas.{is_inner, IsLine}
 
 -- neither a space nor a line feed

@@ -1,21 +1,14 @@
 -- A report that is read line by line.
-use Rattle.std.proofs.Common.{◌≡◌, ◌≢◌, ℕ, zero, suc, ◌+◌, ◌-◌, ◌<◌, true, false, ◌==◌, cond, Some, None, List, [], ◌∷◌, ◌++◌, length, get_or, map, refl, sym}
-use Rattle.std.proofs.Common.{ap, ◌∙◌, subst, arith, append_assoc, append-nil}
-use Rattle.std.specs.List.{concat, AllByRecursion}
-use Rattle.std.proofs.lemmas.Bool.{cond-true, cond-false, eq-eqb, ne_eqb}
+use Rattle.verdict_check.proofs.Common.{◌≡◌, ◌≢◌, ℕ, zero, suc, ◌+◌, ◌-◌, ◌<◌, true, false, ◌==◌, Some, None, List, [], ◌∷◌, ◌++◌, length, get_or, map, refl, sym, ap, ◌∙◌, subst, arith, append_assoc, append-nil, concat, AllByRecursion, cond-true, cond-false, Contains-get_or, Protocol, Found, version_of, nothing, IsScanned, verdict_line, last_line, newest_place, behind, left, left_behind, option_map}
+use Rattle.std.proofs.Common.{cond}
+use Rattle.std.proofs.lemmas.Bool.{eq-eqb, ne_eqb}
 use Rattle.std.proofs.lemmas.List.{length-map, length_push, map-append}
-use Rattle.std.proofs.lemmas.List.Elements.{Contains-get_or}
 use Rattle.std.proofs.lemmas.List.Folds.{list_any_at, list_any_none}
-use Rattle.tx_types.specs.declared.config.Protocol.{Protocol}
-use Rattle.record_list.specs.declared.found.Found.{Found}
-use Rattle.record_list.specs.Records.{version_of, nothing, IsScanned}
 use Rattle.record_list.proofs.OfFacts.Names.{greatest_bound}
-use Rattle.verdict_report.specs.Report.{has_record, pages, verdict_line, last_line, report}
+use Rattle.verdict_report.specs.Report.{has_record, pages, report}
 use Rattle.verdict_report.proofs.PageLemmas.{pages_more}
-use Rattle.verdict_check.specs.Places.{newest_place}
-use Rattle.verdict_check.specs.Texts.{behind, left, left_behind, IsFirstDifference}
+use Rattle.verdict_check.specs.Texts.{IsFirstDifference}
 use Rattle.verdict_check.specs.declared.reading.Reading.{Reading}
-use Rattle.std.specs.Option.{option_map}
 use denote.Ref.{Bor}
 use Rattle.verdict_check.proofs.TextLemmas.{behind_some}
 use Rattle.verdict_check.proofs.PlaceLemmas.{placed, none_newest}

@@ -1,24 +1,17 @@
 -- The greatest versions that straddle the links of newest records, noted record by record along the chains.
-use Rattle.std.proofs.Common.{◌≡◌, ◌≢◌, ℕ, ◌+◌, ◌<◌, ◌≤◌, max, Option, None, Some, List, length, set, get_or, refl, sym, ap, ◌∙◌, subst, inl, inr, arith}
-use Rattle.std.proofs.Common.{get_or-set_same, le-ltb, lt-ltb, if◌then◌else◌}
+use Rattle.verdict_check.proofs.Common.{◌≡◌, ◌≢◌, ℕ, ◌+◌, ◌<◌, ◌≤◌, Option, None, Some, List, length, set, get_or, refl, sym, ap, ◌∙◌, subst, inl, inr, arith, get_or-set_same, if◌then◌else◌, cases_eq, cond-true, cond-false, nat_tests, Contains-get_or, Rec, Protocol, Scc, Found, newest, record_at, nothing, Why, Absent, is_ahead, is_behind, IsNewestAt}
+use Rattle.std.proofs.Common.{max}
+use Rattle.std.proofs.Common.{le-ltb, lt-ltb}
 use Rattle.std.specs.Prelude.{All}
-use Rattle.std.proofs.lemmas.Bool.{cases_eq, cases_order, cond-true, cond-false}
-use Rattle.std.proofs.lemmas.Bool.Decides.{nat_tests}
-use Rattle.std.proofs.lemmas.List.Elements.{Contains-get_or}
-use Rattle.list_facts.proofs.Lists.{take_whole}
-use Rattle.tx_types.specs.declared.record.Rec.{Rec}
-use Rattle.tx_types.specs.declared.config.Protocol.{Protocol}
-use Rattle.tx_types.specs.declared.config.Protocol.TheVariants.{Scc, Bpcc}
-use Rattle.record_list.specs.declared.found.Found.{Found}
-use Rattle.record_list.specs.Records.{newest, name_of, record_at, nothing}
-use Rattle.record_list.specs.declared.found.Why.{Why}
-use Rattle.record_list.specs.declared.found.Why.TheVariants.{Absent}
-use Rattle.record_list.specs.Verdict.{straddling, straddling_version, passed, is_ahead, is_behind}
+use Rattle.std.proofs.lemmas.Bool.{cases_order}
+use Rattle.list_lemmas.proofs.Lists.{take_whole}
+use Rattle.tx_types.specs.declared.config.Protocol.TheVariants.{Bpcc}
+use Rattle.record_list.specs.Records.{name_of}
+use Rattle.record_list.specs.Verdict.{straddling, straddling_version, why_below_newest}
 use Rattle.record_list.proofs.OfFacts.Greatest.{greatest_step}
 use Rattle.record_list.proofs.OfFacts.Names.{newest_bound, present_in}
-use Rattle.record_chart.specs.Charts.{ending}
+use Rattle.sorted_records.specs.SortedRecords.{ending}
 use Rattle.verdict_check.specs.Older.{version_at}
-use Rattle.verdict_check.specs.Places.{IsNewestAt}
 use Rattle.verdict_check.specs.Straddlers.{newest_link, page_behind, IsLastInto, AreStraddlersOf, TakesIn, TakesInFrom, AreStraddlers, behind_shows}
 use Rattle.verdict_check.proofs.ChainLemmas.{leads_behind}
 use Rattle.verdict_check.proofs.PlaceLemmas.{link_there}
@@ -96,7 +89,7 @@ all_straddlers list count logical straddlers end pages are at within newest_at =
 -- what the link of a newest record shows, by the table
 pub shows_behind : (protocol : Protocol) (list : List Found) (straddlers : List ℕ) (at : ℕ) → at < length list → IsNewestAt list at →
     (protocol ≡ Bpcc → AreStraddlers list straddlers) →
-    behind_shows protocol (version_at straddlers (record_at list at).page) ≡ passed protocol list (record_at list at).next
+    behind_shows protocol (version_at straddlers (record_at list at).page) ≡ why_below_newest protocol list (record_at list at).next
 shows_behind Scc list straddlers at within newest_at are = refl
 shows_behind Bpcc list straddlers at within newest_at are = ap (behind_shows Bpcc) (are refl at within newest_at)
 
@@ -106,6 +99,6 @@ pub shows_ending : (protocol : Protocol) (list : List Found) (straddlers : List 
 shows_ending protocol list straddlers at why within newest_at are behind is =
     let link = (record_at list at).next in
     is ∙ shows_behind protocol list straddlers at within newest_at are
-    ∙ sym (cond-false (is_ahead list link) Absent (if is_behind list link then passed protocol list link else Absent)
+    ∙ sym (cond-false (is_ahead list link) Absent (if is_behind list link then why_below_newest protocol list link else Absent)
     (le-ltb (newest list link.page) link.version (omega arith))
-    ∙ cond-true (is_behind list link) (passed protocol list link) Absent (lt-ltb link.version (newest list link.page) behind))
+    ∙ cond-true (is_behind list link) (why_below_newest protocol list link) Absent (lt-ltb link.version (newest list link.page) behind))

@@ -1,9 +1,7 @@
 -- What stands behind a piece at the beginning of a text.
-use Rattle.std.proofs.Common.{◌≡◌, ◌≢◌, ℕ, ◌==◌, Option, Some, None, List, [], ◌∷◌, ◌++◌, refl, sym, ap, ◌∙◌, inl, inr, eqb-true, eq-eqb}
-use Rattle.std.specs.Option.{MatchOption, option_map}
-use Rattle.std.proofs.lemmas.Bool.{cases_Bool, cond-true, cond-false}
+use Rattle.verdict_check.proofs.Common.{◌≡◌, ◌≢◌, ℕ, ◌==◌, Option, Some, None, List, [], ◌∷◌, ◌++◌, refl, sym, ap, ◌∙◌, inl, inr, eqb-true, eq-eqb, option_map, cases_Bool, cond-true, cond-false, behind, left_behind}
+use Rattle.std.specs.Option.{MatchOption}
 use denote.Ref.{Bor}
-use Rattle.verdict_check.specs.Texts.{behind, left_behind}
 
 pub behind_same : (piece rest : List ℕ) → behind piece (piece ++ rest) ≡ Some rest
 unfolding behind

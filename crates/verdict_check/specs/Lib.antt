@@ -1,6 +1,6 @@
 pub mod Texts
 pub mod Places
-pub mod Courses
+pub mod WalkEnds
 pub mod Older
 pub mod Straddlers
 pub mod Expected

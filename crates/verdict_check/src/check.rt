@@ -6,14 +6,14 @@ ghost use Rattle.verdict_check.specs.Older.{AreOlder};
 ghost use Rattle.verdict_check.specs.Straddlers.{AreStraddlers};
 ghost use Rattle.verdict_check.specs.Texts.{IsFirstDifference};
 
-use crate::course::Course;
-use crate::judge::Judge;
+use crate::checker::Checker;
 use crate::line::{read_last, read_line};
 use crate::older::note_older;
 use crate::places::note_newest;
 use crate::reading::Reading;
 use crate::records::{MOST_PAGES, Records};
 use crate::straddlers::note_straddlers;
+use crate::walk_end::WalkEnd;
 use record_list::Found;
 use tx_types::Protocol;
 
@@ -46,7 +46,7 @@ pub fn check_report(
     note_older(&records, &mut older);
     let mut straddlers = [0; MOST_PAGES];
     note_straddlers(&records, protocol, logical, &mut straddlers);
-    let judge = Judge {
+    let judge = Checker {
         records,
         older: &older,
         straddlers: &straddlers,
@@ -58,7 +58,7 @@ pub fn check_report(
 }
 
 /// Reads a report line by line.
-fn read_report(judge: &Judge, courses: &mut [Option<Course>], report: &[u8]) -> Result<u32, u32>
+fn read_report(judge: &Checker, courses: &mut [Option<WalkEnd>], report: &[u8]) -> Result<u32, u32>
     requires few { judge.now.logical ≤ 65536 }
     requires size { length courses.old ≡ 65536 }
     requires pages { All (λ f. f.rec.page < judge.now.logical) judge.now.records.list.now }

@@ -3,10 +3,8 @@
 #![tactic(auto)]
 
 mod check;
-mod course;
-mod courses;
+mod checker;
 mod expected;
-mod judge;
 mod line;
 mod older;
 mod places;
@@ -14,6 +12,8 @@ mod reading;
 mod records;
 mod straddlers;
 mod theorems;
+mod walk_end;
+mod walk_ends;
 
 pub use check::check_report;
 pub use theorems::yes_means;

@@ -1,8 +1,8 @@
 ghost use Rattle.std.specs.Prelude.{◌≡◌, ◌<◌, length};
 ghost use Rattle.record_list.specs.Records.{newest, record_at};
 ghost use Rattle.record_list.specs.Verdict.{newest_name, link_of};
-ghost use Rattle.record_chart.specs.Charts.{place_of, link_graph};
-ghost use Rattle.record_chart.specs.Orbits.{next_of};
+ghost use Rattle.sorted_records.specs.SortedRecords.{place_of, link_graph};
+ghost use Rattle.sorted_records.specs.Orbits.{next_of};
 ghost use Rattle.verdict_check.specs.Places.{newest_place, ArePlaces};
 
 use record_list::Found;

@@ -1,3 +1,4 @@
+mod Common
 pub mod WalkLemmas
 pub mod WalkLengths
 pub mod LineLemmas

@@ -1,18 +1,15 @@
 -- The words of a line, one after another.
-use Rattle.std.proofs.Common.{◌≡◌, ℕ, cond, List, [], ◌∷◌, ◌++◌, map, sym, ap, ap₂, ◌∙◌, append-nil, append_assoc, codes}
+use Rattle.verdict_report.proofs.Common.{◌≡◌, ℕ, cond, List, [], ◌∷◌, ◌++◌, map, sym, ap, ap₂, ◌∙◌, append-nil, append_assoc, Protocol, Found, newest, links_of, verdict_word, link_word, walk_words, page_line, verdict_line, after_spaces}
+use Rattle.std.proofs.Common.{codes}
 use Rattle.std.specs.List.{join_with_byte}
 use Rattle.std.specs.Fmt.{decimal}
 use Rattle.std.proofs.lemmas.List.Concat.{flat_map-append}
-use Rattle.tx_types.specs.declared.config.Protocol.{Protocol}
-use Rattle.record_list.specs.declared.found.Found.{Found}
 use Rattle.record_list.specs.declared.found.Why.{Why}
-use Rattle.record_list.specs.Records.{newest}
 use Rattle.record_list.specs.Verdict.{why, verdict_of, is_committed}
 use Rattle.record_list.specs.Current.{cur, fallback}
 use Rattle.verdict_report.specs.declared.walk.Walk.{Walk}
-use Rattle.verdict_report.specs.Walks.{links_of}
-use Rattle.verdict_report.specs.Report.{verdict_word, reason_words, link_word, more_words, walk_words, page_line, verdict_line}
-use Rattle.verdict_report.specs.Lines.{after_spaces, IsWalk, shown_words}
+use Rattle.verdict_report.specs.Report.{reason_words, more_words}
+use Rattle.verdict_report.specs.Lines.{IsWalk, shown_words}
 
 -- words with a space between each two are the first and the others with a space before each
 join_after_spaces : (word : List ℕ) (words : List (List ℕ)) → join_with_byte 32 (word ∷ words) ≡ word ++ after_spaces words

@@ -1,20 +1,18 @@
 -- The newest record of each page, kept in a table as a list is gone through.
-use Rattle.std.proofs.Common.{◌≡◌, ℕ, ◌+◌, ◌<◌, ◌≤◌, max, Bool, true, false, cond, ◌||◌, ◌&&◌, eqb, ltb, Option, Some, None, is_some, List, [], ◌∷◌, ◌++◌}
-use Rattle.std.proofs.Common.{length, get_or, set, take, refl, sym, ap, ◌∙◌, subst, inl, inr, arith, eqb-true, eq-eqb, lt-ltb, get_or-set_same}
+use Rattle.verdict_report.proofs.Common.{◌≡◌, ℕ, ◌+◌, ◌<◌, ◌≤◌, Bool, true, false, cond, ◌||◌, Some, None, List, [], ◌∷◌, ◌++◌, length, take, refl, sym, ap, ◌∙◌, subst, inl, inr, arith, cases_Bool, cases_lt, cond-true, cond-false, Link, Found, newest, newest_name, link_of, has_record}
+use Rattle.std.proofs.Common.{max, ◌&&◌, eqb, ltb, Option, is_some}
+use Rattle.std.proofs.Common.{get_or, set, eqb-true, eq-eqb, lt-ltb, get_or-set_same}
 use Rattle.std.proofs.Common.{get_or-set_other}
 use Rattle.std.proofs.Math.Nat.{max-eq_left, max-eq_right}
-use Rattle.std.proofs.lemmas.Bool.{false≢true, cases_Bool, cases_lt, cases_eq, cond-true, cond-false, and_parts, ne_eqb, le-ltb, or_left, or_right, or_parts}
+use Rattle.std.proofs.lemmas.Bool.{false≢true, cases_eq, and_parts, ne_eqb, le-ltb, or_left, or_right, or_parts}
 use Rattle.std.proofs.lemmas.Grind.{take_at_read}
 use Rattle.std.proofs.lemmas.List.Folds.{list_any-append}
 use Rattle.std.proofs.lemmas.List.Recursion.{max_push}
-use Rattle.list_facts.proofs.Values.{or_second}
-use Rattle.tx_types.specs.declared.record.Link.{Link}
+use Rattle.list_lemmas.proofs.Values.{or_second}
 use Rattle.tx_types.specs.declared.record.Rec.{Rec}
-use Rattle.record_list.specs.declared.found.Found.{Found}
-use Rattle.record_list.specs.Records.{greatest, version_of, newest, has_name, is_present, nothing}
-use Rattle.record_list.specs.Verdict.{newest_name, link_of, back_of}
+use Rattle.record_list.specs.Records.{greatest, version_of, has_name, is_present, nothing}
+use Rattle.record_list.specs.Verdict.{back_of}
 use Rattle.record_list.proofs.OfFacts.Names.{newest_bound, has_own_name, named}
-use Rattle.verdict_report.specs.Report.{has_record}
 use Rattle.verdict_report.specs.Newest.{IsNewestRecord, KeepsNewest, kept_at, newer, version_in, link_in, back_in}
 
 -- the page of a present name has a record

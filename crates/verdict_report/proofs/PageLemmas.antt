@@ -1,18 +1,16 @@
 -- The pages that have a record.
-use Rattle.std.proofs.Common.{◌≡◌, ℕ, zero, suc, ◌+◌, ◌<◌, ◌≤◌, true, false, cond, List, [], ◌∷◌, ◌++◌, length, map, filter, Contains, refl, sym, ap, ap₂, ◌∙◌}
-use Rattle.std.proofs.Common.{subst, inl, inr, arith, map-id, add-one, append-nil, append_assoc, Some, None}
+use Rattle.verdict_report.proofs.Common.{◌≡◌, ℕ, zero, suc, ◌+◌, ◌<◌, ◌≤◌, true, false, cond, List, [], ◌∷◌, ◌++◌, length, map, refl, sym, ap, ap₂, ◌∙◌, subst, inl, inr, arith, append-nil, append_assoc, Some, None, cases_lt, cond-true, cond-false, Protocol, Found, has_record, pages, verdict_line, report}
+use Rattle.std.proofs.Common.{filter, Contains}
+use Rattle.std.proofs.Common.{map-id, add-one}
 use Rattle.std.specs.List.{range_with_len, flat_map, concat}
 use Rattle.std.specs.List.Sorted.{IsStrictlyIncreasing}
-use Rattle.std.proofs.lemmas.Bool.{cases_lt, cond-true, cond-false}
 use Rattle.std.proofs.lemmas.List.{flat_map_more, length_push}
 use Rattle.std.proofs.lemmas.List.Elements.{All-contains, All-filter, filter_passes, Contains-append_left, Contains-append_right}
 use Rattle.std.proofs.lemmas.List.FromFn.{length-range_with_len, get_or-range_with_len, filter_of_map_range_with_len_more}
 use Rattle.std.proofs.lemmas.List.Sums.{length-filter, count_by-le-length}
 use Rattle.std.proofs.lemmas.List.Kept.{IsStrictlyIncreasing-filter}
-use Rattle.tx_types.specs.declared.config.Protocol.{Protocol}
-use Rattle.record_list.specs.declared.found.Found.{Found}
 use Rattle.tx_types.specs.declared.record.Rec.{Rec}
-use Rattle.verdict_report.specs.Report.{has_record, pages, verdict_line, last_line, report}
+use Rattle.verdict_report.specs.Report.{last_line}
 use Rattle.verdict_report.specs.Newest.{IsNewestRecord}
 
 -- one page more

@@ -1,15 +1,11 @@
 -- A walk, link by link.
-use Rattle.std.proofs.Common.{◌≡◌, ℕ, zero, suc, ◌+◌, ◌-◌, ◌<◌, ◌≤◌, min, Bool, true, false, cond, ◌||◌, List, [], ◌∷◌, ◌++◌, length, get_or, take, refl, sym}
-use Rattle.std.proofs.Common.{ap, ap₂, ◌∙◌, subst, inl, inr, arith, append-nil, append_assoc, Some, None}
-use Rattle.std.proofs.lemmas.Bool.{false≢true, cases_Bool, cases_lt, cond-true, cond-false}
+use Rattle.verdict_report.proofs.Common.{◌≡◌, ℕ, zero, suc, ◌+◌, ◌<◌, ◌≤◌, min, Bool, true, false, cond, ◌||◌, List, [], ◌∷◌, ◌++◌, length, take, refl, sym, ap, ap₂, ◌∙◌, subst, inl, inr, arith, append-nil, append_assoc, Some, None, cases_Bool, cases_lt, cond-true, cond-false, Link, Protocol, Found, is_same, newest_name, link_of, walk_links, links_of}
+use Rattle.std.proofs.Common.{◌-◌, get_or}
+use Rattle.std.proofs.lemmas.Bool.{false≢true}
 use Rattle.std.proofs.Math.Nat.{min-eq_left, min-eq_right}
-use Rattle.tx_types.specs.declared.record.Link.{Link}
-use Rattle.tx_types.specs.declared.config.Protocol.{Protocol}
-use Rattle.record_list.specs.declared.found.Found.{Found}
 use Rattle.record_list.specs.declared.found.Why.TheVariants.{Cycle, Absent}
-use Rattle.record_list.specs.Records.{is_same}
-use Rattle.record_list.specs.Verdict.{newest_name, link_of, passed, is_ahead, is_behind, walk}
-use Rattle.verdict_report.specs.Walks.{is_end, walk_links, links_of, why_by_last_link, IsDecidingWalk}
+use Rattle.record_list.specs.Verdict.{why_below_newest, is_ahead, is_behind, walk}
+use Rattle.verdict_report.specs.Walks.{is_end, why_by_last_link, IsDecidingWalk}
 
 -- the last of a link and those after it
 abbrev last_of : Link → List Link → Link
@@ -56,9 +52,9 @@ module _ (list : List Found) (start : Link) where
   walk_shown protocol zero link =
       ap (λ links. why_by_last_link protocol list start (last_of link links)) (sym (after_none link))
   walk_shown protocol (suc turns) link = elim (cases_Bool (is_end list start link)) [
-    | inl e ↦ one_of (is_ahead list link) (is_behind list link) (is_same link start) Absent (passed protocol list link) Cycle _ Absent e
+    | inl e ↦ one_of (is_ahead list link) (is_behind list link) (is_same link start) Absent (why_below_newest protocol list link) Cycle _ Absent e
         ∙ ap (λ links. why_by_last_link protocol list start (last_of link links)) (sym (after_end (suc turns) link e))
-    | inr e ↦ none_of (is_ahead list link) (is_behind list link) (is_same link start) Absent (passed protocol list link) Cycle _ e
+    | inr e ↦ none_of (is_ahead list link) (is_behind list link) (is_same link start) Absent (why_below_newest protocol list link) Cycle _ e
         ∙ walk_shown protocol turns (link_of list link)
         ∙ ap (λ links. why_by_last_link protocol list start (last_of link links)) (sym (after_more (suc turns) link e))
   ]

@@ -1,23 +1,21 @@
 -- How many links a walk takes, by the orbit of the place at which it begins.
-use Rattle.std.proofs.Common.{◌≡◌, ◌≢◌, ℕ, zero, suc, ◌+◌, ◌<◌, ◌≤◌, min, Bool, true, false, if◌then◌else◌, ◌==◌, Option, Some, None, List, length, position}
-use Rattle.std.proofs.Common.{refl, sym, ap, ap₂, ◌∙◌, subst, inl, inr, arith, eq-eqb, lt-ltb}
+use Rattle.verdict_report.proofs.Common.{◌≡◌, ℕ, zero, suc, ◌+◌, ◌<◌, ◌≤◌, min, Bool, true, false, Some, None, List, length, refl, sym, ap, ap₂, ◌∙◌, subst, inl, inr, arith, cases_Bool, cases_lt, cond-true, cond-false, Link, Found, newest, is_same, newest_name, walk_links, links_of}
+use Rattle.std.proofs.Common.{◌≢◌, if◌then◌else◌, ◌==◌, Option, position}
+use Rattle.std.proofs.Common.{eq-eqb, lt-ltb}
 use Rattle.std.proofs.Math.Nat.{min-eq_left, min-eq_right}
-use Rattle.std.proofs.lemmas.Bool.{cases_Bool, cases_eq, cases_lt, cases_order, cond-true, cond-false, le-ltb, ne_eqb}
+use Rattle.std.proofs.lemmas.Bool.{cases_eq, cases_order, le-ltb, ne_eqb}
 use Rattle.std.proofs.lemmas.List.Quantifiers.{position-Some}
-use Rattle.tx_types.specs.declared.record.Link.{Link}
 use Rattle.tx_types.specs.declared.config.Protocol.TheVariants.{Scc}
-use Rattle.record_list.specs.declared.found.Found.{Found}
-use Rattle.record_list.specs.Records.{newest, has_name, is_present, is_same, record_at, nothing}
-use Rattle.record_list.specs.Verdict.{newest_name}
+use Rattle.record_list.specs.Records.{has_name, is_present, record_at, nothing}
 use Rattle.record_list.proofs.OfFacts.Names.{absent_link, has_name_true}
-use Rattle.record_chart.specs.declared.orbit.Orbit.{Orbit}
-use Rattle.record_chart.specs.declared.orbit.Orbit.TheVariants.{Ends, Round, Aside}
-use Rattle.record_chart.specs.Orbits.{next_of, steps, IsEnd, IsOrbit}
-use Rattle.record_chart.specs.Charts.{place_of, link_graph, IsOrbitOfNewest}
-use Rattle.record_chart.proofs.OfChart.Steps.{some_or_none, steps_none, steps_stop, steps_more, round_goes_on}
-use Rattle.record_chart.proofs.OfWalk.WalkOrbits.{link_at, absent_at, same_as_itself, next_at, leads, same_place, next_within, end_never}
+use Rattle.sorted_records.specs.declared.orbit.Orbit.{Orbit}
+use Rattle.sorted_records.specs.declared.orbit.Orbit.TheVariants.{Ends, Round, Aside}
+use Rattle.sorted_records.specs.Orbits.{next_of, steps, IsEnd, IsOrbit}
+use Rattle.sorted_records.specs.SortedRecords.{place_of, link_graph, IsOrbitOfNewest}
+use Rattle.sorted_records.proofs.OfRecords.Steps.{some_or_none, steps_none, steps_stop, steps_more, round_goes_on}
+use Rattle.sorted_records.proofs.OfWalk.WalkOrbits.{link_at, absent_at, same_as_itself, next_at, leads, same_place, next_within, end_never}
 use Rattle.verdict_report.proofs.WalkLemmas.{one_less}
-use Rattle.verdict_report.specs.Walks.{stays_at, walk_links, links_of}
+use Rattle.verdict_report.specs.Walks.{stays_at}
 
 module _ (list : List Found) (start : Link) (first : ℕ) (there : position (λ f. has_name start f.rec) list ≡ Some first) where
   abbrev graph : List (Option ℕ)

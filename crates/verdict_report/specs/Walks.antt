@@ -6,7 +6,7 @@ use Rattle.record_list.specs.declared.found.Found.{Found}
 use Rattle.record_list.specs.declared.found.Why.{Why}
 use Rattle.record_list.specs.declared.found.Why.TheVariants.{Cycle, Absent}
 use Rattle.record_list.specs.Records.{newest, is_present, is_same}
-use Rattle.record_list.specs.Verdict.{newest_name, link_of, passed, is_ahead, is_behind, why}
+use Rattle.record_list.specs.Verdict.{newest_name, link_of, why_below_newest, is_ahead, is_behind, why}
 
 -- whether a walk from the record `start` ends at this link
 abbrev pub is_end : List Found → Link → Link → Bool
@@ -33,7 +33,7 @@ links_of list logical page =
 abbrev pub why_by_last_link : Protocol → List Found → Link → Link → Why
 why_by_last_link protocol list start link =
     if is_ahead list link then Absent
-    else if is_behind list link then passed protocol list link
+    else if is_behind list link then why_below_newest protocol list link
     else if is_same link start then Cycle
     else Absent
 

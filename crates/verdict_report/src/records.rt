@@ -2,12 +2,12 @@ ghost use Rattle.std.specs.Prelude.{◌≡◌, ℕ, ◌+◌, ◌^◌, ◌<◌, �
 ghost use Rattle.record_list.specs.Records.{newest};
 ghost use Rattle.record_list.specs.Verdict.{newest_name, link_of, why, is_committed};
 ghost use Rattle.record_list.specs.Current.{fallback};
-ghost use Rattle.record_chart.specs.Charts.{Sorts};
+ghost use Rattle.sorted_records.specs.SortedRecords.{Sorts};
 ghost use Rattle.verdict_report.specs.Walks.{is_end, stays_at, links_of};
 ghost use Rattle.verdict_report.specs.Newest.{IsNewestRecord, KeepsNewest, kept_at, newer};
 
-use record_chart::{Chart, Orbit};
 use record_list::{Found, Verdict, Why};
+use sorted_records::{Orbit, SortedRecords};
 use std::alloc::Global;
 use tx_types::{Link, Memory, Protocol, Rec};
 
@@ -15,7 +15,7 @@ use tx_types::{Link, Memory, Protocol, Rec};
 /// several slots, the one in the lowest.
 #[derive(Drop)]
 pub struct Records {
-    chart: Chart,
+    chart: SortedRecords,
     newest: Vec<Option<Rec>>,
     ghost kept: { KeepsNewest chart newest.items },
 }
@@ -25,7 +25,7 @@ impl Records {
     pub fn new(alloc: Global, list: &[Found]) -> Result<Records, Memory>
         ensures { IfOk result (λ r. Sorts list.now r.chart) }
     {
-        let chart = Chart::of(alloc, list)?;
+        let chart = SortedRecords::of(alloc, list)?;
         let newest = newest_records(alloc, chart.records())?;
         Ok(Records { chart, newest })
     }

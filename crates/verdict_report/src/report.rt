@@ -87,7 +87,7 @@ fn write_lines(
     let mut count = 0;
     for page in 0..logical {
         if let Some(rec) = records.newest_record(page) {
-            let line = explained(alloc, protocol, records, logical, page, &rec)?;
+            let line = explain_page(alloc, protocol, records, logical, page, &rec)?;
             line.write(&mut room, text)?;
             count += 1;
         }
@@ -106,7 +106,7 @@ fn write_last(count: u32, text: &mut Vec<u8>) -> Result<(), AllocError>
 }
 
 /// What the report says of a page, from its newest record.
-fn explained(
+fn explain_page(
     alloc: Global,
     protocol: Protocol,
     records: &Records,

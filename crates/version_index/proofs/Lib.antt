@@ -1,3 +1,4 @@
+mod Common
 pub mod OfOpening
 pub mod OfCommit
 pub mod OfProgram

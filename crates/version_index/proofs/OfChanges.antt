@@ -3,4 +3,4 @@ pub mod NotedChanges
 pub mod Copies
 pub mod Pins
 pub mod Mentions
-pub mod WholeJudged
+pub mod WholeDerived

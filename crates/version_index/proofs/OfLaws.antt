@@ -1,4 +1,4 @@
-pub mod JudgedLaws
+pub mod DerivedLaws
 pub mod ImageLaws
 pub mod ImageScans
 pub mod Mirror

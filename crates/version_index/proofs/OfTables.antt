@@ -1,9 +1,9 @@
 pub mod Blocks
 pub mod CurrentNames
 pub mod FoundIn
-pub mod Given
+pub mod BaseTables
 pub mod HomeFacts
-pub mod Judged
+pub mod Derived
 pub mod KeptNotes
 pub mod NotedFacts
 pub mod Numbered

@@ -13,7 +13,7 @@ use Rattle.version_index.specs.declared.note.Note.TheVariants.{Blank, Damaged, H
 use Rattle.record_list.specs.Losses.{IsSpared}
 use Rattle.version_index.specs.Images.{records_in, array_in, IsLeastImageBreach}
 use Rattle.version_index.specs.SlotLosses.{LosesSlots}
-use Rattle.version_index.specs.Noted.{Noted, current_of, home_of, slot_off, needed_of, block_to_go, garbage_of, pinned_names, raised}
+use Rattle.version_index.specs.IndexState.{IndexState, current_of, home_of, slot_off, needed_of, block_to_go, garbage_of, pinned_names, raised}
 
 abbrev pub name : ℕ → ℕ → Link
 name page version = record { page = page; version = version }
@@ -37,7 +37,7 @@ config protocol = record {
 
 -- a record of page 0 with a copy in the spare, which is block 0, and one in each of the next two blocks; a
 -- damaged slot; and an aborted record of page 1
-abbrev pub doubled : Protocol → Noted
+abbrev pub doubled : Protocol → IndexState
 doubled protocol = record {
   config = config protocol;
   notes = Blank ∷ Holds (rec 0 1 0 1 0) ∷ Blank

@@ -11,7 +11,7 @@ use Rattle.record_list.specs.declared.found.Found.{Found}
 use Rattle.record_list.specs.Records as records
 use Rattle.record_list.specs.Records.{name_of, has_name, is_present}
 use Rattle.record_list.specs.Current.{cur}
-use Rattle.slot_tables.specs.Kept.{Kept, use_at, record_at, number_at, blank_tables, IsNewest}
+use Rattle.slot_tables.specs.TablesState.{TablesState, use_at, record_at, number_at, blank_tables, IsNewest}
 use Rattle.slot_tables.specs.declared.slots.SlotUse.{SlotUse}
 use Rattle.slot_tables.specs.declared.slots.SlotUse.TheVariants as slot
 use Rattle.version_index.specs.declared.note.Note.{Note}
@@ -19,13 +19,13 @@ use Rattle.version_index.specs.declared.note.Note.TheVariants as note
 use Rattle.flash_model.specs.declared.flash.Seen.{Seen}
 use Rattle.flash_model.specs.declared.flash.Seen.TheVariants as seen
 use Rattle.version_index.specs.Notes.{found_in, note_at, seen_as}
-use Rattle.version_index.specs.Judged.{name_at, answerer, is_waiting}
-use Rattle.version_index.specs.JudgedChanges.{Judged}
+use Rattle.version_index.specs.Derived.{name_at, answerer, is_waiting}
+use Rattle.version_index.specs.DerivedChanges.{Derived}
 use Rattle.version_index.specs.Numbered.{awaited}
 
 -- what is judged of a list of records
-abbrev pub judged_by : Protocol → List Found → ℕ → Judged
-judged_by protocol list logical = record {
+abbrev pub derived_by : Protocol → List Found → ℕ → Derived
+derived_by protocol list logical = record {
   current = cur protocol list logical;
   answerer = answerer protocol list logical;
   waits = is_waiting protocol list logical;
@@ -36,17 +36,17 @@ abbrev pub NamesAgree : List Found → Type 0
 NamesAgree list = (f g : Found) → Contains list f → Contains list g → name_of f.rec ≡ name_of g.rec → f.rec ≡ g.rec
 
 -- no record of its page is newer
-abbrev pub IsNotOlder : Kept → Rec → Type 0
+abbrev pub IsNotOlder : TablesState → Rec → Type 0
 IsNotOlder k rec = (x : ℕ) (r : Rec) → record_at k.records x ≡ Some r → r.page ≡ rec.page → r.version ≤ rec.version
 
 -- a number has a record of this name
-pub record IsKnown (k : Kept) (rec : Rec) (x : ℕ) : Type 0 where
+pub record IsKnown (k : TablesState) (rec : Rec) (x : ℕ) : Type 0 where
   pub known : Rec
   pub is : record_at k.records x ≡ Some known
   pub its_name : name_of known ≡ name_of rec
 
 -- a number without a record got this one
-pub record IsNumbered (k new : Kept) (rec : Rec) (x : ℕ) : Type 0 where
+pub record IsNumbered (k new : TablesState) (rec : Rec) (x : ℕ) : Type 0 where
   pub free : record_at k.records x ≡ None
   pub newest : IsNewest k.records rec
   pub rest : new ≡ record k { records = new.records; pages = new.pages }
@@ -56,11 +56,11 @@ pub record IsNumbered (k new : Kept) (rec : Rec) (x : ℕ) : Type 0 where
   pub others : (y : ℕ) → (y ≡ x → ⊥) → record_at new.records y ≡ record_at k.records y
 
 -- the record has this number
-abbrev pub HasNumber : Kept → Kept → Rec → ℕ → Type 0
+abbrev pub HasNumber : TablesState → TablesState → Rec → ℕ → Type 0
 HasNumber k new rec x = ((new ≡ k) × IsKnown k rec x) ⊎ IsNumbered k new rec x
 
 -- the first records of a list have these numbers, and no others have records
-pub record AreNumbered (list : List Found) (numbers : List ℕ) (k : Kept) : Type 0 where
+pub record AreNumbered (list : List Found) (numbers : List ℕ) (k : TablesState) : Type 0 where
   pub each :
       (j : ℕ) → j < length numbers → record_at k.records (slice_index numbers j) ≡ Some (records.record_at list j)
   pub some :
@@ -71,7 +71,7 @@ pub record AreNumbered (list : List Found) (numbers : List ℕ) (k : Kept) : Typ
       name_of r ≡ name_of s → x ≡ y
 
 -- blank slots, and records with numbers
-pub record AreBlankBut (its_shape : Shape) (logical : ℕ) (k : Kept) : Type 0 where
+pub record AreBlankBut (its_shape : Shape) (logical : ℕ) (k : TablesState) : Type 0 where
   pub rest : k ≡ record (blank_tables its_shape logical) { records = k.records; pages = k.pages }
   pub pages : length k.pages ≡ logical
   pub sizes : length k.records ≡ slots_of its_shape
@@ -126,27 +126,27 @@ number_by list numbers name =
     option_and_then (λ l. option_map (λ place. slice_index numbers place) (position (λ f. has_name l f.rec) list)) name
 
 -- each page has the number of its current record
-pub record AreCurrent (protocol : Protocol) (list : List Found) (numbers : List ℕ) (logical : ℕ) (k new : Kept) : Type 0 where
+pub record AreCurrent (protocol : Protocol) (list : List Found) (numbers : List ℕ) (logical : ℕ) (k new : TablesState) : Type 0 where
   pub rest : new ≡ record k { current = new.current }
   pub each :
       (page : ℕ) → page < logical →
       number_at new.current page ≡ number_by list numbers (name_at page (cur protocol list logical page))
 
 -- the numbers at the first places of a list wait and have answerers as their records do, and others as before
-pub record AreDecided (protocol : Protocol) (list : List Found) (numbers : List ℕ) (logical : ℕ) (k new : Kept) (count : ℕ) : Type 0 where
+pub record AreDecided (protocol : Protocol) (list : List Found) (numbers : List ℕ) (logical : ℕ) (k new : TablesState) (count : ℕ) : Type 0 where
   pub rest : new ≡ record k { answerers = new.answerers; waits = new.waits }
   pub answerers : length new.answerers ≡ length k.answerers
   pub waits : length new.waits ≡ length k.waits
   pub done :
       (j : ℕ) → j < count →
       (number_at new.answerers (slice_index numbers j) ≡ number_by list numbers (answerer protocol list logical (records.record_at list j)))
-      × (number_at new.waits (slice_index numbers j) ≡ awaited (judged_by protocol list logical) (records.record_at list j))
+      × (number_at new.waits (slice_index numbers j) ≡ awaited (derived_by protocol list logical) (records.record_at list j))
   pub others :
       (x : ℕ) → ((j : ℕ) → j < count → slice_index numbers j ≢ x) →
       (number_at new.answerers x ≡ number_at k.answerers x) × (number_at new.waits x ≡ number_at k.waits x)
 
 -- tables that are filled with the records of a list, in the order of their names
-pub record AreFilled (protocol : Protocol) (list : List Found) (its_shape : Shape) (logical : ℕ) (t : Kept) : Type 0 where
+pub record AreFilled (protocol : Protocol) (list : List Found) (its_shape : Shape) (logical : ℕ) (t : TablesState) : Type 0 where
   pub numbers : List ℕ
   pub whole : length numbers ≡ length list
   pub numbered : AreNumbered list numbers t
@@ -159,7 +159,7 @@ pub record AreFilled (protocol : Protocol) (list : List Found) (its_shape : Shap
   pub done :
       (j : ℕ) → j < length list →
       (number_at t.answerers (slice_index numbers j) ≡ number_by list numbers (answerer protocol list logical (records.record_at list j)))
-      × (number_at t.waits (slice_index numbers j) ≡ awaited (judged_by protocol list logical) (records.record_at list j))
+      × (number_at t.waits (slice_index numbers j) ≡ awaited (derived_by protocol list logical) (records.record_at list j))
   pub others :
       (x : ℕ) → ((j : ℕ) → j < length list → slice_index numbers j ≢ x) →
       (number_at t.answerers x ≡ None) × (number_at t.waits x ≡ None)

@@ -4,8 +4,8 @@ use Rattle.std.specs.Option.{option_map}
 use Rattle.tx_types.specs.declared.record.Link.{Link}
 use Rattle.tx_types.specs.declared.record.Rec.{Rec}
 use Rattle.record_list.specs.Records.{name_of}
-use Rattle.version_index.specs.Judged.{name_at}
-use Rattle.version_index.specs.JudgedChanges.{Judged}
+use Rattle.version_index.specs.Derived.{name_at}
+use Rattle.version_index.specs.DerivedChanges.{Derived}
 
 -- the record of each number, of each page the number of its current record, and of each number the one that
 -- answers for it and the page that it waits for
@@ -28,11 +28,11 @@ abbrev pub named : List (Option Rec) → Option ℕ → Option (Option Link)
 named records number = option_map (λ x. option_map name_of (rec_at records x)) number
 
 -- the page that a record waits for, if it waits
-abbrev pub awaited : Judged → Rec → Option ℕ
+abbrev pub awaited : Derived → Rec → Option ℕ
 awaited j r = if j.waits r then Some r.next.page else None
 
 -- what is kept by numbers is what is judged by names
-pub record AreJudged (t : Numbered) (logical : ℕ) (j : Judged) : Type 0 where
+pub record AreDerived (t : Numbered) (logical : ℕ) (j : Derived) : Type 0 where
   pub current :
       (page : ℕ) → page < logical →
       named t.records (number_at t.current page) ≡ option_map Some (name_at page (j.current page))

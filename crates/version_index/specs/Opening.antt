@@ -12,7 +12,7 @@ use Rattle.record_list.specs.Records.{mention}
 use Rattle.record_list.specs.Written.{IsRemovable}
 use Rattle.version_index.specs.Images.{records_in}
 use Rattle.version_index.specs.Notes.{notes_of}
-use Rattle.version_index.specs.Noted.{Noted}
+use Rattle.version_index.specs.IndexState.{IndexState}
 use Rattle.flash_model.specs.Readings.{seen_in, reads_blank_block}
 
 -- of so many blocks this one is the highest of which the fact holds
@@ -44,7 +44,7 @@ IsChosenSpare config image spare =
     (records_in config.protocol image) spare
 
 -- what is noted of an image when its device is opened with this spare
-abbrev pub opening_noted : Config → List Contents → ℕ → Noted
+abbrev pub opening_noted : Config → List Contents → ℕ → IndexState
 opening_noted config image spare = record {
   config = config;
   notes = notes_of config.protocol image;

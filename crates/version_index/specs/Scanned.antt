@@ -8,14 +8,14 @@ use Rattle.flash_model.specs.declared.flash.Seen.{Seen}
 use Rattle.record_list.specs.declared.found.Found.{Found}
 use Rattle.record_list.specs.Records.{IsScanned}
 use Rattle.record_list.specs.SoundList.{IsSoundList}
-use Rattle.record_chart.specs.Charts.{Sorts}
-use Rattle.record_chart.specs.Standings as standing
-use Rattle.slot_tables.specs.Kept.{Kept, blank_tables}
+use Rattle.sorted_records.specs.SortedRecords.{Sorts}
+use Rattle.sorted_records.specs.CurrentVersions as standing
+use Rattle.slot_tables.specs.TablesState.{TablesState, blank_tables}
 use Rattle.version_index.specs.Filling.{NamesAgree}
 use Rattle.version_index.specs.Notes.{complete_slots}
 
 -- the records of a sound list, which slots that read so hold, stand so
-pub record AreScanned (protocol : Protocol) (its : Config) (scanned : List Seen) (list : List Found) (judged : standing.Judged) : Type 0 where
+pub record AreScanned (protocol : Protocol) (its : Config) (scanned : List Seen) (list : List Found) (judged : standing.CurrentVersionsState) : Type 0 where
   pub reads : length scanned ≡ slots_of (shape_of its)
   pub complete : map (λ f. f.slot.0) list ≡ complete_slots scanned
   pub slots : IsScanned list
@@ -23,7 +23,7 @@ pub record AreScanned (protocol : Protocol) (its : Config) (scanned : List Seen)
   pub sorts : Sorts list judged.list
 
 -- blank tables have room for slots that read so and hold the records of a list
-pub record CanFill (logical : ℕ) (scanned : List Seen) (list charted : List Found) (k : Kept) : Type 0 where
+pub record CanFill (logical : ℕ) (scanned : List Seen) (list charted : List Found) (k : TablesState) : Type 0 where
   pub blank : k ≡ blank_tables k.shape logical
   pub reads : length scanned ≡ slots_of k.shape
   pub complete : map (λ f. f.slot.0) list ≡ complete_slots scanned

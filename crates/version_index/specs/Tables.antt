@@ -8,12 +8,12 @@ use Rattle.tx_types.specs.declared.record.Rec.{Rec}
 use Rattle.record_list.specs.Records.{name_of}
 use Rattle.slot_tables.specs.declared.slots.SlotUse.{SlotUse}
 use Rattle.slot_tables.specs.declared.slots.SlotUse.TheVariants as slot
-use Rattle.slot_tables.specs.Kept.{Kept, use_at}
+use Rattle.slot_tables.specs.TablesState.{TablesState, use_at}
 use Rattle.version_index.specs.declared.note.Note.{Note}
 use Rattle.version_index.specs.declared.note.Note.TheVariants as note
-use Rattle.version_index.specs.Noted.{Noted, IsNoted}
-use Rattle.version_index.specs.JudgedChanges.{judged_of}
-use Rattle.version_index.specs.Numbered.{Numbered, rec_at, number_at, AreJudged}
+use Rattle.version_index.specs.IndexState.{IndexState, IsNoted}
+use Rattle.version_index.specs.DerivedChanges.{derived_of}
+use Rattle.version_index.specs.Numbered.{Numbered, rec_at, number_at, AreDerived}
 use Rattle.version_index.specs.declared.index.Index.TheInside.{Inside}
 
 -- what is noted of a slot that is used so
@@ -22,11 +22,11 @@ note_in records slot.Blank = note.Blank
 note_in records slot.Damaged = note.Damaged
 note_in records (slot.Holds number) = option_map_or note.Holds (rec_at records number) note.Damaged
 
-abbrev pub notes_in : Kept → List Note
+abbrev pub notes_in : TablesState → List Note
 notes_in k = map (note_in k.records) k.slots
 
 -- what is noted by tables, for a configuration and the mentions
-abbrev pub noted_by : Config → List ℕ → Kept → Noted
+abbrev pub noted_by : Config → List ℕ → TablesState → IndexState
 noted_by its its_mentions k = record {
   config = its;
   notes = notes_in k;
@@ -35,18 +35,18 @@ noted_by its its_mentions k = record {
   mentions = its_mentions;
 }
 
-abbrev pub noted_of : {R : Type 0} → Inside R → Noted
+abbrev pub noted_of : {R : Type 0} → Inside R → IndexState
 noted_of d = noted_by d.config d.mentions.items d.tables
 
 -- the version of the record of a number, 0 where there is none
-abbrev pub version_at : Kept → Option ℕ → ℕ
+abbrev pub version_at : TablesState → Option ℕ → ℕ
 version_at k number = option_map_or (λ x. option_map_or (λ r. r.version) (rec_at k.records x) 0) number 0
 
 -- whether the record of a number discards its page, which none does where there is none
-abbrev pub discard_at : Kept → Option ℕ → Bool
+abbrev pub discard_at : TablesState → Option ℕ → Bool
 discard_at k number = option_map_or (λ x. option_map_or (λ r. r.discard) (rec_at k.records x) false) number false
 
-abbrev pub numbered_of : Kept → Numbered
+abbrev pub numbered_of : TablesState → Numbered
 numbered_of k = record {
   records = k.records;
   current = k.current;
@@ -56,7 +56,7 @@ numbered_of k = record {
 
 -- Each slot that holds a number holds its record, each record of a number is in some slot, no two numbers
 -- have records of one name, and a number without a record has no answerer and does not wait.
-pub record AreHeld (k : Kept) : Type 0 where
+pub record AreHeld (k : TablesState) : Type 0 where
   pub held : (at x : ℕ) → use_at k.slots at ≡ slot.Holds x → (r : Rec) × (rec_at k.records x ≡ Some r)
   pub used : (x : ℕ) (r : Rec) → rec_at k.records x ≡ Some r → (at : ℕ) × (use_at k.slots at ≡ slot.Holds x)
   pub once : (x y : ℕ) (r s : Rec) → rec_at k.records x ≡ Some r → rec_at k.records y ≡ Some s →
@@ -65,12 +65,12 @@ pub record AreHeld (k : Kept) : Type 0 where
       (number_at k.answerers x ≡ None) × (number_at k.waits x ≡ None)
 
 -- the tables have what was noted, and what is judged of it
-pub record AreIndexed (protocol : Protocol) (its : Config) (its_mentions : List ℕ) (k : Kept) : Type 0 where
+pub record AreIndexed (protocol : Protocol) (its : Config) (its_mentions : List ℕ) (k : TablesState) : Type 0 where
   pub noted : IsNoted protocol (noted_by its its_mentions k)
   pub shape : k.shape ≡ shape_of its
   pub pages : length k.pages ≡ its.logical
   pub held : AreHeld k
-  pub judged : AreJudged (numbered_of k) its.logical (judged_of (noted_by its its_mentions k))
+  pub judged : AreDerived (numbered_of k) its.logical (derived_of (noted_by its its_mentions k))
 
-abbrev pub IsTabled : {R : Type 0} → Protocol → Inside R → Type 0
-IsTabled protocol d = AreIndexed protocol d.config d.mentions.items d.tables
+abbrev pub IndexInvariant : {R : Type 0} → Protocol → Inside R → Type 0
+IndexInvariant protocol d = AreIndexed protocol d.config d.mentions.items d.tables

@@ -2,10 +2,10 @@ ghost use Rattle.std.specs.Prelude.{◌≡◌, ◌<◌, All, IsSome};
 ghost use Rattle.tx_types.specs.Config.{shape_of, slots_of, blocks_of};
 ghost use Rattle.version_index.specs.declared.note.Note.TheVariants as note;
 ghost use Rattle.version_index.specs.Notes.{note_at, rec_of};
-ghost use Rattle.version_index.specs.Noted.{current_of, CanLose, IsNextRecord, IsCompleteCycle, programmed, damaged_at, copied, erased, lost, pinned, unpinned, with_spare};
+ghost use Rattle.version_index.specs.IndexState.{current_of, CanLose, IsNextRecord, IsCompleteCycle, programmed, damaged_at, copied, erased, lost, pinned, unpinned, with_spare};
 
 use crate::Index;
-use crate::committing::settle_cycle;
+use crate::committing::commit_if_complete;
 use crate::losing::use_block;
 use crate::mentioning::raise;
 use record_list::CommitRule;
@@ -27,7 +27,7 @@ impl<R: CommitRule> Index<R> {
         self.tables.set_slot(at, SlotUse::Holds(number));
         self.tables.set_waits(number, Some(rec.next.page));
         raise(&mut self.mentions, rec);
-        settle_cycle(
+        commit_if_complete(
             &mut self.tables,
             self.config.logical,
             self.config.protocol,

@@ -3,9 +3,9 @@ ghost use Rattle.std.specs.Option.{option_map};
 ghost use Rattle.tx_types.specs.Config.{slots_of, blocks_of};
 ghost use Rattle.tx_types.specs.declared.config.Block.{Block};
 ghost use Rattle.tx_types.specs.declared.config.Protocol.TheVariants as its_protocol;
-ghost use Rattle.slot_tables.specs.Kept.{lower, IsKept, WaitsBelow};
+ghost use Rattle.slot_tables.specs.TablesState.{lower, IsTablesState, WaitsBelow};
 ghost use Rattle.slot_tables.specs.Gathered.{AreGathered};
-ghost use Rattle.version_index.specs.Going.{IsWaitingBelow, IsTopBelow, Goes, IsLowestIn, SlotGoes, BlockGoes, IsTopBeside, AreRising};
+ghost use Rattle.version_index.specs.Going.{IsWaitingBelow, IsTopBelow, Goes, IsLowestIn, SlotMustGo, BlockMustGo, IsNewestBeside, AreRising};
 
 use slot_tables::{SlotUse, Tables};
 use tx_types::{Block, Protocol, Slot};
@@ -19,7 +19,7 @@ pub fn lowest_to_go(tables: &Tables, protocol: Protocol, page: u32, below: u64) 
 {
     match protocol {
         Protocol::Scc => lower(
-            loose_top(tables, page, below),
+            newest_uncommitted(tables, page, below),
             tables.lowest_waiting(page, below),
         ),
         Protocol::Bpcc => None,
@@ -27,7 +27,7 @@ pub fn lowest_to_go(tables: &Tables, protocol: Protocol, page: u32, below: u64) 
 }
 
 /// The lowest slot of the newest record of a page, where it waits and is below a version.
-fn loose_top(tables: &Tables, page: u32, below: u64) -> Option<Slot>
+fn newest_uncommitted(tables: &Tables, page: u32, below: u64) -> Option<Slot>
     requires { page < length tables.now.pages }
     ensures { IsLowestIn tables.now (IsTopBelow tables.now page below)
         (option_map (λ at. at.0) result) }
@@ -78,10 +78,10 @@ fn is_top(tables: &Tables, page: u32, below: u64, number: u32) -> bool
 
 /// Whether a slot holds a record that must go before the version `below` of a page is programmed, under
 /// Simple Cyclic Commit.
-fn slot_goes(tables: &Tables, page: u32, below: u64, at: Slot) -> bool
+fn slot_must_go(tables: &Tables, page: u32, below: u64, at: Slot) -> bool
     requires page { page < length tables.now.pages }
     requires slot { at.0 < slots_of tables.now.shape }
-    ensures { IsTrue result ↔ SlotGoes tables.now page below at.0 }
+    ensures { IsTrue result ↔ SlotMustGo tables.now page below at.0 }
 {
     match tables.slot(at) {
         SlotUse::Blank | SlotUse::Damaged => false,
@@ -92,16 +92,16 @@ fn slot_goes(tables: &Tables, page: u32, below: u64, at: Slot) -> bool
 }
 
 /// Whether a block has such a slot.
-pub fn block_goes(tables: &Tables, page: u32, below: u64, block: Block) -> bool
+pub fn block_must_go(tables: &Tables, page: u32, below: u64, block: Block) -> bool
     requires page { page < length tables.now.pages }
     requires block { block.0 < blocks_of tables.now.shape }
-    ensures kept { IsKept tables.now }
-    ensures goes { IsTrue result ↔ BlockGoes tables.now page below block.0 }
+    ensures kept { IsTablesState tables.now }
+    ensures goes { IsTrue result ↔ BlockMustGo tables.now page below block.0 }
 {
     let size = tables.shape().pages_per_block;
     let first = block.0 * size;
     for at in first..first + size {
-        if slot_goes(tables, page, below, Slot(at)) {
+        if slot_must_go(tables, page, below, Slot(at)) {
             return true;
         }
     }
@@ -109,9 +109,9 @@ pub fn block_goes(tables: &Tables, page: u32, below: u64, block: Block) -> bool
 }
 
 /// The newest record of a page, where it must go and does not wait for the page at a version below.
-fn top_beside(tables: &Tables, page: u32, below: u64) -> Option<u32>
+fn newest_beside(tables: &Tables, page: u32, below: u64) -> Option<u32>
     requires { page < length tables.now.pages }
-    ensures some { IfSome result (λ x. IsTopBeside tables.now page below x) }
+    ensures some { IfSome result (λ x. IsNewestBeside tables.now page below x) }
     ensures within { IfSome result (λ x. x < slots_of tables.now.shape) }
     ensures none { IfNone result
         ((x : ℕ) → IsTopBelow tables.now page below x → WaitsBelow tables.now page below x) }
@@ -129,18 +129,18 @@ fn top_beside(tables: &Tables, page: u32, below: u64) -> Option<u32>
 }
 
 /// Puts the block of each slot with a record that must go into room where nothing is.
-pub fn put_going(tables: &Tables, page: u32, below: u64, into: &mut Vec<Block>)
+pub fn put_blocks_to_go(tables: &Tables, page: u32, below: u64, into: &mut Vec<Block>)
     requires page { page < length tables.now.pages }
     requires empty { into.old.items ≡ [] }
     requires none { vec_len into.old ≡ 0 }
     requires room { slots_of tables.now.shape ≤ vec_capacity into.old }
-    ensures kept { IsKept tables.now }
+    ensures kept { IsTablesState tables.now }
     ensures gathered { AreGathered tables.now (Goes tables.now page below) into.new.items }
     ensures room { vec_capacity into.new ≡ vec_capacity into.old }
 {
     let _ = tables.shape();
     tables.put_waiting(page, below, into);
-    if let Some(number) = top_beside(tables, page, below) {
+    if let Some(number) = newest_beside(tables, page, below) {
         tables.put_blocks(number, into);
     }
 }

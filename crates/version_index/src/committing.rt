@@ -3,12 +3,12 @@ ghost use Rattle.tx_types.specs.Config.{slots_of};
 ghost use Rattle.tx_types.specs.declared.config.Config.{Config};
 ghost use Rattle.tx_types.specs.declared.config.Protocol.{Protocol};
 ghost use Rattle.record_list.specs.Records.{name_of, has_name};
-ghost use Rattle.slot_tables.specs.Kept.{IsKept, number_at};
-ghost use Rattle.version_index.specs.Committing.{LinksExist, newest_named, with_version, OnlyJudges, AreLetGo, IsTaken, IsAnswered, MayComplete, TakesRound, AnswersRound, JudgesWhole, IsSettledSo};
-ghost use Rattle.version_index.specs.JudgedChanges.{completes};
+ghost use Rattle.slot_tables.specs.TablesState.{IsTablesState, number_at};
+ghost use Rattle.version_index.specs.Committing.{LinksExist, newest_with_name, with_version, OnlyDerives, AreReleased, IsTaken, IsAnswered, MayComplete, CommitsRound, ResolvesRound, DerivesWhole, CommitsIfComplete};
+ghost use Rattle.version_index.specs.DerivedChanges.{completes};
 ghost use Rattle.version_index.specs.Tables.{discard_at, noted_by, version_at};
 
-use crate::losing::let_go;
+use crate::losing::release;
 use slot_tables::Tables;
 use tx_types::{Link, Protocol, Rec};
 
@@ -49,9 +49,9 @@ pub fn discards_now(tables: &Tables, page: u32) -> bool
 }
 
 /// The newest record of a page, if it has this version.
-fn newest_named(tables: &Tables, name: Link) -> Option<Rec>
+fn newest_with_name(tables: &Tables, name: Link) -> Option<Rec>
     requires { name.page < length tables.now.pages }
-    ensures { result ≡ newest_named tables.now name }
+    ensures { result ≡ newest_with_name tables.now name }
 {
     match tables.newest(name.page) {
         None => None,
@@ -83,7 +83,7 @@ fn completes(tables: &Tables, logical: u32, rec: Rec) -> bool
     let _ = tables.shape();
     let mut link = rec.next;
     for _ in 0..logical {
-        match newest_named(tables, link) {
+        match newest_with_name(tables, link) {
             None => return false,
             Some(next) => {
                 if has_name(next, rec) {
@@ -105,19 +105,19 @@ fn has_name(rec: Rec, other: Rec) -> bool
 
 /// Where a record completes its cycle, the records of the cycle are current.
 #[inline(always)]
-pub fn settle_cycle(tables: &mut Tables, logical: u32, protocol: Protocol, rec: Rec)
+pub fn commit_if_complete(tables: &mut Tables, logical: u32, protocol: Protocol, rec: Rec)
     requires links { LinksExist tables.old }
     requires page { rec.page < length tables.old.pages }
     requires next { rec.next.page < length tables.old.pages }
-    ensures kept { IsKept tables.old }
-    ensures judges { OnlyJudges tables.old tables.new }
-    ensures settled { IsSettledSo protocol tables.old tables.new rec logical }
+    ensures kept { IsTablesState tables.old }
+    ensures judges { OnlyDerives tables.old tables.new }
+    ensures settled { CommitsIfComplete protocol tables.old tables.new rec logical }
 {
     let _ = tables.shape();
     if !completes(tables, logical, rec) {
         return;
     }
-    take_cycle(tables, logical, protocol, name_of(rec));
+    commit_cycle(tables, logical, protocol, name_of(rec));
 }
 
 /// A record's own name.
@@ -133,30 +133,30 @@ fn name_of(rec: Rec) -> Link
 /// Makes the records of a whole cycle current. Under Back Pointer Cyclic Commit they then answer for the
 /// records that wait for their pages.
 #[inline(never)]
-fn take_cycle(tables: &mut Tables, logical: u32, protocol: Protocol, start: Link)
+fn commit_cycle(tables: &mut Tables, logical: u32, protocol: Protocol, start: Link)
     requires links { LinksExist tables.old }
     requires page { start.page < length tables.old.pages }
-    ensures judges { OnlyJudges tables.old tables.new }
-    ensures whole { JudgesWhole protocol tables.old tables.new start logical }
+    ensures judges { OnlyDerives tables.old tables.new }
+    ensures whole { DerivesWhole protocol tables.old tables.new start logical }
 {
-    take_all(tables, logical, start);
+    make_all_current(tables, logical, start);
     match protocol {
         Protocol::Scc => {}
-        Protocol::Bpcc => answer_all(tables, logical, start),
+        Protocol::Bpcc => resolve_all(tables, logical, start),
     }
 }
 
 /// Makes each record of the cycle of this one current.
-fn take_all(tables: &mut Tables, logical: u32, start: Link)
+fn make_all_current(tables: &mut Tables, logical: u32, start: Link)
     requires links { LinksExist tables.old }
     requires page { start.page < length tables.old.pages }
-    ensures judges { OnlyJudges tables.old tables.new }
-    ensures takes { TakesRound tables.old tables.new start logical }
+    ensures judges { OnlyDerives tables.old tables.new }
+    ensures takes { CommitsRound tables.old tables.new start logical }
 {
     let mut link = start;
     for _ in 0..logical {
-        take_newest(tables, link.page);
-        match newest_named(tables, link) {
+        make_newest_current(tables, link.page);
+        match newest_with_name(tables, link) {
             None => return,
             Some(rec) => {
                 if rec.next.page == start.page {
@@ -169,16 +169,16 @@ fn take_all(tables: &mut Tables, logical: u32, start: Link)
 }
 
 /// Lets each record of the cycle of this one answer.
-fn answer_all(tables: &mut Tables, logical: u32, start: Link)
+fn resolve_all(tables: &mut Tables, logical: u32, start: Link)
     requires links { LinksExist tables.old }
     requires page { start.page < length tables.old.pages }
-    ensures judges { OnlyJudges tables.old tables.new }
-    ensures answers { AnswersRound tables.old tables.new start logical }
+    ensures judges { OnlyDerives tables.old tables.new }
+    ensures answers { ResolvesRound tables.old tables.new start logical }
 {
     let mut link = start;
     for _ in 0..logical {
-        answer_waiting(tables, link.page);
-        match newest_named(tables, link) {
+        resolve_waiting(tables, link.page);
+        match newest_with_name(tables, link) {
             None => return,
             Some(rec) => {
                 if rec.next.page == start.page {
@@ -192,22 +192,22 @@ fn answer_all(tables: &mut Tables, logical: u32, start: Link)
 
 /// Makes the newest record of a page current. The records above the one that was current wait no more,
 /// and none answers for them.
-fn take_newest(tables: &mut Tables, page: u32)
+fn make_newest_current(tables: &mut Tables, page: u32)
     requires { page < length tables.old.pages }
-    ensures judges { OnlyJudges tables.old tables.new }
+    ensures judges { OnlyDerives tables.old tables.new }
     ensures taken { IsTaken tables.old tables.new page }
 {
     let _ = tables.shape();
     let current = current_version(tables, page);
     let newest = tables.newest(page);
-    let_go_above(tables, page, current);
+    release_above(tables, page, current);
     tables.set_current(page, newest);
 }
 
 /// The records of a page above a version wait no more, and none answers for them.
-fn let_go_above(tables: &mut Tables, page: u32, version: u64)
+fn release_above(tables: &mut Tables, page: u32, version: u64)
     requires { page < length tables.old.pages }
-    ensures { AreLetGo tables.old tables.new page version }
+    ensures { AreReleased tables.old tables.new page version }
 {
     let _ = tables.shape();
     let mut next = tables.newest(page);
@@ -215,15 +215,15 @@ fn let_go_above(tables: &mut Tables, page: u32, version: u64)
         if version_of(tables, next) <= version {
             return;
         }
-        let_go(tables, number);
+        release(tables, number);
         next = tables.older(number);
     }
 }
 
 /// The newest record of a page answers for the records that wait for the page, which wait no more.
-fn answer_waiting(tables: &mut Tables, page: u32)
+fn resolve_waiting(tables: &mut Tables, page: u32)
     requires { page < length tables.old.pages }
-    ensures judges { OnlyJudges tables.old tables.new }
+    ensures judges { OnlyDerives tables.old tables.new }
     ensures answered { IsAnswered tables.old tables.new page }
 {
     let _ = tables.shape();

@@ -1,11 +1,11 @@
 ghost use Rattle.std.specs.Prelude.{◌≡◌, ◌≤◌, ◌<◌, ℕ, All, length};
 ghost use Rattle.record_list.specs.SoundList.{PagesExist};
-ghost use Rattle.version_index.specs.Filling.{judged_by, number_by, AreNumbered, AreCurrent, AreDecided};
-ghost use Rattle.version_index.specs.Judged.{name_at, answerer, is_waiting};
+ghost use Rattle.version_index.specs.Filling.{derived_by, number_by, AreNumbered, AreCurrent, AreDecided};
+ghost use Rattle.version_index.specs.Derived.{name_at, answerer, is_waiting};
 ghost use Rattle.version_index.specs.Numbered.{awaited};
 
-use record_chart::Standing;
-use slot_tables::Filling;
+use slot_tables::TablesBuilder;
+use sorted_records::CurrentVersions;
 use tx_types::{Link, Protocol, Rec};
 
 /// The number of the record that answers for a record, if one does, and the page that it waits for, if it waits.
@@ -23,7 +23,12 @@ struct Near {
 }
 
 /// Says of each page which record is current.
-pub fn decide_current(tables: &mut Filling, logical: u32, standing: &Standing, numbers: &[u32])
+pub fn decide_current(
+    tables: &mut TablesBuilder,
+    logical: u32,
+    standing: &CurrentVersions,
+    numbers: &[u32],
+)
     requires logical { standing.now.logical ≡ logical }
     requires numbered { AreNumbered standing.now.list numbers.now tables.old }
     requires whole { length numbers.now ≡ length standing.now.list }
@@ -39,7 +44,12 @@ pub fn decide_current(tables: &mut Filling, logical: u32, standing: &Standing, n
 }
 
 /// Says of each record which one answers for it, and whether it waits.
-pub fn decide_records(tables: &mut Filling, logical: u32, standing: &Standing, numbers: &[u32])
+pub fn decide_records(
+    tables: &mut TablesBuilder,
+    logical: u32,
+    standing: &CurrentVersions,
+    numbers: &[u32],
+)
     requires logical { standing.now.logical ≡ logical }
     requires numbered { AreNumbered standing.now.list numbers.now tables.old }
     requires whole { length numbers.now ≡ length standing.now.list }
@@ -49,7 +59,7 @@ pub fn decide_records(tables: &mut Filling, logical: u32, standing: &Standing, n
         tables.old tables.new (length standing.now.list) }
 {
     let _ = tables.shape();
-    let records = standing.chart().records();
+    let records = standing.sorted_records().records();
     let mut near = Near {
         answerer: 0,
         place: 0,
@@ -63,12 +73,12 @@ pub fn decide_records(tables: &mut Filling, logical: u32, standing: &Standing, n
 
 /// Which record answers for a record, and for which page it waits: none where it is not loose.
 #[inline(always)]
-fn decide(standing: &Standing, numbers: &[u32], rec: Rec, near: &mut Near) -> Decided
+fn decide(standing: &CurrentVersions, numbers: &[u32], rec: Rec, near: &mut Near) -> Decided
     requires { length numbers.now ≡ length standing.now.list }
     ensures answerer { let s = standing.now in
         result.answerer ≡ number_by s.list numbers.now (answerer s.protocol s.list s.logical rec) }
     ensures awaited { let s = standing.now in
-        result.awaited ≡ awaited (judged_by s.protocol s.list s.logical) rec }
+        result.awaited ≡ awaited (derived_by s.protocol s.list s.logical) rec }
 {
     if !standing.is_loose(rec) {
         return Decided {
@@ -79,7 +89,7 @@ fn decide(standing: &Standing, numbers: &[u32], rec: Rec, near: &mut Near) -> De
     let name = answerer(standing, rec, &mut near.answerer);
     Decided {
         answerer: number_by(standing, numbers, name, &mut near.place),
-        awaited: awaited(standing, rec),
+        awaited: awaited_page(standing, rec),
     }
 }
 
@@ -96,7 +106,7 @@ fn name_at(page: u32, version: u64) -> Option<Link>
 
 /// The number at the place of a name, if there is a name that has a place. It may well be near the one before.
 fn number_by(
-    standing: &Standing,
+    standing: &CurrentVersions,
     numbers: &[u32],
     name: Option<Link>,
     near: &mut usize,
@@ -106,7 +116,7 @@ fn number_by(
 {
     match name {
         None => None,
-        Some(name) => match standing.chart().find_near(name, near) {
+        Some(name) => match standing.sorted_records().find_near(name, near) {
             None => None,
             Some(place) => Some(numbers[place as usize]),
         },
@@ -114,7 +124,7 @@ fn number_by(
 }
 
 /// The name of the record that answers for a record, if one does.
-fn answerer(standing: &Standing, rec: Rec, near: &mut usize) -> Option<Link>
+fn answerer(standing: &CurrentVersions, rec: Rec, near: &mut usize) -> Option<Link>
     ensures { result ≡ answerer standing.now.protocol standing.now.list standing.now.logical rec }
 {
     match standing.protocol() {
@@ -130,9 +140,9 @@ fn answerer(standing: &Standing, rec: Rec, near: &mut usize) -> Option<Link>
 }
 
 /// The page that a record waits for, if it waits.
-fn awaited(standing: &Standing, rec: Rec) -> Option<u32>
+fn awaited_page(standing: &CurrentVersions, rec: Rec) -> Option<u32>
     ensures { result ≡ awaited
-        (judged_by standing.now.protocol standing.now.list standing.now.logical) rec }
+        (derived_by standing.now.protocol standing.now.list standing.now.logical) rec }
 {
     if is_waiting(standing, rec) {
         Some(rec.next.page)
@@ -142,7 +152,7 @@ fn awaited(standing: &Standing, rec: Rec) -> Option<u32>
 }
 
 /// Whether a record waits.
-fn is_waiting(standing: &Standing, rec: Rec) -> bool
+fn is_waiting(standing: &CurrentVersions, rec: Rec) -> bool
     ensures { result ≡ is_waiting standing.now.protocol standing.now.list standing.now.logical rec }
 {
     let loose = standing.is_loose(rec);

@@ -1,33 +1,33 @@
 ghost use Rattle.std.specs.Prelude.{◌≡◌, ◌≤◌, All, List, length, map, IfOk, OnOk};
 ghost use Rattle.tx_types.specs.Config.{IsShape, slots_of};
-ghost use Rattle.record_chart.specs.Charts.{Sorts};
+ghost use Rattle.sorted_records.specs.SortedRecords.{Sorts};
 ghost use Rattle.record_list.specs.SoundList.{PagesExist};
 ghost use Rattle.record_list.specs.declared.found.Found.{Found};
-ghost use Rattle.slot_tables.specs.Kept.{blank_tables};
+ghost use Rattle.slot_tables.specs.TablesState.{blank_tables};
 ghost use Rattle.version_index.specs.Filling.{AreFilled};
 ghost use Rattle.version_index.specs.Scanned.{CanFill};
 ghost use Rattle.version_index.specs.Notes.{seen_as, found_in};
 ghost use Rattle.version_index.specs.Tables.{notes_in};
 
 use crate::deciding::{decide_current, decide_records};
-use crate::holding::{hold_uses, used_slots};
+use crate::holding::{hold_uses, slot_uses};
 use crate::numbering::number_records;
 use flash_model::Seen;
-use record_chart::{Chart, Standing};
 use record_list::Found;
-use slot_tables::Filling;
+use slot_tables::TablesBuilder;
+use sorted_records::{CurrentVersions, SortedRecords};
 use std::alloc::{AllocError, Global};
 use tx_types::{Memory, Protocol, Shape};
 
 /// Tables of slots that read so and hold the records of a list, in the order of their slots. Of the records it is known
 /// where their pages stand.
-pub fn filled(
+pub fn build_tables(
     alloc: Global,
     shape: Shape,
     logical: u32,
     seen: &[Seen],
-    standing: &Standing,
-) -> Result<Filling, Memory>
+    standing: &CurrentVersions,
+) -> Result<TablesBuilder, Memory>
     requires shape { IsShape shape }
     requires pages { logical ≤ slots_of shape }
     requires fills { (list : List Found) ×
@@ -41,7 +41,7 @@ pub fn filled(
         IfOk result (λ t. found_in (notes_in t) ≡ list) }
     ensures filled { IfOk result (AreFilled standing.now.protocol standing.now.list shape logical) }
 {
-    let mut filling = Filling::new(alloc, shape, logical)?;
+    let mut filling = TablesBuilder::new(alloc, shape, logical)?;
     match fill(alloc, &mut filling, logical, seen, standing) {
         Ok(()) => Ok(filling),
         Err(error) => {
@@ -55,10 +55,10 @@ pub fn filled(
 /// Of the records it is known where their pages stand.
 fn fill(
     alloc: Global,
-    tables: &mut Filling,
+    tables: &mut TablesBuilder,
     logical: u32,
     seen: &[Seen],
-    standing: &Standing,
+    standing: &CurrentVersions,
 ) -> Result<(), Memory>
     requires fills { (list : List Found) × CanFill logical seen.now list standing.now.list tables.old }
     requires logical { standing.now.logical ≡ logical }
@@ -70,9 +70,9 @@ fn fill(
     ensures filled { OnOk result
         (AreFilled standing.now.protocol standing.now.list tables.old.shape logical tables.new) }
 {
-    let chart = standing.chart();
+    let chart = standing.sorted_records();
     let numbers = number_records(alloc, tables, chart.records())?;
-    let uses = used_slots(alloc, chart.records(), &numbers, seen)?;
+    let uses = slot_uses(alloc, chart.records(), &numbers, seen)?;
     hold_uses(tables, &uses);
     decide_current(tables, logical, standing, &numbers);
     decide_records(tables, logical, standing, &numbers);
@@ -80,16 +80,16 @@ fn fill(
 }
 
 /// The records of a list in the order of their names, and where their pages stand.
-pub fn standing_of(
+pub fn current_versions_of(
     alloc: Global,
     list: &[Found],
     protocol: Protocol,
     logical: u32,
-) -> Result<Standing, AllocError>
+) -> Result<CurrentVersions, AllocError>
     ensures sorts { IfOk result (λ s. Sorts list.now s.list) }
     ensures protocol { IfOk result (λ s. s.protocol ≡ protocol) }
     ensures logical { IfOk result (λ s. s.logical ≡ logical) }
 {
-    let chart = Chart::of(alloc, list)?;
-    Standing::new(alloc, chart, protocol, logical)
+    let chart = SortedRecords::of(alloc, list)?;
+    CurrentVersions::new(alloc, chart, protocol, logical)
 }

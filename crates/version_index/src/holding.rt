@@ -1,18 +1,18 @@
 ghost use Rattle.std.specs.Prelude.{◌≡◌, ◌<◌, ℕ, All, length, map, slice_set, IfOk};
 ghost use Rattle.tx_types.specs.Config.{slots_of};
 ghost use Rattle.slot_tables.specs.Copies.{NumbersBelow};
-ghost use Rattle.slot_tables.specs.Kept.{use_at};
+ghost use Rattle.slot_tables.specs.TablesState.{use_at};
 ghost use Rattle.slot_tables.specs.declared.slots.SlotUse.TheVariants as slot;
 ghost use Rattle.version_index.specs.Filling.{first_use, ArePut};
 
 use flash_model::Seen;
 use record_list::Found;
-use slot_tables::{Filling, SlotUse};
+use slot_tables::{SlotUse, TablesBuilder};
 use std::alloc::{AllocError, Global};
 use tx_types::{Memory, Slot};
 
 /// How each slot is used that reads so, where these records with these numbers stand.
-pub fn used_slots(
+pub fn slot_uses(
     alloc: Global,
     records: &[Found],
     numbers: &[u32],
@@ -56,7 +56,7 @@ fn first_use(how: Seen) -> SlotUse
 }
 
 /// Each slot is used so. The last slots come first, as each record then goes in front of its copies.
-pub fn hold_uses(tables: &mut Filling, uses: &[SlotUse])
+pub fn hold_uses(tables: &mut TablesBuilder, uses: &[SlotUse])
     requires size { length uses.now ≡ slots_of tables.old.shape }
     requires below { (at : ℕ) → NumbersBelow (slots_of tables.old.shape) (use_at uses.now at) }
     ensures { tables.new ≡ record tables.old { slots = uses.now } }

@@ -4,15 +4,15 @@ ghost use Rattle.record_list.specs.Records.{IsScanned};
 ghost use Rattle.record_list.specs.declared.found.Found.{Found};
 ghost use Rattle.record_list.specs.SoundList.{IsSoundList};
 ghost use Rattle.version_index.specs.Notes.{complete_slots};
-ghost use Rattle.version_index.specs.Noted.{IsNoted, IsNotedFrom};
+ghost use Rattle.version_index.specs.IndexState.{IsNoted, IsNotedFrom};
 ghost use Rattle.version_index.specs.Scanned.{AreScanned};
 
-use crate::filling::{filled, standing_of};
+use crate::filling::{build_tables, current_versions_of};
 use crate::mentioning::first_mentions;
 use flash_model::Seen;
-use record_chart::Standing;
 use record_list::{CommitRule, Found};
 use slot_tables::Tables;
+use sorted_records::CurrentVersions;
 use std::alloc::Global;
 use std::marker::{Model, PhantomData};
 use tx_types::{Config, Memory};
@@ -29,15 +29,15 @@ pub struct Index<R: CommitRule> {
 }
 
 impl<R: CommitRule> Model for Index<R> {
-    ghost use Rattle.version_index.specs.Noted.{Noted};
+    ghost use Rattle.version_index.specs.IndexState.{IndexState};
 
-    ghost Value = { Noted };
+    ghost Value = { IndexState };
 
-    ghost use Rattle.version_index.specs.Tables.{noted_of, IsTabled};
+    ghost use Rattle.version_index.specs.Tables.{noted_of, IndexInvariant};
 
     ghost view = { noted_of };
 
-    ghost invariant = { IsTabled R.protocol };
+    ghost invariant = { IndexInvariant R.protocol };
 }
 
 impl<R: CommitRule> Index<R> {
@@ -57,17 +57,17 @@ impl<R: CommitRule> Index<R> {
         requires sound { IsSoundList R.protocol list.now config.logical }
         ensures { IfOk result (λ index. IsNotedFrom config seen.now list.now index) }
     {
-        let standing = standing_of(alloc, list, config.protocol, config.logical)?;
-        Index::from_standing(alloc, config, seen, &standing)
+        let standing = current_versions_of(alloc, list, config.protocol, config.logical)?;
+        Index::from_current_versions(alloc, config, seen, &standing)
     }
 
     /// The same of records that were put in the order of their names before, where it is known how
     /// their pages stand. The list in the order of the slots is no longer needed.
-    pub fn from_standing(
+    pub fn from_current_versions(
         alloc: Global,
         config: Config,
         seen: &[Seen],
-        standing: &Standing,
+        standing: &CurrentVersions,
     ) -> Result<Index<R>, Memory>
         requires check { checked config ≡ Ok (shape_of config) }
         requires rule { config.protocol ≡ R.protocol }
@@ -80,8 +80,8 @@ impl<R: CommitRule> Index<R> {
         let Ok(shape) = config.check() else {
             unreachable!();
         };
-        let mentions = first_mentions(alloc, standing.chart().records(), config.logical)?;
-        let filling = filled(alloc, shape, config.logical, seen, standing)?;
+        let mentions = first_mentions(alloc, standing.sorted_records().records(), config.logical)?;
+        let filling = build_tables(alloc, shape, config.logical, seen, standing)?;
         let tables = filling.finish(alloc)?;
         Ok(Index {
             config,

@@ -1,6 +1,6 @@
 ghost use Rattle.std.specs.Prelude.{◌≡◌, ◌*◌, ◌<◌};
 ghost use Rattle.tx_types.specs.Config.{slots_of, blocks_of};
-ghost use Rattle.slot_tables.specs.Kept.{IsKept};
+ghost use Rattle.slot_tables.specs.TablesState.{IsTablesState};
 ghost use Rattle.slot_tables.specs.Copies.{HoldsNone};
 ghost use Rattle.version_index.specs.Losing.{freed, bared, used_so, used_from};
 
@@ -11,7 +11,7 @@ use tx_types::{Block, Slot};
 pub fn use_block(tables: &mut Tables, block: Block, to: SlotUse)
     requires block { block.0 < blocks_of tables.old.shape }
     requires none { HoldsNone to }
-    ensures kept { IsKept tables.old }
+    ensures kept { IsTablesState tables.old }
     ensures used { let slots = tables.old.shape.pages_per_block in
         tables.new ≡ used_from tables.old (block.0 * slots) to slots }
 {
@@ -47,13 +47,13 @@ fn give_up_bare(tables: &mut Tables, number: u32)
     let Some(rec) = tables.record(number) else {
         return;
     };
-    let_go(tables, number);
+    release(tables, number);
     tables.give_up(rec.page, number);
 }
 
 /// A record waits no more, and none answers for it.
 #[inline(always)]
-pub fn let_go(tables: &mut Tables, number: u32)
+pub fn release(tables: &mut Tables, number: u32)
     requires { number < slots_of tables.old.shape }
     ensures { tables.new ≡ freed tables.old number }
 {

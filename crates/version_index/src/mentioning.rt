@@ -1,7 +1,7 @@
 ghost use Rattle.std.specs.Prelude.{◌≡◌, ℕ, ◌<◌, ◌==◌, if◌then◌else◌, max, length, slice_index_or, map, IfOk};
 ghost use Rattle.std.specs.List.{range_with_len};
 ghost use Rattle.record_list.specs.Records.{mention};
-ghost use Rattle.version_index.specs.Noted.{raised, raised_to};
+ghost use Rattle.version_index.specs.IndexState.{raised, raised_to};
 
 use record_list::Found;
 use std::alloc::Global;

@@ -1,20 +1,20 @@
 ghost use Rattle.std.specs.Prelude.{◌≡◌, ◌≤◌, ◌<◌, All, length, IfSome, IfNone, IfOk, OnOk};
 ghost use Rattle.tx_types.specs.Config.{IsShape, slots_of};
 ghost use Rattle.record_list.specs.SoundList.{OwnPageExists};
-ghost use Rattle.record_chart.specs.Charts.{IsInOrder};
-ghost use Rattle.slot_tables.specs.Kept.{blank_tables, IsNewest};
+ghost use Rattle.sorted_records.specs.SortedRecords.{IsInOrder};
+ghost use Rattle.slot_tables.specs.TablesState.{blank_tables, IsNewest};
 ghost use Rattle.slot_tables.specs.Versions.{HasFree};
 ghost use Rattle.version_index.specs.Filling.{NamesAgree, IsNotOlder, IsKnown, HasNumber, AreNumbered, AreBlankBut};
 
 use record_list::Found;
-use slot_tables::Filling;
+use slot_tables::TablesBuilder;
 use std::alloc::Global;
 use tx_types::{Memory, Rec};
 
 /// Gives each record a number, and tells them. The records stand in the order of their names.
 pub fn number_records(
     alloc: Global,
-    tables: &mut Filling,
+    tables: &mut TablesBuilder,
     records: &[Found],
 ) -> Result<Vec<u32>, Memory>
     requires blank { tables.old ≡ blank_tables tables.old.shape (length tables.old.pages) }
@@ -35,7 +35,7 @@ pub fn number_records(
 }
 
 /// The number of a record that is not older than those of its page.
-fn number_of(tables: &mut Filling, rec: &Rec) -> u32
+fn number_of(tables: &mut TablesBuilder, rec: &Rec) -> u32
     requires page { rec.now.page < length tables.old.pages }
     requires free { HasFree tables.old.records }
     requires order { IsNotOlder tables.old rec.now }
@@ -50,7 +50,7 @@ fn number_of(tables: &mut Filling, rec: &Rec) -> u32
 }
 
 /// The number that has a record of this name, which is the newest of its page.
-fn known_number(tables: &Filling, rec: &Rec) -> Option<u32>
+fn known_number(tables: &TablesBuilder, rec: &Rec) -> Option<u32>
     requires page { rec.now.page < length tables.now.pages }
     requires order { IsNotOlder tables.now rec.now }
     ensures within { IfSome result (λ x. x < slots_of tables.now.shape) }

@@ -3,10 +3,10 @@ ghost use Rattle.std.specs.List.{range_with_len};
 ghost use Rattle.std.specs.Option.{option_map};
 ghost use Rattle.tx_types.specs.Config.{shape_of, slots_of, blocks_of};
 ghost use Rattle.version_index.specs.Notes.{note_at, seen_as, rec_of};
-ghost use Rattle.version_index.specs.Noted.{mention_of, current_of, current_name_of, discarded_of, place_of, IsBlank, slot_off, needed_of, block_to_go, garbage_of, shut_or_part, is_garbage_at, blanks_of, is_going, going_blocks, FindsMostGarbage, IsMostAmong, HoldsName};
+ghost use Rattle.version_index.specs.IndexState.{mention_of, current_of, current_name_of, discarded_of, place_of, IsBlank, slot_off, needed_of, block_to_go, garbage_of, shut_or_part, is_garbage_at, blanks_of, is_going, going_blocks, FindsMostGarbage, IsMostAmong, HoldsName};
 
 use crate::Index;
-use crate::clearing::{block_goes, lowest_to_go, order_blocks, put_going};
+use crate::clearing::{block_must_go, lowest_to_go, order_blocks, put_blocks_to_go};
 use crate::committing::{current_version, discards_now};
 use flash_model::Seen;
 use record_list::CommitRule;
@@ -119,7 +119,7 @@ impl<R: CommitRule> Index<R> {
         ensures { result ≡ is_going self.now page below block.0 }
     {
         match self.config.protocol {
-            Protocol::Scc => block_goes(&self.tables, page, below, block),
+            Protocol::Scc => block_must_go(&self.tables, page, below, block),
             Protocol::Bpcc => false,
         }
     }
@@ -135,7 +135,7 @@ impl<R: CommitRule> Index<R> {
         into.clear();
         match self.config.protocol {
             Protocol::Scc => {
-                put_going(&self.tables, page, below, into);
+                put_blocks_to_go(&self.tables, page, below, into);
                 order_blocks(into);
             }
             Protocol::Bpcc => {}

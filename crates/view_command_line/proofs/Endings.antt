@@ -17,12 +17,12 @@ use Rattle.version_index.specs.Notes.{found_in}
 use Rattle.desk_io.specs.Desk.{DeskState, Rose, after_answer, as_before, counted, with_said}
 use Rattle.desk_io.specs.declared.desk.SinkError.{SinkError}
 use Rattle.desk_io.specs.declared.desk.SinkError.TheVariants as sink
-use Rattle.image_desk.specs.Refusals.{ImageFate, image_line, image_status}
-use Rattle.image_desk.specs.Saying.{Refuses, Speaks, TextStops, after_text, files_in}
-use Rattle.image_desk.proofs.Refusing.{line_said, never_done, never_fault}
-use Rattle.image_desk.proofs.Spoken.{faults_tried, files_asked, files_said, files_tried, same_files}
-use Rattle.view_command_line.specs.Asked.{Asked}
-use Rattle.view_command_line.specs.Fate.{Fate, Drawn, IsFate, Refused, said, status}
+use Rattle.program_base.specs.Refusals.{ImageEnding, image_line, image_status}
+use Rattle.program_base.specs.Saying.{Refuses, Speaks, TextStops, after_text, files_in}
+use Rattle.program_base.proofs.Refusing.{line_said, never_done, never_fault}
+use Rattle.program_base.proofs.Spoken.{faults_tried, files_asked, files_said, files_tried, same_files}
+use Rattle.view_command_line.specs.Request.{Request}
+use Rattle.view_command_line.specs.Ending.{Ending, Drawn, IsEnding, Refused, said, status}
 use Rattle.view_command_line.specs.declared.words.Form.TheVariants.{Text, Svg}
 use Rattle.view_command_line.specs.Top.{CallFails, EndsCall, Decided, Faulted, Starved, LoadFails, SayStops, WorkRunsOut, after_load}
 
@@ -49,7 +49,7 @@ unfolding svg above
 svg_said its notes marks desk = refl
 
 -- each fate has a text
-said_whole : (fate : Fate) (desk : DeskState) → after_text (said fate) desk ≡ after_answer (with_said (said fate)) desk
+said_whole : (fate : Ending) (desk : DeskState) → after_text (said fate) desk ≡ after_answer (with_said (said fate)) desk
 said_whole (Drawn Text its image marks) desk = picture_said its _ marks desk
 said_whole (Drawn Svg its image marks) desk = svg_said its _ marks desk
 said_whole (Refused why) desk = line_said why desk
@@ -57,14 +57,14 @@ said_whole (Refused why) desk = line_said why desk
 -- ---- the end
 
 -- the text of a fate stops where the saying of it does
-say_stops : (error : SinkError) (task : Option Asked) (old mid new : DeskState) (fate : Fate) (text : List ℕ) → IsFate task old fate →
+say_stops : (error : SinkError) (task : Option Request) (old mid new : DeskState) (fate : Ending) (text : List ℕ) → IsEnding task old fate →
     mid ≡ after_load task old → text ≡ said fate → TextStops error text mid new → SayStops error task old new
 say_stops error task old mid new fate text is loaded text_is stops =
     (fate, is, subst (λ t. TextStops error t (after_load task old) new) text_is (subst (λ d. TextStops error text d new) loaded stops))
 
 -- after a load, what is decided is said
-pub ends : (task : Option Asked) (old mid new : DeskState) (fate : Fate) (text : List ℕ) (wanted answer : ℕ) →
-    IsFate task old fate → mid ≡ after_load task old → text ≡ said fate → wanted ≡ status fate →
+pub ends : (task : Option Request) (old mid new : DeskState) (fate : Ending) (text : List ℕ) (wanted answer : ℕ) →
+    IsEnding task old fate → mid ≡ after_load task old → text ≡ said fate → wanted ≡ status fate →
     Speaks mid new text wanted answer → EndsCall task old new answer
 ends task old mid new fate text wanted answer is loaded text_is wanted_is (inl (same, after)) =
     Decided fate is (same ∙ wanted_is) (after ∙ ap₂ after_text text_is loaded ∙ said_whole fate (after_load task old))
@@ -74,8 +74,8 @@ ends task old mid new fate text wanted answer is loaded text_is wanted_is (inr (
     Starved told.0 (starved, inr (inr (say_stops sink.Memory task old mid starved fate text is loaded text_is stops)), told.1)
 
 -- so is a refusal, where there is memory for its line
-pub ends_refused : (task : Option Asked) (old mid new : DeskState) (why : ImageFate) (line : Result (String Global) AllocError) (wanted answer : ℕ) →
-    IsFate task old (Refused why) → mid ≡ after_load task old → IfOk line (λ l. string_bytes l ≡ image_line why) → wanted ≡ image_status why →
+pub ends_refused : (task : Option Request) (old mid new : DeskState) (why : ImageEnding) (line : Result (String Global) AllocError) (wanted answer : ℕ) →
+    IsEnding task old (Refused why) → mid ≡ after_load task old → IfOk line (λ l. string_bytes l ≡ image_line why) → wanted ≡ image_status why →
     Refuses mid new line wanted answer → EndsCall task old new answer
 ends_refused task old mid new why (Ok text) wanted answer is loaded text_is wanted_is speaks =
     ends task old mid new (Refused why) (string_bytes text) wanted answer is loaded text_is wanted_is speaks
@@ -84,45 +84,45 @@ ends_refused task old mid new why (Err none) wanted answer is loaded text_is wan
 
 -- ---- a status for a fault
 
-faults_loaded : (task : Option Asked) (desk : DeskState) → (after_load task desk).faults ≡ desk.faults
+faults_loaded : (task : Option Request) (desk : DeskState) → (after_load task desk).faults ≡ desk.faults
 faults_loaded None desk = refl
 faults_loaded (Some a) desk = refl
 
-call_failed : (task : Option Asked) (old mid : DeskState) → CallFails task old mid → mid.faults ≡ counted old.faults
+call_failed : (task : Option Request) (old mid : DeskState) → CallFails task old mid → mid.faults ≡ counted old.faults
 call_failed None old mid (inl fails) = absurd fails
 call_failed (Some a) old mid (inl fails) = ap (λ (d : DeskState). d.faults) fails
 call_failed task old mid (inr (fate, is, stops)) = ap (λ (d : DeskState). d.faults) stops.1.1 ∙ ap counted (faults_loaded task old)
 
-no_fault : (fate : Fate) → 5 ≢ status fate
+no_fault : (fate : Ending) → 5 ≢ status fate
 no_fault (Drawn form its image marks) e = absurd (omega arith)
 no_fault (Refused why) e = never_fault why e
 
 -- the count of faults rose where the status is that of a fault
-pub only_fault : (task : Option Asked) (old new : DeskState) (answer : ℕ) → EndsCall task old new answer → answer ≡ 5 → Rose old.faults new.faults
+pub only_fault : (task : Option Request) (old new : DeskState) (answer : ℕ) → EndsCall task old new answer → answer ≡ 5 → Rose old.faults new.faults
 only_fault task old new answer (Decided fate is gives after) five = absurd (no_fault fate (sym five ∙ gives))
 only_fault task old new answer (Faulted five_is (mid, fails, tried)) five = faults_tried old.faults mid new _ (call_failed task old mid fails) tried
 only_fault task old new answer (Starved six starved) five = absurd (omega arith)
 
 -- ---- no file changes
 
-files_loaded : (task : Option Asked) (old : DeskState) → files_in (after_load task old) ≡ files_in old
+files_loaded : (task : Option Request) (old : DeskState) → files_in (after_load task old) ≡ files_in old
 files_loaded None old = refl
 files_loaded (Some a) old = same_files as_before old.told (λ c. refl)
 
-files_failed : (task : Option Asked) (old mid : DeskState) → LoadFails task old mid → files_in mid ≡ files_in old
+files_failed : (task : Option Request) (old mid : DeskState) → LoadFails task old mid → files_in mid ≡ files_in old
 files_failed None old mid fails = absurd fails
 files_failed (Some a) old mid fails = ap files_in fails ∙ same_files as_before old.told (λ c. refl)
 
-files_ran_out : (task : Option Asked) (old mid : DeskState) → WorkRunsOut task old mid → files_in mid ≡ files_in old
+files_ran_out : (task : Option Request) (old mid : DeskState) → WorkRunsOut task old mid → files_in mid ≡ files_in old
 files_ran_out None old mid runs_out = absurd runs_out
 files_ran_out (Some a) old mid (inl starved) = ap files_in starved ∙ files_asked old
 files_ran_out (Some a) old mid (inr (bytes, finds, after)) = ap files_in after ∙ files_loaded (Some a) old
 
-files_stopped : (error : SinkError) (task : Option Asked) (old mid : DeskState) → SayStops error task old mid → files_in mid ≡ files_in old
+files_stopped : (error : SinkError) (task : Option Request) (old mid : DeskState) → SayStops error task old mid → files_in mid ≡ files_in old
 files_stopped error task old mid (fate, is, stops) =
     files_said (after_load task old) mid (said fate) (Err error) stops.1 ∙ files_loaded task old
 
-pub files_kept : (task : Option Asked) (old new : DeskState) (answer : ℕ) → EndsCall task old new answer → files_in new ≡ files_in old
+pub files_kept : (task : Option Request) (old new : DeskState) (answer : ℕ) → EndsCall task old new answer → files_in new ≡ files_in old
 files_kept task old new answer (Decided fate is gives after) =
     ap files_in after ∙ same_files (with_said (said fate)) (after_load task old).told (λ c. refl) ∙ files_loaded task old
 files_kept task old new answer (Faulted five (mid, inl fails, tried)) = files_tried mid new _ tried ∙ files_failed task old mid fails

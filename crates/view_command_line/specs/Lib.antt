@@ -1,4 +1,4 @@
-pub mod Asked
-pub mod Fate
+pub mod Request
+pub mod Ending
 pub mod Top
 pub mod Laws

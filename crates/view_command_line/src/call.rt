@@ -1,14 +1,14 @@
 ghost use Rattle.std.specs.Prelude.{◌≡◌, Some};
 ghost use Rattle.durable_folder.specs.Histories.{Rests};
 ghost use Rattle.desk_io.specs.Desk.{Rose};
-ghost use Rattle.image_desk.specs.Saying.{files_in};
-ghost use Rattle.view_command_line.specs.Asked.{asked_by, asked_of};
+ghost use Rattle.program_base.specs.Saying.{files_in};
+ghost use Rattle.view_command_line.specs.Request.{request_by, request_of};
 ghost use Rattle.view_command_line.specs.Top.{EndsCall, Works};
 
-use crate::drawing::drawn;
-use crate::words::{View, asked};
+use crate::drawing::draw_image;
+use crate::words::{View, parse_words};
 use desk_io::Desk;
-use image_desk::{ImageRefusal, ImageStop, desk_fault, fetch, no_memory, refuse, say};
+use program_base::{ImageRefusal, ImageStop, desk_fault, load_file, no_memory, refuse, say};
 use std::alloc::Global;
 
 /// Says the picture that the words ask for, and answers the status: 0 where that is done, 1 for words that are
@@ -16,7 +16,7 @@ use std::alloc::Global;
 /// desk, 6 for want of memory, 7 for an image that is not sound, and 9 for a file that is too long. No file
 /// changes.
 pub fn top<D: Desk>(alloc: Global, words: &[String], desk: &mut D) -> u8
-    ensures ends { EndsCall (asked_by words.now) (D.state desk.old) (D.state desk.new) result }
+    ensures ends { EndsCall (request_by words.now) (D.state desk.old) (D.state desk.new) result }
     ensures fault { result ≡ 5 → Rose (D.state desk.old).faults (D.state desk.new).faults }
     ensures files { files_in (D.state desk.new) ≡ files_in (D.state desk.old) }
     ensures disk { Rests (D.disk desk.old) (D.disk desk.new) }
@@ -26,7 +26,7 @@ pub fn top<D: Desk>(alloc: Global, words: &[String], desk: &mut D) -> u8
 
 /// The same, by how it ends.
 fn run<D: Desk>(alloc: Global, words: &[String], desk: &mut D) -> u8
-    ensures ends { EndsCall (asked_by words.now) (D.state desk.old) (D.state desk.new) result }
+    ensures ends { EndsCall (request_by words.now) (D.state desk.old) (D.state desk.new) result }
     ensures disk { Rests (D.disk desk.old) (D.disk desk.new) }
 {
     match work(alloc, words, desk) {
@@ -43,24 +43,24 @@ fn work<'a, D: Desk>(
     words: &'a [String],
     desk: &mut D,
 ) -> Result<Vec<u8>, ImageStop<'a>>
-    ensures works { Works (asked_by words.now) (D.state desk.old) (D.state desk.new) result }
+    ensures works { Works (request_by words.now) (D.state desk.old) (D.state desk.new) result }
     ensures disk { Rests (D.disk desk.old) (D.disk desk.new) }
 {
-    match asked(words) {
-        Some(view) => viewed(alloc, view, desk),
+    match parse_words(words) {
+        Some(view) => view_image(alloc, view, desk),
         None => Err(ImageStop::Refused(ImageRefusal::BadWords)),
     }
 }
 
 /// The text of a picture.
-fn viewed<'a, D: Desk>(
+fn view_image<'a, D: Desk>(
     alloc: Global,
     view: View<'a>,
     desk: &mut D,
 ) -> Result<Vec<u8>, ImageStop<'a>>
-    ensures works { Works (Some (asked_of view.entry)) (D.state desk.old) (D.state desk.new) result }
+    ensures works { Works (Some (request_of view.entry)) (D.state desk.old) (D.state desk.new) result }
     ensures disk { Rests (D.disk desk.old) (D.disk desk.new) }
 {
-    let bytes = fetch(view.image, desk)?;
-    drawn(alloc, bytes, view.form, view.unsound)
+    let bytes = load_file(view.image, desk)?;
+    draw_image(alloc, bytes, view.form, view.unsound)
 }

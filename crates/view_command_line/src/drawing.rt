@@ -1,20 +1,20 @@
 ghost use Rattle.std.specs.Prelude.{◌≡◌, Ok, IfOk, IfErr, length};
 ghost use Rattle.tx_types.specs.Config.{checked, shape_of, slots_of};
-ghost use Rattle.mem_flash.specs.Memory.{loaded};
-ghost use Rattle.image_desk.specs.Loading.{ImageStops};
-ghost use Rattle.view_command_line.specs.Fate.{Drawing, Gives, Opens, Refused, picture_in};
+ghost use Rattle.mem_flash.specs.MemFlashState.{loaded};
+ghost use Rattle.program_base.specs.Loading.{ImageStops};
+ghost use Rattle.view_command_line.specs.Ending.{Drawing, Gives, Opens, Refused, picture_in};
 
 use crate::opening::{Opening, notes, open};
 use crate::words::Form;
 use flash_picture::{Marks, draw, draw_svg};
-use image_desk::{ImageRefusal, ImageStop, read_device};
 use mem_flash::MemFlash;
+use program_base::{ImageRefusal, ImageStop, open_image};
 use std::alloc::Global;
 use tx_types::Config;
 use version_index::Note;
 
 /// The picture of an image file, from its bytes on. One that is not sound is drawn only where that is asked for.
-pub fn drawn(
+pub fn draw_image(
     alloc: Global,
     bytes: Vec<u8>,
     form: Form,
@@ -24,14 +24,14 @@ pub fn drawn(
     ensures err { IfErr result
         (ImageStops (λ why. Drawing form unsound bytes.items (Refused why))) }
 {
-    let (config, mut flash) = read_device(alloc, bytes)?;
-    let picture = pictured(alloc, config, &mut flash, form, unsound);
+    let (config, mut flash) = open_image(alloc, bytes)?;
+    let picture = draw_flash(alloc, config, &mut flash, form, unsound);
     drop(flash);
     picture
 }
 
 /// The picture of the device of a flash.
-fn pictured(
+fn draw_flash(
     alloc: Global,
     config: Config,
     flash: &mut MemFlash,

@@ -4,9 +4,9 @@
 
 mod call;
 mod drawing;
-mod laws;
 mod opening;
+mod theorems;
 mod words;
 
 pub use call::top;
-pub use laws::{pictures_tell, svgs_tell};
+pub use theorems::{pictures_tell, svgs_tell};

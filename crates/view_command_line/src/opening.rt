@@ -3,9 +3,9 @@ ghost use Rattle.tx_types.specs.Config.{checked, shape_of, slots_of};
 ghost use Rattle.flash_model.specs.Flash.{slot_at};
 ghost use Rattle.flash_model.specs.Calls.{seen_of, spare_area_of};
 ghost use Rattle.flash_model.specs.declared.flash.Seen.TheVariants as seen;
-ghost use Rattle.mem_flash.specs.Memory.{loaded};
+ghost use Rattle.mem_flash.specs.MemFlashState.{loaded};
 ghost use Rattle.version_index.specs.Notes.{note_of, notes_of};
-ghost use Rattle.view_command_line.specs.Fate.{IsOpening};
+ghost use Rattle.view_command_line.specs.Ending.{IsOpening};
 
 use bpcc_commit::Bpcc;
 use flash_model::{Flash, Seen, steady_stays};

@@ -1,6 +1,6 @@
 ghost use Rattle.std.specs.Prelude.{◌≡◌};
 ghost use Rattle.std.specs.Option.{option_map};
-ghost use Rattle.view_command_line.specs.Asked.{asked_by, asked_of, behind_both, behind_option, named};
+ghost use Rattle.view_command_line.specs.Request.{request_by, request_of, behind_both, behind_option, named};
 
 /// How a picture is said.
 #[derive(Clone, Copy, PartialEq, Eq)]
@@ -23,8 +23,8 @@ pub struct View<'a> {
 }
 
 /// What the words ask for, if they are in the table.
-pub fn asked(words: &[String]) -> Option<View<'_>>
-    ensures { option_map asked_of result ≡ asked_by words.now }
+pub fn parse_words(words: &[String]) -> Option<View<'_>>
+    ensures { option_map request_of result ≡ request_by words.now }
 {
     match words {
         [image] => of_file(Form::Text, false, image),
@@ -36,7 +36,7 @@ pub fn asked(words: &[String]) -> Option<View<'_>>
 
 /// What a name asks for behind this option.
 fn by_option<'a>(option: &str, word: &'a str) -> Option<View<'a>>
-    ensures { option_map asked_of result ≡ behind_option option.now word.now }
+    ensures { option_map request_of result ≡ behind_option option.now word.now }
 {
     match option {
         "--unsound" => of_file(Form::Text, true, word),
@@ -47,7 +47,7 @@ fn by_option<'a>(option: &str, word: &'a str) -> Option<View<'a>>
 
 /// What a name asks for behind these options.
 fn by_both<'a>(first: &str, second: &str, word: &'a str) -> Option<View<'a>>
-    ensures { option_map asked_of result ≡ behind_both first.now second.now word.now }
+    ensures { option_map request_of result ≡ behind_both first.now second.now word.now }
 {
     match (first, second) {
         ("--svg", "--unsound") | ("--unsound", "--svg") => of_file(Form::Svg, true, word),
@@ -57,7 +57,7 @@ fn by_both<'a>(first: &str, second: &str, word: &'a str) -> Option<View<'a>>
 
 /// The picture of the file of this name, which has at least one byte.
 fn of_file(form: Form, unsound: bool, word: &str) -> Option<View<'_>>
-    ensures { option_map asked_of result ≡ named form unsound word.now }
+    ensures { option_map request_of result ≡ named form unsound word.now }
 {
     if word.is_empty() {
         None

@@ -1,17 +1,12 @@
 -- What is noted as blank, and reads so.
-use Rattle.std.proofs.Common.{◌≡◌, ℕ, zero, suc, ◌+◌, ◌*◌, ◌≤◌, ◌==◌, ◌&&◌, Bool, true, false, cond, refl, ap, ◌∙◌, arith, eq-eqb, eqb-true}
+use Rattle.collector.proofs.Common.{◌≡◌, ℕ, zero, suc, ◌+◌, ◌*◌, ◌≤◌, ◌&&◌, Bool, true, false, cond, refl, ap, ◌∙◌, arith, eq-eqb, eqb-true, list_all, range_with_len, ne_eqb, Note, Blank, Damaged, Holds, note_at, IndexState, is_blank, is_noted_blank}
+use Rattle.std.proofs.Common.{◌==◌}
 use Rattle.std.specs.Prelude.{count_by}
 use Rattle.std.specs.Cmp.{both_ways}
-use Rattle.std.specs.List.{list_all, range_with_len}
-use Rattle.std.proofs.lemmas.Bool.{ne_eqb}
 use Rattle.std.proofs.lemmas.List.FromFn.{length-range_with_len}
 use Rattle.std.proofs.lemmas.List.Sums.{count_by-le-length}
-use Rattle.list_facts.proofs.Counts.{count_first}
-use Rattle.version_index.specs.declared.note.Note.{Note}
-use Rattle.version_index.specs.declared.note.Note.TheVariants.{Blank, Damaged, Holds}
-use Rattle.version_index.specs.Notes.{note_at}
-use Rattle.version_index.specs.Noted.{Noted, is_blank, blanks_of}
-use Rattle.collector.specs.Collecting.{is_noted_blank}
+use Rattle.list_lemmas.proofs.Counts.{count_first}
+use Rattle.version_index.specs.IndexState.{blanks_of}
 
 -- a note that passes the test is blank
 pub noted_blank : (note : Note) → is_blank note ≡ true → note ≡ Blank
@@ -33,6 +28,6 @@ count_all p a (suc n) =
     ap (λ k. k == suc n) (count_first p a n) ∙ counted (p a) (count_by p (range_with_len (a + 1) n)) n few ∙ ap (λ b. p a && b) (count_all p (a + 1) n)
 
 -- a block is noted as blank where as many of its slots are as it has
-pub all_blank : (n : Noted) (block : ℕ) → (blanks_of n block == n.config.pages_per_block) ≡ is_noted_blank n block
+pub all_blank : (n : IndexState) (block : ℕ) → (blanks_of n block == n.config.pages_per_block) ≡ is_noted_blank n block
 unfolding blanks_of
 all_blank n block = count_all (λ at. is_blank (note_at n.notes at)) (block * n.config.pages_per_block) n.config.pages_per_block

@@ -1,35 +1,9 @@
 -- Making the spare blank: where it is blank already, and by an erase.
-use Rattle.std.proofs.Common.{◌≡◌, ℕ, ◌+◌, ◌*◌, ◌<◌, ◌≤◌, true, false, [], ◌∷◌, length, Option, Some, None, Ok, Err, refl, sym, ap, ◌∙◌, subst, inl, inr, arith}
-use Rattle.std.specs.Option.{option_map_or}
-use Rattle.std.proofs.lemmas.Bool.{cases_lt, cond-true, cond-false}
-use Rattle.std.proofs.lemmas.List.{ext_get_or}
-use Rattle.list_facts.proofs.Ranges.{all_range, range_same}
-use Rattle.tx_types.specs.Config.{shape_of, slots_of, blocks_of}
-use Rattle.tx_types.specs.declared.config.Protocol.{Protocol}
-use Rattle.tx_types.specs.declared.record.Rec.{Rec}
-use Rattle.flash_model.specs.declared.flash.Broken.{Broken}
-use Rattle.flash_model.specs.Flash.{FlashState, Contents, blank, damaged, complete, slot_at}
-use Rattle.flash_model.specs.Calls.{Erases}
-use Rattle.flash_model.specs.Operations.{moment_of, erase, after, CanDo}
-use Rattle.flash_model.specs.Moves.{Does}
-use Rattle.flash_model.proofs.MoveLemmas.{same_moments, FlashMoves-operates}
-use Rattle.flash_model.proofs.ImageLemmas.{block_within}
-use Rattle.page_record.specs.Rules.{record_of}
-use Rattle.record_list.specs.Changes.{LossLaw}
-use Rattle.record_list.specs.WrittenChanges.{WrittenLossLaw}
-use Rattle.version_index.specs.declared.note.Note.TheVariants.{Blank, Damaged, Holds}
-use Rattle.version_index.specs.Notes.{note_at, note_of, with_block_noted}
-use Rattle.version_index.specs.Noted.{Noted, erased, is_blank}
-use Rattle.version_index.proofs.OfChanges.NotedChanges.{block_noted}
-use Rattle.die_alloc.specs.BlockTable.{BlockTable}
-use Rattle.collector.specs.declared.unsure.Unsure.{Unsure}
+use Rattle.collector.proofs.Common.{◌≡◌, ℕ, ◌+◌, ◌*◌, ◌<◌, ◌≤◌, true, false, [], ◌∷◌, length, Option, Some, None, Ok, Err, refl, sym, ap, ◌∙◌, subst, inl, inr, arith, option_map_or, cases_lt, cond-true, cond-false, ext_get_or, all_range, shape_of, slots_of, blocks_of, Protocol, Rec, Broken, FlashState, Contents, blank, damaged, complete, slot_at, Erases, moment_of, erase, CanDo, Does, same_moments, FlashMoves-operates, block_within, record_of, LossLaw, WrittenLossLaw, Blank, Damaged, Holds, note_at, note_of, with_block_noted, IndexState, erased, is_blank, block_noted, BlocksState, Unsure, Cleans, Matches, is_blank_slot, is_blank_block, is_noted_blank, cleaning, KeepsArray, KeepsStore, StoreParts, store_parts}
+use Rattle.list_lemmas.proofs.Ranges.{range_same}
+use Rattle.flash_model.specs.Operations.{after}
 use Rattle.collector.specs.declared.unsure.Unsure.TheVariants as unsure
-use Rattle.collector.specs.Calls.{Cleans}
-use Rattle.collector.specs.Matches.{Matches}
-use Rattle.collector.specs.Collecting.{is_blank_slot, is_blank_block, is_noted_blank, cleaning}
-use Rattle.collector.specs.Preserves.{KeepsArray}
-use Rattle.collector.specs.Retiring.{KeepsStore}
-use Rattle.collector.specs.Store.{Store, store_of, IsSure}
+use Rattle.collector.specs.StoreParts.{IsSure}
 use Rattle.collector.proofs.OfNotes.Calm.{noted_as_read}
 use Rattle.collector.proofs.OfCollect.Chains.{HasNoNewRecord-nothing}
 use Rattle.collector.proofs.OfCollect.CollectedNotes.{erased_no_new}
@@ -51,7 +25,7 @@ blank_as_noted p (complete bytes spare) = never (record_of p spare)
     never None = refl
     never (Some rec) = refl
 
-module _ (s : FlashState) (n : Noted) (t : BlockTable) (u : Unsure) (nothing : u ≡ unsure.Nothing) (matches : Matches s n t u) where
+module _ (s : FlashState) (n : IndexState) (t : BlocksState) (u : Unsure) (nothing : u ≡ unsure.Nothing) (matches : Matches s n t u) where
   m : Matches s n t unsure.Nothing
   m = subst (Matches s n t) nothing matches
 
@@ -93,7 +67,7 @@ module _ (s : FlashState) (n : Noted) (t : BlockTable) (u : Unsure) (nothing : u
       ap (λ notes. record n { notes = notes }) (ext_get_or Blank n.notes notes' (sym (length-noted sh some n.notes m.noted.slots t.spare below Blank)) each)
 
 -- the call
-module _ (p : Protocol) (loss : LossLaw p) (written_loss : WrittenLossLaw p) (a : Store) (k : IsSure p a) where
+module _ (p : Protocol) (loss : LossLaw p) (written_loss : WrittenLossLaw p) (a : StoreParts) (k : IsSure p a) where
   matches : Matches a.flash a.noted a.table unsure.Nothing
   matches = subst (Matches a.flash a.noted a.table) k.nothing k.matches
 
@@ -129,7 +103,7 @@ module _ (p : Protocol) (loss : LossLaw p) (written_loss : WrittenLossLaw p) (a 
 
   -- what is kept where the spare was made blank
   pub spare_emptied : (s' : FlashState) → Empties a.flash s' a.table.spare (Ok tt) →
-      KeepsStore p a (store_of s' (erased a.noted a.table.spare) a.table a.unsure) false
+      KeepsStore p a (store_parts s' (erased a.noted a.table.spare) a.table a.unsure) false
   spare_emptied s' done = record {
     matches = subst (Matches s' (erased a.noted a.table.spare) a.table) (sym k.nothing)
         (spare_erased a.flash s' a.noted a.table matches law written_law done
@@ -144,7 +118,7 @@ module _ (p : Protocol) (loss : LossLaw p) (written_loss : WrittenLossLaw p) (a 
 
   -- and where that was broken
   pub spare_left : (s' : FlashState) (x : Broken) → Empties a.flash s' a.table.spare (Err x) →
-      KeepsStore p a (store_of s' a.noted a.table unsure.SpareErase) true
+      KeepsStore p a (store_parts s' a.noted a.table unsure.SpareErase) true
   spare_left s' x broken = record {
     matches = spare_torn a.flash s' a.noted a.table matches law written_law x broken;
     preserves = preserves_same a.noted;
@@ -165,10 +139,10 @@ module _ (p : Protocol) (loss : LossLaw p) (written_loss : WrittenLossLaw p) (a 
     can : CanDo a.flash.shape a.flash.image (erase a.table.spare)
     can = omega (arith, spare_below, ap blocks_of matches.shape)
 
-    pub cleans_erased : (x : Unit {0}) → Erases a.flash s' a.table.spare (Ok x) → Cleans p a (store_of s' (erased a.noted a.table.spare) a.table a.unsure)
+    pub cleans_erased : (x : Unit {0}) → Erases a.flash s' a.table.spare (Ok x) → Cleans p a (store_parts s' (erased a.noted a.table.spare) a.table a.unsure)
         (Ok tt)
     cleans_erased x e = record {
-      keeps = keeps_of p a (store_of s' (erased a.noted a.table.spare) a.table a.unsure) false
+      keeps = keeps_of p a (store_parts s' (erased a.noted a.table.spare) a.table a.unsure) false
           (spare_emptied s' (erases_empties a.flash s' a.table.spare (Ok tt) e))
           (FlashMoves-operates a.flash s' (erase a.table.spare) (Ok x) tt can e) e.carries;
       done = subst (λ l. Does a.flash.shape (moment_of a.flash) l (moment_of s')) (sym its_cleaning)
@@ -182,9 +156,9 @@ module _ (p : Protocol) (loss : LossLaw p) (written_loss : WrittenLossLaw p) (a 
       erases = omega (arith, e.done.erases);
     }
 
-    pub cleans_torn : (x : Broken) → Erases a.flash s' a.table.spare (Err x) → Cleans p a (store_of s' a.noted a.table unsure.SpareErase) (Err x)
+    pub cleans_torn : (x : Broken) → Erases a.flash s' a.table.spare (Err x) → Cleans p a (store_parts s' a.noted a.table unsure.SpareErase) (Err x)
     cleans_torn x e = record {
-      keeps = keeps_of p a (store_of s' a.noted a.table unsure.SpareErase) true (spare_left s' x (erases_empties a.flash s' a.table.spare (Err x) e))
+      keeps = keeps_of p a (store_parts s' a.noted a.table unsure.SpareErase) true (spare_left s' x (erases_empties a.flash s' a.table.spare (Err x) e))
           (FlashMoves-operates a.flash s' (erase a.table.spare) (Err x) tt can e) e.carries;
       done = tt;
       noted = tt;

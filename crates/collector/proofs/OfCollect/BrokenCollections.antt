@@ -1,20 +1,11 @@
 -- What a collection that breaks costs, and that no record is new then.
-use Rattle.std.proofs.Common.{◌≡◌, ℕ, ◌+◌, ◌<◌, ◌≤◌, subst, arith, Ok, Err, Result}
+use Rattle.collector.proofs.Common.{◌≡◌, ℕ, ◌+◌, ◌<◌, ◌≤◌, subst, arith, Ok, Err, Result, Config, Protocol, Broken, Erases, FlashState, IndexState, BlocksState, Unsure, CostsAtMost, StoreParts}
 use Rattle.std.specs.Prelude.{OnErr}
-use Rattle.tx_types.specs.declared.config.Config.{Config}
-use Rattle.tx_types.specs.declared.config.Protocol.{Protocol}
-use Rattle.flash_model.specs.declared.flash.Broken.{Broken}
-use Rattle.flash_model.specs.Calls.{Erases}
-use Rattle.flash_model.specs.Flash.{FlashState}
-use Rattle.version_index.specs.Noted.{Noted}
-use Rattle.die_alloc.specs.BlockTable.{BlockTable}
-use Rattle.collector.specs.declared.unsure.Unsure.{Unsure}
-use Rattle.collector.specs.Going.{CostsAtMost, CostsBroken, CostsCopying}
-use Rattle.collector.specs.Store.{Store}
+use Rattle.collector.specs.Going.{CostsBroken, CostsCopying}
 use Rattle.collector.proofs.OfCopies.CopyingBlocks.{CopiedSoFar, needed_before}
 use Rattle.collector.proofs.OfCollect.RoundCosts.{copies_programs, copies_erases}
 
-module _ (p : Protocol) (a : Store) (n : Noted) (s : FlashState) (t : BlockTable) (u : Unsure) (first start at used : ℕ)
+module _ (p : Protocol) (a : StoreParts) (n : IndexState) (s : FlashState) (t : BlocksState) (u : Unsure) (first start at used : ℕ)
     (h : CopiedSoFar p a n s t u first start at used) (few : used < a.noted.config.pages_per_block) where
   -- there were fewer copies than the block has slots
   pub copying_costs : CostsCopying a.noted.config.pages_per_block a.flash s
@@ -32,7 +23,7 @@ module _ (p : Protocol) (a : Store) (n : Noted) (s : FlashState) (t : BlockTable
   }
 
 -- the costs of making the spare blank and of copying
-pub broken_costs : (n0 n1 : Noted) (s0 s1 s2 : FlashState) → n1.config ≡ n0.config → s1.programs ≡ s0.programs → s1.erases ≤ s0.erases + 1 →
+pub broken_costs : (n0 n1 : IndexState) (s0 s1 s2 : FlashState) → n1.config ≡ n0.config → s1.programs ≡ s0.programs → s1.erases ≤ s0.erases + 1 →
     CostsCopying n1.config.pages_per_block s1 s2 → CostsBroken n0.config.pages_per_block s0 s2
 broken_costs n0 n1 s0 s1 s2 same programs erases copying =
     let its = subst (λ (k : Config). CostsCopying k.pages_per_block s1 s2) same copying in

@@ -1,13 +1,7 @@
 -- Two changes one after the other: what both keep, the whole keeps.
-use Rattle.std.proofs.Common.{◌≡◌, ℕ, ◌+◌, ◌-◌, ◌*◌, ◌≤◌, Any, refl, ◌∙◌, arith, Contains}
+use Rattle.collector.proofs.Common.{◌≡◌, ℕ, ◌+◌, ◌-◌, ◌*◌, ◌≤◌, refl, ◌∙◌, arith, Contains, All-contains, all_from, FlashState, Found, found_in, IndexState, CostsAtMost, HasNoNewRecord}
+use Rattle.std.proofs.Common.{Any}
 use Rattle.std.proofs.Math.Nat.{mul-le-mul_right}
-use Rattle.std.proofs.lemmas.List.Elements.{All-contains}
-use Rattle.list_facts.proofs.Membership.{all_from}
-use Rattle.flash_model.specs.Flash.{FlashState}
-use Rattle.record_list.specs.declared.found.Found.{Found}
-use Rattle.version_index.specs.Notes.{found_in}
-use Rattle.version_index.specs.Noted.{Noted}
-use Rattle.collector.specs.Going.{CostsAtMost, HasNoNewRecord}
 
 -- costs of so many rounds and of so many more
 more_rounds : (d k j a b c : ℕ) → b ≤ a + k * d → c ≤ b + j * d → c ≤ a + (k + j) * d
@@ -29,24 +23,24 @@ CostsAtMost-more pages k j a b le h = record {
 }
 
 -- the record that a noted record was before
-pub record WasThere (n : Noted) (f : Found) : Type 0 where
+pub record WasThere (n : IndexState) (f : Found) : Type 0 where
   pub was : Found
   pub is_in : Contains (found_in n.notes) was
   pub same : was.rec ≡ f.rec
 
-pub no_new : (a b : Noted) → ((f : Found) → Contains (found_in b.notes) f → WasThere a f) → HasNoNewRecord a b
+pub no_new : (a b : IndexState) → ((f : Found) → Contains (found_in b.notes) f → WasThere a f) → HasNoNewRecord a b
 no_new a b h = all_from (λ f. Any (λ g. g.rec ≡ f.rec) (found_in a.notes)) (found_in b.notes) (λ f i.
     let w = h f i in (w.is_in.0, w.was, w.is_in.1, w.is_in.2, w.same))
 
-pub was_there : (a b : Noted) → HasNoNewRecord a b → (f : Found) → Contains (found_in b.notes) f → WasThere a f
+pub was_there : (a b : IndexState) → HasNoNewRecord a b → (f : Found) → Contains (found_in b.notes) f → WasThere a f
 was_there a b h f i =
     let any = All-contains (λ f. Any (λ g. g.rec ≡ f.rec) (found_in a.notes)) (found_in b.notes) f h i in
     record { was = any.1; is_in = (any.0, any.2, any.3); same = any.4 }
 
-pub HasNoNewRecord-nothing : (a : Noted) → HasNoNewRecord a a
+pub HasNoNewRecord-nothing : (a : IndexState) → HasNoNewRecord a a
 HasNoNewRecord-nothing a = no_new a a (λ f i. record { was = f; is_in = i; same = refl })
 
-pub HasNoNewRecord-then : (a b c : Noted) → HasNoNewRecord a b → HasNoNewRecord b c → HasNoNewRecord a c
+pub HasNoNewRecord-then : (a b c : IndexState) → HasNoNewRecord a b → HasNoNewRecord b c → HasNoNewRecord a c
 HasNoNewRecord-then a b c ab bc = no_new a c (λ f i.
     let w = was_there b c bc f i in let v = was_there a b ab w.was w.is_in in
     record { was = v.was; is_in = v.is_in; same = v.same ∙ w.same })

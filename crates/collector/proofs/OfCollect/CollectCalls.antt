@@ -1,29 +1,19 @@
 -- Collecting a block, as a call: the spare is made blank, and then the block is collected.
-use Rattle.std.proofs.Common.{◌≡◌, ◌≢◌, ℕ, ◌*◌, ◌<◌, true, false, length, Ok, Err, Result, refl, sym, ap, ap₂, ◌∙◌, subst, arith}
-use Rattle.tx_types.specs.Config.{shape_of, blocks_of}
-use Rattle.tx_types.specs.declared.config.Block.{Block}
-use Rattle.tx_types.specs.declared.config.Protocol.{Protocol}
-use Rattle.flash_model.specs.declared.flash.Broken.{Broken}
-use Rattle.record_list.specs.Changes.{LossLaw}
-use Rattle.version_index.specs.Noted.{Noted, erased, with_spare}
-use Rattle.die_alloc.specs.BlockTable.{BlockTable}
-use Rattle.collector.specs.BreakingOff.{BreaksOff}
-use Rattle.collector.specs.Calls.{Cleans, Collects, CollectsClean, CopiesNeeded, ErasesVictim, stops_copying, comes_to_erase}
-use Rattle.collector.specs.Collecting.{collected, copied_from, exchanged, needed_slots, HasUnneeded}
+use Rattle.collector.proofs.Common.{◌≡◌, ◌≢◌, ℕ, ◌*◌, ◌<◌, true, false, length, Ok, Err, Result, refl, sym, ap, ap₂, ◌∙◌, subst, arith, shape_of, blocks_of, Block, Protocol, Broken, LossLaw, IndexState, erased, with_spare, BlocksState, BreaksOff, Cleans, Collects, CopiesNeeded, ErasesVictim, collected, copied_from, swapped, needed_slots, HasUnneeded, reads_after, StoreParts}
+use Rattle.collector.specs.Calls.{CollectsClean, stops_copying, comes_to_erase}
 use Rattle.collector.specs.Going.{CostsBroken}
-use Rattle.collector.specs.Looking.{reads_after}
-use Rattle.collector.specs.Store.{Store, IsSure}
+use Rattle.collector.specs.StoreParts.{IsSure}
 use Rattle.collector.proofs.OfCollect.BreakingOff.{copies_broke, victim_broke}
 use Rattle.collector.proofs.OfCollect.BrokenCollections.{broken_costs, broken_at_most, erase_broken, erase_costs}
 use Rattle.collector.proofs.OfCollect.Collections.{collects}
 use Rattle.collector.proofs.OfNotes.KeepsLemmas.{keeps_then, by_err}
 
 -- what a broken erase of the spare costs
-cleaning_costs : (p : Protocol) (a b : Store) (x : Broken) → Cleans p a b (Err x) → CostsBroken a.noted.config.pages_per_block a.flash b.flash
+cleaning_costs : (p : Protocol) (a b : StoreParts) (x : Broken) → Cleans p a b (Err x) → CostsBroken a.noted.config.pages_per_block a.flash b.flash
 cleaning_costs p a b x c = record { programs = omega (arith, c.programs); erases = c.erases }
 
 -- the spare could not be made blank
-pub collects_unclean : (p : Protocol) (a b : Store) (block : ℕ) (x y : Broken) → Cleans p a b (Err x) → Collects p a b block (Err y)
+pub collects_unclean : (p : Protocol) (a b : StoreParts) (block : ℕ) (x y : Broken) → Cleans p a b (Err x) → Collects p a b block (Err y)
 collects_unclean p a b block x y c = record {
   keeps = c.keeps;
   done = tt;
@@ -37,27 +27,27 @@ collects_unclean p a b block x y c = record {
 }
 
 -- what was copied, once the spare was blank: so the tables say it, and so many slots were read
-module _ (p : Protocol) (a m h : Store) (cleaned : Cleans p a m (Ok tt)) (block : Block) (used : ℕ) (c : CopiesNeeded p m h block.0 (Ok used)) where
+module _ (p : Protocol) (a m h : StoreParts) (cleaned : Cleans p a m (Ok tt)) (block : Block) (used : ℕ) (c : CopiesNeeded p m h block.0 (Ok used)) where
   count : used ≡ length (needed_slots (erased a.noted a.table.spare) block.0)
-  count = c.copied.count ∙ ap (λ (x : Noted). length (needed_slots x block.0)) cleaned.noted
+  count = c.copied.count ∙ ap (λ (x : IndexState). length (needed_slots x block.0)) cleaned.noted
 
   pub noted_so : with_spare (erased h.noted block.0) block.0 ≡ collected a.noted a.table.spare block.0
   noted_so = ap (λ x. with_spare (erased x block.0) block.0) (c.copied.noted
-      ∙ ap₂ (λ (t : BlockTable) (n : Noted). copied_from n (t.spare * n.config.pages_per_block) (needed_slots n block.0)) cleaned.blocks cleaned.noted)
+      ∙ ap₂ (λ (t : BlocksState) (n : IndexState). copied_from n (t.spare * n.config.pages_per_block) (needed_slots n block.0)) cleaned.blocks cleaned.noted)
 
-  pub table_so : h.table ≡ m.table → exchanged h.table block.0 used ≡ exchanged a.table block.0 (length (needed_slots (erased a.noted a.table.spare) block.0))
-  table_so same = ap₂ (λ (t : BlockTable) u. exchanged t block.0 u) (same ∙ cleaned.blocks) count
+  pub table_so : h.table ≡ m.table → swapped h.table block.0 used ≡ swapped a.table block.0 (length (needed_slots (erased a.noted a.table.spare) block.0))
+  table_so same = ap₂ (λ (t : BlocksState) u. swapped t block.0 u) (same ∙ cleaned.blocks) count
 
   pub reads_so : h.flash.reads ≡ reads_after (length (needed_slots (erased a.noted a.table.spare) block.0)) a.flash.reads
   reads_so = c.copied.reads ∙ ap₂ reads_after count cleaned.reads
 
-module _ (p : Protocol) (loss : LossLaw p) (a m : Store) (k : IsSure p a) (cleaned : Cleans p a m (Ok tt)) (block : Block)
+module _ (p : Protocol) (loss : LossLaw p) (a m : StoreParts) (k : IsSure p a) (cleaned : Cleans p a m (Ok tt)) (block : Block)
     (exists : block.0 < blocks_of (shape_of a.noted.config))
     (apart : block.0 ≢ a.table.spare) (unneeded : HasUnneeded m.noted block.0) where
-  costs_so_far : (b : Store) (r : Result ℕ Broken) → CopiesNeeded p m b block.0 r → CostsBroken a.noted.config.pages_per_block a.flash b.flash
+  costs_so_far : (b : StoreParts) (r : Result ℕ Broken) → CopiesNeeded p m b block.0 r → CostsBroken a.noted.config.pages_per_block a.flash b.flash
   costs_so_far b r c = broken_costs a.noted m.noted a.flash m.flash b.flash cleaned.keeps.preserves.config cleaned.programs cleaned.erases (c.costs unneeded)
 
-  stopped : (b : Store) (x y : Broken) → CopiesNeeded p m b block.0 (Err x) → b.table ≡ m.table → Collects p a b block.0 (Err y)
+  stopped : (b : StoreParts) (x y : Broken) → CopiesNeeded p m b block.0 (Err x) → b.table ≡ m.table → Collects p a b block.0 (Err y)
   stopped b x y c same = record {
     keeps = keeps_then p a m b true cleaned.keeps c.keeps;
     done = tt;
@@ -71,7 +61,7 @@ module _ (p : Protocol) (loss : LossLaw p) (a m : Store) (k : IsSure p a) (clean
     at_most = broken_at_most a.noted.config.pages_per_block a.flash b.flash (costs_so_far b (Err x) c);
   }
 
-  module _ (h b : Store) (used : ℕ) (c : CopiesNeeded p m h block.0 (Ok used)) (same : h.table ≡ m.table) where
+  module _ (h b : StoreParts) (used : ℕ) (c : CopiesNeeded p m h block.0 (Ok used)) (same : h.table ≡ m.table) where
     shape2 : h.flash.shape ≡ a.flash.shape
     shape2 = c.keeps.carries.shape ∙ cleaned.keeps.carries.shape
 
@@ -103,6 +93,6 @@ module _ (p : Protocol) (loss : LossLaw p) (a m : Store) (k : IsSure p a) (clean
     }
 
   -- it was, and the block was collected
-  pub collects_cleaned : (b : Store) (r : Result (Unit {0}) Broken) → CollectsClean p m b block r → Collects p a b block.0 r
+  pub collects_cleaned : (b : StoreParts) (r : Result (Unit {0}) Broken) → CollectsClean p m b block r → Collects p a b block.0 r
   collects_cleaned b r (stops_copying x is c same) = by_err r (Collects p a b block.0) is (λ y. stopped b x y c same)
   collects_cleaned b r (comes_to_erase between used c same e) = came between b used c same r e

@@ -1,20 +1,9 @@
 -- What is noted once a block was collected: no record is new, and what was copied was needed.
-use Rattle.std.proofs.Common.{◌≡◌, ◌⊎◌, ℕ, zero, suc, ◌+◌, ◌*◌, ◌<◌, true, List, [], ◌∷◌, length, set, refl, sym, ap, ◌∙◌, subst, inl, inr, Contains}
+use Rattle.collector.proofs.Common.{◌≡◌, ◌⊎◌, ℕ, zero, suc, ◌+◌, ◌*◌, ◌<◌, true, List, [], ◌∷◌, length, set, refl, sym, ap, ◌∙◌, subst, inl, inr, Contains, from_filter, Contains-first, Contains-rest, shape_of, slots_of, blocks_of, Config, Found, is_outside, Note, Blank, Holds, note_at, found_in, IndexState, needed_of, copied, erased, found, noted_from, copied_from, collected, needed_slots, noted_cleaned, slots_in, HasNoNewRecord}
 use Rattle.std.proofs.Math.ListN.{length-set}
-use Rattle.list_facts.proofs.Membership.{from_filter, Contains-first, Contains-rest}
-use Rattle.tx_types.specs.Config.{shape_of, slots_of, blocks_of}
-use Rattle.tx_types.specs.declared.config.Config.{Config}
-use Rattle.record_list.specs.declared.found.Found.{Found}
-use Rattle.record_list.specs.Written.{is_outside}
-use Rattle.version_index.specs.declared.note.Note.{Note}
-use Rattle.version_index.specs.declared.note.Note.TheVariants.{Blank, Holds}
-use Rattle.version_index.specs.Notes.{note_at, found_in}
-use Rattle.version_index.specs.Noted.{Noted, needed_of, copied, erased}
-use Rattle.version_index.proofs.OfTables.FoundIn.{found, noted_from, noted_in, holds_within}
-use Rattle.collector.specs.Collecting.{copied_from, collected, needed_slots, noted_cleaned, slots_in}
+use Rattle.version_index.proofs.OfTables.FoundIn.{noted_in, holds_within}
 use Rattle.collector.proofs.OfCollect.Chains.{WasThere, no_new}
 use Rattle.collector.proofs.OfNotes.NotesLeft.{noted_left, length-noted}
-use Rattle.collector.specs.Going.{HasNoNewRecord}
 
 note_set : (notes : List Note) (at k : ℕ) (note : Note) → (note_at (set notes at note) k ≡ note) ⊎ (note_at (set notes at note) k ≡ note_at notes k)
 note_set [] at k note = inr refl
@@ -24,11 +13,11 @@ note_set (x ∷ xs) (suc at) zero note = inr refl
 note_set (x ∷ xs) (suc at) (suc k) note = note_set xs at k note
 
 -- a note is that of its slot before, or that of a slot that was copied
-pub data ComesFrom (n : Noted) (slots : List ℕ) (k : ℕ) (note : Note) : Type 0 where
+pub data ComesFrom (n : IndexState) (slots : List ℕ) (k : ℕ) (note : Note) : Type 0 where
   stays : note ≡ note_at n.notes k → ComesFrom n slots k note
   copy : (from : ℕ) → Contains slots from → note ≡ note_at n.notes from → ComesFrom n slots k note
 
-pub copied_notes : (n : Noted) (to : ℕ) (slots : List ℕ) (k : ℕ) → ComesFrom n slots k (note_at (copied_from n to slots).notes k)
+pub copied_notes : (n : IndexState) (to : ℕ) (slots : List ℕ) (k : ℕ) → ComesFrom n slots k (note_at (copied_from n to slots).notes k)
 copied_notes n to [] k = stays refl
 copied_notes n to (from ∷ rest) k = elim (copied_notes (copied n from to) (to + 1) rest k) [
   | stays e ↦ elim (note_set n.notes to k (note_at n.notes from)) [
@@ -41,16 +30,16 @@ copied_notes n to (from ∷ rest) k = elim (copied_notes (copied n from to) (to 
   ]
 ]
 
-pub copied_config : (n : Noted) (to : ℕ) (slots : List ℕ) → (copied_from n to slots).config ≡ n.config
+pub copied_config : (n : IndexState) (to : ℕ) (slots : List ℕ) → (copied_from n to slots).config ≡ n.config
 copied_config n to [] = refl
 copied_config n to (from ∷ rest) = copied_config (copied n from to) (to + 1) rest
 
-pub copied_length : (n : Noted) (to : ℕ) (slots : List ℕ) → length (copied_from n to slots).notes ≡ length n.notes
+pub copied_length : (n : IndexState) (to : ℕ) (slots : List ℕ) → length (copied_from n to slots).notes ≡ length n.notes
 copied_length n to [] = refl
 copied_length n to (from ∷ rest) = copied_length (copied n from to) (to + 1) rest ∙ length-set n.notes to (note_at n.notes from)
 
 -- no record is new where slots were copied
-pub copied_no_new : (n : Noted) (to : ℕ) (slots : List ℕ) → HasNoNewRecord n (copied_from n to slots)
+pub copied_no_new : (n : IndexState) (to : ℕ) (slots : List ℕ) → HasNoNewRecord n (copied_from n to slots)
 copied_no_new n to slots = no_new n (copied_from n to slots) (λ f i.
     let there = noted_from (copied_from n to slots).notes f i in
     elim (copied_notes n to slots f.slot.0) [
@@ -62,7 +51,7 @@ copied_no_new n to slots = no_new n (copied_from n to slots) (λ f i.
     at f k is = record { was = found k f.rec; is_in = noted_in n.notes k f.rec (holds_within n.notes k f.rec is) is; same = refl }
 
 -- the records outside a block that is all blank now
-module _ (n : Noted) (some : 0 < n.config.pages_per_block) (long : length n.notes ≡ slots_of (shape_of n.config)) (block : ℕ)
+module _ (n : IndexState) (some : 0 < n.config.pages_per_block) (long : length n.notes ≡ slots_of (shape_of n.config)) (block : ℕ)
     (below : block < blocks_of (shape_of n.config)) where
   pub erased_from : (f : Found) → Contains (found_in (erased n block).notes) f →
       Contains (found_in n.notes) f × (is_outside (shape_of n.config) block f.slot.0 ≡ true)
@@ -77,11 +66,11 @@ module _ (n : Noted) (some : 0 < n.config.pages_per_block) (long : length n.note
   erased_length = length-noted (shape_of n.config) some n.notes long block below Blank
 
 -- where a record of what was collected comes from
-pub data Origin (n : Noted) (spare : ℕ) (f : Found) : Type 0 where
+pub data Origin (n : IndexState) (spare : ℕ) (f : Found) : Type 0 where
   in_place : Contains (found_in n.notes) f → is_outside (shape_of n.config) spare f.slot.0 ≡ true → Origin n spare f
   in_copy : (from : ℕ) → Contains (found_in (noted_cleaned n spare).notes) (found from f.rec) → needed_of (noted_cleaned n spare) from ≡ true → Origin n spare f
 
-module _ (n : Noted) (some : 0 < n.config.pages_per_block) (long : length n.notes ≡ slots_of (shape_of n.config)) (spare block : ℕ)
+module _ (n : IndexState) (some : 0 < n.config.pages_per_block) (long : length n.notes ≡ slots_of (shape_of n.config)) (spare block : ℕ)
     (spare_below : spare < blocks_of (shape_of n.config)) (below : block < blocks_of (shape_of n.config)) where
   abbrev first : ℕ
   first = spare * n.config.pages_per_block
@@ -89,7 +78,7 @@ module _ (n : Noted) (some : 0 < n.config.pages_per_block) (long : length n.note
   abbrev slots : List ℕ
   slots = needed_slots (noted_cleaned n spare) block
 
-  abbrev full : Noted
+  abbrev full : IndexState
   full = copied_from (noted_cleaned n spare) first slots
 
   config_same : full.config ≡ n.config

@@ -1,33 +1,20 @@
 -- Collecting a block: the spare is made blank, what is needed is copied, and the block is erased.
-use Rattle.std.proofs.Common.{◌≡◌, ◌≢◌, ℕ, ◌+◌, ◌-◌, ◌*◌, ◌/◌, ◌<◌, false, List, [], ◌∷◌, ◌++◌, OnOk, Ok, Err, Result, sym, ap, ◌∙◌, subst, inl, inr, arith}
-use Rattle.std.proofs.Common.{Contains}
-use Rattle.std.specs.List.{range_with_len}
-use Rattle.std.proofs.lemmas.Bool.{cases_Bool, cond_both, both_ways}
+use Rattle.collector.proofs.Common.{◌≡◌, ◌≢◌, ℕ, ◌+◌, ◌-◌, ◌*◌, ◌/◌, ◌<◌, false, List, [], ◌∷◌, ◌++◌, Ok, Err, Result, sym, ap, ◌∙◌, subst, inl, inr, arith, Contains, range_with_len, cases_Bool, both_ways, all_from, from_filter, Contains-nil, shape_of, blocks_of, Protocol, Shape, Broken, FlashState, slot_at, Erases, Moment, Operation, erase, moment_of, CanDo, Does, block_within, same_moments, LossLaw, Blank, IndexState, needed_of, erased, BlocksState, Unsure, Matches, IsNextOfSpare, is_blank_block, cleaning, copies, noted_cleaned, needed_slots, CopiesDone, HasUnneeded}
+use Rattle.std.proofs.Common.{OnOk}
+use Rattle.std.proofs.lemmas.Bool.{cond_both}
 use Rattle.std.proofs.lemmas.Nat.{div-mul-add}
-use Rattle.list_facts.proofs.Membership.{all_from, from_filter, Contains-nil, Contains-one}
-use Rattle.list_facts.proofs.Ranges.{range_bounds}
-use Rattle.tx_types.specs.Config.{shape_of, blocks_of}
-use Rattle.tx_types.specs.declared.config.Protocol.{Protocol}
-use Rattle.tx_types.specs.declared.config.Shape.{Shape}
-use Rattle.flash_model.specs.declared.flash.Broken.{Broken}
-use Rattle.flash_model.specs.Flash.{FlashState, slot_at}
-use Rattle.flash_model.specs.Calls.{Erases}
-use Rattle.flash_model.specs.Operations.{Moment, Operation, erase, WorksIn, moment_of, after, CanDo}
-use Rattle.flash_model.specs.Moves.{Does, StayOff}
-use Rattle.flash_model.proofs.ImageLemmas.{block_within, slot_at-does}
-use Rattle.flash_model.proofs.MoveLemmas.{same_moments, Does-append}
-use Rattle.record_list.specs.Changes.{LossLaw}
-use Rattle.version_index.specs.declared.note.Note.TheVariants.{Blank}
-use Rattle.version_index.specs.Noted.{Noted, needed_of, erased}
-use Rattle.die_alloc.specs.BlockTable.{BlockTable}
-use Rattle.collector.specs.declared.unsure.Unsure.{Unsure}
-use Rattle.collector.specs.Matches.{Matches, IsNextOfSpare}
-use Rattle.collector.specs.Collecting.{is_blank_block, cleaning, copies, collecting, noted_cleaned, needed_slots, CopiesDone, HasUnneeded}
+use Rattle.list_lemmas.proofs.Membership.{Contains-one}
+use Rattle.list_lemmas.proofs.Ranges.{range_bounds}
+use Rattle.flash_model.specs.Operations.{WorksIn, after}
+use Rattle.flash_model.specs.Moves.{StayOff}
+use Rattle.flash_model.proofs.ImageLemmas.{slot_at-does}
+use Rattle.flash_model.proofs.MoveLemmas.{Does-append}
+use Rattle.collector.specs.Collecting.{collecting}
 use Rattle.collector.proofs.OfCopies.CopyLists.{copies_same}
 use Rattle.collector.proofs.OfCopies.Homes.{cleaned_needs}
 use Rattle.collector.proofs.OfNotes.NotesLeft.{note_at-in}
 
-module _ (p : Protocol) (loss : LossLaw p) (s0 : FlashState) (n0 : Noted) (t : BlockTable) (u0 : Unsure) (rule : n0.config.protocol ≡ p)
+module _ (p : Protocol) (loss : LossLaw p) (s0 : FlashState) (n0 : IndexState) (t : BlocksState) (u0 : Unsure) (rule : n0.config.protocol ≡ p)
     (m : Matches s0 n0 t u0) where
   below : t.spare < blocks_of (shape_of n0.config)
   below = omega (arith, m.table.spare_within, ap blocks_of m.blocks, ap blocks_of m.shape)
@@ -36,7 +23,7 @@ module _ (p : Protocol) (loss : LossLaw p) (s0 : FlashState) (n0 : Noted) (t : B
   some = (let b = m.noted.bounds.shape.pages_least in omega arith)
 
   -- what is not needed is not needed once the spare is blank
-  pub unneeded_cleaned : (n1 : Noted) (block : ℕ) → n1 ≡ erased n0 t.spare → HasUnneeded n0 block → HasUnneeded n1 block
+  pub unneeded_cleaned : (n1 : IndexState) (block : ℕ) → n1 ≡ erased n0 t.spare → HasUnneeded n0 block → HasUnneeded n1 block
   unneeded_cleaned n1 block is any =
       subst (λ k. HasUnneeded k block) (sym is) (any.0, any.1, any.2, any.3, still)
     where
@@ -48,10 +35,10 @@ module _ (p : Protocol) (loss : LossLaw p) (s0 : FlashState) (n0 : Noted) (t : B
       ]
 
   -- the first slot of the blank spare comes next
-  pub first_of_spare : (n1 : Noted) (t1 : BlockTable) → n1 ≡ erased n0 t.spare → t1 ≡ t → IsNextOfSpare n1 t1.spare (t1.spare * n1.config.pages_per_block)
+  pub first_of_spare : (n1 : IndexState) (t1 : BlocksState) → n1 ≡ erased n0 t.spare → t1 ≡ t → IsNextOfSpare n1 t1.spare (t1.spare * n1.config.pages_per_block)
   first_of_spare n1 t1 is same =
-      subst (λ (k : BlockTable). IsNextOfSpare n1 k.spare (k.spare * n1.config.pages_per_block)) (sym same)
-      (subst (λ (k : Noted). IsNextOfSpare k t.spare (t.spare * k.config.pages_per_block)) (sym is) first)
+      subst (λ (k : BlocksState). IsNextOfSpare n1 k.spare (k.spare * n1.config.pages_per_block)) (sym same)
+      (subst (λ (k : IndexState). IsNextOfSpare k t.spare (t.spare * k.config.pages_per_block)) (sym is) first)
     where
       first : IsNextOfSpare (erased n0 t.spare) t.spare (t.spare * n0.config.pages_per_block)
       first = record {
@@ -63,7 +50,7 @@ module _ (p : Protocol) (loss : LossLaw p) (s0 : FlashState) (n0 : Noted) (t : B
       }
 
   -- once the spare was made blank
-  module _ (s1 : FlashState) (n1 : Noted) (t1 : BlockTable) (block : ℕ) (noted : n1 ≡ erased n0 t.spare) (table : t1 ≡ t) (apart : block ≢ t.spare)
+  module _ (s1 : FlashState) (n1 : IndexState) (t1 : BlocksState) (block : ℕ) (noted : n1 ≡ erased n0 t.spare) (table : t1 ≡ t) (apart : block ≢ t.spare)
       (shape1 : s1.shape ≡ s0.shape) (cleans : Does s0.shape (moment_of s0) (cleaning n0 s0.image t.spare) (moment_of s1)) where
     abbrev slots : List ℕ
     slots = needed_slots (noted_cleaned n0 t.spare) block
@@ -97,16 +84,16 @@ module _ (p : Protocol) (loss : LossLaw p) (s0 : FlashState) (n0 : Noted) (t : B
         (subst (λ l. Does s0.shape (moment_of s1) l now)
         (copies_same n0.config.page_bytes s1.image s0.image (t.spare * n0.config.pages_per_block) first (λ k i. same_slots k (are k i)))
         (subst (λ sh. Does sh (moment_of s1) (copies n0.config.page_bytes s1.image (t.spare * n0.config.pages_per_block) first) now) shape1
-        (subst (λ (k : Noted). Does s1.shape (moment_of s1) (copies k.config.page_bytes s1.image (t.spare * k.config.pages_per_block) first) now) noted
-        (subst (λ (k : BlockTable). Does s1.shape (moment_of s1) (copies n1.config.page_bytes s1.image (k.spare * n1.config.pages_per_block) first) now) table
+        (subst (λ (k : IndexState). Does s1.shape (moment_of s1) (copies k.config.page_bytes s1.image (t.spare * k.config.pages_per_block) first) now) noted
+        (subst (λ (k : BlocksState). Does s1.shape (moment_of s1) (copies n1.config.page_bytes s1.image (k.spare * n1.config.pages_per_block) first) now) table
         does))))
 
     -- the operations of the whole
-    module _ (s2 : FlashState) (n2 : Noted) (used : ℕ) (copied : CopiesDone n1 n2 s1 s2 t1.spare block used) where
+    module _ (s2 : FlashState) (n2 : IndexState) (used : ℕ) (copied : CopiesDone n1 n2 s1 s2 t1.spare block used) where
       -- all that is needed was copied
       pub all_copied : Does s0.shape (moment_of s0) (cleaning n0 s0.image t.spare ++ programs slots) (moment_of s2)
       all_copied = copies_follow slots (λ k i. i) (moment_of s2)
-          (subst (λ (k : Noted). Does s1.shape (moment_of s1)
+          (subst (λ (k : IndexState). Does s1.shape (moment_of s1)
           (copies n1.config.page_bytes s1.image (t1.spare * n1.config.pages_per_block) (needed_slots k block)) (moment_of s2)) noted
           copied.programmed)
 

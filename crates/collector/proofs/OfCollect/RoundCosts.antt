@@ -1,10 +1,6 @@
 -- What the copies of a collection cost.
-use Rattle.std.proofs.Common.{◌≡◌, ℕ, ◌+◌, ◌≤◌, List, [], ◌∷◌, length, refl, ap, arith}
-use Rattle.tx_types.specs.declared.config.Shape.{Shape}
-use Rattle.flash_model.specs.Flash.{FlashState, Contents}
-use Rattle.flash_model.specs.Operations.{Operation, program, erase, fire, Moment, moment_of, after}
-use Rattle.flash_model.specs.Moves.{Does}
-use Rattle.collector.specs.Collecting.{copies}
+use Rattle.collector.proofs.Common.{◌≡◌, ℕ, ◌+◌, ◌≤◌, List, [], ◌∷◌, length, refl, ap, arith, Shape, FlashState, Contents, Operation, program, erase, Moment, moment_of, Does, copies}
+use Rattle.flash_model.specs.Operations.{fire, after}
 
 -- how many of some operations are programs, and how many are erases
 programs : List Operation → ℕ

@@ -1,36 +1,13 @@
 -- A copy that was programmed in the spare, or whose program was broken: what matches then.
-use Rattle.std.proofs.Common.{◌≡◌, ◌≢◌, ◌⊎◌, ℕ, ◌/◌, ◌<◌, eqb-true, List, length, set, Option, Some, None, Ok, Err, refl, sym, ap, ◌∙◌, subst, inl, inr, arith}
-use Rattle.std.specs.Prelude.{◌==◌}
-use Rattle.std.specs.Option.{option_map_or}
-use Rattle.std.proofs.lemmas.Bool.{cases_Bool, eqb-false}
-use Rattle.std.proofs.lemmas.List.{get_or-set_same, get_or-set_other, set-get_or}
-use Rattle.record_list.specs.Written.{text_at}
-use Rattle.tx_types.specs.Config.{shape_of, slots_of}
-use Rattle.tx_types.specs.declared.config.Protocol.{Protocol}
-use Rattle.tx_types.specs.declared.config.Shape.{Shape}
-use Rattle.tx_types.specs.declared.config.Slot.{Slot}
-use Rattle.tx_types.specs.declared.record.Rec.{Rec}
-use Rattle.flash_model.specs.declared.flash.Broken.{Broken}
-use Rattle.flash_model.specs.declared.outcome.Outcome.{Outcome}
+use Rattle.collector.proofs.Common.{◌≡◌, ◌≢◌, ◌⊎◌, ℕ, ◌/◌, ◌<◌, eqb-true, List, length, set, Option, Some, None, Ok, Err, refl, sym, ap, ◌∙◌, subst, inl, inr, arith, ◌==◌, option_map_or, cases_Bool, eqb-false, get_or-set_same, get_or-set_other, text_at, shape_of, slots_of, Protocol, Shape, Slot, Rec, Broken, Outcome, FlashState, IsFlash, IsImage, Contents, blank, damaged, complete, slot_at, Programs, program, image_left, CanDo, record_of, CopyLaw, Blank, Damaged, Holds, IsSoundImage, note_at, note_of, IndexState, IsNoted, copied, BlocksState, IsFree, block_of_slot, has_room_not_spare, Matches, IsNotedAt, KeepsArray}
+use Rattle.std.proofs.lemmas.List.{set-get_or}
 use Rattle.flash_model.specs.declared.outcome.Outcome.TheVariants as outcome
-use Rattle.flash_model.specs.Flash.{FlashState, IsFlash, IsImage, Contents, blank, damaged, complete, slot_at}
-use Rattle.flash_model.specs.Calls.{Programs}
-use Rattle.flash_model.specs.Operations.{program, image_left, CanDo}
 use Rattle.flash_model.proofs.ImageLemmas.{IsImage-left}
-use Rattle.page_record.specs.Rules.{record_of}
-use Rattle.record_list.specs.Changes.{CopyLaw}
 use Rattle.record_list.specs.WrittenChanges.{WrittenCopyLaw}
-use Rattle.version_index.specs.declared.note.Note.TheVariants.{Blank, Damaged, Holds}
-use Rattle.version_index.specs.Images.{IsSoundImage}
 use Rattle.version_index.specs.ImageChanges.{KeepsCopied, KeepsDamaged}
-use Rattle.version_index.specs.Notes.{note_at, note_of}
-use Rattle.version_index.specs.Noted.{Noted, IsNoted, copied}
 use Rattle.version_index.proofs.OfLaws.ImageLaws.{image_copy_law, image_damage_law}
-use Rattle.die_alloc.specs.BlockTable.{BlockTable, IsFree, block_of_slot}
-use Rattle.die_alloc.proofs.Changes.{block_within, has_room_not_spare}
+use Rattle.die_alloc.proofs.Changes.{block_within}
 use Rattle.collector.specs.declared.unsure.Unsure.TheVariants as unsure
-use Rattle.collector.specs.Matches.{Matches, IsNotedAt}
-use Rattle.collector.specs.Preserves.{KeepsArray}
 use Rattle.collector.proofs.OfNotes.Calm.{noted_as_read}
 use Rattle.collector.proofs.OfCopies.CopyNotes.{copy_spared}
 use Rattle.collector.proofs.OfNotes.SureCounts.{sure_counts}
@@ -45,7 +22,7 @@ blank_noted p (complete bytes spare) e = absurd (never (record_of p spare) e)
     never None e = cc
     never (Some rec) e = cc
 
-module _ (s s' : FlashState) (n : Noted) (t : BlockTable) (m : Matches s n t unsure.Nothing) (written_copy : WrittenCopyLaw n.config.protocol)
+module _ (s s' : FlashState) (n : IndexState) (t : BlocksState) (m : Matches s n t unsure.Nothing) (written_copy : WrittenCopyLaw n.config.protocol)
     (from to : Slot) (rec : Rec) (bytes spare : List ℕ)
     (from_within : from.0 < slots_of (shape_of n.config)) (to_within : to.0 < slots_of (shape_of n.config))
     (in_spare : to.0 / n.config.pages_per_block ≡ t.spare)

@@ -1,14 +1,9 @@
 -- The slots that are copied, one more at a time: their programs, and what is noted then.
-use Rattle.std.proofs.Common.{◌≡◌, ℕ, ◌+◌, List, [], ◌∷◌, ◌++◌, length, refl, ap, ap₂, ◌∙◌, arith, Contains}
-use Rattle.list_facts.proofs.Membership.{Contains-first, Contains-rest}
-use Rattle.flash_model.specs.Flash.{Contents, slot_at}
-use Rattle.flash_model.specs.Calls.{page_of, spare_area_of}
-use Rattle.flash_model.specs.Operations.{program}
-use Rattle.version_index.specs.Noted.{Noted, copied}
-use Rattle.collector.specs.Collecting.{copy_program, copies, copied_from}
+use Rattle.collector.proofs.Common.{◌≡◌, ℕ, ◌+◌, List, [], ◌∷◌, ◌++◌, length, refl, ap, ap₂, ◌∙◌, arith, Contains, Contains-first, Contains-rest, Contents, slot_at, spare_area_of, program, IndexState, copied, copy_program, copies, copied_from}
+use Rattle.flash_model.specs.Calls.{page_of}
 
 -- one slot more
-pub copied_more : (n : Noted) (to : ℕ) (list : List ℕ) (x : ℕ) → copied_from n to (list ++ x ∷ []) ≡ copied (copied_from n to list) x (to + length list)
+pub copied_more : (n : IndexState) (to : ℕ) (list : List ℕ) (x : ℕ) → copied_from n to (list ++ x ∷ []) ≡ copied (copied_from n to list) x (to + length list)
 copied_more n to [] x = ap (copied n x) (let at : to ≡ to + 0 = omega arith in at)
 copied_more n to (y ∷ ys) x =
     copied_more (copied n y to) (to + 1) ys x

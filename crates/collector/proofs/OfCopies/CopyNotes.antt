@@ -1,26 +1,10 @@
 -- Copying a record to a slot of the spare: what is noted then.
-use Rattle.std.proofs.Common.{◌≡◌, ℕ, ◌<◌, true, List, length, set, refl, sym, ap, ◌∙◌, subst, inl, inr, Contains}
-use Rattle.std.proofs.lemmas.List.Elements.{All-contains}
-use Rattle.list_facts.proofs.Membership.{all_from, from_filter, in_filter}
-use Rattle.tx_types.specs.Config.{shape_of}
-use Rattle.tx_types.specs.declared.record.Link.{Link}
-use Rattle.tx_types.specs.declared.record.Rec.{Rec}
-use Rattle.record_list.specs.declared.found.Found.{Found}
-use Rattle.record_list.specs.Records.{name_of, is_present}
-use Rattle.record_list.specs.Changes.{IsInserted, left, CopyLaw, CopyKeeps}
-use Rattle.record_list.specs.SoundList.{Pages, PagesExist}
-use Rattle.record_list.specs.Written.{is_outside, is_wanted}
-use Rattle.record_list.proofs.OfFacts.Names.{found_named, present_as}
+use Rattle.collector.proofs.Common.{◌≡◌, ℕ, ◌<◌, true, List, length, set, refl, sym, ap, ◌∙◌, subst, inl, inr, Contains, All-contains, all_from, from_filter, in_filter, shape_of, Link, Rec, Found, name_of, is_present, IsInserted, left, CopyLaw, Pages, PagesExist, is_outside, is_wanted, found_named, present_as, wanted_cases, counted_wanted, pinned_wanted, Blank, Holds, note_at, found_in, IndexState, IsNoted, current_of, current_name_of, held_of, pinned_names, copied, CanSpare, IsThere, Preserves, found, found_in_programmed}
+use Rattle.record_list.specs.Changes.{CopyKeeps}
 use Rattle.record_list.proofs.OfChanges.OneMore.{inserted_in, in_inserted}
-use Rattle.record_list.proofs.OfFacts.Wanted.{wanted_cases, counted_wanted, pinned_wanted}
-use Rattle.version_index.specs.declared.note.Note.TheVariants.{Blank, Holds}
-use Rattle.version_index.specs.Notes.{note_at, found_in}
-use Rattle.version_index.specs.Noted.{Noted, IsNoted, current_of, current_name_of, held_of, pinned_names, copied}
-use Rattle.collector.specs.Matches.{CanSpare}
-use Rattle.collector.specs.Preserves.{IsThere, Preserves}
-use Rattle.version_index.proofs.OfTables.FoundIn.{found, noted_in, found_in_programmed}
+use Rattle.version_index.proofs.OfTables.FoundIn.{noted_in}
 
-module _ (n : Noted) (noted : IsNoted n.config.protocol n) (law : CopyLaw n.config.protocol) (from to : ℕ) (rec : Rec)
+module _ (n : IndexState) (noted : IsNoted n.config.protocol n) (law : CopyLaw n.config.protocol) (from to : ℕ) (rec : Rec)
     (source : note_at n.notes from ≡ Holds rec) (from_within : from < length n.notes) (within : to < length n.notes) (was : note_at n.notes to ≡ Blank)
     (noted' : IsNoted n.config.protocol (copied n from to)) where
   abbrev pub old : List Found

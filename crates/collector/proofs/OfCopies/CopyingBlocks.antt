@@ -1,41 +1,18 @@
 -- Copying what is needed in a block to the spare, one slot after another.
-use Rattle.std.proofs.Common.{◌≡◌, ◌≢◌, ◌⊎◌, ℕ, ◌+◌, ◌-◌, ◌*◌, ◌/◌, ◌<◌, ◌≤◌, true, false, not, List, [], ◌∷◌, ◌++◌, length, filter, set, IsSome, eqb-true}
-use Rattle.std.proofs.Common.{eq-eqb, Ok, refl, sym, ap, ◌∙◌, subst, inl, inr, arith}
-use Rattle.std.specs.Prelude.{◌==◌}
-use Rattle.std.specs.List.{range_with_len}
+use Rattle.collector.proofs.Common.{◌≡◌, ◌≢◌, ◌⊎◌, ℕ, ◌+◌, ◌-◌, ◌*◌, ◌/◌, ◌<◌, ◌≤◌, true, false, not, List, [], ◌∷◌, ◌++◌, length, set, eqb-true, eq-eqb, Ok, refl, sym, ap, ◌∙◌, subst, inl, inr, arith, ◌==◌, range_with_len, cases_Bool, cases_lt, both_ways, get_or-set_same, get_or-set_other, shape_of, slots_of, blocks_of, Config, Protocol, Shape, Slot, Rec, FlashState, blank, complete, slot_at, spare_area_of, Moment, program, moment_of, Does, block_within, CopyLaw, is_outside, Blank, Holds, note_at, rec_of, found_in, IndexState, IsNoted, needed_of, copied, in_it, inside_block, noted_from, BlocksState, Unsure, Keeps, CopiesRecord, reads_after, IsNextOfSpare, StoreParts, store_parts, copy_program, copies, copied_from, needed_slots, CopiesDone, HasUnneeded}
+use Rattle.std.proofs.Common.{filter, IsSome}
 use Rattle.std.proofs.Math.Nat.{mul-le-mul_right}
-use Rattle.std.proofs.lemmas.Bool.{cases_Bool, cases_lt, cases_order, both_ways}
-use Rattle.std.proofs.lemmas.List.{get_or-set_same, get_or-set_other, length_push}
+use Rattle.std.proofs.lemmas.Bool.{cases_order}
+use Rattle.std.proofs.lemmas.List.{length_push}
 use Rattle.std.proofs.lemmas.Nat.{div-mul-add}
-use Rattle.list_facts.proofs.Ranges.{filter_passed, filter_taken, filter_most, filter_fewer}
-use Rattle.tx_types.specs.Config.{shape_of, slots_of, blocks_of}
-use Rattle.tx_types.specs.declared.config.Config.{Config}
-use Rattle.tx_types.specs.declared.config.Protocol.{Protocol}
-use Rattle.tx_types.specs.declared.config.Shape.{Shape}
-use Rattle.tx_types.specs.declared.config.Slot.{Slot}
-use Rattle.tx_types.specs.declared.record.Rec.{Rec}
-use Rattle.flash_model.specs.Flash.{FlashState, blank, complete, slot_at, counted}
-use Rattle.flash_model.specs.Calls.{page_of, spare_area_of}
-use Rattle.flash_model.specs.Operations.{Moment, program, moment_of}
-use Rattle.flash_model.specs.Moves.{Does}
-use Rattle.flash_model.proofs.ImageLemmas.{block_within}
+use Rattle.list_lemmas.proofs.Ranges.{filter_passed, filter_taken, filter_most, filter_fewer}
+use Rattle.flash_model.specs.Flash.{counted}
+use Rattle.flash_model.specs.Calls.{page_of}
 use Rattle.flash_model.proofs.MoveLemmas.{Does-append}
-use Rattle.record_list.specs.Changes.{CopyLaw}
-use Rattle.record_list.specs.Written.{is_outside}
-use Rattle.version_index.specs.declared.note.Note.TheVariants.{Blank, Holds}
 use Rattle.record_list.proofs.OfLosses.LossAmong.{one_each}
-use Rattle.version_index.specs.Notes.{note_at, rec_of, found_in}
-use Rattle.version_index.specs.Noted.{Noted, IsNoted, needed_of, copied}
-use Rattle.version_index.proofs.OfTables.Blocks.{in_it, inside_block}
-use Rattle.version_index.proofs.OfTables.FoundIn.{noted_from}
 use Rattle.version_index.proofs.OfTables.NotedFacts.{noted_map}
-use Rattle.die_alloc.specs.BlockTable.{BlockTable}
-use Rattle.collector.specs.declared.unsure.Unsure.{Unsure}
-use Rattle.collector.specs.Calls.{Keeps, CopiesRecord}
-use Rattle.collector.specs.Looking.{reads_after}
-use Rattle.collector.specs.Matches.{IsNextOfSpare}
-use Rattle.collector.specs.Store.{Store, store_of, IsSure}
-use Rattle.collector.specs.Collecting.{copy_program, copies, copied_from, needed_slots, CopyDone, CopiesDone, HasUnneeded}
+use Rattle.collector.specs.StoreParts.{IsSure}
+use Rattle.collector.specs.Collecting.{CopyDone}
 use Rattle.collector.proofs.OfCopies.CopyLists.{copied_more, copies_more}
 use Rattle.collector.proofs.OfCopies.Homes.{copy_needs}
 use Rattle.collector.proofs.OfNotes.KeepsLemmas.{keeps_same, keeps_then}
@@ -48,12 +25,12 @@ abbrev pub Away : (start per slot : ℕ) → Type 0
 Away start per slot = (slot < start) ⊎ (start + per ≤ slot)
 
 -- the needed slots of a block before this one
-abbrev pub needed_before : Noted → (first at : ℕ) → List ℕ
+abbrev pub needed_before : IndexState → (first at : ℕ) → List ℕ
 needed_before n first at = filter (needed_of n) (range_with_len first (at - first))
 
 -- What is so once the needed slots of a block before this one were copied to the spare, so many.
-pub record CopiedSoFar (p : Protocol) (a : Store) (n : Noted) (s : FlashState) (t : BlockTable) (u : Unsure) (first start at used : ℕ) : Type 0 where
-  pub keeps : Keeps p a (store_of s n t u) false
+pub record CopiedSoFar (p : Protocol) (a : StoreParts) (n : IndexState) (s : FlashState) (t : BlocksState) (u : Unsure) (first start at used : ℕ) : Type 0 where
+  pub keeps : Keeps p a (store_parts s n t u) false
   pub within : used ≤ at - first
   pub count : used ≡ length (needed_before a.noted first at)
   pub does : Does a.flash.shape (moment_of a.flash) (copies a.noted.config.page_bytes a.flash.image start (needed_before a.noted first at)) (moment_of s)
@@ -87,7 +64,7 @@ is_out shape block other slot apart at = elim (cases_Bool ((slot / shape.pages_p
 ]
 
 -- nothing was copied
-pub copied_none : (p : Protocol) (a : Store) → IsSure p a → (first start spare : ℕ) → start ≡ spare * a.noted.config.pages_per_block →
+pub copied_none : (p : Protocol) (a : StoreParts) → IsSure p a → (first start spare : ℕ) → start ≡ spare * a.noted.config.pages_per_block →
     IsNextOfSpare a.noted spare (spare * a.noted.config.pages_per_block) → CopiedSoFar p a a.noted a.flash a.table a.unsure first start first 0
 copied_none p a k first start spare is next =
     let n = a.noted in
@@ -110,11 +87,11 @@ copied_none p a k first start spare is next =
     }
 
 -- one more slot of the block
-module _ (p : Protocol) (a : Store) (n : Noted) (s : FlashState) (t : BlockTable) (u : Unsure) (first start at used block : ℕ)
+module _ (p : Protocol) (a : StoreParts) (n : IndexState) (s : FlashState) (t : BlocksState) (u : Unsure) (first start at used block : ℕ)
     (h : CopiedSoFar p a n s t u first start at used) (low : first ≤ at)
     (block_is : first ≡ block * a.noted.config.pages_per_block) (spare_is : start ≡ t.spare * a.noted.config.pages_per_block)
     (high : at < first + a.noted.config.pages_per_block) (apart : block ≢ t.spare) (below : block < blocks_of (shape_of a.noted.config)) where
-  abbrev n0 : Noted
+  abbrev n0 : IndexState
   n0 = a.noted
 
   abbrev s0 : FlashState
@@ -226,9 +203,9 @@ module _ (p : Protocol) (a : Store) (n : Noted) (s : FlashState) (t : BlockTable
     pub needed0 : needed_of n0 at ≡ true
     needed0 = sym (h.needs at away) ∙ needed
 
-    module _ (law : CopyLaw n.config.protocol) (n' : Noted) (s' : FlashState) (u' : Unsure) (from_slot to_slot : Slot) (from_is : from_slot.0 ≡ at)
+    module _ (law : CopyLaw n.config.protocol) (n' : IndexState) (s' : FlashState) (u' : Unsure) (from_slot to_slot : Slot) (from_is : from_slot.0 ≡ at)
         (to_is_slot : to_slot.0 ≡ to)
-        (copy : CopiesRecord p (store_of s n t u) (store_of s' n' t u') from_slot to_slot (Ok tt)) where
+        (copy : CopiesRecord p (store_parts s n t u) (store_parts s' n' t u') from_slot to_slot (Ok tt)) where
       done : CopyDone n s s' at to
       done = subst (λ k. CopyDone n s s' at k) to_is_slot (subst (λ k. CopyDone n s s' k to_slot.0) from_is copy.done)
 
@@ -288,7 +265,7 @@ module _ (p : Protocol) (a : Store) (n : Noted) (s : FlashState) (t : BlockTable
 
       pub copied_taken : CopiedSoFar p a n' s' t u' first start (at + 1) (used + 1)
       copied_taken = record {
-        keeps = keeps_then p a (store_of s n t u) (store_of s' n' t u') false h.keeps copy.keeps;
+        keeps = keeps_then p a (store_parts s n t u) (store_parts s' n' t u') false h.keeps copy.keeps;
         within = omega (arith, h.within, low);
         count = ap (λ k. k + 1) h.count ∙ sym (ap length so_far ∙ length_push (needed_before n0 first at) at);
         does = does_now;
@@ -310,11 +287,11 @@ module _ (p : Protocol) (a : Store) (n : Noted) (s : FlashState) (t : BlockTable
       }
 
 -- all was copied
-module _ (p : Protocol) (a : Store) (n : Noted) (s : FlashState) (t : BlockTable) (u : Unsure) (first start at used block : ℕ)
+module _ (p : Protocol) (a : StoreParts) (n : IndexState) (s : FlashState) (t : BlocksState) (u : Unsure) (first start at used block : ℕ)
     (h : CopiedSoFar p a n s t u first start at used)
     (block_is : first ≡ block * a.noted.config.pages_per_block) (spare_is : start ≡ t.spare * a.noted.config.pages_per_block)
     (end : at ≡ first + a.noted.config.pages_per_block) (apart : block ≢ t.spare) where
-  abbrev old_noted : Noted
+  abbrev old_noted : IndexState
   old_noted = a.noted
 
   abbrev old_flash : FlashState

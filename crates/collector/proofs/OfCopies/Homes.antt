@@ -1,32 +1,13 @@
 -- A copy in the spare of a record that stands outside it moves no home, and changes nobody's need. A blank spare moves none
 -- either, and ends at most that a record is held.
-use Rattle.std.proofs.Common.{◌≡◌, ◌≢◌, ℕ, ◌<◌, Bool, true, false, ◌&&◌, ◌||◌, eqb-true, eq-eqb, List, [], ◌∷◌, length, find, Option, Some, refl, sym, ap, ap₂}
-use Rattle.std.proofs.Common.{◌∙◌, subst, inl, inr, Contains}
-use Rattle.std.specs.Prelude.{◌==◌}
+use Rattle.collector.proofs.Common.{◌≡◌, ◌≢◌, ℕ, ◌<◌, Bool, true, false, ◌&&◌, ◌||◌, eqb-true, eq-eqb, List, [], ◌∷◌, length, find, Option, Some, refl, sym, ap, ap₂, ◌∙◌, subst, inl, inr, Contains, ◌==◌, option_map, cases_Bool, cond-true, cond-false, and_parts, and_from, both_ways, All-contains, from_filter, Contains-cases, Contains-nil, shape_of, blocks_of, Shape, Link, Rec, Found, name_of, has_name, IsInserted, left, CopyLaw, LossLaw, cur, is_held, Pages, PagesExist, is_outside, first_slot, is_slot, is_wanted, has_own_name, counted_wanted, pinned_wanted, Blank, Holds, note_at, found_in, IndexState, IsNoted, needed_of, home_of, pinned_names, copied, erased, found, CanSpare}
 use Rattle.std.specs.List.{list_any}
-use Rattle.std.specs.Option.{option_map, option_or}
-use Rattle.std.proofs.lemmas.Bool.{cases_Bool, cond-true, cond-false, and_parts, and_from, both_ways, and_right}
-use Rattle.std.proofs.lemmas.List.Elements.{All-contains}
-use Rattle.list_facts.proofs.Membership.{from_filter, Contains-cases, Contains-nil}
-use Rattle.list_facts.proofs.Tests.{any_same_in, find_more, find_left, any_from}
-use Rattle.tx_types.specs.Config.{shape_of, blocks_of}
-use Rattle.tx_types.specs.declared.config.Shape.{Shape}
-use Rattle.tx_types.specs.declared.record.Link.{Link}
-use Rattle.tx_types.specs.declared.record.Rec.{Rec}
-use Rattle.record_list.specs.declared.found.Found.{Found}
-use Rattle.record_list.specs.Records.{name_of, has_name}
-use Rattle.record_list.specs.Changes.{IsInserted, left, CopyLaw, CopyKeeps, LossLaw, LossKeeps}
-use Rattle.record_list.specs.Current.{cur, is_held}
-use Rattle.record_list.specs.SoundList.{Pages, PagesExist}
-use Rattle.record_list.specs.Written.{is_outside, is_outside_spare, first_slot, home, is_slot, is_wanted}
-use Rattle.record_list.proofs.OfFacts.Names.{has_own_name}
+use Rattle.std.specs.Option.{option_or}
+use Rattle.std.proofs.lemmas.Bool.{and_right}
+use Rattle.list_lemmas.proofs.Tests.{any_same_in, find_more, find_left, any_from}
+use Rattle.record_list.specs.Changes.{CopyKeeps, LossKeeps}
+use Rattle.record_list.specs.Written.{is_outside_spare, home}
 use Rattle.record_list.proofs.OfChanges.OneMore.{inserted_any}
-use Rattle.record_list.proofs.OfFacts.Wanted.{counted_wanted, pinned_wanted}
-use Rattle.version_index.specs.declared.note.Note.TheVariants.{Blank, Holds}
-use Rattle.version_index.specs.Notes.{note_at, found_in}
-use Rattle.version_index.specs.Noted.{Noted, IsNoted, needed_of, home_of, pinned_names, copied, erased}
-use Rattle.version_index.proofs.OfTables.FoundIn.{found}
-use Rattle.collector.specs.Matches.{CanSpare}
 use Rattle.collector.proofs.OfCopies.CopyNotes.{kept, added, first}
 use Rattle.collector.proofs.OfNotes.Losing.{is_left, loses}
 use Rattle.collector.proofs.OfNotes.NeedFacts.{home_needed}
@@ -61,7 +42,7 @@ pub home_off : (shape : Shape) (spare : Option ℕ) (l : List Found) (name : Lin
 home_off shape spare l name at e = ap (λ o. option_or o (first_slot (λ f. has_name name f.rec) l)) e
 
 -- a slot is needed where the record that it holds has its home there and is wanted
-pub home_is_needed : (n : Noted) (f : Found) (at : ℕ) → Contains (found_in n.notes) f → f.slot.0 ≡ at → home_of n (name_of f.rec) ≡ Some at →
+pub home_is_needed : (n : IndexState) (f : Found) (at : ℕ) → Contains (found_in n.notes) f → f.slot.0 ≡ at → home_of n (name_of f.rec) ≡ Some at →
     is_wanted n.config.protocol (found_in n.notes) n.config.logical (pinned_names n.pins) f.rec ≡ true → needed_of n at ≡ true
 unfolding needed_of home_of
 home_is_needed n f at i slot home_at wanted =
@@ -74,7 +55,7 @@ home_is_needed n f at i slot home_at wanted =
     (and_from (f.slot.0 == at) (is_slot at h) (eq-eqb f.slot.0 at slot) (ap (is_slot at) home_at ∙ eq-eqb at at refl)) wanted)
 
 -- a copy in the spare
-module _ (n : Noted) (noted : IsNoted n.config.protocol n) (law : CopyLaw n.config.protocol) (from to : ℕ) (rec : Rec)
+module _ (n : IndexState) (noted : IsNoted n.config.protocol n) (law : CopyLaw n.config.protocol) (from to : ℕ) (rec : Rec)
     (source : note_at n.notes from ≡ Holds rec) (from_within : from < length n.notes) (within : to < length n.notes) (was : note_at n.notes to ≡ Blank)
     (noted' : IsNoted n.config.protocol (copied n from to)) (spare : ℕ) (is_spare : n.spare ≡ Some spare)
     (outside : is_outside (shape_of n.config) spare from ≡ true) (inside : is_outside (shape_of n.config) spare to ≡ false) where
@@ -132,7 +113,7 @@ module _ (n : Noted) (noted : IsNoted n.config.protocol n) (law : CopyLaw n.conf
       ap₂ (λ h w. (f.slot.0 == k) && is_slot k h && w) (home_lists (name_of f.rec)) (wanted_same f i))
 
 -- a blank spare
-module _ (n : Noted) (noted : IsNoted n.config.protocol n) (law : LossLaw n.config.protocol) (spare : ℕ) (below : spare < blocks_of (shape_of n.config))
+module _ (n : IndexState) (noted : IsNoted n.config.protocol n) (law : LossLaw n.config.protocol) (spare : ℕ) (below : spare < blocks_of (shape_of n.config))
     (spared : CanSpare n spare) (is_spare : n.spare ≡ Some spare) where
   abbrev all : List Found
   all = found_in n.notes

@@ -1,29 +1,18 @@
 -- Once what is needed in a block stands in the spare too, the block can be spared.
-use Rattle.std.proofs.Common.{◌≡◌, ℕ, ◌<◌, true, false, List, length, Some, refl, sym, ap, ◌∙◌, subst, inl, inr, Contains}
-use Rattle.std.proofs.lemmas.Bool.{cases_Bool, and_parts, and_from}
-use Rattle.std.proofs.lemmas.List.Elements.{All-contains}
-use Rattle.list_facts.proofs.Membership.{all_from, from_filter, in_filter}
-use Rattle.tx_types.specs.Config.{shape_of}
-use Rattle.tx_types.specs.declared.record.Link.{Link}
-use Rattle.record_list.specs.declared.found.Found.{Found}
-use Rattle.record_list.specs.Records.{name_of, has_name, is_present}
-use Rattle.record_list.specs.Changes.{left}
-use Rattle.record_list.specs.Written.{is_outside, is_outside_spare, is_wanted}
-use Rattle.record_list.proofs.OfFacts.Names.{found_named, present_as, has_own_name, has_name_true}
+use Rattle.collector.proofs.Common.{◌≡◌, ℕ, ◌<◌, true, false, List, length, Some, refl, sym, ap, ◌∙◌, subst, inl, inr, Contains, cases_Bool, and_parts, and_from, All-contains, all_from, from_filter, in_filter, shape_of, Link, Found, name_of, has_name, is_present, left, is_outside, is_wanted, found_named, present_as, has_own_name, note_at, found_in, IndexState, needed_of, home_of, pinned_names, found, noted_from, CanSpare}
+use Rattle.record_list.specs.Written.{is_outside_spare}
+use Rattle.record_list.proofs.OfFacts.Names.{has_name_true}
 use Rattle.record_list.proofs.OfLosses.LossAmong.{IsOneEach}
-use Rattle.version_index.specs.Notes.{note_at, found_in}
-use Rattle.version_index.specs.Noted.{Noted, needed_of, home_of, pinned_names}
-use Rattle.version_index.proofs.OfTables.FoundIn.{found, noted_from, noted_in}
+use Rattle.version_index.proofs.OfTables.FoundIn.{noted_in}
 use Rattle.version_index.proofs.OfTables.HomeFacts.{first_stands}
-use Rattle.collector.specs.Matches.{CanSpare}
 use Rattle.collector.proofs.OfCopies.Homes.{first_of, stands_off, home_off, home_is_needed}
 
 -- a needed slot of the block has its note in a slot outside the block too
-abbrev pub HasCopy : Noted → ℕ → ℕ → Type 0
+abbrev pub HasCopy : IndexState → ℕ → ℕ → Type 0
 HasCopy n block slot =
     (other : ℕ) × (other < length n.notes) × (is_outside (shape_of n.config) block other ≡ true) × (note_at n.notes other ≡ note_at n.notes slot)
 
-module _ (n : Noted) (spare block : ℕ) (one : IsOneEach (found_in n.notes)) (is_spare : n.spare ≡ Some spare) (spared : CanSpare n spare)
+module _ (n : IndexState) (spare block : ℕ) (one : IsOneEach (found_in n.notes)) (is_spare : n.spare ≡ Some spare) (spared : CanSpare n spare)
     (copies : (slot : ℕ) → is_outside (shape_of n.config) block slot ≡ false → needed_of n slot ≡ true → HasCopy n block slot) where
   abbrev all : List Found
   all = found_in n.notes

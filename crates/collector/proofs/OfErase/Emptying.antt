@@ -1,13 +1,8 @@
 -- What is known of a flash after a call that was to make a block blank, whatever else the call did.
-use Rattle.std.proofs.Common.{◌≡◌, ℕ, Result, Ok, Err, ap, inl, inr}
+use Rattle.collector.proofs.Common.{◌≡◌, ℕ, Result, Ok, Err, ap, inl, inr, Broken, Outcome, FlashState, blank, Erases, Moment, Torn, erase, moment_of, image_left, Retires}
 use Rattle.std.specs.Prelude.{OnOk, OnErr}
-use Rattle.flash_model.specs.declared.flash.Broken.{Broken}
-use Rattle.flash_model.specs.declared.outcome.Outcome.{Outcome}
 use Rattle.flash_model.specs.declared.outcome.Outcome.TheVariants as outcome
-use Rattle.flash_model.specs.Flash.{FlashState, blank}
-use Rattle.flash_model.specs.Calls.{Erases}
-use Rattle.flash_model.specs.Operations.{Moment, Torn, erase, moment_of, with_block, image_left}
-use Rattle.flash_model.specs.Retiring.{Retires}
+use Rattle.flash_model.specs.Operations.{with_block}
 
 -- the shape stays; the block is all blank, or where the call was broken what a broken erase leaves
 pub record Empties (old new : FlashState) (block : ℕ) (result : Result (Unit {0}) Broken) : Type 0 where

@@ -1,43 +1,23 @@
 -- Erasing a block outside which each wanted record has a slot: what matches then, and where the erase was broken.
-use Rattle.std.proofs.Common.{◌≡◌, ◌≢◌, ℕ, ◌/◌, ◌<◌, ◌≤◌, true, false, not, eq-eqb, ◌%◌, List, Ok, Err, refl, sym, ap, ◌∙◌, subst, inl, inr, arith}
-use Rattle.std.proofs.lemmas.Bool.{cases_Bool, not-false}
-use Rattle.tx_types.specs.Config.{shape_of, slots_of, blocks_of}
-use Rattle.tx_types.specs.declared.config.Protocol.{Protocol}
-use Rattle.tx_types.specs.declared.config.Shape.{Shape}
-use Rattle.flash_model.specs.declared.flash.Broken.{Broken}
-use Rattle.flash_model.specs.declared.outcome.Outcome.{Outcome}
+use Rattle.collector.proofs.Common.{◌≡◌, ◌≢◌, ℕ, ◌/◌, ◌<◌, ◌≤◌, true, false, not, eq-eqb, ◌%◌, List, Ok, Err, refl, sym, ap, ◌∙◌, subst, inl, inr, arith, cases_Bool, shape_of, slots_of, blocks_of, Protocol, Shape, Broken, Outcome, FlashState, IsFlash, IsImage, Contents, blank, damaged, slot_at, erase, image_left, LossLaw, is_outside, WrittenLossLaw, Note, Blank, Damaged, IsSoundImage, note_at, note_of, with_block_noted, IndexState, IsNoted, erased, with_spare, in_it, inside_block, BlocksState, IsBlocksState, IsFree, Matches, CanSpare, IsNotedAt, IsErasing, IsFilledTo, Block, KeepsArray, swapped, table_with_spare}
+use Rattle.std.proofs.lemmas.Bool.{not-false}
 use Rattle.flash_model.specs.declared.outcome.Outcome.TheVariants as outcome
-use Rattle.flash_model.specs.Flash.{FlashState, IsFlash, IsImage, Contents, blank, damaged, slot_at}
-use Rattle.flash_model.specs.Operations.{erase, with_block, image_left}
+use Rattle.flash_model.specs.Operations.{with_block}
 use Rattle.flash_model.proofs.ImageLemmas.{IsImage-with_block, slot_at-with_block_in, slot_at-with_block_out}
-use Rattle.record_list.specs.Changes.{LossLaw}
-use Rattle.record_list.specs.Written.{is_outside}
-use Rattle.record_list.specs.WrittenChanges.{WrittenLossLaw}
-use Rattle.version_index.specs.declared.note.Note.{Note}
-use Rattle.version_index.specs.declared.note.Note.TheVariants.{Blank, Damaged}
-use Rattle.version_index.specs.Images.{IsSoundImage}
 use Rattle.version_index.specs.ImageChanges.{KeepsLost}
-use Rattle.version_index.specs.Notes.{note_at, note_of, with_block_noted}
-use Rattle.version_index.specs.Noted.{Noted, IsNoted, erased, with_spare}
 use Rattle.version_index.proofs.OfLaws.ImageLaws.{image_loss_law}
-use Rattle.version_index.proofs.OfTables.Blocks.{outside_it, in_it, inside_block}
+use Rattle.version_index.proofs.OfTables.Blocks.{outside_it}
 use Rattle.collector.proofs.OfNotes.NotesLeft.{note_at-in}
-use Rattle.die_alloc.specs.BlockTable.{BlockTable, IsBlockTable, IsFree}
 use Rattle.collector.specs.declared.unsure.Unsure.TheVariants as unsure
-use Rattle.collector.specs.Matches.{Matches, CanSpare, IsNotedAt, IsErasing, IsFilledTo}
-use Rattle.tx_types.specs.declared.config.Block.{Block}
-use Rattle.collector.specs.Preserves.{KeepsArray}
 use Rattle.collector.proofs.OfErase.Emptying.{Empties}
 use Rattle.collector.proofs.OfNotes.Calm.{noted_as_read, image_can_lose}
 use Rattle.collector.proofs.OfNotes.Losing.{blocked, spared_still}
 use Rattle.collector.proofs.OfNotes.SpelledNotes.{calm_spelled}
-use Rattle.collector.proofs.OfErase.Exchange.{free_away, free_before, tail_blank}
+use Rattle.collector.proofs.OfErase.Swap.{free_away, free_before, tail_blank}
 use Rattle.collector.proofs.OfSettle.SettledBlocks.{out_of, noted_out}
-use Rattle.collector.specs.Collecting.{exchanged}
-use Rattle.die_alloc.specs.BlockTable.{table_with_spare}
 use Rattle.collector.proofs.OfNotes.SureCounts.{sure_counts}
 
-module _ (s : FlashState) (n : Noted) (t : BlockTable) (m : Matches s n t unsure.Nothing)
+module _ (s : FlashState) (n : IndexState) (t : BlocksState) (m : Matches s n t unsure.Nothing)
     (loss : LossLaw n.config.protocol) (written_loss : WrittenLossLaw n.config.protocol)
     (block : ℕ) (below : block < blocks_of (shape_of n.config)) (spared : CanSpare n block) where
   abbrev p : Protocol
@@ -103,7 +83,7 @@ module _ (s : FlashState) (n : Noted) (t : BlockTable) (m : Matches s n t unsure
       KeepsArray p n.config.logical s.image (with_block s.shape s.image block contents)
   array_stays contents k = record { array = k.array; texts = λ name h. sym (k.texts name h) }
 
-module _ (s s' : FlashState) (n : Noted) (t : BlockTable) (m : Matches s n t unsure.Nothing)
+module _ (s s' : FlashState) (n : IndexState) (t : BlocksState) (m : Matches s n t unsure.Nothing)
     (loss : LossLaw n.config.protocol) (written_loss : WrittenLossLaw n.config.protocol)
     (block : ℕ) (below : block < blocks_of (shape_of n.config)) (spared : CanSpare n block) (same : s'.shape ≡ s.shape) where
   abbrev kept_image : KeepsLost n.config.protocol n.config.logical s.shape s.image (with_block s.shape s.image block blank)
@@ -182,7 +162,7 @@ module _ (s s' : FlashState) (n : Noted) (t : BlockTable) (m : Matches s n t uns
         (in_block slot e)));
   }
 
-module _ (s s' : FlashState) (n : Noted) (t : BlockTable) (m : Matches s n t unsure.Nothing)
+module _ (s s' : FlashState) (n : IndexState) (t : BlocksState) (m : Matches s n t unsure.Nothing)
     (loss : LossLaw n.config.protocol) (written_loss : WrittenLossLaw n.config.protocol) where
   pub spare_below : t.spare < blocks_of (shape_of n.config)
   spare_below = omega (arith, m.table.spare_within, ap blocks_of m.blocks, ap blocks_of m.shape)
@@ -257,8 +237,8 @@ module _ (s s' : FlashState) (n : Noted) (t : BlockTable) (m : Matches s n t uns
   -- the collected block was erased: it is the spare, and the old one has its copies
   pub victim_erased : (block : ℕ) → block < blocks_of (shape_of n.config) → block ≢ t.spare → CanSpare n block → (filled : IsFilledTo n t.spare) →
       Empties s s' block (Ok tt) → IsNoted n.config.protocol (with_spare (erased n block) block) →
-      IsBlockTable (table_with_spare t block) → IsBlockTable (exchanged t block filled.0) →
-      Matches s' (with_spare (erased n block) block) (exchanged t block filled.0) unsure.Nothing
+      IsBlocksState (table_with_spare t block) → IsBlocksState (swapped t block filled.0) →
+      Matches s' (with_spare (erased n block) block) (swapped t block filled.0) unsure.Nothing
   victim_erased block below other spared filled e noted mid table =
       let below_table : block < blocks_of t.shape = omega (arith, below, ap blocks_of m.blocks, ap blocks_of m.shape) in
       let same_per : t.shape.pages_per_block ≡ n.config.pages_per_block = ap (λ (x : Shape). x.pages_per_block) (m.blocks ∙ m.shape) in

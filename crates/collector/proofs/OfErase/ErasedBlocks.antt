@@ -1,27 +1,9 @@
 -- What the slots of a block show whose erase was broken.
-use Rattle.std.proofs.Common.{◌≡◌, ◌⊎◌, ℕ, ◌+◌, ◌*◌, ◌/◌, ◌<◌, ◌≤◌, Bool, true, false, List, Option, Some, None, refl, sym, ap, ◌∙◌, inl, inr, arith}
+use Rattle.collector.proofs.Common.{◌≡◌, ◌⊎◌, ℕ, ◌+◌, ◌*◌, ◌/◌, ◌<◌, ◌≤◌, Bool, true, false, List, Option, Some, None, refl, sym, ap, ◌∙◌, inl, inr, arith, list_all, option_map_or, both_ways, all_range, shape_of, slots_of, blocks_of, Protocol, Rec, FlashState, Contents, blank, damaged, complete, slot_at, block_within, record_of, Note, Blank, Damaged, Holds, note_at, note_of, IndexState, inside_block, BlocksState, Unsure, is_blank_slot, is_blank_block, slots_in, Matches, IsNotedAt, AllOfBlock, IsErasing}
 use Rattle.std.specs.Prelude.{IsSomeAnd}
-use Rattle.std.specs.List.{list_all}
-use Rattle.std.specs.Option.{option_map_or}
-use Rattle.std.proofs.lemmas.Bool.{both_ways}
 use Rattle.std.proofs.Math.Nat.{div-eq_of_lt-le}
-use Rattle.list_facts.proofs.Ranges.{all_range, range_all}
-use Rattle.tx_types.specs.Config.{shape_of, slots_of, blocks_of}
-use Rattle.tx_types.specs.declared.config.Protocol.{Protocol}
-use Rattle.tx_types.specs.declared.record.Rec.{Rec}
-use Rattle.flash_model.specs.Flash.{FlashState, Contents, blank, damaged, complete, slot_at}
-use Rattle.flash_model.proofs.ImageLemmas.{block_within}
-use Rattle.page_record.specs.Rules.{record_of}
-use Rattle.version_index.specs.declared.note.Note.{Note}
-use Rattle.version_index.specs.declared.note.Note.TheVariants.{Blank, Damaged, Holds}
+use Rattle.list_lemmas.proofs.Ranges.{range_all}
 use Rattle.version_index.specs.Images.{SlotReads}
-use Rattle.version_index.specs.Notes.{note_at, note_of}
-use Rattle.version_index.specs.Noted.{Noted}
-use Rattle.version_index.proofs.OfTables.Blocks.{inside_block}
-use Rattle.die_alloc.specs.BlockTable.{BlockTable}
-use Rattle.collector.specs.declared.unsure.Unsure.{Unsure}
-use Rattle.collector.specs.Collecting.{is_blank_slot, is_blank_block, slots_in}
-use Rattle.collector.specs.Matches.{Matches, IsNotedAt, AllOfBlock, IsErasing}
 use Rattle.collector.specs.Settling.{reads_as, block_reads_as_noted}
 
 -- a note that a damaged slot reads as
@@ -47,7 +29,7 @@ noted_reads p logical blank h = refl
 noted_reads p logical damaged h = refl
 noted_reads p logical (complete bytes spare) h = holds_reads (record_of p spare) bytes spare _ h
 
-module _ (s : FlashState) (n : Noted) (t : BlockTable) (u : Unsure) (m : Matches s n t u) (block : ℕ) (below : block < blocks_of (shape_of n.config))
+module _ (s : FlashState) (n : IndexState) (t : BlocksState) (u : Unsure) (m : Matches s n t u) (block : ℕ) (below : block < blocks_of (shape_of n.config))
     (erasing : IsErasing s.image n block) where
   some : 0 < n.config.pages_per_block
   some = (let b = m.noted.bounds.shape.pages_least in omega arith)

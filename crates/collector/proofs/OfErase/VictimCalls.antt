@@ -1,26 +1,8 @@
 -- The erase of a collected block as a call: what it leaves where it is done, and where it is broken.
-use Rattle.std.proofs.Common.{ℕ, ◌<◌, true, false, Ok, Err, refl, sym, ap, ◌∙◌, subst, arith}
-use Rattle.tx_types.specs.Config.{shape_of, blocks_of}
-use Rattle.tx_types.specs.declared.config.Block.{Block}
-use Rattle.tx_types.specs.declared.config.Protocol.{Protocol}
-use Rattle.flash_model.specs.declared.flash.Broken.{Broken}
-use Rattle.flash_model.specs.Flash.{FlashState}
-use Rattle.flash_model.specs.Calls.{Erases}
-use Rattle.flash_model.specs.Operations.{erase, CanDo}
-use Rattle.flash_model.proofs.MoveLemmas.{FlashMoves-operates}
-use Rattle.record_list.specs.Changes.{LossLaw}
-use Rattle.record_list.specs.WrittenChanges.{WrittenLossLaw}
-use Rattle.version_index.specs.declared.note.Note.TheVariants.{Blank}
-use Rattle.version_index.specs.Noted.{Noted, IsNoted, current_of, held_of, erased, with_spare}
-use Rattle.version_index.proofs.OfChanges.NotedChanges.{block_noted}
-use Rattle.die_alloc.specs.BlockTable.{IsBlockTable, table_with_spare}
+use Rattle.collector.proofs.Common.{ℕ, ◌<◌, true, false, Ok, Err, refl, sym, ap, ◌∙◌, subst, arith, shape_of, blocks_of, Block, Protocol, Broken, FlashState, Erases, erase, CanDo, FlashMoves-operates, LossLaw, WrittenLossLaw, Blank, IndexState, IsNoted, current_of, held_of, erased, with_spare, block_noted, IsBlocksState, table_with_spare, ErasesVictim, swapped, Matches, Preserves, KeepsArray, KeepsStore, StoreParts, store_parts}
 use Rattle.collector.specs.declared.unsure.Unsure.TheVariants as unsure
-use Rattle.collector.specs.Calls.{CanErase, ErasesVictim}
-use Rattle.collector.specs.Collecting.{exchanged}
-use Rattle.collector.specs.Matches.{Matches}
-use Rattle.collector.specs.Preserves.{Preserves, KeepsArray}
-use Rattle.collector.specs.Retiring.{KeepsStore}
-use Rattle.collector.specs.Store.{Store, store_of, IsSure}
+use Rattle.collector.specs.Calls.{CanErase}
+use Rattle.collector.specs.StoreParts.{IsSure}
 use Rattle.collector.proofs.OfCollect.Chains.{HasNoNewRecord-nothing}
 use Rattle.collector.proofs.OfCollect.CollectedNotes.{erased_no_new}
 use Rattle.collector.proofs.OfErase.EraseExits.{victim_erased, victim_torn, array_erased, left_torn}
@@ -30,7 +12,7 @@ use Rattle.collector.proofs.OfNotes.KeepsLemmas.{keeps_of}
 use Rattle.collector.proofs.OfNotes.Losing.{preserves, can_be_lost}
 
 -- a block that becomes the spare is noted so
-pub spare_noted : (p : Protocol) (n : Noted) (block : ℕ) → block < blocks_of (shape_of n.config) → IsNoted p n → IsNoted p (with_spare n block)
+pub spare_noted : (p : Protocol) (n : IndexState) (block : ℕ) → block < blocks_of (shape_of n.config) → IsNoted p n → IsNoted p (with_spare n block)
 spare_noted p n block below k = record {
   check = k.check;
   bounds = k.bounds;
@@ -45,7 +27,7 @@ spare_noted p n block below k = record {
 }
 
 -- another spare changes nothing of what is preserved
-pub with_spare_preserves : (n m : Noted) (block : ℕ) → Preserves n m → Preserves n (with_spare m block)
+pub with_spare_preserves : (n m : IndexState) (block : ℕ) → Preserves n m → Preserves n (with_spare m block)
 unfolding current_of held_of
 with_spare_preserves n m block h = record {
   config = h.config;
@@ -59,7 +41,7 @@ with_spare_preserves n m block h = record {
   in_progress = h.in_progress;
 }
 
-module _ (p : Protocol) (loss : LossLaw p) (written_loss : WrittenLossLaw p) (a : Store) (k : IsSure p a) (b : Block) (used : ℕ)
+module _ (p : Protocol) (loss : LossLaw p) (written_loss : WrittenLossLaw p) (a : StoreParts) (k : IsSure p a) (b : Block) (used : ℕ)
     (can : CanErase a.noted a.table b.0 used)
     (s' : FlashState) where
   m : Matches a.flash a.noted a.table unsure.Nothing
@@ -80,14 +62,14 @@ module _ (p : Protocol) (loss : LossLaw p) (written_loss : WrittenLossLaw p) (a 
   some : 0 < a.noted.config.pages_per_block
   some = (let x = m.noted.bounds.shape.pages_least in omega arith)
 
-  abbrev now : Noted
+  abbrev now : IndexState
   now = with_spare (erased a.noted b.0) b.0
 
   -- what is kept where the block was made blank, and is the spare
-  pub victim_emptied : Empties a.flash s' b.0 (Ok tt) → IsBlockTable (table_with_spare a.table b.0) → IsBlockTable (exchanged a.table b.0 used) →
-      KeepsStore p a (store_of s' now (exchanged a.table b.0 used) a.unsure) false
+  pub victim_emptied : Empties a.flash s' b.0 (Ok tt) → IsBlocksState (table_with_spare a.table b.0) → IsBlocksState (swapped a.table b.0 used) →
+      KeepsStore p a (store_parts s' now (swapped a.table b.0 used) a.unsure) false
   victim_emptied done between good = record {
-    matches = subst (Matches s' now (exchanged a.table b.0 used)) (sym k.nothing)
+    matches = subst (Matches s' now (swapped a.table b.0 used)) (sym k.nothing)
         (victim_erased a.flash s' a.noted a.table m law written_law b.0 can.exists can.not_spare can.spared (used, can.filled) done
         (spare_noted a.noted.config.protocol (erased a.noted b.0) b.0 can.exists
         (block_noted a.noted.config.protocol a.noted m.noted law b.0 Blank refl can.exists (can_be_lost a.noted b.0 can.spared)))
@@ -100,7 +82,7 @@ module _ (p : Protocol) (loss : LossLaw p) (written_loss : WrittenLossLaw p) (a 
   }
 
   -- and where that was broken
-  pub victim_left : (x : Broken) → Empties a.flash s' b.0 (Err x) → KeepsStore p a (store_of s' a.noted a.table (unsure.VictimErase b)) true
+  pub victim_left : (x : Broken) → Empties a.flash s' b.0 (Err x) → KeepsStore p a (store_parts s' a.noted a.table (unsure.VictimErase b)) true
   victim_left x broken = record {
     matches = victim_torn a.flash s' a.noted a.table m law written_law b can.exists can.not_spare can.spared (used, can.filled) x broken;
     preserves = preserves_same a.noted;
@@ -110,10 +92,10 @@ module _ (p : Protocol) (loss : LossLaw p) (written_loss : WrittenLossLaw p) (a 
     records = HasNoNewRecord-nothing a.noted;
   }
 
-  pub victim_done : (x : Unit {0}) → Erases a.flash s' b.0 (Ok x) → IsBlockTable (table_with_spare a.table b.0) → IsBlockTable (exchanged a.table b.0 used) →
-      ErasesVictim p a (store_of s' now (exchanged a.table b.0 used) a.unsure) b used (Ok tt)
+  pub victim_done : (x : Unit {0}) → Erases a.flash s' b.0 (Ok x) → IsBlocksState (table_with_spare a.table b.0) → IsBlocksState (swapped a.table b.0 used) →
+      ErasesVictim p a (store_parts s' now (swapped a.table b.0 used) a.unsure) b used (Ok tt)
   victim_done x e between good = record {
-    keeps = keeps_of p a (store_of s' now (exchanged a.table b.0 used) a.unsure) false (victim_emptied (erases_empties a.flash s' b.0 (Ok tt) e) between good)
+    keeps = keeps_of p a (store_parts s' now (swapped a.table b.0 used) a.unsure) false (victim_emptied (erases_empties a.flash s' b.0 (Ok tt) e) between good)
         (FlashMoves-operates a.flash s' (erase b.0) (Ok x) tt can_do e) e.carries;
     erases = e;
     noted = refl;
@@ -121,9 +103,9 @@ module _ (p : Protocol) (loss : LossLaw p) (written_loss : WrittenLossLaw p) (a 
     torn = tt;
   }
 
-  pub victim_breaks : (x : Broken) → Erases a.flash s' b.0 (Err x) → ErasesVictim p a (store_of s' a.noted a.table (unsure.VictimErase b)) b used (Err x)
+  pub victim_breaks : (x : Broken) → Erases a.flash s' b.0 (Err x) → ErasesVictim p a (store_parts s' a.noted a.table (unsure.VictimErase b)) b used (Err x)
   victim_breaks x e = record {
-    keeps = keeps_of p a (store_of s' a.noted a.table (unsure.VictimErase b)) true (victim_left x (erases_empties a.flash s' b.0 (Err x) e))
+    keeps = keeps_of p a (store_parts s' a.noted a.table (unsure.VictimErase b)) true (victim_left x (erases_empties a.flash s' b.0 (Err x) e))
         (FlashMoves-operates a.flash s' (erase b.0) (Err x) tt can_do e) e.carries;
     erases = e;
     noted = tt;

@@ -1,25 +1,9 @@
 -- What is kept of an array and of texts is known too.
-use Rattle.std.proofs.Common.{◌≡◌, ℕ, ◌<◌, ◌≤◌, true, List, None, Contains, sym, ap, ◌∙◌, subst, inl, inr, arith}
+use Rattle.collector.proofs.Common.{◌≡◌, ℕ, ◌<◌, ◌≤◌, true, List, None, Contains, sym, ap, ◌∙◌, subst, inl, inr, arith, cases_Bool, All-contains, Config, Protocol, Link, FlashState, Contents, is_present, text_at, value_at, found_named, records_in, written_in, IndexState, current_name_of, pinned_names, records_scanned, BlocksState, Unsure, page_known, array_known, Matches, Preserves, KeepsArray, IsThere}
 use Rattle.std.specs.Prelude.{option_and_then}
-use Rattle.std.proofs.lemmas.Bool.{cases_Bool}
-use Rattle.std.proofs.lemmas.List.Elements.{All-contains}
-use Rattle.tx_types.specs.declared.config.Config.{Config}
-use Rattle.tx_types.specs.declared.config.Protocol.{Protocol}
-use Rattle.tx_types.specs.declared.record.Link.{Link}
-use Rattle.flash_model.specs.Flash.{FlashState, Contents}
-use Rattle.record_list.specs.Records.{is_present}
-use Rattle.record_list.specs.Written.{text_at, value_at, value_of}
+use Rattle.record_list.specs.Written.{value_of}
 use Rattle.record_list.proofs.OfChanges.Arrays.{text_absent}
-use Rattle.record_list.proofs.OfFacts.Names.{found_named}
-use Rattle.version_index.specs.Images.{records_in, written_in}
-use Rattle.version_index.specs.Noted.{Noted, current_name_of, pinned_names}
-use Rattle.version_index.proofs.OfLaws.ImageScans.{records_scanned}
 use Rattle.version_index.proofs.OfTables.NotedFacts.{noted_present}
-use Rattle.die_alloc.specs.BlockTable.{BlockTable}
-use Rattle.collector.specs.declared.unsure.Unsure.{Unsure}
-use Rattle.collector.specs.Known.{page_known, array_known}
-use Rattle.collector.specs.Matches.{Matches}
-use Rattle.collector.specs.Preserves.{Preserves, KeepsArray, IsThere}
 use Rattle.collector.proofs.OfImages.KnownArrays.{same_known}
 use Rattle.collector.proofs.OfImages.WantedImages.{current_present, pinned_present}
 
@@ -35,7 +19,7 @@ none_at_zero p image name zero = text_absent (written_in p image) name (elim (ca
   | inr absent ↦ absent
 ])
 
-module _ (p : Protocol) (s s' : FlashState) (n n' : Noted) (t t' : BlockTable) (u u' : Unsure) (m : Matches s n t u) (m' : Matches s' n' t' u')
+module _ (p : Protocol) (s s' : FlashState) (n n' : IndexState) (t t' : BlocksState) (u u' : Unsure) (m : Matches s n t u) (m' : Matches s' n' t' u')
     (rule : n.config.protocol ≡ p)
     (kept : Preserves n n') (keeps : KeepsArray p n.config.logical s.image s'.image) where
   rule' : n'.config.protocol ≡ p

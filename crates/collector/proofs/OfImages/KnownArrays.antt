@@ -1,19 +1,14 @@
 -- The array that is known of an image whose current versions are known.
-use Rattle.std.proofs.Common.{◌≡◌, ℕ, ◌<◌, List, Option, map, sym, ap, ◌∙◌}
-use Rattle.std.specs.List.{range_with_len}
-use Rattle.list_facts.proofs.Ranges.{same_range}
-use Rattle.tx_types.specs.declared.config.Protocol.{Protocol}
-use Rattle.flash_model.specs.Flash.{Contents}
-use Rattle.record_list.specs.Written.{Written, value_at, page_at}
-use Rattle.version_index.specs.Images.{written_in, current_in, array_in}
-use Rattle.version_index.specs.Noted.{Noted, current_of}
-use Rattle.collector.specs.Known.{page_known, array_known}
+use Rattle.collector.proofs.Common.{◌≡◌, ℕ, ◌<◌, List, Option, map, sym, ap, ◌∙◌, range_with_len, Protocol, Contents, Written, value_at, written_in, array_in, IndexState, current_of, page_known, array_known}
+use Rattle.list_lemmas.proofs.Ranges.{same_range}
+use Rattle.record_list.specs.Written.{page_at}
+use Rattle.version_index.specs.Images.{current_in}
 
 at_version : List Written → ℕ → ℕ → Option (List ℕ)
 at_version list page version = value_at list (record { page = page; version = version })
 
 -- the array of an image whose current versions are those of the tables
-pub array_is_known : (p : Protocol) (n : Noted) (image : List Contents) → n.config.protocol ≡ p →
+pub array_is_known : (p : Protocol) (n : IndexState) (image : List Contents) → n.config.protocol ≡ p →
     ((page : ℕ) → page < n.config.logical → current_in p n.config.logical image page ≡ current_of n page) →
     array_in p n.config.logical image ≡ array_known n image
 unfolding array_in array_known current_in at_version
@@ -23,7 +18,7 @@ array_is_known p n image rule current =
     ∙ ap (λ q. at_version (written_in q image) page (current_of n page)) (sym rule))
 
 -- tables with the same current versions know the same array of an image, or of two whose current records say the same
-pub same_known : (n n' : Noted) (image image' : List Contents) → n'.config ≡ n.config →
+pub same_known : (n n' : IndexState) (image image' : List Contents) → n'.config ≡ n.config →
     ((page : ℕ) → page < n.config.logical → page_known n' image' page ≡ page_known n image page) → array_known n' image' ≡ array_known n image
 unfolding array_known
 same_known n n' image image' config same =

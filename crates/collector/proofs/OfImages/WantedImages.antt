@@ -1,35 +1,12 @@
 -- A record that is wanted and noted stands in the image too, outside the place whose contents are not known.
-use Rattle.std.proofs.Common.{◌≡◌, ℕ, ◌<◌, true, false, not, eqb-true, List, length, Contains, refl, sym, ap, ◌∙◌, subst, inl, inr, arith}
-use Rattle.std.specs.Prelude.{◌==◌}
-use Rattle.std.proofs.lemmas.Bool.{cases_Bool}
-use Rattle.std.proofs.lemmas.List.Elements.{All-contains}
-use Rattle.list_facts.proofs.Membership.{from_filter}
-use Rattle.tx_types.specs.Config.{shape_of, slots_of}
-use Rattle.tx_types.specs.declared.record.Link.{Link}
-use Rattle.flash_model.specs.Flash.{FlashState, slot_at}
-use Rattle.record_list.specs.declared.found.Found.{Found}
-use Rattle.record_list.specs.Current.{cur}
-use Rattle.record_list.specs.Records.{name_of, is_present}
-use Rattle.record_list.specs.Changes.{left}
-use Rattle.record_list.specs.Written.{Written, found_of, is_outside, is_wanted}
-use Rattle.record_list.proofs.OfFacts.Names.{found_named, present_as}
-use Rattle.record_list.proofs.OfFacts.Wanted.{counted_wanted, pinned_wanted}
+use Rattle.collector.proofs.Common.{◌≡◌, ℕ, ◌<◌, true, false, not, eqb-true, List, length, Contains, refl, sym, ap, ◌∙◌, subst, inl, inr, arith, ◌==◌, cases_Bool, All-contains, from_filter, shape_of, slots_of, Link, FlashState, slot_at, Found, cur, name_of, is_present, left, Written, is_outside, is_wanted, found_named, present_as, counted_wanted, pinned_wanted, Blank, Holds, records_in, written_in, found_in, note_at, IndexState, current_of, current_name_of, pinned_names, noted_from, BlocksState, Unsure, is_unsure, Matches, CanSpare, IsThere}
+use Rattle.record_list.specs.Written.{found_of}
 use Rattle.record_list.proofs.OfChanges.WrittenLists.{in_records}
-use Rattle.version_index.specs.declared.note.Note.TheVariants.{Blank, Holds}
-use Rattle.version_index.specs.Images.{records_in, written_in}
-use Rattle.version_index.specs.Notes.{found_in, note_at}
-use Rattle.version_index.specs.Noted.{Noted, current_of, current_name_of, pinned_names}
-use Rattle.version_index.proofs.OfTables.FoundIn.{noted_from}
 use Rattle.version_index.proofs.OfLaws.ImageScans.{written, read_slot}
-use Rattle.die_alloc.specs.BlockTable.{BlockTable}
-use Rattle.collector.specs.declared.unsure.Unsure.{Unsure}
 use Rattle.collector.specs.declared.unsure.Unsure.TheVariants as unsure
-use Rattle.collector.specs.Known.{is_unsure}
-use Rattle.collector.specs.Matches.{Matches, CanSpare}
-use Rattle.collector.specs.Preserves.{IsThere}
 use Rattle.collector.proofs.OfNotes.SpelledNotes.{noted_record}
 
-module _ (s : FlashState) (n : Noted) (t : BlockTable) (u : Unsure) (m : Matches s n t u) where
+module _ (s : FlashState) (n : IndexState) (t : BlocksState) (u : Unsure) (m : Matches s n t u) where
   abbrev list : List Found
   list = found_in n.notes
 
@@ -47,19 +24,19 @@ module _ (s : FlashState) (n : Noted) (t : BlockTable) (u : Unsure) (m : Matches
         refl,
       )
 
-abbrev IsWanted : Noted → Link → Type 0
+abbrev IsWanted : IndexState → Link → Type 0
 IsWanted n name = (f : Found) → Contains (found_in n.notes) f → name_of f.rec ≡ name →
     is_wanted n.config.protocol (found_in n.notes) n.config.logical (pinned_names n.pins) f.rec ≡ true
 
 -- a noted record of this name outside the unsure place
-record IsSure (s : FlashState) (n : Noted) (t : BlockTable) (u : Unsure) (name : Link) : Type 0 where
+record IsSure (s : FlashState) (n : IndexState) (t : BlocksState) (u : Unsure) (name : Link) : Type 0 where
   pub found : Found
   pub is_in : Contains (found_in n.notes) found
   pub named : name_of found.rec ≡ name
   pub sure : is_unsure s.shape t.spare u found.slot.0 ≡ false
 
 -- outside a block that can be spared
-outside_one : (s : FlashState) (n : Noted) (t : BlockTable) (u : Unsure) (m : Matches s n t u) (block : ℕ) → CanSpare n block → (name : Link) → IsThere n name →
+outside_one : (s : FlashState) (n : IndexState) (t : BlocksState) (u : Unsure) (m : Matches s n t u) (block : ℕ) → CanSpare n block → (name : Link) → IsThere n name →
     IsWanted n name →
     (f : Found) × Contains (found_in n.notes) f × (name_of f.rec ≡ name) × (not (is_outside s.shape block f.slot.0) ≡ false)
 outside_one s n t u m block spared name there wanted =
@@ -73,13 +50,13 @@ outside_one s n t u m block spared name there wanted =
     (g.0, parts.0, g.2, ap not (ap (λ sh. is_outside sh block g.0.slot.0) m.shape ∙ parts.1))
 
 -- a slot that is noted as blank holds none
-not_blank : (n : Noted) (at : ℕ) → note_at n.notes at ≡ Blank → (f : Found) → Contains (found_in n.notes) f → (f.slot.0 == at) ≡ false
+not_blank : (n : IndexState) (at : ℕ) → note_at n.notes at ≡ Blank → (f : Found) → Contains (found_in n.notes) f → (f.slot.0 == at) ≡ false
 not_blank n at was f i = elim (cases_Bool (f.slot.0 == at)) [
   | inl here ↦ (let k : Holds f.rec ≡ Blank = sym (noted_from n.notes f i).1 ∙ ap (note_at n.notes) (eqb-true f.slot.0 at here) ∙ was in cc)
   | inr other ↦ other
 ]
 
-sure_one : (s : FlashState) (n : Noted) (t : BlockTable) (u : Unsure) → Matches s n t u → (name : Link) → IsThere n name → IsWanted n name → IsSure s n t u name
+sure_one : (s : FlashState) (n : IndexState) (t : BlocksState) (u : Unsure) → Matches s n t u → (name : Link) → IsThere n name → IsWanted n name → IsSure s n t u name
 sure_one s n t unsure.Nothing m name there wanted =
     let f = found_named (found_in n.notes) name there in
     record { found = f.0; is_in = f.1; named = f.2; sure = refl }
@@ -97,7 +74,7 @@ sure_one s n t (unsure.VictimErase block) m name there wanted =
     record { found = f.0; is_in = f.1; named = f.2; sure = f.3 }
 
 -- a record of this name that is noted and stands in the image
-pub record IsNotedAndWritten (s : FlashState) (n : Noted) (name : Link) : Type 0 where
+pub record IsNotedAndWritten (s : FlashState) (n : IndexState) (name : Link) : Type 0 where
   pub found : Found
   pub written : Written
   pub noted : Contains (found_in n.notes) found
@@ -105,12 +82,12 @@ pub record IsNotedAndWritten (s : FlashState) (n : Noted) (name : Link) : Type 0
   pub named : name_of found.rec ≡ name
   pub same : written.rec ≡ found.rec
 
-is_written : (s : FlashState) (n : Noted) (name : Link) → IsNotedAndWritten s n name → is_present (records_in n.config.protocol s.image) name ≡ true
+is_written : (s : FlashState) (n : IndexState) (name : Link) → IsNotedAndWritten s n name → is_present (records_in n.config.protocol s.image) name ≡ true
 is_written s n name h =
     present_as (records_in n.config.protocol s.image) (found_of h.written) name (in_records (written_in n.config.protocol s.image) h.written h.reads)
     (ap name_of h.same ∙ h.named)
 
-module _ (s : FlashState) (n : Noted) (t : BlockTable) (u : Unsure) (m : Matches s n t u) where
+module _ (s : FlashState) (n : IndexState) (t : BlocksState) (u : Unsure) (m : Matches s n t u) where
   wanted_written : (name : Link) → IsThere n name → IsWanted n name → IsNotedAndWritten s n name
   wanted_written name there wanted =
       let f = sure_one s n t u m name there wanted in

@@ -1,18 +1,9 @@
 -- Tables that match a flash of which nothing is unsure: their records are those of the image.
-use Rattle.std.proofs.Common.{◌≡◌, ℕ, ◌<◌, refl, sym, ap, ◌∙◌, subst, arith}
-use Rattle.tx_types.specs.Config.{shape_of, slots_of}
-use Rattle.flash_model.specs.Flash.{FlashState}
-use Rattle.record_list.specs.Written.{IsRemovable}
-use Rattle.record_list.proofs.OfFacts.Wanted.{dispensable_removable}
-use Rattle.version_index.specs.Images.{records_in}
-use Rattle.version_index.specs.Notes.{found_in}
-use Rattle.version_index.specs.Noted.{Noted, pinned_names}
-use Rattle.die_alloc.specs.BlockTable.{BlockTable}
+use Rattle.collector.proofs.Common.{◌≡◌, ℕ, ◌<◌, refl, sym, ap, ◌∙◌, subst, arith, shape_of, slots_of, FlashState, IsRemovable, dispensable_removable, records_in, found_in, IndexState, pinned_names, BlocksState, Matches, CanSpare, IsNotedAt}
 use Rattle.collector.specs.declared.unsure.Unsure.TheVariants as unsure
-use Rattle.collector.specs.Matches.{Matches, CanSpare, IsNotedAt}
 use Rattle.version_index.proofs.OfLaws.Mirror.{mirrored}
 
-module _ (s : FlashState) (n : Noted) (t : BlockTable) (m : Matches s n t unsure.Nothing) where
+module _ (s : FlashState) (n : IndexState) (t : BlocksState) (m : Matches s n t unsure.Nothing) where
   pub noted_as_read : (slot : ℕ) → slot < slots_of s.shape → IsNotedAt s.image n slot
   noted_as_read slot within = m.sure slot within refl
 

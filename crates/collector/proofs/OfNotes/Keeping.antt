@@ -1,20 +1,10 @@
 -- What is preserved from one moment to the next and from there to a third is preserved over both.
-use Rattle.std.proofs.Common.{◌≡◌, ℕ, ◌<◌, Bool, true, false, ◌||◌, List, [], ◌∷◌, Contains, Option, Some, is_some, cond, refl, sym, ap, ◌∙◌, subst}
+use Rattle.collector.proofs.Common.{◌≡◌, ℕ, ◌<◌, Bool, true, false, ◌||◌, List, [], ◌∷◌, Contains, Option, Some, cond, refl, sym, ap, ◌∙◌, subst, option_map, Config, Protocol, Link, Contents, has_name, is_present, InProgress, Written, text_at, written_in, found_in, IndexState, current_name_of, pinned_names, IsThere, Preserves, KeepsArray}
+use Rattle.std.proofs.Common.{is_some}
 use Rattle.std.specs.List.{find}
-use Rattle.std.specs.Option.{option_map}
-use Rattle.tx_types.specs.declared.config.Config.{Config}
-use Rattle.tx_types.specs.declared.config.Protocol.{Protocol}
-use Rattle.tx_types.specs.declared.record.Link.{Link}
-use Rattle.flash_model.specs.Flash.{Contents}
-use Rattle.record_list.specs.Records.{has_name, is_present}
-use Rattle.record_list.specs.Transaction.{InProgress}
-use Rattle.record_list.specs.Written.{Written, records_of, text_of, text_at}
-use Rattle.version_index.specs.Images.{written_in}
-use Rattle.version_index.specs.Notes.{found_in}
-use Rattle.version_index.specs.Noted.{Noted, current_name_of, pinned_names}
-use Rattle.collector.specs.Preserves.{IsThere, Preserves, KeepsArray}
+use Rattle.record_list.specs.Written.{records_of, text_of}
 
-pub preserves_then : (a b c : Noted) → Preserves a b → Preserves b c → Preserves a c
+pub preserves_then : (a b c : IndexState) → Preserves a b → Preserves b c → Preserves a c
 preserves_then a b c ab bc =
     let low_too : (page : ℕ) → page < a.config.logical → page < b.config.logical =
     λ page low. subst (λ (k : Config). page < k.logical) (sym ab.config) low in
@@ -58,7 +48,7 @@ pub keeps_array_same : (p : Protocol) (logical : ℕ) (a b : List Contents) → 
 keeps_array_same p logical a b same =
     subst (KeepsArray p logical a) (sym same) (record { array = refl; texts = λ name there. refl })
 
-pub preserves_same : (n : Noted) → Preserves n n
+pub preserves_same : (n : IndexState) → Preserves n n
 preserves_same n = record {
   config = refl;
   pins = refl;

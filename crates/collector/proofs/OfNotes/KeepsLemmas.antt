@@ -1,23 +1,17 @@
 -- What calls keep, one after the other.
-use Rattle.std.proofs.Common.{◌≡◌, Bool, true, false, Ok, Err, Result, refl, sym, ap, ◌∙◌, subst}
-use Rattle.std.specs.Prelude.{is_err}
-use Rattle.tx_types.specs.declared.config.Config.{Config}
-use Rattle.tx_types.specs.declared.config.Protocol.{Protocol}
-use Rattle.flash_model.proofs.CallLemmas.{Carries-nothing, Carries-then}
+use Rattle.collector.proofs.Common.{◌≡◌, Bool, true, false, Ok, Err, Result, refl, sym, ap, ◌∙◌, subst, is_err, Config, Protocol, Carries-then, Broken, Keeps, KeepsArray, KeepsStore, StoreParts}
+use Rattle.flash_model.proofs.CallLemmas.{Carries-nothing}
 use Rattle.flash_model.specs.Calls.{Carries}
 use Rattle.flash_model.specs.Moves.{FlashMoves}
 use Rattle.flash_model.proofs.MoveLemmas.{FlashMoves-nothing, FlashMoves-then}
 use Rattle.flash_model.proofs.RetireLemmas.{CarriesRetiring-carries}
-use Rattle.flash_model.specs.declared.flash.Broken.{Broken}
-use Rattle.collector.specs.Calls.{Keeps}
-use Rattle.collector.specs.Preserves.{KeepsArray}
-use Rattle.collector.specs.Retiring.{KeepsRetiring, KeepsStore}
-use Rattle.collector.specs.Store.{Store, IsSure}
+use Rattle.collector.specs.Retiring.{KeepsRetiring}
+use Rattle.collector.specs.StoreParts.{IsSure}
 use Rattle.collector.proofs.OfCollect.Chains.{HasNoNewRecord-nothing, HasNoNewRecord-then}
 use Rattle.collector.proofs.OfNotes.Keeping.{preserves_same, preserves_then, keeps_array_same, keeps_array_then}
 
 -- nothing was done
-pub keeps_same : (p : Protocol) (a : Store) → IsSure p a → Keeps p a a false
+pub keeps_same : (p : Protocol) (a : StoreParts) → IsSure p a → Keeps p a a false
 keeps_same p a k = record {
   matches = k.matches;
   preserves = preserves_same a.noted;
@@ -30,7 +24,7 @@ keeps_same p a k = record {
 }
 
 -- what is kept of the tables and of the array, and what a call keeps beside that
-pub tables_of : (p : Protocol) (a b : Store) (broken : Bool) → Keeps p a b broken → KeepsStore p a b broken
+pub tables_of : (p : Protocol) (a b : StoreParts) (broken : Bool) → Keeps p a b broken → KeepsStore p a b broken
 tables_of p a b broken h = record {
   matches = h.matches;
   preserves = h.preserves;
@@ -40,7 +34,7 @@ tables_of p a b broken h = record {
   records = h.records;
 }
 
-pub keeps_of : (p : Protocol) (a b : Store) (broken : Bool) → KeepsStore p a b broken → FlashMoves a.flash b.flash broken →
+pub keeps_of : (p : Protocol) (a b : StoreParts) (broken : Bool) → KeepsStore p a b broken → FlashMoves a.flash b.flash broken →
     Carries a.flash b.flash broken → Keeps p a b broken
 keeps_of p a b broken h moves carries = record {
   matches = h.matches;
@@ -54,14 +48,14 @@ keeps_of p a b broken h moves carries = record {
 }
 
 -- a call that replaces no block keeps what one keeps that may
-pub keeps_retiring : (p : Protocol) (a b : Store) (broken : Bool) → Keeps p a b broken → KeepsRetiring p a b broken
+pub keeps_retiring : (p : Protocol) (a b : StoreParts) (broken : Bool) → Keeps p a b broken → KeepsRetiring p a b broken
 keeps_retiring p a b broken h = record {
   tables = tables_of p a b broken h;
   carries = CarriesRetiring-carries a.flash b.flash broken h.carries;
 }
 
 -- what both keep, the whole keeps
-pub tables_then : (p : Protocol) (a b c : Store) (broken : Bool) → KeepsStore p a b false → KeepsStore p b c broken → KeepsStore p a c broken
+pub tables_then : (p : Protocol) (a b c : StoreParts) (broken : Bool) → KeepsStore p a b false → KeepsStore p b c broken → KeepsStore p a c broken
 tables_then p a b c broken ab bc = record {
   matches = bc.matches;
   preserves = preserves_then a.noted b.noted c.noted ab.preserves bc.preserves;
@@ -72,13 +66,13 @@ tables_then p a b c broken ab bc = record {
   records = HasNoNewRecord-then a.noted b.noted c.noted ab.records bc.records;
 }
 
-pub keeps_then : (p : Protocol) (a b c : Store) (broken : Bool) → Keeps p a b false → Keeps p b c broken → Keeps p a c broken
+pub keeps_then : (p : Protocol) (a b c : StoreParts) (broken : Bool) → Keeps p a b false → Keeps p b c broken → Keeps p a c broken
 keeps_then p a b c broken ab bc =
     keeps_of p a c broken (tables_then p a b c broken (tables_of p a b false ab) (tables_of p b c broken bc))
     (FlashMoves-then a.flash b.flash c.flash broken ab.carries.shape ab.moves bc.moves) (Carries-then a.flash b.flash c.flash broken ab.carries bc.carries)
 
 -- and nothing is unsure between the two
-pub sure_then : (p : Protocol) (a b : Store) → IsSure p a → Keeps p a b false → IsSure p b
+pub sure_then : (p : Protocol) (a b : StoreParts) → IsSure p a → Keeps p a b false → IsSure p b
 sure_then p a b k ab = record {
   matches = ab.matches;
   rule = ap (λ (x : Config). x.protocol) ab.preserves.config ∙ k.rule;

@@ -1,36 +1,21 @@
 -- Tables that lose the records of a block, outside which each wanted record has a slot.
-use Rattle.std.proofs.Common.{◌≡◌, ℕ, ◌<◌, Bool, true, List, Contains, None, refl, sym, ap, ◌∙◌, subst, inl, arith}
-use Rattle.std.proofs.lemmas.List.Elements.{All-contains}
-use Rattle.list_facts.proofs.Membership.{all_from, from_filter}
-use Rattle.tx_types.specs.Config.{shape_of, blocks_of}
-use Rattle.tx_types.specs.declared.record.Link.{Link}
-use Rattle.tx_types.specs.declared.record.Rec.{Rec}
-use Rattle.record_list.specs.declared.found.Found.{Found}
-use Rattle.record_list.specs.Records.{name_of, is_present}
-use Rattle.record_list.specs.Changes.{left, LossLaw, LossKeeps}
-use Rattle.record_list.specs.Current.{cur, is_held}
-use Rattle.record_list.specs.Transaction.{InProgress}
-use Rattle.record_list.specs.Written.{is_outside, is_wanted, IsDispensable}
-use Rattle.record_list.proofs.OfFacts.Names.{found_named, present_as}
-use Rattle.record_list.proofs.OfFacts.Wanted.{counted_wanted, pinned_wanted, dispensable_removable}
+use Rattle.collector.proofs.Common.{◌≡◌, ℕ, ◌<◌, Bool, true, List, Contains, None, refl, sym, ap, ◌∙◌, subst, inl, arith, All-contains, all_from, from_filter, shape_of, blocks_of, Link, Rec, Found, name_of, is_present, left, LossLaw, cur, is_held, InProgress, is_outside, is_wanted, found_named, present_as, counted_wanted, pinned_wanted, dispensable_removable, Note, rec_of, found_in, with_block_noted, IndexState, IsNoted, current_of, current_name_of, held_of, pinned_names, CanSpare, IsThere, Preserves}
+use Rattle.record_list.specs.Changes.{LossKeeps}
+use Rattle.record_list.specs.Written.{IsDispensable}
 use Rattle.record_list.proofs.OfChanges.WrittenLists.{left_twice}
-use Rattle.version_index.specs.declared.note.Note.{Note}
-use Rattle.version_index.specs.Notes.{rec_of, found_in, with_block_noted}
-use Rattle.version_index.specs.Noted.{Noted, IsNoted, CanLose, current_of, current_name_of, held_of, pinned_names}
-use Rattle.collector.specs.Matches.{CanSpare}
-use Rattle.collector.specs.Preserves.{IsThere, Preserves}
+use Rattle.version_index.specs.IndexState.{CanLose}
 use Rattle.collector.proofs.OfNotes.NotesLeft.{noted_left}
 
 -- a block that can be spared can be lost
-pub can_be_lost : (n : Noted) (block : ℕ) → CanSpare n block → CanLose n block
+pub can_be_lost : (n : IndexState) (block : ℕ) → CanSpare n block → CanLose n block
 can_be_lost n block spared =
     dispensable_removable n.config.protocol (found_in n.notes) n.config.logical (pinned_names n.pins) (shape_of n.config) block spared
 
 -- what is noted with one note for each slot of a block
-abbrev pub blocked : Noted → ℕ → Note → Noted
+abbrev pub blocked : IndexState → ℕ → Note → IndexState
 blocked n block note = record n { notes = with_block_noted (shape_of n.config) n.notes block note }
 
-module _ (n : Noted) (noted : IsNoted n.config.protocol n) (law : LossLaw n.config.protocol) (block : ℕ) (below : block < blocks_of (shape_of n.config))
+module _ (n : IndexState) (noted : IsNoted n.config.protocol n) (law : LossLaw n.config.protocol) (block : ℕ) (below : block < blocks_of (shape_of n.config))
     (spared : CanSpare n block) (note : Note) (none : rec_of note ≡ None) where
   abbrev pub keep : ℕ → Bool
   keep = is_outside (shape_of n.config) block

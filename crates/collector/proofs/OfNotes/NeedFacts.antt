@@ -1,21 +1,10 @@
 -- What a needed slot holds, and that one name has one home.
-use Rattle.std.proofs.Common.{◌≡◌, ◌⊎◌, ℕ, true, ◌&&◌, Contains, Option, Some, None, sym, ap, ◌∙◌, eqb-true}
-use Rattle.std.specs.Prelude.{◌==◌}
-use Rattle.std.proofs.lemmas.Bool.{and_parts}
-use Rattle.std.proofs.lemmas.Option.{same_Some}
-use Rattle.list_facts.proofs.Tests.{any_of}
-use Rattle.tx_types.specs.Config.{shape_of}
-use Rattle.record_list.specs.declared.found.Found.{Found}
-use Rattle.record_list.specs.Records.{name_of}
-use Rattle.record_list.specs.Current.{IsCurrent, is_held}
-use Rattle.record_list.specs.Written.{home, is_slot, is_wanted}
-use Rattle.record_list.proofs.OfFacts.Wanted.{wanted_cases}
-use Rattle.version_index.specs.Notes.{found_in}
-use Rattle.version_index.specs.Noted.{Noted, needed_of, home_of, pinned_names, IsNoted}
+use Rattle.collector.proofs.Common.{◌≡◌, ◌⊎◌, ℕ, true, ◌&&◌, Contains, Option, Some, None, sym, ap, ◌∙◌, eqb-true, ◌==◌, and_parts, same_Some, any_of, shape_of, Found, name_of, IsCurrent, is_held, is_slot, is_wanted, wanted_cases, found_in, IndexState, needed_of, home_of, pinned_names, IsNoted}
+use Rattle.record_list.specs.Written.{home}
 use Rattle.version_index.proofs.OfTables.Places.{one_in_slot}
 
 -- a slot that is needed is the home of a wanted record
-pub record IsHome (n : Noted) (at : ℕ) : Type 0 where
+pub record IsHome (n : IndexState) (at : ℕ) : Type 0 where
   pub found : Found
   pub is_in : Contains (found_in n.notes) found
   pub slot : found.slot.0 ≡ at
@@ -27,7 +16,7 @@ slot_is : (at : ℕ) (o : Option ℕ) → is_slot at o ≡ true → o ≡ Some a
 slot_is at None e = cc
 slot_is at (Some k) e = ap Some (eqb-true k at e)
 
-pub home_needed : (n : Noted) (at : ℕ) → needed_of n at ≡ true → IsHome n at
+pub home_needed : (n : IndexState) (at : ℕ) → needed_of n at ≡ true → IsHome n at
 unfolding needed_of home_of
 home_needed n at h =
     let any = any_of
@@ -49,12 +38,12 @@ home_needed n at h =
     }
 
 -- two slots that are homes of one name are one
-pub one_home : (n : Noted) (a b : ℕ) (x : IsHome n a) (y : IsHome n b) → name_of x.found.rec ≡ name_of y.found.rec → a ≡ b
+pub one_home : (n : IndexState) (a b : ℕ) (x : IsHome n a) (y : IsHome n b) → name_of x.found.rec ≡ name_of y.found.rec → a ≡ b
 one_home n a b x y same = some_same a b (sym x.home ∙ ap (home_of n) same ∙ y.home)
   where
     some_same : (a b : ℕ) → Some a ≡ Some b → a ≡ b
     some_same a b e = same_Some a b e
 
 -- the record of a home is the one that stands in the slot
-pub found_home : (n : Noted) → IsNoted n.config.protocol n → (f : Found) → Contains (found_in n.notes) f → (x : IsHome n f.slot.0) → x.found ≡ f
+pub found_home : (n : IndexState) → IsNoted n.config.protocol n → (f : Found) → Contains (found_in n.notes) f → (x : IsHome n f.slot.0) → x.found ≡ f
 found_home n noted f i x = one_in_slot (found_in n.notes) x.found f noted.scanned.ascending x.is_in i x.slot

@@ -1,13 +1,5 @@
 -- The notes with one note for each slot of a block.
-use Rattle.std.proofs.Common.{◌≡◌, ◌⊎◌, ℕ, ◌+◌, ◌*◌, ◌<◌, ◌≤◌, List, length, None, arith}
-use Rattle.tx_types.specs.Config.{slots_of, blocks_of}
-use Rattle.tx_types.specs.declared.config.Shape.{Shape}
-use Rattle.flash_model.proofs.ImageLemmas.{block_within}
-use Rattle.record_list.specs.Changes.{left}
-use Rattle.record_list.specs.Written.{is_outside}
-use Rattle.version_index.specs.declared.note.Note.{Note}
-use Rattle.version_index.specs.declared.note.Note.TheVariants.{Blank}
-use Rattle.version_index.specs.Notes.{note_at, rec_of, found_in, with_block_noted}
+use Rattle.collector.proofs.Common.{◌≡◌, ◌⊎◌, ℕ, ◌+◌, ◌*◌, ◌<◌, ◌≤◌, List, length, None, arith, slots_of, blocks_of, Shape, block_within, left, is_outside, Note, Blank, note_at, rec_of, found_in, with_block_noted}
 use Rattle.version_index.proofs.OfTables.Blocks.{item_in, item_out, length-with_item}
 use Rattle.version_index.proofs.OfTables.FoundIn.{found_in_block}
 

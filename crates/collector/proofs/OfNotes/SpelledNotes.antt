@@ -1,19 +1,7 @@
 -- A slot that is noted as a record reads as it, and so the record can be spelled.
-use Rattle.std.proofs.Common.{◌≡◌, ℕ, ◌<◌, List, Option, Some, None, refl, sym, ap, ◌∙◌, arith}
-use Rattle.std.specs.Option.{option_map_or}
-use Rattle.tx_types.specs.Config.{shape_of, slots_of}
-use Rattle.tx_types.specs.declared.config.Protocol.{Protocol}
-use Rattle.tx_types.specs.declared.record.Rec.{Rec}
-use Rattle.flash_model.specs.Flash.{FlashState, Contents, blank, damaged, complete, slot_at}
-use Rattle.page_record.specs.Rules.{record_of}
-use Rattle.page_record.specs.Spelling.{CanBeSpelled}
+use Rattle.collector.proofs.Common.{◌≡◌, ℕ, ◌<◌, List, Option, Some, None, refl, sym, ap, ◌∙◌, arith, option_map_or, shape_of, slots_of, Protocol, Rec, FlashState, Contents, blank, damaged, complete, slot_at, record_of, CanBeSpelled, Damaged, Holds, note_at, note_of, IndexState, BlocksState, Matches}
 use Rattle.page_record.proofs.Spellings.{record_of-some}
-use Rattle.version_index.specs.declared.note.Note.TheVariants.{Damaged, Holds}
-use Rattle.version_index.specs.Notes.{note_at, note_of}
-use Rattle.version_index.specs.Noted.{Noted}
-use Rattle.die_alloc.specs.BlockTable.{BlockTable}
 use Rattle.collector.specs.declared.unsure.Unsure.TheVariants as unsure
-use Rattle.collector.specs.Matches.{Matches}
 use Rattle.collector.proofs.OfNotes.Calm.{noted_as_read}
 
 -- contents that are noted as a record are complete, and their spare area reads as it
@@ -33,7 +21,7 @@ noted_record p rec (complete bytes spare) e = record { bytes = bytes; spare = sp
     by_record (Some r) h = ap Some (let same : r ≡ rec = cc in same)
 
 -- where nothing is unsure, each noted record can be spelled
-pub calm_spelled : (s : FlashState) (n : Noted) (t : BlockTable) → Matches s n t unsure.Nothing → (slot : ℕ) → slot < slots_of (shape_of n.config) →
+pub calm_spelled : (s : FlashState) (n : IndexState) (t : BlocksState) → Matches s n t unsure.Nothing → (slot : ℕ) → slot < slots_of (shape_of n.config) →
     (rec : Rec) → note_at n.notes slot ≡ Holds rec → CanBeSpelled n.config.protocol rec
 calm_spelled s n t m slot within rec holds =
     let reads = noted_record n.config.protocol rec (slot_at s.image slot)

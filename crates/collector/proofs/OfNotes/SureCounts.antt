@@ -1,17 +1,8 @@
 -- Where each slot is noted as it reads, the noted records are those of the image, and keep law 9 as they do.
-use Rattle.std.proofs.Common.{◌≡◌, ℕ, ◌<◌, length, sym, ap, ◌∙◌, subst, arith}
-use Rattle.std.proofs.lemmas.List.{length-map, get_or-map, ext_get_or}
-use Rattle.tx_types.specs.Config.{shape_of, slots_of}
-use Rattle.flash_model.specs.Flash.{FlashState, IsFlash, blank}
+use Rattle.collector.proofs.Common.{◌≡◌, ℕ, ◌<◌, length, sym, ap, ◌∙◌, subst, arith, length-map, get_or-map, ext_get_or, shape_of, slots_of, FlashState, IsFlash, blank, Blank, IsSoundImage, found_in, note_of, notes_of, IndexState, found_in_notes, IsNotedAt}
 use Rattle.record_list.specs.Counts.{HasCounts}
-use Rattle.version_index.specs.declared.note.Note.TheVariants.{Blank}
-use Rattle.version_index.specs.Images.{IsSoundImage}
-use Rattle.version_index.specs.Notes.{found_in, note_of, notes_of}
-use Rattle.version_index.specs.Noted.{Noted}
-use Rattle.version_index.proofs.OfLaws.NotedImages.{found_in_notes}
-use Rattle.collector.specs.Matches.{IsNotedAt}
 
-pub sure_counts : (s : FlashState) (n : Noted) → s.shape ≡ shape_of n.config → IsFlash s → IsSoundImage n.config.protocol n.config.logical s.shape s.image →
+pub sure_counts : (s : FlashState) (n : IndexState) → s.shape ≡ shape_of n.config → IsFlash s → IsSoundImage n.config.protocol n.config.logical s.shape s.image →
     length n.notes ≡ slots_of (shape_of n.config) → ((slot : ℕ) → slot < slots_of s.shape → IsNotedAt s.image n slot) → HasCounts (found_in n.notes)
 sure_counts s n shape flash sound slots sure =
     let p = n.config.protocol in

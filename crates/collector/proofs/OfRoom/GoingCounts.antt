@@ -1,40 +1,22 @@
 -- A round of clearing: the treated block holds no record any more that must go, and no other does that did not.
-use Rattle.std.proofs.Common.{◌≡◌, ◌≢◌, ℕ, ◌*◌, ◌/◌, ◌<◌, true, false, ◌&&◌, eqb, eqb-true, eq-eqb, ltb, List, count_by, None, refl, sym, ap, ◌∙◌, subst, arith}
-use Rattle.std.proofs.Common.{Contains}
-use Rattle.std.specs.List.{range_with_len}
-use Rattle.std.proofs.lemmas.Bool.{and_parts, and_from, both_ways, false_from_ne_true, false≢true}
-use Rattle.std.proofs.lemmas.List.Elements.{All-contains}
-use Rattle.list_facts.proofs.Tests.{any_of, any_from}
-use Rattle.list_facts.proofs.Counts.{count_less}
-use Rattle.list_facts.proofs.Ranges.{in_range}
-use Rattle.tx_types.specs.Config.{shape_of, blocks_of}
-use Rattle.tx_types.specs.declared.config.Config.{Config}
-use Rattle.tx_types.specs.declared.config.Protocol.{Protocol}
-use Rattle.tx_types.specs.declared.config.Protocol.TheVariants.{Scc, Bpcc}
-use Rattle.tx_types.specs.declared.record.Link.{Link}
-use Rattle.tx_types.specs.declared.record.Rec.{Rec}
-use Rattle.record_list.specs.declared.found.Found.{Found}
+use Rattle.collector.proofs.Common.{◌≡◌, ◌≢◌, ℕ, ◌*◌, ◌/◌, ◌<◌, true, false, ◌&&◌, eqb, eqb-true, eq-eqb, List, count_by, None, refl, sym, ap, ◌∙◌, subst, arith, Contains, range_with_len, and_parts, and_from, both_ways, false_from_ne_true, false≢true, All-contains, any_of, in_range, shape_of, blocks_of, Config, Protocol, Scc, Bpcc, Link, Rec, Found, cur, must_go, Pages, PagesExist, found_in, IndexState, IsNoted, current_of, needed_of, erased, block_to_go, inside_block, collected, noted_cleaned, slots_in, HasUnneeded, is_going, blocks_to_go, IsNextName, HasNoNewRecord, Preserves}
+use Rattle.std.proofs.Common.{ltb}
+use Rattle.list_lemmas.proofs.Tests.{any_from}
+use Rattle.list_lemmas.proofs.Counts.{count_less}
 use Rattle.record_list.specs.Records.{mentions_below}
-use Rattle.record_list.specs.Current.{cur, must_go}
-use Rattle.record_list.specs.SoundList.{Pages, PagesExist}
-use Rattle.version_index.specs.Notes.{found_in}
-use Rattle.version_index.specs.Noted.{Noted, IsNoted, current_of, needed_of, erased, block_to_go}
-use Rattle.version_index.proofs.OfTables.Blocks.{other_block, inside_block}
-use Rattle.collector.specs.Collecting.{collected, noted_cleaned, slots_in, HasUnneeded}
-use Rattle.collector.specs.Going.{is_going, blocks_to_go, IsNextName, HasNoNewRecord}
-use Rattle.collector.specs.Preserves.{Preserves}
+use Rattle.version_index.proofs.OfTables.Blocks.{other_block}
 use Rattle.collector.proofs.OfCollect.Chains.{was_there}
 use Rattle.collector.proofs.OfCollect.CollectedNotes.{erased_from, collected_outside, collected_from, in_place, in_copy}
 use Rattle.collector.proofs.OfRoom.GoneRecords.{GoesFrom, going_none, none_going, slot_needless}
 use Rattle.collector.proofs.OfRoom.NextNames.{next_stays}
 
 -- a record that must go, in a block
-pub record GoesIn (n : Noted) (page below block : ℕ) (f : Found) : Type 0 where
+pub record GoesIn (n : IndexState) (page below block : ℕ) (f : Found) : Type 0 where
   pub is_in : Contains (found_in n.notes) f
   pub slot : f.slot.0 / n.config.pages_per_block ≡ block
   pub goes : must_go n.config.protocol (found_in n.notes) n.config.logical page below f.rec ≡ true
 
-pub going_at : (n : Noted) (page below block : ℕ) → is_going n page below block ≡ true → (f : Found) × GoesIn n page below block f
+pub going_at : (n : IndexState) (page below block : ℕ) → is_going n page below block ≡ true → (f : Found) × GoesIn n page below block f
 going_at n page below block h =
     let any = any_of (λ f. eqb (f.slot.0 / n.config.pages_per_block) block && must_go n.config.protocol (found_in n.notes) n.config.logical page below f.rec)
     (found_in n.notes) h in
@@ -42,7 +24,7 @@ going_at n page below block h =
     (must_go n.config.protocol (found_in n.notes) n.config.logical page below any.0.rec) any.2 in
     (any.0, record { is_in = any.1; slot = eqb-true (any.0.slot.0 / n.config.pages_per_block) block parts.0; goes = parts.1 })
 
-pub at_going : (n : Noted) (page below block : ℕ) (f : Found) → GoesIn n page below block f → is_going n page below block ≡ true
+pub at_going : (n : IndexState) (page below block : ℕ) (f : Found) → GoesIn n page below block f → is_going n page below block ≡ true
 at_going n page below block f g =
     any_from (λ f. eqb (f.slot.0 / n.config.pages_per_block) block && must_go n.config.protocol (found_in n.notes) n.config.logical page below f.rec)
     (found_in n.notes) f g.is_in
@@ -50,18 +32,18 @@ at_going n page below block f g =
     (eq-eqb (f.slot.0 / n.config.pages_per_block) block g.slot) g.goes)
 
 -- each record that must go afterwards stood there before, and none is left of a block
-pub record Leaves (n m : Noted) (page below block : ℕ) : Type 0 where
+pub record Leaves (n m : IndexState) (page below block : ℕ) : Type 0 where
   pub still : (b : ℕ) (f : Found) → GoesIn m page below b f → GoesIn n page below b f × (b ≢ block)
 
 -- no block holds one that did not, and this one holds none
-pub still_going : (n m : Noted) (page below block : ℕ) → Leaves n m page below block → (b : ℕ) → is_going m page below b ≡ true →
+pub still_going : (n m : IndexState) (page below block : ℕ) → Leaves n m page below block → (b : ℕ) → is_going m page below b ≡ true →
     (is_going n page below b ≡ true) × (b ≢ block)
 still_going n m page below block left b there =
     let g = going_at m page below b there in
     let old = left.still b g.0 g.1 in (at_going n page below b g.0 old.0, old.1)
 
 -- so there are fewer such blocks where it held one
-pub fewer_going : (n m : Noted) (page below block : ℕ) → m.config ≡ n.config → block < blocks_of (shape_of n.config) → is_going n page below block ≡ true →
+pub fewer_going : (n m : IndexState) (page below block : ℕ) → m.config ≡ n.config → block < blocks_of (shape_of n.config) → is_going n page below block ≡ true →
     Leaves n m page below block → blocks_to_go m page below < blocks_to_go n page below
 unfolding blocks_to_go
 fewer_going n m page below block config within now left =
@@ -78,7 +60,7 @@ go_same : (p : Protocol) (l m : List Found) (logical page below : ℕ) (r : Rec)
 go_same Scc l m logical page below r same = ap (λ v. ltb v r.version && mentions_below page below r) same
 go_same Bpcc l m logical page below r same = refl
 
-pub goes_same : (n m : Noted) → Preserves n m → (page below : ℕ) (r : Rec) → r.page < n.config.logical →
+pub goes_same : (n m : IndexState) → Preserves n m → (page below : ℕ) (r : Rec) → r.page < n.config.logical →
     must_go m.config.protocol (found_in m.notes) m.config.logical page below r ≡ must_go n.config.protocol (found_in n.notes) n.config.logical page below r
 unfolding current_of
 goes_same n m kept page below r within =
@@ -87,7 +69,7 @@ goes_same n m kept page below r within =
     (ap (λ (c : Config). cur c.protocol (found_in m.notes) c.logical r.page) (sym kept.config) ∙ kept.current r.page within)
 
 -- what need not go before a program need not go afterwards
-pub clear_stays : (n m : Noted) → IsNoted n.config.protocol n → Preserves n m → HasNoNewRecord n m → (page below : ℕ) → block_to_go n page below ≡ None →
+pub clear_stays : (n m : IndexState) → IsNoted n.config.protocol n → Preserves n m → HasNoNewRecord n m → (page below : ℕ) → block_to_go n page below ≡ None →
     block_to_go m page below ≡ None
 clear_stays n m noted kept fewer page below none = none_going m page below (λ f i.
     let w = was_there n m fewer f i in
@@ -97,15 +79,15 @@ clear_stays n m noted kept fewer page below none = none_going m page below (λ f
     ∙ going_none n page below none w.was w.is_in)
 
 -- a slot of a block is one of its slots
-pub in_slots : (n : Noted) (block slot : ℕ) → 0 < n.config.pages_per_block → slot / n.config.pages_per_block ≡ block → Contains (slots_in n block) slot
+pub in_slots : (n : IndexState) (block slot : ℕ) → 0 < n.config.pages_per_block → slot / n.config.pages_per_block ≡ block → Contains (slots_in n block) slot
 in_slots n block slot some here =
     let inside = inside_block n.config.pages_per_block block slot some here in
     in_range (block * n.config.pages_per_block) n.config.pages_per_block slot inside.0 inside.1
 
-pub has_unneeded : (n : Noted) (block slot : ℕ) → Contains (slots_in n block) slot → needed_of n slot ≡ false → HasUnneeded n block
+pub has_unneeded : (n : IndexState) (block slot : ℕ) → Contains (slots_in n block) slot → needed_of n slot ≡ false → HasUnneeded n block
 has_unneeded n block slot i off = (i.0, slot, i.1, i.2, off)
 
-module _ (n : Noted) (noted : IsNoted n.config.protocol n) (page below : ℕ) (names : List Link)
+module _ (n : IndexState) (noted : IsNoted n.config.protocol n) (page below : ℕ) (names : List Link)
     (next : IsNextName n names (record { page = page; version = below })) (block : ℕ) where
   some : 0 < n.config.pages_per_block
   some = (let b = noted.bounds.shape.pages_least in omega arith)
@@ -156,7 +138,7 @@ module _ (n : Noted) (noted : IsNoted n.config.protocol n) (page below : ℕ) (n
     }
 
 -- a block that holds one is counted
-pub some_going : (n : Noted) (page below block : ℕ) → block < blocks_of (shape_of n.config) → is_going n page below block ≡ true → 0 < blocks_to_go n page below
+pub some_going : (n : IndexState) (page below block : ℕ) → block < blocks_of (shape_of n.config) → is_going n page below block ≡ true → 0 < blocks_to_go n page below
 unfolding blocks_to_go
 some_going n page below block within now =
     let less = count_less (is_going n page below) (λ k. false) 0 (blocks_of (shape_of n.config)) block (λ k low high h. absurd (false≢true h)) (omega arith)

@@ -1,28 +1,16 @@
 -- A record that must go before the next name of a transaction in progress is needed by nobody.
-use Rattle.std.proofs.Common.{◌≡◌, ◌≢◌, ◌⊎◌, ℕ, ◌/◌, ◌<◌, Bool, true, false, ◌&&◌, eqb, ltb, eqb-true, ltb-true, List, [], ◌∷◌, zip, All, Contains, find}
-use Rattle.std.proofs.Common.{Option, Some, None, refl, sym, ap, ◌∙◌, subst, inl, inr, arith}
-use Rattle.std.specs.Option.{option_map}
-use Rattle.std.proofs.lemmas.Bool.{cases_Bool, cond-true, cond-false, and_parts, or_cases, both_ways, false≢true, false_from_ne_true}
-use Rattle.std.proofs.lemmas.Option.{none-some, same_Some}
-use Rattle.std.proofs.lemmas.List.Elements.{All-contains}
-use Rattle.list_facts.proofs.Membership.{Contains-cases, Contains-nil}
-use Rattle.tx_types.specs.declared.config.Protocol.{Protocol}
-use Rattle.tx_types.specs.declared.config.Protocol.TheVariants.{Scc, Bpcc}
-use Rattle.tx_types.specs.declared.record.Link.{Link}
-use Rattle.tx_types.specs.declared.record.Rec.{Rec}
-use Rattle.record_list.specs.declared.found.Found.{Found}
-use Rattle.record_list.specs.Records.{name_of, mentions_below}
-use Rattle.record_list.specs.Current.{cur, IsCurrent, is_loose, is_held, must_go}
+use Rattle.collector.proofs.Common.{◌≡◌, ◌≢◌, ◌⊎◌, ℕ, ◌/◌, ◌<◌, Bool, true, false, ◌&&◌, eqb, eqb-true, List, [], ◌∷◌, All, Contains, find, Option, Some, None, refl, sym, ap, ◌∙◌, subst, inl, inr, arith, option_map, cases_Bool, cond-true, cond-false, and_parts, both_ways, false≢true, false_from_ne_true, none-some, same_Some, All-contains, Contains-cases, Contains-nil, Protocol, Scc, Bpcc, Link, Rec, Found, name_of, cur, IsCurrent, is_held, must_go, first_slot, found_in, IndexState, current_of, needed_of, block_to_go, pinned_names, IsNextName, IsPinBeside}
+use Rattle.std.proofs.Common.{ltb, ltb-true, zip}
+use Rattle.std.proofs.lemmas.Bool.{or_cases}
+use Rattle.record_list.specs.Records.{mentions_below}
+use Rattle.record_list.specs.Current.{is_loose}
 use Rattle.record_list.specs.Transaction.{next_names, IsAsked, IsBegun, IsAskedAt}
-use Rattle.record_list.specs.Written.{first_slot}
 use Rattle.record_list.proofs.OfChanges.Progress.{underway_of, one_name}
 use Rattle.record_list.proofs.OfWalks.Rounds.{follows_of, follows_in}
-use Rattle.version_index.specs.Notes.{found_in}
-use Rattle.version_index.specs.Noted.{Noted, current_of, needed_of, block_to_go, pinned_names}
 use Rattle.version_index.proofs.OfTables.FoundIn.{found_in_ascending}
 use Rattle.version_index.proofs.OfTables.HomeFacts.{first_stands}
 use Rattle.version_index.proofs.OfTables.Places.{one_in_slot}
-use Rattle.collector.specs.Going.{IsNextName, IsPinBeside, IsOfOther}
+use Rattle.collector.specs.Going.{IsOfOther}
 use Rattle.collector.proofs.OfNotes.NeedFacts.{home_needed}
 
 -- a mention of a page below a version, of either kind
@@ -60,7 +48,7 @@ module _ (p : Protocol) (l : List Found) (logical : ℕ) (name : Link) where
       let same = only f.rec.next (subst (Contains others) (sym link) (follows_in others (name_of f.rec) after.0 after.1).1) at.0 in
       let low = at.1 in omega arith
 
-module _ (n : Noted) (names : List Link) (name : Link) (next : IsNextName n names name) where
+module _ (n : IndexState) (names : List Link) (name : Link) (next : IsNextName n names name) where
   abbrev list : List Found
   list = found_in n.notes
 
@@ -118,17 +106,17 @@ module _ (n : Noted) (names : List Link) (name : Link) (next : IsNextName n name
       let same = one_in_slot list x.found f (found_in_ascending n.notes) x.is_in i x.slot in
       needless f i go (subst IsWanted same x.wanted))
 
-abbrev goes : Noted → ℕ → ℕ → Found → Bool
+abbrev goes : IndexState → ℕ → ℕ → Found → Bool
 goes n page below f = must_go n.config.protocol (found_in n.notes) n.config.logical page below f.rec
 
 -- the record that must go which `block_to_go` finds
-pub record GoesFrom (n : Noted) (page below block : ℕ) : Type 0 where
+pub record GoesFrom (n : IndexState) (page below block : ℕ) : Type 0 where
   pub found : Found
   pub is_in : Contains (found_in n.notes) found
   pub slot : found.slot.0 / n.config.pages_per_block ≡ block
   pub goes : must_go n.config.protocol (found_in n.notes) n.config.logical page below found.rec ≡ true
 
-pub going_some : (n : Noted) (page below block : ℕ) → block_to_go n page below ≡ Some block → GoesFrom n page below block
+pub going_some : (n : IndexState) (page below block : ℕ) → block_to_go n page below ≡ Some block → GoesFrom n page below block
 unfolding block_to_go
 going_some n page below block e = by (first_slot (goes n page below) (found_in n.notes)) refl e
   where
@@ -155,7 +143,7 @@ first_none test (g ∷ gs) e f i = elim (cases_Bool (test g)) [
 ]
 
 -- where there is no such block nothing must go
-pub going_none : (n : Noted) (page below : ℕ) → block_to_go n page below ≡ None →
+pub going_none : (n : IndexState) (page below : ℕ) → block_to_go n page below ≡ None →
     (f : Found) → Contains (found_in n.notes) f → must_go n.config.protocol (found_in n.notes) n.config.logical page below f.rec ≡ false
 unfolding block_to_go
 going_none n page below e f i = by (first_slot (goes n page below) (found_in n.notes)) refl e
@@ -166,7 +154,7 @@ going_none n page below e f i = by (first_slot (goes n page below) (found_in n.n
     by (Some at) is h = absurd (none-some (at / n.config.pages_per_block) (sym h))
 
 -- and the other way round
-pub none_going : (n : Noted) (page below : ℕ) →
+pub none_going : (n : IndexState) (page below : ℕ) →
     ((f : Found) → Contains (found_in n.notes) f → must_go n.config.protocol (found_in n.notes) n.config.logical page below f.rec ≡ false) →
     block_to_go n page below ≡ None
 none_going n page below none = by (block_to_go n page below) refl

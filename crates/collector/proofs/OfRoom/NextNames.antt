@@ -1,20 +1,8 @@
 -- A name that is written next stays one where what is preserved stays.
-use Rattle.std.proofs.Common.{◌≡◌, ℕ, ◌<◌, ◌≤◌, Bool, true, false, List, length, Some, None, All, Contains, sym, ap, ◌∙◌, subst, inl, inr, arith}
+use Rattle.collector.proofs.Common.{◌≡◌, ℕ, ◌<◌, ◌≤◌, Bool, true, false, List, length, Some, None, All, Contains, sym, ap, ◌∙◌, subst, inl, inr, arith, both_ways, cases_Bool, none-some, same_Some, All-contains, all_from, Config, Link, is_present, InProgress, found_in, IndexState, pinned_names, IsNextName, IsPinBeside, Preserves}
 use Rattle.std.specs.Prelude.{if◌then◌else◌}
-use Rattle.std.proofs.lemmas.Bool.{both_ways, cases_Bool}
-use Rattle.std.proofs.lemmas.Option.{none-some, same_Some}
-use Rattle.std.proofs.lemmas.List.Elements.{All-contains}
-use Rattle.list_facts.proofs.Membership.{all_from}
-use Rattle.tx_types.specs.declared.config.Config.{Config}
-use Rattle.tx_types.specs.declared.record.Link.{Link}
-use Rattle.record_list.specs.Records.{is_present}
-use Rattle.record_list.specs.Transaction.{InProgress}
-use Rattle.version_index.specs.Notes.{found_in}
-use Rattle.version_index.specs.Noted.{Noted, pinned_names}
-use Rattle.version_index.proofs.OfTables.Given.{given_from}
+use Rattle.version_index.proofs.OfTables.BaseTables.{given_from}
 use Rattle.version_index.proofs.OfChanges.Pins.{numbered_pin}
-use Rattle.collector.specs.Going.{IsNextName, IsPinBeside}
-use Rattle.collector.specs.Preserves.{Preserves}
 
 its_page : (page version : ℕ) (name : Link) (b : Bool) → (if b then None else Some (record { page = page; version = version })) ≡ Some name → name.page ≡ page
 its_page page version name true e = absurd (none-some name e)
@@ -28,7 +16,7 @@ pinned_page pins name i =
     let within = h.within in
     omega arith
 
-module _ (n n' : Noted) (names : List Link) (kept : Preserves n n') where
+module _ (n n' : IndexState) (names : List Link) (kept : Preserves n n') where
   -- a transaction in progress stays
   in_progress_stays : (others : List Link) → InProgress n.config.protocol (found_in n.notes) n.config.logical others →
       InProgress n'.config.protocol (found_in n'.notes) n'.config.logical others
@@ -52,7 +40,7 @@ module _ (n n' : Noted) (names : List Link) (kept : Preserves n n') where
     | inr gone ↦ gone
   ]
 
-pub next_stays : (n n' : Noted) (names : List Link) (name : Link) → length n.pins ≡ n.config.logical → Preserves n n' → IsNextName n names name →
+pub next_stays : (n n' : IndexState) (names : List Link) (name : Link) → length n.pins ≡ n.config.logical → Preserves n n' → IsNextName n names name →
     IsNextName n' names name
 next_stays n n' names name pages kept h = record {
   in_progress = in_progress_stays n n' names kept names h.in_progress;

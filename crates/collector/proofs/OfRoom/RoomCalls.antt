@@ -1,34 +1,20 @@
 -- Making room: the spare is made blank, and the block with the most garbage is collected, if there is any.
-use Rattle.std.proofs.Common.{◌≡◌, ◌≢◌, ◌*◌, ◌<◌, true, false, length, List, Result, Ok, Err, refl, sym, ap, ap₂, ◌∙◌, subst, inl, inr, arith}
-use Rattle.tx_types.specs.Config.{shape_of, blocks_of}
-use Rattle.tx_types.specs.declared.config.Config.{Config}
-use Rattle.tx_types.specs.declared.config.Block.{Block}
-use Rattle.tx_types.specs.declared.config.Protocol.{Protocol}
-use Rattle.tx_types.specs.declared.config.Shape.{Shape}
-use Rattle.tx_types.specs.declared.record.Link.{Link}
-use Rattle.flash_model.specs.declared.flash.Broken.{Broken}
-use Rattle.record_list.specs.Changes.{LossLaw}
-use Rattle.version_index.specs.Noted.{Noted, needed_of}
-use Rattle.die_alloc.specs.BlockTable.{BlockTable, IsFull}
+use Rattle.collector.proofs.Common.{◌≡◌, ◌≢◌, ◌*◌, ◌<◌, true, false, length, List, Result, Ok, Err, refl, sym, ap, ap₂, ◌∙◌, subst, inl, inr, arith, shape_of, blocks_of, Config, Block, Protocol, Shape, Link, Broken, LossLaw, IndexState, needed_of, BlocksState, IsFull, Cleans, Collects, CollectsVictim, is_noted_blank, needed_slots, noted_cleaned, HasUnneeded, IsNextName, CostsAtMost, Matches, IsNextOfSpare, StoreParts, IsVictim, HasNoGarbage}
 use Rattle.collector.specs.declared.unsure.Unsure.TheVariants as unsure
-use Rattle.collector.specs.Calls.{Cleans, Collects, CollectsClean, CollectsMost}
-use Rattle.collector.specs.Collecting.{is_noted_blank, needed_slots, noted_cleaned, HasUnneeded}
-use Rattle.collector.specs.Going.{IsNextName, CostsAtMost}
-use Rattle.collector.specs.Matches.{Matches, IsNextOfSpare}
-use Rattle.collector.specs.Store.{Store, IsSure}
-use Rattle.collector.specs.Victim.{IsVictim, HasNoGarbage}
+use Rattle.collector.specs.Calls.{CollectsClean}
+use Rattle.collector.specs.StoreParts.{IsSure}
 use Rattle.collector.proofs.OfCollect.CollectCalls.{collects_cleaned}
 use Rattle.collector.proofs.OfCollect.Collections.{first_of_spare}
 use Rattle.collector.proofs.OfRoom.NextNames.{next_stays}
 use Rattle.collector.proofs.OfRoom.RoomMade.{blank_erased, spare_within, victim_apart, victim_unneeded, some_garbage, room_made}
-use Rattle.list_facts.proofs.Ranges.{filter_fewer}
+use Rattle.list_lemmas.proofs.Ranges.{filter_fewer}
 
 -- what making the spare blank costs, done or broken
-costs_cleaning : (p : Protocol) (a b : Store) (r : Result (Unit {0}) Broken) → Cleans p a b r → CostsAtMost a.noted.config.pages_per_block 1 a.flash b.flash
+costs_cleaning : (p : Protocol) (a b : StoreParts) (r : Result (Unit {0}) Broken) → Cleans p a b r → CostsAtMost a.noted.config.pages_per_block 1 a.flash b.flash
 costs_cleaning p a b r c = record { programs = omega (arith, c.programs); erases = omega (arith, c.erases) }
 
 -- the spare could not be made blank
-pub most_unclean : (p : Protocol) (a b : Store) (x y : Broken) → Cleans p a b (Err x) → CollectsMost p a b (Err y)
+pub most_unclean : (p : Protocol) (a b : StoreParts) (x y : Broken) → Cleans p a b (Err x) → CollectsVictim p a b (Err y)
 most_unclean p a b x y c = record {
   keeps = c.keeps;
   done = tt;
@@ -38,7 +24,7 @@ most_unclean p a b x y c = record {
   costs = costs_cleaning p a b (Err x) c;
 }
 
-module _ (p : Protocol) (loss : LossLaw p) (a m : Store) (k : IsSure p a) (cleaned : Cleans p a m (Ok tt)) where
+module _ (p : Protocol) (loss : LossLaw p) (a m : StoreParts) (k : IsSure p a) (cleaned : Cleans p a m (Ok tt)) where
   calm0 : Matches a.flash a.noted a.table unsure.Nothing
   calm0 = subst (Matches a.flash a.noted a.table) k.nothing k.matches
 
@@ -50,11 +36,11 @@ module _ (p : Protocol) (loss : LossLaw p) (a m : Store) (k : IsSure p a) (clean
   blank_spare = first_of_spare p loss a.flash a.noted a.table a.unsure k.rule k.matches m.noted m.table cleaned.noted cleaned.blocks
 
   -- there is no garbage
-  pub most_none : HasNoGarbage m.noted m.table → CollectsMost p a m (Ok false)
+  pub most_none : HasNoGarbage m.noted m.table → CollectsVictim p a m (Ok false)
   most_none none = record {
     keeps = cleaned.keeps;
     done = record {
-      none = subst (HasNoGarbage (noted_cleaned a.noted a.table.spare)) cleaned.blocks (subst (λ (n : Noted). HasNoGarbage n m.table) cleaned.noted none);
+      none = subst (HasNoGarbage (noted_cleaned a.noted a.table.spare)) cleaned.blocks (subst (λ (n : IndexState). HasNoGarbage n m.table) cleaned.noted none);
       does = cleaned.done;
       noted = cleaned.noted;
       table = cleaned.blocks;
@@ -73,16 +59,16 @@ module _ (p : Protocol) (loss : LossLaw p) (a m : Store) (k : IsSure p a) (clean
     unneeded = victim_unneeded m.flash m.noted m.table calm block.0 v
 
     its : IsVictim (noted_cleaned a.noted a.table.spare) a.table block.0
-    its = subst (λ (t : BlockTable). IsVictim (noted_cleaned a.noted a.table.spare) t block.0) cleaned.blocks
-        (subst (λ (n : Noted). IsVictim n m.table block.0) cleaned.noted v)
+    its = subst (λ (t : BlocksState). IsVictim (noted_cleaned a.noted a.table.spare) t block.0) cleaned.blocks
+        (subst (λ (n : IndexState). IsVictim n m.table block.0) cleaned.noted v)
 
-    collected_so : (b : Store) (r : Result (Unit {0}) Broken) → CollectsClean p m b block r → Collects p a b block.0 r
+    collected_so : (b : StoreParts) (r : Result (Unit {0}) Broken) → CollectsClean p m b block r → Collects p a b block.0 r
     collected_so =
         collects_cleaned p loss a m k cleaned block (subst (λ (x : Config). block.0 < blocks_of (shape_of x)) cleaned.keeps.preserves.config v.exists)
-        (λ same. chosen_apart (same ∙ ap (λ (t : BlockTable). t.spare) (sym cleaned.blocks))) unneeded
+        (λ same. chosen_apart (same ∙ ap (λ (t : BlocksState). t.spare) (sym cleaned.blocks))) unneeded
 
     -- the collection broke off
-    pub most_broke : (b : Store) (x y : Broken) → CollectsClean p m b block (Err x) → CollectsMost p a b (Err y)
+    pub most_broke : (b : StoreParts) (x y : Broken) → CollectsClean p m b block (Err x) → CollectsVictim p a b (Err y)
     most_broke b x y h =
         let c = collected_so b (Err x) h in
         record {
@@ -99,10 +85,10 @@ module _ (p : Protocol) (loss : LossLaw p) (a m : Store) (k : IsSure p a) (clean
         let less : length (needed_slots m.noted block.0) < m.noted.config.pages_per_block = filter_fewer (needed_of m.noted)
         (block.0 * m.noted.config.pages_per_block) m.noted.config.pages_per_block unneeded in
         subst (λ (x : Shape). length (needed_slots (noted_cleaned a.noted a.table.spare) block.0) < x.pages_per_block) (sym (calm0.blocks ∙ calm0.shape))
-        (subst (λ (n : Noted). length (needed_slots n block.0) < n.config.pages_per_block) cleaned.noted less)
+        (subst (λ (n : IndexState). length (needed_slots n block.0) < n.config.pages_per_block) cleaned.noted less)
 
     -- it was done, and leaves room in the old spare
-    pub most_done : (b : Store) (x : Unit {0}) → CollectsClean p m b block (Ok x) → CollectsMost p a b (Ok true)
+    pub most_done : (b : StoreParts) (x : Unit {0}) → CollectsClean p m b block (Ok x) → CollectsVictim p a b (Ok true)
     most_done b x h =
         let c = collected_so b (Ok x) h in
         record {
@@ -115,17 +101,17 @@ module _ (p : Protocol) (loss : LossLaw p) (a m : Store) (k : IsSure p a) (clean
         }
 
 -- where no block has room there is garbage
-pub full_collects : (p : Protocol) (a b : Store) → IsSure p a → IsFull a.table → ((names : List Link) × (name : Link) × IsNextName a.noted names name) →
+pub full_collects : (p : Protocol) (a b : StoreParts) → IsSure p a → IsFull a.table → ((names : List Link) × (name : Link) × IsNextName a.noted names name) →
     (any : _) →
-    CollectsMost p a b (Ok any) → any ≡ true
+    CollectsVictim p a b (Ok any) → any ≡ true
 full_collects p a b k full next true c = refl
 full_collects p a b k full next false c =
     let calm0 = subst (Matches a.flash a.noted a.table) k.nothing k.matches in
     let blanked : is_noted_blank b.noted b.table.spare ≡ true =
-    ap₂ (λ (n : Noted) (t : BlockTable). is_noted_blank n t.spare) c.done.noted c.done.table
+    ap₂ (λ (n : IndexState) (t : BlocksState). is_noted_blank n t.spare) c.done.noted c.done.table
     ∙ blank_erased a.noted k.matches.noted a.table.spare (spare_within a.flash a.noted a.table calm0) in
     let none : HasNoGarbage b.noted b.table =
-    subst (λ (n : Noted). HasNoGarbage n b.table) (sym c.done.noted)
+    subst (λ (n : IndexState). HasNoGarbage n b.table) (sym c.done.noted)
     (subst (HasNoGarbage (noted_cleaned a.noted a.table.spare)) (sym c.done.table) c.done.none) in
     absurd (some_garbage b.flash b.noted b.table (subst (Matches b.flash b.noted b.table) c.keeps.sure c.keeps.matches) blanked
     (subst IsFull (sym c.done.table) full) next.0 next.1

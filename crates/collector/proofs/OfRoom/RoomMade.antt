@@ -1,55 +1,37 @@
 -- Where no block has room and the spare is blank, some block has garbage; and once it was collected the old spare has room.
-use Rattle.std.proofs.Common.{◌≡◌, ◌≢◌, ◌⊎◌, ℕ, ◌*◌, ◌/◌, ◌<◌, Bool, true, false, ◌||◌, eqb, eq-eqb, ne_eqb, List, zip, count_by, Contains, refl, sym, ap, ◌∙◌}
-use Rattle.std.proofs.Common.{subst, inl, inr, arith, if◌then◌else◌, ap₂}
-use Rattle.std.specs.List.{range_with_len}
+use Rattle.collector.proofs.Common.{◌≡◌, ◌≢◌, ◌⊎◌, ℕ, ◌*◌, ◌/◌, ◌<◌, Bool, true, false, ◌||◌, eqb, eq-eqb, List, count_by, Contains, refl, sym, ap, ◌∙◌, subst, inl, inr, arith, if◌then◌else◌, ap₂, range_with_len, mul_comm, not-true, get_or-set_same, All-contains, in_range, all_range, shape_of, slots_of, blocks_of, Shape, Link, FlashState, Found, name_of, IsCurrent, InProgress, is_outside, is_slot, Blank, note_at, found_in, IndexState, IsNoted, current_of, needed_of, pinned_names, erased, is_blank, in_it, inside_block, BlocksState, IsBlocksState, IsFull, use_of, block_state, table_with_spare, BlockUse, is_noted_blank, swapped, open_state, HasUnneeded, IsNextName, IsPinBeside, Matches, IsVictim, HasNoGarbage, is_shut}
+use Rattle.std.proofs.Common.{ne_eqb, zip}
 use Rattle.std.proofs.Math.ListN.{length-set}
-use Rattle.std.proofs.Math.Nat.{mul_comm}
 use Rattle.std.proofs.lemmas.Nat.{div_below}
-use Rattle.std.proofs.lemmas.Bool.{or_parts, not-true, not-false}
-use Rattle.std.proofs.lemmas.List.{get_or-set_same}
-use Rattle.std.proofs.lemmas.List.Elements.{All-contains}
-use Rattle.list_facts.proofs.Ranges.{in_range, all_range, range_all}
-use Rattle.list_facts.proofs.Counts.{count_some, none_in_range}
-use Rattle.tx_types.specs.Config.{shape_of, slots_of, blocks_of}
-use Rattle.tx_types.specs.declared.config.Shape.{Shape}
+use Rattle.std.proofs.lemmas.Bool.{or_parts, not-false}
+use Rattle.list_lemmas.proofs.Ranges.{range_all}
+use Rattle.list_lemmas.proofs.Counts.{count_some, none_in_range}
 use Rattle.tx_types.specs.declared.config.BlockState.TheVariants as state
-use Rattle.tx_types.specs.declared.record.Link.{Link}
-use Rattle.flash_model.specs.Flash.{FlashState}
-use Rattle.record_list.specs.declared.found.Found.{Found}
-use Rattle.record_list.specs.Records.{name_of}
-use Rattle.record_list.specs.Current.{IsCurrent, responsible}
-use Rattle.record_list.specs.Transaction.{next_names, IsAsked, InProgress, IsAskedAt}
-use Rattle.record_list.specs.Written.{is_outside, is_slot}
+use Rattle.record_list.specs.Current.{responsible}
+use Rattle.record_list.specs.Transaction.{next_names, IsAsked, IsAskedAt}
 use Rattle.record_list.proofs.OfLosses.LossCounted.{responsible_high}
 use Rattle.record_list.proofs.OfChanges.Progress.{underway_of, name_loose, absent_name}
 use Rattle.record_list.proofs.OfWalks.Rounds.{follows_of, follows_in}
 use Rattle.record_list.proofs.OfFacts.SoundNames.{sound_map}
-use Rattle.version_index.specs.declared.note.Note.TheVariants.{Blank}
-use Rattle.version_index.specs.Notes.{note_at, found_in}
-use Rattle.version_index.specs.Noted.{Noted, IsNoted, current_of, needed_of, garbage_of, is_garbage_at, shut_or_part, pinned_names, erased, is_blank}
-use Rattle.version_index.proofs.OfTables.Blocks.{other_block, in_it, inside_block}
+use Rattle.version_index.specs.IndexState.{garbage_of, is_garbage_at, shut_or_part}
+use Rattle.version_index.proofs.OfTables.Blocks.{other_block}
 use Rattle.version_index.proofs.OfTables.NotedFacts.{spare_garbage, other_garbage}
-use Rattle.die_alloc.specs.BlockTable.{BlockTable, IsBlockTable, IsFull, no_block, use_of, block_state, table_with_spare}
-use Rattle.die_alloc.specs.declared.block_use.BlockUse.{BlockUse}
+use Rattle.die_alloc.specs.BlocksState.{no_block}
 use Rattle.die_alloc.proofs.Changes.{shut_where_full}
 use Rattle.collector.specs.declared.unsure.Unsure.TheVariants as unsure
-use Rattle.collector.specs.Collecting.{is_noted_blank, exchanged, open_state, HasUnneeded}
-use Rattle.collector.specs.Going.{IsNextName, IsPinBeside}
-use Rattle.collector.specs.Matches.{Matches}
-use Rattle.collector.specs.Victim.{IsVictim, HasNoGarbage, is_shut}
 use Rattle.collector.proofs.OfRoom.GoingCounts.{has_unneeded}
 use Rattle.collector.proofs.OfNotes.NotesLeft.{note_at-in}
 use Rattle.collector.proofs.OfClean.BlankNotes.{noted_blank}
 use Rattle.collector.proofs.OfRoom.Space.{IsFilled, slots_few}
 
 -- a garbage slot is not needed
-garbage_unneeded : (n : Noted) (shut : Bool) (slot : ℕ) → is_garbage_at n (shut_or_part shut) slot ≡ true → needed_of n slot ≡ false
+garbage_unneeded : (n : IndexState) (shut : Bool) (slot : ℕ) → is_garbage_at n (shut_or_part shut) slot ≡ true → needed_of n slot ≡ false
 garbage_unneeded n true slot e = not-true (needed_of n slot) e
 garbage_unneeded n false slot e =
     (or_parts (is_blank (note_at n.notes slot)) (needed_of n slot) (not-true (is_blank (note_at n.notes slot) || needed_of n slot) e)).1
 
 -- the slots of a block that is all blank
-pub blank_erased : (n : Noted) → IsNoted n.config.protocol n → (block : ℕ) → block < blocks_of (shape_of n.config) →
+pub blank_erased : (n : IndexState) → IsNoted n.config.protocol n → (block : ℕ) → block < blocks_of (shape_of n.config) →
     is_noted_blank (erased n block) block ≡ true
 blank_erased n noted block below =
     range_all (λ slot. is_blank (note_at (erased n block).notes slot)) (block * n.config.pages_per_block) n.config.pages_per_block
@@ -57,7 +39,7 @@ blank_erased n noted block below =
     (note_at-in (shape_of n.config) (let b = noted.bounds.shape.pages_least in omega arith) n.notes noted.slots block below Blank k low high))
 
 -- a name of a transaction in progress that is there has nobody responsible
-unanswered : (n : Noted) → IsNoted n.config.protocol n → (ts : List Link) → InProgress n.config.protocol (found_in n.notes) n.config.logical ts →
+unanswered : (n : IndexState) → IsNoted n.config.protocol n → (ts : List Link) → InProgress n.config.protocol (found_in n.notes) n.config.logical ts →
     (f : Found) → Contains (found_in n.notes) f → Contains ts (name_of f.rec) → responsible n.config.protocol (found_in n.notes) n.config.logical f.rec.next ≡ 0
 unanswered n noted ts h f i own =
     let p = n.config.protocol in
@@ -73,7 +55,7 @@ unanswered n noted ts h f i own =
     f.rec.next (subst (Contains ts) (sym link) (follows_in ts (name_of f.rec) after.0 after.1).1) in
     responsible_high p list logical f.rec.next (omega arith)
 
-module _ (s : FlashState) (n : Noted) (t : BlockTable) (m : Matches s n t unsure.Nothing) where
+module _ (s : FlashState) (n : IndexState) (t : BlocksState) (m : Matches s n t unsure.Nothing) where
   some : 0 < n.config.pages_per_block
   some = (let b = m.noted.bounds.shape.pages_least in omega arith)
 
@@ -154,17 +136,17 @@ module _ (s : FlashState) (n : Noted) (t : BlockTable) (m : Matches s n t unsure
         absurd (omega (arith, count, few, space))
 
 -- the old spare once it was exchanged for a block
-use_old : (t : BlockTable) → IsBlockTable t → (block used : ℕ)
-    → use_of (exchanged t block used) t.spare ≡ record { state = open_state t.shape.pages_per_block used; used = used }
+use_old : (t : BlocksState) → IsBlocksState t → (block used : ℕ)
+    → use_of (swapped t block used) t.spare ≡ record { state = open_state t.shape.pages_per_block used; used = used }
 use_old t h block used =
     get_or-set_same (table_with_spare t block).blocks t.spare (record { state = open_state t.shape.pages_per_block used; used = used }) no_block
     (rw (length-set, length-set, h.count) h.spare_within)
 
 -- it has room where not all of it is used
-pub room_made : (t : BlockTable) → IsBlockTable t → (block used : ℕ) → used < t.shape.pages_per_block → IsFull (exchanged t block used) → ⊥
+pub room_made : (t : BlocksState) → IsBlocksState t → (block used : ℕ) → used < t.shape.pages_per_block → IsFull (swapped t block used) → ⊥
 room_made t h block used few full = by (eqb used 0) refl
   where
-    its_state : block_state (exchanged t block used) t.spare ≡ open_state t.shape.pages_per_block used
+    its_state : block_state (swapped t block used) t.spare ≡ open_state t.shape.pages_per_block used
     its_state = ap (λ (u : BlockUse). u.state) (use_old t h block used)
 
     more : eqb used t.shape.pages_per_block ≡ false

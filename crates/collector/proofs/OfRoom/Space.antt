@@ -1,40 +1,19 @@
 -- Where nothing outside the spare is garbage, the needed records fill it: so there is garbage where the space rule holds and a
 -- record of an open transaction is absent.
-use Rattle.std.proofs.Common.{◌≡◌, ◌≢◌, ◌⊎◌, ℕ, ◌+◌, ◌-◌, ◌*◌, ◌<◌, ◌≤◌, Bool, true, false, if◌then◌else◌, eqb, eq-eqb, eqb-true, lt-ltb, ltb-true, List, []}
-use Rattle.std.proofs.Common.{◌∷◌, length, map, get_or, AllPairs, Contains, Some, refl, sym, ap, ◌∙◌, subst, inl, inr, arith}
-use Rattle.std.specs.Prelude.{◌==◌, nat_lt}
-use Rattle.std.specs.List.{range_with_len, list_any}
-use Rattle.std.proofs.lemmas.List.{length-map}
+use Rattle.collector.proofs.Common.{◌≡◌, ◌≢◌, ◌⊎◌, ℕ, ◌+◌, ◌-◌, ◌*◌, ◌<◌, ◌≤◌, Bool, true, false, if◌then◌else◌, eqb, eq-eqb, eqb-true, List, [], ◌∷◌, length, map, get_or, AllPairs, Contains, Some, refl, sym, ap, ◌∙◌, subst, inl, inr, arith, ◌==◌, range_with_len, length-map, same_Some, Pages, PagesExist, inside_block, in_it, cases_Bool, cases_lt, both_ways, cond-true, cond-false, and_parts, and_from, All-contains, Contains-cases, Contains-nil, any_of, Protocol, Scc, Bpcc, Link, Rec, Found, name_of, cur, IsCurrent, is_held, present_as, shape_of, slots_of, blocks_of, is_present, is_outside, Note, Blank, Holds, note_at, found_in, IndexState, IsNoted, needed_of, home_of, pinned_names, found, noted_from}
+use Rattle.std.proofs.Common.{lt-ltb, ltb-true}
+use Rattle.std.specs.Prelude.{nat_lt}
+use Rattle.std.specs.List.{list_any}
 use Rattle.std.proofs.lemmas.List.FromFn.{get_or-map-range_with_len, length-range_with_len}
 use Rattle.std.proofs.lemmas.List.Kept.{AllPairs-cons}
 use Rattle.std.proofs.lemmas.Map.Made.{IsDistinct-from_AllPairs}
 use Rattle.std.proofs.lemmas.Map.Steps.{length-le_from_distinct_below}
-use Rattle.std.proofs.lemmas.Option.{same_Some}
 use Rattle.std.proofs.lemmas.Bool.Decides.{Decides-eqb}
-use Rattle.record_list.specs.SoundList.{Pages, PagesExist}
-use Rattle.version_index.proofs.OfTables.Blocks.{inside_block, in_it}
-use Rattle.std.proofs.lemmas.Bool.{cases_Bool, cases_lt, both_ways, cond-true, cond-false, and_parts, and_from}
-use Rattle.std.proofs.lemmas.List.Elements.{All-contains}
-use Rattle.list_facts.proofs.Membership.{Contains-cases, Contains-nil}
-use Rattle.list_facts.proofs.Tests.{any_of}
-use Rattle.tx_types.specs.declared.config.Protocol.{Protocol}
-use Rattle.tx_types.specs.declared.config.Protocol.TheVariants.{Scc, Bpcc}
-use Rattle.tx_types.specs.declared.record.Link.{Link}
-use Rattle.tx_types.specs.declared.record.Rec.{Rec}
-use Rattle.record_list.specs.declared.found.Found.{Found}
-use Rattle.record_list.specs.Records.{name_of, is_same}
-use Rattle.record_list.specs.Current.{cur, IsCurrent, is_held, responsible, answers_for}
-use Rattle.record_list.proofs.OfFacts.Names.{present_as}
+use Rattle.record_list.specs.Records.{is_same}
+use Rattle.record_list.specs.Current.{responsible, answers_for}
 use Rattle.record_list.proofs.OfFacts.Held.{answer_of}
 use Rattle.record_list.proofs.OfLosses.LossCounted.{responsible_at}
-use Rattle.tx_types.specs.Config.{shape_of, slots_of, blocks_of}
-use Rattle.record_list.specs.Records.{is_present}
-use Rattle.record_list.specs.Written.{is_outside}
-use Rattle.version_index.specs.declared.note.Note.{Note}
-use Rattle.version_index.specs.declared.note.Note.TheVariants.{Blank, Holds}
-use Rattle.version_index.specs.Notes.{note_at, found_in}
-use Rattle.version_index.specs.Noted.{Noted, IsNoted, needed_of, home_of, pinned_names}
-use Rattle.version_index.proofs.OfTables.FoundIn.{found, noted_from, noted_in}
+use Rattle.version_index.proofs.OfTables.FoundIn.{noted_in}
 use Rattle.collector.proofs.OfNotes.NeedFacts.{IsHome, home_needed, found_home}
 
 -- a held record is at most the current one of its page
@@ -137,7 +116,7 @@ skip_low per block k blocks below within =
 
 -- What the lemma is about: every slot outside the spare is needed, the spare is blank, and a pinned name is absent. Each pinned
 -- record is current, or has no responsible one.
-pub record IsFilled (n : Noted) (spare : ℕ) : Type 0 where
+pub record IsFilled (n : IndexState) (spare : ℕ) : Type 0 where
   pub noted : IsNoted n.config.protocol n
   pub below : spare < blocks_of (shape_of n.config)
   pub blank : (slot : ℕ) → is_outside (shape_of n.config) spare slot ≡ false → note_at n.notes slot ≡ Blank
@@ -149,7 +128,7 @@ pub record IsFilled (n : Noted) (spare : ℕ) : Type 0 where
   pub is_pinned : Contains (pinned_names n.pins) absent
   pub is_absent : is_present (found_in n.notes) absent ≡ false
 
-module _ (n : Noted) (spare : ℕ) (h : IsFilled n spare) where
+module _ (n : IndexState) (spare : ℕ) (h : IsFilled n spare) where
   abbrev list : List Found
   list = found_in n.notes
 

@@ -1,26 +1,15 @@
 -- Reading the slots of a block, one after another.
-use Rattle.std.proofs.Common.{◌≡◌, ℕ, ◌+◌, ◌-◌, ◌*◌, ◌<◌, ◌≤◌, Bool, true, false, ◌&&◌, if◌then◌else◌, List, Ok, Err, Result, refl, sym, ap, ap₂, ◌∙◌, subst}
-use Rattle.std.proofs.Common.{arith}
-use Rattle.std.specs.List.{range_with_len, list_all}
-use Rattle.list_facts.proofs.Ranges.{range_push}
-use Rattle.flash_model.specs.Flash.{FlashState, Contents, blank, damaged, complete, slot_at, counted}
-use Rattle.flash_model.specs.Calls.{Reads, seen_of}
-use Rattle.flash_model.specs.declared.flash.Seen.{Seen}
+use Rattle.collector.proofs.Common.{◌≡◌, ℕ, ◌+◌, ◌-◌, ◌*◌, ◌<◌, ◌≤◌, Bool, true, false, ◌&&◌, if◌then◌else◌, List, Ok, Err, Result, refl, sym, ap, ap₂, ◌∙◌, subst, arith, range_with_len, list_all, FlashState, Contents, blank, damaged, complete, slot_at, Reads, Seen, Broken, Moment, moment_of, Carries-then, block_within, same_moments, shape_of, slots_of, blocks_of, Note, Blank, Damaged, Holds, note_at, IndexState, Looks, reads_after, reads_alike, holds_record, is_blank_slot}
+use Rattle.list_lemmas.proofs.Ranges.{range_push}
+use Rattle.flash_model.specs.Flash.{counted}
+use Rattle.flash_model.specs.Calls.{seen_of}
 use Rattle.flash_model.specs.declared.flash.Seen.TheVariants as seen
-use Rattle.flash_model.specs.declared.flash.Broken.{Broken}
-use Rattle.flash_model.specs.Operations.{Moment, moment_of}
-use Rattle.flash_model.proofs.CallLemmas.{Carries-nothing, Carries-then}
-use Rattle.flash_model.proofs.ImageLemmas.{block_within}
-use Rattle.flash_model.proofs.MoveLemmas.{same_moments}
-use Rattle.tx_types.specs.Config.{shape_of, slots_of, blocks_of}
-use Rattle.version_index.specs.declared.note.Note.{Note}
-use Rattle.version_index.specs.declared.note.Note.TheVariants.{Blank, Damaged, Holds}
-use Rattle.version_index.specs.Notes.{seen_as, note_at}
-use Rattle.version_index.specs.Noted.{Noted}
-use Rattle.collector.specs.Looking.{Looks, ReadsAtMost, reads_after}
+use Rattle.flash_model.proofs.CallLemmas.{Carries-nothing}
+use Rattle.version_index.specs.Notes.{seen_as}
+use Rattle.collector.specs.Looking.{ReadsAtMost}
 use Rattle.collector.proofs.OfSettle.Looked.{reads_then}
-use Rattle.collector.specs.Settling.{ReadsBlock, reads_as, reads_alike, holds_record}
-use Rattle.collector.specs.Collecting.{is_blank_slot, reads_blank}
+use Rattle.collector.specs.Settling.{ReadsBlock, reads_as}
+use Rattle.collector.specs.Collecting.{reads_blank}
 
 -- none was read
 looks_none : (s : FlashState) → Looks s s 0 false
@@ -95,19 +84,19 @@ alike (Holds rec) blank = refl
 alike (Holds rec) damaged = refl
 alike (Holds rec) (complete bytes spare) = refl
 
-abbrev test_noted : Noted → List Contents → ℕ → Bool
+abbrev test_noted : IndexState → List Contents → ℕ → Bool
 test_noted n image slot = reads_as (note_at n.notes slot) (slot_at image slot)
 
 abbrev test_blank : List Contents → ℕ → Bool
 test_blank image slot = is_blank_slot (slot_at image slot)
 
 -- what is known once the slots of a block before this one were read
-pub record ReadSoFar (n : Noted) (old now : FlashState) (first at : ℕ) (as_noted blank : Bool) : Type 0 where
+pub record ReadSoFar (n : IndexState) (old now : FlashState) (first at : ℕ) (as_noted blank : Bool) : Type 0 where
   pub looks : Looks old now (at - first) false
   pub noted : as_noted ≡ list_all (test_noted n old.image) (range_with_len first (at - first))
   pub blanks : blank ≡ list_all (test_blank old.image) (range_with_len first (at - first))
 
-pub read_none : (n : Noted) (s : FlashState) (first : ℕ) → ReadSoFar n s s first first true true
+pub read_none : (n : IndexState) (s : FlashState) (first : ℕ) → ReadSoFar n s s first first true true
 read_none n s first =
     let none : first - first ≡ 0 = omega arith in
     record {
@@ -116,7 +105,7 @@ read_none n s first =
       blanks = ap (λ k. list_all (test_blank s.image) (range_with_len first k)) (sym none);
     }
 
-module _ (n : Noted) (old now : FlashState) (first at : ℕ) (x y : Bool) (h : ReadSoFar n old now first at x y) (c : FlashState) (bytes spare : List ℕ)
+module _ (n : IndexState) (old now : FlashState) (first at : ℕ) (x y : Bool) (h : ReadSoFar n old now first at x y) (c : FlashState) (bytes spare : List ℕ)
     (r : Result Seen Broken) (reads : Reads now c at bytes spare r) where
   -- a read that is broken ends it
   pub read_broken : (most : ℕ) (e : Broken) → r ≡ Err e → first ≤ at → at < first + most → Looks old c most true
@@ -146,11 +135,11 @@ module _ (n : Noted) (old now : FlashState) (first at : ℕ) (x y : Bool) (h : R
       }
 
 -- all were read
-pub record AllRead (n : Noted) (old now : FlashState) (block : ℕ) (x y : Bool) : Type 0 where
+pub record AllRead (n : IndexState) (old now : FlashState) (block : ℕ) (x y : Bool) : Type 0 where
   pub read : ReadsBlock n old.image block (record { as_noted = x; blank = y })
   pub looks : Looks old now n.config.pages_per_block false
 
-pub read_all : (n : Noted) (old now : FlashState) (block at : ℕ) (x y : Bool) (pages : ℕ) → pages ≡ n.config.pages_per_block → at ≡ block * pages + pages →
+pub read_all : (n : IndexState) (old now : FlashState) (block at : ℕ) (x y : Bool) (pages : ℕ) → pages ≡ n.config.pages_per_block → at ≡ block * pages + pages →
     ReadSoFar n old now (block * pages) at x y → AllRead n old now block x y
 read_all n old now block at x y pages same =
     subst (λ k. at ≡ block * k + k → ReadSoFar n old now (block * k) at x y → AllRead n old now block x y) (sym same) (λ end h.
@@ -165,7 +154,7 @@ read_all n old now block at x y pages same =
     })
 
 -- a slot of the block is a slot of the flash
-pub in_block : (n : Noted) (block at pages : ℕ) → block < blocks_of (shape_of n.config) → pages ≡ n.config.pages_per_block → at < block * pages + pages →
+pub in_block : (n : IndexState) (block at pages : ℕ) → block < blocks_of (shape_of n.config) → pages ≡ n.config.pages_per_block → at < block * pages + pages →
     at < slots_of (shape_of n.config)
 in_block n block at pages below same high =
     let within = block_within (shape_of n.config) block below in

@@ -1,16 +1,9 @@
 -- A slot that was blank and is damaged: nothing of what is preserved changes.
-use Rattle.std.proofs.Common.{◌≡◌, ℕ, ◌<◌, true, length, refl, sym, ap, subst}
-use Rattle.version_index.specs.declared.note.Note.TheVariants.{Blank}
-use Rattle.version_index.specs.Notes.{note_at}
-use Rattle.version_index.specs.Noted.{Noted, current_of, held_of, current_name_of, damaged_at}
+use Rattle.collector.proofs.Common.{◌≡◌, ℕ, ◌<◌, true, length, refl, sym, ap, subst, Blank, note_at, IndexState, current_of, held_of, current_name_of, damaged_at, is_present, InProgress, cur, is_held, Preserves}
 use Rattle.version_index.proofs.OfTables.FoundIn.{found_in_damaged}
-use Rattle.record_list.specs.Records.{is_present}
-use Rattle.record_list.specs.Transaction.{InProgress}
-use Rattle.record_list.specs.Current.{cur, is_held}
-use Rattle.collector.specs.Preserves.{Preserves}
 
 -- a damaged slot that was blank changes nothing of what is preserved
-pub damaged_preserves : (n : Noted) (at : ℕ) → at < length n.notes → note_at n.notes at ≡ Blank → Preserves n (damaged_at n at)
+pub damaged_preserves : (n : IndexState) (at : ℕ) → at < length n.notes → note_at n.notes at ≡ Blank → Preserves n (damaged_at n at)
 unfolding current_of held_of
 damaged_preserves n at within was =
     let same = found_in_damaged n.notes at within was in

@@ -1,10 +1,7 @@
 -- How often it was read.
-use Rattle.std.proofs.Common.{◌≡◌, ℕ, zero, suc, ◌+◌, ◌<◌, sym, ap, ◌∙◌, inl, inr, arith, eqb-true}
-use Rattle.std.specs.Prelude.{◌==◌}
-use Rattle.std.proofs.lemmas.Bool.{cases_Bool, cond-false}
+use Rattle.collector.proofs.Common.{◌≡◌, ℕ, zero, suc, ◌+◌, ◌<◌, sym, ap, ◌∙◌, inl, inr, arith, eqb-true, ◌==◌, cases_Bool, cond-false, reads_after}
 use Rattle.flash_model.specs.Flash.{counted_by}
 use Rattle.flash_model.proofs.CallLemmas.{counted_by-twice}
-use Rattle.collector.specs.Looking.{reads_after}
 
 -- some reads are counted
 reads_some : (count reads : ℕ) → 0 < count → reads_after count reads ≡ counted_by count reads

@@ -1,31 +1,16 @@
 -- A record of an open transaction that was programmed in a free slot, or whose program was broken, or which was found there:
 -- what matches then.
-use Rattle.std.proofs.Common.{◌≡◌, ℕ, ◌/◌, ◌<◌, true, List, refl, sym, ap, ◌∙◌, arith}
-use Rattle.tx_types.specs.Config.{shape_of, slots_of}
-use Rattle.tx_types.specs.declared.config.Protocol.{Protocol}
-use Rattle.tx_types.specs.declared.config.Shape.{Shape}
-use Rattle.tx_types.specs.declared.record.Rec.{Rec}
-use Rattle.flash_model.specs.Flash.{FlashState, Contents, damaged, complete, slot_at}
-use Rattle.page_record.specs.Spelling.{CanBeSpelled, spelling}
+use Rattle.collector.proofs.Common.{◌≡◌, ℕ, ◌/◌, ◌<◌, true, List, refl, sym, ap, ◌∙◌, arith, shape_of, slots_of, Protocol, Shape, Rec, FlashState, Contents, damaged, complete, slot_at, CanBeSpelled, PartialWriteLaw, CompletingWriteLaw, is_outside, Blank, Damaged, Holds, note_at, note_of, IndexState, IsNoted, programmed, damaged_at, BlocksState, IsBlocksState, IsFree, block_of_slot, with_slot, has_room_not_spare, Unsure, option_map_or, is_unsure, Matches, CanTakeOwn}
+use Rattle.page_record.specs.Spelling.{spelling}
 use Rattle.page_record.proofs.Spellings.{record_of-spelling}
-use Rattle.record_list.specs.Changes.{PartialWriteLaw, CompletingWriteLaw}
-use Rattle.record_list.specs.Written.{is_outside}
-use Rattle.version_index.specs.declared.note.Note.TheVariants.{Blank, Damaged, Holds}
-use Rattle.version_index.specs.Notes.{note_at, note_of}
-use Rattle.version_index.specs.Noted.{Noted, IsNoted, programmed, damaged_at}
-use Rattle.die_alloc.specs.BlockTable.{BlockTable, IsBlockTable, IsFree, block_of_slot, with_slot}
-use Rattle.die_alloc.proofs.Changes.{block_within, has_room_not_spare}
-use Rattle.collector.specs.declared.unsure.Unsure.{Unsure}
+use Rattle.die_alloc.proofs.Changes.{block_within}
 use Rattle.collector.specs.declared.unsure.Unsure.TheVariants as unsure
-use Rattle.std.specs.Option.{option_map_or}
-use Rattle.collector.specs.Known.{is_unsure}
-use Rattle.collector.specs.Matches.{Matches, CanTakeOwn}
 use Rattle.collector.proofs.OfSettle.SettledExits.{settled_slot, free_with_slot, damaged_spared}
 use Rattle.collector.proofs.OfSettle.Programming.{programmed_spared}
 use Rattle.collector.proofs.OfSettle.SettledBlocks.{out_of}
 
 -- a free slot lies outside the spare
-pub free_out : (s : FlashState) (n : Noted) (t : BlockTable) (u : Unsure) → Matches s n t u → (slot : ℕ) → IsFree t slot →
+pub free_out : (s : FlashState) (n : IndexState) (t : BlocksState) (u : Unsure) → Matches s n t u → (slot : ℕ) → IsFree t slot →
     is_outside (shape_of n.config) t.spare slot ≡ true
 free_out s n t u m slot free =
     let apart = has_room_not_spare t m.table (block_of_slot t.shape slot) (block_within t m.table slot free.within) free.room in
@@ -37,8 +22,8 @@ holds_reads : (p : Protocol) (rec : Rec) (contents : Contents) → CanBeSpelled 
 holds_reads p rec contents spelled bytes is =
     sym (ap (note_of p) is ∙ ap (λ o. option_map_or Holds o Damaged) (record_of-spelling p rec spelled))
 
-module _ (s : FlashState) (n : Noted) (t : BlockTable) (u : Unsure) (m : Matches s n t u) (at : ℕ) (free : IsFree t at) (was : note_at n.notes at ≡ Blank)
-    (only : (slot : ℕ) → is_unsure s.shape t.spare u slot ≡ true → slot ≡ at) (table : IsBlockTable (with_slot t at)) where
+module _ (s : FlashState) (n : IndexState) (t : BlocksState) (u : Unsure) (m : Matches s n t u) (at : ℕ) (free : IsFree t at) (was : note_at n.notes at ≡ Blank)
+    (only : (slot : ℕ) → is_unsure s.shape t.spare u slot ≡ true → slot ≡ at) (table : IsBlocksState (with_slot t at)) where
   within : at < slots_of s.shape
   within = omega (arith, free.within, ap slots_of m.blocks)
 

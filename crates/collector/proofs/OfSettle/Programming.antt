@@ -1,28 +1,7 @@
 -- A record that a transaction in progress asks for is noted in a slot outside the spare: what can be spared then.
-use Rattle.std.proofs.Common.{◌≡◌, ◌≢◌, ℕ, ◌<◌, Bool, true, false, eq-eqb, eqb-true, List, [], ◌∷◌, length, refl, sym, ap, ◌∙◌, subst, inl, inr, Contains}
-use Rattle.std.specs.Prelude.{◌==◌}
-use Rattle.std.proofs.lemmas.Bool.{cases_Bool}
-use Rattle.std.proofs.lemmas.List.Elements.{All-contains}
-use Rattle.list_facts.proofs.Membership.{all_from, from_filter, in_filter, Contains-cases, Contains-first, Contains-nil, Contains-rest}
-use Rattle.tx_types.specs.Config.{shape_of}
-use Rattle.tx_types.specs.declared.config.Protocol.{Protocol}
-use Rattle.tx_types.specs.declared.record.Link.{Link}
-use Rattle.tx_types.specs.declared.record.Rec.{Rec}
-use Rattle.record_list.specs.declared.found.Found.{Found}
-use Rattle.record_list.specs.Records.{name_of, is_present}
-use Rattle.record_list.specs.Changes.{IsInserted, IsWrite, left, PartialWriteLaw, PartialWriteKeeps, CompletingWriteLaw, CompletingWriteKeeps}
-use Rattle.record_list.specs.Current.{cur, IsCurrent}
-use Rattle.record_list.specs.SoundList.{Pages, PagesExist}
-use Rattle.record_list.specs.Written.{is_outside, is_wanted}
-use Rattle.record_list.proofs.OfFacts.Names.{found_named, present_as}
+use Rattle.collector.proofs.Common.{◌≡◌, ◌≢◌, ℕ, ◌<◌, Bool, true, false, eq-eqb, eqb-true, List, [], ◌∷◌, length, refl, sym, ap, ◌∙◌, subst, inl, inr, Contains, ◌==◌, cases_Bool, All-contains, all_from, from_filter, in_filter, Contains-cases, Contains-first, Contains-nil, Contains-rest, shape_of, Protocol, Link, Rec, Found, name_of, is_present, IsInserted, left, PartialWriteLaw, CompletingWriteLaw, cur, IsCurrent, Pages, PagesExist, is_outside, is_wanted, found_named, present_as, wanted_cases, counted_wanted, pinned_wanted, Blank, note_at, found_in, IndexState, IsNoted, pinned_names, programmed, CanSpare, CanTakeOwn, found, found_in_programmed, BlocksState}
+use Rattle.record_list.specs.Changes.{IsWrite, PartialWriteKeeps, CompletingWriteKeeps}
 use Rattle.record_list.proofs.OfChanges.OneMore.{inserted_in, in_inserted, new_in}
-use Rattle.record_list.proofs.OfFacts.Wanted.{wanted_cases, counted_wanted, pinned_wanted}
-use Rattle.version_index.specs.declared.note.Note.TheVariants.{Blank}
-use Rattle.version_index.specs.Notes.{note_at, found_in}
-use Rattle.version_index.specs.Noted.{Noted, IsNoted, pinned_names, programmed}
-use Rattle.collector.specs.Matches.{CanSpare, CanTakeOwn}
-use Rattle.version_index.proofs.OfTables.FoundIn.{found, found_in_programmed}
-use Rattle.die_alloc.specs.BlockTable.{BlockTable}
 
 -- a page is one of a transaction's, or none of them
 pub data OfPages (names : List Link) (page : ℕ) : Type 0 where
@@ -60,9 +39,9 @@ are_there l (n ∷ ns) = elim (cases_Bool (is_present l n)) [
   ]
 ]
 
-module _ (n : Noted) (noted : IsNoted n.config.protocol n) (partial : PartialWriteLaw n.config.protocol) (completing : CompletingWriteLaw n.config.protocol)
+module _ (n : IndexState) (noted : IsNoted n.config.protocol n) (partial : PartialWriteLaw n.config.protocol) (completing : CompletingWriteLaw n.config.protocol)
     (at : ℕ) (rec : Rec) (within : at < length n.notes) (was : note_at n.notes at ≡ Blank)
-    (t : BlockTable) (take : CanTakeOwn n t rec) (out : is_outside (shape_of n.config) t.spare at ≡ true)
+    (t : BlocksState) (take : CanTakeOwn n t rec) (out : is_outside (shape_of n.config) t.spare at ≡ true)
     (noted' : IsNoted n.config.protocol (programmed n at rec)) where
   abbrev p : Protocol
   p = n.config.protocol

@@ -1,26 +1,12 @@
 -- What matches once a block was read whose erase was broken: it is old, or each of its slots is blank, or damaged.
-use Rattle.std.proofs.Common.{◌≡◌, ◌≢◌, ℕ, ◌/◌, ◌%◌, ◌<◌, ◌≤◌, true, not, eqb-true, List, None, refl, sym, ap, ◌∙◌, subst, inl, inr, arith}
-use Rattle.std.specs.Prelude.{◌==◌}
-use Rattle.std.proofs.lemmas.Bool.{cases_Bool, not_from_true}
-use Rattle.tx_types.specs.Config.{shape_of, slots_of, blocks_of}
-use Rattle.tx_types.specs.declared.config.Block.{Block}
-use Rattle.tx_types.specs.declared.config.Shape.{Shape}
-use Rattle.flash_model.specs.Flash.{FlashState, Contents, slot_at}
-use Rattle.record_list.specs.Changes.{LossLaw}
-use Rattle.record_list.specs.Written.{is_outside}
-use Rattle.version_index.specs.declared.note.Note.{Note}
-use Rattle.version_index.specs.Notes.{note_at, note_of, rec_of, with_block_noted}
-use Rattle.version_index.specs.Noted.{Noted, IsNoted, with_spare}
-use Rattle.version_index.proofs.OfTables.Blocks.{outside_it, in_it, inside_block}
+use Rattle.collector.proofs.Common.{◌≡◌, ◌≢◌, ℕ, ◌/◌, ◌%◌, ◌<◌, ◌≤◌, true, not, eqb-true, List, None, refl, sym, ap, ◌∙◌, subst, inl, inr, arith, ◌==◌, cases_Bool, shape_of, slots_of, blocks_of, Block, Shape, FlashState, Contents, slot_at, LossLaw, is_outside, Note, note_at, note_of, rec_of, with_block_noted, IndexState, IsNoted, with_spare, in_it, inside_block, BlocksState, IsBlocksState, block_of_slot, table_with_spare, has_room_not_spare, Unsure, swapped, Matches, IsNotedAt, AllOfBlock, IsFilledTo}
+use Rattle.std.proofs.lemmas.Bool.{not_from_true}
+use Rattle.version_index.proofs.OfTables.Blocks.{outside_it}
 use Rattle.collector.proofs.OfNotes.NotesLeft.{note_at-in, note_at-out}
-use Rattle.die_alloc.specs.BlockTable.{BlockTable, IsBlockTable, block_of_slot, table_with_spare}
-use Rattle.die_alloc.proofs.Changes.{block_within, has_room_not_spare}
-use Rattle.collector.specs.declared.unsure.Unsure.{Unsure}
+use Rattle.die_alloc.proofs.Changes.{block_within}
 use Rattle.collector.specs.declared.unsure.Unsure.TheVariants as unsure
-use Rattle.collector.specs.Collecting.{exchanged}
-use Rattle.collector.specs.Matches.{Matches, IsNotedAt, AllOfBlock, IsFilledTo}
 use Rattle.collector.proofs.OfNotes.Losing.{blocked, spared_still}
-use Rattle.collector.proofs.OfErase.Exchange.{free_away, free_before, tail_blank}
+use Rattle.collector.proofs.OfErase.Swap.{free_away, free_before, tail_blank}
 use Rattle.collector.proofs.OfNotes.SureCounts.{sure_counts}
 
 -- a slot of another block is outside the block
@@ -30,7 +16,7 @@ out_of shape block slot apart = elim (cases_Bool ((slot / shape.pages_per_block)
   | inr e ↦ ap not e
 ]
 
-module _ (s : FlashState) (n : Noted) (t : BlockTable) (u : Unsure) (m : Matches s n t u) (block : ℕ) (below : block < blocks_of (shape_of n.config))
+module _ (s : FlashState) (n : IndexState) (t : BlocksState) (u : Unsure) (m : Matches s n t u) (block : ℕ) (below : block < blocks_of (shape_of n.config))
     (note : Note) where
   some : 0 < n.config.pages_per_block
   some = (let b = m.noted.bounds.shape.pages_least in omega arith)
@@ -59,7 +45,7 @@ module _ (s : FlashState) (n : Noted) (t : BlockTable) (u : Unsure) (m : Matches
     ]
 
 -- the spare
-pub settled_spare : (s : FlashState) (n : Noted) (t : BlockTable) (m : Matches s n t unsure.SpareErase) (loss : LossLaw n.config.protocol)
+pub settled_spare : (s : FlashState) (n : IndexState) (t : BlocksState) (m : Matches s n t unsure.SpareErase) (loss : LossLaw n.config.protocol)
     (contents : Contents) (note : Note) → note ≡ note_of n.config.protocol contents → rec_of note ≡ None →
     AllOfBlock n t.spare (λ slot. slot_at s.image slot ≡ contents) → IsNoted n.config.protocol (blocked n t.spare note) →
     Matches s (blocked n t.spare note) t unsure.Nothing
@@ -88,14 +74,14 @@ settled_spare s n t m loss contents note fits none all noted =
     }
 
 -- a collected block, which is the spare then
-pub settled_victim : (s : FlashState) (n : Noted) (t : BlockTable) (block : Block) (m : Matches s n t (unsure.VictimErase block))
+pub settled_victim : (s : FlashState) (n : IndexState) (t : BlocksState) (block : Block) (m : Matches s n t (unsure.VictimErase block))
     (loss : LossLaw n.config.protocol)
     (contents : Contents) (note : Note) → note ≡ note_of n.config.protocol contents → rec_of note ≡ None →
     AllOfBlock n block.0 (λ slot. slot_at s.image slot ≡ contents) → (filled : IsFilledTo n t.spare) → block.0 < blocks_of (shape_of n.config) →
     block.0 ≢ t.spare →
-    IsNoted n.config.protocol (with_spare (blocked n block.0 note) block.0) → IsBlockTable (table_with_spare t block.0) →
-    IsBlockTable (exchanged t block.0 filled.0) →
-    Matches s (with_spare (blocked n block.0 note) block.0) (exchanged t block.0 filled.0) unsure.Nothing
+    IsNoted n.config.protocol (with_spare (blocked n block.0 note) block.0) → IsBlocksState (table_with_spare t block.0) →
+    IsBlocksState (swapped t block.0 filled.0) →
+    Matches s (with_spare (blocked n block.0 note) block.0) (swapped t block.0 filled.0) unsure.Nothing
 settled_victim s n t block m loss contents note fits none all filled below apart noted mid table =
     let below_table : block.0 < blocks_of t.shape = omega (arith, below, ap blocks_of m.blocks, ap blocks_of m.shape) in
     let same_per : t.shape.pages_per_block ≡ n.config.pages_per_block = ap (λ (x : Shape). x.pages_per_block) (m.blocks ∙ m.shape) in

@@ -1,28 +1,14 @@
 -- What matches once the place was read that was not known.
-use Rattle.std.proofs.Common.{◌≡◌, ◌≢◌, ◌⊎◌, ℕ, ◌+◌, ◌%◌, ◌<◌, ◌≤◌, true, false, eqb-true, List, length, set, Some, sym, ap, ◌∙◌, subst, inl, inr, arith}
-use Rattle.std.specs.Prelude.{◌==◌}
-use Rattle.std.proofs.lemmas.Bool.{cases_Bool, eqb-false}
-use Rattle.std.proofs.lemmas.List.{get_or-set_same, get_or-set_other}
-use Rattle.tx_types.specs.Config.{shape_of, slots_of}
-use Rattle.flash_model.specs.Flash.{FlashState, IsImage, slot_at}
-use Rattle.version_index.specs.declared.note.Note.{Note}
-use Rattle.version_index.specs.declared.note.Note.TheVariants.{Blank}
-use Rattle.version_index.specs.Images.{IsSoundImage}
-use Rattle.version_index.specs.Notes.{note_at, note_of}
+use Rattle.collector.proofs.Common.{◌≡◌, ◌≢◌, ◌⊎◌, ℕ, ◌+◌, ◌%◌, ◌<◌, ◌≤◌, true, false, eqb-true, List, length, set, Some, sym, ap, ◌∙◌, subst, inl, inr, arith, ◌==◌, cases_Bool, eqb-false, get_or-set_same, get_or-set_other, shape_of, slots_of, FlashState, IsImage, slot_at, Note, Blank, IsSoundImage, note_at, note_of, IndexState, IsNoted, damaged_at, pinned_names, BlocksState, IsBlocksState, IsFree, HasRoom, block_of_slot, used_of, with_slot, BlockUse, Unsure, is_unsure, Matches, IsNotedAt, CanSpare}
 use Rattle.version_index.proofs.OfTables.FoundIn.{found_in_damaged}
-use Rattle.version_index.specs.Noted.{Noted, IsNoted, damaged_at, pinned_names}
 use Rattle.record_list.specs.Written.{IsDispensable}
-use Rattle.die_alloc.specs.BlockTable.{BlockTable, IsBlockTable, IsFree, HasRoom, block_of_slot, used_of, with_slot}
-use Rattle.die_alloc.specs.declared.block_use.BlockUse.{BlockUse}
 use Rattle.die_alloc.proofs.Changes.{use_of-with_slot_same, use_of-with_slot_other}
-use Rattle.collector.specs.declared.unsure.Unsure.{Unsure}
 use Rattle.collector.specs.declared.unsure.Unsure.TheVariants as unsure
-use Rattle.collector.specs.Known.{is_unsure}
-use Rattle.collector.specs.Matches.{Matches, IsNotedAt, IsPlace, CanSpare}
+use Rattle.collector.specs.Matches.{IsPlace}
 use Rattle.collector.proofs.OfNotes.SureCounts.{sure_counts}
 
 -- a call that leaves image and shape leaves what matches
-pub matches_still : (s s' : FlashState) (n : Noted) (t : BlockTable) (u : Unsure) → s'.shape ≡ s.shape → s'.image ≡ s.image → Matches s n t u → Matches s' n t u
+pub matches_still : (s s' : FlashState) (n : IndexState) (t : BlocksState) (u : Unsure) → s'.shape ≡ s.shape → s'.image ≡ s.image → Matches s n t u → Matches s' n t u
 matches_still s s' n t u shape image m = record {
   shape = shape ∙ m.shape;
   flash = subst (λ i. IsImage s'.shape i) (sym image) (subst (λ sh. IsImage sh s.image) (sym shape) m.flash);
@@ -43,7 +29,7 @@ matches_still s s' n t u shape image m = record {
 }
 
 -- Where each slot is noted as it reads, nothing is unsure.
-pub matches_surely : (s : FlashState) (n : Noted) (t : BlockTable) (u : Unsure) → Matches s n t u →
+pub matches_surely : (s : FlashState) (n : IndexState) (t : BlocksState) (u : Unsure) → Matches s n t u →
     ((slot : ℕ) → slot < slots_of s.shape → is_unsure s.shape t.spare u slot ≡ true → IsNotedAt s.image n slot) →
     Matches s n t unsure.Nothing
 matches_surely s n t u m place = record {
@@ -65,13 +51,13 @@ matches_surely s n t u m place = record {
   free = m.free;
 }
 
-pub damaged_spared : (n : Noted) (at block : ℕ) → at < length n.notes → note_at n.notes at ≡ Blank → CanSpare n block → CanSpare (damaged_at n at) block
+pub damaged_spared : (n : IndexState) (at block : ℕ) → at < length n.notes → note_at n.notes at ≡ Blank → CanSpare n block → CanSpare (damaged_at n at) block
 damaged_spared n at block within was spared =
     subst (λ l. IsDispensable n.config.protocol l n.config.logical (pinned_names n.pins) (shape_of n.config) block)
     (sym (found_in_damaged n.notes at within was)) spared
 
 -- the one slot that was unsure is noted as it reads
-module _ (s : FlashState) (n : Noted) (t t' : BlockTable) (u : Unsure) (m : Matches s n t u) (at : ℕ) (within : at < slots_of s.shape)
+module _ (s : FlashState) (n : IndexState) (t t' : BlocksState) (u : Unsure) (m : Matches s n t u) (at : ℕ) (within : at < slots_of s.shape)
     (only : (slot : ℕ) → is_unsure s.shape t.spare u slot ≡ true → slot ≡ at)
     (note : Note) (ms : List ℕ) (noted : IsNoted n.config.protocol (record n { notes = set n.notes at note; mentions = ms }))
     (reads : note ≡ note_of n.config.protocol (slot_at s.image at)) where
@@ -91,7 +77,7 @@ module _ (s : FlashState) (n : Noted) (t t' : BlockTable) (u : Unsure) (m : Matc
       sure_other slot low (inl un) other = absurd (eqb-false slot at other (only slot un))
       sure_other slot low (inr sure) other = m.sure slot low sure
 
-  pub settled_slot : IsBlockTable t' → t'.shape ≡ t.shape → t'.spare ≡ t.spare → ((slot : ℕ) → IsFree t' slot → IsFree t slot × (slot ≢ at)) →
+  pub settled_slot : IsBlocksState t' → t'.shape ≡ t.shape → t'.spare ≡ t.spare → ((slot : ℕ) → IsFree t' slot → IsFree t slot × (slot ≢ at)) →
       CanSpare (record n { notes = set n.notes at note; mentions = ms }) t.spare →
       Matches s (record n { notes = set n.notes at note; mentions = ms }) t' unsure.Nothing
   settled_slot table shape spare free spared = record {
@@ -111,7 +97,7 @@ module _ (s : FlashState) (n : Noted) (t t' : BlockTable) (u : Unsure) (m : Matc
   }
 
 -- a slot that is used is free no more, and those that are free were free
-pub free_with_slot : (t : BlockTable) → IsBlockTable t → (at : ℕ) → IsFree t at → (slot : ℕ) → IsFree (with_slot t at) slot → IsFree t slot × (slot ≢ at)
+pub free_with_slot : (t : BlocksState) → IsBlocksState t → (at : ℕ) → IsFree t at → (slot : ℕ) → IsFree (with_slot t at) slot → IsFree t slot × (slot ≢ at)
 free_with_slot t h at free slot f = elim (cases_Bool (block_of_slot t.shape slot == block_of_slot t.shape at)) [
   | inr other ↦
       (let apart = eqb-false (block_of_slot t.shape slot) (block_of_slot t.shape at) other in

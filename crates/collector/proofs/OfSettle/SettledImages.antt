@@ -1,38 +1,16 @@
 -- What the settlement says of an image: it is what a look at the unsure place finds.
-use Rattle.std.proofs.Common.{◌≡◌, ◌≢◌, ℕ, ◌/◌, ◌<◌, ◌≤◌, ◌*◌, List, length, Bool, true, false, eqb-true, if◌then◌else◌, IsSome, None, refl, sym, ap, ◌∙◌}
-use Rattle.std.proofs.Common.{subst, inl, inr, arith}
-use Rattle.std.specs.Prelude.{◌==◌}
-use Rattle.std.proofs.lemmas.Bool.{ne_eqb, not-true}
-use Rattle.list_facts.proofs.Counts.{filled_count}
-use Rattle.tx_types.specs.Config.{shape_of, slots_of, blocks_of}
-use Rattle.tx_types.specs.declared.config.Config.{Config}
-use Rattle.tx_types.specs.declared.config.Block.{Block}
-use Rattle.tx_types.specs.declared.config.Protocol.{Protocol}
-use Rattle.tx_types.specs.declared.config.Shape.{Shape}
-use Rattle.tx_types.specs.declared.config.Slot.{Slot}
-use Rattle.tx_types.specs.declared.record.Rec.{Rec}
-use Rattle.flash_model.specs.Flash.{FlashState, Contents, blank, damaged, complete, slot_at}
-use Rattle.record_list.specs.Changes.{PartialWriteLaw, CompletingWriteLaw, CopyLaw, LossLaw}
-use Rattle.record_list.specs.Current.{cur}
-use Rattle.record_list.specs.Written.{is_outside}
-use Rattle.version_index.specs.declared.note.Note.{Note}
-use Rattle.version_index.specs.declared.note.Note.TheVariants.{Blank, Damaged, Holds}
-use Rattle.version_index.specs.Images.{records_in, current_in, array_in}
-use Rattle.version_index.specs.Notes.{found_in, note_at, note_of, rec_of}
-use Rattle.version_index.specs.Noted.{Noted, IsNoted, current_of, programmed, copied, erased, lost, with_spare}
-use Rattle.version_index.proofs.OfTables.Blocks.{in_it}
-use Rattle.version_index.proofs.OfChanges.NotedChanges.{damaged_noted, copied_noted, programmed_noted, block_noted}
-use Rattle.die_alloc.specs.BlockTable.{BlockTable, IsFree, block_of_slot}
-use Rattle.die_alloc.proofs.Changes.{block_within, has_room_not_spare}
+use Rattle.collector.proofs.Common.{◌≡◌, ◌≢◌, ℕ, ◌/◌, ◌<◌, ◌≤◌, ◌*◌, List, length, Bool, true, false, eqb-true, if◌then◌else◌, None, refl, sym, ap, ◌∙◌, subst, inl, inr, arith, ◌==◌, ne_eqb, not-true, shape_of, slots_of, blocks_of, Config, Block, Protocol, Shape, Slot, Rec, FlashState, Contents, blank, damaged, complete, slot_at, PartialWriteLaw, CompletingWriteLaw, CopyLaw, LossLaw, cur, is_outside, Note, Blank, Damaged, Holds, records_in, array_in, found_in, note_at, note_of, rec_of, IndexState, IsNoted, current_of, programmed, copied, erased, with_spare, in_it, block_noted, BlocksState, IsFree, block_of_slot, has_room_not_spare, Unsure, is_blank_block, swapped, array_known, is_unsure, Matches, CanTakeOwn, IsErasing, IsNotedAt, AllOfBlock, Preserves, settlement, holds_record}
+use Rattle.std.proofs.Common.{IsSome}
+use Rattle.list_lemmas.proofs.Counts.{filled_count}
+use Rattle.version_index.specs.Images.{current_in}
+use Rattle.version_index.specs.IndexState.{lost}
+use Rattle.version_index.proofs.OfChanges.NotedChanges.{damaged_noted, copied_noted, programmed_noted}
+use Rattle.die_alloc.proofs.Changes.{block_within}
 use Rattle.collector.specs.declared.unsure.Settled.{Settled}
 use Rattle.collector.specs.declared.unsure.Settled.TheVariants.{Present}
-use Rattle.collector.specs.declared.unsure.Unsure.{Unsure}
 use Rattle.collector.specs.declared.unsure.Unsure.TheVariants as unsure
-use Rattle.collector.specs.Collecting.{is_blank_block, exchanged}
-use Rattle.collector.specs.Known.{array_known, is_unsure}
-use Rattle.collector.specs.Matches.{Matches, CanTake, CanTakeOwn, SpellsRecord, IsErasing, IsFilledBy, IsNotedAt, AllOfBlock}
-use Rattle.collector.specs.Preserves.{Preserves}
-use Rattle.collector.specs.Settling.{Settlement, settlement, own_settled, copy_settled, unchanged, holds_record, records_held, block_reads_as_noted}
+use Rattle.collector.specs.Matches.{CanTake, SpellsRecord, IsFilledBy}
+use Rattle.collector.specs.Settling.{Settlement, own_settled, copy_settled, unchanged, count_records, block_reads_as_noted}
 use Rattle.collector.proofs.OfNotes.Calm.{same_records}
 use Rattle.collector.proofs.OfCopies.CopyNotes.{copy_preserves, copy_spared}
 use Rattle.collector.proofs.OfErase.ErasedBlocks.{noted_all, blank_all, damaged_all}
@@ -43,28 +21,28 @@ use Rattle.collector.proofs.OfSettle.DamagedNotes.{damaged_preserves}
 use Rattle.collector.proofs.OfSettle.OwnExits.{own_there, own_damaged}
 use Rattle.collector.proofs.OfSettle.SettledBlocks.{settled_spare, settled_victim}
 use Rattle.collector.proofs.OfSettle.SettledExits.{matches_surely, settled_slot, damaged_spared}
-use Rattle.die_alloc.proofs.Exchanges.{spare_table}
-use Rattle.collector.proofs.OfSettle.TableChanges.{slot_table, exchanged_table}
+use Rattle.die_alloc.proofs.Swaps.{spare_table}
+use Rattle.collector.proofs.OfSettle.TableChanges.{slot_table, table_swapped}
 use Rattle.collector.proofs.OfErase.VictimCalls.{spare_noted, with_spare_preserves}
 
 -- what is known then matches, and nothing but the record of an open transaction changes what is preserved
-pub record Stands (s : FlashState) (n : Noted) (found : Settlement) : Type 0 where
+pub record Stands (s : FlashState) (n : IndexState) (found : Settlement) : Type 0 where
   pub matches : Matches s found.noted found.table unsure.Nothing
   pub config : found.noted.config ≡ n.config
   pub preserves : found.answer ≢ Present → Preserves n found.noted
 
 -- it is as it was
-as_before : (s : FlashState) (n : Noted) (t : BlockTable) → Matches s n t unsure.Nothing → Stands s n (unchanged n t)
+as_before : (s : FlashState) (n : IndexState) (t : BlocksState) → Matches s n t unsure.Nothing → Stands s n (unchanged n t)
 as_before s n t m = record { matches = m; config = refl; preserves = λ no_record. preserves_same n }
 
 -- the one slot that is unsure is blank still
-still_blank : (s : FlashState) (n : Noted) (t : BlockTable) (u : Unsure) → Matches s n t u → (at : ℕ) →
+still_blank : (s : FlashState) (n : IndexState) (t : BlocksState) (u : Unsure) → Matches s n t u → (at : ℕ) →
     ((slot : ℕ) → is_unsure s.shape t.spare u slot ≡ true → slot ≡ at) → note_at n.notes at ≡ Blank → slot_at s.image at ≡ blank → Matches s n t unsure.Nothing
 still_blank s n t u m at only was is =
     matches_surely s n t u m (λ slot within un. subst (IsNotedAt s.image n) (sym (only slot un)) (was ∙ ap (note_of n.config.protocol) (sym is)))
 
 -- the slot of an open transaction's record
-module _ (s : FlashState) (n : Noted) (t : BlockTable) (at : Slot) (rec : Rec) (partial : PartialWriteLaw n.config.protocol)
+module _ (s : FlashState) (n : IndexState) (t : BlocksState) (at : Slot) (rec : Rec) (partial : PartialWriteLaw n.config.protocol)
     (completing : CompletingWriteLaw n.config.protocol)
     (m : Matches s n t (unsure.Own at rec)) (take : CanTakeOwn n t rec) where
   own_within : at.0 < slots_of (shape_of n.config)
@@ -102,7 +80,7 @@ module _ (s : FlashState) (n : Noted) (t : BlockTable) (at : Slot) (rec : Rec) (
   }
 
 -- the slot of a copy
-module _ (s : FlashState) (n : Noted) (t : BlockTable) (from to : Slot) (law : CopyLaw n.config.protocol) (m : Matches s n t (unsure.Copy from to))
+module _ (s : FlashState) (n : IndexState) (t : BlocksState) (from to : Slot) (law : CopyLaw n.config.protocol) (m : Matches s n t (unsure.Copy from to))
     (answer : Settled) where
   copy_within : to.0 < slots_of s.shape
   copy_within = omega (arith, m.place.0, ap slots_of m.shape)
@@ -166,7 +144,7 @@ module _ (s : FlashState) (n : Noted) (t : BlockTable) (from to : Slot) (law : C
   }
 
 -- a block reads as it is noted
-still_noted : (s : FlashState) (n : Noted) (t : BlockTable) (u : Unsure) (m : Matches s n t u) (block : ℕ) → block < blocks_of (shape_of n.config) →
+still_noted : (s : FlashState) (n : IndexState) (t : BlocksState) (u : Unsure) (m : Matches s n t u) (block : ℕ) → block < blocks_of (shape_of n.config) →
     IsErasing s.image n block →
     ((slot : ℕ) → is_unsure s.shape t.spare u slot ≡ true → is_outside s.shape block slot ≡ false) → block_reads_as_noted n s.image block ≡ true →
     Matches s n t unsure.Nothing
@@ -176,7 +154,7 @@ still_noted s n t u m block below erasing only reads =
     (in_it (shape_of n.config) block slot (ap (λ sh. is_outside sh block slot) (sym m.shape) ∙ only slot un)))
 
 -- the spare
-module _ (s : FlashState) (n : Noted) (t : BlockTable) (law : LossLaw n.config.protocol) (m : Matches s n t unsure.SpareErase) (answer : Settled) where
+module _ (s : FlashState) (n : IndexState) (t : BlocksState) (law : LossLaw n.config.protocol) (m : Matches s n t unsure.SpareErase) (answer : Settled) where
   spare_below : t.spare < blocks_of (shape_of n.config)
   spare_below = omega (arith, m.table.spare_within, ap blocks_of m.blocks, ap blocks_of m.shape)
 
@@ -201,39 +179,39 @@ module _ (s : FlashState) (n : Noted) (t : BlockTable) (law : LossLaw n.config.p
   }
 
 -- the records of a block whose first slots hold them
-filled_held : (n : Noted) (block filled : ℕ) → IsFilledBy n block filled → records_held n block ≡ filled
+filled_held : (n : IndexState) (block filled : ℕ) → IsFilledBy n block filled → count_records n block ≡ filled
 filled_held n block filled h =
     filled_count (λ slot. holds_record (note_at n.notes slot)) (block * n.config.pages_per_block) n.config.pages_per_block filled
     (let lt = h.within in omega arith)
     (λ k lt. ap holds_record (h.records k lt).1) (λ k low lt. ap holds_record (h.tail k low lt))
 
 -- a block that is blank or lost has the same configuration
-pub changed_config : (n : Noted) (block : ℕ) (b : Bool) → (if b then erased n block else lost n block).config ≡ n.config
+pub changed_config : (n : IndexState) (block : ℕ) (b : Bool) → (if b then erased n block else lost n block).config ≡ n.config
 changed_config n block true = refl
 changed_config n block false = refl
 
 -- a collected block
-module _ (s : FlashState) (n : Noted) (t : BlockTable) (block : Block) (m : Matches s n t (unsure.VictimErase block)) where
+module _ (s : FlashState) (n : IndexState) (t : BlocksState) (block : Block) (m : Matches s n t (unsure.VictimErase block)) where
   victim_below : block.0 < blocks_of (shape_of n.config)
   victim_below = m.place.0
 
-  held : records_held n t.spare ≡ m.place.3.0
+  held : count_records n t.spare ≡ m.place.3.0
   held = filled_held n t.spare m.place.3.0 m.place.3.1
 
   -- the old spare has no more records than slots
-  pub few : records_held n t.spare ≤ n.config.pages_per_block
+  pub few : count_records n t.spare ≤ n.config.pages_per_block
   few = (let low = m.place.3.1.within in omega (arith, held, low))
 
   module _ (law : LossLaw n.config.protocol) (answer : Settled) where
     changed : (contents : Contents) (note : Note) → note ≡ note_of n.config.protocol contents → rec_of note ≡ None →
         AllOfBlock n block.0 (λ slot. slot_at s.image slot ≡ contents) →
-        Stands s n (record { noted = with_spare (blocked n block.0 note) block.0; table = exchanged t block.0 (records_held n t.spare); answer = answer })
+        Stands s n (record { noted = with_spare (blocked n block.0 note) block.0; table = swapped t block.0 (count_records n t.spare); answer = answer })
     changed contents note fits none all =
         let within : block.0 < blocks_of t.shape = omega (arith, victim_below, ap blocks_of m.blocks, ap blocks_of m.shape) in
         let per = ap (λ (x : Shape). x.pages_per_block) (m.blocks ∙ m.shape) in
-        let good = exchanged_table t m.table block.0 within m.place.1 (m.place.3).0 (let low = m.place.3.1.within in omega (arith, low, per)) in
+        let good = table_swapped t m.table block.0 within m.place.1 (m.place.3).0 (let low = m.place.3.1.within in omega (arith, low, per)) in
         record {
-          matches = subst (λ k. Matches s (with_spare (blocked n block.0 note) block.0) (exchanged t block.0 k) unsure.Nothing) (sym held)
+          matches = subst (λ k. Matches s (with_spare (blocked n block.0 note) block.0) (swapped t block.0 k) unsure.Nothing) (sym held)
               (settled_victim s n t block m law contents note fits none all m.place.3 victim_below m.place.1
               (spare_noted n.config.protocol (blocked n block.0 note) block.0 victim_below
               (block_noted n.config.protocol n m.noted law block.0 note none victim_below (can_be_lost n block.0 m.victim)))
@@ -245,7 +223,7 @@ module _ (s : FlashState) (n : Noted) (t : BlockTable) (block : Block) (m : Matc
     victim_stands : (old all : Bool) → block_reads_as_noted n s.image block.0 ≡ old → is_blank_block n s.image block.0 ≡ all →
         Stands s n (if old then unchanged n t else record {
           noted = with_spare (if all then erased n block.0 else lost n block.0) block.0;
-          table = exchanged t block.0 (records_held n t.spare);
+          table = swapped t block.0 (count_records n t.spare);
           answer = answer;
         })
     victim_stands true all old_is all_is =
@@ -258,7 +236,7 @@ module _ (s : FlashState) (n : Noted) (t : BlockTable) (block : Block) (m : Matc
 
 -- each place
 pub settled_stands : (p : Protocol) → PartialWriteLaw p → CompletingWriteLaw p → CopyLaw p → LossLaw p →
-    (s : FlashState) (n : Noted) (t : BlockTable) (u : Unsure) →
+    (s : FlashState) (n : IndexState) (t : BlocksState) (u : Unsure) →
     Matches s n t u → CanTake n t u → n.config.protocol ≡ p → Stands s n (settlement n t s.image u)
 settled_stands p partial completing copy loss s n t unsure.Nothing m take rule = as_before s n t m
 settled_stands p partial completing copy loss s n t (unsure.Own at rec) m take rule =
@@ -271,13 +249,13 @@ settled_stands p partial completing copy loss s n t (unsure.VictimErase block) m
     victim_stands s n t block m (subst LossLaw (sym rule) loss) _ (block_reads_as_noted n s.image block.0) (is_blank_block n s.image block.0) refl refl
 
 -- the records are those of the image
-pub settled_records : (p : Protocol) (s : FlashState) (n : Noted) (found : Settlement) → Stands s n found → n.config.protocol ≡ p →
+pub settled_records : (p : Protocol) (s : FlashState) (n : IndexState) (found : Settlement) → Stands s n found → n.config.protocol ≡ p →
     records_in p s.image ≡ found_in found.noted.notes
 settled_records p s n found h rule =
     ap (λ q. records_in q s.image) (sym rule ∙ sym (ap (λ (c : Config). c.protocol) h.config)) ∙ sym (same_records s found.noted found.table h.matches)
 
 -- so are the current versions
-pub settled_current : (p : Protocol) (s : FlashState) (n : Noted) (found : Settlement) → Stands s n found → n.config.protocol ≡ p → (page : ℕ) →
+pub settled_current : (p : Protocol) (s : FlashState) (n : IndexState) (found : Settlement) → Stands s n found → n.config.protocol ≡ p → (page : ℕ) →
     current_in p n.config.logical s.image page ≡ current_of found.noted page
 unfolding current_in current_of
 settled_current p s n found h rule page =
@@ -286,7 +264,7 @@ settled_current p s n found h rule page =
     ∙ ap (λ (c : Config). cur c.protocol (found_in found.noted.notes) c.logical page) (sym h.config)
 
 -- and the array
-pub settled_array : (p : Protocol) (s : FlashState) (n : Noted) (found : Settlement) → Stands s n found → n.config.protocol ≡ p →
+pub settled_array : (p : Protocol) (s : FlashState) (n : IndexState) (found : Settlement) → Stands s n found → n.config.protocol ≡ p →
     array_in p n.config.logical s.image ≡ array_known found.noted s.image
 settled_array p s n found h rule =
     ap (λ (c : Config). array_in p c.logical s.image) (sym h.config)
@@ -294,7 +272,7 @@ settled_array p s n found h rule =
     (λ page within. ap (λ (c : Config). current_in p c.logical s.image page) h.config ∙ settled_current p s n found h rule page)
 
 -- where the current versions stay, it is the array that was known
-pub settled_kept : (p : Protocol) (s : FlashState) (n : Noted) (found : Settlement) → Stands s n found → n.config.protocol ≡ p → Preserves n found.noted →
+pub settled_kept : (p : Protocol) (s : FlashState) (n : IndexState) (found : Settlement) → Stands s n found → n.config.protocol ≡ p → Preserves n found.noted →
     array_in p n.config.logical s.image ≡ array_known n s.image
 settled_kept p s n found h rule kept =
     array_is_known p n s.image rule (λ page within. settled_current p s n found h rule page ∙ kept.current page within)

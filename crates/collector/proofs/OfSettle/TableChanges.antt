@@ -1,18 +1,13 @@
 -- Each change of a block table leaves one.
-use Rattle.std.proofs.Common.{◌≡◌, ◌≢◌, ◌⊎◌, ℕ, ◌+◌, ◌%◌, ◌<◌, ◌≤◌, Bool, true, false, eq-eqb, eqb-true, if◌then◌else◌, inl}
-use Rattle.std.proofs.Common.{inr, arith}
-use Rattle.std.specs.Prelude.{◌==◌}
+use Rattle.collector.proofs.Common.{◌≡◌, ◌≢◌, ◌⊎◌, ℕ, ◌+◌, ◌%◌, ◌<◌, ◌≤◌, Bool, true, false, eq-eqb, eqb-true, if◌then◌else◌, inl, inr, arith, ◌==◌, cases_Bool, blocks_of, Spare, Part, BlocksState, IsBlocksState, IsFree, block_of_slot, with_slot, has_room_not_spare, swapped, open_state}
 use Rattle.std.proofs.Math.Nat.{mod-lt}
-use Rattle.std.proofs.lemmas.Bool.{cases_Bool}
-use Rattle.tx_types.specs.Config.{blocks_of}
-use Rattle.tx_types.specs.declared.config.BlockState.TheVariants.{Spare, Part, Shut}
-use Rattle.die_alloc.specs.BlockTable.{BlockTable, IsBlockTable, MayHave, IsFree, block_of_slot, with_slot}
-use Rattle.die_alloc.proofs.Changes.{block_within, has_room_not_spare}
-use Rattle.die_alloc.proofs.Exchanges.{use_table, swapped_table}
-use Rattle.collector.specs.Collecting.{exchanged, open_state}
+use Rattle.tx_types.specs.declared.config.BlockState.TheVariants.{Shut}
+use Rattle.die_alloc.specs.BlocksState.{MayHave}
+use Rattle.die_alloc.proofs.Changes.{block_within}
+use Rattle.die_alloc.proofs.Swaps.{use_table, swapped_table}
 
 -- the slots of a block up to one that was free are used
-pub slot_table : (t : BlockTable) → IsBlockTable t → (at : ℕ) → IsFree t at → IsBlockTable (with_slot t at)
+pub slot_table : (t : BlocksState) → IsBlocksState t → (at : ℕ) → IsFree t at → IsBlocksState (with_slot t at)
 slot_table t h at free =
     let within = block_within t h at free.within in
     let least = h.numbers.pages_least in
@@ -54,9 +49,9 @@ may_open pages used within = by (cases_Bool (used == 0)) (cases_Bool (used == pa
         rw (some, more) ((λ e. cc), (omega (arith, one), omega (arith, within, other)))
 
 -- and the old spare has so many used slots
-pub exchanged_table : (t : BlockTable) → IsBlockTable t → (block : ℕ) → block < blocks_of t.shape → block ≢ t.spare → (used : ℕ) →
+pub table_swapped : (t : BlocksState) → IsBlocksState t → (block : ℕ) → block < blocks_of t.shape → block ≢ t.spare → (used : ℕ) →
     used ≤ t.shape.pages_per_block →
-    IsBlockTable (exchanged t block used)
-exchanged_table t h block within apart used most =
+    IsBlocksState (swapped t block used)
+table_swapped t h block within apart used most =
     let may = may_open t.shape.pages_per_block used most in
     swapped_table t h block (open_state t.shape.pages_per_block used) used within apart may.0 may.1

@@ -2,7 +2,7 @@
 
 ghost use Rattle.std.specs.Prelude.{◌≡◌, Ok};
 ghost use Rattle.tx_types.specs.Config.{checked, shape_of};
-ghost use Rattle.mem_flash.specs.Memory.{state_of};
+ghost use Rattle.mem_flash.specs.MemFlashState.{state_of};
 ghost use Rattle.collector.specs.Matches.{Matches};
 
 use super::pictures::{write_array, write_picture};

@@ -2,15 +2,15 @@
 
 ghost use Rattle.std.specs.Prelude.{◌≡◌, ◌<◌, IfSome, IsTrue, Ok};
 ghost use Rattle.tx_types.specs.Config.{checked, shape_of, blocks_of};
-ghost use Rattle.version_index.specs.Noted.{Noted};
-ghost use Rattle.die_alloc.specs.BlockTable.{BlockTable};
-ghost use Rattle.mem_flash.specs.Memory.{state_of};
+ghost use Rattle.version_index.specs.IndexState.{IndexState};
+ghost use Rattle.die_alloc.specs.BlocksState.{BlocksState};
+ghost use Rattle.mem_flash.specs.MemFlashState.{state_of};
 ghost use Rattle.collector.specs.Collecting.{HasUnneeded};
 ghost use Rattle.collector.specs.Matches.{Matches, CanTake};
 
 use crate::building::has_block;
 use crate::texts::{number, number_or_zero, outcome, word};
-use collector::{Settled, Unsure, clean_spare, collect, laws, settle, victim};
+use collector::{Settled, Unsure, clean_spare, collect, settle, theorems, victim};
 use die_alloc::Blocks;
 use flash_model::{Arms, Flash, Power};
 use mem_flash::MemFlash;
@@ -37,7 +37,7 @@ pub fn opened<R: CommitRule>(alloc: Global, mut flash: MemFlash, config: Config)
         Matches (state_of kept.flash) kept.index kept.blocks kept.unsure) }
     ensures config { IfSome result (λ kept. kept.index.config ≡ config) }
 {
-    laws::opened_tables_match();
+    theorems::opened_tables_match();
     // The proof reads from this use that the flash is whole.
     let _ = flash.shape();
     match recover::<MemFlash, R>(alloc, &mut flash, config) {
@@ -67,7 +67,7 @@ pub fn is_sure(unsure: Unsure) -> bool
 
 /// Whether it is not the program of a transaction's record that was broken.
 fn is_collection(unsure: Unsure) -> bool
-    ensures { IsTrue result → (n : Noted) (t : BlockTable) → CanTake n t unsure }
+    ensures { IsTrue result → (n : IndexState) (t : BlocksState) → CanTake n t unsure }
 {
     match unsure {
         Unsure::Own { .. } => false,
@@ -242,7 +242,7 @@ fn reopen<R: CommitRule>(alloc: Global, kept: &mut Kept<R>) -> char
         kept.new.index kept.new.blocks kept.new.unsure }
     ensures config { kept.new.index.config ≡ kept.old.index.config }
 {
-    laws::opened_tables_match();
+    theorems::opened_tables_match();
     kept.flash.power_on();
     let config = kept.index.config();
     let Ok((index, blocks)) = recover::<MemFlash, R>(alloc, &mut kept.flash, config) else {

@@ -4,7 +4,7 @@ ghost use Rattle.std.specs.Prelude.{◌≡◌, ◌<◌, [], ◌∷◌, length, m
 ghost use Rattle.tx_types.specs.Config.{checked, shape_of, slots_of};
 ghost use Rattle.version_index.specs.declared.note.Note.TheVariants as note;
 ghost use Rattle.version_index.specs.Notes.{note_at, found_in, complete_slots};
-ghost use Rattle.version_index.specs.Noted.{IsNextRecord, IsCompleteCycle};
+ghost use Rattle.version_index.specs.IndexState.{IsNextRecord, IsCompleteCycle};
 
 use super::lines::wrong_line;
 use crate::building::{BACK_POINTER, found, has_slot, is_scanned, rec, slot_count};

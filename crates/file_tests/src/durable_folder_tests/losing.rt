@@ -48,7 +48,7 @@ pub enum Setting {
 /// A folder in memory that loses power. It keeps what each name and each file had since they were
 /// synced. The name `link` is a link to `f`.
 #[derive(Drop)]
-pub struct LosingFolder {
+pub struct CrashingFolder {
     alloc: Global,
     names: Vec<Name>,
     /// The contents of each file, the newest last.
@@ -68,7 +68,7 @@ pub struct LosingFolder {
     pub is_unsynced: bool,
 }
 
-impl LosingFolder {
+impl CrashingFolder {
     /// An empty folder, in which the call of this number fails in this way, and all later ones where power
     /// is lost.
     pub fn new(
@@ -77,8 +77,8 @@ impl LosingFolder {
         fails: u32,
         kind: ErrorKind,
         is_cut: bool,
-    ) -> LosingFolder {
-        LosingFolder {
+    ) -> CrashingFolder {
+        CrashingFolder {
             alloc,
             names: Vec::new(alloc),
             files: Vec::new(alloc),

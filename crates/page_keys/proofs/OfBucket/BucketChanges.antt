@@ -1,16 +1,7 @@
 -- The entries of a page after the changes of a put.
-use Rattle.std.proofs.Common.{◌≡◌, ℕ, Bool, true, false, not, cond, List, [], ◌∷◌, filter, Option, Some, None, sym, ap, subst, ◌∙◌}
-use Rattle.std.specs.List.{AllByRecursion}
-use Rattle.std.specs.Ordering.{eq_by_cmp}
-use Rattle.std.specs.declared.cmp.Ordering.TheVariants.{Less, Equal, Greater}
+use Rattle.page_keys.proofs.Common.{◌≡◌, ℕ, Bool, true, false, not, cond, List, [], ◌∷◌, filter, Option, Some, None, sym, ap, subst, ◌∙◌, AllByRecursion, eq_by_cmp, Less, Equal, Greater, Config, IsEntry, HoldsEntries, IsBucketOf, with_pair, changed, KeyMap, Pair, key_order, apply, part, of_page, IsKeyChange, Change}
 use Rattle.std.specs.FinMap as keys
 use Rattle.std.specs.FinMap.Entries as sorted
-use Rattle.tx_types.specs.declared.config.Config.{Config}
-use Rattle.page_keys.specs.Buckets.{IsEntry, HoldsEntries, IsBucketOf}
-use Rattle.page_keys.specs.Entries.{with_pair, changed}
-use Rattle.page_keys.specs.KeyMaps.{KeyMap, Pair, key_order, after, part, of_page}
-use Rattle.page_keys.specs.Puts.{IsKeyChange}
-use Rattle.page_keys.specs.declared.changes.Change.{Change}
 use Rattle.page_keys.proofs.OfBucket.Parts.{entries_change}
 use Rattle.page_keys.proofs.OfBucket.Spelling.{one_list}
 
@@ -65,13 +56,13 @@ module _ (its : Config) (m : KeyMap) (cs : List Change) (page : ℕ)
   pub merged_are : (pairs merged : List Pair) →
       IsBucketOf its.page_bytes its.logical page bytes pairs →
       merged ≡ changed pairs (of_page its.logical page cs) →
-      merged ≡ keys.entries (part its.logical page (after m cs))
+      merged ≡ keys.entries (part its.logical page (apply m cs))
   merged_are pairs merged is made =
       made ∙ ap (λ (l : List Pair). changed l (of_page its.logical page cs)) (read_are pairs is)
       ∙ sym (entries_change its.logical page m cs)
 
   pub each_after : AllByRecursion IsKeyChange (of_page its.logical page cs) →
-      AllByRecursion IsEntry (keys.entries (part its.logical page (after m cs)))
+      AllByRecursion IsEntry (keys.entries (part its.logical page (apply m cs)))
   each_after valid =
       subst (AllByRecursion IsEntry) (sym (entries_change its.logical page m cs))
       (each_changed _ _ valid shows.each)

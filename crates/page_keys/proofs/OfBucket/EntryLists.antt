@@ -1,24 +1,15 @@
 -- A change of a key in a list of entries in ascending order.
-use Rattle.std.proofs.Common.{◌≡◌, ◌≢◌, ℕ, suc, ◌+◌, ◌<◌, Bool, true, false, not, ◌&&◌, List, [], ◌∷◌, ◌++◌, length, take, drop, set, Option, Some, None, ◌==◌}
-use Rattle.std.proofs.Common.{IsTrue, get_or, refl, sym, ap, subst, ◌∙◌, arith, length-take}
+use Rattle.page_keys.proofs.Common.{◌≡◌, ◌≢◌, ℕ, suc, ◌+◌, ◌<◌, Bool, true, false, not, ◌&&◌, List, [], ◌∷◌, ◌++◌, length, take, drop, set, Option, Some, None, ◌==◌, IsTrue, get_or, refl, sym, ap, subst, ◌∙◌, arith, length-take, eq_by_cmp, is_lt, Ordering, Less, Equal, Greater, nat_list_cmp_total, slice_cmp-IsAntisymmetric, nat_cmp-IsAntisymmetric, nat_tests, take-append-drop, take_more, drop-cons, take-append_seam, drop-append_seam, changes_of, Pair, key_order, is_ascending, is_in, bucket_of, Change, with_pair, changed, AreBelow}
 use Rattle.std.specs.List.{insert, remove}
-use Rattle.std.specs.Ordering.{eq_by_cmp, is_lt, ordering_reverse}
-use Rattle.std.specs.declared.cmp.Ordering.{Ordering}
-use Rattle.std.specs.declared.cmp.Ordering.TheVariants.{Less, Equal, Greater}
+use Rattle.std.specs.Ordering.{ordering_reverse}
 use Rattle.std.specs.Cmp.{tied_itself}
-use Rattle.std.specs.Cmp.Lexicographic.{nat_list_cmp_total}
-use Rattle.std.specs.FinMap.{slice_cmp-IsAntisymmetric, nat_cmp-IsAntisymmetric}
 use Rattle.std.specs.FinMap.Entries as sorted
 use Rattle.std.specs.FinMap.Entries.{is_sorted-put, is_sorted-where_key}
 use lib.Dec.{T}
-use Rattle.std.proofs.lemmas.Bool.Decides.{nat_tests}
-use Rattle.std.proofs.lemmas.List.{take-append-drop, take_more, map-append}
-use Rattle.std.proofs.Math.Seq.{drop-cons}
-use Rattle.std.proofs.Math.Seq.{set-append_seam, take-append_seam, drop-append_seam, drop-append-add}
-use Rattle.page_keys.specs.Groups.{Placed, changes_of}
-use Rattle.page_keys.specs.KeyMaps.{Pair, key_order, is_ascending, is_in, bucket_of}
-use Rattle.page_keys.specs.declared.changes.Change.{Change}
-use Rattle.page_keys.specs.Entries.{with_pair, changed, AreBelow, BeginsAbove, IsFoundAt, IsGapAt}
+use Rattle.std.proofs.lemmas.List.{map-append}
+use Rattle.std.proofs.Math.Seq.{set-append_seam, drop-append-add}
+use Rattle.page_keys.specs.Groups.{Placed}
+use Rattle.page_keys.specs.Entries.{BeginsAbove, IsFoundAt, IsGapAt}
 
 pub first_of : (a b : Bool) → (a && b) ≡ true → a ≡ true
 first_of true b h = refl

@@ -1,23 +1,13 @@
 -- The keys of a page, after changes.
-use Rattle.std.proofs.Common.{◌≡◌, ℕ, Bool, true, false, not, cond, List, [], ◌∷◌, Option, Some, None, refl, sym, ap, subst, ◌∙◌}
-use Rattle.std.specs.Ordering.{eq_by_cmp, is_eq}
-use Rattle.std.specs.declared.cmp.Ordering.{Ordering}
-use Rattle.std.specs.declared.cmp.Ordering.TheVariants.{Less, Equal, Greater}
+use Rattle.page_keys.proofs.Common.{◌≡◌, ℕ, Bool, true, false, not, cond, List, [], ◌∷◌, Option, Some, None, refl, sym, ap, subst, ◌∙◌, eq_by_cmp, is_eq, Ordering, Less, Equal, Greater, nat_list_cmp_total, slice_cmp-IsAntisymmetric, nat_cmp-IsAntisymmetric, KeyMap, Pair, key_order, apply, part, is_in, of_page, AllByRecursion, Config, Pages, AreOfPage, AreBuckets, EncodesMap, with_pair, changed, Change}
 use Rattle.std.specs.Cmp.{eq_by_cmp_equiv}
-use Rattle.std.specs.Cmp.Lexicographic.{nat_list_cmp_total}
-use Rattle.std.specs.FinMap.{slice_cmp-IsAntisymmetric, nat_cmp-IsAntisymmetric, same_map, entries-insert, entries_sorted, from_sorted, get-insert, get-remove}
+use Rattle.std.specs.FinMap.{same_map, entries-insert, entries_sorted, from_sorted, get-insert, get-remove}
 use Rattle.std.specs.FinMap.{get-from_sorted, get-entries, get-retain_keys, entries-from_sorted, IsAntisymmetric}
 use Rattle.std.specs.FinMap as keys
 use Rattle.std.specs.FinMap.Entries as sorted
 use Rattle.std.specs.FinMap.Entries.{is_sorted-where_key, find-where_key}
-use Rattle.page_keys.specs.KeyMaps.{KeyMap, Pair, key_order, with_value, after, part, is_in, of_page}
-use Rattle.std.specs.List.{AllByRecursion}
-use Rattle.tx_types.specs.declared.config.Config.{Config}
-use Rattle.tx_engine.specs.ArrayState.{Pages}
-use Rattle.page_keys.specs.Buckets.{AreOfPage, AreBuckets, ShowsMap}
-use Rattle.page_keys.specs.Entries.{with_pair, changed}
+use Rattle.page_keys.specs.KeyMaps.{with_value}
 use Rattle.page_keys.proofs.OfBucket.EntryLists.{true_of}
-use Rattle.page_keys.specs.declared.changes.Change.{Change}
 
 pub only_equal : IsAntisymmetric key_order
 only_equal = slice_cmp-IsAntisymmetric nat_cmp-IsAntisymmetric
@@ -123,25 +113,25 @@ module _ (logical page : ℕ) where
 
   part_more : (m : KeyMap) (c : Change) (cs : List Change) (b : Bool) →
       is_in logical page c.key ≡ b →
-      after (part logical page (with_value m c.key c.value)) (of_page logical page cs)
-      ≡ after (part logical page m) (of_page logical page (c ∷ cs))
+      apply (part logical page (with_value m c.key c.value)) (of_page logical page cs)
+      ≡ apply (part logical page m) (of_page logical page (c ∷ cs))
   part_more m c cs true is =
-      ap (λ (n : KeyMap). after n (of_page logical page cs)) (part_inside m c.key c.value is)
+      ap (λ (n : KeyMap). apply n (of_page logical page cs)) (part_inside m c.key c.value is)
       ∙ rw is refl
   part_more m c cs false is =
-      ap (λ (n : KeyMap). after n (of_page logical page cs)) (part_outside m c.key c.value is)
+      ap (λ (n : KeyMap). apply n (of_page logical page cs)) (part_outside m c.key c.value is)
       ∙ rw is refl
 
   -- parts change: the keys of a page after all changes are those after the changes of the page
   pub parts_change : (m : KeyMap) (cs : List Change) →
-      part logical page (after m cs) ≡ after (part logical page m) (of_page logical page cs)
+      part logical page (apply m cs) ≡ apply (part logical page m) (of_page logical page cs)
   parts_change m [] = refl
   parts_change m (c ∷ cs) =
       parts_change (with_value m c.key c.value) cs
       ∙ part_more m c cs (is_in logical page c.key) refl
 
 entries_after : (m : KeyMap) (cs : List Change) →
-    keys.entries (after m cs) ≡ changed (keys.entries m) cs
+    keys.entries (apply m cs) ≡ changed (keys.entries m) cs
 entries_after m [] = refl
 entries_after m (c ∷ cs) =
     entries_after (with_value m c.key c.value) cs
@@ -149,7 +139,7 @@ entries_after m (c ∷ cs) =
 
 -- the entries of a page after changes are the old ones with the changes of the page
 pub entries_change : (logical page : ℕ) (m : KeyMap) (cs : List Change) →
-    keys.entries (part logical page (after m cs))
+    keys.entries (part logical page (apply m cs))
     ≡ changed (keys.entries (part logical page m)) (of_page logical page cs)
 entries_change logical page m cs =
     ap keys.entries (parts_change logical page m cs)
@@ -219,7 +209,7 @@ part_of_page logical page m = record {
 }
 
 -- pages that show a map are buckets
-pub shown_buckets : (its : Config) (pages : Pages) (m : KeyMap) → ShowsMap its pages m →
+pub shown_buckets : (its : Config) (pages : Pages) (m : KeyMap) → EncodesMap its pages m →
     AreBuckets its pages
 shown_buckets its pages m shows page exists = (
   keys.entries (part its.logical page m),

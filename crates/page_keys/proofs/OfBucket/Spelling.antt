@@ -1,11 +1,7 @@
 -- The bytes of entries tell the entries.
-use Rattle.std.proofs.Common.{◌≡◌, ◌≢◌, ℕ, zero, suc, ◌-◌, ◌≤◌, List, [], ◌∷◌, ◌++◌, length, take, drop, get_or, replicate, flat_map, refl, sym, ap, ◌∙◌, arith}
-use Rattle.std.proofs.Common.{length-append, append_assoc}
-use Rattle.std.specs.List.{AllByRecursion}
+use Rattle.page_keys.proofs.Common.{◌≡◌, ◌≢◌, ℕ, zero, suc, ◌-◌, ◌≤◌, List, [], ◌∷◌, ◌++◌, length, take, drop, get_or, replicate, flat_map, refl, sym, ap, ◌∙◌, arith, length-append, append_assoc, AllByRecursion, take-append_seam, drop-append_seam, Pair, entry_bytes, IsEntry, HoldsEntries}
 use Rattle.std.proofs.lemmas.Grind.{common_steps}
-use Rattle.std.proofs.Math.Seq.{take-append_seam, drop-append_seam}
-use Rattle.page_keys.specs.KeyMaps.{Pair}
-use Rattle.page_keys.specs.Buckets.{padded_short, entry_bytes, IsEntry, HoldsEntries}
+use Rattle.page_keys.specs.Buckets.{padded_short}
 
 -- two parts of equal length are equal where the whole is
 pub parts_equal : (a b c d : List ℕ) → length a ≡ length b → a ++ c ≡ b ++ d → (a ≡ b) × (c ≡ d)

@@ -1,20 +1,15 @@
 -- The key that digits tell.
-use Rattle.std.proofs.Common.{◌≡◌, ◌≢◌, ℕ, ◌/◌, ◌<◌, ◌≤◌, ◌⊎◌, inl, inr, Bool, true, false, ◌&&◌, if◌then◌else◌, List, [], ◌∷◌, ◌++◌, length, take, Option}
-use Rattle.std.proofs.Common.{Some, None, Result, Ok, Err, refl, sym, ap, subst, ◌∙◌, arith, nat_le, codes}
-use Rattle.std.specs.Prelude.{IsErr, IfSome}
+use Rattle.page_keys.proofs.Common.{◌≡◌, ◌≢◌, ℕ, ◌<◌, ◌≤◌, ◌⊎◌, inl, inr, Bool, true, false, ◌&&◌, if◌then◌else◌, List, [], ◌∷◌, ◌++◌, length, take, Option, Some, None, Result, Ok, Err, refl, sym, ap, subst, ◌∙◌, arith, nat_le, IsErr, IfSome, bytes_eq, nat_tests, take-append_seam, IsKeyChange, change_of, Change}
+use Rattle.std.proofs.Common.{◌/◌}
+use Rattle.std.proofs.Common.{codes}
 use Rattle.std.specs.List.{slice_split}
 use Rattle.std.specs.Option.{option_and_then, option_map}
 use Rattle.std.specs.Result.{result_ok}
-use Rattle.std.specs.Str.{bytes_eq}
-use Rattle.std.proofs.lemmas.Bool.Decides.{nat_tests}
-use Rattle.std.proofs.Math.Seq.{take-append_seam}
 use Rattle.hex.specs.Hex.{decode_of}
 use Rattle.hex.specs.declared.error.FromHexError.{FromHexError}
 use Rattle.hex.proofs.HexLemmas.{decode_of-ok}
 use Rattle.host_protocol.specs.Commands.{is_equals}
-use Rattle.page_keys.specs.Puts.{IsKeyChange}
-use Rattle.page_keys.specs.Scripts.{key_of, new_value_of, change_of, change_from, change_of_texts, short_from}
-use Rattle.page_keys.specs.declared.changes.Change.{Change}
+use Rattle.page_keys.specs.Scripts.{key_of, new_value_of, change_from, change_of_texts, short_from}
 
 short_in : (bytes : List ℕ) → 1 ≤ length bytes → length bytes ≤ 15 → short_from bytes ≡ Some bytes
 short_in bytes least most =

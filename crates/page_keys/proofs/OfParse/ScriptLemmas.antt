@@ -1,29 +1,24 @@
 -- How the commands of a key script grow, line by line.
-use Rattle.std.proofs.Common.{◌≡◌, ℕ, ◌+◌, ◌-◌, ◌<◌, ◌≤◌, ◌^◌, ◌⊎◌, inl, inr, Bool, true, false, cond, ◌==◌, List, [], ◌∷◌, ◌++◌, length, map, take, drop, refl}
-use Rattle.std.proofs.Common.{sym, ap, subst, ◌∙◌, arith, Option, Some, None, length-append, length-take}
-use Rattle.std.specs.Prelude.{filter, position, slice_index, sum, All, IfNone, IfSome}
-use Rattle.std.specs.List.{AllZip, AllByRecursion}
+use Rattle.page_keys.proofs.Common.{◌≡◌, ℕ, ◌+◌, ◌-◌, ◌<◌, ◌≤◌, ◌⊎◌, inl, inr, Bool, true, false, cond, ◌==◌, List, [], ◌∷◌, ◌++◌, length, map, take, drop, refl, sym, ap, subst, ◌∙◌, arith, Option, Some, None, length-append, length-take, IfSome, AllByRecursion, append-nil, take-append-drop, take-length, lines_of, IsKeyChange, change_of, Change, KeyCommand}
+use Rattle.std.proofs.Common.{◌^◌}
+use Rattle.std.specs.Prelude.{filter, position, slice_index, sum, All, IfNone}
+use Rattle.std.specs.List.{AllZip}
 use Rattle.std.specs.Option.{option_to_list}
 use Rattle.std.specs.Str.Lines.{strip_carriage_return}
-use Rattle.std.proofs.lemmas.List.{append-nil, take-append-drop}
-use Rattle.std.proofs.Math.Seq.{take-length}
 use Rattle.std.proofs.lemmas.Bool.{cases_order}
 use Rattle.std.proofs.lemmas.List.Elements.{filter-append, All-push}
-use Rattle.list_facts.proofs.Lists.{Next, take_shorter, same_somes}
-use Rattle.list_facts.proofs.Pairs.{zip_front, zip_same, zip_push}
+use Rattle.list_lemmas.proofs.Lists.{Next, take_shorter, same_somes}
+use Rattle.list_lemmas.proofs.Pairs.{zip_front, zip_same, zip_push}
 use Rattle.host_protocol.specs.declared.command.Command.TheVariants as host
 use Rattle.host_protocol.specs.Files.{AreGoodLines, is_command_line}
-use Rattle.host_protocol.specs.Lines.{lines_of, is_line_feed}
+use Rattle.host_protocol.specs.Lines.{is_line_feed}
 use Rattle.host_protocol.specs.declared.file.TheConstants.{MAX_COMMANDS}
 use Rattle.host_protocol.proofs.CommandLemmas.{same_arm}
 use Rattle.host_protocol.proofs.CommandLemmas.{suits as host_suits}
 use Rattle.host_protocol.proofs.LineLemmas.{line_first, line_last, lines_none}
-use Rattle.page_keys.specs.Puts.{IsKeyChange}
-use Rattle.page_keys.specs.Scripts.{IsKeyCommand, AreKeyOperands, AreKeyCommands, IsScript, IsFirstBadScriptLine, SuitsKeys, change_of, key_of, verb_of}
+use Rattle.page_keys.specs.Scripts.{IsKeyCommand, AreKeyOperands, AreKeyCommands, IsScript, IsFirstBadScriptLine, SuitsKeys, key_of, verb_of}
 use Rattle.page_keys.specs.Scripts.{word_of}
 use Rattle.page_keys.specs.ScriptReading.{AddsKeyCommand, AddsNoKeyCommand, EndsAt, HasFewChanges, text_error}
-use Rattle.page_keys.specs.declared.changes.Change.{Change}
-use Rattle.page_keys.specs.declared.command.KeyCommand.{KeyCommand}
 use Rattle.page_keys.specs.declared.command.KeyCommand.TheVariants as command
 use Rattle.page_keys.specs.declared.key_verb.KeyVerb.{KeyVerb}
 use Rattle.page_keys.specs.declared.key_verb.KeyVerb.TheVariants as verb

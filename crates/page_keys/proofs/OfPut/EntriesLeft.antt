@@ -1,21 +1,14 @@
 -- Reading the entries of a page, one after another.
-use Rattle.std.proofs.Common.{◌≡◌, ◌≢◌, ℕ, suc, ◌+◌, ◌-◌, ◌*◌, ◌<◌, ◌≤◌, Bool, true, false, ◌&&◌, ◌==◌, List, [], ◌∷◌, ◌++◌, length, take, drop, get_or}
-use Rattle.std.proofs.Common.{replicate, flat_map, ◌⊎◌, inl, inr, eqb, Some, IsTrue, refl, sym, ap, subst, ◌∙◌, arith, length-append, append_assoc}
-use Rattle.std.specs.List.{AllByRecursion}
-use Rattle.std.specs.Ordering.{is_lt, is_eq, ordering_index}
-use Rattle.std.specs.declared.cmp.Ordering.{Ordering}
-use Rattle.std.specs.declared.cmp.Ordering.TheVariants.{Less, Equal, Greater}
+use Rattle.page_keys.proofs.Common.{◌≡◌, ◌≢◌, ℕ, suc, ◌+◌, ◌-◌, ◌<◌, ◌≤◌, Bool, true, false, ◌&&◌, ◌==◌, List, [], ◌∷◌, ◌++◌, length, take, drop, get_or, replicate, flat_map, ◌⊎◌, inl, inr, Some, IsTrue, refl, sym, ap, subst, ◌∙◌, arith, length-append, append_assoc, AllByRecursion, is_lt, is_eq, Ordering, Less, Equal, Greater, nat_list_cmp_total, slice_cmp-IsAntisymmetric, nat_cmp-IsAntisymmetric, take-append_seam, drop-append_seam, take-length, take_more, Pair, key_order, is_ascending, value_of, is_in, entry_bytes, IsEntry, AreOfPage, IsBucketOf, IsBucket}
+use Rattle.std.proofs.Common.{◌*◌}
+use Rattle.std.proofs.Common.{eqb}
+use Rattle.std.specs.Ordering.{ordering_index}
 use Rattle.std.specs.Cmp.{tied_itself}
-use Rattle.std.specs.Cmp.Lexicographic.{nat_list_cmp_total}
-use Rattle.std.specs.FinMap.{slice_cmp-IsAntisymmetric, nat_cmp-IsAntisymmetric}
 use Rattle.std.specs.FinMap.Entries as sorted
-use Rattle.std.proofs.Math.Seq.{take-append_seam, drop-append_seam, take-length}
-use Rattle.std.proofs.lemmas.List.{take_more}
 use Rattle.std.proofs.lemmas.Slice.Eq.{slice_eq-Decides}
 use Rattle.std.proofs.lemmas.Bool.Decides.{Decides-eqb}
 use Rattle.std.specs.Cmp.Lexicographic.{pointwise}
-use Rattle.page_keys.specs.KeyMaps.{Pair, key_order, is_ascending, value_of, is_in}
-use Rattle.page_keys.specs.Buckets.{padded_short, entry_bytes, IsEntry, AreOfPage, IsBucketOf, IsBucket}
+use Rattle.page_keys.specs.Buckets.{padded_short}
 use Rattle.page_keys.proofs.OfBucket.EntryLists.{first_of, second_of, both_of}
 use Rattle.page_keys.proofs.OfBucket.Spelling.{length_short, length_entry, entry_equal, goes_on, GoesOn, length_zeros, first_zero}
 

@@ -1,19 +1,9 @@
 -- There is a map that buckets show.
-use Rattle.std.proofs.Common.{◌≡◌, ◌≢◌, ℕ, zero, suc, ◌<◌, ◌≤◌, true, false, List, [], ◌∷◌, ◌++◌, Some, IsTrue, refl, sym, ap, subst, ◌∙◌, inl, inr, arith}
-use Rattle.std.proofs.Common.{append_assoc}
-use Rattle.std.proofs.lemmas.List.{append-nil}
-use Rattle.std.specs.List.{AllByRecursion}
-use Rattle.std.specs.declared.cmp.Ordering.TheVariants.{Less}
+use Rattle.page_keys.proofs.Common.{◌≡◌, ◌≢◌, ℕ, zero, suc, ◌<◌, ◌≤◌, true, false, List, [], ◌∷◌, ◌++◌, Some, IsTrue, refl, sym, ap, subst, ◌∙◌, inl, inr, arith, append_assoc, append-nil, AllByRecursion, Less, nat_tests, Config, Pages, page_at, AreBuckets, EncodesMap, HoldsEntries, encodes, AreBelow, changed, KeyMap, Pair, key_order, is_ascending, apply, part, is_in, of_page, bucket_of, Change}
 use Rattle.std.specs.FinMap as keys
 use Rattle.std.specs.FinMap.{empty}
 use Rattle.std.specs.FinMap.Entries as sorted
-use Rattle.std.proofs.lemmas.Bool.Decides.{nat_tests, eqb_tells}
-use Rattle.tx_types.specs.declared.config.Config.{Config}
-use Rattle.tx_engine.specs.ArrayState.{Pages, page_at}
-use Rattle.page_keys.specs.Buckets.{AreBuckets, ShowsMap, HoldsEntries, shown}
-use Rattle.page_keys.specs.Entries.{AreBelow, changed}
-use Rattle.page_keys.specs.KeyMaps.{KeyMap, Pair, key_order, is_ascending, after, part, is_in, of_page, bucket_of}
-use Rattle.page_keys.specs.declared.changes.Change.{Change}
+use Rattle.std.proofs.lemmas.Bool.Decides.{eqb_tells}
 use Rattle.page_keys.proofs.OfBucket.EntryLists.{first_of, second_of, put_past}
 use Rattle.page_keys.proofs.OfPut.EntriesLeft.{is_less}
 use Rattle.page_keys.proofs.OfBucket.Parts.{entries_change, part_of_empty}
@@ -72,7 +62,7 @@ module _ (logical page : ℕ) where
 -- a map whose keys are those of the first pages
 record ShowsFirst (its : Config) (pages : Pages) (n : ℕ) (m : KeyMap) : Type 0 where
   first : (q : ℕ) → q < n → HoldsEntries its.page_bytes
-      (shown its.page_bytes (page_at pages q)) (keys.entries (part its.logical q m))
+      (encodes its.page_bytes (page_at pages q)) (keys.entries (part its.logical q m))
   others : (q : ℕ) → n ≤ q → keys.entries (part its.logical q m) ≡ []
 
 shows_first : (its : Config) (pages : Pages) → AreBuckets its pages → (n : ℕ) → n ≤ its.logical →
@@ -91,27 +81,27 @@ shows_first its pages buckets (suc n) most =
     let es = bucket.0 in
     let its_keys = bucket.1.its in
     let other : (q : ℕ) → q ≢ n →
-    keys.entries (part its.logical q (after m (puts_of es)))
+    keys.entries (part its.logical q (apply m (puts_of es)))
     ≡ keys.entries (part its.logical q m) = λ q apart.
     entries_change its.logical q m (puts_of es)
     ∙ ap (changed (keys.entries (part its.logical q m)))
     (of_none its.logical n q apart es its_keys.belong) in
-    let own : keys.entries (part its.logical n (after m (puts_of es))) ≡ es =
+    let own : keys.entries (part its.logical n (apply m (puts_of es))) ≡ es =
     entries_change its.logical n m (puts_of es)
     ∙ ap (changed (keys.entries (part its.logical n m))) (of_all its.logical n es its_keys.belong)
     ∙ ap (λ (l : List Pair). changed l (puts_of es)) (before.1.others n (omega arith))
     ∙ changed_puts [] es its_keys.ascend in (
-      after m (puts_of es),
+      apply m (puts_of es),
       record {
         first = λ q below. elim (eqb_tells q n) [
           | inl same ↦
-              subst (λ k. HoldsEntries its.page_bytes (shown its.page_bytes (page_at pages k))
-              (keys.entries (part its.logical k (after m (puts_of es))))) (sym same.1)
-              (subst (HoldsEntries its.page_bytes (shown its.page_bytes (page_at pages n))) (sym own)
+              subst (λ k. HoldsEntries its.page_bytes (encodes its.page_bytes (page_at pages k))
+              (keys.entries (part its.logical k (apply m (puts_of es))))) (sym same.1)
+              (subst (HoldsEntries its.page_bytes (encodes its.page_bytes (page_at pages n))) (sym own)
               bucket.1.holds)
           | inr apart ↦
               let earlier : q < n = omega (arith, apart.1) in
-              subst (HoldsEntries its.page_bytes (shown its.page_bytes (page_at pages q)))
+              subst (HoldsEntries its.page_bytes (encodes its.page_bytes (page_at pages q)))
               (sym (other q apart.1)) (before.1.first q earlier)
         ];
         others = λ q least.
@@ -122,7 +112,7 @@ shows_first its pages buckets (suc n) most =
 
 -- buckets show a map
 pub shows_some : (its : Config) (pages : Pages) → AreBuckets its pages →
-    (m : KeyMap) × ShowsMap its pages m
+    (m : KeyMap) × EncodesMap its pages m
 shows_some its pages buckets =
     let all = shows_first its pages buckets its.logical (omega arith) in
     (all.0, λ page exists. all.1.first page exists)

@@ -1,20 +1,10 @@
 -- The pages of changes, in ascending order.
-use Rattle.std.proofs.Common.{◌≡◌, ℕ, zero, suc, ◌+◌, ◌<◌, ◌≤◌, Bool, true, false, ◌||◌, cond, if◌then◌else◌, List, [], ◌∷◌, ◌++◌, length, take, drop, get_or}
-use Rattle.std.proofs.Common.{filter, ◌==◌, nat_lt, inl, inr, refl, sym, ap, ◌∙◌, arith, length-append, append_assoc}
+use Rattle.page_keys.proofs.Common.{◌≡◌, ℕ, zero, suc, ◌+◌, ◌<◌, ◌≤◌, Bool, true, false, ◌||◌, cond, if◌then◌else◌, List, [], ◌∷◌, ◌++◌, length, take, drop, get_or, filter, ◌==◌, nat_lt, inl, inr, refl, sym, ap, ◌∙◌, arith, length-append, append_assoc, nat_cmp, Less, Equal, Greater, list_any, range_with_len, cases_lt, nat_tests, drop-cons, take-length, take_more, take-append-drop, list_any-append, is_in, is_touched, pages_of, bucket_of, with_page, Change}
 use Rattle.std.specs.BTreeSet.{insert_key}
-use Rattle.std.specs.Ordering.{match_ordering, nat_cmp}
-use Rattle.std.specs.declared.cmp.Ordering.TheVariants.{Less, Equal, Greater}
-use Rattle.std.specs.List.{list_any, range_with_len}
-use Rattle.std.proofs.lemmas.Bool.{cases_lt}
-use Rattle.std.proofs.lemmas.Bool.Decides.{nat_tests}
+use Rattle.std.specs.Ordering.{match_ordering}
 use Rattle.std.specs.List.{insert}
-use Rattle.std.proofs.Math.Seq.{drop-cons, drop-length, take-length}
-use Rattle.std.proofs.lemmas.List.{take_more, take-append-drop}
-use Rattle.list_facts.proofs.Ranges.{filter_taken, filter_passed}
-use Rattle.std.proofs.lemmas.List.Folds.{list_any-append}
-use Rattle.page_keys.specs.KeyMaps.{is_in, is_touched, pages_of, bucket_of}
-use Rattle.page_keys.specs.Pages.{with_page}
-use Rattle.page_keys.specs.declared.changes.Change.{Change}
+use Rattle.std.proofs.Math.Seq.{drop-length}
+use Rattle.list_lemmas.proofs.Ranges.{filter_taken, filter_passed}
 
 -- a set of pages has one more
 pub inserted_page : (page : ℕ) (qs : List ℕ) → insert_key nat_cmp qs page ≡ with_page page qs

@@ -1,16 +1,11 @@
 -- Changes in ascending order of their pages.
-use Rattle.std.proofs.Common.{◌≡◌, ℕ, ◌<◌, ◌≤◌, Bool, true, false, not, ◌&&◌, ◌==◌, nat_lt, cond, List, [], ◌∷◌, zero, suc, ◌-◌, take, drop, filter, length}
-use Rattle.std.proofs.Common.{get_or, inl, inr, refl, sym, ap, ◌∙◌, arith, leb, ltb-true, ltb-false, leb-true, leb-false}
+use Rattle.page_keys.proofs.Common.{◌≡◌, ℕ, ◌<◌, ◌≤◌, Bool, true, false, not, ◌&&◌, ◌==◌, nat_lt, cond, List, [], ◌∷◌, zero, suc, ◌-◌, take, drop, filter, length, get_or, inl, inr, refl, sym, ap, ◌∙◌, arith, is_lt, nat_cmp, Less, Equal, Greater, cases_lt, nat_tests, changes_of, of_page, Change}
+use Rattle.std.proofs.Common.{leb, ltb-true, ltb-false, leb-true, leb-false}
 use Rattle.std.specs.List.{slice_range}
 use Rattle.std.specs.List.Sorted.{IsStableByKey, IsPartitionPoint, ties}
-use Rattle.std.specs.Ordering.{is_lt, nat_cmp}
-use Rattle.std.specs.declared.cmp.Ordering.TheVariants.{Less, Equal, Greater}
-use Rattle.std.proofs.lemmas.Bool.{cases_lt, cond-true, cond-false}
-use Rattle.std.proofs.lemmas.Bool.Decides.{nat_tests}
-use Rattle.page_keys.specs.Groups.{Placed, IsByPage, at_page, changes_of}
-use Rattle.page_keys.specs.KeyMaps.{of_page}
+use Rattle.std.proofs.lemmas.Bool.{cond-true, cond-false}
+use Rattle.page_keys.specs.Groups.{Placed, IsByPage, at_page}
 use Rattle.page_keys.specs.KeyRuns.{no_change}
-use Rattle.page_keys.specs.declared.changes.Change.{Change}
 
 -- items that pass from one place to another, and nowhere else
 filter_range : {X : Type 0} (p : X → Bool) (xs : List X) (a b : ℕ) (d : X) → a ≤ b → b ≤ length xs →

@@ -1,41 +1,18 @@
 -- What a put gives, by what its parts gave.
-use Rattle.std.proofs.Common.{◌≡◌, ◌⊎◌, ◌+◌, ◌<◌, ◌≤◌, ℕ, Bool, true, false, List, [], ◌∷◌, ◌++◌, length, if◌then◌else◌, Option, Some, None, Result, Ok, Err}
-use Rattle.std.proofs.Common.{option_map, refl, sym, ap, subst, ◌∙◌, inl, inr, arith, nat_le}
-use Rattle.std.specs.List.{list_any, find}
+use Rattle.page_keys.proofs.Common.{◌≡◌, ◌⊎◌, ◌+◌, ◌<◌, ◌≤◌, ℕ, Bool, true, false, List, [], ◌∷◌, ◌++◌, length, if◌then◌else◌, Option, Some, None, Result, Ok, Err, option_map, refl, sym, ap, subst, ◌∙◌, inl, inr, arith, nat_le, list_any, find, IsErrAnd, FlashState, Contents, Carries, Moment, moment_of, Carries-nothing, Carries-then, PageWrite, Config, Protocol, array_in, ArrayState, Pages, Represents, put, idle, IsSeen, seen_flash, is_spent, DeviceState, EncodesMap, KeyMap, apply, pages_of, PutGives, IsFull, is_put_fault, early_refusal, has_key, repeated, KeyStoreState, OnlyReads, OnOk, IsErr, spent_page, put_writes, Moved, PutError, Change}
 use Rattle.std.specs.Option.{option_or}
-use Rattle.std.specs.Result.{IsErrAnd}
-use Rattle.flash_model.specs.Flash.{FlashState, Contents}
-use Rattle.flash_model.specs.Calls.{Carries}
-use Rattle.flash_model.specs.Operations.{Moment, moment_of}
-use Rattle.flash_model.proofs.CallLemmas.{Carries-nothing, Carries-then}
 use Rattle.flash_model.proofs.MoveLemmas.{FlashMoves-nothing, FlashMoves-then}
-use Rattle.tx_types.specs.Batch.{PageWrite}
-use Rattle.tx_types.specs.declared.config.Config.{Config}
-use Rattle.tx_types.specs.declared.config.Protocol.{Protocol}
 use Rattle.std.proofs.lemmas.List.FromFn.{length-map-range_with_len}
-use Rattle.version_index.specs.Images.{array_in}
-use Rattle.tx_engine.specs.ArrayState.{ArrayState, Pages, StandsFor, put, idle}
-use Rattle.tx_engine.specs.Always.{IsSeen}
-use Rattle.tx_engine.proofs.OfStanding.Seen.{seen_flash}
-use Rattle.tx_engine.specs.Naming.{is_spent}
-use Rattle.tx_engine.specs.Standing.{Standing}
-use Rattle.page_keys.specs.Buckets.{ShowsMap}
-use Rattle.page_keys.specs.KeyMaps.{KeyMap, after, pages_of, seen_by}
-use Rattle.page_keys.specs.PutAnswers.{PutGives, StaysPut, MakesAll, MakesAllOrNone, ReadsFirst}
-use Rattle.page_keys.specs.Putting.{IsFull, is_put_fault}
+use Rattle.page_keys.specs.KeyMaps.{seen_by}
+use Rattle.page_keys.specs.PutAnswers.{StaysPut, MakesAll, MakesAllOrNone, ReadsFirst}
 use Rattle.page_keys.specs.Puts as puts
-use Rattle.page_keys.specs.Puts.{early_refusal, put_refusal, spent_among, has_key, wide, repeated}
-use Rattle.page_keys.specs.Stores.{Keyed, OnlyReads}
-use Rattle.std.specs.Prelude.{OnOk, IfErr, IsErr, IsSome}
-use Rattle.tx_engine.specs.Submit.{spent_page}
+use Rattle.page_keys.specs.Puts.{put_refusal, spent_among, wide}
+use Rattle.std.specs.Prelude.{IfErr, IsSome}
 use Rattle.array_machine.specs.declared.answers.SubmitError.TheVariants as submit
-use Rattle.page_keys.specs.Puts.{put_writes}
-use Rattle.page_keys.specs.Writing.{Writes, WritesNot, Breaks, Moved, seen_more}
+use Rattle.page_keys.specs.Writing.{Writes, WritesNot, Breaks, seen_more}
 use Rattle.page_keys.proofs.OfStore.Mentions.{put_seen, seen_by_least, seen_later, seen_same}
 use Rattle.page_keys.proofs.OfPut.PutWrites.{spent_pages, map_none}
-use Rattle.page_keys.specs.declared.answers.PutError.{PutError}
 use Rattle.page_keys.specs.declared.answers.PutError.TheVariants as refused
-use Rattle.page_keys.specs.declared.changes.Change.{Change}
 
 -- a refusal that the changes alone give
 abbrev is_early : PutError → Bool
@@ -96,7 +73,7 @@ not_repeated its (c ∷ cs) none = first_none (repeated [] (c ∷ cs)) _ none
     first_none None b h = refl
     first_none (Some x) b h = cc
 
-module _ {F : Type 0} (state : F → FlashState) (old : Keyed F) (m : KeyMap) (cs : List Change)
+module _ {F : Type 0} (state : F → FlashState) (old : KeyStoreState F) (m : KeyMap) (cs : List Change)
     (usable : old.broken ≡ false) where
   stays_put : StaysPut state old old
   stays_put = record {
@@ -110,7 +87,7 @@ module _ {F : Type 0} (state : F → FlashState) (old : Keyed F) (m : KeyMap) (c
   }
 
   -- a refusal, with the store as this
-  named : (new : Keyed F) (e : PutError) →
+  named : (new : KeyStoreState F) (e : PutError) →
       put_refusal old.device.config (is_spent old.device.noted.mentions) m cs ≡ Some e →
       is_early e ≡ true → StaysPut state old new → PutGives state old new m cs (Err e)
   named new refused.Empty is kind stays = (is, stays)
@@ -134,7 +111,7 @@ module _ {F : Type 0} (state : F → FlashState) (old : Keyed F) (m : KeyMap) (c
       subst (λ (x : PutError). PutGives state old old m cs (Err x)) (sym h.0)
       (h.1, stays_put)
 
-  pub gives_error : (new : Keyed F) (r : Result (Unit {0}) PutError) (e : PutError) →
+  pub gives_error : (new : KeyStoreState F) (r : Result (Unit {0}) PutError) (e : PutError) →
       IsErrAnd r (λ x. x ≡ e) → PutGives state old new m cs (Err e) →
       PutGives state old new m cs r
   gives_error new (Ok u) e is given = absurd is
@@ -142,13 +119,13 @@ module _ {F : Type 0} (state : F → FlashState) (old : Keyed F) (m : KeyMap) (c
       subst (λ (y : PutError). PutGives state old new m cs (Err y)) (sym is) given
 
 -- nothing open: the image has the array
-pub stands_idle : (s : ArrayState) (arr : Pages) → s.entries ≡ [] → StandsFor s arr → arr ≡ s.pages
+pub stands_idle : (s : ArrayState) (arr : Pages) → s.entries ≡ [] → Represents s arr → arr ≡ s.pages
 stands_idle s arr closed (inl h) = h
 stands_idle s arr closed (inr h) =
     let within = subst (λ k. h.1.0 < k) (ap length closed) h.1.1 in
     absurd (omega (arith, within))
 
-module _ {F : Type 0} (state : F → FlashState) (old : Keyed F) (t : Standing F) (m : KeyMap)
+module _ {F : Type 0} (state : F → FlashState) (old : KeyStoreState F) (t : DeviceState F) (m : KeyMap)
     (cs : List Change) (usable : old.broken ≡ false) where
   read_seen : t ≡ record old.device { flash = t.flash } → (seen : ℕ → ℕ) →
       IsSeen seen old.device → IsSeen seen t
@@ -157,9 +134,9 @@ module _ {F : Type 0} (state : F → FlashState) (old : Keyed F) (t : Standing F
 
   reads_stay : OnlyReads state old.device t false → StaysPut state old (record { device = t; broken = false })
   reads_stay reads = record {
-    config = ap (λ (s : Standing F). s.config) reads.stays;
-    machine = ap (λ (s : Standing F). s.machine) reads.stays;
-    mentions = ap (λ (s : Standing F). s.noted.mentions) reads.stays;
+    config = ap (λ (s : DeviceState F). s.config) reads.stays;
+    machine = ap (λ (s : DeviceState F). s.machine) reads.stays;
+    mentions = ap (λ (s : DeviceState F). s.noted.mentions) reads.stays;
     moment = reads.moment;
     carries = reads.carries;
     seen = read_seen reads.stays;
@@ -169,20 +146,20 @@ module _ {F : Type 0} (state : F → FlashState) (old : Keyed F) (t : Standing F
   -- a fault in a read: the image is as before
   read_broken : early_refusal old.device.config cs ≡ None → OnlyReads state old.device t true →
       old.device.machine.entries ≡ [] →
-      ShowsMap old.device.config old.device.machine.pages m →
-      StandsFor old.device.machine (array_in old.device.config.protocol old.device.config.logical
+      EncodesMap old.device.config old.device.machine.pages m →
+      Represents old.device.machine (array_in old.device.config.protocol old.device.config.logical
       (state old.device.flash).image) →
       MakesAllOrNone state old (record { device = t; broken = true }) m cs
   read_broken early reads closed shows stands =
-      let config : t.config ≡ old.device.config = ap (λ (s : Standing F). s.config) reads.stays in
+      let config : t.config ≡ old.device.config = ap (λ (s : DeviceState F). s.config) reads.stays in
       let image = ap (λ (x : Moment). x.image) reads.moment in
       let arr = ap (array_in old.device.config.protocol old.device.config.logical) image
       ∙ stands_idle old.device.machine _ closed stands in
       record {
         tried = early;
-        left = inl (subst (λ (c : Config). ShowsMap c
+        left = inl (subst (λ (c : Config). EncodesMap c
             (array_in c.protocol c.logical (state t.flash).image) m) (sym config)
-            (subst (λ (p : Pages). ShowsMap old.device.config p m) (sym arr) shows));
+            (subst (λ (p : Pages). EncodesMap old.device.config p m) (sym arr) shows));
         moved = record {
           config = config;
           moves = FlashMoves-nothing (state old.device.flash) (state t.flash) true reads.moment;
@@ -195,8 +172,8 @@ module _ {F : Type 0} (state : F → FlashState) (old : Keyed F) (t : Standing F
 
   pub reads_give : (e : PutError) → IsFull old.device.config m cs e →
       early_refusal old.device.config cs ≡ None → OnlyReads state old.device t (is_put_fault e) →
-      old.device.machine.entries ≡ [] → ShowsMap old.device.config old.device.machine.pages m →
-      StandsFor old.device.machine (array_in old.device.config.protocol old.device.config.logical
+      old.device.machine.entries ≡ [] → EncodesMap old.device.config old.device.machine.pages m →
+      Represents old.device.machine (array_in old.device.config.protocol old.device.config.logical
       (state old.device.flash).image) →
       PutGives state old (record { device = t; broken = is_put_fault e }) m cs (Err e)
   reads_give (refused.Bucket page) full early reads closed shows stands = (
@@ -216,18 +193,18 @@ module _ {F : Type 0} (state : F → FlashState) (old : Keyed F) (t : Standing F
   reads_give (refused.Spent k) full early reads closed shows stands = absurd full
 
 -- what the write of a put gives
-module _ {F : Type 0} (state : F → FlashState) (old new : Keyed F) (t : Standing F) (m : KeyMap)
+module _ {F : Type 0} (state : F → FlashState) (old new : KeyStoreState F) (t : DeviceState F) (m : KeyMap)
     (cs : List Change) (ws : List PageWrite) (reads : OnlyReads state old.device t false)
     (early : early_refusal old.device.config cs ≡ None)
     (full : puts.full old.device.config m cs ≡ None)
     (are : ws ≡ put_writes old.device.config m cs)
-    (shows : ShowsMap old.device.config old.device.machine.pages m)
-    (made : ShowsMap old.device.config (put old.device.machine.pages ws) (after m cs)) where
+    (shows : EncodesMap old.device.config old.device.machine.pages m)
+    (made : EncodesMap old.device.config (put old.device.machine.pages ws) (apply m cs)) where
   its_config : t.config ≡ old.device.config
-  its_config = ap (λ (s : Standing F). s.config) reads.stays
+  its_config = ap (λ (s : DeviceState F). s.config) reads.stays
 
   its_machine : t.machine ≡ old.device.machine
-  its_machine = ap (λ (s : Standing F). s.machine) reads.stays
+  its_machine = ap (λ (s : DeviceState F). s.machine) reads.stays
 
   refusal_is : (o : Option PutError) →
       spent_among old.device.config (is_spent old.device.noted.mentions) cs ≡ o →
@@ -243,9 +220,9 @@ module _ {F : Type 0} (state : F → FlashState) (old new : Keyed F) (t : Standi
       ≡ option_map (λ p. submit.Spent p)
       (find (is_spent old.device.noted.mentions) (pages_of old.device.config.logical cs))
   spent_is =
-      ap (λ (s : Standing F). spent_page (is_spent s.noted.mentions) ws) reads.stays
+      ap (λ (s : DeviceState F). spent_page (is_spent s.noted.mentions) ws) reads.stays
       ∙ ap (spent_page (is_spent old.device.noted.mentions)) are
-      ∙ spent_pages old.device.config (after m cs) (is_spent old.device.noted.mentions)
+      ∙ spent_pages old.device.config (apply m cs) (is_spent old.device.noted.mentions)
       (pages_of old.device.config.logical cs)
 
   none_spent : spent_page (is_spent t.noted.mentions) ws ≡ None →
@@ -268,9 +245,9 @@ module _ {F : Type 0} (state : F → FlashState) (old new : Keyed F) (t : Standi
 
   -- shown by the pages, under the configuration that the store has now
   shown_now : (pages : Pages) (n : KeyMap) → new.device.config ≡ t.config →
-      ShowsMap old.device.config pages n → ShowsMap new.device.config pages n
+      EncodesMap old.device.config pages n → EncodesMap new.device.config pages n
   shown_now pages n config h =
-      subst (λ (c : Config). ShowsMap c pages n) (sym (config ∙ its_config)) h
+      subst (λ (c : Config). EncodesMap c pages n) (sym (config ∙ its_config)) h
 
   -- what a put may have mentioned
   written_seen : ((seen : ℕ → ℕ) → IsSeen seen t → IsSeen (seen_more seen ws) new.device) →
@@ -287,8 +264,8 @@ module _ {F : Type 0} (state : F → FlashState) (old new : Keyed F) (t : Standi
   pub all_made : Writes state t new.device ws → new.broken ≡ false → MakesAll state old new m cs
   all_made writes usable = record {
     taken = none_spent writes.unspent;
-    shows = shown_now new.device.machine.pages (after m cs) writes.moved.config
-        (subst (λ (s : ArrayState). ShowsMap old.device.config s.pages (after m cs))
+    shows = shown_now new.device.machine.pages (apply m cs) writes.moved.config
+        (subst (λ (s : ArrayState). EncodesMap old.device.config s.pages (apply m cs))
         (sym (writes.machine ∙ ap (λ (s : ArrayState). idle (put s.pages ws)) its_machine)) made);
     moved = moved_on false writes.moved;
     seen = written_seen writes.seen;
@@ -306,11 +283,11 @@ module _ {F : Type 0} (state : F → FlashState) (old new : Keyed F) (t : Standi
         tried = early;
         left = elim breaks.left [
           | inl h ↦ inl (shown_now array m breaks.moved.config
-              (subst (λ (p : Pages). ShowsMap old.device.config p m) (sym (h ∙ before)) shows))
+              (subst (λ (p : Pages). EncodesMap old.device.config p m) (sym (h ∙ before)) shows))
           | inr h ↦ inr (
             none_spent breaks.unspent,
-            shown_now array (after m cs) breaks.moved.config
-                (subst (λ (p : Pages). ShowsMap old.device.config p (after m cs))
+            shown_now array (apply m cs) breaks.moved.config
+                (subst (λ (p : Pages). EncodesMap old.device.config p (apply m cs))
                 (sym (h ∙ ap (λ (p : Pages). put p ws) before)) made),
           )
         ];
@@ -332,7 +309,7 @@ module _ {F : Type 0} (state : F → FlashState) (old new : Keyed F) (t : Standi
     record {
       config = not.1.config ∙ its_config;
       machine = not.1.machine ∙ its_machine;
-      mentions = not.1.mentions ∙ ap (λ (s : Standing F). s.noted.mentions) reads.stays;
+      mentions = not.1.mentions ∙ ap (λ (s : DeviceState F). s.noted.mentions) reads.stays;
       moment = ap (λ (f : F). moment_of (state f)) not.1.flash ∙ reads.moment;
       carries = subst (λ (f : F). Carries (state old.device.flash) (state f) false)
           (sym not.1.flash) reads.carries;
@@ -361,7 +338,7 @@ no_refusal None none some = cc
 no_refusal (Some e) none some = cc
 
 -- nothing, where the changes alone are refused, or there is no memory for them
-pub reads_none : {F : Type 0} (state : F → FlashState) (old : Keyed F) (cs : List Change)
+pub reads_none : {F : Type 0} (state : F → FlashState) (old : KeyStoreState F) (cs : List Change)
     (r : Result (Unit {0}) PutError) → IsErr r → ReadsFirst state old old cs r
 reads_none state old cs (Err e) err = record {
   read = old.device.flash;
@@ -373,7 +350,7 @@ reads_none state old cs (Err e) err = record {
 }
 reads_none state old cs (Ok u) err = cc
 
-module _ {F : Type 0} (state : F → FlashState) (old new : Keyed F) (t : Standing F) (cs : List Change)
+module _ {F : Type 0} (state : F → FlashState) (old new : KeyStoreState F) (t : DeviceState F) (cs : List Change)
     (reads : OnlyReads state old.device t false)
     (count : (state t.flash).reads
     ≤ (state old.device.flash).reads + length (pages_of old.device.config.logical cs))
@@ -417,7 +394,7 @@ module _ {F : Type 0} (state : F → FlashState) (old new : Keyed F) (t : Standi
   reads_then_wrote ws (Err refused.Memory) written not = absurd not
 
 -- or that was all
-pub reads_alone : {F : Type 0} (state : F → FlashState) (old : Keyed F) (t : Standing F)
+pub reads_alone : {F : Type 0} (state : F → FlashState) (old : KeyStoreState F) (t : DeviceState F)
     (cs : List Change) (e : PutError) (broken : Bool) → OnlyReads state old.device t (is_put_fault e) →
     (state t.flash).reads
     ≤ (state old.device.flash).reads + length (pages_of old.device.config.logical cs) →
@@ -439,6 +416,6 @@ module _ (protocol : Protocol) (logical : ℕ) where
 
   -- an array that an image stands for, with nothing open, has all pages
   pub length_pages : (s : ArrayState) (image : List Contents) → s.entries ≡ [] →
-      StandsFor s (array_in protocol logical image) → length s.pages ≡ logical
+      Represents s (array_in protocol logical image) → length s.pages ≡ logical
   length_pages s image closed stands =
       ap (length {A = Option (List ℕ)}) (sym (stands_idle s _ closed stands)) ∙ length_array image

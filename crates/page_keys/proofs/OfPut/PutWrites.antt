@@ -1,29 +1,18 @@
 -- What a put writes, and the map that it makes.
-use Rattle.std.proofs.Common.{◌≡◌, ℕ, zero, suc, ◌+◌, ◌-◌, ◌<◌, ◌≤◌, Bool, true, false, ◌||◌, cond, List, [], ◌∷◌, ◌++◌, length, map, filter, find, set, ◌==◌}
-use Rattle.std.proofs.Common.{nat_lt, nat_le, Option, Some, None, if◌then◌else◌, option_map, refl, sym, ap, subst, ◌∙◌, inl, inr, arith}
-use Rattle.std.specs.List.{AllByRecursion, list_any, range_with_len}
+use Rattle.page_keys.proofs.Common.{◌≡◌, ℕ, zero, suc, ◌+◌, ◌-◌, ◌<◌, ◌≤◌, Bool, true, false, ◌||◌, cond, List, [], ◌∷◌, ◌++◌, length, map, filter, set, ◌==◌, nat_lt, nat_le, Option, Some, None, if◌then◌else◌, option_map, refl, sym, ap, subst, ◌∙◌, inl, inr, arith, AllByRecursion, list_any, range_with_len, cases_lt, nat_tests, PageWrite, Config, Pages, page_at, put, limits_of, first_refusals, spent_page, SubmitError, HoldsEntries, EncodesMap, encodes, KeyMap, apply, part, is_in, is_touched, pages_of, bucket_of, IsKeyChange, is_over, write_of, put_writes, early_refusal, Change, changed}
+use Rattle.std.proofs.Common.{find}
 use Rattle.std.specs.Option.{option_or}
 use Rattle.std.specs.FinMap as keys
-use Rattle.std.proofs.lemmas.Bool.{cases_lt}
-use Rattle.std.proofs.lemmas.Bool.Decides.{nat_tests, eqb_tells}
+use Rattle.std.proofs.lemmas.Bool.Decides.{eqb_tells}
 use Rattle.std.proofs.lemmas.List.{get_or-set_other, length-set}
 use Rattle.std.proofs.lemmas.Grind.{get_or-set_at}
-use Rattle.tx_types.specs.Batch.{PageWrite}
-use Rattle.tx_types.specs.declared.config.Config.{Config}
-use Rattle.tx_engine.specs.ArrayState.{Pages, page_at, put}
-use Rattle.tx_engine.specs.Standing.{limits_of}
-use Rattle.tx_engine.specs.Submit.{first_refusals, first_refusal, or_else, empty, repeated, full, spent_page, is_of}
-use Rattle.array_machine.specs.declared.answers.SubmitError.{SubmitError}
+use Rattle.tx_engine.specs.Submit.{first_refusal, or_else, empty, repeated, full, is_of}
 use Rattle.array_machine.specs.declared.answers.SubmitError.TheVariants as submit
-use Rattle.page_keys.specs.Buckets.{HoldsEntries, ShowsMap, shown}
-use Rattle.page_keys.specs.KeyMaps.{KeyMap, after, part, is_in, is_touched, pages_of, bucket_of}
 use Rattle.page_keys.specs.Puts as puts
-use Rattle.page_keys.specs.Puts.{IsKeyChange, is_over, write_of, put_writes, early_refusal, wide}
-use Rattle.page_keys.specs.declared.changes.Change.{Change}
+use Rattle.page_keys.specs.Puts.{wide}
 use Rattle.page_keys.specs.declared.answers.PutError.TheVariants as refused
 use Rattle.page_keys.proofs.OfBucket.BucketChanges.{each_after, all_filtered}
 use Rattle.page_keys.proofs.OfBucket.Parts.{entries_change}
-use Rattle.page_keys.specs.Entries.{changed}
 
 not_over : (size n : ℕ) → nat_lt size n ≡ false → n ≤ size
 not_over size n h = grind (arith, nat_tests)
@@ -161,18 +150,18 @@ none_pass p (x ∷ xs) none =
 
 -- the array that a put leaves shows the map with all its changes
 module _ (its : Config) (m : KeyMap) (cs : List Change) (pages : Pages)
-    (shows : ShowsMap its pages m) (valid : AllByRecursion IsKeyChange cs)
+    (shows : EncodesMap its pages m) (valid : AllByRecursion IsKeyChange cs)
     (size : length pages ≡ its.logical) (fits : puts.full its m cs ≡ None) where
   written : (page : ℕ) (b : Bool) → page < its.logical → is_touched its.logical cs page ≡ b →
       HoldsEntries its.page_bytes
-      (shown its.page_bytes (if b then (write_of its (after m cs) page).value
+      (encodes its.page_bytes (if b then (write_of its (apply m cs) page).value
       else page_at pages page))
-      (keys.entries (part its.logical page (after m cs)))
+      (keys.entries (part its.logical page (apply m cs)))
   written page true exists touched =
       let there : among page (pages_of its.logical cs) ≡ true =
       among_passing (is_touched its.logical cs) page 0 its.logical (omega arith) (omega arith)
       ∙ touched in
-      let room = none_found (is_over its (after m cs)) (pages_of its.logical cs) page
+      let room = none_found (is_over its (apply m cs)) (pages_of its.logical cs) page
       (map_none _ _ fits) there in
       record {
         each = each_after its m cs page _ (shows page exists)
@@ -184,15 +173,15 @@ module _ (its : Config) (m : KeyMap) (cs : List Change) (pages : Pages)
       let none = none_pass (λ c. is_in its.logical page c.key) cs touched in
       let same = entries_change its.logical page m cs
       ∙ ap (changed (keys.entries (part its.logical page m))) none in
-      subst (HoldsEntries its.page_bytes (shown its.page_bytes (page_at pages page))) (sym same)
+      subst (HoldsEntries its.page_bytes (encodes its.page_bytes (page_at pages page))) (sym same)
       (shows page exists)
 
-  pub shows_after : ShowsMap its (put pages (put_writes its m cs)) (after m cs)
+  pub shows_after : EncodesMap its (put pages (put_writes its m cs)) (apply m cs)
   shows_after page exists =
       let t = is_touched its.logical cs in
       let within = subst (λ k. AllByRecursion (λ p. p < k) (pages_of its.logical cs)) (sym size)
       (all_within t 0 its.logical its.logical (omega arith)) in
-      let value = put_at its (after m cs) (pages_of its.logical cs) pages page within in
+      let value = put_at its (apply m cs) (pages_of its.logical cs) pages page within in
       let there = among_passing t page 0 its.logical (omega arith) (omega arith) in
       rw (value, there) (written page (t page) exists refl)
 
@@ -296,7 +285,7 @@ pub only_spent : (its : Config) (m : KeyMap) (cs : List Change) → 0 < its.logi
     early_refusal its cs ≡ None →
     first_refusals (limits_of its) [] 0 (put_writes its m cs) ≡ None
 only_spent its m cs exist taken =
-    let n = after m cs in
+    let n = apply m cs in
     let ps = pages_of its.logical cs in
     let early = or_none (puts.empty cs) _ taken in
     let later = or_none (puts.repeated [] cs) _ early.1 in

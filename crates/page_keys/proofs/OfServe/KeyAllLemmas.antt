@@ -1,30 +1,17 @@
 -- How serving a key script goes on, command by command.
-use Rattle.std.proofs.Common.{◌≡◌, ℕ, ◌+◌, ◌<◌, ◌≤◌, true, false, List, [], ◌∷◌, ◌++◌, length, take, Ok, Err, Result, refl, sym, ap, subst, ◌∙◌, inl, inr}
-use Rattle.std.proofs.Common.{arith, append_assoc, get_or}
-use Rattle.std.specs.Prelude.{OnOk, OnErr}
+use Rattle.page_keys.proofs.Common.{◌≡◌, ℕ, ◌+◌, ◌<◌, ◌≤◌, true, false, List, [], ◌∷◌, ◌++◌, length, take, Ok, Err, Result, refl, sym, ap, subst, ◌∙◌, inl, inr, arith, append_assoc, get_or, OnOk, append-nil, take_more, take-length, take-append_seam, checked, shape_of, Config, Shape, FlashState, Contents, Moment, moment_of, IsSoundImage, array_in, AreBuckets, EncodesMap, KeyMap, IsKeyPoint, KeyPoint, ServesKeys, mentions_in, BeginsKeys, Ends, Fits, IsKeyImage, ServesOne, flash_in, KeyCommand, KeyServeError, KeyReply, KeySession}
+use Rattle.std.specs.Prelude.{OnErr}
 use Rattle.std.specs.Result.{is_err}
-use Rattle.std.proofs.lemmas.List.{append-nil, take_more, take_all, length-take-le}
+use Rattle.std.proofs.lemmas.List.{take_all, length-take-le}
 use Rattle.std.proofs.lemmas.Grind.{flat_map-append}
-use Rattle.std.proofs.Math.Seq.{take-length, take-append_seam}
-use Rattle.tx_types.specs.Config.{checked, shape_of}
-use Rattle.tx_types.specs.declared.config.Config.{Config}
-use Rattle.tx_types.specs.declared.config.Shape.{Shape}
-use Rattle.flash_model.specs.Flash.{FlashState, Contents}
-use Rattle.flash_model.specs.Operations.{Moment, moment_of}
-use Rattle.version_index.specs.Images.{IsSoundImage, IsLeastImageBreach, array_in}
+use Rattle.version_index.specs.Images.{IsLeastImageBreach}
 use Rattle.version_index.proofs.OfTables.OneBreach.{sound_unbroken}
-use Rattle.page_keys.specs.Buckets.{AreBuckets, ShowsMap}
-use Rattle.page_keys.specs.KeyMaps.{KeyMap}
 use Rattle.page_keys.specs.KeyReplies.{key_text, key_texts}
-use Rattle.page_keys.specs.KeyRuns.{IsKeyPoint, IsKeyRun, KeyPoint, ServesKeys, last_point, mentions_in}
-use Rattle.page_keys.specs.KeyServed.{BeginsKeys, IsFirstFlash, RefusesKeys, ServesKeyRun, ServesScript}
-use Rattle.page_keys.specs.KeySessions.{Ends, Fits, IsKeyImage, IsWhy, ServesOne, StandsAt, flash_in, point_of}
+use Rattle.page_keys.specs.KeyRuns.{IsKeyRun, last_point}
+use Rattle.page_keys.specs.KeyServed.{IsFirstFlash, RefusesKeys, ServesKeyRun, ServesScript}
+use Rattle.page_keys.specs.KeySessions.{IsWhy, StandsAt, point_of}
 use Rattle.page_keys.specs.Stores.{IsFirstBad}
-use Rattle.page_keys.specs.declared.command.KeyCommand.{KeyCommand}
-use Rattle.page_keys.specs.declared.key_error.KeyServeError.{KeyServeError}
 use Rattle.page_keys.specs.declared.key_error.KeyServeError.TheVariants as failed
-use Rattle.page_keys.specs.declared.key_reply.KeyReply.{KeyReply}
-use Rattle.page_keys.specs.declared.key_session.KeySession.{KeySession}
 use Rattle.page_keys.specs.declared.key_session.KeySession.TheVariants as session
 use Rattle.page_keys.proofs.OfServe.KeyRunLemmas.{as_many, few_first, last_is_point, last_more, run_more, seen_more_over, seen_over}
 use Rattle.page_keys.proofs.OfServe.KeyServeLemmas.{mounted_point}
@@ -324,7 +311,7 @@ run_keeps its cs told old new before after serves =
       sound = subst (IsSoundImage its.protocol its.logical (shape_of its)) same p.sound;
       buckets = shown_buckets its (array_in its.protocol its.logical new.image)
           (last_point serves.first serves.points).keys
-          (subst (λ (i : List Contents). ShowsMap its (array_in its.protocol its.logical i)
+          (subst (λ (i : List Contents). EncodesMap its (array_in its.protocol its.logical i)
           (last_point serves.first serves.points).keys) same p.shows);
     }
 

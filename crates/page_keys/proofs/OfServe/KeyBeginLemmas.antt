@@ -1,22 +1,9 @@
 -- The session that serving a key script begins with.
-use Rattle.std.proofs.Common.{◌≡◌, ◌≤◌, ℕ, Bool, true, false, List, Option, Some, None, Result, Ok, Err, refl, sym, ap, ◌∙◌, subst, arith}
-use Rattle.std.specs.Prelude.{IfOk, OnOk, IsSomeAnd, ◌<◌}
-use Rattle.tx_types.specs.declared.config.Config.{Config}
-use Rattle.tx_types.specs.declared.config.Shape.{Shape}
-use Rattle.tx_types.specs.Config.{checked, shape_of}
-use Rattle.flash_model.specs.Flash.{FlashState, IsSteady, Told}
-use Rattle.flash_model.specs.Calls.{BothTell, NoMoreToCome, Spends}
-use Rattle.flash_model.specs.Operations.{Moment, moment_of}
-use Rattle.tx_engine.specs.ArrayState.{ArrayState, Pages}
-use Rattle.version_index.specs.Images.{IsSoundImage, array_in}
-use Rattle.page_keys.specs.Buckets.{AreBuckets, ShowsMap}
-use Rattle.page_keys.specs.KeyMaps.{KeyMap}
-use Rattle.page_keys.specs.KeyRuns.{mentions_in}
-use Rattle.page_keys.specs.KeyServed.{BeginsKeys, ServesScript}
-use Rattle.page_keys.specs.KeySessions.{Ends, IsKeyImage, Mounts, StandsUnmounted}
-use Rattle.page_keys.specs.declared.command.KeyCommand.{KeyCommand}
-use Rattle.page_keys.specs.declared.key_error.KeyServeError.{KeyServeError}
-use Rattle.page_keys.specs.declared.key_session.KeySession.{KeySession}
+use Rattle.page_keys.proofs.Common.{◌≡◌, ◌≤◌, ℕ, Bool, true, false, List, Option, Some, None, Result, Ok, Err, refl, sym, ap, ◌∙◌, subst, arith, OnOk, Config, Shape, checked, shape_of, FlashState, Told, BothTell, NoMoreToCome, Spends, Moment, moment_of, ArrayState, Pages, IsSoundImage, array_in, AreBuckets, EncodesMap, KeyMap, mentions_in, BeginsKeys, Ends, IsKeyImage, KeyCommand, KeyServeError, KeySession}
+use Rattle.std.specs.Prelude.{IfOk, IsSomeAnd, ◌<◌}
+use Rattle.flash_model.specs.Flash.{IsSteady}
+use Rattle.page_keys.specs.KeyServed.{ServesScript}
+use Rattle.page_keys.specs.KeySessions.{Mounts, StandsUnmounted}
 use Rattle.page_keys.specs.declared.key_session.KeySession.TheVariants as session
 use Rattle.page_keys.proofs.OfPut.Existing.{shows_some}
 use Rattle.page_keys.proofs.OfServe.KeyAllLemmas.{ended_first, served_none}
@@ -46,12 +33,12 @@ module _ {F : Type 0} (state : F → FlashState) (its : Config) (flash : F) wher
 
   stands_still : (new : FlashState) → moment_of new ≡ moment_of (state flash) →
       IsKeyImage its (state flash) → (m : KeyMap) →
-      ShowsMap its (array_in its.protocol its.logical (state flash).image) m →
+      EncodesMap its (array_in its.protocol its.logical (state flash).image) m →
       StandsUnmounted its (mentions_in its (moment_of (state flash))) m new
   stands_still new same image m shows = record {
     sound = subst (λ (x : Moment). IsSoundImage its.protocol its.logical (shape_of its) x.image)
         (sym same) image.sound;
-    shows = subst (λ (x : Moment). ShowsMap its (array_in its.protocol its.logical x.image) m)
+    shows = subst (λ (x : Moment). EncodesMap its (array_in its.protocol its.logical x.image) m)
         (sym same) shows;
     mentions = subst (λ (x : Moment). (page : ℕ) → page < its.logical →
         mentions_in its x page ≤ mentions_in its (moment_of (state flash)) page) (sym same)
@@ -72,7 +59,7 @@ module _ {F R : Type 0} (state : F → FlashState) (its : Config) (flash : F) wh
         };
         keys = shown.0;
         stands = record {
-          shows = subst (λ (p : Pages). ShowsMap its p shown.0)
+          shows = subst (λ (p : Pages). EncodesMap its p shown.0)
               (sym (ap (λ (s : ArrayState). s.pages) opens.machine)) shown.1;
           mentions = opens.seen (mentions_in its (moment_of (state flash))) (λ page lt. omega arith);
         };

@@ -1,34 +1,13 @@
 -- What a put and a get of a store do, by their answers.
-use Rattle.std.proofs.Common.{◌≡◌, ℕ, Bool, true, false, cond, ◌+◌, List, ◌++◌, length, take, drop, Option, Some, None, Err, refl, sym, ap, subst, ◌∙◌, inl}
-use Rattle.std.proofs.Common.{inr}
+use Rattle.page_keys.proofs.Common.{◌≡◌, ℕ, Bool, true, false, cond, ◌+◌, List, ◌++◌, length, take, drop, Option, Some, None, Err, refl, sym, ap, subst, ◌∙◌, inl, inr, shape_of, Config, Protocol, Shape, Carries, FlashState, Moment, moment_of, array_in, seen_flash, HoldsAlways, IsSeen, ArrayState, Pages, is_spent, take-append_seam, DeviceState, EncodesMap, KeyMap, apply, is_key_cut, is_key_fault, seen_after, DoesHere, PutGives, HasKeys, KeyStoreState, OnlyReads, PutError, Change, KeyReply}
 use Rattle.std.specs.FinMap.{get}
-use Rattle.tx_types.specs.Config.{shape_of}
-use Rattle.tx_types.specs.declared.config.Config.{Config}
-use Rattle.tx_types.specs.declared.config.Protocol.{Protocol}
-use Rattle.tx_types.specs.declared.config.Shape.{Shape}
-use Rattle.flash_model.specs.Calls.{Carries}
-use Rattle.flash_model.specs.Flash.{FlashState}
 use Rattle.flash_model.specs.Moves.{Moves}
-use Rattle.flash_model.specs.Operations.{Moment, moment_of}
-use Rattle.version_index.specs.Images.{array_in}
-use Rattle.tx_engine.proofs.OfStanding.Seen.{seen_flash}
-use Rattle.tx_engine.specs.Always.{HoldsAlways, IsSeen}
-use Rattle.tx_engine.specs.ArrayState.{ArrayState, Pages}
-use Rattle.tx_engine.specs.Naming.{is_spent}
-use Rattle.std.proofs.Math.Seq.{take-append_seam}
-use Rattle.tx_engine.specs.Standing.{Standing}
-use Rattle.page_keys.specs.Buckets.{ShowsMap}
 use Rattle.page_keys.specs.Entries.{GivesValue}
-use Rattle.page_keys.specs.KeyMaps.{KeyMap, after}
-use Rattle.page_keys.specs.KeyRuns.{DoesGet, DoesPut, Stays, is_key_cut, is_key_fault, is_tried, key_at, seen_after}
-use Rattle.page_keys.specs.KeySessions.{DoesHere, MemoryLeaves, reply_of}
-use Rattle.page_keys.specs.PutAnswers.{MakesAll, MakesAllOrNone, PutGives, StaysPut}
-use Rattle.page_keys.specs.Stores.{HasKeys, Keyed, OnlyReads}
-use Rattle.page_keys.specs.declared.answers.PutError.{PutError}
+use Rattle.page_keys.specs.KeyRuns.{DoesGet, DoesPut, Stays, is_tried, key_at}
+use Rattle.page_keys.specs.KeySessions.{MemoryLeaves, reply_of}
+use Rattle.page_keys.specs.PutAnswers.{MakesAll, MakesAllOrNone, StaysPut}
 use Rattle.page_keys.specs.declared.answers.PutError.TheVariants as refused
-use Rattle.page_keys.specs.declared.changes.Change.{Change}
 use Rattle.page_keys.specs.declared.command.KeyCommand.TheVariants as command
-use Rattle.page_keys.specs.declared.key_reply.KeyReply.{KeyReply}
 use Rattle.page_keys.specs.declared.key_reply.KeyReply.TheVariants as reply
 use Rattle.page_keys.proofs.OfPut.PutGiven.{stands_idle}
 
@@ -36,7 +15,7 @@ some_same : (a b : KeyReply) → Some a ≡ Some b → a ≡ b
 some_same a b h = cc
 
 -- the pages of a get are none
-seen_get : {F : Type 0} (its : Config) (key : List ℕ) (seen : ℕ → ℕ) (s : Standing F)
+seen_get : {F : Type 0} (its : Config) (key : List ℕ) (seen : ℕ → ℕ) (s : DeviceState F)
     (r : KeyReply) → IsSeen seen s → IsSeen (seen_after its seen (command.Get key) r) s
 seen_get its key seen s r h = by (is_tried r)
   where
@@ -45,9 +24,9 @@ seen_get its key seen s r h = by (is_tried r)
     by true = record { mentions = h.mentions; names = h.names }
     by false = record { mentions = h.mentions; names = h.names }
 
-module _ {F : Type 0} (state : F → FlashState) (protocol : Protocol) (old new : Keyed F)
+module _ {F : Type 0} (state : F → FlashState) (protocol : Protocol) (old new : KeyStoreState F)
     (always : HoldsAlways state protocol old.device) (cs : List Change) (m : KeyMap)
-    (shows : ShowsMap old.device.config old.device.machine.pages m) where
+    (shows : EncodesMap old.device.config old.device.machine.pages m) where
   moves_by : (broken : Bool) →
       Moves (state old.device.flash).shape (moment_of (state old.device.flash)) broken
       (moment_of (state new.device.flash)) →
@@ -61,7 +40,7 @@ module _ {F : Type 0} (state : F → FlashState) (protocol : Protocol) (old new 
   pub stored_here : (n : ℕ) → n ≡ length cs → MakesAll state old new m cs →
       DoesHere state (command.Put cs) m old new (reply.Stored n)
   stored_here n count all = record {
-    left = after m cs;
+    left = apply m cs;
     does = (
       record { allowed = all.taken; keys = refl },
       count,
@@ -92,7 +71,7 @@ module _ {F : Type 0} (state : F → FlashState) (protocol : Protocol) (old new 
       whole = refl;
     }
     | inr all ↦ record {
-      left = after m cs;
+      left = apply m cs;
       does = record {
         whole = inr (record { allowed = all.0; keys = refl });
         moves = moves_by true any.moved.moves;
@@ -109,10 +88,10 @@ module _ {F : Type 0} (state : F → FlashState) (protocol : Protocol) (old new 
 
   -- the map is shown still
   shown_still : StaysPut state old new →
-      ShowsMap new.device.config new.device.machine.pages m
+      EncodesMap new.device.config new.device.machine.pages m
   shown_still stays =
-      subst (λ (c : Config). ShowsMap c new.device.machine.pages m) (sym stays.config)
-      (subst (λ (s : ArrayState). ShowsMap old.device.config s.pages m) (sym stays.machine) shows)
+      subst (λ (c : Config). EncodesMap c new.device.machine.pages m) (sym stays.config)
+      (subst (λ (s : ArrayState). EncodesMap old.device.config s.pages m) (sym stays.machine) shows)
 
   -- one that was refused
   refused_here : (r : KeyReply) → is_key_fault r ≡ false → is_key_cut r ≡ false →
@@ -176,9 +155,9 @@ module _ {F : Type 0} (state : F → FlashState) (protocol : Protocol) (old new 
       record { config = gives.1.config; moment = gives.1.moment; carries = gives.1.carries }
 
 -- the answers of a get
-module _ {F : Type 0} (state : F → FlashState) (protocol : Protocol) (old new : Keyed F)
+module _ {F : Type 0} (state : F → FlashState) (protocol : Protocol) (old new : KeyStoreState F)
     (always : HoldsAlways state protocol old.device) (key : List ℕ) (m : KeyMap)
-    (shows : ShowsMap old.device.config old.device.machine.pages m)
+    (shows : EncodesMap old.device.config old.device.machine.pages m)
     (closed : HasKeys old.device) (usable : new.broken ≡ false) where
   its_stays : (broken : Bool) → OnlyReads state old.device new.device broken →
       Stays (record { keys = m; flash = state old.device.flash })
@@ -194,15 +173,15 @@ module _ {F : Type 0} (state : F → FlashState) (protocol : Protocol) (old new 
     left = m;
     does = does;
     shows = λ h.
-        subst (λ (s : Standing F). ShowsMap s.config s.machine.pages m) (sym reads.stays) shows;
+        subst (λ (s : DeviceState F). EncodesMap s.config s.machine.pages m) (sym reads.stays) shows;
     image = λ h.
-        subst (λ (s : Standing F). ShowsMap s.config
+        subst (λ (s : DeviceState F). EncodesMap s.config
         (array_in s.config.protocol s.config.logical (state new.device.flash).image) m)
         (sym reads.stays)
-        (subst (λ (p : Pages). ShowsMap old.device.config p m)
+        (subst (λ (p : Pages). EncodesMap old.device.config p m)
         (sym (ap (λ (x : Moment). array_in old.device.config.protocol old.device.config.logical
         x.image) reads.moment ∙ stands_idle old.device.machine _ closed.closed always.array)) shows);
-    config = ap (λ (s : Standing F). s.config) reads.stays;
+    config = ap (λ (s : DeviceState F). s.config) reads.stays;
     carries = reads.carries;
     usable = λ h. usable;
     seen = λ seen h. seen_get old.device.config key seen new.device r

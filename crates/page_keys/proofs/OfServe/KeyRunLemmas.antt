@@ -1,18 +1,10 @@
 -- How runs of the map machine grow, and how many breaks they have.
-use Rattle.std.proofs.Common.{◌≡◌, ◌⊎◌, inl, inr, ℕ, zero, suc, ◌+◌, ◌≤◌, Bool, true, cond, List, [], ◌∷◌, ◌++◌, length, take, Option, Some, None, refl, ap}
-use Rattle.std.proofs.Common.{subst, arith}
-use Rattle.std.specs.Prelude.{count_by, IfSome}
+use Rattle.page_keys.proofs.Common.{◌≡◌, ◌⊎◌, inl, inr, ℕ, zero, suc, ◌+◌, ◌≤◌, Bool, true, cond, List, [], ◌∷◌, ◌++◌, length, take, Option, Some, None, refl, ap, subst, arith, count_by, IfSome, Config, BothTell, NoMoreToCome, Told, KeyPoint, IsKeyPoint, ServesKeys, is_key_cut, is_key_fault, seen_after, KeyCommand, apply, KeyReply}
 use Rattle.std.proofs.lemmas.List.Sums.{sum_by-cons}
-use Rattle.tx_types.specs.declared.config.Config.{Config}
-use Rattle.flash_model.specs.Calls.{BothTell, NoMoreToCome}
-use Rattle.flash_model.specs.Flash.{Told}
 use Rattle.array_machine.specs.Run.{MayBeSpent}
-use Rattle.page_keys.specs.KeyRuns.{KeyPoint, IsKeyPoint, KeyRun, DoesKeys, ServesKeys, IsKeySpent, AreFewBreaks, ChangesAtOnce, arms_key_cut, changes_in}
-use Rattle.page_keys.specs.KeyRuns.{is_key_cut, is_key_fault, is_stored, last_point, seen_after}
-use Rattle.page_keys.specs.declared.command.KeyCommand.{KeyCommand}
-use Rattle.page_keys.specs.KeyMaps.{after}
+use Rattle.page_keys.specs.KeyRuns.{KeyRun, DoesKeys, IsKeySpent, AreFewBreaks, ChangesAtOnce, arms_key_cut, changes_in}
+use Rattle.page_keys.specs.KeyRuns.{is_stored, last_point}
 use Rattle.page_keys.specs.declared.command.KeyCommand.TheVariants as command
-use Rattle.page_keys.specs.declared.key_reply.KeyReply.{KeyReply}
 use Rattle.page_keys.specs.declared.key_reply.KeyReply.TheVariants as reply
 
 -- what may be mentioned after these commands
@@ -96,9 +88,9 @@ few_breaks its seen old (d ∷ cs) [] ps t told run j = absurd run
 few_breaks its seen old (d ∷ cs) (s ∷ rs) [] t told run j = absurd run
 few_breaks its seen old (d ∷ cs) (s ∷ rs) (q ∷ ps) t told run zero = (omega arith, omega arith)
 few_breaks its seen old (d ∷ cs) (s ∷ rs) (q ∷ ps) t told run (suc j) =
-    let after = told_after (IsKeySpent d s) old.flash.told q.flash.told t told run.0.2.spends in
-    few_step d s cs rs t after.0 j after.2
-    (few_breaks its (seen_after its seen d s) q cs rs ps after.0 after.1 run.2 j)
+    let apply = told_after (IsKeySpent d s) old.flash.told q.flash.told t told run.0.2.spends in
+    few_step d s cs rs t apply.0 j apply.2
+    (few_breaks its (seen_after its seen d s) q cs rs ps apply.0 apply.1 run.2 j)
 
 -- and so than were to come before the first point
 pub few_first : (its : Config) (seen : ℕ → ℕ) (first : KeyPoint) (cs : List KeyCommand)
@@ -107,17 +99,17 @@ pub few_first : (its : Config) (seen : ℕ → ℕ) (first : KeyPoint) (cs : Lis
     IfSome before (λ t. AreFewBreaks t.cuts t.breaks cs rs)
 few_first its seen first cs rs ps None less run = tt
 few_first its seen first cs rs ps (Some t) less run = λ j.
-    let after = told_after NoMoreToCome (Some t) first.flash.told t refl less in
-    let few = few_breaks its seen first cs rs ps after.0 after.1 run j in
-    let cuts = after.2.0 in let breaks = after.2.1 in
+    let apply = told_after NoMoreToCome (Some t) first.flash.told t refl less in
+    let few = few_breaks its seen first cs rs ps apply.0 apply.1 run j in
+    let cuts = apply.2.0 in let breaks = apply.2.1 in
     (omega (arith, few.0, cuts), omega (arith, few.1, breaks))
 
 -- ---- each put is whole
 
 taken : (its : Config) (spent : ℕ → Bool) (c : KeyCommand) (old new : KeyPoint) (r : KeyReply) →
     DoesKeys its spent c old r new →
-    ((new.keys ≡ old.keys) ⊎ (new.keys ≡ after old.keys (changes_in c)))
-    × (is_stored r ≡ true → new.keys ≡ after old.keys (changes_in c))
+    ((new.keys ≡ old.keys) ⊎ (new.keys ≡ apply old.keys (changes_in c)))
+    × (is_stored r ≡ true → new.keys ≡ apply old.keys (changes_in c))
 taken its spent (command.Put cs) old new (reply.Stored n) h = (inr h.0.keys, λ s. h.0.keys)
 taken its spent (command.Put cs) old new reply.RefusedEmpty h = (inl h.1.keys, λ s. cc)
 taken its spent (command.Put cs) old new (reply.RefusedRepeated k) h = (inl h.1.1.keys, λ s. cc)

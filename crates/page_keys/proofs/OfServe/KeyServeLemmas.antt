@@ -1,42 +1,22 @@
 -- What serving a command of a key script comes to.
-use Rattle.std.proofs.Common.{◌≡◌, ℕ, ◌+◌, ◌<◌, ◌≤◌, Bool, true, false, not, cond, if◌then◌else◌, List, Option, Some, None, Result, Ok, Err, refl, sym, ap}
-use Rattle.std.proofs.Common.{subst, ◌∙◌, inl, inr, arith}
+use Rattle.page_keys.proofs.Common.{◌≡◌, ℕ, ◌+◌, ◌<◌, ◌≤◌, Bool, true, false, not, cond, if◌then◌else◌, List, Option, Some, None, Result, Ok, Err, refl, sym, ap, subst, ◌∙◌, inl, inr, arith, nat_tests, checked, shape_of, Config, Protocol, Shape, BothTell, Carries, NoMoreToCome, Spends, FlashState, Told, Moment, moment_of, IsSoundImage, array_in, seen_flash, HoldsAlways, IsSeen, ArrayState, Pages, is_spent, AreBuckets, EncodesMap, KeyMap, is_touched, IsKeyPoint, KeyPoint, ServesKeys, is_key_cut, is_key_fault, mentions_in, seen_after, DoesHere, Ends, Fits, IsKeyImage, ServesOne, flash_in, HasKeys, KeyStoreState, Change, KeyCommand, KeyServeError, KeyReply, KeySession}
 use Rattle.std.specs.Prelude.{IfOk, MatchBool}
-use Rattle.std.proofs.lemmas.Bool.Decides.{nat_tests}
-use Rattle.tx_types.specs.Config.{checked, shape_of}
 use Rattle.tx_types.specs.Limits.{max_version}
-use Rattle.tx_types.specs.declared.config.Config.{Config}
-use Rattle.tx_types.specs.declared.config.Protocol.{Protocol}
-use Rattle.tx_types.specs.declared.config.Shape.{Shape}
 use Rattle.flash_model.specs.Arms.{ArmsCut, SetsCut as ArmOf}
-use Rattle.flash_model.specs.Calls.{BothTell, Carries, NoMoreToCome, Rose, Spends}
-use Rattle.flash_model.specs.Flash.{FlashState, Told}
+use Rattle.flash_model.specs.Calls.{Rose}
 use Rattle.flash_model.specs.Moves.{Moves}
-use Rattle.flash_model.specs.Operations.{Moment, moment_of}
 use Rattle.flash_model.specs.declared.outcome.Outcome.{Outcome}
 use Rattle.flash_model.proofs.MoveLemmas.{Moves-nothing}
-use Rattle.version_index.specs.Images.{IsSoundImage, array_in}
-use Rattle.version_index.specs.Noted.{mention_of}
+use Rattle.version_index.specs.IndexState.{mention_of}
 use Rattle.array_machine.specs.Run.{MayBeSpent}
-use Rattle.tx_engine.proofs.OfStanding.Seen.{image_seen, seen_flash}
-use Rattle.tx_engine.specs.Always.{HoldsAlways, IsSeen}
-use Rattle.tx_engine.specs.ArrayState.{ArrayState, Pages}
-use Rattle.tx_engine.specs.Naming.{is_spent}
-use Rattle.page_keys.specs.Buckets.{AreBuckets, ShowsMap}
-use Rattle.page_keys.specs.KeyMaps.{KeyMap, is_touched}
-use Rattle.page_keys.specs.KeyRuns.{BreaksPut, DoesGet, DoesKeys, DoesPut, TakesPut, changes_in, is_tried, IsKeyPoint, IsKeySpent, KeyPoint, ServesKeys, Stays}
-use Rattle.page_keys.specs.KeyRuns.{arms_key_cut, is_key_break, is_key_cut, is_key_fault, mentions_in, seen_after}
-use Rattle.page_keys.specs.KeySessions.{DoesFor, DoesHere, Ends, Fits, FitsMounted, IsKeyImage, MeetsFault, MemoryLeaves, Mounts, Opens, ServesOne, SetsCut}
-use Rattle.page_keys.specs.KeySessions.{StandsUnmounted, StaysQuiet, flash_in, is_mounted, point_of}
-use Rattle.page_keys.specs.Stores.{HasKeys, Keyed}
-use Rattle.page_keys.specs.declared.changes.Change.{Change}
-use Rattle.page_keys.specs.declared.command.KeyCommand.{KeyCommand}
+use Rattle.tx_engine.proofs.OfDevice.Seen.{image_seen}
+use Rattle.page_keys.specs.KeyRuns.{BreaksPut, DoesGet, DoesKeys, DoesPut, TakesPut, changes_in, is_tried, IsKeySpent, Stays}
+use Rattle.page_keys.specs.KeyRuns.{arms_key_cut, is_key_break}
+use Rattle.page_keys.specs.KeySessions.{DoesFor, FitsMounted, MeetsFault, MemoryLeaves, Mounts, Opens, SetsCut}
+use Rattle.page_keys.specs.KeySessions.{StandsUnmounted, StaysQuiet, is_mounted, point_of}
 use Rattle.page_keys.specs.declared.command.KeyCommand.TheVariants as command
-use Rattle.page_keys.specs.declared.key_error.KeyServeError.{KeyServeError}
 use Rattle.page_keys.specs.declared.key_error.KeyServeError.TheVariants as failed
-use Rattle.page_keys.specs.declared.key_reply.KeyReply.{KeyReply}
 use Rattle.page_keys.specs.declared.key_reply.KeyReply.TheVariants as reply
-use Rattle.page_keys.specs.declared.key_session.KeySession.{KeySession}
 use Rattle.page_keys.specs.declared.key_session.KeySession.TheVariants as session
 use Rattle.page_keys.proofs.OfPut.Existing.{shows_some}
 use Rattle.page_keys.proofs.OfPut.PutGiven.{stands_idle}
@@ -159,7 +139,7 @@ seen_broken its seen c false = refl
 
 -- ---- an open store
 
-module _ {F : Type 0} (state : F → FlashState) (its : Config) (k : Keyed F)
+module _ {F : Type 0} (state : F → FlashState) (its : Config) (k : KeyStoreState F)
     (fits : FitsMounted state its k) where
   -- its image is sound, and shows what its array shows
   array_is : array_in its.protocol its.logical (state k.device.flash).image ≡ k.device.machine.pages
@@ -184,11 +164,11 @@ module _ {F : Type 0} (state : F → FlashState) (its : Config) (k : Keyed F)
     buckets = subst (AreBuckets its) (sym array_is) buckets_are;
   }
 
-  pub mounted_point : (m : KeyMap) → ShowsMap its k.device.machine.pages m →
+  pub mounted_point : (m : KeyMap) → EncodesMap its k.device.machine.pages m →
       IsKeyPoint its (record { keys = m; flash = state k.device.flash })
   mounted_point m shows = record {
     sound = sound_is;
-    shows = subst (λ (p : Pages). ShowsMap its p m) (sym array_is) shows;
+    shows = subst (λ (p : Pages). EncodesMap its p m) (sym array_is) shows;
   }
 
   may_be : (seen : ℕ → ℕ) → IsSeen seen k.device →
@@ -199,14 +179,14 @@ module _ {F : Type 0} (state : F → FlashState) (its : Config) (k : Keyed F)
       omega arith
 
   module _ (protocol : Protocol) (rule : its.protocol ≡ protocol) (c : KeyCommand)
-      (no_arm : arms_key_cut c ≡ false) (l : Keyed F)
+      (no_arm : arms_key_cut c ≡ false) (l : KeyStoreState F)
       (always : HoldsAlways state protocol l.device) (r : KeyReply) (does : DoesFor state c k l r) where
     -- the store shows some map
     some : DoesHere state c (shows_some its k.device.machine.pages buckets_are).0 k l r
     some =
         let shown = shows_some its k.device.machine.pages buckets_are in
         does shown.0
-        (subst (λ (x : Config). ShowsMap x k.device.machine.pages shown.0) (sym fits.config) shown.1)
+        (subst (λ (x : Config). EncodesMap x k.device.machine.pages shown.0) (sym fits.config) shown.1)
 
     config_is : l.device.config ≡ its
     config_is = some.config ∙ fits.config
@@ -217,11 +197,11 @@ module _ {F : Type 0} (state : F → FlashState) (its : Config) (k : Keyed F)
     check_is : checked its ≡ Ok (state l.device.flash).shape
     check_is = fits.check ∙ ap (λ (x : Shape). Ok x) (sym some.carries.shape)
 
-    here : (m : KeyMap) → ShowsMap its k.device.machine.pages m → DoesHere state c m k l r
+    here : (m : KeyMap) → EncodesMap its k.device.machine.pages m → DoesHere state c m k l r
     here m shows =
-        does m (subst (λ (x : Config). ShowsMap x k.device.machine.pages m) (sym fits.config) shows)
+        does m (subst (λ (x : Config). EncodesMap x k.device.machine.pages m) (sym fits.config) shows)
 
-    its_seen : (seen : ℕ → ℕ) (m : KeyMap) → ShowsMap its k.device.machine.pages m →
+    its_seen : (seen : ℕ → ℕ) (m : KeyMap) → EncodesMap its k.device.machine.pages m →
         IsSeen seen k.device → IsSeen (seen_after its seen c r) l.device
     its_seen seen m shows h =
         subst (λ (x : Config). IsSeen (seen_after x seen c r) l.device) fits.config
@@ -237,7 +217,7 @@ module _ {F : Type 0} (state : F → FlashState) (its : Config) (k : Keyed F)
       live_is : (state l.device.flash).live ≡ true
       live_is = fine_carries.lives ∙ fits.live
 
-      serves_fine : (m : KeyMap) (shows : ShowsMap its k.device.machine.pages m) →
+      serves_fine : (m : KeyMap) (shows : EncodesMap its k.device.machine.pages m) →
           ServesKeys its (is_spent k.device.noted.mentions) c
           (record { keys = m; flash = state k.device.flash }) r
           (record { keys = (here m shows).left; flash = state l.device.flash })
@@ -270,7 +250,7 @@ module _ {F : Type 0} (state : F → FlashState) (its : Config) (k : Keyed F)
           may = may_be seen stands.mentions;
           serves = serves_fine m stands.shows;
           stands = record {
-            shows = subst (λ (x : Config). ShowsMap x l.device.machine.pages (here m stands.shows).left)
+            shows = subst (λ (x : Config). EncodesMap x l.device.machine.pages (here m stands.shows).left)
                 config_is ((here m stands.shows).shows fine);
             mentions = its_seen seen m stands.shows stands.mentions;
           };
@@ -284,14 +264,14 @@ module _ {F : Type 0} (state : F → FlashState) (its : Config) (k : Keyed F)
       torn : Carries (state k.device.flash) (state l.device.flash) true
       torn = subst (λ b. Carries (state k.device.flash) (state l.device.flash) b) fault some.carries
 
-      stands_closed : (seen : ℕ → ℕ) (m : KeyMap) (shows : ShowsMap its k.device.machine.pages m) →
+      stands_closed : (seen : ℕ → ℕ) (m : KeyMap) (shows : EncodesMap its k.device.machine.pages m) →
           IsSeen seen k.device →
           StandsUnmounted its (seen_after its seen c reply.Fault) (here m shows).left
           (state l.device.flash)
       stands_closed seen m shows h = record {
         sound = subst (λ (x : Config). IsSoundImage x.protocol x.logical (shape_of x)
             (state l.device.flash).image) config_is always.sound;
-        shows = subst (λ (x : Config). ShowsMap x
+        shows = subst (λ (x : Config). EncodesMap x
             (array_in x.protocol x.logical (state l.device.flash).image) (here m shows).left) config_is
             ((here m shows).image fault);
         mentions = λ page lt.
@@ -303,7 +283,7 @@ module _ {F : Type 0} (state : F → FlashState) (its : Config) (k : Keyed F)
             (subst (λ (x : Config). page < x.logical) (sym config_is) lt));
       }
 
-      serves_fault : (m : KeyMap) (shows : ShowsMap its k.device.machine.pages m) (live : Bool) →
+      serves_fault : (m : KeyMap) (shows : EncodesMap its k.device.machine.pages m) (live : Bool) →
           (state l.device.flash).live ≡ live →
           ServesKeys its (is_spent k.device.noted.mentions) c
           (record { keys = m; flash = state k.device.flash }) (broken_reply live)
@@ -340,7 +320,7 @@ module _ {F : Type 0} (state : F → FlashState) (its : Config) (k : Keyed F)
       }
 
   -- a put for which there was no memory
-  pub starved : (l : Keyed F) → MemoryLeaves state k l →
+  pub starved : (l : KeyStoreState F) → MemoryLeaves state k l →
       Ends its (state k.device.flash) (state l.device.flash) failed.Memory
   starved l leaves = record {
     cause = tt;
@@ -442,7 +422,7 @@ seen_least its seen c r page =
 module _ {F R : Type 0} (state : F → FlashState) (its : Config) (c : KeyCommand)
     (no_arm : arms_key_cut c ≡ false) (flash : F) where
   -- it was opened, and the command was served
-  pub served_opened : (k : Keyed F) (r : KeyReply) (new : KeySession F R) → Opens state its flash k →
+  pub served_opened : (k : KeyStoreState F) (r : KeyReply) (new : KeySession F R) → Opens state its flash k →
       ServesOne {R = R} state its c (session.Mounted k) r new →
       ServesOne {R = R} state its c (session.Unmounted flash) r new
   served_opened k r new opens one = record {
@@ -451,7 +431,7 @@ module _ {F R : Type 0} (state : F → FlashState) (its : Config) (c : KeyComman
         let pages : array_in its.protocol its.logical (state flash).image ≡ k.device.machine.pages =
         sym (ap (λ (s : ArrayState). s.pages) opens.machine) in
         let inside = one.in_run seen m (record {
-          shows = subst (λ (p : Pages). ShowsMap its p m) pages stands.shows;
+          shows = subst (λ (p : Pages). EncodesMap its p m) pages stands.shows;
           mentions = opens.seen seen stands.mentions;
         }) in
         record {
@@ -493,7 +473,7 @@ module _ {F R : Type 0} (state : F → FlashState) (its : Config) (c : KeyComman
       stands = record {
         sound = subst (λ (x : Moment). IsSoundImage its.protocol its.logical (shape_of its) x.image)
             (sym meets.still.moment) stands.sound;
-        shows = subst (λ (x : Moment). ShowsMap its (array_in its.protocol its.logical x.image) m)
+        shows = subst (λ (x : Moment). EncodesMap its (array_in its.protocol its.logical x.image) m)
             (sym meets.still.moment) stands.shows;
         mentions = λ page lt.
             subst (λ (x : Moment). mentions_in its x page
@@ -532,11 +512,11 @@ module _ {F R : Type 0} (state : F → FlashState) (its : Config) (count : ℕ) 
       ServesOne state its (command.Cut count what) old reply.Armed new
   armed protocol (session.Mounted k) (session.Mounted l) rule fits sets =
       let config : l.device.config ≡ its =
-      ap (λ (x : Keyed F). x.device.config) sets.stays ∙ fits.config in
+      ap (λ (x : KeyStoreState F). x.device.config) sets.stays ∙ fits.config in
       let flash = sets.arms.stays in
       record {
         fits = record {
-          usable = ap (λ (x : Keyed F). x.broken) sets.stays ∙ fits.usable;
+          usable = ap (λ (x : KeyStoreState F). x.broken) sets.stays ∙ fits.usable;
           config = config;
           check = fits.check ∙ ap (λ (s : FlashState). Ok s.shape) (sym flash);
           live = ap (λ (s : FlashState). s.live) flash ∙ fits.live;
@@ -549,9 +529,9 @@ module _ {F R : Type 0} (state : F → FlashState) (its : Config) (count : ℕ) 
           may = λ page is. cc;
           serves = arm_serves its count what m (state k.device.flash) (state l.device.flash) sets.arms;
           stands = record {
-            shows = subst (λ (x : Keyed F). ShowsMap its x.device.machine.pages m) (sym sets.stays)
+            shows = subst (λ (x : KeyStoreState F). EncodesMap its x.device.machine.pages m) (sym sets.stays)
                 stands.shows;
-            mentions = subst (λ (x : Keyed F). IsSeen seen x.device) (sym sets.stays)
+            mentions = subst (λ (x : KeyStoreState F). IsSeen seen x.device) (sym sets.stays)
                 (seen_flash seen k.device l.device.flash stands.mentions);
           };
         };
@@ -568,7 +548,7 @@ module _ {F R : Type 0} (state : F → FlashState) (its : Config) (count : ℕ) 
       stands = record {
         sound = subst (λ (s : FlashState). IsSoundImage its.protocol its.logical (shape_of its)
             s.image) (sym sets.stays) stands.sound;
-        shows = subst (λ (s : FlashState). ShowsMap its (array_in its.protocol its.logical s.image) m)
+        shows = subst (λ (s : FlashState). EncodesMap its (array_in its.protocol its.logical s.image) m)
             (sym sets.stays) stands.shows;
         mentions = λ page lt. subst (λ (s : FlashState). mentions_in its (moment_of s) page
             ≤ seen page) (sym sets.stays) (stands.mentions page lt);

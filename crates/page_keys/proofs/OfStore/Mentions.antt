@@ -1,25 +1,18 @@
 -- How often pages were mentioned, over a put.
-use Rattle.std.proofs.Common.{◌≡◌, ℕ, ◌+◌, ◌≤◌, Bool, true, false, cond, ◌||◌, List, [], ◌∷◌, ◌++◌, map, filter, Ok, refl, sym, ap, subst, ◌∙◌, inl, inr, arith}
+use Rattle.page_keys.proofs.Common.{◌≡◌, ℕ, ◌+◌, ◌≤◌, Bool, true, false, cond, ◌||◌, List, [], ◌∷◌, ◌++◌, map, filter, Ok, refl, sym, ap, subst, ◌∙◌, inl, inr, arith, list_any, AllByRecursion, range_with_len, nat_tests, PageWrite, Config, IndexState, IsSeen, DeviceState, KeyMap, apply, is_touched, pages_of, put_writes, write_of, Change}
 use Rattle.std.proofs.Common.{eq-eqb, Contains}
 use Rattle.std.specs.Prelude.{Any}
-use Rattle.std.specs.List.{list_any, AllByRecursion, range_with_len}
-use Rattle.std.proofs.lemmas.Bool.Decides.{nat_tests}
 use Rattle.std.proofs.lemmas.List.Elements.{Contains-push_cases}
-use Rattle.list_facts.proofs.Membership.{in_any, any_in, Contains-cases, Contains-nil}
-use Rattle.tx_types.specs.Batch.{PageWrite}
-use Rattle.tx_types.specs.declared.config.Config.{Config}
+use Rattle.list_lemmas.proofs.Membership.{in_any, any_in, Contains-cases, Contains-nil}
 use Rattle.tx_types.specs.declared.record.Link.{Link}
-use Rattle.version_index.specs.Noted.{Noted, mention_of}
-use Rattle.tx_engine.specs.Always.{IsSeen}
+use Rattle.version_index.specs.IndexState.{mention_of}
 use Rattle.tx_engine.specs.Exits.{IsNamedAt}
 use Rattle.tx_engine.specs.Naming.{named_after, KeepsTables}
-use Rattle.tx_engine.specs.OpenTable.{next_name}
-use Rattle.tx_engine.specs.Standing.{Standing, Naming}
+use Rattle.tx_engine.specs.OpenTransactionsState.{next_name}
+use Rattle.tx_engine.specs.DeviceState.{Naming}
 use Rattle.tx_engine.specs.Submit.{is_of}
-use Rattle.page_keys.specs.KeyMaps.{KeyMap, after, is_touched, pages_of, seen_by}
-use Rattle.page_keys.specs.Puts.{put_writes, write_of}
+use Rattle.page_keys.specs.KeyMaps.{seen_by}
 use Rattle.page_keys.specs.Writing.{seen_more}
-use Rattle.page_keys.specs.declared.changes.Change.{Change}
 
 or_true : (a b : Bool) → b ≡ true → (a || b) ≡ true
 or_true true b h = refl
@@ -29,7 +22,7 @@ or_left : (a b : Bool) → a ≡ true → (a || b) ≡ true
 or_left a b h = rw h refl
 
 -- a name that is written now is one above the mention of its page, which is one of these
-named_in : (n : Noted) (ws : List PageWrite) (page version : ℕ) (name : Link) →
+named_in : (n : IndexState) (ws : List PageWrite) (page version : ℕ) (name : Link) →
     Contains (map (next_name n) ws) name → name.page ≡ page → name.version ≡ version →
     (version ≡ mention_of n page + 1) × (list_any (is_of page) ws ≡ true)
 named_in n [] page version name c same at = absurd (Contains-nil name c)
@@ -53,7 +46,7 @@ one_more : (b : Bool) (n version : ℕ) → b ≡ true → version ≤ n + 1 →
 one_more true n version h most = most
 one_more false n version h most = cc
 
-module _ {F : Type 0} (old new : Standing F) (seen : ℕ → ℕ) where
+module _ {F : Type 0} (old new : DeviceState F) (seen : ℕ → ℕ) where
   -- tables with the same mentions and names
   pub seen_same : new.noted.mentions ≡ old.noted.mentions → new.namings ≡ old.namings →
       IsSeen seen old → IsSeen seen new
@@ -104,7 +97,7 @@ module _ {F : Type 0} (old new : Standing F) (seen : ℕ → ℕ) where
   submitted_seen ws u names keeps h = record {
     mentions = λ page. (
         let same : mention_of new.noted page ≡ mention_of old.noted page =
-        ap (λ (n : Noted). mention_of n page) keeps.noted in
+        ap (λ (n : IndexState). mention_of n page) keeps.noted in
         let least = more_least (list_any (is_of page) ws) (seen page) in
         let most = h.mentions page in omega arith);
     names = named_now ws h names;
@@ -144,7 +137,7 @@ pub put_seen : (its : Config) (m : KeyMap) (cs : List Change) (seen : ℕ → �
     seen_more seen (put_writes its m cs) page ≤ seen_by its.logical cs seen page
 put_seen its m cs seen page =
     more_of (list_any (is_of page) (put_writes its m cs)) (is_touched its.logical cs page) (seen page)
-    (any_touched its (after m cs) (is_touched its.logical cs) page (pages_of its.logical cs)
+    (any_touched its (apply m cs) (is_touched its.logical cs) page (pages_of its.logical cs)
     (all_touched (is_touched its.logical cs) (range_with_len 0 its.logical)))
 
 pub seen_by_least : (logical : ℕ) (cs : List Change) (seen : ℕ → ℕ) (page : ℕ) →

@@ -1,33 +1,26 @@
 -- What reads of pages keep of a device.
-use Rattle.std.proofs.Common.{◌≡◌, ℕ, zero, suc, ◌+◌, ◌*◌, ◌/◌, ◌<◌, ◌≤◌, nat_lt, Bool, true, false, List, ◌∷◌, ◌++◌, length, drop, replicate, get_or, set}
-use Rattle.std.proofs.Common.{refl, sym, ap, subst, ◌∙◌, arith, Vec, Global}
-use Rattle.flash_model.specs.Flash.{FlashState}
-use Rattle.flash_model.proofs.CallLemmas.{Carries-nothing, Carries-then}
-use Rattle.std.proofs.Math.Seq.{drop-cons, set-append_seam}
-use Rattle.tx_engine.specs.Standing.{Standing}
+use Rattle.page_keys.proofs.Common.{◌≡◌, ℕ, zero, suc, ◌+◌, ◌<◌, ◌≤◌, nat_lt, Bool, true, false, List, ◌∷◌, ◌++◌, length, drop, replicate, get_or, set, refl, sym, ap, subst, ◌∙◌, arith, FlashState, Carries-nothing, Carries-then, drop-cons, DeviceState, nat_tests, page_at, HoldsEntries, IsBucket, IsBucketOf, encodes, Pair, HasKeys, OnlyReads}
+use Rattle.std.proofs.Common.{◌*◌, ◌/◌}
+use Rattle.std.proofs.Common.{Vec, Global}
+use Rattle.std.proofs.Math.Seq.{set-append_seam}
 use Rattle.std.specs.Vec.{with_items}
-use Rattle.std.proofs.lemmas.Bool.Decides.{nat_tests}
 use Rattle.std.proofs.lemmas.List.{with_items_is}
-use Rattle.tx_engine.specs.ArrayState.{page_at}
-use Rattle.page_keys.specs.Buckets.{HoldsEntries, IsBucket, IsBucketOf, shown}
-use Rattle.page_keys.specs.KeyMaps.{Pair}
-use Rattle.page_keys.specs.Stores.{HasKeys, OnlyReads}
 use Rattle.page_keys.proofs.OfBucket.Spelling.{length_zeros}
 
 module _ {F : Type 0} (state : F → FlashState) where
-  pub reads_nothing : (s : Standing F) → OnlyReads state s s false
+  pub reads_nothing : (s : DeviceState F) → OnlyReads state s s false
   reads_nothing s =
       record { stays = refl; moment = refl; carries = Carries-nothing (state s.flash) }
 
-  pub reads_then : (a b c : Standing F) (broken : Bool) → OnlyReads state a b false →
+  pub reads_then : (a b c : DeviceState F) (broken : Bool) → OnlyReads state a b false →
       OnlyReads state b c broken → OnlyReads state a c broken
   reads_then a b c broken first second = record {
-    stays = second.stays ∙ ap (λ (s : Standing F). record s { flash = c.flash }) first.stays;
+    stays = second.stays ∙ ap (λ (s : DeviceState F). record s { flash = c.flash }) first.stays;
     moment = second.moment ∙ first.moment;
     carries = Carries-then _ _ _ broken first.carries second.carries;
   }
 
-pub keeps_keys : {F : Type 0} (s t : Standing F) → t ≡ record s { flash = t.flash } → HasKeys s →
+pub keeps_keys : {F : Type 0} (s t : DeviceState F) → t ≡ record s { flash = t.flash } → HasKeys s →
     HasKeys t
 keeps_keys s t stays keys =
     subst HasKeys (sym stays) (record { closed = keys.closed; buckets = keys.buckets })
@@ -62,25 +55,25 @@ holds_read n here bytes pairs same size holds =
     subst (λ k. HoldsEntries k bytes pairs) (sym size)
     (subst (λ (b : List ℕ). HoldsEntries n b pairs) (sym same) holds)
 
-module _ {F : Type 0} (s t : Standing F) (room : List ℕ) (logical page : ℕ)
+module _ {F : Type 0} (s t : DeviceState F) (room : List ℕ) (logical page : ℕ)
     (stays : t ≡ record s { flash = t.flash })
-    (read : room ≡ shown t.config.page_bytes (page_at t.machine.pages page))
+    (read : room ≡ encodes t.config.page_bytes (page_at t.machine.pages page))
     (size : length room ≡ s.config.page_bytes) (its : logical ≡ s.config.logical) where
-  here : room ≡ shown s.config.page_bytes (page_at s.machine.pages page)
+  here : room ≡ encodes s.config.page_bytes (page_at s.machine.pages page)
   here = read
-      ∙ ap (λ (x : Standing F). shown x.config.page_bytes (page_at x.machine.pages page)) stays
+      ∙ ap (λ (x : DeviceState F). encodes x.config.page_bytes (page_at x.machine.pages page)) stays
 
   -- what was read is a bucket where the page is one
   pub bucket_read : IsBucket (length room) logical page room →
       IsBucket s.config.page_bytes s.config.logical page
-      (shown s.config.page_bytes (page_at s.machine.pages page))
+      (encodes s.config.page_bytes (page_at s.machine.pages page))
   bucket_read h =
       subst (λ (b : List ℕ). IsBucket s.config.page_bytes s.config.logical page b) here
       (subst (λ k. IsBucket s.config.page_bytes k page room) its
       (subst (λ k. IsBucket k logical page room) size h))
 
   pub bucket_back : IsBucket s.config.page_bytes s.config.logical page
-      (shown s.config.page_bytes (page_at s.machine.pages page)) →
+      (encodes s.config.page_bytes (page_at s.machine.pages page)) →
       IsBucket (length room) logical page room
   bucket_back h =
       subst (λ k. IsBucket k logical page room) (sym size)
@@ -88,17 +81,17 @@ module _ {F : Type 0} (s t : Standing F) (room : List ℕ) (logical page : ℕ)
       (subst (λ (b : List ℕ). IsBucket s.config.page_bytes s.config.logical page b) (sym here) h))
 
 -- the entries that were read of a page of a store are a bucket's
-pub entries_read : {F : Type 0} (s : Standing F) (page : ℕ) (room : List ℕ) (read : List Pair) → HasKeys s →
-    page < s.config.logical → room ≡ shown s.config.page_bytes (page_at s.machine.pages page) →
+pub entries_read : {F : Type 0} (s : DeviceState F) (page : ℕ) (room : List ℕ) (read : List Pair) → HasKeys s →
+    page < s.config.logical → room ≡ encodes s.config.page_bytes (page_at s.machine.pages page) →
     length room ≡ s.config.page_bytes →
     ((pairs : List Pair) → HoldsEntries (length room) room pairs → read ≡ pairs) →
     IsBucketOf s.config.page_bytes s.config.logical page
-    (shown s.config.page_bytes (page_at s.machine.pages page)) read
+    (encodes s.config.page_bytes (page_at s.machine.pages page)) read
 entries_read s page room read keys exists same size all =
     let found = keys.buckets page exists in
     let its = all found.0 (holds_read s.config.page_bytes _ room found.0 same size found.1.holds) in
     subst (IsBucketOf s.config.page_bytes s.config.logical page
-    (shown s.config.page_bytes (page_at s.machine.pages page))) (sym its) found.1
+    (encodes s.config.page_bytes (page_at s.machine.pages page))) (sym its) found.1
 
 pub is_over_by : (p q n r : ℕ) → p ≡ q → p / 32 < r → r ≤ n → nat_lt q (32 * n) ≡ true
 is_over_by p q n r same more least =

@@ -1,21 +1,12 @@
 -- What the four changes do to the array that a list with bytes stands for, from what they keep of its records.
-use Rattle.std.proofs.Common.{◌≡◌, ℕ, ◌<◌, ◌≤◌, ◌⊎◌, Bool, true, false, Some, None, List, [], ◌∷◌, All, refl, sym, ap, ◌∙◌, subst, inl, inr, arith, Contains}
+use Rattle.record_list.proofs.Common.{◌≡◌, ℕ, ◌<◌, ◌≤◌, ◌⊎◌, Bool, true, false, List, [], ◌∷◌, All, refl, sym, ap, ◌∙◌, subst, inl, inr, arith, Contains, cases_Bool, cases_lt, cond-true, cond-false, both_ways, All-contains, all_from, from_filter, Contains-first, Contains-rest, Link, Protocol, Found, name_of, has_name, is_present, IsScanned, cur, IsCurrent, is_held, current_name, IsSoundList, IsInserted, IsWrite, SameCurrent, left, KeepsCounted, PartialWriteLaw, CompletingWriteLaw, CopyLaw, LossLaw, Written, found_of, records_of, BytesAgree, is_outside, left_written}
+use Rattle.std.proofs.Common.{Some, None}
 use Rattle.std.specs.Prelude.{find, option_and_then}
 use Rattle.std.specs.Option.{option_map}
-use Rattle.std.proofs.lemmas.Bool.{cases_Bool, cases_lt, cond-true, cond-false, or_from, both_ways}
-use Rattle.std.proofs.lemmas.List.Elements.{All-contains}
-use Rattle.list_facts.proofs.Membership.{all_from, from_filter, Contains-first, Contains-rest}
-use Rattle.list_facts.proofs.Ranges.{map_range}
-use Rattle.tx_types.specs.declared.record.Link.{Link}
-use Rattle.tx_types.specs.declared.config.Protocol.{Protocol}
-use Rattle.record_list.specs.declared.found.Found.{Found}
-use Rattle.record_list.specs.Records.{name_of, has_name, is_present, IsScanned}
-use Rattle.record_list.specs.Current.{cur, IsCurrent, is_held}
-use Rattle.record_list.specs.SoundList.{current_name, IsSoundList}
-use Rattle.record_list.specs.Changes.{IsInserted, IsWrite, SameCurrent, left, KeepsCounted, PartialWriteLaw, CompletingWriteLaw, CopyLaw, LossLaw}
+use Rattle.std.proofs.lemmas.Bool.{or_from}
+use Rattle.list_lemmas.proofs.Ranges.{map_range}
 use Rattle.record_list.specs.ArrayChanges.{PartialWriteLeavesArray, CompletingWriteTakesTransaction, CopyLeavesArray, BlockLossLeavesArray}
-use Rattle.record_list.specs.Written.{Written, found_of, records_of, text_of, text_at, value_of, value_at, page_at, array_of, BytesAgree, is_outside}
-use Rattle.record_list.specs.Losses.{left_written}
+use Rattle.record_list.specs.Written.{text_of, text_at, value_of, value_at, page_at, array_of}
 use Rattle.record_list.proofs.OfFacts.Names.{has_name_true, found_named, present_as}
 use Rattle.record_list.proofs.OfFacts.SoundNames.{sound_map}
 use Rattle.record_list.proofs.OfLosses.LossCounted.{counted_present}

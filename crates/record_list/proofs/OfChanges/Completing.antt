@@ -1,17 +1,6 @@
 -- A write that completes its cycle, for either protocol: the names become current, every other current version stays, and
 -- laws 1 to 5 hold.
-use Rattle.std.proofs.Common.{◌≡◌, ℕ, ◌<◌, ◌≤◌, true, ◌&&◌, eqb, ltb, List, refl, sym, ap, ◌∙◌, subst, inl, inr, arith, le-ltb, ne_eqb, Contains}
-use Rattle.std.proofs.lemmas.Bool.{cases_eq, cond-false, and_left, and_right}
-use Rattle.tx_types.specs.declared.record.Link.{Link}
-use Rattle.tx_types.specs.declared.config.Protocol.{Protocol}
-use Rattle.tx_types.specs.declared.config.Protocol.TheVariants.{Scc, Bpcc}
-use Rattle.record_list.specs.declared.found.Found.{Found}
-use Rattle.record_list.specs.Records.{newest, name_of, is_present}
-use Rattle.record_list.specs.Verdict.{newest_name, link_of, straddles, straddling_version, straddling}
-use Rattle.record_list.specs.Current.{cur}
-use Rattle.record_list.specs.SoundList.{current_name}
-use Rattle.record_list.specs.Transaction.{back_version}
-use Rattle.record_list.specs.Changes.{IsInserted}
+use Rattle.record_list.proofs.Common.{◌≡◌, ℕ, ◌<◌, ◌≤◌, true, ◌&&◌, eqb, ltb, List, refl, sym, ap, ◌∙◌, subst, inl, inr, arith, le-ltb, ne_eqb, Contains, cases_eq, cond-false, and_left, and_right, Link, Protocol, Scc, Bpcc, Found, newest, name_of, is_present, newest_name, link_of, straddles, straddling_version, straddling, cur, current_name, back_version, IsInserted}
 use Rattle.record_list.proofs.OfFacts.Names.{named, same_name, greatest_least, newest_bound, present_in}
 use Rattle.record_list.proofs.OfFacts.Safe.{is_clear, counts_from}
 use Rattle.record_list.proofs.OfFacts.SoundNames.{IsSoundMap, LooseNames, EndingNames, clear_from}

@@ -1,16 +1,6 @@
 -- An equal copy of a record changes nothing, under either protocol: a list counts as the set of its records.
-use Rattle.std.proofs.Common.{◌≡◌, ℕ, zero, suc, eqb, ltb, Bool, List, sym, refl, ap, ◌∙◌, ⊎_elim, if◌then◌else◌}
-use Rattle.std.proofs.lemmas.Bool.{cases_Bool, both_ways, false_from_ne_true}
-use Rattle.tx_types.specs.declared.record.Link.{Link}
-use Rattle.tx_types.specs.declared.config.Protocol.{Protocol}
-use Rattle.tx_types.specs.declared.config.Protocol.TheVariants.{Scc, Bpcc}
-use Rattle.record_list.specs.declared.found.Found.{Found}
+use Rattle.record_list.proofs.Common.{◌≡◌, ℕ, zero, suc, eqb, ltb, Bool, List, sym, refl, ap, ◌∙◌, ⊎_elim, if◌then◌else◌, cases_Bool, both_ways, false_from_ne_true, Link, Protocol, Scc, Bpcc, Found, Cycle, Passed, Absent, Straddled, newest, version_of, version_below, next_older, is_same, newest_name, link_of, back_of, straddling_version, why_below_newest, is_ahead, is_behind, walk, why, is_committed, cur, fallback, is_held, CopyLaw}
 use Rattle.record_list.specs.declared.found.Why.{Why}
-use Rattle.record_list.specs.declared.found.Why.TheVariants.{Cycle, Passed, Absent, Straddled}
-use Rattle.record_list.specs.Records.{newest, version_of, version_below, next_older, is_same}
-use Rattle.record_list.specs.Verdict.{newest_name, link_of, back_of, straddling_version, passed, is_ahead, is_behind, walk, why, is_committed}
-use Rattle.record_list.specs.Current.{cur, fallback, is_held}
-use Rattle.record_list.specs.Changes.{CopyLaw}
 use Rattle.record_list.proofs.OfFacts.SoundNames.{IsSoundMap, sound_map, sound_list}
 use Rattle.record_list.proofs.OfLosses.LossAmong.{among_of, copied_among, IsOneEach, IsSame, one_each, one_each_among, same_greatest, same_present, same_link}
 use Rattle.record_list.proofs.OfLosses.LossAmong.{same_back}
@@ -33,7 +23,7 @@ module _ (l m : List Found) (s : IsSame l m) (o : IsOneEach m) where
   same_newest : (page : ℕ) → newest l page ≡ newest m page
   same_newest page = same_greatest l m s (version_of page)
 
-  same_passed : (p : Protocol) (link : Link) → passed p l link ≡ passed p m link
+  same_passed : (p : Protocol) (link : Link) → why_below_newest p l link ≡ why_below_newest p m link
   same_passed Scc link = refl
   same_passed Bpcc link = ap (λ v. if eqb v 0 then Passed else Straddled v) (same_greatest l m s (straddling_version link))
 
@@ -43,7 +33,7 @@ module _ (l m : List Found) (s : IsSame l m) (o : IsOneEach m) where
   same_walk p start (suc n) link =
       let rest : walk p l start n (link_of l link) ≡ walk p m start n (link_of m link) = same_walk p start n (link_of l link) ∙
       ap (walk p m start n) (same_link l m s o link) in
-      same_turn (is_ahead l link) (is_ahead m link) (is_behind l link) (is_behind m link) (is_same link start) (passed p l link) (passed p m link)
+      same_turn (is_ahead l link) (is_ahead m link) (is_behind l link) (is_behind m link) (is_same link start) (why_below_newest p l link) (why_below_newest p m link)
       (walk p l start n (link_of l link)) (walk p m start n (link_of m link))
       (ap (λ v. ltb v link.version) (same_newest link.page)) (ap (λ v. ltb link.version v) (same_newest link.page)) (same_passed p link) rest
 

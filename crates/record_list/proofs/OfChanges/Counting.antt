@@ -1,18 +1,6 @@
 -- Law 9 through the changes of a list: a record of a transaction is written, a record is copied, records are lost.
-use Rattle.std.proofs.Common.{◌≡◌, ◌≢◌, ℕ, zero, suc, ◌-◌, ◌<◌, true, List, [], ◌∷◌, zip, length, All, Contains, refl, sym, ap, ◌∙◌, subst, inl, inr, arith}
-use Rattle.std.proofs.lemmas.List.Elements.{All-contains}
-use Rattle.list_facts.proofs.Membership.{all_from, from_filter, Contains-first, Contains-rest, Contains-nil}
-use Rattle.list_facts.proofs.Pairs.{in_order}
-use Rattle.tx_types.specs.declared.record.Link.{Link}
-use Rattle.tx_types.specs.declared.record.Rec.{Rec}
-use Rattle.tx_types.specs.declared.config.Protocol.{Protocol}
-use Rattle.record_list.specs.declared.found.Found.{Found}
-use Rattle.record_list.specs.Records.{name_of, mentioned_at, is_present, IsScanned}
-use Rattle.record_list.specs.Verdict.{link_of}
-use Rattle.record_list.specs.SoundList.{CopiesAgree, follow}
-use Rattle.record_list.specs.Transaction.{next_names, IsAsked, IsAskedAt}
-use Rattle.record_list.specs.Changes.{IsWrite, left}
-use Rattle.record_list.specs.Counts.{IsFirstReturn, KeepsCount, HasCounts, WriteKeepsCounts, CopyKeepsCounts, LossKeepsCounts}
+use Rattle.record_list.proofs.Common.{◌≡◌, ◌≢◌, ℕ, zero, suc, ◌-◌, ◌<◌, true, List, [], ◌∷◌, zip, length, All, Contains, refl, sym, ap, ◌∙◌, subst, inl, inr, arith, All-contains, all_from, from_filter, Contains-first, Contains-rest, Contains-nil, in_order, Link, Rec, Protocol, Found, name_of, mention_at, is_present, IsScanned, link_of, CopiesAgree, follow, next_names, IsAsked, IsAskedAt, IsWrite, left, KeepsCount}
+use Rattle.record_list.specs.Counts.{IsFirstReturn, HasCounts, WriteKeepsCounts, CopyKeepsCounts, LossKeepsCounts}
 use Rattle.record_list.proofs.OfFacts.Names.{present_in, links_from}
 use Rattle.record_list.proofs.OfWalks.Follow.{follow_last}
 use Rattle.record_list.proofs.OfWalks.Returns.{one_return, next_returns, next_present, all_present}
@@ -197,9 +185,9 @@ module _ (p : Protocol) (l l' : List Found) (logical : ℕ) (names : List Link) 
   -- and links to none
   other_link : (g : Found) → Contains l g → (Contains names (name_of g.rec) → ⊥) → Contains names g.rec.next → ⊥
   other_link g old out j =
-      let others = All-contains (λ h. (Contains names (name_of h.rec) → ⊥) → All (λ n. mentioned_at n.page h.rec < n.version) names)
+      let others = All-contains (λ h. (Contains names (name_of h.rec) → ⊥) → All (λ n. mention_at n.page h.rec < n.version) names)
       l g w.in_progress.begun.others old out in
-      let low = (mention_parts g.rec g.rec.next (All-contains (λ n. mentioned_at n.page g.rec < n.version) names g.rec.next others j)).1 refl in
+      let low = (mention_parts g.rec g.rec.next (All-contains (λ n. mention_at n.page g.rec < n.version) names g.rec.next others j)).1 refl in
       omega arith
 
   -- the first half of the law

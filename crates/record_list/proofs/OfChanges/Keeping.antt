@@ -1,17 +1,7 @@
 -- What a write keeps in progress: its own transaction and others, where their current versions stay.
-use Rattle.std.proofs.Common.{◌≡◌, ◌≢◌, ℕ, ◌^◌, ◌<◌, ◌≤◌, false, eqb, List, zip, All, Contains, refl, sym, ◌∙◌, subst, inl, inr, arith, ne_eqb}
-use Rattle.std.proofs.lemmas.Bool.{false≢true, cases_Bool, cond-false}
-use Rattle.std.proofs.lemmas.List.Elements.{All-contains}
-use Rattle.list_facts.proofs.Membership.{all_from}
-use Rattle.tx_types.specs.declared.record.Link.{Link}
-use Rattle.tx_types.specs.declared.record.Rec.{Rec}
-use Rattle.tx_types.specs.declared.config.Protocol.{Protocol}
-use Rattle.tx_types.specs.declared.config.Protocol.TheVariants.{Scc, Bpcc}
-use Rattle.record_list.specs.declared.found.Found.{Found}
-use Rattle.record_list.specs.Records.{version_of, linked_at, mentioned_at, name_of, is_present}
-use Rattle.record_list.specs.Current.{cur}
-use Rattle.record_list.specs.Transaction.{next_names, back_version, IsAsked, IsBegun, InProgress, ShareNoPage, IsAskedAt}
-use Rattle.record_list.specs.Changes.{IsWrite}
+use Rattle.record_list.proofs.Common.{◌≡◌, ◌≢◌, ℕ, ◌^◌, ◌<◌, ◌≤◌, false, eqb, List, zip, All, Contains, refl, sym, ◌∙◌, subst, inl, inr, arith, ne_eqb, false≢true, cases_Bool, cond-false, All-contains, all_from, Link, Rec, Protocol, Scc, Bpcc, Found, version_of, mention_at, name_of, is_present, cur, next_names, back_version, IsAsked, InProgress, IsAskedAt, IsWrite}
+use Rattle.record_list.specs.Records.{linked_at}
+use Rattle.record_list.specs.Transaction.{IsBegun, ShareNoPage}
 use Rattle.record_list.proofs.OfWalks.Rounds.{Follows, follows_in}
 use Rattle.record_list.proofs.OfChanges.Progress.{underway_of}
 use Rattle.record_list.proofs.OfChanges.OneMore.{inserted_all, one_more, IsStep, next_in}
@@ -78,7 +68,7 @@ module _ (p : Protocol) (l l' : List Found) (logical : ℕ) (names : List Link) 
         (all_from (λ g. IsAsked p l' logical names g.rec) l (λ g i. asked_same p l l' logical names same g.rec
         (All-contains (λ h. IsAsked p l logical names h.rec) l g w.in_progress.begun.asked i)))
         (asked_same p l l' logical names same f.rec w.asked);
-    others = inserted_all (λ g. (Contains names (name_of g.rec) → ⊥) → All (λ a. mentioned_at a.page g.rec < a.version) names) l l' f w.added
+    others = inserted_all (λ g. (Contains names (name_of g.rec) → ⊥) → All (λ a. mention_at a.page g.rec < a.version) names) l l' f w.added
         w.in_progress.begun.others (λ out. absurd (out w.named));
   }
 
@@ -87,7 +77,7 @@ module _ (p : Protocol) (l l' : List Found) (logical : ℕ) (names : List Link) 
   page_apart others share a b i j = All-contains (λ c. a.page ≢ c.page) others b (All-contains (λ c. All (λ d. c.page ≢ d.page) others) names a share i) j
 
   -- the new record mentions no page of another transaction
-  no_mention : (others : List Link) → ShareNoPage names others → (b : Link) → Contains others b → mentioned_at b.page f.rec ≡ 0
+  no_mention : (others : List Link) → ShareNoPage names others → (b : Link) → Contains others b → mention_at b.page f.rec ≡ 0
   no_mention others share b j =
       let s = step_of p l l' logical names f w in
       let own : version_of b.page f.rec ≡ 0 = cond-false (eqb f.rec.page b.page) f.rec.version 0
@@ -110,8 +100,8 @@ module _ (p : Protocol) (l l' : List Found) (logical : ℕ) (names : List Link) 
               (All-contains (λ x. IsAsked p l logical others x.rec) l g h.begun.asked i)))
               (all_from (IsAskedAt p l' logical others f.rec) (zip others (next_names others)) (λ x i e.
               absurd (own_out (subst (Contains others) (sym e) (follows_in others x.0 x.1 i).0))));
-          others = inserted_all (λ g. (Contains others (name_of g.rec) → ⊥) → All (λ a. mentioned_at a.page g.rec < a.version) others) l l' f w.added
-              h.begun.others (λ out. all_from (λ a. mentioned_at a.page f.rec < a.version) others (λ b j.
+          others = inserted_all (λ g. (Contains others (name_of g.rec) → ⊥) → All (λ a. mention_at a.page g.rec < a.version) others) l l' f w.added
+              h.begun.others (λ out. all_from (λ a. mention_at a.page f.rec < a.version) others (λ b j.
               let none = no_mention others share b j in
               let range = All-contains (λ c. (c.page < logical) × (1 ≤ c.version) × (c.version ≤ 2 ^ 62)) others b h.begun.transaction.in_range j in
               let positive = range.1 in

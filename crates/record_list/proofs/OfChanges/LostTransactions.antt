@@ -1,15 +1,8 @@
 -- A transaction of which any records were lost: its next record is a partial or a completing write to what is left.
-use Rattle.std.proofs.Common.{◌≡◌, ℕ, Bool, true, List, All, sym, subst, inl, inr}
-use Rattle.std.proofs.lemmas.List.Elements.{All-contains}
-use Rattle.list_facts.proofs.Membership.{all_from}
-use Rattle.tx_types.specs.declared.record.Link.{Link}
-use Rattle.tx_types.specs.declared.config.Protocol.{Protocol}
-use Rattle.tx_types.specs.declared.config.Shape.{Shape}
-use Rattle.record_list.specs.Records.{is_present}
-use Rattle.record_list.specs.Changes.{IsInserted, IsWrite, left, KeepsCounted, LossLaw, PartialWriteLaw, CompletingWriteLaw}
-use Rattle.record_list.specs.Written.{Written, found_of, records_of, is_outside, IsSoundWritten}
+use Rattle.record_list.proofs.Common.{◌≡◌, ℕ, Bool, true, List, All, sym, subst, inl, inr, All-contains, all_from, Link, Protocol, Shape, is_present, IsInserted, IsWrite, left, KeepsCounted, LossLaw, PartialWriteLaw, CompletingWriteLaw, Written, found_of, records_of, is_outside, left_written}
+use Rattle.record_list.specs.Written.{IsSoundWritten}
 use Rattle.record_list.specs.WrittenChanges.{HasRoomAround}
-use Rattle.record_list.specs.Losses.{left_written, LostTransactionLaw, WriteAfterLossKeeps}
+use Rattle.record_list.specs.Losses.{LostTransactionLaw, WriteAfterLossKeeps}
 use Rattle.record_list.proofs.OfFacts.Names.{cases_present}
 use Rattle.record_list.proofs.OfChanges.OneMore.{inserted_filter}
 use Rattle.record_list.proofs.OfChanges.WrittenLists.{records_left}

@@ -1,17 +1,9 @@
 -- A record that a transaction asks for is a write also where other records were lost.
-use Rattle.std.proofs.Common.{◌≡◌, ℕ, ◌<◌, ◌≤◌, Bool, false, ◌&&◌, List, Contains, nat_lt, refl, ap, ◌∙◌}
-use Rattle.std.proofs.lemmas.List.Elements.{All-contains}
-use Rattle.list_facts.proofs.Membership.{all_from, from_filter}
+use Rattle.record_list.proofs.Common.{◌≡◌, ℕ, ◌<◌, ◌≤◌, Bool, false, ◌&&◌, List, Contains, refl, ap, ◌∙◌, All-contains, all_from, from_filter, Link, Rec, Protocol, Scc, Bpcc, Found, name_of, must_go, PagesExist, Pages, left, LossLaw, LossKeeps}
+use Rattle.std.proofs.Common.{nat_lt}
 use Rattle.tx_types.specs.Limits.{max_version}
-use Rattle.tx_types.specs.declared.record.Link.{Link}
-use Rattle.tx_types.specs.declared.record.Rec.{Rec}
-use Rattle.tx_types.specs.declared.config.Protocol.{Protocol}
-use Rattle.tx_types.specs.declared.config.Protocol.TheVariants.{Scc, Bpcc}
-use Rattle.record_list.specs.declared.found.Found.{Found}
-use Rattle.record_list.specs.Records.{name_of, mentions_below}
-use Rattle.record_list.specs.Current.{must_go}
-use Rattle.record_list.specs.SoundList.{PagesExist, Pages}
-use Rattle.record_list.specs.Changes.{NothingMustGo, left, LossLaw, LossKeeps}
+use Rattle.record_list.specs.Records.{mentions_below}
+use Rattle.record_list.specs.Changes.{NothingMustGo}
 use Rattle.record_list.specs.Losses.{WriteAfterLossLaw}
 use Rattle.record_list.proofs.OfLosses.LossAmong.{among_of, among_absent}
 use Rattle.record_list.proofs.OfLosses.LossCurrent.{left_scanned}

@@ -1,20 +1,12 @@
 -- One record more in a list, under a name that was absent.
-use Rattle.std.proofs.Common.{◌≡◌, ℕ, ◌<◌, ◌≤◌, max, Bool, true, false, cond, ◌&&◌, ◌||◌, eqb, ltb, ◌⊎◌, List, [], ◌∷◌, ◌++◌, All, refl, sym, ap, ◌∙◌, subst}
-use Rattle.std.proofs.Common.{filter, inl, inr, arith, if◌then◌else◌, ne_eqb, eq-eqb, le-ltb, Contains}
+use Rattle.record_list.proofs.Common.{◌≡◌, ℕ, ◌<◌, ◌≤◌, Bool, true, false, cond, ◌&&◌, ◌||◌, eqb, ltb, ◌⊎◌, List, [], ◌∷◌, All, refl, sym, ap, ◌∙◌, subst, inl, inr, arith, if◌then◌else◌, ne_eqb, eq-eqb, le-ltb, Contains, false≢true, cases_Bool, cases_lt, cond-true, cond-false, or_cases, or_left, or_right, and_left, All-contains, all_from, Contains-first, Link, Rec, Protocol, Scc, Bpcc, Found, Passed, Straddled, greatest, version_of, version_below, newest, next_older, name_of, has_name, is_present, newest_name, record_named, link_of, back_of, straddles, straddling_version, straddling, is_committed, IsInserted}
+use Rattle.std.proofs.Common.{max, ◌++◌}
+use Rattle.std.proofs.Common.{filter}
 use Rattle.std.specs.List.{list_any}
-use Rattle.std.proofs.lemmas.Bool.{false≢true, cases_Bool, cases_lt, cond-true, cond-false, or_cases, or_left, or_right, or_parts, and_left}
-use Rattle.std.proofs.lemmas.List.Elements.{All-contains, Contains-append_right, filter-append}
-use Rattle.list_facts.proofs.Membership.{from_more, in_more, all_from, Contains-first}
-use Rattle.list_facts.proofs.Tests.{any_more}
-use Rattle.tx_types.specs.declared.record.Link.{Link}
-use Rattle.tx_types.specs.declared.record.Rec.{Rec}
-use Rattle.tx_types.specs.declared.config.Protocol.{Protocol}
-use Rattle.tx_types.specs.declared.config.Protocol.TheVariants.{Scc, Bpcc}
-use Rattle.record_list.specs.declared.found.Found.{Found}
-use Rattle.record_list.specs.declared.found.Why.TheVariants.{Passed, Straddled}
-use Rattle.record_list.specs.Records.{greatest, version_of, version_below, newest, next_older, name_of, has_name, is_present}
-use Rattle.record_list.specs.Verdict.{newest_name, record_named, link_of, back_of, straddles, straddling_version, straddling, is_committed}
-use Rattle.record_list.specs.Changes.{IsInserted}
+use Rattle.std.proofs.lemmas.Bool.{or_parts}
+use Rattle.std.proofs.lemmas.List.Elements.{Contains-append_right, filter-append}
+use Rattle.list_lemmas.proofs.Membership.{from_more, in_more}
+use Rattle.list_lemmas.proofs.Tests.{any_more}
 use Rattle.record_list.proofs.OfFacts.Names.{has_name_true, has_own_name, newest_present, newest_bound, older_bound, older_name, named, named_link, named_back}
 use Rattle.record_list.proofs.OfFacts.Names.{links_from, backs_from}
 use Rattle.record_list.proofs.OfFacts.Safe.{top_link, is_clear, IsLinked}

@@ -1,18 +1,9 @@
 -- A transaction whose names stand in a list as it asks, all other records mentioning its pages below: what is so of its
 -- names in progress and when all are present.
-use Rattle.std.proofs.Common.{◌≡◌, ◌≢◌, ℕ, ◌^◌, ◌<◌, ◌≤◌, true, false, eqb, List, zip, All, Any, Contains, refl, sym, ap, ◌∙◌, subst, inl, inr, arith, eq-eqb}
+use Rattle.record_list.proofs.Common.{◌≡◌, ◌≢◌, ℕ, ◌^◌, ◌<◌, ◌≤◌, true, false, eqb, List, zip, All, Any, Contains, refl, sym, ap, ◌∙◌, subst, inl, inr, arith, eq-eqb, false≢true, cases_Bool, cases_lt, cases_eq, cond-true, All-contains, in_order, Link, Rec, Protocol, Found, newest, version_of, mention_at, name_of, is_present, newest_name, link_of, cur, next_names, IsAsked, IsAskedAt}
 use Rattle.std.proofs.Math.Nat.{le-max_left, le-max_right}
-use Rattle.std.proofs.lemmas.Bool.{false≢true, cases_Bool, cases_lt, cases_eq, cond-true}
-use Rattle.std.proofs.lemmas.List.Elements.{All-contains}
-use Rattle.list_facts.proofs.Pairs.{in_order}
-use Rattle.tx_types.specs.declared.record.Link.{Link}
-use Rattle.tx_types.specs.declared.record.Rec.{Rec}
-use Rattle.tx_types.specs.declared.config.Protocol.{Protocol}
-use Rattle.record_list.specs.declared.found.Found.{Found}
-use Rattle.record_list.specs.Records.{newest, version_of, linked_at, mentioned_at, name_of, is_present}
-use Rattle.record_list.specs.Verdict.{newest_name, link_of}
-use Rattle.record_list.specs.Current.{cur}
-use Rattle.record_list.specs.Transaction.{next_names, IsAsked, IsBegun, IsAskedAt}
+use Rattle.record_list.specs.Records.{linked_at}
+use Rattle.record_list.specs.Transaction.{IsBegun}
 use Rattle.record_list.proofs.OfFacts.Names.{same_name, found_named, newest_bound, newest_present}
 use Rattle.record_list.proofs.OfFacts.Safe.{top_link, Goes, IsSafe, IsLinked, Counts, counts_safe}
 use Rattle.record_list.proofs.OfFacts.SoundNames.{IsSoundMap}
@@ -31,7 +22,7 @@ pub record IsUnderway (l : List Found) (logical : ℕ) (names : List Link) : Typ
   pub lower : (u : Link) → is_present l u ≡ true → (Contains names u → ⊥) → (a : Link) → Contains names a → IsLower u (link_of l u) a
 
 -- a mention below a version, of either kind
-pub mention_parts : (r : Rec) (a : Link) → mentioned_at a.page r < a.version → IsLower (name_of r) r.next a
+pub mention_parts : (r : Rec) (a : Link) → mention_at a.page r < a.version → IsLower (name_of r) r.next a
 mention_parts r a h = (
   λ e. (let left = le-max_left (version_of a.page r) (linked_at a.page r) in
       let at : version_of a.page r ≡ r.version = cond-true (eqb r.page a.page) r.version 0 (eq-eqb r.page a.page e) in omega arith),
@@ -51,9 +42,9 @@ underway_of p l logical names begun = record {
       sym f.3 ∙ (pair f.2).0;
   lower = λ u here out a i.
       let f = found_named l u here in
-      let other = All-contains (λ g. (Contains names (name_of g.rec) → ⊥) → All (λ n. mentioned_at n.page g.rec < n.version) names) l f.0 begun.others f.1
+      let other = All-contains (λ g. (Contains names (name_of g.rec) → ⊥) → All (λ n. mention_at n.page g.rec < n.version) names) l f.0 begun.others f.1
       (λ c. out (subst (Contains names) f.2 c)) in
-      let low = mention_parts f.0.rec a (All-contains (λ n. mentioned_at n.page f.0.rec < n.version) names a other i) in
+      let low = mention_parts f.0.rec a (All-contains (λ n. mention_at n.page f.0.rec < n.version) names a other i) in
       subst (λ n. IsLower n (link_of l u) a) f.2 (subst (λ n. IsLower (name_of f.0.rec) n a) f.3 low);
 }
 

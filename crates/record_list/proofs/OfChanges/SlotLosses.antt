@@ -1,7 +1,5 @@
 -- Any slots may go that no current and no held record needs: the nine laws stay, every current version, and the array.
-use Rattle.tx_types.specs.declared.config.Protocol.{Protocol}
-use Rattle.record_list.specs.Changes.{LossLaw}
-use Rattle.record_list.specs.Written.{records_of, is_outside}
+use Rattle.record_list.proofs.Common.{Protocol, LossLaw, records_of, is_outside}
 use Rattle.record_list.specs.Losses.{WrittenSlotLossLaw}
 use Rattle.record_list.proofs.OfChanges.Spared.{counted_first}
 use Rattle.record_list.proofs.OfChanges.WrittenChange.{written_left}

@@ -1,14 +1,6 @@
 -- What a loss keeps of the records that count, where it takes any slots.
-use Rattle.std.proofs.Common.{◌≡◌, ℕ, ◌⊎◌, Bool, true, ◌&&◌, List, Contains, ◌∙◌, inl, inr, ⊎_elim}
-use Rattle.std.proofs.lemmas.Bool.{and_from}
-use Rattle.std.proofs.lemmas.List.Elements.{All-contains}
-use Rattle.list_facts.proofs.Membership.{all_from, from_filter, in_filter}
-use Rattle.tx_types.specs.declared.config.Protocol.{Protocol}
-use Rattle.record_list.specs.declared.found.Found.{Found}
-use Rattle.record_list.specs.Records.{name_of, is_present}
-use Rattle.record_list.specs.Current.{IsCurrent, is_held}
-use Rattle.record_list.specs.SoundList.{PagesExist, Pages}
-use Rattle.record_list.specs.Changes.{left, KeepsCounted, LossKeeps}
+use Rattle.record_list.proofs.Common.{◌≡◌, ℕ, ◌⊎◌, Bool, true, ◌&&◌, List, Contains, ◌∙◌, inl, inr, ⊎_elim, and_from, All-contains, all_from, from_filter, Protocol, Found, name_of, is_present, IsCurrent, is_held, PagesExist, Pages, left, KeepsCounted, LossKeeps}
+use Rattle.list_lemmas.proofs.Membership.{in_filter}
 use Rattle.record_list.proofs.OfLosses.LossAmong.{among_of, among_present}
 use Rattle.record_list.proofs.OfChanges.WrittenLists.{left_both}
 

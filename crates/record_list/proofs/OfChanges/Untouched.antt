@@ -1,15 +1,6 @@
 -- The pages whose newest record a write does not touch: each counts afterwards exactly where it counted before.
-use Rattle.std.proofs.Common.{◌≡◌, ℕ, ◌<◌, true, false, ◌⊎◌, List, refl, sym, ap, ◌∙◌, subst, inl, inr, arith, Contains}
-use Rattle.std.proofs.lemmas.Bool.{cases_Bool, cases_eq}
-use Rattle.list_facts.proofs.Values.{one_test}
-use Rattle.tx_types.specs.declared.record.Link.{Link}
-use Rattle.tx_types.specs.declared.record.Rec.{Rec}
-use Rattle.tx_types.specs.declared.config.Protocol.{Protocol}
-use Rattle.tx_types.specs.declared.config.Protocol.TheVariants.{Scc, Bpcc}
-use Rattle.record_list.specs.declared.found.Found.{Found}
-use Rattle.record_list.specs.Records.{next_older, newest, name_of, is_present}
-use Rattle.record_list.specs.Verdict.{newest_name, why, is_committed}
-use Rattle.record_list.specs.Current.{cur, fallback}
+use Rattle.record_list.proofs.Common.{◌≡◌, ℕ, ◌<◌, true, false, ◌⊎◌, List, refl, sym, ap, ◌∙◌, subst, inl, inr, arith, Contains, cases_Bool, cases_eq, Link, Rec, Protocol, Scc, Bpcc, Found, next_older, newest, name_of, is_present, newest_name, why, is_committed, cur, fallback}
+use Rattle.list_lemmas.proofs.Values.{one_test}
 use Rattle.record_list.proofs.OfFacts.Names.{newest_present}
 use Rattle.record_list.proofs.OfFacts.Safe.{top_link, is_clear, Goes, IsSafe, IsLinked, Counts, counts_from, counts_safe}
 use Rattle.record_list.proofs.OfFacts.Facts.{cur_committed, cur_uncommitted, bare_page}

@@ -1,23 +1,12 @@
 -- The four laws of change with bytes follow from those without, for any protocol: what bytes say stays, and some block
 -- stays removable.
-use Rattle.std.proofs.Common.{◌≡◌, ◌≢◌, ℕ, ◌<◌, ◌⊎◌, Bool, true, false, List, All, Any, Contains, sym, ap, ◌∙◌, subst, inl, inr, ⊎_elim}
-use Rattle.std.proofs.lemmas.Bool.{both_ways}
-use Rattle.std.proofs.lemmas.List.Elements.{All-contains}
-use Rattle.list_facts.proofs.Membership.{all_from}
-use Rattle.tx_types.specs.declared.record.Link.{Link}
-use Rattle.tx_types.specs.declared.config.Protocol.{Protocol}
-use Rattle.tx_types.specs.declared.config.Shape.{Shape}
-use Rattle.record_list.specs.declared.found.Found.{Found}
-use Rattle.record_list.specs.Records.{name_of, is_present, IsScanned}
-use Rattle.record_list.specs.Verdict.{record_named}
-use Rattle.record_list.specs.Current.{cur, is_held}
-use Rattle.record_list.specs.SoundList.{Copies, IsSoundList}
-use Rattle.record_list.specs.Changes.{IsInserted, IsCopy, left, KeepsCounted, PartialWriteLaw, PartialWriteKeeps, CompletingWriteLaw, CompletingWriteKeeps}
-use Rattle.record_list.specs.Changes.{CopyLaw, CopyKeeps, LossLaw, LossKeeps}
+use Rattle.record_list.proofs.Common.{◌≡◌, ◌≢◌, ℕ, ◌<◌, ◌⊎◌, Bool, true, false, List, All, Any, Contains, sym, ap, ◌∙◌, subst, inl, inr, ⊎_elim, both_ways, All-contains, all_from, Link, Protocol, Shape, Found, name_of, is_present, IsScanned, record_named, cur, is_held, Copies, IsSoundList, IsInserted, left, KeepsCounted, PartialWriteLaw, CompletingWriteLaw, CopyLaw, LossLaw, LossKeeps, Written, found_of, records_of, BytesAgree, is_outside, left_written}
+use Rattle.record_list.specs.Changes.{IsCopy, PartialWriteKeeps, CompletingWriteKeeps}
+use Rattle.record_list.specs.Changes.{CopyKeeps}
 use Rattle.record_list.specs.Counts.{HasCounts}
-use Rattle.record_list.specs.Written.{Written, found_of, records_of, BytesAgree, is_outside, IsSoundWritten}
+use Rattle.record_list.specs.Written.{IsSoundWritten}
 use Rattle.record_list.specs.WrittenChanges.{WrittenPartialWriteLaw, WrittenCompletingWriteLaw, WrittenCopyLaw, WrittenLossLaw}
-use Rattle.record_list.specs.Losses.{left_written, IsSpared}
+use Rattle.record_list.specs.Losses.{IsSpared}
 use Rattle.record_list.proofs.OfChanges.OneMore.{in_inserted}
 use Rattle.record_list.proofs.OfChanges.Spared.{counted_twice, counted_first, counted_second}
 use Rattle.record_list.proofs.OfChanges.Counting.{write_keeps_counts, copy_keeps_counts, loss_keeps_counts}

@@ -1,19 +1,10 @@
 -- Lists of records with bytes: their records, one item more, and the slots that a loss leaves.
-use Rattle.std.proofs.Common.{◌≡◌, ℕ, ◌<◌, Bool, true, false, cond, List, [], ◌∷◌, length, filter, All, AllPairs, inl, inr, sym, refl, ap, ◌∙◌, subst, subst₂}
-use Rattle.std.proofs.Common.{◌&&◌, arith, Contains}
-use Rattle.std.proofs.lemmas.Bool.{and_parts}
+use Rattle.record_list.proofs.Common.{◌≡◌, ℕ, ◌<◌, Bool, true, false, cond, List, [], ◌∷◌, length, All, inl, inr, sym, refl, ap, ◌∙◌, subst, ◌&&◌, arith, Contains, and_parts, All-contains, all_from, from_filter, Rec, Protocol, Found, name_of, IsScanned, record_named, IsSoundList, IsInserted, left, Written, found_of, records_of, BytesAgree}
+use Rattle.std.proofs.Common.{filter, AllPairs, subst₂}
 use Rattle.std.proofs.lemmas.List.{map-append, get_or-map, length-map}
-use Rattle.std.proofs.lemmas.List.Elements.{All-contains}
-use Rattle.list_facts.proofs.Membership.{all_from, in_filter, from_filter, map_in}
-use Rattle.list_facts.proofs.Pairs.{of_any_two}
-use Rattle.tx_types.specs.declared.record.Rec.{Rec}
-use Rattle.tx_types.specs.declared.config.Protocol.{Protocol}
-use Rattle.record_list.specs.declared.found.Found.{Found}
-use Rattle.record_list.specs.Records.{name_of, IsScanned}
-use Rattle.record_list.specs.Verdict.{record_named}
-use Rattle.record_list.specs.SoundList.{IsSoundList}
-use Rattle.record_list.specs.Changes.{IsInserted, left}
-use Rattle.record_list.specs.Written.{Written, found_of, records_of, text_of, BytesAgree}
+use Rattle.list_lemmas.proofs.Membership.{in_filter, map_in}
+use Rattle.list_lemmas.proofs.Pairs.{of_any_two}
+use Rattle.record_list.specs.Written.{text_of}
 use Rattle.record_list.proofs.OfChanges.OneMore.{inserted_in}
 use Rattle.record_list.proofs.OfFacts.SoundNames.{sound_map}
 

@@ -1,13 +1,5 @@
 -- Simple Cyclic Commit: what a write keeps that completes its cycle.
-use Rattle.std.proofs.Common.{◌≡◌, ◌≢◌, ◌<◌, true, Contains}
-use Rattle.std.proofs.lemmas.Bool.{false≢true}
-use Rattle.std.proofs.lemmas.List.Elements.{All-contains}
-use Rattle.list_facts.proofs.Membership.{all_from}
-use Rattle.tx_types.specs.declared.record.Link.{Link}
-use Rattle.tx_types.specs.declared.config.Protocol.TheVariants.{Scc}
-use Rattle.record_list.specs.Records.{is_present}
-use Rattle.record_list.specs.Current.{cur}
-use Rattle.record_list.specs.Changes.{CompletingWriteLaw}
+use Rattle.record_list.proofs.Common.{◌≡◌, ◌≢◌, ◌<◌, true, Contains, false≢true, All-contains, all_from, Link, Scc, is_present, cur, CompletingWriteLaw}
 use Rattle.record_list.proofs.OfFacts.SoundNames.{sound_map, sound_list}
 use Rattle.record_list.proofs.OfChanges.OneMore.{next_after}
 use Rattle.record_list.proofs.OfChanges.Keeping.{step_of, back_of_step, page_apart, others_on}

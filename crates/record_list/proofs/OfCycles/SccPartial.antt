@@ -1,15 +1,8 @@
 -- Simple Cyclic Commit: what a write keeps that leaves a name absent.
-use Rattle.std.proofs.Common.{◌≡◌, ℕ, ◌<◌, true, false, ◌&&◌, eqb, ltb, List, refl, sym, ap, ◌∙◌, subst, inl, inr, arith, eq-eqb, lt-ltb, Contains}
-use Rattle.std.proofs.lemmas.Bool.{false≢true, cases_lt, cases_eq, cases_order, and_from, or_left, or_right, false_from_ne_true}
-use Rattle.std.proofs.lemmas.List.Elements.{All-contains}
-use Rattle.tx_types.specs.declared.record.Link.{Link}
-use Rattle.tx_types.specs.declared.record.Rec.{Rec}
-use Rattle.tx_types.specs.declared.config.Protocol.TheVariants.{Scc}
-use Rattle.record_list.specs.declared.found.Found.{Found}
-use Rattle.record_list.specs.Records.{newest, next_older, name_of, mentions_below, is_present}
-use Rattle.record_list.specs.Verdict.{newest_name, link_of, why, is_committed}
-use Rattle.record_list.specs.Current.{cur, is_loose, must_go}
-use Rattle.record_list.specs.Changes.{NothingMustGo, PartialWriteLaw}
+use Rattle.record_list.proofs.Common.{◌≡◌, ℕ, ◌<◌, true, false, ◌&&◌, eqb, ltb, List, refl, sym, ap, ◌∙◌, subst, inl, inr, arith, eq-eqb, lt-ltb, Contains, false≢true, cases_lt, cases_eq, cases_order, and_from, or_left, or_right, false_from_ne_true, All-contains, Link, Rec, Scc, Found, newest, next_older, name_of, is_present, newest_name, link_of, why, is_committed, cur, must_go, PartialWriteLaw}
+use Rattle.record_list.specs.Records.{mentions_below}
+use Rattle.record_list.specs.Current.{is_loose}
+use Rattle.record_list.specs.Changes.{NothingMustGo}
 use Rattle.record_list.proofs.OfFacts.Names.{found_named, newest_present}
 use Rattle.record_list.proofs.OfFacts.Safe.{top_link, Counts, counts_safe}
 use Rattle.record_list.proofs.OfFacts.SoundNames.{IsSoundMap, sound_map, sound_list}

@@ -1,19 +1,12 @@
 -- What a device needs to open a transaction and to ask for its records: by the places of the names, and by mentions.
-use Rattle.std.proofs.Common.{◌≡◌, ℕ, ◌+◌, ◌<◌, false, List, [], ◌∷◌, length, get_or, All, Any, Contains, refl, sym, ap, ◌∙◌, subst, inl, inr, eq-eqb, add-one}
-use Rattle.std.proofs.Common.{arith}
+use Rattle.record_list.proofs.Common.{◌≡◌, ℕ, ◌+◌, ◌<◌, false, List, [], ◌∷◌, length, get_or, All, Any, Contains, refl, sym, ap, ◌∙◌, subst, inl, inr, eq-eqb, add-one, arith, cases_order, cases_eq, cases_Bool, cond-true, cond-false, All-contains, all_from, Link, Rec, Protocol, Found, mention_at, name_of, is_present, next_names, back_version, IsAsked, InProgress, IsAskedAt}
 use Rattle.std.specs.Prelude.{◌==◌, if◌then◌else◌}
 use Rattle.std.specs.List.{zip}
-use Rattle.std.proofs.lemmas.Bool.{cases_order, cases_eq, cases_Bool, cond-true, cond-false, ne_eqb}
+use Rattle.std.proofs.lemmas.Bool.{ne_eqb}
 use Rattle.std.proofs.lemmas.List.{get_or_default, get_or_append_left, get_or_push}
 use Rattle.std.proofs.lemmas.Slice.Zip.{length-zip, get_or-zip}
-use Rattle.std.proofs.lemmas.List.Elements.{All-contains}
-use Rattle.list_facts.proofs.Membership.{all_from}
-use Rattle.tx_types.specs.declared.record.Link.{Link}
-use Rattle.tx_types.specs.declared.record.Rec.{Rec}
-use Rattle.tx_types.specs.declared.config.Protocol.{Protocol}
-use Rattle.record_list.specs.declared.found.Found.{Found}
-use Rattle.record_list.specs.Records.{mention, mentioned_at, name_of, is_present}
-use Rattle.record_list.specs.Transaction.{IsTransaction, next_names, back_version, IsAsked, InProgress, IsAskedAt}
+use Rattle.record_list.specs.Records.{mention}
+use Rattle.record_list.specs.Transaction.{IsTransaction}
 use Rattle.record_list.proofs.OfChanges.Progress.{mention_parts}
 use Rattle.record_list.proofs.OfFacts.Names.{greatest_bound, found_named}
 
@@ -72,8 +65,8 @@ some_of_all P (a ∷ rest) some all = (0, a, some, refl, all 0 a some)
 pub begins : (p : Protocol) (l : List Found) (logical : ℕ) (names : List Link) → IsTransaction logical names → 0 < length names →
     All (λ a. mention l a.page < a.version) names → InProgress p l logical names
 begins p l logical names transaction some below =
-    let lower : (f : Found) → Contains l f → (a : Link) → Contains names a → mentioned_at a.page f.rec < a.version = λ f i a j.
-    let bound = greatest_bound (mentioned_at a.page) l f i in
+    let lower : (f : Found) → Contains l f → (a : Link) → Contains names a → mention_at a.page f.rec < a.version = λ f i a j.
+    let bound = greatest_bound (mention_at a.page) l f i in
     let less = All-contains (λ b. mention l b.page < b.version) names a below j in
     omega arith in
     let no_record : (f : Found) → Contains l f → (a : Link) → Contains names a → name_of f.rec ≡ a → ⊥ = λ f i a j same.
@@ -89,8 +82,8 @@ begins p l logical names transaction some below =
             let is : (get_or (zip names (next_names names)) k dd).0 ≡ a = ap (λ (pair : Link × Link). pair.0)
             (get_or-zip names (next_names names) k dd both.0 both.1) in
             absurd (no_record f i a (k, both.0, get_or_default names k a dd.0 both.0) (same ∙ is)));
-        others = all_from (λ f. (Contains names (name_of f.rec) → ⊥) → All (λ a. mentioned_at a.page f.rec < a.version) names) l
-            (λ f i none. all_from (λ a. mentioned_at a.page f.rec < a.version) names (lower f i));
+        others = all_from (λ f. (Contains names (name_of f.rec) → ⊥) → All (λ a. mention_at a.page f.rec < a.version) names) l
+            (λ f i none. all_from (λ a. mention_at a.page f.rec < a.version) names (lower f i));
       };
       absent = some_of_all (λ a. is_present l a ≡ false) names some (all_from (λ a. is_present l a ≡ false) names (λ a j.
           elim (cases_Bool (is_present l a)) [

@@ -1,16 +1,13 @@
 -- From the first record that breaks a law to the least breach of a list.
-use Rattle.std.proofs.Common.{◌≡◌, ℕ, ◌+◌, ◌<◌, Some, List, length, get_or, refl, sym, subst, ap, ◌∙◌, arith, inl, inr}
+use Rattle.record_list.proofs.Common.{◌≡◌, ℕ, ◌+◌, ◌<◌, List, length, get_or, refl, sym, subst, ap, ◌∙◌, arith, inl, inr, cases_order, Protocol, Found, nothing, IsScanned, Pages, Copies, PagesExist, CopiesAgree, CurrentIsPresent, KeepsCount}
+use Rattle.std.proofs.Common.{Some}
 use Rattle.std.specs.Prelude.{◌==◌, if◌then◌else◌, All, Any}
-use Rattle.std.proofs.lemmas.Bool.{cases_order}
 use Rattle.std.proofs.lemmas.List.{get_or_default}
-use Rattle.tx_types.specs.declared.config.Protocol.{Protocol}
-use Rattle.record_list.specs.declared.found.Found.{Found}
 use Rattle.record_list.specs.declared.found.Breach.{Breach}
-use Rattle.record_list.specs.Records.{nothing, IsScanned}
-use Rattle.record_list.specs.SoundList.{Law, Pages, Copies, Links, Present, Counted, Loose, Ending, number, Keeps, PagesExist, CopiesAgree, LinksDiffer}
-use Rattle.record_list.specs.SoundList.{CurrentIsPresent, LinkHasCounted, IsLeastBreach}
+use Rattle.record_list.specs.SoundList.{Law, Links, Present, Counted, Loose, Ending, number, Keeps, LinksDiffer}
+use Rattle.record_list.specs.SoundList.{LinkHasCounted, IsLeastBreach}
 use Rattle.record_list.specs.Search.{FindsFirst}
-use Rattle.record_list.specs.Counts.{KeepsCount, IsLeastMiscount}
+use Rattle.record_list.specs.Counts.{IsLeastMiscount}
 
 -- an earlier slot stands at an earlier index
 pub earlier_index : (list : List Found) (k i : ℕ) (d : Found) → IsScanned list → k < length list →

@@ -1,14 +1,5 @@
 -- Current versions in a sound list.
-use Rattle.std.proofs.Common.{◌≡◌, ℕ, ◌<◌, ◌≤◌, true, false, eqb, ◌⊎◌, List, refl, sym, ◌∙◌, subst, inl, inr, arith, suc, eq-eqb, le-ltb}
-use Rattle.std.proofs.lemmas.Bool.{cases_Bool, cases_lt, cases_eq, cond-true, cond-false, and_from}
-use Rattle.tx_types.specs.declared.record.Link.{Link}
-use Rattle.tx_types.specs.declared.config.Protocol.{Protocol}
-use Rattle.tx_types.specs.declared.config.Protocol.TheVariants.{Scc}
-use Rattle.record_list.specs.declared.found.Found.{Found}
-use Rattle.record_list.specs.Records.{newest, is_present, is_same}
-use Rattle.record_list.specs.Verdict.{newest_name, link_of, passed, is_ahead, is_behind, walk, why, is_committed}
-use Rattle.record_list.specs.Current.{cur, fallback}
-use Rattle.record_list.specs.SoundList.{current_name}
+use Rattle.record_list.proofs.Common.{◌≡◌, ℕ, ◌<◌, ◌≤◌, true, false, eqb, ◌⊎◌, List, refl, sym, ◌∙◌, subst, inl, inr, arith, suc, eq-eqb, le-ltb, cases_Bool, cases_lt, cases_eq, cond-true, cond-false, and_from, Link, Protocol, Scc, Found, newest, is_present, is_same, newest_name, link_of, why_below_newest, is_ahead, is_behind, walk, why, is_committed, cur, fallback, current_name}
 use Rattle.record_list.proofs.OfFacts.Names.{absent_link, newest_bound, newest_present, older_bound}
 use Rattle.record_list.proofs.OfFacts.Safe.{top_link, IsLinked, Counts, counts_from, turn_closes}
 use Rattle.record_list.proofs.OfFacts.SoundNames.{IsSoundMap}
@@ -30,7 +21,7 @@ bare_page p l logical linked page none =
       | inl here ↦ (let positive = (linked.versions n here).0 in absurd (omega arith))
       | inr gone ↦ gone
     ] in
-    let closes = turn_closes (is_ahead l n) (is_behind l n) (is_same n n) (passed p l n) (walk p l n logical (link_of l n))
+    let closes = turn_closes (is_ahead l n) (is_behind l n) (is_same n n) (why_below_newest p l n) (walk p l n logical (link_of l n))
     (le-ltb (newest l page) (newest l page) (omega arith)) (le-ltb (newest l page) (newest l page) (omega arith))
     (and_from (eqb page page) (eqb (newest l page) (newest l page)) (eq-eqb page page refl) (eq-eqb (newest l page) (newest l page) refl)) in
     cur_committed p l logical page (subst (λ q. is_committed (walk p l n (suc logical) q) ≡ true) (sym (absent_link l n absent)) closes) ∙ none

@@ -1,10 +1,8 @@
 -- The greatest number of the records, taken in by a loop one record at a time.
-use Rattle.std.proofs.Common.{◌≡◌, ℕ, ◌+◌, ◌<◌, max, List, length, take, get_or, refl, ap, ◌∙◌}
+use Rattle.record_list.proofs.Common.{◌≡◌, ℕ, ◌+◌, ◌<◌, List, length, take, get_or, refl, ap, ◌∙◌, Rec, Found, greatest, nothing}
+use Rattle.std.proofs.Common.{max}
 use Rattle.std.proofs.lemmas.Grind.{take_at_read}
 use Rattle.std.proofs.lemmas.List.Recursion.{max_push}
-use Rattle.tx_types.specs.declared.record.Rec.{Rec}
-use Rattle.record_list.specs.declared.found.Found.{Found}
-use Rattle.record_list.specs.Records.{greatest, nothing}
 
 -- one record more
 pub greatest_step : (of : Rec → ℕ) (xs : List Found) (i : ℕ) → i < length xs →

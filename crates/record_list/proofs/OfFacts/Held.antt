@@ -1,11 +1,6 @@
 -- Back Pointer Cyclic Commit: which record answers for a loose one, by its parts.
-use Rattle.std.proofs.Common.{◌≡◌, ℕ, ◌<◌, true, ◌&&◌, eqb, ltb, List, eqb-true, eq-eqb, ltb-true, lt-ltb, sym}
-use Rattle.std.proofs.lemmas.Bool.{and_parts, and_from}
-use Rattle.tx_types.specs.declared.record.Rec.{Rec}
-use Rattle.tx_types.specs.declared.config.Protocol.TheVariants.{Bpcc}
-use Rattle.record_list.specs.declared.found.Found.{Found}
-use Rattle.record_list.specs.Verdict.{straddles}
-use Rattle.record_list.specs.Current.{cur, is_loose, responsible, answers_for}
+use Rattle.record_list.proofs.Common.{◌≡◌, ℕ, ◌<◌, true, ◌&&◌, eqb, ltb, List, eqb-true, eq-eqb, ltb-true, lt-ltb, sym, and_parts, and_from, Rec, Bpcc, Found, straddles, cur, responsible, answers_for}
+use Rattle.record_list.specs.Current.{is_loose}
 
 -- the record s answers for the loose record r
 pub record IsAnswer (l : List Found) (logical : ℕ) (s r : Rec) : Type 0 where

@@ -1,15 +1,11 @@
 -- The records of a list by their names: greatest numbers, and what a present name says.
-use Rattle.std.proofs.Common.{◌≡◌, ℕ, ◌<◌, ◌≤◌, Bool, true, false, ◌&&◌, ◌||◌, eqb, ltb, List, [], ◌∷◌, refl, sym, ap, ap₂, ◌∙◌, subst, inl, inr, arith, cond}
-use Rattle.std.proofs.Common.{◌⊎◌, All, Any, eqb-true, eq-eqb, lt-ltb, ltb-true, le_trans, Contains}
+use Rattle.record_list.proofs.Common.{◌≡◌, ℕ, ◌<◌, ◌≤◌, Bool, true, false, ◌&&◌, ◌||◌, eqb, ltb, List, [], ◌∷◌, refl, sym, ap, ◌∙◌, subst, inl, inr, arith, cond, ◌⊎◌, All, Any, eqb-true, eq-eqb, lt-ltb, ltb-true, Contains, false≢true, cases_Bool, cases_lt, cond-true, cond-false, and_parts, and_from, or_left, or_right, Contains-cases, Contains-first, Contains-nil, Contains-rest, all_from, Link, Rec, Found, greatest, version_of, version_below, newest, next_older, name_of, has_name, is_same, is_present, newest_name, record_named, link_of, back_of}
+use Rattle.std.proofs.Common.{ap₂}
+use Rattle.std.proofs.Common.{le_trans}
 use Rattle.std.proofs.Math.Nat.{le-max_left, le-max_right, max-le, max-eq_left, max-eq_right}
-use Rattle.std.proofs.lemmas.Bool.{false≢true, cases_Bool, cases_lt, cond-true, cond-false, and_parts, and_from, or_left, or_right, or_parts}
-use Rattle.list_facts.proofs.Membership.{Contains-cases, Contains-first, Contains-nil, Contains-rest, all_from, any_in}
-use Rattle.list_facts.proofs.Values.{if_positive}
-use Rattle.tx_types.specs.declared.record.Link.{Link}
-use Rattle.tx_types.specs.declared.record.Rec.{Rec}
-use Rattle.record_list.specs.declared.found.Found.{Found}
-use Rattle.record_list.specs.Records.{greatest, version_of, version_below, newest, next_older, name_of, has_name, is_same, is_present}
-use Rattle.record_list.specs.Verdict.{newest_name, record_named, link_of, back_of}
+use Rattle.std.proofs.lemmas.Bool.{or_parts}
+use Rattle.list_lemmas.proofs.Membership.{any_in}
+use Rattle.list_lemmas.proofs.Values.{if_positive}
 
 -- a name from its parts
 abbrev pub named : ℕ → ℕ → Link

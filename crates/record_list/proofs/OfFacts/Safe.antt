@@ -1,19 +1,12 @@
 -- A page counts exactly where a safe set of pages contains it: from each page of the set the link of its newest record
 -- passes, or leads to the newest record of a page of the set. So no other proof speaks of the turns of a walk. And a walk
 -- that may look at more links than there are pages ends as it does.
-use Rattle.std.proofs.Common.{◌≡◌, ℕ, zero, suc, ◌+◌, ◌<◌, ◌≤◌, Bool, true, false, eqb, ◌⊎◌, List, [], ◌∷◌, length, refl, sym, ap, ◌∙◌, subst, inl, inr, arith}
-use Rattle.std.proofs.Common.{if◌then◌else◌, eqb-true, eq-eqb, ne_eqb, lt-ltb, le-ltb, ltb-true, ltb-false}
+use Rattle.record_list.proofs.Common.{◌≡◌, ℕ, zero, suc, ◌+◌, ◌<◌, ◌≤◌, Bool, true, false, eqb, ◌⊎◌, List, [], ◌∷◌, length, refl, sym, ap, ◌∙◌, subst, inl, inr, arith, if◌then◌else◌, eqb-true, eq-eqb, ne_eqb, lt-ltb, le-ltb, ltb-true, false≢true, cases_lt, cases_eq, and_parts, and_from, Link, Protocol, Found, Cycle, Absent, newest, is_present, is_same, newest_name, link_of, why_below_newest, is_ahead, is_behind, walk, why, is_committed}
+use Rattle.std.proofs.Common.{ltb-false}
 use Rattle.std.specs.List.{AllByRecursion, IsDistinct}
-use Rattle.std.proofs.lemmas.Bool.{false≢true, cases_lt, cases_eq, and_parts, and_from}
 use Rattle.std.proofs.lemmas.Map.Steps.{length-le_from_distinct_below}
-use Rattle.list_facts.proofs.Tests.{below_any}
-use Rattle.tx_types.specs.declared.record.Link.{Link}
-use Rattle.tx_types.specs.declared.config.Protocol.{Protocol}
-use Rattle.record_list.specs.declared.found.Found.{Found}
+use Rattle.list_lemmas.proofs.Tests.{below_any}
 use Rattle.record_list.specs.declared.found.Why.{Why}
-use Rattle.record_list.specs.declared.found.Why.TheVariants.{Cycle, Absent}
-use Rattle.record_list.specs.Records.{newest, is_present, is_same}
-use Rattle.record_list.specs.Verdict.{newest_name, link_of, passed, is_ahead, is_behind, walk, why, is_committed}
 use Rattle.record_list.proofs.OfFacts.Names.{same_name, newest_present}
 
 -- the link of the newest record of a page
@@ -22,7 +15,7 @@ top_link l page = link_of l (newest_name l page)
 
 -- no record straddles this name, where the protocol asks
 abbrev pub is_clear : Protocol → List Found → Link → Bool
-is_clear p l q = is_committed (passed p l q)
+is_clear p l q = is_committed (why_below_newest p l q)
 
 -- a link passes, or leads to the newest record of a page of the set
 abbrev pub Goes : Protocol → List Found → (ℕ → Type 0) → Link → Type 0
@@ -94,7 +87,7 @@ module _ (p : Protocol) (l : List Found) (logical : ℕ) (linked : IsLinked l lo
   reaches_on start page own has zero h = absurd (false≢true h)
   reaches_on start page own has (suc n) h =
       let q = top_link l page in
-      let says = turn_says (is_ahead l q) (is_behind l q) (is_same q (newest_name l start)) (passed p l q) (walk p l (newest_name l start) n (link_of l q)) h in
+      let says = turn_says (is_ahead l q) (is_behind l q) (is_same q (newest_name l start)) (why_below_newest p l q) (walk p l (newest_name l start) n (link_of l q)) h in
       elim says.1 [
         | inl passes ↦ inl (ltb-true q.version (newest l q.page) passes.0, passes.1)
         | inr on ↦ (
@@ -223,7 +216,7 @@ module _ (p : Protocol) (l : List Found) (logical : ℕ) (linked : IsLinked l lo
       let q = top_link l (trail l start n) in
       let step = walk_alike a b (suc n) (omega arith) (omega arith) in
       let positive = (linked.versions (newest_name l (trail l start n)) (newest_present l (trail l start n) (t.written n (omega arith)))).1 in
-      turn_same (is_ahead l q) (is_behind l q) (is_same q (newest_name l start)) (passed p l q) (walk p l (newest_name l start) a (link_of l q))
+      turn_same (is_ahead l q) (is_behind l q) (is_same q (newest_name l start)) (why_below_newest p l q) (walk p l (newest_name l start) a (link_of l q))
       (walk p l (newest_name l start) b (link_of l q)) (λ ahead behind other.
       let high : q.version ≤ newest l q.page = ltb-false (newest l q.page) q.version ahead in
       let low : newest l q.page ≤ q.version = ltb-false q.version (newest l q.page) behind in
@@ -243,7 +236,7 @@ module _ (p : Protocol) (l : List Found) (logical : ℕ) (linked : IsLinked l lo
       let q = top_link l (trail l start n) in
       let step = safe_walk m (suc n) (omega arith) in
       elim (safe.goes (trail l start n) x) [
-        | inl passes ↦ turn_passes (is_ahead l q) (is_behind l q) (is_same q (newest_name l start)) (passed p l q)
+        | inl passes ↦ turn_passes (is_ahead l q) (is_behind l q) (is_same q (newest_name l start)) (why_below_newest p l q)
             (walk p l (newest_name l start) m (link_of l q))
             (le-ltb (newest l q.page) q.version (omega arith)) (lt-ltb q.version (newest l q.page) passes.0) passes.1
         | inr on ↦ (
@@ -251,11 +244,11 @@ module _ (p : Protocol) (l : List Found) (logical : ℕ) (linked : IsLinked l lo
             let behind : is_behind l q ≡ false = le-ltb q.version (newest l q.page) (omega arith) in
             let name : q ≡ newest_name l q.page = same_name q (newest_name l q.page) refl on.0 in
             elim (cases_eq q.page start) [
-              | inl back ↦ turn_closes (is_ahead l q) (is_behind l q) (is_same q (newest_name l start)) (passed p l q)
+              | inl back ↦ turn_closes (is_ahead l q) (is_behind l q) (is_same q (newest_name l start)) (why_below_newest p l q)
                   (walk p l (newest_name l start) m (link_of l q)) ahead behind
                   (and_from (eqb q.page start) (eqb q.version (newest l start)) (eq-eqb q.page start back)
                   (eq-eqb q.version (newest l start) (on.0 ∙ ap (newest l) back)))
-              | inr off ↦ turn_goes (is_ahead l q) (is_behind l q) (is_same q (newest_name l start)) (passed p l q)
+              | inr off ↦ turn_goes (is_ahead l q) (is_behind l q) (is_same q (newest_name l start)) (why_below_newest p l q)
                   (walk p l (newest_name l start) m (link_of l q)) ahead behind
                   (subst (λ x. is_committed (walk p l (newest_name l start) m (link_of l x)) ≡ true) (sym name)
                   (step (longer l logical linked start n t (safe.written q.page on.1) name off) on.1))

@@ -1,19 +1,8 @@
 -- The laws of a sound list by names: each name that is present has one link and one back version.
-use Rattle.std.proofs.Common.{◌≡◌, ◌≢◌, ℕ, ◌<◌, ◌≤◌, Bool, true, false, eqb, ◌⊎◌, List, All, refl, sym, ap, ◌∙◌, subst, inl, inr, arith, eqb-true, eq-eqb}
-use Rattle.std.proofs.Common.{if◌then◌else◌, Contains}
-use Rattle.std.proofs.lemmas.List.Elements.{All-weaker, All-contains}
-use Rattle.list_facts.proofs.Membership.{all_from}
-use Rattle.list_facts.proofs.Pairs.{in_order}
-use Rattle.tx_types.specs.declared.record.Link.{Link}
-use Rattle.tx_types.specs.declared.config.Protocol.{Protocol}
-use Rattle.tx_types.specs.declared.config.Protocol.TheVariants.{Scc, Bpcc}
-use Rattle.record_list.specs.declared.found.Found.{Found}
-use Rattle.record_list.specs.declared.found.Why.TheVariants.{Passed, Straddled}
-use Rattle.record_list.specs.Records.{newest, name_of, is_present, IsScanned}
-use Rattle.record_list.specs.Verdict.{newest_name, record_named, link_of, back_of, straddling, is_committed}
-use Rattle.record_list.specs.Current.{cur, responsible}
-use Rattle.record_list.specs.SoundList.{Pages, Copies, Links, Present, Counted, Loose, Ending, OwnPageExists, PagesExist, CopiesAgree, LinksDiffer}
-use Rattle.record_list.specs.SoundList.{CurrentIsPresent, LinkHasCounted, LooseIsShown, LooseEnds, current_name, follow, IsSoundList}
+use Rattle.record_list.proofs.Common.{◌≡◌, ◌≢◌, ℕ, ◌<◌, ◌≤◌, Bool, true, false, eqb, ◌⊎◌, List, All, refl, sym, ap, ◌∙◌, subst, inl, inr, arith, eqb-true, eq-eqb, if◌then◌else◌, Contains, All-contains, all_from, in_order, Link, Protocol, Scc, Bpcc, Found, Passed, Straddled, newest, name_of, is_present, IsScanned, newest_name, record_named, link_of, back_of, straddling, is_committed, cur, responsible, Pages, Copies, PagesExist, CopiesAgree, CurrentIsPresent, current_name, follow, IsSoundList}
+use Rattle.std.proofs.lemmas.List.Elements.{All-weaker}
+use Rattle.record_list.specs.SoundList.{Links, Present, Counted, Loose, Ending, OwnPageExists, LinksDiffer}
+use Rattle.record_list.specs.SoundList.{LinkHasCounted, LooseIsShown, LooseEnds}
 use Rattle.record_list.proofs.OfFacts.Names.{found_named, present_in, newest_present, named_link, named_back}
 use Rattle.record_list.proofs.OfFacts.Safe.{is_clear, IsLinked}
 

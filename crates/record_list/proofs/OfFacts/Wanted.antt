@@ -1,18 +1,8 @@
 -- Wanted records: current, held or pinned ones, and blocks outside which each has a slot.
-use Rattle.std.proofs.Common.{◌≡◌, ℕ, true, ◌||◌, eqb, ◌⊎◌, List, Contains, refl, sym, subst, inl, inr, eqb-true, eq-eqb}
+use Rattle.record_list.proofs.Common.{◌≡◌, ℕ, true, ◌||◌, eqb, ◌⊎◌, List, Contains, refl, sym, subst, inl, inr, eqb-true, eq-eqb, or_cases, or_left, or_right, All-contains, any_of, any_from, Link, Rec, Protocol, Shape, Found, name_of, has_name, is_present, cur, IsCurrent, is_held, left, is_outside}
 use Rattle.std.specs.List.{list_any}
-use Rattle.std.proofs.lemmas.Bool.{or_cases, or_left, or_right}
-use Rattle.std.proofs.lemmas.List.Elements.{All-weaker, All-contains}
-use Rattle.list_facts.proofs.Tests.{any_of, any_from}
-use Rattle.tx_types.specs.declared.record.Link.{Link}
-use Rattle.tx_types.specs.declared.record.Rec.{Rec}
-use Rattle.tx_types.specs.declared.config.Protocol.{Protocol}
-use Rattle.tx_types.specs.declared.config.Shape.{Shape}
-use Rattle.record_list.specs.declared.found.Found.{Found}
-use Rattle.record_list.specs.Records.{name_of, has_name, is_present}
-use Rattle.record_list.specs.Current.{cur, IsCurrent, is_held}
-use Rattle.record_list.specs.Changes.{left}
-use Rattle.record_list.specs.Written.{is_outside, is_wanted, IsRemovable, IsDispensable}
+use Rattle.std.proofs.lemmas.List.Elements.{All-weaker}
+use Rattle.record_list.specs.Written.{is_wanted, IsRemovable, IsDispensable}
 use Rattle.record_list.proofs.OfFacts.Names.{found_named, has_name_true, has_own_name}
 
 -- a name of a list is the record's, by test

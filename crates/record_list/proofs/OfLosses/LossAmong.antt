@@ -1,13 +1,6 @@
 -- Lists of which one has its records among those of the other: what the other shares with it. A list counts as the set of
 -- its records, where records of one name are equal.
-use Rattle.std.proofs.Common.{◌≡◌, ℕ, ◌≤◌, true, false, List, refl, sym, ap, ◌∙◌, ⊎_elim, arith, Contains}
-use Rattle.std.proofs.lemmas.Bool.{cases_Bool, false_from_ne_true, both_ways}
-use Rattle.tx_types.specs.declared.record.Link.{Link}
-use Rattle.tx_types.specs.declared.record.Rec.{Rec}
-use Rattle.tx_types.specs.declared.config.Protocol.{Protocol}
-use Rattle.record_list.specs.declared.found.Found.{Found}
-use Rattle.record_list.specs.Records.{greatest, name_of, is_present}
-use Rattle.record_list.specs.Verdict.{record_named, link_of, back_of}
+use Rattle.record_list.proofs.Common.{◌≡◌, ℕ, ◌≤◌, true, false, List, refl, sym, ap, ◌∙◌, ⊎_elim, arith, Contains, cases_Bool, false_from_ne_true, both_ways, Link, Rec, Protocol, Found, greatest, name_of, is_present, record_named, link_of, back_of}
 use Rattle.record_list.specs.Changes.{IsCopy}
 use Rattle.record_list.proofs.OfFacts.SoundNames.{IsSoundMap}
 use Rattle.record_list.proofs.OfChanges.OneMore.{inserted_in}

@@ -1,20 +1,8 @@
 -- Current and held names are present, so that what each current and each held record keeps may be said of names.
-use Rattle.std.proofs.Common.{◌≡◌, ℕ, ◌<◌, ◌≤◌, ◌⊎◌, ◌==◌, leb, ltb, Bool, true, false, ◌&&◌, List, sym, refl, ◌∙◌, subst, inl, inr, ⊎_elim, arith, Contains}
-use Rattle.std.proofs.lemmas.Bool.{cases_lt, and_parts, both_ways, eqb-true, ltb-true, leb-true}
-use Rattle.std.proofs.lemmas.List.Elements.{All-contains}
-use Rattle.list_facts.proofs.Membership.{all_from}
-use Rattle.list_facts.proofs.Values.{if_positive}
-use Rattle.list_facts.proofs.Tests.{any_of}
-use Rattle.tx_types.specs.declared.record.Link.{Link}
-use Rattle.tx_types.specs.declared.record.Rec.{Rec}
-use Rattle.tx_types.specs.declared.config.Protocol.{Protocol}
-use Rattle.tx_types.specs.declared.config.Protocol.TheVariants.{Scc, Bpcc}
-use Rattle.record_list.specs.declared.found.Found.{Found}
-use Rattle.record_list.specs.Records.{name_of, is_present, IsScanned}
-use Rattle.record_list.specs.Verdict.{straddles, record_named}
-use Rattle.record_list.specs.Current.{cur, IsCurrent, straddling_upto, responsible, answers_for, is_held}
-use Rattle.record_list.specs.SoundList.{PagesExist, IsSoundList, Pages}
-use Rattle.record_list.specs.Changes.{left, KeepsCounted}
+use Rattle.record_list.proofs.Common.{◌≡◌, ℕ, ◌<◌, ◌≤◌, ◌⊎◌, ltb, Bool, true, false, ◌&&◌, List, sym, refl, ◌∙◌, subst, inl, inr, ⊎_elim, arith, Contains, cases_lt, and_parts, both_ways, All-contains, all_from, any_of, Link, Rec, Protocol, Scc, Bpcc, Found, name_of, is_present, IsScanned, straddles, record_named, cur, IsCurrent, straddling_upto, responsible, answers_for, is_held, PagesExist, IsSoundList, Pages, left, KeepsCounted}
+use Rattle.std.proofs.Common.{◌==◌, leb}
+use Rattle.std.proofs.lemmas.Bool.{eqb-true, ltb-true, leb-true}
+use Rattle.list_lemmas.proofs.Values.{if_positive}
 use Rattle.record_list.proofs.OfFacts.Held.{IsAnswer, answer_of}
 use Rattle.record_list.proofs.OfFacts.SoundNames.{IsSoundMap, sound_map}
 use Rattle.record_list.proofs.OfFacts.Facts.{cur_present}

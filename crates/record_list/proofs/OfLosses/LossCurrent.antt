@@ -1,18 +1,8 @@
 -- Each current version stays in a loss: a page whose newest record left is the current one counts, and where a page with
 -- a later record left does not count, its current version is that of before.
-use Rattle.std.proofs.Common.{◌≡◌, ℕ, ◌<◌, ◌≤◌, Bool, true, List, ◌∙◌, subst, inl, inr, ⊎_elim, arith}
-use Rattle.std.proofs.lemmas.Bool.{cases_Bool, cases_lt}
+use Rattle.record_list.proofs.Common.{◌≡◌, ℕ, ◌<◌, ◌≤◌, Bool, true, List, ◌∙◌, subst, inl, inr, ⊎_elim, arith, cases_Bool, cases_lt, from_filter, Link, Protocol, Found, newest, is_present, IsScanned, newest_name, link_of, why, is_committed, cur, fallback, IsSoundList, SameCurrent, left, KeepsCounted, LossKeeps}
 use Rattle.std.proofs.lemmas.List.Elements.{All-filter}
 use Rattle.std.proofs.lemmas.List.Kept.{AllPairs-filter}
-use Rattle.list_facts.proofs.Membership.{from_filter}
-use Rattle.tx_types.specs.declared.record.Link.{Link}
-use Rattle.tx_types.specs.declared.config.Protocol.{Protocol}
-use Rattle.record_list.specs.declared.found.Found.{Found}
-use Rattle.record_list.specs.Records.{newest, is_present, IsScanned}
-use Rattle.record_list.specs.Verdict.{newest_name, link_of, why, is_committed}
-use Rattle.record_list.specs.Current.{cur, fallback}
-use Rattle.record_list.specs.SoundList.{IsSoundList}
-use Rattle.record_list.specs.Changes.{SameCurrent, left, KeepsCounted, LossKeeps}
 use Rattle.record_list.proofs.OfFacts.Safe.{top_link, Goes, Counts, counts_from}
 use Rattle.record_list.proofs.OfFacts.SoundNames.{sound_map, sound_list}
 use Rattle.record_list.proofs.OfFacts.Facts.{bare_page, cur_committed, cur_uncommitted}

@@ -1,21 +1,8 @@
 -- A list whose records are among those of a sound list, and in which each name is present that is current or held there:
 -- where the current versions are the same, the laws stay, nothing more is held, and what is in progress stays so.
-use Rattle.std.proofs.Common.{◌≡◌, ◌≢◌, ℕ, zero, suc, ◌^◌, ◌<◌, ◌≤◌, ◌⊎◌, true, false, List, All, Contains, sym, refl, ap, ◌∙◌, subst, inl, inr, ⊎_elim, arith}
-use Rattle.std.proofs.lemmas.Bool.{cases_Bool, cases_lt}
-use Rattle.std.proofs.lemmas.List.Elements.{All-contains}
-use Rattle.list_facts.proofs.Membership.{all_from}
-use Rattle.list_facts.proofs.Tests.{any_of, any_from}
-use Rattle.tx_types.specs.declared.record.Link.{Link}
-use Rattle.tx_types.specs.declared.record.Rec.{Rec}
-use Rattle.tx_types.specs.declared.config.Protocol.{Protocol}
-use Rattle.tx_types.specs.declared.config.Protocol.TheVariants.{Scc, Bpcc}
-use Rattle.record_list.specs.declared.found.Found.{Found}
-use Rattle.record_list.specs.Records.{greatest, newest, mentioned_at, name_of, is_present}
-use Rattle.record_list.specs.Verdict.{newest_name, link_of}
-use Rattle.record_list.specs.Current.{cur, IsLoose, straddling_upto, responsible, answers_for, is_held}
-use Rattle.record_list.specs.SoundList.{current_name, follow}
-use Rattle.record_list.specs.Transaction.{IsAsked, InProgress}
-use Rattle.record_list.specs.Changes.{SameCurrent, SameResponsible}
+use Rattle.record_list.proofs.Common.{◌≡◌, ◌≢◌, ℕ, zero, suc, ◌^◌, ◌<◌, ◌≤◌, ◌⊎◌, true, false, List, All, Contains, sym, refl, ap, ◌∙◌, subst, inl, inr, ⊎_elim, arith, cases_Bool, cases_lt, All-contains, all_from, any_of, any_from, Link, Rec, Protocol, Scc, Bpcc, Found, greatest, newest, mention_at, name_of, is_present, newest_name, link_of, cur, straddling_upto, responsible, answers_for, is_held, current_name, follow, IsAsked, InProgress, SameCurrent}
+use Rattle.record_list.specs.Current.{IsLoose}
+use Rattle.record_list.specs.Changes.{SameResponsible}
 use Rattle.record_list.proofs.OfFacts.Safe.{is_clear}
 use Rattle.record_list.proofs.OfFacts.SoundNames.{IsSoundMap, LooseNames, EndingNames}
 use Rattle.record_list.proofs.OfFacts.Held.{IsAnswer, answer_of, answers}
@@ -179,10 +166,10 @@ reduced_progress p l m n r names t = record {
         asked_same p l m n names
         (λ a i. r.same a.page (All-contains (λ b. (b.page < n) × (1 ≤ b.version) × (b.version ≤ 2 ^ 62)) names a t.begun.transaction.in_range i).0)
         f.rec (subst (λ y. IsAsked p l n names y) x.is (All-contains (λ g. IsAsked p l n names g.rec) l x.at t.begun.asked x.is_in)));
-    others = all_from (λ f. (Contains names (name_of f.rec) → ⊥) → All (λ name. mentioned_at name.page f.rec < name.version) names) m (λ f c.
+    others = all_from (λ f. (Contains names (name_of f.rec) → ⊥) → All (λ name. mention_at name.page f.rec < name.version) names) m (λ f c.
         let x : IsEqual l f.rec = r.loss.among.among f c in
-        subst (λ (y : Rec). (Contains names (name_of y) → ⊥) → All (λ name. mentioned_at name.page y < name.version) names) x.is
-        (All-contains (λ g. (Contains names (name_of g.rec) → ⊥) → All (λ name. mentioned_at name.page g.rec < name.version) names) l x.at t.begun.others
+        subst (λ (y : Rec). (Contains names (name_of y) → ⊥) → All (λ name. mention_at name.page y < name.version) names) x.is
+        (All-contains (λ g. (Contains names (name_of g.rec) → ⊥) → All (λ name. mention_at name.page g.rec < name.version) names) l x.at t.begun.others
         x.is_in));
   };
   absent = (t.absent.0, t.absent.1, t.absent.2, t.absent.3, among_absent m l r.loss.among t.absent.1 t.absent.4);

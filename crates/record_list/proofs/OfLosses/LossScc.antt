@@ -1,14 +1,5 @@
 -- The loss of slots under Simple Cyclic Commit.
-use Rattle.std.proofs.Common.{◌≡◌, ℕ, ◌<◌, ◌≤◌, false, List, sym, refl, ap, ◌∙◌, subst, inl, inr, ⊎_elim, arith}
-use Rattle.std.proofs.lemmas.Bool.{cases_lt, both_ways}
-use Rattle.tx_types.specs.declared.record.Link.{Link}
-use Rattle.tx_types.specs.declared.config.Protocol.TheVariants.{Scc}
-use Rattle.record_list.specs.declared.found.Found.{Found}
-use Rattle.record_list.specs.Records.{newest, version_of, version_below, next_older}
-use Rattle.record_list.specs.Verdict.{newest_name, link_of, why, is_committed}
-use Rattle.record_list.specs.Current.{cur, fallback}
-use Rattle.record_list.specs.SoundList.{current_name}
-use Rattle.record_list.specs.Changes.{left, LossLaw}
+use Rattle.record_list.proofs.Common.{◌≡◌, ℕ, ◌<◌, ◌≤◌, false, List, sym, refl, ap, ◌∙◌, subst, inl, inr, ⊎_elim, arith, cases_lt, both_ways, Link, Scc, Found, newest, version_of, version_below, next_older, newest_name, link_of, why, is_committed, cur, fallback, current_name, left, LossLaw}
 use Rattle.record_list.proofs.OfFacts.Safe.{top_link, Goes, Counts, counts_from, counts_safe}
 use Rattle.record_list.proofs.OfFacts.Facts.{cur_uncommitted, scc_loose}
 use Rattle.record_list.proofs.OfLosses.LossAmong.{among_greatest}

@@ -1,16 +1,6 @@
 -- The loss of records from a sound list: each name that is current or held stays present.
-use Rattle.std.proofs.Common.{◌≡◌, ◌≢◌, ℕ, ◌<◌, ◌≤◌, true, List, sym, refl, ap, ◌∙◌, subst, inl, inr, ⊎_elim, arith, Contains, ltb}
-use Rattle.std.proofs.lemmas.Bool.{cases_lt, and_parts, ltb-true}
-use Rattle.list_facts.proofs.Tests.{any_from}
-use Rattle.tx_types.specs.declared.record.Link.{Link}
-use Rattle.tx_types.specs.declared.record.Rec.{Rec}
-use Rattle.tx_types.specs.declared.config.Protocol.{Protocol}
-use Rattle.tx_types.specs.declared.config.Protocol.TheVariants.{Scc, Bpcc}
-use Rattle.record_list.specs.declared.found.Found.{Found}
-use Rattle.record_list.specs.Records.{greatest, newest, name_of, is_present}
-use Rattle.record_list.specs.Verdict.{record_named, link_of, back_of, straddling, straddling_version}
-use Rattle.record_list.specs.Current.{cur, straddling_upto, responsible, answers_for, is_held}
-use Rattle.record_list.specs.SoundList.{current_name}
+use Rattle.record_list.proofs.Common.{◌≡◌, ◌≢◌, ℕ, ◌<◌, ◌≤◌, true, List, sym, refl, ap, ◌∙◌, subst, inl, inr, ⊎_elim, arith, Contains, ltb, cases_lt, and_parts, any_from, Link, Rec, Protocol, Scc, Bpcc, Found, greatest, newest, name_of, is_present, record_named, link_of, back_of, straddling, straddling_version, cur, straddling_upto, responsible, answers_for, is_held, current_name}
+use Rattle.std.proofs.lemmas.Bool.{ltb-true}
 use Rattle.record_list.proofs.OfFacts.Safe.{is_clear, IsLinked}
 use Rattle.record_list.proofs.OfFacts.SoundNames.{IsSoundMap, clear_from, clear_gives, map_link}
 use Rattle.record_list.proofs.OfFacts.Held.{answers}

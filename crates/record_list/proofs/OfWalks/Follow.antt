@@ -1,15 +1,9 @@
 -- Links followed from a name: an absent one is not left again, and no more distinct present ones are met than there are records.
-use Rattle.std.proofs.Common.{◌≡◌, ℕ, zero, suc, ◌+◌, ◌<◌, ◌≤◌, Bool, true, false, ◌||◌, eqb, List, [], ◌∷◌, length, refl, sym, ap, ◌∙◌, subst, inl, inr, arith}
-use Rattle.std.proofs.Common.{if◌then◌else◌, ne_eqb, add-zero, add-suc, add-one, ◌-◌}
+use Rattle.record_list.proofs.Common.{◌≡◌, ℕ, zero, suc, ◌+◌, ◌<◌, ◌≤◌, Bool, true, false, ◌||◌, eqb, List, [], ◌∷◌, length, refl, sym, ap, ◌∙◌, subst, inl, inr, arith, if◌then◌else◌, ne_eqb, add-one, ◌-◌, false≢true, cases_Bool, cases_lt, cond-true, cond-false, or_cases, Link, Found, has_name, is_present, link_of, follow}
+use Rattle.std.proofs.Common.{add-zero, add-suc}
 use Rattle.std.specs.List.{AllByRecursion, IsDistinct}
-use Rattle.std.proofs.lemmas.Bool.{false≢true, cases_Bool, cases_lt, cond-true, cond-false, or_cases}
 use Rattle.std.proofs.lemmas.Map.Steps.{length-le_from_distinct_below}
-use Rattle.list_facts.proofs.Tests.{below_any}
-use Rattle.tx_types.specs.declared.record.Link.{Link}
-use Rattle.record_list.specs.declared.found.Found.{Found}
-use Rattle.record_list.specs.Records.{has_name, is_present}
-use Rattle.record_list.specs.Verdict.{link_of}
-use Rattle.record_list.specs.SoundList.{follow}
+use Rattle.list_lemmas.proofs.Tests.{below_any}
 use Rattle.record_list.proofs.OfFacts.Names.{has_name_true, absent_link}
 
 -- the place of the first record with a name

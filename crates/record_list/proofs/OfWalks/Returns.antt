@@ -1,11 +1,5 @@
 -- First returns: names whose links lead back to them, and after how many.
-use Rattle.std.proofs.Common.{◌≡◌, ◌≢◌, ℕ, zero, suc, ◌+◌, ◌-◌, ◌<◌, ◌≤◌, true, List, length, sym, ap, ◌∙◌, inl, inr, arith}
-use Rattle.std.proofs.lemmas.Bool.{false≢true, cases_Bool, cases_lt, cases_order}
-use Rattle.tx_types.specs.declared.record.Link.{Link}
-use Rattle.record_list.specs.declared.found.Found.{Found}
-use Rattle.record_list.specs.Records.{is_present}
-use Rattle.record_list.specs.Verdict.{link_of}
-use Rattle.record_list.specs.SoundList.{follow}
+use Rattle.record_list.proofs.Common.{◌≡◌, ◌≢◌, ℕ, zero, suc, ◌+◌, ◌-◌, ◌<◌, ◌≤◌, true, List, length, sym, ap, ◌∙◌, inl, inr, arith, false≢true, cases_Bool, cases_lt, cases_order, Link, Found, is_present, link_of, follow}
 use Rattle.record_list.specs.Counts.{IsFirstReturn}
 use Rattle.record_list.proofs.OfFacts.Names.{absent_link}
 use Rattle.record_list.proofs.OfWalks.Follow.{follow_add, follow_last, stays_absent, meet_on, few_met}

@@ -1,10 +1,8 @@
 -- A cycle of names: what passes from each name to the one that follows it goes round.
-use Rattle.std.proofs.Common.{◌≡◌, ℕ, ◌≢◌, ◌⊎◌, List, [], ◌∷◌, ◌++◌, zip, AllPairs, sym, ap, ◌∙◌, subst, inl, inr, Contains}
-use Rattle.std.proofs.lemmas.Bool.{cases_eq}
-use Rattle.list_facts.proofs.Membership.{Contains-cases, Contains-first, Contains-here, Contains-nil, Contains-one, Contains-rest}
-use Rattle.list_facts.proofs.Pairs.{pairs_head, pairs_tail}
-use Rattle.tx_types.specs.declared.record.Link.{Link}
-use Rattle.record_list.specs.Transaction.{next_names}
+use Rattle.record_list.proofs.Common.{◌≡◌, ℕ, ◌≢◌, ◌⊎◌, List, [], ◌∷◌, zip, sym, ap, ◌∙◌, subst, inl, inr, Contains, cases_eq, Contains-cases, Contains-first, Contains-nil, Contains-rest, Link, next_names}
+use Rattle.std.proofs.Common.{◌++◌, AllPairs}
+use Rattle.list_lemmas.proofs.Membership.{Contains-here, Contains-one}
+use Rattle.list_lemmas.proofs.Pairs.{pairs_head, pairs_tail}
 use Rattle.record_list.proofs.OfFacts.Names.{same_name}
 
 -- a name of the cycle and the name after it

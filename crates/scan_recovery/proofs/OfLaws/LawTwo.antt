@@ -1,28 +1,18 @@
 -- Law 2 by the lowest record of each name.
-use Rattle.std.proofs.Common.{◌≡◌, ℕ, ◌<◌, ◌≤◌, Bool, true, List, [], ◌∷◌, length, get_or, find, All, AllPairs, Some, IsSomeAnd, IfSome, refl, sym, ap, ◌∙◌}
-use Rattle.std.proofs.Common.{subst, inl, inr, arith, Contains}
-use Rattle.std.proofs.lemmas.Bool.{false≢true, cases_Bool, cond-true, cond-false}
-use Rattle.std.proofs.lemmas.List.{length-map, get_or-map, get_or_default}
-use Rattle.std.proofs.lemmas.List.Elements.{All-map, All-contains, Contains-get_or}
-use Rattle.list_facts.proofs.Membership.{all_from, Contains-cases, Contains-nil, in_map}
-use Rattle.list_facts.proofs.Tests.{find_stands}
-use Rattle.list_facts.proofs.Pairs.{in_order, pairs_head, pairs_tail}
-use Rattle.tx_types.specs.declared.config.Protocol.{Protocol}
-use Rattle.tx_types.specs.declared.config.Shape.{Shape}
-use Rattle.flash_model.specs.Flash.{Contents, slot_at}
+use Rattle.scan_recovery.proofs.Common.{◌≡◌, ℕ, ◌<◌, ◌≤◌, Bool, true, List, [], ◌∷◌, length, get_or, find, All, AllPairs, Some, IfSome, refl, sym, ap, ◌∙◌, subst, inl, inr, arith, Contains, false≢true, cases_Bool, cond-true, cond-false, length-map, get_or-map, get_or_default, All-contains, Contains-get_or, all_from, pairs_head, pairs_tail, Protocol, Shape, Contents, slot_at, Found, nothing, name_of, has_name, FindsFirst, Pages, Copies, Links, Present, Loose, Ending, KeepsWritten, has_name_true, has_own_name, written_in, records_in, SlotReads, IsLeastImageBreach, records_scanned, bytes_shown, AgreesWithLowest}
+use Rattle.std.proofs.Common.{IsSomeAnd}
+use Rattle.std.proofs.lemmas.List.Elements.{All-map}
+use Rattle.list_lemmas.proofs.Membership.{Contains-cases, Contains-nil, in_map}
+use Rattle.list_lemmas.proofs.Tests.{find_stands}
+use Rattle.list_lemmas.proofs.Pairs.{in_order}
 use Rattle.flash_model.specs.Calls.{page_of}
-use Rattle.record_list.specs.declared.found.Found.{Found}
 use Rattle.record_list.specs.declared.found.Breach.{Breach}
-use Rattle.record_list.specs.Records.{nothing, name_of, has_name}
-use Rattle.record_list.specs.Search.{FindsFirst}
-use Rattle.record_list.specs.SoundList.{Law, Pages, Copies, Links, Present, Counted, Loose, Ending, number}
-use Rattle.record_list.specs.Written.{Written, found_of, KeepsWritten}
-use Rattle.record_list.proofs.OfFacts.Names.{has_name_true, has_own_name}
+use Rattle.record_list.specs.SoundList.{Law, Counted, number}
+use Rattle.record_list.specs.Written.{Written, found_of}
 use Rattle.record_list.proofs.OfChanges.WrittenLists.{in_records, ascending_written}
 use Rattle.record_list.proofs.OfFacts.Breaches.{earlier_index}
-use Rattle.version_index.specs.Images.{written_in, records_in, HasPages, SlotReads, IsLeastImageBreach}
-use Rattle.version_index.proofs.OfLaws.ImageScans.{is_read, records_scanned}
-use Rattle.scan_recovery.specs.Twins.{bytes_shown, AgreesWithLowest}
+use Rattle.version_index.specs.Images.{HasPages}
+use Rattle.version_index.proofs.OfLaws.ImageScans.{is_read}
 
 -- some item is found where one passes, and it does not come after it
 record FindsBefore (list : List Found) (test : Found → Bool) (f : Found) : Type 0 where

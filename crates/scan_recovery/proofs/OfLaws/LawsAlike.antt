@@ -1,20 +1,11 @@
 -- A list and its records in order of their names keep the same laws.
-use Rattle.std.proofs.Common.{◌≡◌, ◌≢◌, ◌↔◌, ℕ, zero, suc, ◌<◌, ◌≤◌, ◌⊎◌, Bool, true, Option, Some, None, List, get_or, All, refl, sym, ap, ap₂, ◌∙◌, subst}
-use Rattle.std.proofs.Common.{arith}
-use Rattle.std.proofs.lemmas.List.Elements.{All-contains}
-use Rattle.std.proofs.lemmas.List.Sorted.{Contains-permutation}
-use Rattle.list_facts.proofs.Membership.{all_from}
-use Rattle.tx_types.specs.declared.record.Link.{Link}
-use Rattle.tx_types.specs.declared.config.Protocol.{Protocol}
-use Rattle.tx_types.specs.declared.config.Protocol.TheVariants.{Scc, Bpcc}
-use Rattle.record_list.specs.declared.found.Found.{Found}
-use Rattle.record_list.specs.Records.{newest, is_present}
+use Rattle.scan_recovery.proofs.Common.{◌≡◌, ◌≢◌, ℕ, zero, suc, ◌<◌, ◌≤◌, ◌⊎◌, Bool, true, Option, Some, None, List, get_or, All, refl, sym, ap, ap₂, ◌∙◌, subst, arith, All-contains, Contains-permutation, all_from, Link, Protocol, Scc, Bpcc, Found, is_present, cur, CurrentIsPresent, LinkHasCounted, LooseIsShown, LooseEnds, FindsFirst, Sorts}
+use Rattle.std.proofs.Common.{◌↔◌}
+use Rattle.record_list.specs.Records.{newest}
 use Rattle.record_list.specs.Verdict.{straddling, link_of}
-use Rattle.record_list.specs.Current.{cur, responsible}
-use Rattle.record_list.specs.SoundList.{CurrentIsPresent, LinkHasCounted, LooseIsShown, LooseEnds, follow}
-use Rattle.record_list.specs.Search.{FindsFirst}
-use Rattle.record_chart.specs.Charts.{Sorts}
-use Rattle.record_chart.proofs.OfSort.Alike.{newest_alike, present_alike, link_alike, straddling_alike, cur_alike, responsible_alike}
+use Rattle.record_list.specs.Current.{responsible}
+use Rattle.record_list.specs.SoundList.{follow}
+use Rattle.sorted_records.proofs.OfSort.Alike.{newest_alike, present_alike, link_alike, straddling_alike, cur_alike, responsible_alike}
 
 -- a search for the first that breaks one fact is one for the first that breaks another, where the facts are the same
 pub finds_alike : (P Q : Found → Type 0) (list : List Found) (first : Option ℕ) → ((f : Found) → P f ↔ Q f) →

@@ -1,15 +1,9 @@
 -- The least breach of a list that keeps laws 1 and 2, from searches by its records in order of their names.
-use Rattle.std.proofs.Common.{ℕ, Some, None, List, All, refl}
-use Rattle.tx_types.specs.declared.config.Protocol.{Protocol}
-use Rattle.tx_types.specs.declared.config.Slot.{Slot}
-use Rattle.record_list.specs.declared.found.Found.{Found}
-use Rattle.record_list.specs.Records.{IsScanned}
-use Rattle.record_list.specs.SoundList.{Pages, Copies, Links, Present, Counted, Loose, Ending, Keeps, PagesExist, CopiesAgree, LinksDiffer, CurrentIsPresent}
-use Rattle.record_list.specs.SoundList.{LinkHasCounted, LooseIsShown, LooseEnds, IsSoundList, IsLeastBreach}
-use Rattle.record_list.specs.Search.{FindsFirst}
+use Rattle.scan_recovery.proofs.Common.{ℕ, Some, None, List, All, refl, Protocol, Slot, Found, IsScanned, Pages, Copies, Links, Present, Loose, Ending, CopiesAgree, LinksDiffer, CurrentIsPresent, LinkHasCounted, LooseIsShown, LooseEnds, IsSoundList, FindsFirst, Sorts}
+use Rattle.record_list.specs.SoundList.{Counted, Keeps, PagesExist}
+use Rattle.record_list.specs.SoundList.{IsLeastBreach}
 use Rattle.record_list.proofs.OfFacts.Breaches.{breach, before_links, breach_of_current, breach_of_counted}
 use Rattle.bpcc_commit.proofs.LooseBreaches.{breach_of_loose, breach_of_ending}
-use Rattle.record_chart.specs.Charts.{Sorts}
 use Rattle.scan_recovery.specs.Searches.{FindsLowest}
 use Rattle.scan_recovery.proofs.OfLaws.LawsAlike.{finds_alike, current_same, counted_same, shown_same, ends_same}
 

@@ -1,16 +1,8 @@
 -- The lowest record of a name is the first of it among the records in order of their names.
-use Rattle.std.proofs.Common.{◌≡◌, ℕ, ◌==◌, ◌&&◌, not, false, IfSome, List, All, find, sym, ap, ◌∙◌}
+use Rattle.scan_recovery.proofs.Common.{◌≡◌, ℕ, ◌==◌, ◌&&◌, not, false, IfSome, List, All, find, sym, ap, ◌∙◌, All-contains, IsPermutation-sym, Contains-permutation, all_from, Rec, Contents, Found, name_of, has_name, Sorts, bytes_shown, is_compared, AgreesWithLowest}
 use Rattle.std.specs.Option.{option_map_or}
-use Rattle.std.proofs.lemmas.List.Elements.{All-contains}
-use Rattle.std.proofs.lemmas.List.Sorted.{IsPermutation-sym, Contains-permutation}
-use Rattle.list_facts.proofs.Membership.{all_from}
-use Rattle.list_facts.proofs.Tests.{find_left}
-use Rattle.tx_types.specs.declared.record.Rec.{Rec}
-use Rattle.flash_model.specs.Flash.{Contents}
-use Rattle.record_list.specs.declared.found.Found.{Found}
-use Rattle.record_list.specs.Records.{name_of, has_name}
-use Rattle.record_chart.specs.Charts.{Sorts}
-use Rattle.scan_recovery.specs.Twins.{lowest_of, is_equal, bytes_shown, is_compared, AgreesWithLowest}
+use Rattle.list_lemmas.proofs.Tests.{find_left}
+use Rattle.scan_recovery.specs.Twins.{lowest_of, is_equal}
 
 module _ (list sorted : List Found) (is : Sorts list sorted) where
   pub lowest_alike : (rec : Rec) → lowest_of sorted rec ≡ lowest_of list rec

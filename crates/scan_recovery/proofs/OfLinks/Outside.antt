@@ -1,16 +1,5 @@
 -- Records outside a block.
-use Rattle.std.proofs.Common.{◌≡◌, ℕ, Bool, true, false, cond, ◌&&◌, ◌||◌, ◌⊎◌, ◌<◌, List, [], ◌∷◌, length, refl, sym, ap, subst, ◌∙◌}
-use Rattle.std.specs.List.{list_any}
-use Rattle.std.proofs.lemmas.Bool.{false≢true}
-use Rattle.std.proofs.lemmas.List.{get_or_default}
-use Rattle.tx_types.specs.declared.config.Protocol.{Protocol}
-use Rattle.tx_types.specs.declared.config.Shape.{Shape}
-use Rattle.tx_types.specs.declared.record.Link.{Link}
-use Rattle.record_list.specs.declared.found.Found.{Found}
-use Rattle.record_list.specs.Records.{has_name, name_of, is_present, nothing, record_at}
-use Rattle.record_list.specs.Current.{IsCurrent, is_held}
-use Rattle.record_list.specs.Written.{is_outside, IsRemovable}
-use Rattle.record_list.specs.Changes.{left}
+use Rattle.scan_recovery.proofs.Common.{◌≡◌, ℕ, Bool, true, false, cond, ◌&&◌, ◌||◌, ◌⊎◌, ◌<◌, List, [], ◌∷◌, length, refl, sym, ap, subst, ◌∙◌, list_any, false≢true, get_or_default, Protocol, Shape, Link, Found, has_name, name_of, is_present, nothing, record_at, IsCurrent, is_held, is_outside, IsRemovable, left}
 
 any_kept : (b : Bool) (name : Link) (f : Found) (fs : List Found) → is_present (cond b (f ∷ fs) fs) name ≡ ((b && has_name name f.rec) || is_present fs name)
 any_kept true name f fs = refl

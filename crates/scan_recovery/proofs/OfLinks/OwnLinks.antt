@@ -1,20 +1,13 @@
 -- Records of which each link is that of one name keep law 3.
-use Rattle.std.proofs.Common.{◌≡◌, ℕ, ◌+◌, ◌-◌, ◌<◌, Bool, true, false, Option, Some, None, IfSome, List, length, get_or, set, position, Contains, refl, sym}
-use Rattle.std.proofs.Common.{ap, ◌∙◌}
-use Rattle.std.proofs.Common.{subst, inl, inr, arith}
-use Rattle.std.proofs.lemmas.Bool.{cases_order, false≢true}
+use Rattle.scan_recovery.proofs.Common.{◌≡◌, ℕ, ◌+◌, ◌-◌, ◌<◌, Bool, true, false, Option, Some, None, IfSome, List, length, get_or, position, Contains, refl, sym, ap, ◌∙◌, subst, inl, inr, arith, false≢true, get_or_default, get_or-map, length-map, Contains-permutation, all_from, Found, name_of, has_name, record_at, nothing, LinksDiffer, has_name_true, Sorts, IsLowestSharer}
+use Rattle.std.proofs.Common.{set}
+use Rattle.std.proofs.lemmas.Bool.{cases_order}
 use Rattle.std.proofs.lemmas.Option.{same_Some, none-some}
-use Rattle.std.proofs.lemmas.List.{get_or_default, get_or-map, get_or-set_same, get_or-set_other, length-map, length-set}
-use Rattle.std.proofs.lemmas.List.Sorted.{Contains-permutation}
-use Rattle.list_facts.proofs.Membership.{all_from}
-use Rattle.record_list.specs.declared.found.Found.{Found}
-use Rattle.record_list.specs.Records.{name_of, has_name, record_at, nothing}
-use Rattle.record_list.specs.SoundList.{LinksDiffer}
-use Rattle.record_list.proofs.OfFacts.Names.{has_name_true}
-use Rattle.record_chart.specs.Charts.{Sorts, SortsByLink}
-use Rattle.record_chart.specs.NameGraph.{name_graph}
-use Rattle.record_chart.specs.Orbits.{IsGraph}
-use Rattle.scan_recovery.specs.Searches.{IsLowestSharer, HaveOwnLinks, AreLinkedOnce, AreMarked, AreAbsentOnce, IsAsBefore, NotesLink, HasAbsent}
+use Rattle.std.proofs.lemmas.List.{get_or-set_same, get_or-set_other, length-set}
+use Rattle.sorted_records.specs.SortedRecords.{SortsByLink}
+use Rattle.sorted_records.specs.NameGraph.{name_graph}
+use Rattle.sorted_records.specs.Orbits.{IsGraph}
+use Rattle.scan_recovery.specs.Searches.{HaveOwnLinks, AreLinkedOnce, AreMarked, AreAbsentOnce, IsAsBefore, NotesLink, HasAbsent}
 use Rattle.scan_recovery.proofs.OfLinks.SharedLinks.{one_name_beside}
 
 module _ (list : List Found) (at place : ℕ) (here : get_or (name_graph list) at None ≡ Some place) where

@@ -1,23 +1,14 @@
 -- The lowest slot that breaks law 3 is that of a record beside one with its link and another name.
-use Rattle.std.proofs.Common.{◌≡◌, ℕ, zero, suc, ◌+◌, ◌-◌, ◌<◌, ◌≤◌, Bool, true, false, not, nat_lt, Option, Some, None, List, [], ◌∷◌, filter, length, get_or}
-use Rattle.std.proofs.Common.{AllPairs, Contains, refl, sym, ap, ◌∙◌, subst, inl, inr, arith, eq-eqb, lt-ltb, le-ltb}
-use Rattle.std.proofs.lemmas.Bool.{cases_Bool, cases_lt, cases_order, cond-true, cond-false, false≢true, and_parts}
-use Rattle.std.proofs.lemmas.List.{get_or_default}
-use Rattle.std.proofs.lemmas.List.Elements.{Contains-get_or}
+use Rattle.scan_recovery.proofs.Common.{◌≡◌, ℕ, zero, suc, ◌+◌, ◌-◌, ◌<◌, ◌≤◌, Bool, true, false, not, nat_lt, Option, Some, None, List, [], ◌∷◌, length, get_or, AllPairs, Contains, refl, sym, ap, ◌∙◌, subst, inl, inr, arith, eq-eqb, cases_Bool, cases_lt, cond-true, cond-false, false≢true, and_parts, get_or_default, Contains-get_or, IsPermutation-sym, Contains-permutation, all_from, pairs_head, pairs_tail, Slot, Link, Rec, Found, IsScanned, name_of, has_name, nothing, LinksDiffer, same_name, has_name_true, has_own_name, IsLowestSharer}
+use Rattle.std.proofs.Common.{filter}
+use Rattle.std.proofs.Common.{lt-ltb, le-ltb}
+use Rattle.std.proofs.lemmas.Bool.{cases_order}
 use Rattle.std.proofs.lemmas.List.Kept.{AllPairs-filter}
-use Rattle.std.proofs.lemmas.List.Sorted.{IsPermutation-sym, Contains-permutation}
-use Rattle.list_facts.proofs.Membership.{all_from, any_in, in_filter}
-use Rattle.list_facts.proofs.Pairs.{pairs_head, pairs_tail}
-use Rattle.tx_types.specs.declared.config.Slot.{Slot}
-use Rattle.tx_types.specs.declared.record.Link.{Link}
-use Rattle.tx_types.specs.declared.record.Rec.{Rec}
-use Rattle.record_list.specs.declared.found.Found.{Found}
-use Rattle.record_list.specs.Records.{IsScanned, name_of, has_name, is_same, nothing}
-use Rattle.record_list.specs.SoundList.{LinksDiffer}
-use Rattle.record_list.proofs.OfFacts.Names.{same_name, has_name_true, has_own_name}
-use Rattle.record_chart.specs.Charts.{is_below, SortsByLink}
-use Rattle.record_chart.proofs.OfSort.Order.{below_false}
-use Rattle.scan_recovery.specs.Searches.{FindsLowest, lower, share_link, IsLowestBelow, NextShares, next_slot, IsLowestSharer}
+use Rattle.list_lemmas.proofs.Membership.{any_in, in_filter}
+use Rattle.record_list.specs.Records.{is_same}
+use Rattle.sorted_records.specs.SortedRecords.{is_below, SortsByLink}
+use Rattle.sorted_records.proofs.OfSort.Order.{below_false}
+use Rattle.scan_recovery.specs.Searches.{FindsLowest, lower, share_link, IsLowestBelow, NextShares, next_slot}
 
 -- a search for the lowest slot, one number more
 pub lowest_yes : (P : ℕ → Type 0) (slot_of : ℕ → Slot) (n m : ℕ) (lowest : Option Slot) → m ≡ n + 1 → IsLowestBelow n P slot_of lowest → P n →

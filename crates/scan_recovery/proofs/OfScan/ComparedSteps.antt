@@ -1,15 +1,8 @@
 -- How many slots are compared, one record after another.
-use Rattle.std.proofs.Common.{◌≡◌, ℕ, ◌+◌, ◌*◌, ◌<◌, ◌≤◌, true, cond, List, length, get_or, take, count_by, ap, ◌∙◌, subst, inl, inr, arith}
-use Rattle.std.proofs.lemmas.Bool.{cases_Bool, cases_lt}
-use Rattle.std.proofs.lemmas.List.{take_all, get_or_default}
+use Rattle.scan_recovery.proofs.Common.{◌≡◌, ℕ, ◌+◌, ◌*◌, ◌<◌, ◌≤◌, true, cond, List, length, get_or, take, count_by, ap, ◌∙◌, subst, inl, inr, arith, cases_Bool, cases_lt, get_or_default, FlashState, Contents, Shape, Found, nothing, ReadsAll, ReadsSome, is_compared, compared, AgreesWithLowest}
+use Rattle.std.proofs.lemmas.List.{take_all}
 use Rattle.std.proofs.lemmas.List.Sums.{count_by_more_yes, count_by_more_no, sum_by-take-le}
-use Rattle.flash_model.specs.Flash.{FlashState, Contents}
 use Rattle.flash_model.specs.Operations.{Moment}
-use Rattle.tx_types.specs.declared.config.Shape.{Shape}
-use Rattle.record_list.specs.declared.found.Found.{Found}
-use Rattle.record_list.specs.Records.{nothing}
-use Rattle.scan_recovery.specs.Reading.{ReadsAll, ReadsSome}
-use Rattle.scan_recovery.specs.Twins.{is_compared, compared, AgreesWithLowest}
 use Rattle.scan_recovery.proofs.OfScan.ReadingSteps.{reads_all_then, reads_some_then, reads_some_within}
 
 -- how many of the first records are compared

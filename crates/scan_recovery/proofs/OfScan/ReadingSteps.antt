@@ -1,8 +1,8 @@
 -- One reading of slots after another.
-use Rattle.std.proofs.Common.{◌≡◌, ℕ, zero, suc, ◌+◌, ◌≤◌, Bool, false, refl, ◌∙◌, sym, ap, arith}
-use Rattle.flash_model.specs.Flash.{FlashState, counted_by}
+use Rattle.scan_recovery.proofs.Common.{◌≡◌, ℕ, zero, suc, ◌+◌, ◌≤◌, Bool, false, refl, ◌∙◌, sym, ap, arith, FlashState, ReadsAll, ReadsSome}
+use Rattle.flash_model.specs.Flash.{counted_by}
 use Rattle.flash_model.proofs.CallLemmas.{Carries-then, Carries-nothing, counted_by-twice}
-use Rattle.scan_recovery.specs.Reading.{read_more, ReadsAll, ReadsSome}
+use Rattle.scan_recovery.specs.Reading.{read_more}
 
 -- a count that goes up twice
 pub read_more-twice : (more most n : ℕ) → read_more most (read_more more n) ≡ read_more (more + most) n

@@ -1,24 +1,15 @@
 -- A record is responsible for a loose one where the first record of its name is marked.
-use Rattle.std.proofs.Common.{◌≡◌, ◌≢◌, ℕ, ◌<◌, Bool, true, false, ◌&&◌, Option, Some, None, List, [], ◌∷◌, length, get_or, position, Contains, All, refl}
-use Rattle.std.proofs.Common.{sym, ap, ◌∙◌, inl, inr, arith, eqb-true, eq-eqb, ltb-true, lt-ltb, nat_lt}
-use Rattle.std.specs.List.{list_any}
-use Rattle.std.proofs.lemmas.Bool.{false≢true, cases_Bool, cond-true, cond-false, and_parts, and_from}
-use Rattle.std.proofs.lemmas.List.Elements.{All-contains, Contains-get_or}
+use Rattle.scan_recovery.proofs.Common.{◌≡◌, ◌≢◌, ℕ, ◌<◌, Bool, true, false, ◌&&◌, Option, Some, None, List, [], ◌∷◌, length, get_or, position, Contains, All, refl, sym, ap, ◌∙◌, inl, inr, arith, eqb-true, eq-eqb, nat_lt, list_any, false≢true, cases_Bool, cond-true, cond-false, and_parts, All-contains, Contains-get_or, Link, Rec, Protocol, Scc, Bpcc, Found, name_of, has_name, record_at, nothing, cur, is_held, same_name, has_name_true, absent_at}
+use Rattle.std.proofs.Common.{ltb-true, lt-ltb}
+use Rattle.std.proofs.lemmas.Bool.{and_from}
 use Rattle.std.proofs.lemmas.List.Quantifiers.{position-Some}
-use Rattle.list_facts.proofs.Tests.{any_same_in}
-use Rattle.list_facts.proofs.Values.{one_test}
-use Rattle.tx_types.specs.declared.record.Link.{Link}
-use Rattle.tx_types.specs.declared.record.Rec.{Rec}
-use Rattle.tx_types.specs.declared.config.Protocol.{Protocol}
-use Rattle.tx_types.specs.declared.config.Protocol.TheVariants.{Scc, Bpcc}
-use Rattle.record_list.specs.declared.found.Found.{Found}
-use Rattle.record_list.specs.Records.{name_of, has_name, record_at, nothing}
-use Rattle.record_list.specs.Current.{cur, is_loose, responsible, is_held, answers_for}
-use Rattle.record_list.proofs.OfFacts.Names.{same_name, has_name_true, present_in}
+use Rattle.list_lemmas.proofs.Tests.{any_same_in}
+use Rattle.list_lemmas.proofs.Values.{one_test}
+use Rattle.record_list.specs.Current.{is_loose, responsible, answers_for}
+use Rattle.record_list.proofs.OfFacts.Names.{present_in}
 use Rattle.record_list.proofs.OfFacts.Held.{answer_of, answers}
 use Rattle.straddle_sets.proofs.Responsibles.{has_responsible}
-use Rattle.record_chart.proofs.OfWalk.WalkOrbits.{absent_at}
-use Rattle.record_chart.specs.Standings.{Judged}
+use Rattle.sorted_records.specs.CurrentVersions.{CurrentVersionsState}
 use Rattle.scan_recovery.specs.Removable.{AreCopies, answerer_by, is_place, AreHeld}
 
 none_at : (l : List Found) → list_any (λ f. false) l ≡ false
@@ -92,7 +83,7 @@ module _ (l : List Found) (logical : ℕ) (copies : AreCopies l) where
       (λ f d. answers_there r f p c at)
 
 -- what is marked at the first record of a name
-pub held_at : (j : Judged) (held : List Bool) (at place : ℕ) (d : Bool) → AreCopies j.list → AreHeld j j.list held → at < length j.list →
+pub held_at : (j : CurrentVersionsState) (held : List Bool) (at place : ℕ) (d : Bool) → AreCopies j.list → AreHeld j j.list held → at < length j.list →
     Some place ≡ position (λ g. has_name (name_of (record_at j.list at)) g.rec) j.list →
     get_or held place d ≡ is_held j.protocol j.list j.logical (record_at j.list at)
 held_at j held at place d copies are within there =

@@ -1,26 +1,13 @@
 -- A block is removable where no record is current or held and stands in it alone.
-use Rattle.std.proofs.Common.{◌≡◌, ◌≢◌, ℕ, ◌/◌, ◌<◌, Bool, true, false, ◌==◌, ◌&&◌, ◌||◌, not, ◌⊎◌, List, [], ◌∷◌, filter, get_or, Contains, Option, None, Some}
-use Rattle.std.proofs.Common.{refl, sym, ap, ◌∙◌, subst, inl, inr, arith, eqb-true, eq-eqb, ne_eqb, mul_comm}
-use Rattle.std.specs.List.{list_any}
+use Rattle.scan_recovery.proofs.Common.{◌≡◌, ◌≢◌, ℕ, ◌<◌, Bool, true, false, ◌==◌, ◌&&◌, ◌||◌, not, ◌⊎◌, List, [], ◌∷◌, get_or, Contains, Option, None, Some, refl, sym, ap, ◌∙◌, subst, inl, inr, arith, eqb-true, eq-eqb, list_any, get_or_default, false≢true, cases_Bool, cases_eq, cond-true, cond-false, and_parts, Contains-get_or, Shape, Block, Rec, IsShape, slots_of, blocks_of, Found, name_of, has_name, is_present, record_at, nothing, cur, IsCurrent, is_held, left, is_outside, IsRemovable, has_own_name, FindsHighest}
+use Rattle.std.proofs.Common.{◌/◌, filter}
+use Rattle.std.proofs.Common.{ne_eqb, mul_comm}
 use Rattle.std.proofs.Math.Nat.{div-lt_iff_lt-mul}
 use Rattle.std.proofs.Math.Bool.{and-true}
-use Rattle.std.proofs.lemmas.List.{get_or_default}
-use Rattle.std.proofs.lemmas.Bool.{false≢true, cases_Bool, cases_eq, cond-true, cond-false, and_parts, and_from, and_right, or_left, or_right, or_cases}
+use Rattle.std.proofs.lemmas.Bool.{and_from, and_right, or_left, or_right, or_cases}
 use Rattle.std.proofs.lemmas.Bool.{not_from_true, not_from_false, not-true, true_from_ne_false, false_from_ne_true}
-use Rattle.std.proofs.lemmas.List.Elements.{Contains-get_or}
-use Rattle.list_facts.proofs.Tests.{any_of, any_from, any_none}
-use Rattle.tx_types.specs.declared.config.Shape.{Shape}
-use Rattle.tx_types.specs.declared.config.Block.{Block}
-use Rattle.tx_types.specs.declared.record.Rec.{Rec}
-use Rattle.tx_types.specs.Config.{IsShape, slots_of, blocks_of}
-use Rattle.record_list.specs.declared.found.Found.{Found}
-use Rattle.record_list.specs.Records.{name_of, has_name, is_present, record_at, nothing}
-use Rattle.record_list.specs.Current.{cur, IsCurrent, is_held}
-use Rattle.record_list.specs.Changes.{left}
-use Rattle.record_list.specs.Written.{is_outside, IsRemovable}
-use Rattle.record_list.proofs.OfFacts.Names.{has_own_name}
-use Rattle.record_chart.specs.Standings.{Judged}
-use Rattle.scan_recovery.specs.Opening.{FindsHighest}
+use Rattle.list_lemmas.proofs.Tests.{any_of, any_from, any_none}
+use Rattle.sorted_records.specs.CurrentVersions.{CurrentVersionsState}
 use Rattle.scan_recovery.specs.Removable.{is_counted, stands_outside, is_fixed, AreFixed}
 use Rattle.scan_recovery.proofs.OfLinks.Outside.{present_left, removable_all, removable_not}
 
@@ -42,7 +29,7 @@ pub block_exists : (shape : Shape) (slot : ℕ) → IsShape shape → 0 < shape.
 block_exists shape slot is some within =
     (div-lt_iff_lt-mul {k = shape.pages_per_block} {x = slot} {y = blocks_of shape} some).1 (omega (arith, mul_comm shape.pages_per_block (blocks_of shape)))
 
-module _ (j : Judged) where
+module _ (j : CurrentVersionsState) where
   -- the test of a record, and what it says
   counted_from : (r : Rec) → IsCurrent j.protocol j.list j.logical r ⊎ (is_held j.protocol j.list j.logical r ≡ true) → is_counted j r ≡ true
   counted_from r (inl current) = or_left (r.version == cur j.protocol j.list j.logical r.page) (is_held j.protocol j.list j.logical r)
@@ -71,7 +58,7 @@ module _ (j : Judged) where
     | inr e ↦ inr e
   ]
 
-module _ (j : Judged) (shape : Shape) where
+module _ (j : CurrentVersionsState) (shape : Shape) where
   -- a record stands outside each block but its own
   pub fixed_elsewhere : (f : Found) (block : ℕ) → Contains j.list f → f.slot.0 / shape.pages_per_block ≢ block → is_fixed j shape f block ≡ false
   fixed_elsewhere f block c other =

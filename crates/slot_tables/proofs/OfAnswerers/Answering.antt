@@ -1,15 +1,8 @@
 -- How the counts of the answerers change.
-use Rattle.std.proofs.Common.{◌≡◌, ◌≢◌, ℕ, ◌+◌, ◌<◌, ◌≤◌, Bool, true, false, ◌||◌, ltb, eqb, inl, inr, Option, Some, None, List, [], ◌∷◌, length, get_or, set}
-use Rattle.std.proofs.Common.{count_by, refl, sym, ◌∙◌, ap, arith, length-set}
+use Rattle.slot_tables.proofs.Common.{◌≡◌, ◌≢◌, ℕ, ◌+◌, ◌<◌, ◌≤◌, Bool, true, false, ◌||◌, ltb, eqb, inl, inr, Option, Some, None, List, [], ◌∷◌, length, get_or, set, count_by, refl, sym, ◌∙◌, ap, arith, length-set, IfSome, cases_eq, nat_tests, get_or-set_same, get_or-set_other, sum_by-set, one_of, number_at, is_number}
 use Rattle.std.specs.List.{list_any}
-use Rattle.std.specs.Option.{IfSome}
-use Rattle.std.proofs.lemmas.Bool.{cases_eq}
-use Rattle.std.proofs.lemmas.Bool.Decides.{nat_tests}
-use Rattle.std.proofs.lemmas.List.{get_or-set_same, get_or-set_other}
-use Rattle.std.proofs.lemmas.List.Sums.{sum_by-set, sum_by-cons, count_by-le-length}
-use Rattle.list_facts.proofs.Counts.{one_of}
-use Rattle.slot_tables.specs.Kept.{number_at, is_number}
-use Rattle.slot_tables.specs.KeptAnswers.{AreCounted}
+use Rattle.std.proofs.lemmas.List.Sums.{sum_by-cons, count_by-le-length}
+use Rattle.slot_tables.specs.Responsibilities.{AreCounted}
 
 -- some item passes where some are counted
 pub any_counted : {X : Type 0} (p : X → Bool) (xs : List X) → list_any p xs ≡ ltb 0 (count_by p xs)

@@ -1,14 +1,10 @@
 -- Which places stand in the lists after one is taken out or put in front.
-use Rattle.std.proofs.Common.{◌≡◌, ◌≢◌, ℕ, ◌<◌, ◌⊎◌, ◌↔◌, inl, inr, [], ◌∷◌, length, sym, subst}
-use Rattle.std.specs.List.{Contains, remove}
-use Rattle.std.proofs.lemmas.Bool.{cases_eq}
-use Rattle.std.proofs.lemmas.List.{get_or-set_same, get_or-set_other}
-use Rattle.list_facts.proofs.Membership.{Contains-first, Contains-rest, Contains-cases}
-use Rattle.plain_tables.specs.ChainLists.{ChainLists, list_of, AreDisjoint, index_in, with_first, without}
-use Rattle.plain_tables.proofs.Membership.{contains_rest, key_lies}
+use Rattle.slot_tables.proofs.Common.{◌≡◌, ◌≢◌, ℕ, ◌<◌, ◌⊎◌, ◌↔◌, inl, inr, [], ◌∷◌, length, sym, subst, Contains, remove, cases_eq, get_or-set_same, get_or-set_other, Contains-first, Contains-rest, Contains-cases, LinkedListsState, list_of, AreDisjoint, index_in, with_first}
+use Rattle.dense_tables.specs.LinkedLists.{without}
+use Rattle.dense_tables.proofs.Membership.{contains_rest, key_lies}
 
 -- the places of each list, where one is taken out
-pub in_without : (c : ChainLists) (key at : ℕ) → AreDisjoint c → Contains (list_of c key) at → (k y : ℕ)
+pub in_without : (c : LinkedListsState) (key at : ℕ) → AreDisjoint c → Contains (list_of c key) at → (k y : ℕ)
     → Contains (list_of (without c key at) k) y ↔ (Contains (list_of c k) y × (y ≢ at))
 in_without c key at h has k y = elim (cases_eq k key) [
   | inl here ↦
@@ -22,7 +18,7 @@ in_without c key at h has k y = elim (cases_eq k key) [
 ]
 
 -- and where one is put in front
-pub in_with_first : (c : ChainLists) (key at : ℕ) → key < length c.lists → (k y : ℕ)
+pub in_with_first : (c : LinkedListsState) (key at : ℕ) → key < length c.lists → (k y : ℕ)
     → Contains (list_of (with_first c key at) k) y ↔ (((k ≡ key) × (y ≡ at)) ⊎ Contains (list_of c k) y)
 in_with_first c key at low k y = elim (cases_eq k key) [
   | inl here ↦

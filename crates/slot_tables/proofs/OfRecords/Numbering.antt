@@ -1,15 +1,12 @@
 -- The records of each page by their numbers.
-use Rattle.std.proofs.Common.{◌≡◌, ℕ, ◌+◌, ◌<◌, inl, inr, Option, Some, None, List, [], ◌∷◌, length, take, drop, sym, ◌∙◌, ap, arith, length-take}
-use Rattle.std.specs.List.{AllPairs, Contains}
+use Rattle.slot_tables.proofs.Common.{◌≡◌, ℕ, ◌+◌, ◌<◌, inl, inr, Option, Some, None, List, [], ◌∷◌, length, sym, ◌∙◌, ap, arith, AllPairs, Contains, Contains-nil, Contains-cases, Rec, list_of, rest_from, index_in, record_at, numbers_at}
+use Rattle.std.proofs.Common.{take, drop, length-take}
 use Rattle.std.proofs.lemmas.List.{get_or-take, get_or-drop, length-drop}
-use Rattle.list_facts.proofs.Membership.{Contains-nil, Contains-cases}
-use Rattle.list_facts.proofs.Pairs.{in_order, pairs_head}
-use Rattle.tx_types.specs.declared.record.Rec.{Rec}
-use Rattle.plain_tables.specs.ChainLists.{list_of, rest_from, index_in}
+use Rattle.list_lemmas.proofs.Pairs.{in_order, pairs_head}
 use Rattle.slot_tables.specs.declared.records.Records.TheInside.{Inside}
-use Rattle.slot_tables.specs.Kept.{record_at, numbers_at, IsNewer}
+use Rattle.slot_tables.specs.TablesState.{IsNewer}
 use Rattle.slot_tables.specs.Versions.{Names}
-use Rattle.slot_tables.specs.KeptRecords.{AreNumbered}
+use Rattle.slot_tables.specs.Records.{RecordsInvariant}
 use Rattle.slot_tables.proofs.OfRecords.Rising.{rest_starts}
 
 -- a table has one record of a number
@@ -21,11 +18,11 @@ pub page_list : (r : Inside) (page : ℕ) → page < r.pages → numbers_at (tak
 page_list r page low = get_or-take r.pages r.lists.lists page [] low
 
 -- there are as many lists as pages
-pub pages_long : (r : Inside) → AreNumbered r → length (take r.pages r.lists.lists) ≡ r.pages
+pub pages_long : (r : Inside) → RecordsInvariant r → length (take r.pages r.lists.lists) ≡ r.pages
 pages_long r h = (let keys = h.keys in length-take r.pages r.lists.lists ∙ (omega arith))
 
 -- a record stands in the list of its page
-pub record_listed : (r : Inside) (number : ℕ) (rec : Rec) → AreNumbered r → record_at r.records number ≡ Some rec
+pub record_listed : (r : Inside) (number : ℕ) (rec : Rec) → RecordsInvariant r → record_at r.records number ≡ Some rec
     → (rec.page < r.pages) × Contains (list_of r.lists rec.page) number
 record_listed r number rec h is =
     let listed = h.versions.listed number rec is in
@@ -33,11 +30,11 @@ record_listed r number rec h is =
     (low, rw (page_list r rec.page low) at listed.1)
 
 -- and what stands there is a record of the page
-pub listed_record : (r : Inside) (page number : ℕ) → AreNumbered r → page < r.pages → Contains (list_of r.lists page) number
+pub listed_record : (r : Inside) (page number : ℕ) → RecordsInvariant r → page < r.pages → Contains (list_of r.lists page) number
     → (rec : Rec) × (record_at r.records number ≡ Some rec) × (rec.page ≡ page)
 listed_record r page number h low has = h.versions.page page number (rw (page_list r page low) has)
 
-pub list_falls : (r : Inside) (page : ℕ) → AreNumbered r → page < r.pages → AllPairs (IsNewer r.records) (list_of r.lists page)
+pub list_falls : (r : Inside) (page : ℕ) → RecordsInvariant r → page < r.pages → AllPairs (IsNewer r.records) (list_of r.lists page)
 list_falls r page h low = rw (page_list r page low) at (h.versions.falls page)
 
 -- the rest of a list keeps the order
@@ -51,7 +48,7 @@ IsAhead r page version next =
     (number : ℕ) (rec : Rec) → record_at r.records number ≡ Some rec → Names page version rec
     → Contains (rest_from (list_of r.lists page) next) number
 
-module _ (r : Inside) (h : AreNumbered r) (page version : ℕ) (low : page < r.pages) where
+module _ (r : Inside) (h : RecordsInvariant r) (page version : ℕ) (low : page < r.pages) where
   -- at first it is the whole list
   pub ahead_first : (first : Option ℕ) → rest_from (list_of r.lists page) first ≡ list_of r.lists page → IsAhead r page version first
   ahead_first first whole number rec is names =

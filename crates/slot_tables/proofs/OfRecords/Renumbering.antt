@@ -1,21 +1,16 @@
 -- The records of each page, after a number gets a record or loses it.
-use Rattle.std.proofs.Common.{◌≡◌, ◌≢◌, ℕ, zero, suc, ◌+◌, ◌<◌, ◌≤◌, ◌⊎◌, ◌↔◌, inl, inr, Option, Some, None, List, [], ◌∷◌, length, get_or, set, take}
-use Rattle.std.proofs.Common.{replicate, refl, sym, ◌∙◌, ap, subst, arith, length-set, length-take}
-use Rattle.std.specs.List.{AllPairs, Contains, remove}
-use Rattle.std.specs.Option.{IsSomeAnd}
-use Rattle.std.proofs.lemmas.Bool.{cases_eq, cases_lt}
-use Rattle.std.proofs.lemmas.List.{get_or-take, get_or_past, get_or-set_same, get_or-set_other, get_or-replicate, length-replicate, take-set-le, ext_get_or}
+use Rattle.slot_tables.proofs.Common.{◌≡◌, ◌≢◌, ℕ, zero, suc, ◌+◌, ◌<◌, ◌≤◌, ◌⊎◌, ◌↔◌, inl, inr, Option, Some, None, List, [], ◌∷◌, length, get_or, set, replicate, refl, sym, ◌∙◌, ap, subst, arith, length-set, AllPairs, Contains, remove, IsSomeAnd, cases_eq, cases_lt, get_or_past, get_or-set_same, get_or-set_other, get_or-replicate, length-replicate, Contains-nil, pairs_cons, Rec, LinkedListsState, AreDisjoint, list_of, index_in, with_first, record_at, numbers_at}
+use Rattle.std.proofs.Common.{take}
+use Rattle.std.proofs.Common.{length-take}
+use Rattle.std.proofs.lemmas.List.{get_or-take, take-set-le, ext_get_or}
 use Rattle.std.proofs.lemmas.List.Elements.{Contains-get_or}
 use Rattle.std.proofs.lemmas.List.Quantifiers.{all_pairs_remove}
-use Rattle.list_facts.proofs.Membership.{Contains-nil}
-use Rattle.list_facts.proofs.Pairs.{pairs_cons}
-use Rattle.tx_types.specs.declared.record.Rec.{Rec}
-use Rattle.plain_tables.specs.ChainLists.{ChainLists, AreDisjoint, list_of, index_in, with_first, without, empty_lists}
-use Rattle.plain_tables.proofs.Membership.{index_reads}
+use Rattle.dense_tables.specs.LinkedLists.{without, empty_lists}
+use Rattle.dense_tables.proofs.Membership.{index_reads}
 use Rattle.slot_tables.specs.declared.records.Records.TheInside.{Inside}
-use Rattle.slot_tables.specs.Kept.{record_at, numbers_at, IsNewer, IsNewest}
+use Rattle.slot_tables.specs.TablesState.{IsNewer, IsNewest}
 use Rattle.slot_tables.specs.Versions.{HasFree, IsTaken}
-use Rattle.slot_tables.specs.KeptRecords.{AreNumbered}
+use Rattle.slot_tables.specs.Records.{RecordsInvariant}
 use Rattle.slot_tables.proofs.OfRecords.Listed.{in_without, in_with_first}
 use Rattle.slot_tables.proofs.OfRecords.Numbering.{page_list, record_listed, listed_record, list_falls, same_record}
 
@@ -33,7 +28,7 @@ pairs_stay records records' xs same h i j d less low r s r_is s_is =
     (sym (same (get_or xs j d) (Contains-get_or xs j d low)) ∙ s_is)
 
 -- a number gets another record, or none, and stands in the list of that one alone
-module _ (r : Inside) (h : AreNumbered r) (number : ℕ) (new : Option Rec) (lists : ChainLists) (within : number < length r.records)
+module _ (r : Inside) (h : RecordsInvariant r) (number : ℕ) (new : Option Rec) (lists : LinkedListsState) (within : number < length r.records)
     (places : lists.places ≡ r.lists.places) (disjoint : AreDisjoint lists) (keys : length lists.lists ≡ r.pages + 1)
     (used : ℕ) (most : used ≤ length r.records) (grows : (y : ℕ) → (y < used) ↔ ((y < r.unused) ⊎ (y ≡ number)))
     (has : (k y : ℕ) → Contains (list_of lists k) y ↔ (((k ≡ key_of r new) × (y ≡ number)) ⊎ (Contains (list_of r.lists k) y × (y ≢ number))))
@@ -105,7 +100,7 @@ module _ (r : Inside) (h : AreNumbered r) (number : ℕ) (new : Option Rec) (lis
       let old : r.unused ≤ y = elim (cases_lt y r.unused) [ inl low ↦ absurd (let less = (grows y).1 (inl low) in omega arith) | inr high ↦ high ] in
       others y other ∙ h.fresh y old
 
-  pub renumbered : AreNumbered (record r { records = set r.records number new; lists = lists; unused = used })
+  pub renumbered : RecordsInvariant (record r { records = set r.records number new; lists = lists; unused = used })
   renumbered = record {
     small = rw (length-set r.records number new) h.small;
     few = h.few;
@@ -138,7 +133,7 @@ take_set (suc n) (x ∷ xs) zero v = refl
 take_set (suc n) (x ∷ xs) (suc k) v = ap (λ rest. x ∷ rest) (take_set n xs k v)
 
 -- a number that has no record stands in no list of these any more
-pub record IsLoose (r : Inside) (rest : ChainLists) (used number : ℕ) : Type 0 where
+pub record IsLoose (r : Inside) (rest : LinkedListsState) (used number : ℕ) : Type 0 where
   pub within : number < length r.records
   pub none : record_at r.records number ≡ None
   pub places : rest.places ≡ r.lists.places
@@ -149,7 +144,7 @@ pub record IsLoose (r : Inside) (rest : ChainLists) (used number : ℕ) : Type 0
   pub most : used ≤ length r.records
   pub grows : (y : ℕ) → (y < used) ↔ ((y < r.unused) ⊎ (y ≡ number))
 
-module _ (r : Inside) (h : AreNumbered r) where
+module _ (r : Inside) (h : RecordsInvariant r) where
   -- an unused number is in no list
   unlisted : (k : ℕ) → list_of r.lists r.pages ≡ [] → Contains (list_of r.lists k) r.unused → ⊥
   unlisted k empty has = elim (cases_lt k r.pages) [
@@ -163,7 +158,7 @@ module _ (r : Inside) (h : AreNumbered r) where
   ]
 
   -- such a number is taken
-  pub loose : (rest : ChainLists) (used number : ℕ) → HasFree r.records → IsTaken r.lists rest r.pages r.unused used number → IsLoose r rest used number
+  pub loose : (rest : LinkedListsState) (used number : ℕ) → HasFree r.records → IsTaken r.lists rest r.pages r.unused used number → IsLoose r rest used number
   loose rest used number free taken = elim taken [
     | inl old ↦ (
         let its = (h.free number).0 old.0 in
@@ -201,9 +196,9 @@ module _ (r : Inside) (h : AreNumbered r) where
   ]
 
 -- such a number gets a record that is newer than those of its page
-module _ (r : Inside) (h : AreNumbered r) (rest : ChainLists) (used number : ℕ) (l : IsLoose r rest used number) (rec : Rec)
+module _ (r : Inside) (h : RecordsInvariant r) (rest : LinkedListsState) (used number : ℕ) (l : IsLoose r rest used number) (rec : Rec)
     (low : rec.page < r.pages) (newest : IsNewest r.records rec) where
-  abbrev with_it : ChainLists
+  abbrev with_it : LinkedListsState
   with_it = with_first rest rec.page number
 
   apart : rec.page ≢ r.pages
@@ -251,7 +246,7 @@ module _ (r : Inside) (h : AreNumbered r) (rest : ChainLists) (used number : ℕ
             rw same old
       ]
 
-  pub numbered : AreDisjoint with_it → AreNumbered (record r { records = set r.records number (Some rec); lists = with_it; unused = used })
+  pub numbered : AreDisjoint with_it → RecordsInvariant (record r { records = set r.records number (Some rec); lists = with_it; unused = used })
   numbered its_disjoint = renumbered r h number (Some rec) with_it l.within l.places its_disjoint (length-set rest.lists rec.page _ ∙ l.keys) used l.most
       l.grows has_it (λ its e. rw (← same_record rec its e) low) its_falls
 
@@ -263,12 +258,12 @@ module _ (r : Inside) (h : AreNumbered r) (rest : ChainLists) (used number : ℕ
       ∙ ap (λ xs. set (take r.pages r.lists.lists) rec.page (number ∷ xs)) (l.lists rec.page apart ∙ sym (page_list r rec.page low))
 
 -- a number loses its record
-module _ (r : Inside) (h : AreNumbered r) (number : ℕ) (rec : Rec) (is : record_at r.records number ≡ Some rec)
+module _ (r : Inside) (h : RecordsInvariant r) (number : ℕ) (rec : Rec) (is : record_at r.records number ≡ Some rec)
     (within : number < length r.records) where
-  abbrev left : ChainLists
+  abbrev left : LinkedListsState
   left = without r.lists rec.page number
 
-  abbrev freed : ChainLists
+  abbrev freed : LinkedListsState
   freed = with_first left r.pages number
 
   listed : (rec.page < r.pages) × Contains (list_of r.lists rec.page) number
@@ -316,7 +311,7 @@ module _ (r : Inside) (h : AreNumbered r) (number : ℕ) (rec : Rec) (is : recor
     | inr past ↦ absurd (let no : None ≡ Some rec = sym (h.fresh number past) ∙ is in cc)
   ]
 
-  pub unnumbered : AreDisjoint freed → AreNumbered (record r { records = set r.records number None; lists = freed })
+  pub unnumbered : AreDisjoint freed → RecordsInvariant (record r { records = set r.records number None; lists = freed })
   unnumbered its_disjoint = renumbered r h number None freed within refl its_disjoint (length-set left.lists r.pages _ ∙ left_keys) r.unused h.unused
       (λ y. (λ low. inl low, λ either. elim either [ inl low ↦ low | inr e ↦ rw e used ])) has_left (λ its e. absurd (cc)) left_falls
 
@@ -339,7 +334,7 @@ module _ (r : Inside) (count : ℕ) (lists : r.lists ≡ empty_lists (r.pages + 
   keys : length r.lists.lists ≡ r.pages + 1
   keys = rw lists (length-replicate {A = List ℕ} (r.pages + 1) [])
 
-  pub none_numbered : r.records ≡ replicate count None → r.unused ≡ 0 → count ≤ 65536 → r.pages ≤ 65536 → AreNumbered r
+  pub none_numbered : r.records ≡ replicate count None → r.unused ≡ 0 → count ≤ 65536 → r.pages ≤ 65536 → RecordsInvariant r
   none_numbered none unused small few = record {
     small = rw long small;
     few = few;

@@ -1,15 +1,12 @@
 -- A place is put into a rising list.
-use Rattle.std.proofs.Common.{◌≡◌, ℕ, zero, suc, ◌+◌, ◌<◌, ◌≤◌, Bool, true, eqb, inl, inr, Option, Some, None, List, ◌∷◌, length, get_or, drop, refl, sym, ◌∙◌}
-use Rattle.std.proofs.Common.{ap, arith}
-use Rattle.std.specs.List.{Contains, position_or_len, slice_get, find}
-use Rattle.std.proofs.lemmas.Bool.{cases_lt}
-use Rattle.std.proofs.lemmas.Bool.Decides.{nat_tests}
+use Rattle.slot_tables.proofs.Common.{◌≡◌, ℕ, zero, suc, ◌+◌, ◌<◌, ◌≤◌, Bool, true, eqb, inl, inr, Option, Some, None, List, ◌∷◌, length, get_or, refl, sym, ◌∙◌, ap, arith, Contains, position_or_len, slice_get, find, cases_lt, nat_tests, index_in, rest_from, Rises, is_above}
+use Rattle.std.proofs.Common.{drop}
 use Rattle.std.proofs.lemmas.List.{drop_more}
 use Rattle.std.proofs.lemmas.List.Sums.{position_or_len_is}
 use Rattle.std.proofs.lemmas.Option.{slice_get-get_or, slice_get_past}
-use Rattle.plain_tables.specs.ChainLists.{index_in, next_in, rest_from}
-use Rattle.plain_tables.proofs.Membership.{index_reads}
-use Rattle.slot_tables.specs.Copies.{Rises, is_above, last_of}
+use Rattle.dense_tables.specs.LinkedLists.{next_in}
+use Rattle.dense_tables.proofs.Membership.{index_reads}
+use Rattle.slot_tables.specs.Copies.{last_of}
 
 -- a loop over a rising list has come to this place: those before it are below `at`, and `below` is the last of them
 pub record AtPlace (xs : List ℕ) (at : ℕ) (slot below : Option ℕ) : Type 0 where

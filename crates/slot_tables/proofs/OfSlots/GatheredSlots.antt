@@ -1,25 +1,18 @@
 -- The slots of some records, gathered record by record.
-use Rattle.std.proofs.Common.{◌≡◌, ◌≢◌, ℕ, ◌<◌, ◌≤◌, ◌↔◌, Bool, true, false, eqb, ltb, cond, Option, Some, None, List, [], ◌∷◌, ◌++◌, length, map, refl, sym}
-use Rattle.std.proofs.Common.{ap, ◌∙◌, subst, inl, inr, arith, eqb-true}
-use Rattle.std.specs.List.{AllPairs, Contains, filter, flat_map}
-use Rattle.std.specs.Option.{IsSomeAnd}
-use Rattle.std.proofs.lemmas.Bool.{ltb-true, false≢true}
-use Rattle.std.proofs.lemmas.Bool.Decides.{nat_tests}
+use Rattle.slot_tables.proofs.Common.{◌≡◌, ◌≢◌, ℕ, ◌<◌, ◌≤◌, ◌↔◌, Bool, true, false, eqb, ltb, cond, Option, Some, None, List, [], ◌∷◌, ◌++◌, length, map, refl, sym, ap, ◌∙◌, subst, inl, inr, arith, eqb-true, AllPairs, Contains, flat_map, IsSomeAnd, false≢true, nat_tests, Contains-nil, Contains-cases, Contains-first, Contains-rest, pairs_cons, Rec, Block, Holds, TablesState, use_at, copies_of, record_at, number_at, Rises, block_at, copies_below}
+use Rattle.std.specs.List.{filter}
+use Rattle.std.proofs.lemmas.Bool.{ltb-true}
 use Rattle.std.proofs.lemmas.List.Elements.{Contains-append_left, Contains-append_right, Contains-append_cases}
 use Rattle.std.proofs.lemmas.List.Kept.{AllPairs-filter}
 use Rattle.std.proofs.lemmas.Map.Keys.{IsDistinct-from_apart}
 use Rattle.std.proofs.lemmas.Map.Steps.{length-le_from_distinct_below}
-use Rattle.list_facts.proofs.Membership.{Contains-nil, Contains-cases, Contains-first, Contains-rest, in_filter, from_filter}
-use Rattle.list_facts.proofs.Pairs.{pairs_head, pairs_tail, pairs_cons}
-use Rattle.list_facts.proofs.Tests.{any_of}
-use Rattle.tx_types.specs.declared.record.Rec.{Rec}
-use Rattle.tx_types.specs.declared.config.Block.{Block}
-use Rattle.slot_tables.specs.declared.slots.SlotUse.TheVariants.{Holds}
-use Rattle.slot_tables.specs.Kept.{Kept, use_at, copies_of, links_below, record_at, number_at, WaitsBelow}
-use Rattle.slot_tables.specs.Copies.{Rises}
-use Rattle.slot_tables.specs.Gathered.{block_at, copies_of_all, copies_below, AreGathered}
-use Rattle.slot_tables.proofs.OfGiven.Copying.{copies_have, copies_rise}
-use Rattle.slot_tables.proofs.OfGiven.Held.{holds_number}
+use Rattle.list_lemmas.proofs.Membership.{in_filter, from_filter}
+use Rattle.list_lemmas.proofs.Pairs.{pairs_head, pairs_tail}
+use Rattle.list_lemmas.proofs.Tests.{any_of}
+use Rattle.slot_tables.specs.TablesState.{links_below, WaitsBelow}
+use Rattle.slot_tables.specs.Gathered.{copies_of_all, AreGathered}
+use Rattle.slot_tables.proofs.OfBaseTables.Copying.{copies_have, copies_rise}
+use Rattle.slot_tables.proofs.OfBaseTables.Held.{holds_number}
 
 -- pairs of two lists that follow one another
 pub pairs_append : {X : Type 0} (R : X → X → Type 0) (xs ys : List X) → AllPairs R xs → AllPairs R ys
@@ -36,7 +29,7 @@ pub rising_once : (xs : List ℕ) → Rises xs → AllPairs (λ x y. x ≢ y) xs
 unfolding Rises
 rising_once xs rises i j d less within same = let lower = rises i j d less within in absurd (omega arith)
 
-module _ (k : Kept) where
+module _ (k : TablesState) where
   -- a slot is gathered where it holds one of the records
   pub in_all : (numbers : List ℕ) (x at : ℕ) → Contains numbers x → Contains (copies_of k.slots x) at → Contains (copies_of_all k numbers) at
   in_all [] x at has own = absurd (Contains-nil x has)

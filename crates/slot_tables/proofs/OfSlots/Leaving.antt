@@ -1,10 +1,8 @@
 -- What is found in a list from which an item is gone.
-use Rattle.std.proofs.Common.{◌≡◌, ℕ, ◌⊎◌, Bool, true, inl, inr, Option, Some, None, List, [], ◌∷◌, ◌++◌, refl, sym, ◌∙◌, ap}
-use Rattle.std.specs.List.{find, slice_get}
+use Rattle.slot_tables.proofs.Common.{◌≡◌, ℕ, ◌⊎◌, Bool, true, inl, inr, Option, Some, None, List, [], ◌∷◌, ◌++◌, refl, sym, ◌∙◌, ap, find, slice_get, cases_Option}
 use Rattle.std.specs.Option.{option_or}
 use Rattle.std.proofs.lemmas.Bool.{cases_Bool, cond-true, cond-false}
-use Rattle.list_facts.proofs.Options.{cases_Option}
-use Rattle.list_facts.proofs.Tests.{find_more}
+use Rattle.list_lemmas.proofs.Tests.{find_more}
 
 -- an item that passes is the first one, or there is one before it
 find_on : (p : ℕ → Bool) (at : ℕ) (front back : List ℕ) → p at ≡ true

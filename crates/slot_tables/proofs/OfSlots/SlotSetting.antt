@@ -1,26 +1,14 @@
 -- The tables after a slot is set.
-use Rattle.std.proofs.Common.{◌≡◌, ◌≢◌, ℕ, ◌<◌, ◌⊎◌, Bool, true, false, ◌&&◌, inl, inr, Option, Some, None, List, length, set, map, refl, sym, ◌∙◌, ap, subst}
-use Rattle.std.proofs.Common.{length-set, eqb-true, arith}
-use Rattle.std.specs.Option.{IfSome, option_and_then}
-use Rattle.std.proofs.lemmas.Bool.{cases_eq, false≢true}
-use Rattle.std.proofs.lemmas.List.{get_or-set_same, get_or-set_other, map-set}
-use Rattle.list_facts.proofs.Options.{cases_Option}
-use Rattle.tx_types.specs.Config.{slots_of}
-use Rattle.record_list.specs.Written.{is_slot, is_outside_spare}
-use Rattle.slot_tables.specs.declared.slots.SlotUse.{SlotUse}
-use Rattle.slot_tables.specs.declared.slots.SlotUse.TheVariants.{Blank, Damaged, Holds}
-use Rattle.slot_tables.specs.declared.tables.Tables.TheInside.{Inside}
-use Rattle.slot_tables.specs.declared.given.Given.{Given}
-use Rattle.slot_tables.specs.Kept.{Kept, use_at, number_in, holds, is_blank, home, is_wanted, is_needed}
-use Rattle.slot_tables.specs.Copies.{HoldsNone, NumbersBelow}
-use Rattle.slot_tables.specs.Given.{kept_of, marked, moved_settled, IsSized}
-use Rattle.slot_tables.specs.Counts.{is_marked}
-use Rattle.slot_tables.specs.Tables.{AreBlanks, AreTables}
-use Rattle.slot_tables.proofs.OfGiven.Copying.{copies_stay, copies_have, copies_split}
-use Rattle.slot_tables.proofs.OfGiven.Held.{holds_number, holds_own, none_holds}
+use Rattle.slot_tables.proofs.Common.{◌≡◌, ◌≢◌, ℕ, ◌<◌, ◌⊎◌, Bool, true, false, ◌&&◌, inl, inr, Option, Some, None, List, length, set, map, refl, sym, ◌∙◌, ap, subst, length-set, eqb-true, arith, IfSome, option_and_then, cases_eq, false≢true, get_or-set_same, get_or-set_other, cases_Option, slots_of, is_slot, is_outside_spare, SlotUse, Blank, Damaged, Holds, Inside, BaseTables, TablesState, use_at, number_in, holds, is_blank, home, is_wanted, is_needed, HoldsNone, tables_state, IsSized, is_marked, TablesInvariant}
+use Rattle.std.proofs.lemmas.List.{map-set}
+use Rattle.slot_tables.specs.Copies.{NumbersBelow}
+use Rattle.slot_tables.specs.BaseTables.{marked, moved_refreshed}
+use Rattle.slot_tables.specs.Tables.{AreBlanks}
+use Rattle.slot_tables.proofs.OfBaseTables.Copying.{copies_stay, copies_have, copies_split}
+use Rattle.slot_tables.proofs.OfBaseTables.Held.{holds_number, holds_own, none_holds}
 use Rattle.slot_tables.proofs.OfSlots.Leaving.{chosen, chosen_left}
-use Rattle.slot_tables.proofs.OfNeeds.Needing.{needed_some, needed_none, not_slot, need_stays, moved_at, moved_long, home_copy, home_lies, home_wanted}
-use Rattle.slot_tables.proofs.OfGiven.Settling.{home_at}
+use Rattle.slot_tables.proofs.OfLiveSlots.Needing.{needed_some, needed_none, not_slot, need_stays, moved_at, moved_long, home_copy, home_lies, home_wanted}
+use Rattle.slot_tables.proofs.OfBaseTables.Refreshing.{home_at}
 
 -- a slot that holds a record of another number, or none
 other_holds : (x : ℕ) (u : SlotUse) → (number_in u ≡ Some x → ⊥) → holds x u ≡ false
@@ -70,16 +58,16 @@ marked_else : (marks : List Bool) (o : Option ℕ) (s : ℕ) → (o ≡ Some s �
 marked_else marks None s other = refl
 marked_else marks (Some x) s other = get_or-set_other marks x s true false (λ e. other (ap Some (sym e)))
 
-module _ (t : Inside) (h : AreTables t) (at : ℕ) (to : SlotUse) (low : at < length t.given.slots) (numbered : NumbersBelow
-    (slots_of t.given.shape) to) where
-  abbrev k : Kept
-  k = kept_of t.given
+module _ (t : Inside) (h : TablesInvariant t) (at : ℕ) (to : SlotUse) (low : at < length t.base.slots) (numbered : NumbersBelow
+    (slots_of t.base.shape) to) where
+  abbrev k : TablesState
+  k = tables_state t.base
 
-  abbrev g' : Given
-  g' = record t.given { slots = set t.given.slots at to }
+  abbrev g' : BaseTables
+  g' = record t.base { slots = set t.base.slots at to }
 
-  abbrev k' : Kept
-  k' = kept_of g'
+  abbrev k' : TablesState
+  k' = tables_state g'
 
   abbrev left : Option ℕ
   left = number_in (use_at k.slots at)
@@ -88,13 +76,13 @@ module _ (t : Inside) (h : AreTables t) (at : ℕ) (to : SlotUse) (low : at < le
   joined = number_in to
 
   pub slots_long : length k'.slots ≡ slots_of k.shape
-  slots_long = length-set t.given.slots at to ∙ h.sized.kept.slots
+  slots_long = length-set t.base.slots at to ∙ h.sized.kept.slots
 
   own_use : use_at k'.slots at ≡ to
-  own_use = get_or-set_same t.given.slots at to Blank low
+  own_use = get_or-set_same t.base.slots at to Blank low
 
   other_use : (s : ℕ) → s ≢ at → use_at k'.slots s ≡ use_at k.slots s
-  other_use s other = get_or-set_other t.given.slots at s to Blank other
+  other_use s other = get_or-set_other t.base.slots at s to Blank other
 
   pub set_sized : IsSized g'
   set_sized = record {
@@ -117,7 +105,7 @@ module _ (t : Inside) (h : AreTables t) (at : ℕ) (to : SlotUse) (low : at < le
     waits_pages = h.sized.waits_pages;
   }
     where
-      numbers : (u : SlotUse) (x : ℕ) → u ≡ Holds x → NumbersBelow (slots_of t.given.shape) u → x < slots_of t.given.shape
+      numbers : (u : SlotUse) (x : ℕ) → u ≡ Holds x → NumbersBelow (slots_of t.base.shape) u → x < slots_of t.base.shape
       numbers Blank x e b = absurd (cc)
       numbers Damaged x e b = absurd (cc)
       numbers (Holds y) x e b = let same : y ≡ x = cc in rw (← same) b
@@ -125,7 +113,7 @@ module _ (t : Inside) (h : AreTables t) (at : ℕ) (to : SlotUse) (low : at < le
   -- a number that the slot did not hold and does not hold has its home as before
   home_stays : (x : ℕ) → (left ≡ Some x → ⊥) → (joined ≡ Some x → ⊥) → home k' x ≡ home k x
   home_stays x off now =
-      let same = copies_stay t.given.slots at low to x (other_holds x to now ∙ sym (other_holds x (use_at k.slots at) off)) in
+      let same = copies_stay t.base.slots at low to x (other_holds x to now ∙ sym (other_holds x (use_at k.slots at) off)) in
       rw same refl
 
   -- each slot that is not the home of the old or the new record, before or after, is needed as it was
@@ -193,43 +181,43 @@ module _ (t : Inside) (h : AreTables t) (at : ℕ) (to : SlotUse) (low : at < le
   ]
 
   pub old_lies : (o : Option ℕ) → IfSome (home_at k o) (λ s. s < length k'.slots)
-  old_lies o = rw (length-set t.given.slots at to) (home_lies k o)
+  old_lies o = rw (length-set t.base.slots at to) (home_lies k o)
 
   abbrev first : List Bool
-  first = moved_settled k' t.needs.needed (home_at k left) (home_at k' left)
+  first = moved_refreshed k' t.live.needed (home_at k left) (home_at k' left)
 
   pub first_long : length first ≡ slots_of k.shape
-  first_long = moved_long k' t.needs.needed (home_at k left) (home_at k' left) ∙ h.needs.slots
+  first_long = moved_long k' t.live.needed (home_at k left) (home_at k' left) ∙ h.live.slots
 
   marked_first : (s : ℕ) → Calm joined s → is_marked first s ≡ is_needed k' s
   marked_first s j =
-      moved_at k' t.needs.needed (home_at k left) (home_at k' left) s (rw (h.needs.slots, ← slots_long) (old_lies left))
-      (rw (h.needs.slots, ← slots_long) (home_lies k' left))
-      (λ same. h.needs.needed s ∙ sym (calm_needs s (inl same) j)) (λ off away. h.needs.needed s ∙ sym (calm_needs s (inr (off, away)) j))
+      moved_at k' t.live.needed (home_at k left) (home_at k' left) s (rw (h.live.slots, ← slots_long) (old_lies left))
+      (rw (h.live.slots, ← slots_long) (home_lies k' left))
+      (λ same. h.live.needed s ∙ sym (calm_needs s (inl same) j)) (λ off away. h.live.needed s ∙ sym (calm_needs s (inr (off, away)) j))
 
   blanks_set : (mark : Bool) → mark ≡ is_blank to → AreBlanks k' (record t.blanks { marks = set t.blanks.marks at mark })
   blanks_set mark is = record {
-    marks = ap (λ ms. set ms at mark) h.blanks.marks ∙ ap (set (map is_blank t.given.slots) at) is ∙ sym (map-set is_blank t.given.slots at to);
+    marks = ap (λ ms. set ms at mark) h.blanks.marks ∙ ap (set (map is_blank t.base.slots) at) is ∙ sym (map-set is_blank t.base.slots at to);
     size = h.blanks.size;
   }
 
   pub slot_set : (mark : Bool) → mark ≡ is_blank to
-      → AreTables (record t {
-        given = g';
+      → TablesInvariant (record t {
+        base = g';
         blanks = record t.blanks { marks = set t.blanks.marks at mark };
-        needs = record t.needs {
+        live = record t.live {
           needed =
-              moved_settled k' first (home_at k joined) (home_at k' joined);
+              moved_refreshed k' first (home_at k joined) (home_at k' joined);
         };
       })
   slot_set mark is = record {
     sized = set_sized;
     blanks = blanks_set mark is;
-    needs = record {
+    live = record {
       slots = moved_long k' first (home_at k joined) (home_at k' joined) ∙ first_long;
-      size = h.needs.size;
-      blocks = h.needs.blocks;
-      spare = h.needs.spare;
+      size = h.live.size;
+      blocks = h.live.blocks;
+      spare = h.live.spare;
       needed = λ s.
           moved_at k' first (home_at k joined) (home_at k' joined) s (rw (first_long, ← slots_long) (old_lies joined))
           (rw (first_long, ← slots_long) (home_lies k' joined)) (λ same. marked_first s (inl same)) (λ off away. marked_first s (inr (off, away)));
@@ -245,7 +233,7 @@ module _ (t : Inside) (h : AreTables t) (at : ℕ) (to : SlotUse) (low : at < le
     home_kept : (x : ℕ) → left ≡ Some x → (home k x ≡ Some at → ⊥) → home k' x ≡ home k x
     home_kept x is off =
         let outside = is_outside_spare k.shape k.spare in
-        let parts = copies_split t.given.slots at low to x (holds_in x (use_at k.slots at) is) (none_holds x to none) in
+        let parts = copies_split t.base.slots at low to x (holds_in x (use_at k.slots at) is) (none_holds x to none) in
         ap (chosen outside) parts.3
         ∙ chosen_left outside at parts.0 parts.1 (λ e. off (ap (chosen outside) parts.2 ∙ e))
         ∙ sym (ap (chosen outside) parts.2)
@@ -285,24 +273,24 @@ module _ (t : Inside) (h : AreTables t) (at : ℕ) (to : SlotUse) (low : at < le
     ]
 
     abbrev pub moved : List Bool
-    moved = marked (set t.needs.needed at false) (home_at k' left)
+    moved = marked (set t.live.needed at false) (home_at k' left)
 
     pub moved_lies : length moved ≡ slots_of k.shape
-    moved_lies = marked_long (set t.needs.needed at false) (home_at k' left) ∙ length-set t.needs.needed at false ∙ h.needs.slots
+    moved_lies = marked_long (set t.live.needed at false) (home_at k' left) ∙ length-set t.live.needed at false ∙ h.live.slots
 
     pub needs_moved : is_needed k at ≡ true → (s : ℕ) → is_marked moved s ≡ is_needed k' s
     needs_moved on s = elim (decide_slot (home_at k' left) s) [
       | inl there ↦
-          marked_there (set t.needs.needed at false) (home_at k' left) s
-          (rw (length-set, h.needs.slots, ← slots_long) (home_lies k' left)) there
+          marked_there (set t.live.needed at false) (home_at k' left) s
+          (rw (length-set, h.live.slots, ← slots_long) (home_lies k' left)) there
           ∙ sym (let x = (was_home on).0 in
           home_wanted k' x s (sym (ap (option_and_then (home k')) (was_home on).1) ∙ there) ∙ (was_home on).3)
       | inr away ↦
-          marked_else (set t.needs.needed at false) (home_at k' left) s away
+          marked_else (set t.live.needed at false) (home_at k' left) s away
           ∙ elim (cases_eq s at) [
-            | inl here ↦ rw here (get_or-set_same t.needs.needed at false false (rw h.needs.slots (omega arith)) ∙ sym bare)
+            | inl here ↦ rw here (get_or-set_same t.live.needed at false false (rw h.live.slots (omega arith)) ∙ sym bare)
             | inr other ↦
-                get_or-set_other t.needs.needed at s false false other ∙ h.needs.needed s
+                get_or-set_other t.live.needed at s false false other ∙ h.live.needed s
                 ∙ sym (calm_needs s (inr (
                   (λ e. other (let same : Some at ≡ Some s = sym (ap (option_and_then (home k)) (was_home on).1
                       ∙ (was_home on).2) ∙ e in let its : at ≡ s = cc in sym its)),
@@ -314,22 +302,22 @@ module _ (t : Inside) (h : AreTables t) (at : ℕ) (to : SlotUse) (low : at < le
 
     pub slot_emptied : (mark : Bool) → mark ≡ is_blank to → (marks : List Bool) → length marks ≡ slots_of k.shape
         → ((s : ℕ) → is_marked marks s ≡ is_needed k' s)
-        → AreTables (record t {
-          given = g';
+        → TablesInvariant (record t {
+          base = g';
           blanks = record t.blanks { marks = set t.blanks.marks at mark };
-          needs = record t.needs { needed = marks };
+          live = record t.live { needed = marks };
         })
     slot_emptied mark is marks long right = record {
       sized = set_sized;
       blanks = blanks_set mark is;
-      needs = record {
+      live = record {
         slots = long;
-        size = h.needs.size;
-        blocks = h.needs.blocks;
-        spare = h.needs.spare;
+        size = h.live.size;
+        blocks = h.live.blocks;
+        spare = h.live.spare;
         needed = right;
       };
     }
 
-    pub emptied_off : is_needed k at ≡ false → (s : ℕ) → is_marked t.needs.needed s ≡ is_needed k' s
-    emptied_off off s = h.needs.needed s ∙ sym (needs_kept off s)
+    pub emptied_off : is_needed k at ≡ false → (s : ℕ) → is_marked t.live.needed s ≡ is_needed k' s
+    emptied_off off s = h.live.needed s ∙ sym (needs_kept off s)

@@ -1,97 +1,79 @@
 -- A device that settled, and of which an open transaction goes then.
-use Rattle.std.proofs.Common.{◌≡◌, ◌≢◌, ◌⊎◌, ℕ, ◌<◌, Bool, false, List, length, map, get_or, Option, Some, None, Result, Ok, Err, refl, sym, ap, ap₂, ◌∙◌}
-use Rattle.std.proofs.Common.{subst, inl, inr, arith, eqb-true}
-use Rattle.std.specs.Prelude.{position, remove, MatchOption, Any}
-use Rattle.std.proofs.lemmas.List.{length-map, get_or-map}
-use Rattle.std.proofs.lemmas.List.Elements.{All-from_get_or, All-map}
-use Rattle.list_facts.proofs.Positions.{position-all}
-use Rattle.list_facts.proofs.Quantifiers.{all_remove}
-use Rattle.tx_types.specs.Batch.{PageWrite}
-use Rattle.flash_model.specs.Flash.{FlashState}
-use Rattle.flash_model.proofs.CallLemmas.{Carries-nothing}
-use Rattle.flash_model.proofs.MoveLemmas.{FlashMoves-nothing}
-use Rattle.version_index.specs.Noted.{current_of}
-use Rattle.tx_engine.specs.ArrayState.{ArrayState, Entry, entry_of, has_tag, without, page_at}
-use Rattle.array_machine.specs.declared.mark.Mark.{Mark}
-use Rattle.array_machine.specs.declared.mark.Mark.TheVariants.{Plain, Doubt, Whole}
-use Rattle.tx_engine.specs.Exits.{Exits, VersionsRise}
-use Rattle.tx_engine.specs.Standing.{Standing, Naming, Stands}
-use Rattle.tx_engine.specs.Step.{settled, settled_entry, AbortsAs, AbortGives}
+use Rattle.tx_engine.proofs.Common.{◌≡◌, ◌≢◌, ◌⊎◌, ℕ, ◌<◌, Bool, false, List, length, map, get_or, Option, Some, None, Result, Ok, Err, refl, sym, ap, ap₂, ◌∙◌, subst, inl, inr, arith, eqb-true, position, remove, Any, length-map, get_or-map, All-from_get_or, All-map, all_remove, PageWrite, FlashState, Carries-nothing, FlashMoves-nothing, current_of, ArrayState, Entry, entry_of, has_tag, without, page_at, Mark, Plain, Doubt, Whole, Exits, VersionsRise, DeviceState, Naming, Stands, settled, settled_entry, StepError, OpenTransactionsState, TransactionState, no_transaction, transaction_at, entries_of, namings_of, StoreState, device_in}
+use Rattle.std.specs.Prelude.{MatchOption}
+use Rattle.list_lemmas.proofs.Positions.{position-all}
+use Rattle.tx_engine.specs.Step.{AbortsAs, AbortGives}
 use Rattle.array_machine.specs.declared.answers.Aborted.{Aborted}
 use Rattle.array_machine.specs.declared.answers.Aborted.TheVariants as aborted
-use Rattle.array_machine.specs.declared.answers.StepError.{StepError}
 use Rattle.array_machine.specs.declared.answers.StepError.TheVariants as failed
-use Rattle.tx_engine.specs.OpenTable.{OpenTable, Opening, no_opening, opening_at, entries_of, namings_of}
-use Rattle.tx_engine.specs.Stored.{Stored}
-use Rattle.tx_engine.specs.Tables.{standing_in}
-use Rattle.tx_engine.proofs.OfStanding.Kept.{from_stands}
-use Rattle.tx_engine.proofs.OfOpenings.OpenList.{first_position, first_of_own, entry_first, entry_none, without_first}
-use Rattle.tx_engine.proofs.OfStanding.ExitsThen.{NamedBefore}
+use Rattle.tx_engine.proofs.OfDevice.Kept.{from_stands}
+use Rattle.tx_engine.proofs.OfTransactions.OpenList.{first_position, first_of_own, entry_first, entry_none, without_first}
+use Rattle.tx_engine.proofs.OfDevice.ExitsThen.{NamedBefore}
 use Rattle.tx_engine.proofs.OfAbort.Removal.{current_pins}
 use Rattle.tx_engine.proofs.OfSubmit.Submitted.{repinned, array_aside}
 
 -- the entry of a tag, by its index
-pub entry_found : (tag : ℕ) (o : OpenTable) (i : ℕ) → position (λ o. has_tag tag o.entry) o.all ≡ Some i →
-    (i < length o.all) × (entry_of tag (entries_of o) ≡ Some (opening_at o i).entry) × (tag ≡ (opening_at o i).entry.tag)
+pub entry_found : (tag : ℕ) (o : OpenTransactionsState) (i : ℕ) → position (λ o. has_tag tag o.entry) o.all ≡ Some i →
+    (i < length o.all) × (entry_of tag (entries_of o) ≡ Some (transaction_at o i).entry) × (tag ≡ (transaction_at o i).entry.tag)
 entry_found tag o i is =
     let first = first_position tag o.all i is in
-    (first.within, entry_first tag o.all i first, sym (eqb-true (opening_at o i).entry.tag tag first.tagged))
+    (first.within, entry_first tag o.all i first, sym (eqb-true (transaction_at o i).entry.tag tag first.tagged))
 
-pub entry_missing : (tag : ℕ) (o : OpenTable) → position (λ o. has_tag tag o.entry) o.all ≡ None → entry_of tag (entries_of o) ≡ None
+pub entry_missing : (tag : ℕ) (o : OpenTransactionsState) → position (λ o. has_tag tag o.entry) o.all ≡ None → entry_of tag (entries_of o) ≡ None
 entry_missing tag o is =
     entry_none tag o.all
-    (All-from_get_or (λ (x : Opening). has_tag tag x.entry ≡ false) o.all no_opening (position-all (λ (x : Opening). has_tag tag x.entry) o.all no_opening is))
+    (All-from_get_or (λ (x : TransactionState). has_tag tag x.entry ≡ false) o.all no_transaction (position-all (λ (x : TransactionState). has_tag tag x.entry) o.all no_transaction is))
 
 -- an open transaction, once all settled
-pub entry_settled : (there : Bool) (o o' : OpenTable) (i : ℕ) → entries_of o' ≡ map (settled_entry there) (entries_of o) → i < length o.all →
-    (i < length o'.all) × ((opening_at o' i).entry ≡ settled_entry there (opening_at o i).entry)
+pub entry_settled : (there : Bool) (o o' : OpenTransactionsState) (i : ℕ) → entries_of o' ≡ map (settled_entry there) (entries_of o) → i < length o.all →
+    (i < length o'.all) × ((transaction_at o' i).entry ≡ settled_entry there (transaction_at o i).entry)
 entry_settled there o o' i same within =
     let long : length o'.all ≡ length o.all =
-    sym (length-map o'.all (λ (x : Opening). x.entry)) ∙ ap length same ∙ length-map (entries_of o) (settled_entry there)
-    ∙ length-map o.all (λ (x : Opening). x.entry) in
+    sym (length-map o'.all (λ (x : TransactionState). x.entry)) ∙ ap length same ∙ length-map (entries_of o) (settled_entry there)
+    ∙ length-map o.all (λ (x : TransactionState). x.entry) in
     let within' : i < length o'.all = omega arith in
-    let inside : i < length (entries_of o) = subst (λ n. i < n) (sym (length-map o.all (λ (x : Opening). x.entry))) within in (
+    let inside : i < length (entries_of o) = subst (λ n. i < n) (sym (length-map o.all (λ (x : TransactionState). x.entry))) within in (
       within',
-      sym (get_or-map (λ (x : Opening). x.entry) o'.all i no_opening no_opening.entry within')
-          ∙ ap (λ es. get_or es i no_opening.entry) same
-          ∙ get_or-map (settled_entry there) (entries_of o) i no_opening.entry no_opening.entry inside
-          ∙ ap (settled_entry there) (get_or-map (λ (x : Opening). x.entry) o.all i no_opening no_opening.entry within),
+      sym (get_or-map (λ (x : TransactionState). x.entry) o'.all i no_transaction no_transaction.entry within')
+          ∙ ap (λ es. get_or es i no_transaction.entry) same
+          ∙ get_or-map (settled_entry there) (entries_of o) i no_transaction.entry no_transaction.entry inside
+          ∙ ap (settled_entry there) (get_or-map (λ (x : TransactionState). x.entry) o.all i no_transaction no_transaction.entry within),
     )
 
 -- it goes
-module _ {F : Type 0} (state : F → FlashState) (S S' : Stored F) (O O' : OpenTable) (i : ℕ)
+module _ {F : Type 0} (state : F → FlashState) (S S' : StoreState F) (O O' : OpenTransactionsState) (i : ℕ)
     (pins : S' ≡ record S { noted = record S.noted { pins = S'.noted.pins } })
     (gone : O' ≡ record O { all = remove O.all i }) where
-  abbrev pub closed : Stored F
+  abbrev pub closed : StoreState F
   closed = record S { noted = repinned S.noted S'.noted.pins }
 
-  abbrev pub fewer : OpenTable
+  abbrev pub fewer : OpenTransactionsState
   fewer = record O { all = remove O.all i }
 
-  closed_is : standing_in state S' O' ≡ standing_in state closed fewer
-  closed_is = ap₂ (λ (T : Stored F) (o : OpenTable). standing_in state T o) pins gone
+  closed_is : device_in state S' O' ≡ device_in state closed fewer
+  closed_is = ap₂ (λ (T : StoreState F) (o : OpenTransactionsState). device_in state T o) pins gone
 
-  pub closed_machine : Stands state (standing_in state S O) → i < length O.all → (tag : ℕ) → tag ≡ (opening_at O i).entry.tag →
-      (standing_in state S' O').machine ≡ record (standing_in state S O).machine { entries = without tag (entries_of O) }
+  pub closed_machine : Stands state (device_in state S O) → i < length O.all → (tag : ℕ) → tag ≡ (transaction_at O i).entry.tag →
+      (device_in state S' O').machine ≡ record (device_in state S O).machine { entries = without tag (entries_of O) }
   closed_machine h within tag is =
-      ap (λ (s : Standing F). s.machine) closed_is
+      ap (λ (s : DeviceState F). s.machine) closed_is
       ∙ ap₂ (λ (ps : List (Option (List ℕ))) (es : List Entry). record { pages = ps; entries = es }) (array_aside S.noted S'.noted.pins (state S.flash).image)
-      (sym (without_first (opening_at O i).entry.tag O.all i (first_of_own O.all i (from_stands state S O h).tags within))
+      (sym (without_first (transaction_at O i).entry.tag O.all i (first_of_own O.all i (from_stands state S O h).tags within))
       ∙ ap (λ t. without t (entries_of O)) (sym is))
 
   names_fewer : NamedBefore (namings_of O) (namings_of fewer)
-  names_fewer = All-map (λ (x : Naming). Any (λ (before : Naming). before.names ≡ x.names) (namings_of O)) (λ (o : Opening). o.naming) (remove O.all i)
-      (all_remove (λ (o : Opening). Any (λ (before : Naming). before.names ≡ o.naming.names) (namings_of O)) O.all i
-      (All-from_get_or (λ (o : Opening). Any (λ (before : Naming). before.names ≡ o.naming.names) (namings_of O)) O.all no_opening (λ k inside. (
+  names_fewer = All-map (λ (x : Naming). Any (λ (before : Naming). before.names ≡ x.names) (namings_of O)) (λ (o : TransactionState). o.naming) (remove O.all i)
+      (all_remove (λ (o : TransactionState). Any (λ (before : Naming). before.names ≡ o.naming.names) (namings_of O)) O.all i
+      (All-from_get_or (λ (o : TransactionState). Any (λ (before : Naming). before.names ≡ o.naming.names) (namings_of O)) O.all no_transaction (λ k inside. (
         k,
-        (opening_at O k).naming,
-        subst (λ n. k < n) (sym (length-map O.all (λ (x : Opening). x.naming))) inside,
-        get_or-map (λ (x : Opening). x.naming) O.all k no_opening (opening_at O k).naming inside,
+        (transaction_at O k).naming,
+        subst (λ n. k < n) (sym (length-map O.all (λ (x : TransactionState). x.naming))) inside,
+        get_or-map (λ (x : TransactionState). x.naming) O.all k no_transaction (transaction_at O k).naming inside,
         refl,
       ))))
 
-  pub closed_exits : Exits state (standing_in state S O) (standing_in state S' O') false
-  closed_exits = subst (λ (t : Standing F). Exits state (standing_in state S O) t false) (sym closed_is) (record {
+  pub closed_exits : Exits state (device_in state S O) (device_in state S' O') false
+  closed_exits = subst (λ (t : DeviceState F). Exits state (device_in state S O) t false) (sym closed_is) (record {
     tables = record {
       config = refl;
       versions = λ page low. inr (
@@ -107,10 +89,10 @@ module _ {F : Type 0} (state : F → FlashState) (S S' : Stored F) (O O' : OpenT
   })
 
   pub closed_current : (page : ℕ) → current_of S'.noted page ≡ current_of S.noted page
-  closed_current page = ap (λ (T : Stored F). current_of T.noted page) pins ∙ current_pins S.noted S'.noted.pins page
+  closed_current page = ap (λ (T : StoreState F). current_of T.noted page) pins ∙ current_pins S.noted S'.noted.pins page
 
 -- versions that stay after others rose
-pub rises_on : {F : Type 0} (a b c : Standing F) (ws : List PageWrite) → VersionsRise a b ws →
+pub rises_on : {F : Type 0} (a b c : DeviceState F) (ws : List PageWrite) → VersionsRise a b ws →
     ((page : ℕ) → current_of c.noted page ≡ current_of b.noted page) → VersionsRise a c ws
 rises_on a b c ws first same = record {
   rises = λ k d h. let up = first.rises k d h in subst (λ v. current_of a.noted (get_or ws k d).page < v) (sym (same (get_or ws k d).page)) up;

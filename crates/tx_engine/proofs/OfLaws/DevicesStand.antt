@@ -1,38 +1,14 @@
 -- What a device that stands for its array has on its flash.
-use Rattle.std.proofs.Common.{◌≡◌, ◌≢◌, ℕ, ◌+◌, ◌<◌, Bool, true, false, cond, List, length, Some, refl, sym, ap, ap₂, ◌∙◌, subst, inl, inr, arith, eq-eqb}
-use Rattle.std.specs.List.{AllZip}
-use Rattle.std.proofs.lemmas.Bool.{cases_eq}
-use Rattle.list_facts.proofs.Membership.{got_within}
-use Rattle.list_facts.proofs.Pairs.{zip_at}
-use Rattle.tx_types.specs.Config.{shape_of, slots_of}
-use Rattle.tx_types.specs.declared.config.Config.{Config}
-use Rattle.tx_types.specs.declared.config.Protocol.{Protocol}
-use Rattle.tx_types.specs.declared.config.Slot.{Slot}
-use Rattle.tx_types.specs.declared.record.Rec.{Rec}
-use Rattle.flash_model.specs.Flash.{FlashState, Contents, blank, damaged, complete, slot_at}
-use Rattle.page_record.specs.Spelling.{spelling}
-use Rattle.record_list.specs.Current.{cur}
-use Rattle.record_list.specs.Records.{name_of}
-use Rattle.record_list.specs.Written.{text_at}
-use Rattle.version_index.specs.Images.{array_in, records_in, current_in, written_in}
-use Rattle.version_index.specs.Noted.{Noted, IsNoted, current_of, programmed}
-use Rattle.version_index.specs.Notes.{found_in, notes_of}
+use Rattle.tx_engine.proofs.Common.{◌≡◌, ◌≢◌, ℕ, ◌+◌, ◌<◌, Bool, true, false, cond, List, length, Some, refl, sym, ap, ap₂, ◌∙◌, subst, inl, inr, arith, eq-eqb, AllZip, cases_eq, shape_of, slots_of, Config, Protocol, Slot, Rec, FlashState, Contents, blank, damaged, complete, slot_at, spelling, cur, name_of, text_at, array_in, records_in, current_in, written_in, IndexState, IsNoted, current_of, programmed, found_in, BlocksState, Unsure, array_known, known_image, Matches, CanTake, CanTakeOwn, settlement, Settlement, Entry, Pages, put, is_doubted, Mark, Plain, Doubt, Whole, Represents, DeviceState, Naming, Stands, DoubtsAs, IsOwn, IsOpenAs, IsUnderWay, text_with, ImageIsSound, NotingKeeps}
+use Rattle.list_lemmas.proofs.Membership.{got_within}
+use Rattle.list_lemmas.proofs.Pairs.{zip_at}
+use Rattle.version_index.specs.Notes.{notes_of}
 use Rattle.version_index.proofs.OfLaws.NotedImages.{found_in_notes}
-use Rattle.die_alloc.specs.BlockTable.{BlockTable}
-use Rattle.collector.specs.declared.unsure.Unsure.{Unsure}
 use Rattle.collector.specs.declared.unsure.Unsure.TheVariants as unsure
 use Rattle.collector.specs.declared.unsure.Settled.TheVariants as settled
-use Rattle.collector.specs.Known.{array_known, known_image}
-use Rattle.collector.specs.Matches.{Matches, CanTake, CanTakeOwn}
-use Rattle.collector.specs.Settling.{settlement, own_settled, Settlement}
-use Rattle.tx_engine.specs.ArrayState.{Entry, Pages, put, is_doubted}
-use Rattle.array_machine.specs.declared.mark.Mark.{Mark}
-use Rattle.array_machine.specs.declared.mark.Mark.TheVariants.{Plain, Doubt, Whole}
-use Rattle.tx_engine.specs.Exits.{StandsFor}
-use Rattle.tx_engine.specs.Standing.{Standing, Naming, Stands, DoubtsAs, IsOwn, IsOpenAs, IsUnderWay, text_with}
-use Rattle.tx_engine.proofs.OfStanding.OpenOnes.{under_way, can_take}
-use Rattle.tx_engine.proofs.OfStanding.InDoubt.{slot_text, partly_array, wholly_array}
-use Rattle.collector.specs.Laws.{ImagesStand, NotedWrites}
+use Rattle.collector.specs.Settling.{own_settled}
+use Rattle.tx_engine.proofs.OfDevice.OpenOnes.{under_way, can_take}
+use Rattle.tx_engine.proofs.OfDevice.InDoubt.{slot_text, partly_array, wholly_array}
 
 -- a mark is the one of doubt where it counts as doubted
 pub doubt_is : (m : Mark) → is_doubted m ≡ true → m ≡ Doubt
@@ -41,7 +17,7 @@ doubt_is Doubt h = refl
 doubt_is Whole h = cc
 
 -- The settlement of the program of an open transaction's record that is there is that the record is noted.
-module _ (p : Protocol) (laws : ImagesStand p) (notes : NotedWrites p) (s : FlashState) (n : Noted) (t : BlockTable) (at : Slot) (rec : Rec)
+module _ (p : Protocol) (laws : ImageIsSound p) (notes : NotingKeeps p) (s : FlashState) (n : IndexState) (t : BlocksState) (at : Slot) (rec : Rec)
     (m : Matches s n t (unsure.Own at rec)) (rule : n.config.protocol ≡ p) (take : CanTakeOwn n t rec) (bytes spare : List ℕ)
     (is : slot_at s.image at.0 ≡ complete bytes spare) where
   noted_there : IsNoted p n
@@ -77,7 +53,7 @@ module _ (p : Protocol) (laws : ImagesStand p) (notes : NotedWrites p) (s : Flas
 
     -- the array of the image is the one that is known, or that with the pages of the transaction in doubt
     pub own_stands : (pages : Pages) → pages ≡ array_known n s.image →
-        StandsFor (record { pages = pages; entries = entries }) (array_in p n.config.logical s.image)
+        Represents (record { pages = pages; entries = entries }) (array_in p n.config.logical s.image)
     own_stands pages known = elim (cases_eq (own.entry.done + 1) (length own.entry.writes)) [
       | inl last ↦ inr (
         own.entry,
@@ -96,32 +72,32 @@ module _ (p : Protocol) (laws : ImagesStand p) (notes : NotedWrites p) (s : Flas
     ]
 
 -- What is not the program of an open transaction's record, or was not done, leaves the array.
-pub no_record : (n : Noted) (t : BlockTable) (image : List Contents) (at : Slot) (rec : Rec) (c : Contents) → slot_at image at.0 ≡ c →
+pub no_record : (n : IndexState) (t : BlocksState) (image : List Contents) (at : Slot) (rec : Rec) (c : Contents) → slot_at image at.0 ≡ c →
     (own_settled n t at.0 (λ m. programmed m at.0 rec) c).answer ≡ settled.Missing → (settlement n t image (unsure.Own at rec)).answer ≢ settled.Present
 no_record n t image at rec c is missing there =
     let same = ap (λ k. (own_settled n t at.0 (λ m. programmed m at.0 rec) k).answer) is in
     let both = sym missing ∙ sym same ∙ there in cc
 
-pub spare_other : (b : Bool) (n : Noted) (t : BlockTable) (u : Settlement) → u.answer ≡ settled.Other →
+pub spare_other : (b : Bool) (n : IndexState) (t : BlocksState) (u : Settlement) → u.answer ≡ settled.Other →
     (cond b (record { noted = n; table = t; answer = settled.Other }) u).answer ≢ settled.Present
 spare_other true n t u h e = cc
 spare_other false n t u h e = let both = sym h ∙ e in cc
 
-module _ (p : Protocol) (laws : ImagesStand p) (notes : NotedWrites p) (s : FlashState) (n : Noted) (t : BlockTable) (rule : n.config.protocol ≡ p)
+module _ (p : Protocol) (laws : ImageIsSound p) (notes : NotingKeeps p) (s : FlashState) (n : IndexState) (t : BlocksState) (rule : n.config.protocol ≡ p)
     (entries : List Entry) (namings : List Naming) (each : AllZip (IsOpenAs s.image n) entries namings)
     (pages : Pages) (known : pages ≡ array_known n s.image) where
   left_alone : (u : Unsure) → Matches s n t u → CanTake n t u → (settlement n t s.image u).answer ≢ settled.Present →
-      StandsFor (record { pages = pages; entries = entries }) (array_in p n.config.logical s.image)
+      Represents (record { pages = pages; entries = entries }) (array_in p n.config.logical s.image)
   left_alone u m take other = inl ((laws.preserves s n t u m take rule other).1 ∙ sym known)
 
   own_array : (at : Slot) (rec : Rec) → Matches s n t (unsure.Own at rec) → CanTakeOwn n t rec → IsOwn s.image n entries namings at rec →
-      (c : Contents) → slot_at s.image at.0 ≡ c → StandsFor (record { pages = pages; entries = entries }) (array_in p n.config.logical s.image)
+      (c : Contents) → slot_at s.image at.0 ≡ c → Represents (record { pages = pages; entries = entries }) (array_in p n.config.logical s.image)
   own_array at rec m take own blank is = left_alone (unsure.Own at rec) m take (no_record n t s.image at rec blank is refl)
   own_array at rec m take own damaged is = left_alone (unsure.Own at rec) m take (no_record n t s.image at rec damaged is refl)
   own_array at rec m take own (complete bytes spare) is = own_stands p laws notes s n t at rec m rule take bytes spare is entries namings each own pages known
 
   pub stands_for : (u : Unsure) → Matches s n t u → CanTake n t u → DoubtsAs s.image n entries namings u →
-      StandsFor (record { pages = pages; entries = entries }) (array_in p n.config.logical s.image)
+      Represents (record { pages = pages; entries = entries }) (array_in p n.config.logical s.image)
   stands_for unsure.Nothing m take doubt = left_alone unsure.Nothing m take (λ e. cc)
   stands_for (unsure.Own at rec) m take doubt = own_array at rec m take doubt (slot_at s.image at.0) refl
   stands_for (unsure.Copy from to) m take doubt = left_alone (unsure.Copy from to) m take (λ e. cc)
@@ -129,21 +105,21 @@ module _ (p : Protocol) (laws : ImagesStand p) (notes : NotedWrites p) (s : Flas
   stands_for (unsure.VictimErase block) m take doubt = left_alone (unsure.VictimErase block) m take (spare_other _ n t _ refl)
 
 -- the array of the image is the device's, or that with the pages of the transaction in doubt
-pub device_array : {F : Type 0} (state : F → FlashState) (p : Protocol) (laws : ImagesStand p) (notes : NotedWrites p) (s : Standing F) → Stands state s →
+pub device_array : {F : Type 0} (state : F → FlashState) (p : Protocol) (laws : ImageIsSound p) (notes : NotingKeeps p) (s : DeviceState F) → Stands state s →
     s.config.protocol ≡ p →
-    StandsFor s.machine (array_in p s.config.logical (state s.flash).image)
+    Represents s.machine (array_in p s.config.logical (state s.flash).image)
 device_array state p laws notes s h rule =
     let rule_noted : s.noted.config.protocol ≡ p = ap (λ (c : _). c.protocol) (sym h.config) ∙ rule in
-    subst (λ (c : _). StandsFor s.machine (array_in p c.logical (state s.flash).image)) (sym h.config)
+    subst (λ (c : _). Represents s.machine (array_in p c.logical (state s.flash).image)) (sym h.config)
     (stands_for p laws notes (state s.flash) s.noted s.table rule_noted s.machine.entries s.namings h.each s.machine.pages h.array s.unsure h.matches
     (can_take state s h) h.doubt)
 
 -- the known image has the notes of the tables
 abbrev pub HasNotes : Protocol → Type 0
-HasNotes p = (s : FlashState) (n : Noted) (t : BlockTable) (u : Unsure) → Matches s n t u → n.config.protocol ≡ p →
+HasNotes p = (s : FlashState) (n : IndexState) (t : BlocksState) (u : Unsure) → Matches s n t u → n.config.protocol ≡ p →
     notes_of p (known_image n t.spare u s.image) ≡ n.notes
 
-module _ {F : Type 0} (state : F → FlashState) (p : Protocol) (notes : HasNotes p) (s : Standing F) (h : Stands state s) (rule : s.config.protocol ≡ p) where
+module _ {F : Type 0} (state : F → FlashState) (p : Protocol) (notes : HasNotes p) (s : DeviceState F) (h : Stands state s) (rule : s.config.protocol ≡ p) where
   noted_rule : s.noted.config.protocol ≡ p
   noted_rule = ap (λ (c : Config). c.protocol) (sym h.config) ∙ rule
 

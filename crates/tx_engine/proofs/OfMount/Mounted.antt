@@ -1,31 +1,18 @@
 -- A device that was just mounted stands for the array of its image.
-use Rattle.std.proofs.Common.{◌≡◌, ℕ, zero, suc, ◌+◌, Ok, [], replicate, filter_map, Contains, refl, sym, ap, ◌∙◌, subst, arith}
+use Rattle.tx_engine.proofs.Common.{◌≡◌, ℕ, zero, suc, ◌+◌, Ok, [], replicate, Contains, refl, sym, ap, ◌∙◌, subst, arith, shape_of, Config, Protocol, Link, FlashState, Moment, moment_of, IsSoundImage, array_in, IndexState, pinned_at, pinned_names, BlocksState, Unsure, Matches, idle, OpenTransactionsState, DoubtsAs, Stands, StoreState, IsStoreState, device_in, ImageIsSound}
+use Rattle.std.proofs.Common.{filter_map}
 use Rattle.std.specs.List.{enumerate_from}
-use Rattle.tx_types.specs.Config.{checked, shape_of}
-use Rattle.tx_types.specs.declared.config.Config.{Config}
-use Rattle.tx_types.specs.declared.config.Protocol.{Protocol}
-use Rattle.tx_types.specs.declared.record.Link.{Link}
-use Rattle.flash_model.specs.Flash.{FlashState, IsFlash}
-use Rattle.flash_model.specs.Operations.{Moment, moment_of}
+use Rattle.tx_types.specs.Config.{checked}
+use Rattle.flash_model.specs.Flash.{IsFlash}
 use Rattle.flash_model.specs.Readings.{seen_in}
-use Rattle.version_index.specs.Images.{IsSoundImage, array_in}
-use Rattle.version_index.specs.Noted.{Noted, pinned_at, pinned_names}
-use Rattle.die_alloc.specs.BlockTable.{BlockTable}
 use Rattle.die_alloc.specs.Opening.{opening_table}
 use Rattle.scan_recovery.specs.Opening.{IsOpened}
-use Rattle.collector.specs.declared.unsure.Unsure.{Unsure}
 use Rattle.collector.specs.declared.unsure.Unsure.TheVariants as unsure
-use Rattle.collector.specs.Matches.{Matches}
-use Rattle.tx_engine.specs.ArrayState.{idle}
-use Rattle.tx_engine.specs.OpenTable.{OpenTable}
 use Rattle.tx_engine.specs.Opens.{StoresOpened, Mounts}
-use Rattle.tx_engine.specs.Standing.{DoubtsAs, Stands}
-use Rattle.tx_engine.specs.Stored.{Stored, IsStored}
-use Rattle.tx_engine.specs.Tables.{standing_in}
-use Rattle.collector.specs.Laws.{ImagesStand, OpenedTablesMatch}
+use Rattle.collector.specs.Laws.{OpenedTablesMatch}
 
 -- the tables of an image that is read match the flash
-pub opened_matches : OpenedTablesMatch → (its : Config) (s s' : FlashState) (n : Noted) (t : BlockTable) → checked its ≡ Ok s.shape → IsFlash s →
+pub opened_matches : OpenedTablesMatch → (its : Config) (s s' : FlashState) (n : IndexState) (t : BlocksState) → checked its ≡ Ok s.shape → IsFlash s →
     IsSoundImage its.protocol its.logical s.shape s.image → IsOpened its s.image n t → s'.shape ≡ s.shape → moment_of s' ≡ moment_of s →
     Matches s' n t unsure.Nothing
 opened_matches law its s s' n t check whole sound h shape moment =
@@ -38,7 +25,7 @@ none_pinned zero n = refl
 none_pinned (suc k) n = none_pinned k (n + 1)
 
 -- with nothing open
-abbrev pub empty_table : Config → OpenTable
+abbrev pub empty_table : Config → OpenTransactionsState
 empty_table config = record {
   page_bytes = config.page_bytes;
   logical = config.logical;
@@ -46,15 +33,15 @@ empty_table config = record {
   all = [];
 }
 
-module _ {F : Type 0} (state : F → FlashState) (p : Protocol) (flash : F) (its : Config) (s : Stored F) (opened : StoresOpened state flash its s)
-    (stored : IsStored state p s) where
+module _ {F : Type 0} (state : F → FlashState) (p : Protocol) (flash : F) (its : Config) (s : StoreState F) (opened : StoresOpened state flash its s)
+    (stored : IsStoreState state p s) where
   its_config : s.noted.config ≡ its
-  its_config = ap (λ (n : Noted). n.config) opened.tables.noted_is
+  its_config = ap (λ (n : IndexState). n.config) opened.tables.noted_is
 
   nothing_pinned : pinned_names s.noted.pins ≡ []
-  nothing_pinned = ap (λ (n : Noted). pinned_names n.pins) opened.tables.noted_is ∙ none_pinned its.logical 0
+  nothing_pinned = ap (λ (n : IndexState). pinned_names n.pins) opened.tables.noted_is ∙ none_pinned its.logical 0
 
-  pub opened_stands : Stands state (standing_in state s (empty_table s.noted.config))
+  pub opened_stands : Stands state (device_in state s (empty_table s.noted.config))
   opened_stands = record {
     matches = stored.matches;
     config = refl;
@@ -73,7 +60,7 @@ module _ {F : Type 0} (state : F → FlashState) (p : Protocol) (flash : F) (its
       no_item : (name : Link) → Contains [] name → ⊥
       no_item name c = let none = c.1 in omega arith
 
-  pub opened_mounts : ImagesStand p → Mounts state flash its (standing_in state s (empty_table s.noted.config))
+  pub opened_mounts : ImageIsSound p → Mounts state flash its (device_in state s (empty_table s.noted.config))
   opened_mounts laws = record {
     config = its_config;
     machine = ap idle (

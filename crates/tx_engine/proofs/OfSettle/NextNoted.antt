@@ -1,48 +1,20 @@
 -- The next record of an open transaction is noted: the device stands for the array that takes its pages where the record is the
 -- last one, and else for the same array.
-use Rattle.std.proofs.Common.{◌≡◌, ◌≢◌, ◌⊎◌, ℕ, ◌+◌, ◌<◌, ◌==◌, List, [], length, map, get_or, All, AllPairs, Some, refl, sym, ap, ◌∙◌, subst, inl, inr, arith}
-use Rattle.std.specs.Prelude.{slice_set}
-use Rattle.std.proofs.lemmas.Bool.{cases_eq, cases_order, cond_both, eqb-false}
-use Rattle.std.proofs.lemmas.List.{length-map, length-set, get_or-set_same, get_or-set_other, get_or-map}
-use Rattle.std.proofs.lemmas.List.Elements.{All-from_get_or, All-contains}
-use Rattle.list_facts.proofs.Membership.{all_from}
-use Rattle.tx_types.specs.Batch.{no_write}
-use Rattle.tx_types.specs.Config.{shape_of, slots_of}
-use Rattle.tx_types.specs.declared.config.Protocol.{Protocol}
-use Rattle.tx_types.specs.declared.record.Link.{Link}
-use Rattle.tx_types.specs.declared.record.Rec.{Rec}
-use Rattle.flash_model.specs.Flash.{FlashState, Contents}
-use Rattle.record_list.specs.Records.{name_of}
-use Rattle.record_list.specs.Transaction.{ShareNoPage}
-use Rattle.record_list.specs.Written.{text_at}
+use Rattle.tx_engine.proofs.Common.{◌≡◌, ◌≢◌, ◌⊎◌, ℕ, ◌+◌, ◌<◌, ◌==◌, List, [], length, map, get_or, All, AllPairs, Some, refl, sym, ap, ◌∙◌, subst, inl, inr, arith, slice_set, cases_eq, cond_both, eqb-false, length-map, length-set, get_or-set_same, get_or-set_other, get_or-map, All-from_get_or, All-contains, all_from, no_write, shape_of, slots_of, Protocol, Link, Rec, FlashState, Contents, name_of, ShareNoPage, text_at, Blank, written_in, note_at, IndexState, IsNoted, IsNextRecord, programmed, current_of, mention_of, BlocksState, Unsure, array_known, Matches, put, page_at, is_doubted, Plain, Whole, IsNamedAt, Naming, IsNamed, IsUnderWay, name_at, write_at, text_in, no_name, OpenTransactionsState, TransactionState, no_transaction, transaction_at, with_transaction, with_mark, with_noted_count, with_next, NotingKeeps}
+use Rattle.std.proofs.lemmas.Bool.{cases_order}
 use Rattle.record_list.proofs.OfWalks.Rounds.{cases_page}
-use Rattle.version_index.specs.declared.note.Note.TheVariants.{Blank}
-use Rattle.version_index.specs.Images.{written_in}
-use Rattle.version_index.specs.Notes.{note_at}
-use Rattle.version_index.specs.Noted.{Noted, IsNoted, IsNextRecord, programmed, current_of, mention_of}
-use Rattle.die_alloc.specs.BlockTable.{BlockTable}
-use Rattle.collector.specs.declared.unsure.Unsure.{Unsure}
 use Rattle.collector.specs.declared.unsure.Unsure.TheVariants as unsure
-use Rattle.collector.specs.Known.{array_known}
-use Rattle.collector.specs.Matches.{Matches}
-use Rattle.tx_engine.specs.ArrayState.{put, page_at, is_doubted}
-use Rattle.array_machine.specs.declared.mark.Mark.TheVariants.{Plain, Whole}
-use Rattle.tx_engine.specs.Exits.{IsNamedAt}
-use Rattle.tx_engine.specs.Standing.{Naming, IsNamed, IsUnderWay, name_at, write_at, text_in, no_name}
-use Rattle.tx_engine.specs.OpenTable.{OpenTable, Opening, no_opening, opening_at, with_opening, with_mark, with_noted_count}
-use Rattle.tx_engine.specs.Settling.{with_next}
-use Rattle.tx_engine.proofs.OfStanding.Arrays.{page_of_name, as_many_names}
-use Rattle.tx_engine.proofs.OfStanding.InDoubt.{known_page, partly_stays, partly_array, wholly_current, wholly_rises, wholly_elsewhere, wholly_array}
-use Rattle.tx_engine.proofs.OfStanding.ImageMoves.{KeepsNoted, current_same}
-use Rattle.tx_engine.proofs.OfStanding.Noting.{HasName, raised_mention, other_opening, next_opening}
-use Rattle.tx_engine.proofs.OfStanding.Kept.{IsKept, IsOpening, IsCalm, HasSameParts, kept_with}
+use Rattle.tx_engine.proofs.OfDevice.Arrays.{page_of_name, as_many_names}
+use Rattle.tx_engine.proofs.OfDevice.InDoubt.{known_page, partly_stays, partly_array, wholly_current, wholly_rises, wholly_elsewhere, wholly_array}
+use Rattle.tx_engine.proofs.OfDevice.ImageMoves.{KeepsNoted, current_same}
+use Rattle.tx_engine.proofs.OfDevice.Noting.{HasName, raised_mention, other_transaction, next_transaction}
+use Rattle.tx_engine.proofs.OfDevice.Kept.{BlocksInvariant, IsTransaction, IsCalm, HasSameParts, kept_with}
 use Rattle.tx_engine.proofs.OfSettle.SettledLists.{CalmBeside, calm_all}
-use Rattle.tx_engine.proofs.OfStanding.ExitsThen.{NamedBefore}
-use Rattle.collector.specs.Laws.{NotedWrites}
-use Rattle.tx_engine.proofs.OfStanding.OtherFlash.{known_at}
+use Rattle.tx_engine.proofs.OfDevice.ExitsThen.{NamedBefore}
+use Rattle.tx_engine.proofs.OfDevice.OtherFlash.{known_at}
 
 -- a record is the next one of an open transaction, and the flash has its text
-pub record IsNextOf (p : Protocol) (n : Noted) (at : ℕ) (rec : Rec) (image : List Contents) (o : Opening) : Type 0 where
+pub record IsNextOf (p : Protocol) (n : IndexState) (at : ℕ) (rec : Rec) (image : List Contents) (o : TransactionState) : Type 0 where
   pub noted : IsNoted p n
   pub rule : n.config.protocol ≡ p
   pub next : IsNextRecord n rec
@@ -60,43 +32,43 @@ pub record IsNextOf (p : Protocol) (n : Noted) (at : ℕ) (rec : Rec) (image : L
 pub share_back : (names others : List Link) → ShareNoPage names others → ShareNoPage others names
 share_back names others h k d inside j e within same = h j e within k d inside (sym same)
 
-pub apart_at : (all : List Opening) (i k : ℕ) → AllPairs (λ a b. ShareNoPage a.naming.names b.naming.names) all → i < length all → k < length all → k ≢ i →
-    ShareNoPage (get_or all i no_opening).naming.names (get_or all k no_opening).naming.names
+pub apart_at : (all : List TransactionState) (i k : ℕ) → AllPairs (λ a b. ShareNoPage a.naming.names b.naming.names) all → i < length all → k < length all → k ≢ i →
+    ShareNoPage (get_or all i no_transaction).naming.names (get_or all k no_transaction).naming.names
 apart_at all i k apart within inside other = elim (cases_order i k) [
   | inl same ↦ absurd (other (sym same))
-  | inr (inl less) ↦ apart i k no_opening less inside
-  | inr (inr more) ↦ share_back (get_or all k no_opening).naming.names (get_or all i no_opening).naming.names (apart k i no_opening more within)
+  | inr (inl less) ↦ apart i k no_transaction less inside
+  | inr (inr more) ↦ share_back (get_or all k no_transaction).naming.names (get_or all i no_transaction).naming.names (apart k i no_transaction more within)
 ]
 
 -- the opening that it makes has the same tag, writes and names
-pub next_parts : (o : Opening) → HasSameParts o (with_next o)
+pub next_parts : (o : TransactionState) → HasSameParts o (with_next o)
 next_parts o =
     cond_both (o.naming.noted_count + 1 == length o.entry.writes) (with_mark (with_noted_count o (o.naming.noted_count + 1)) Whole)
     (with_noted_count o (o.naming.noted_count + 1)) (HasSameParts o)
     (λ is. record { tag = refl; writes = refl; names = refl }) (λ is. record { tag = refl; writes = refl; names = refl })
 
 -- names stay where each opening has the names that it had
-pub names_before : (all all' : List Opening) → map (λ (o : Opening). o.naming.names) all' ≡ map (λ (o : Opening). o.naming.names) all →
+pub names_before : (all all' : List TransactionState) → map (λ (o : TransactionState). o.naming.names) all' ≡ map (λ (o : TransactionState). o.naming.names) all →
     NamedBefore (map (λ o. o.naming) all) (map (λ o. o.naming) all')
 names_before all all' same k d inside =
-    let within' : k < length all' = subst (λ len. k < len) (length-map all' (λ (o : Opening). o.naming)) inside in
-    let long : length all' ≡ length all = sym (length-map all' (λ (o : Opening). o.naming.names)) ∙ ap length same
-    ∙ length-map all (λ (o : Opening). o.naming.names) in
+    let within' : k < length all' = subst (λ len. k < len) (length-map all' (λ (o : TransactionState). o.naming)) inside in
+    let long : length all' ≡ length all = sym (length-map all' (λ (o : TransactionState). o.naming.names)) ∙ ap length same
+    ∙ length-map all (λ (o : TransactionState). o.naming.names) in
     let within : k < length all = omega arith in
-    let old = get_or all k no_opening in
-    let names : old.naming.names ≡ (get_or all' k no_opening).naming.names =
-    sym (get_or-map (λ (o : Opening). o.naming.names) all k no_opening [] within) ∙ ap (λ ns. get_or ns k []) (sym same)
-    ∙ get_or-map (λ (o : Opening). o.naming.names) all' k no_opening [] within' in (
+    let old = get_or all k no_transaction in
+    let names : old.naming.names ≡ (get_or all' k no_transaction).naming.names =
+    sym (get_or-map (λ (o : TransactionState). o.naming.names) all k no_transaction [] within) ∙ ap (λ ns. get_or ns k []) (sym same)
+    ∙ get_or-map (λ (o : TransactionState). o.naming.names) all' k no_transaction [] within' in (
       k,
       old.naming,
-      subst (λ len. k < len) (sym (length-map all (λ (o : Opening). o.naming))) within,
-      get_or-map (λ (o : Opening). o.naming) all k no_opening old.naming within,
-      names ∙ ap (λ (x : Naming). x.names) (sym (get_or-map (λ (o : Opening). o.naming) all' k no_opening d within')),
+      subst (λ len. k < len) (sym (length-map all (λ (o : TransactionState). o.naming))) within,
+      get_or-map (λ (o : TransactionState). o.naming) all k no_transaction old.naming within,
+      names ∙ ap (λ (x : Naming). x.names) (sym (get_or-map (λ (o : TransactionState). o.naming) all' k no_transaction d within')),
     )
 
-module _ (p : Protocol) (notes : NotedWrites p) (n : Noted) (at : ℕ) (rec : Rec) (image image' : List Contents) (o : Opening)
+module _ (p : Protocol) (notes : NotingKeeps p) (n : IndexState) (at : ℕ) (rec : Rec) (image image' : List Contents) (o : TransactionState)
     (h : IsNextOf p n at rec image' o) where
-  abbrev pub after : Noted
+  abbrev pub after : IndexState
   after = programmed n at rec
 
   pub next_stays : o.entry.done + 1 ≢ length o.entry.writes → (page : ℕ) → page < n.config.logical → current_of after page ≡ current_of n page
@@ -164,7 +136,7 @@ module _ (p : Protocol) (notes : NotedWrites p) (n : Noted) (at : ℕ) (rec : Re
   writes_stay last page low others = last_elsewhere last page low (names_apart page others)
 
   -- Mentions
-  pub next_mentions : (all : List Opening) (i : ℕ) → i < length all → get_or all i no_opening ≡ o → (page : ℕ) → page < n.config.logical →
+  pub next_mentions : (all : List TransactionState) (i : ℕ) → i < length all → get_or all i no_transaction ≡ o → (page : ℕ) → page < n.config.logical →
       (mention_of after page ≡ mention_of n page)
       ⊎ ((mention_of n page < mention_of after page) × IsNamedAt (map (λ o. o.naming) all) page (mention_of after page))
   next_mentions all i inside is page low = elim (raised_mention p n at rec h.next h.noted page low) [
@@ -174,35 +146,35 @@ module _ (p : Protocol) (notes : NotedWrites p) (n : Noted) (at : ℕ) (rec : Re
       (
         i,
         o.naming,
-        subst (λ len. i < len) (sym (length-map all (λ (o : Opening). o.naming))) inside,
-        get_or-map (λ (o : Opening). o.naming) all i no_opening o.naming inside ∙ ap (λ (x : Opening). x.naming) is,
+        subst (λ len. i < len) (sym (length-map all (λ (o : TransactionState). o.naming))) inside,
+        get_or-map (λ (o : TransactionState). o.naming) all i no_transaction o.naming inside ∙ ap (λ (x : TransactionState). x.naming) is,
         subst (λ ns. HasName ns page (mention_of after page)) h.its rose.1,
       ),
     )
   ]
 
 -- All stands
-pub next_kept : (p : Protocol) (notes : NotedWrites p) (s s' : FlashState) (n : Noted) (t t' : BlockTable) (u : Unsure) (o : OpenTable) (i at : ℕ) (rec : Rec) →
-    IsKept s n t u o → i < length o.all → All (IsOpening s'.image n) o.all → CalmBeside o.all i → IsNextOf p n at rec s'.image (opening_at o i) →
+pub next_kept : (p : Protocol) (notes : NotingKeeps p) (s s' : FlashState) (n : IndexState) (t t' : BlocksState) (u : Unsure) (o : OpenTransactionsState) (i at : ℕ) (rec : Rec) →
+    BlocksInvariant s n t u o → i < length o.all → All (IsTransaction s'.image n) o.all → CalmBeside o.all i → IsNextOf p n at rec s'.image (transaction_at o i) →
     Matches s' (programmed n at rec) t' unsure.Nothing →
-    IsKept s' (programmed n at rec) t' unsure.Nothing (with_opening o i (with_next (opening_at o i)))
+    BlocksInvariant s' (programmed n at rec) t' unsure.Nothing (with_transaction o i (with_next (transaction_at o i)))
 next_kept p notes s s' n t t' u o i at rec k within each calm h m' =
-    let its = opening_at o i in
-    let others : (j : ℕ) → j < length o.all → j ≢ i → IsOpening s'.image (programmed n at rec) (opening_at o j) = λ j inside other.
-    other_opening p notes n h.noted h.rule at rec h.next h.within h.was s'.image its.entry its.naming h.named h.under h.its h.due h.name
-    (opening_at o j).entry (opening_at o j).naming (apart_at o.all i j k.apart within inside other) (each j no_opening inside) in
-    let own = next_opening p notes n h.noted h.rule at rec h.next h.within h.was s'.image its h.named h.under h.its h.due h.name h.come h.plain in
+    let its = transaction_at o i in
+    let others : (j : ℕ) → j < length o.all → j ≢ i → IsTransaction s'.image (programmed n at rec) (transaction_at o j) = λ j inside other.
+    other_transaction p notes n h.noted h.rule at rec h.next h.within h.was s'.image its.entry its.naming h.named h.under h.its h.due h.name
+    (transaction_at o j).entry (transaction_at o j).naming (apart_at o.all i j k.apart within inside other) (each j no_transaction inside) in
+    let own = next_transaction p notes n h.noted h.rule at rec h.next h.within h.was s'.image its h.named h.under h.its h.due h.name h.come h.plain in
     let calm_own : IsCalm (with_next its).entry =
     cond_both (its.naming.noted_count + 1 == length its.entry.writes) (with_mark (with_noted_count its (its.naming.noted_count + 1)) Whole)
     (with_noted_count its (its.naming.noted_count + 1))
-    (λ (x : Opening). IsCalm x.entry) (λ is. refl)
+    (λ (x : TransactionState). IsCalm x.entry) (λ is. refl)
     (λ is. ap is_doubted (h.plain (λ last. eqb-false (its.naming.noted_count + 1) (length its.entry.writes) is (ap (λ j. j + 1) h.due ∙ last)))) in
     kept_with s s' n (programmed n at rec) t t' u unsure.Nothing o i (with_next its) k within (next_parts its) m' refl refl others own
     (calm_all (slice_set o.all i (with_next its)) (λ j inside. elim (cases_eq j i) [
-      | inl is ↦ subst (λ (x : Opening). IsCalm x.entry)
-          (sym (get_or-set_same o.all i (with_next its) no_opening within) ∙ ap (λ a. get_or (slice_set o.all i (with_next its)) a no_opening) (sym is))
+      | inl is ↦ subst (λ (x : TransactionState). IsCalm x.entry)
+          (sym (get_or-set_same o.all i (with_next its) no_transaction within) ∙ ap (λ a. get_or (slice_set o.all i (with_next its)) a no_transaction) (sym is))
           calm_own
-      | inr other ↦ subst (λ (x : Opening). IsCalm x.entry) (sym (get_or-set_other o.all i j (with_next its) no_opening other))
+      | inr other ↦ subst (λ (x : TransactionState). IsCalm x.entry) (sym (get_or-set_other o.all i j (with_next its) no_transaction other))
           (calm j (subst (λ len. j < len) (length-set o.all i (with_next its)) inside) other)
     ]))
 

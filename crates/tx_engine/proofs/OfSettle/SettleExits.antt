@@ -1,55 +1,24 @@
 -- A device that settled, by what settling leaves of its tables.
-use Rattle.std.proofs.Common.{◌≡◌, ◌≢◌, ◌⊎◌, ℕ, ◌<◌, Bool, true, false, [], length, map, All, Option, Some, None, refl, sym, ap, ap₂, ◌∙◌, subst, inl, inr, Err}
-use Rattle.std.proofs.Common.{Ok}
-use Rattle.std.specs.Prelude.{position}
-use Rattle.std.proofs.lemmas.List.Elements.{All-nil}
-use Rattle.std.proofs.lemmas.List.Quantifiers.{position-Some}
-use Rattle.tx_types.specs.Batch.{PageWrite}
-use Rattle.tx_types.specs.declared.config.Slot.{Slot}
-use Rattle.tx_types.specs.declared.record.Rec.{Rec}
-use Rattle.flash_model.specs.Flash.{FlashState}
-use Rattle.flash_model.specs.Calls.{Carries}
-use Rattle.flash_model.specs.Operations.{Moment, moment_of}
-use Rattle.flash_model.proofs.MoveLemmas.{FlashMoves-nothing}
-use Rattle.version_index.specs.Images.{current_in}
-use Rattle.version_index.specs.Noted.{Noted, current_of}
-use Rattle.die_alloc.specs.BlockTable.{BlockTable}
-use Rattle.collector.specs.declared.unsure.Unsure.{Unsure}
+use Rattle.tx_engine.proofs.Common.{◌≡◌, ◌≢◌, ◌⊎◌, ℕ, ◌<◌, Bool, true, false, [], length, map, All, Option, Some, None, refl, sym, ap, ap₂, ◌∙◌, subst, inl, inr, Err, Ok, position, All-nil, position-Some, PageWrite, Slot, Rec, FlashState, Carries, Moment, moment_of, FlashMoves-nothing, current_in, IndexState, current_of, BlocksState, Unsure, array_known, Matches, CanTake, settlement, matches_still, Preserves, is_doubted, page_at, Plain, Exits, VersionsRise, is_there, DeviceState, Stands, DoubtsAs, OpenTransactionsState, TransactionState, no_transaction, transaction_at, entries_of, namings_of, with_transaction, with_mark, HasLimitsOf, with_next, is_writing, StoreState, store_in, device_in, both_ways, ArrayStays, Broken, Protocol, SettlesDevice, ImageIsSound, NotingKeeps}
 use Rattle.collector.specs.declared.unsure.Unsure.TheVariants as unsure
 use Rattle.collector.specs.declared.unsure.Settled.{Settled}
 use Rattle.collector.specs.declared.unsure.Settled.TheVariants as found
-use Rattle.collector.specs.Known.{array_known}
-use Rattle.collector.specs.Matches.{Matches, CanTake}
-use Rattle.collector.specs.Settling.{IsFound, settlement, Settles}
-use Rattle.collector.proofs.OfSettle.SettledExits.{matches_still}
-use Rattle.collector.specs.Preserves.{Preserves}
-use Rattle.tx_engine.specs.ArrayState.{is_doubted, page_at}
-use Rattle.array_machine.specs.declared.mark.Mark.TheVariants.{Plain}
-use Rattle.tx_engine.specs.Exits.{Exits, SettlesOrNot, VersionsRise, is_there}
-use Rattle.tx_engine.specs.Standing.{Standing, Stands, DoubtsAs}
-use Rattle.tx_engine.specs.OpenTable.{OpenTable, Opening, no_opening, opening_at, entries_of, namings_of, with_opening, with_mark, HasLimitsOf}
-use Rattle.tx_engine.specs.Settling.{with_next, is_writing, IsSettled}
-use Rattle.tx_engine.specs.Stored.{Stored, store_in}
-use Rattle.tx_engine.specs.Tables.{standing_in}
-use Rattle.tx_engine.proofs.OfStanding.Kept.{IsKept, IsOpening, from_stands, to_stands}
-use Rattle.tx_engine.proofs.OfStanding.OpenOnes.{can_take}
-use Rattle.tx_engine.proofs.OfStanding.ExitsThen.{exits_still}
-use Rattle.std.proofs.lemmas.Bool.{both_ways}
-use Rattle.list_facts.proofs.Positions.{position-all}
+use Rattle.collector.specs.Settling.{IsFound, Settles}
+use Rattle.tx_engine.specs.Exits.{SettlesOrNot}
+use Rattle.tx_engine.specs.Settling.{IsSettled}
+use Rattle.tx_engine.proofs.OfDevice.Kept.{BlocksInvariant, IsTransaction, from_stands, to_stands}
+use Rattle.tx_engine.proofs.OfDevice.OpenOnes.{can_take}
+use Rattle.tx_engine.proofs.OfDevice.ExitsThen.{exits_still}
+use Rattle.list_lemmas.proofs.Positions.{position-all}
 use Rattle.tx_engine.proofs.OfSettle.SettledLists.{calm_at}
 use Rattle.tx_engine.proofs.OfSettle.Settlements.{IsSettledAs, IsFoundOwn, present_found, found_settled, doubt_settled, calm_settled, doubted_beside}
-use Rattle.collector.specs.Laws.{ArraysStay}
-use Rattle.flash_model.specs.declared.flash.Broken.{Broken}
-use Rattle.tx_types.specs.declared.config.Protocol.{Protocol}
-use Rattle.tx_engine.specs.Calls.{SettlesDevice}
-use Rattle.collector.specs.Laws.{ImagesStand, NotedWrites}
 
 -- the same flash, read
-pub kept_flash : (s s' : FlashState) (n : Noted) (t : BlockTable) (u : Unsure) (o : OpenTable) → s'.shape ≡ s.shape → s'.image ≡ s.image → IsKept s n t u o →
-    IsKept s' n t u o
+pub kept_flash : (s s' : FlashState) (n : IndexState) (t : BlocksState) (u : Unsure) (o : OpenTransactionsState) → s'.shape ≡ s.shape → s'.image ≡ s.image → BlocksInvariant s n t u o →
+    BlocksInvariant s' n t u o
 kept_flash s s' n t u o shape image k = record {
   matches = matches_still s s' n t u shape image k.matches;
-  each = subst (λ i. All (IsOpening i n) o.all) (sym image) k.each;
+  each = subst (λ i. All (IsTransaction i n) o.all) (sym image) k.each;
   doubt = subst (λ i. DoubtsAs i n (entries_of o) (namings_of o) u) (sym image) k.doubt;
   tags = k.tags;
   apart = k.apart;
@@ -57,35 +26,35 @@ kept_flash s s' n t u o shape image k = record {
   pinned = k.pinned;
 }
 
-module _ {F : Type 0} (state : F → FlashState) (S S' : Stored F) (O O' : OpenTable) where
+module _ {F : Type 0} (state : F → FlashState) (S S' : StoreState F) (O O' : OpenTransactionsState) where
   -- after a failed read
-  pub failed_stands : Stands state (standing_in state S O) → S' ≡ record S { flash = S'.flash } → O' ≡ O →
+  pub failed_stands : Stands state (device_in state S O) → S' ≡ record S { flash = S'.flash } → O' ≡ O →
       moment_of (state S'.flash) ≡ moment_of (state S.flash) →
-      (broken : Bool) → Carries (state S.flash) (state S'.flash) broken → Stands state (standing_in state S' O')
+      (broken : Bool) → Carries (state S.flash) (state S'.flash) broken → Stands state (device_in state S' O')
   failed_stands h same opens moment broken carries =
       let k = kept_flash (state S.flash) (state S'.flash) S.noted S.table S.unsure O carries.shape (ap (λ (m : Moment). m.image) moment)
       (from_stands state S O h) in
-      subst (λ (T : Stored F). Stands state (standing_in state T O')) (sym same)
-      (subst (λ (o : OpenTable). Stands state (standing_in state (record S { flash = S'.flash }) o)) (sym opens)
+      subst (λ (T : StoreState F). Stands state (device_in state T O')) (sym same)
+      (subst (λ (o : OpenTransactionsState). Stands state (device_in state (record S { flash = S'.flash }) o)) (sym opens)
       (to_stands state (record S { flash = S'.flash }) O k))
 
   pub failed_stays : S' ≡ record S { flash = S'.flash } → O' ≡ O → moment_of (state S'.flash) ≡ moment_of (state S.flash) →
-      standing_in state S' O' ≡ record (standing_in state S O) { flash = S'.flash }
+      device_in state S' O' ≡ record (device_in state S O) { flash = S'.flash }
   failed_stays same opens moment =
-      ap₂ (λ (T : Stored F) (o : OpenTable). standing_in state T o) same opens
-      ∙ ap (λ image. record (standing_in state (record S { flash = S'.flash }) O) {
+      ap₂ (λ (T : StoreState F) (o : OpenTransactionsState). device_in state T o) same opens
+      ∙ ap (λ image. record (device_in state (record S { flash = S'.flash }) O) {
         machine = record { pages = array_known S.noted image; entries = entries_of O };
       }) (ap (λ (m : Moment). m.image) moment)
 
   pub failed_exits : S' ≡ record S { flash = S'.flash } → O' ≡ O → moment_of (state S'.flash) ≡ moment_of (state S.flash) →
-      (broken : Bool) → Carries (state S.flash) (state S'.flash) broken → Exits state (standing_in state S O) (standing_in state S' O') broken
+      (broken : Bool) → Carries (state S.flash) (state S'.flash) broken → Exits state (device_in state S O) (device_in state S' O') broken
   failed_exits same opens moment broken carries =
-      exits_still state (standing_in state S O) S'.flash broken (standing_in state S' O') refl
+      exits_still state (device_in state S O) S'.flash broken (device_in state S' O') refl
       (failed_stays same opens moment)
       (FlashMoves-nothing (state S.flash) (state S'.flash) broken moment) carries
 
   -- the whole of it
-  pub settle_failed : (x y : Broken) → Stands state (standing_in state S O) → Settles (store_in state S) (store_in state S') (Err x) →
+  pub settle_failed : (x y : Broken) → Stands state (device_in state S O) → Settles (store_in state S) (store_in state S') (Err x) →
       S' ≡ record S { flash = S'.flash } →
       (S.unsure ≡ unsure.Nothing → ⊥) → O' ≡ O → SettlesDevice state S S' O O' (Err y)
   settle_failed x y h its same sure opens = record {
@@ -99,7 +68,7 @@ module _ {F : Type 0} (state : F → FlashState) (S S' : Stored F) (O O' : OpenT
     moment = its.moment;
     reads = tt;
     first_failed = its.first_failed;
-    names = ap (λ (o : OpenTable). map (λ x. x.naming.names) o.all) opens;
+    names = ap (λ (o : OpenTransactionsState). map (λ x. x.naming.names) o.all) opens;
   }
 
   module _ (r : IsSettledAs (state S.flash) S.noted S'.noted S'.table O O') (sure : S'.unsure ≡ unsure.Nothing)
@@ -108,19 +77,19 @@ module _ {F : Type 0} (state : F → FlashState) (S S' : Stored F) (O O' : OpenT
     same_image : (state S'.flash).image ≡ (state S.flash).image
     same_image = ap (λ (m : Moment). m.image) moment
 
-    pub settled_stands : Stands state (standing_in state S' O')
+    pub settled_stands : Stands state (device_in state S' O')
     settled_stands =
-        to_stands state S' O' (subst (λ u. IsKept (state S'.flash) S'.noted S'.table u O') (sym sure)
+        to_stands state S' O' (subst (λ u. BlocksInvariant (state S'.flash) S'.noted S'.table u O') (sym sure)
         (kept_flash (state S.flash) (state S'.flash) S'.noted S'.table unsure.Nothing O' carries.shape same_image r.kept))
 
-    pub settled_done : IsSettled (is_there state (standing_in state S O)) (standing_in state S O) (standing_in state S' O')
+    pub settled_done : IsSettled (is_there state (device_in state S O)) (device_in state S O) (device_in state S' O')
     settled_done = record {
       machine = ap (λ image. record { pages = array_known S'.noted image; entries = entries_of O' }) same_image ∙ r.machine;
       rises = record { rises = r.rises; stays = r.stays };
       sure = sure;
     }
 
-    pub settled_exits : Exits state (standing_in state S O) (standing_in state S' O') false
+    pub settled_exits : Exits state (device_in state S O) (device_in state S' O') false
     settled_exits = record {
       tables = record {
         config = r.config;
@@ -155,17 +124,17 @@ module _ {F : Type 0} (state : F → FlashState) (S S' : Stored F) (O O' : OpenT
     }
 
 -- By what was found
-module _ {F : Type 0} (state : F → FlashState) (S : Stored F) (O : OpenTable) (h : Stands state (standing_in state S O))
-    (p : Protocol) (rule : S.noted.config.protocol ≡ p) (images : ImagesStand p) (n' : Noted) (t' : BlockTable) (answer : Settled)
+module _ {F : Type 0} (state : F → FlashState) (S : StoreState F) (O : OpenTransactionsState) (h : Stands state (device_in state S O))
+    (p : Protocol) (rule : S.noted.config.protocol ≡ p) (images : ImageIsSound p) (n' : IndexState) (t' : BlocksState) (answer : Settled)
     (its : IsFound (settlement S.noted S.table (state S.flash).image S.unsure) n' t' answer) where
-  settles : ImagesStand S.noted.config.protocol
-  settles = subst ImagesStand (sym rule) images
+  settles : ImageIsSound S.noted.config.protocol
+  settles = subst ImageIsSound (sym rule) images
 
-  kept : IsKept (state S.flash) S.noted S.table S.unsure O
+  kept : BlocksInvariant (state S.flash) S.noted S.table S.unsure O
   kept = from_stands state S O h
 
   take : CanTake S.noted S.table S.unsure
-  take = can_take state (standing_in state S O) h
+  take = can_take state (device_in state S O) h
 
   matched : Matches (state S.flash) n' t' unsure.Nothing
   matched =
@@ -177,22 +146,22 @@ module _ {F : Type 0} (state : F → FlashState) (S : Stored F) (O : OpenTable) 
   current_now page = settles.current (state S.flash) S.noted S.table S.unsure page kept.matches take refl ∙ ap (λ m. current_of m page) (sym its.noted)
 
   -- the record of an open transaction is there
-  module _ (law : NotedWrites p) (w : Option ℕ) (writer : (at : Slot) (rec : Rec) → S.unsure ≡ unsure.Own at rec → w ≡ position (is_writing rec.page) O.all)
+  module _ (law : NotingKeeps p) (w : Option ℕ) (writer : (at : Slot) (rec : Rec) → S.unsure ≡ unsure.Own at rec → w ≡ position (is_writing rec.page) O.all)
       (present : answer ≡ found.Present) where
-    notes : NotedWrites S.noted.config.protocol
-    notes = subst NotedWrites (sym rule) law
+    notes : NotingKeeps S.noted.config.protocol
+    notes = subst NotingKeeps (sym rule) law
 
     pub the_own : IsFoundOwn S.noted (state S.flash).image O w n'
     the_own = subst (IsFoundOwn S.noted (state S.flash).image O w) (sym its.noted)
         (present_found (state S.flash) S.noted S.table O settles notes S.unsure w kept writer (sym its.answer ∙ present))
 
-    pub own_settled : (i : ℕ) → w ≡ Some i → (O' : OpenTable) → O' ≡ with_opening O i (with_next (opening_at O i)) →
+    pub own_settled : (i : ℕ) → w ≡ Some i → (O' : OpenTransactionsState) → O' ≡ with_transaction O i (with_next (transaction_at O i)) →
         IsSettledAs (state S.flash) S.noted n' t' O O'
     own_settled i is O' next =
         let own = the_own in
         let same : own.place ≡ i = let both = sym own.is_place ∙ is in cc in
-        subst (λ o. IsSettledAs (state S.flash) S.noted n' t' O o) (ap (λ j. with_opening O j (with_next (opening_at O j))) same ∙ sym next)
-        (subst (λ m. IsSettledAs (state S.flash) S.noted m t' O (with_opening O own.place (with_next (opening_at O own.place)))) (sym own.noted)
+        subst (λ o. IsSettledAs (state S.flash) S.noted n' t' O o) (ap (λ j. with_transaction O j (with_next (transaction_at O j))) same ∙ sym next)
+        (subst (λ m. IsSettledAs (state S.flash) S.noted m t' O (with_transaction O own.place (with_next (transaction_at O own.place)))) (sym own.noted)
         (found_settled (state S.flash) S.noted S.table t' S.unsure O notes own.place own.at own.rec kept own.within own.next own.calm own.doubt
         (subst (λ m. Matches (state S.flash) m t' unsure.Nothing) own.noted matched)
         (λ page. current_now page ∙ ap (λ m. current_of m page) own.noted)))
@@ -203,26 +172,26 @@ module _ {F : Type 0} (state : F → FlashState) (S : Stored F) (O : OpenTable) 
         let same : own.place ≡ i = let both = sym own.is_place ∙ is in cc in
         subst (λ j. j < length O.all) same own.within
 
-    pub own_short : (i : ℕ) → w ≡ Some i → (opening_at O i).naming.noted_count < length (opening_at O i).entry.writes
+    pub own_short : (i : ℕ) → w ≡ Some i → (transaction_at O i).naming.noted_count < length (transaction_at O i).entry.writes
     own_short i is =
         let own = the_own in
         let same : own.place ≡ i = let both = sym own.is_place ∙ is in cc in
-        subst (λ j. (opening_at O j).naming.noted_count < length (opening_at O j).entry.writes) same
-        (subst (λ k. k < length (opening_at O own.place).entry.writes) (sym own.next.due) own.next.named.within)
+        subst (λ j. (transaction_at O j).naming.noted_count < length (transaction_at O j).entry.writes) same
+        (subst (λ k. k < length (transaction_at O own.place).entry.writes) (sym own.next.due) own.next.named.within)
 
     pub own_none : w ≡ None → ⊥
     own_none is = let both = sym (the_own).is_place ∙ is in cc
 
   -- it is not, or there was none
-  module _ (arrays : ArraysStay p) (other : answer ≢ found.Present) where
-    law : ArraysStay S.noted.config.protocol
-    law = subst ArraysStay (sym rule) arrays
+  module _ (arrays : ArrayStays p) (other : answer ≢ found.Present) where
+    law : ArrayStays S.noted.config.protocol
+    law = subst ArrayStays (sym rule) arrays
 
-    pub doubt_gone : (i : ℕ) → position (λ o. is_doubted o.entry.mark) O.all ≡ Some i → (O' : OpenTable) →
-        O' ≡ with_opening O i (with_mark (opening_at O i) Plain) →
+    pub doubt_gone : (i : ℕ) → position (λ o. is_doubted o.entry.mark) O.all ≡ Some i → (O' : OpenTransactionsState) →
+        O' ≡ with_transaction O i (with_mark (transaction_at O i) Plain) →
         IsSettledAs (state S.flash) S.noted n' t' O O'
     doubt_gone i is O' next =
-        let at = position-Some (λ (o : Opening). is_doubted o.entry.mark) O.all i no_opening is in
+        let at = position-Some (λ (o : TransactionState). is_doubted o.entry.mark) O.all i no_transaction is in
         let keep = settles.preserves (state S.flash) S.noted S.table S.unsure kept.matches take refl (λ e. other (its.answer ∙ e)) in
         subst (λ o. IsSettledAs (state S.flash) S.noted n' t' O o) (sym next)
         (doubt_settled (state S.flash) S.noted n' S.table t' S.unsure O law kept matched
@@ -234,33 +203,33 @@ module _ {F : Type 0} (state : F → FlashState) (S : Stored F) (O : OpenTable) 
         let keep = settles.preserves (state S.flash) S.noted S.table S.unsure kept.matches take refl (λ e. other (its.answer ∙ e)) in
         calm_settled (state S.flash) S.noted n' S.table t' S.unsure O law kept matched
         (subst (Preserves S.noted) (sym its.noted) keep.0) current_now
-        (position-all (λ (o : Opening). is_doubted o.entry.mark) O.all no_opening is)
+        (position-all (λ (o : TransactionState). is_doubted o.entry.mark) O.all no_transaction is)
 
 pub not_present : (a : Settled) → (a ≡ found.Missing) ⊎ (a ≡ found.Other) → a ≢ found.Present
 not_present a (inl is) e = let both : found.Missing ≡ found.Present = sym is ∙ e in cc
 not_present a (inr is) e = let both : found.Other ≡ found.Present = sym is ∙ e in cc
 
-pub failed_machine : {F : Type 0} (state : F → FlashState) (S S' : Stored F) (O O' : OpenTable) → S' ≡ record S { flash = S'.flash } → O' ≡ O →
-    moment_of (state S'.flash) ≡ moment_of (state S.flash) → (standing_in state S' O').machine ≡ (standing_in state S O).machine
+pub failed_machine : {F : Type 0} (state : F → FlashState) (S S' : StoreState F) (O O' : OpenTransactionsState) → S' ≡ record S { flash = S'.flash } → O' ≡ O →
+    moment_of (state S'.flash) ≡ moment_of (state S.flash) → (device_in state S' O').machine ≡ (device_in state S O).machine
 failed_machine state S S' O O' same opens moment =
-    ap₂ (λ (T : Stored _) (o : OpenTable). (standing_in state T o).machine) same opens
+    ap₂ (λ (T : StoreState _) (o : OpenTransactionsState). (device_in state T o).machine) same opens
     ∙ ap (λ image. record { pages = array_known S.noted image; entries = entries_of O }) (ap (λ (m : Moment). m.image) moment)
 
 -- where nothing was unsure none is in doubt
-pub none_doubted : {F : Type 0} (state : F → FlashState) (S : Stored F) (O : OpenTable) → Stands state (standing_in state S O) → S.unsure ≡ unsure.Nothing →
+pub none_doubted : {F : Type 0} (state : F → FlashState) (S : StoreState F) (O : OpenTransactionsState) → Stands state (device_in state S O) → S.unsure ≡ unsure.Nothing →
     (i : ℕ) → position (λ o. is_doubted o.entry.mark) O.all ≡ Some i → ⊥
 none_doubted state S O h sure i is =
     let k = from_stands state S O h in
-    let at = position-Some (λ (o : Opening). is_doubted o.entry.mark) O.all i no_opening is in
+    let at = position-Some (λ (o : TransactionState). is_doubted o.entry.mark) O.all i no_transaction is in
     let calm = calm_at O.all (subst (DoubtsAs (state S.flash).image S.noted (entries_of O) (namings_of O)) sure k.doubt) i at.0 in
-    both_ways (is_doubted (opening_at O i).entry.mark) calm at.1
+    both_ways (is_doubted (transaction_at O i).entry.mark) calm at.1
 
 -- where all but the flash stays no version rose, and the state did not settle
-pub rises_unread : {F : Type 0} (old new : Standing F) → new ≡ record old { flash = new.flash } → VersionsRise old new []
+pub rises_unread : {F : Type 0} (old new : DeviceState F) → new ≡ record old { flash = new.flash } → VersionsRise old new []
 rises_unread old new stays = record {
   rises = All-nil (λ (w : PageWrite). current_of old.noted w.page < current_of new.noted w.page);
-  stays = λ page low others. ap (λ (s : Standing _). current_of s.noted page) stays;
+  stays = λ page low others. ap (λ (s : DeviceState _). current_of s.noted page) stays;
 }
 
-pub not_settled : {F : Type 0} (there : Bool) (old new : Standing F) → new ≡ record old { flash = new.flash } → SettlesOrNot there old new
-not_settled there old new stays = inl (ap (λ (s : Standing _). s.machine.pages) stays, rises_unread old new stays)
+pub not_settled : {F : Type 0} (there : Bool) (old new : DeviceState F) → new ≡ record old { flash = new.flash } → SettlesOrNot there old new
+not_settled there old new stays = inl (ap (λ (s : DeviceState _). s.machine.pages) stays, rises_unread old new stays)

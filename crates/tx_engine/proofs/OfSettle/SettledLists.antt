@@ -1,33 +1,19 @@
 -- How the open transactions settle, at most one of which is in doubt.
-use Rattle.std.proofs.Common.{◌≡◌, ◌≢◌, ℕ, zero, suc, ◌<◌, Bool, true, false, not, ◌&&◌, List, [], ◌∷◌, ◌++◌, length, map, get_or, All, refl, sym, ap, ap₂, ◌∙◌}
-use Rattle.std.proofs.Common.{arith}
-use Rattle.std.specs.Prelude.{slice_set}
-use Rattle.std.specs.List.{list_any, zip}
-use Rattle.std.proofs.lemmas.Bool.{cond-true, cond-false, and_from, and_left, and_right, or_left, or_right, or_from, ne_eqb, eq-eqb}
-use Rattle.std.proofs.lemmas.List.{append-nil}
-use Rattle.std.proofs.lemmas.List.Elements.{All-head, All-tail, All-cons, All-nil}
-use Rattle.tx_types.specs.declared.record.Link.{Link}
-use Rattle.flash_model.specs.Flash.{Contents}
-use Rattle.version_index.specs.Images.{current_in}
-use Rattle.version_index.specs.Noted.{Noted, current_of}
-use Rattle.tx_engine.specs.ArrayState.{Entry, is_doubted}
-use Rattle.array_machine.specs.declared.mark.Mark.{Mark}
-use Rattle.array_machine.specs.declared.mark.Mark.TheVariants.{Plain, Doubt, Whole}
-use Rattle.tx_engine.specs.Step.{settled_mark, settled_entry, doubted}
+use Rattle.tx_engine.proofs.Common.{◌≡◌, ◌≢◌, ℕ, zero, suc, ◌<◌, Bool, true, false, not, ◌&&◌, List, [], ◌∷◌, ◌++◌, length, map, get_or, All, refl, sym, ap, ap₂, ◌∙◌, arith, slice_set, list_any, zip, cond-true, cond-false, and_from, append-nil, All-head, All-tail, All-cons, All-nil, Link, Contents, current_in, IndexState, current_of, Entry, is_doubted, Mark, Plain, Doubt, Whole, settled_mark, settled_entry, Naming, TransactionState, no_transaction}
+use Rattle.std.proofs.lemmas.Bool.{and_left, and_right, or_left, or_right, or_from, ne_eqb, eq-eqb}
+use Rattle.tx_engine.specs.Step.{doubted}
 use Rattle.tx_engine.specs.Exits.{has_moved}
-use Rattle.tx_engine.specs.Standing.{Naming}
-use Rattle.tx_engine.specs.OpenTable.{Opening, no_opening}
-use Rattle.tx_engine.proofs.OfStanding.Kept.{IsCalm}
+use Rattle.tx_engine.proofs.OfDevice.Kept.{IsCalm}
 
-abbrev pub entries_in : List Opening → List Entry
+abbrev pub entries_in : List TransactionState → List Entry
 entries_in all = map (λ o. o.entry) all
 
-abbrev pub namings_in : List Opening → List Naming
+abbrev pub namings_in : List TransactionState → List Naming
 namings_in all = map (λ o. o.naming) all
 
 -- each open transaction but one is not in doubt
-abbrev pub CalmBeside : List Opening → ℕ → Type 0
-CalmBeside all i = (k : ℕ) → k < length all → k ≢ i → IsCalm (get_or all k no_opening).entry
+abbrev pub CalmBeside : List TransactionState → ℕ → Type 0
+CalmBeside all i = (k : ℕ) → k < length all → k ≢ i → IsCalm (get_or all k no_transaction).entry
 
 calm_mark : (there : Bool) (m : Mark) → is_doubted m ≡ false → settled_mark there m ≡ m
 calm_mark there Plain h = refl
@@ -47,21 +33,21 @@ doubted_calm [] h = refl
 doubted_calm (e ∷ es) h =
     cond-false (is_doubted e.mark) (e.writes ++ doubted es) (doubted es) (All-head IsCalm e es h) ∙ doubted_calm es (All-tail IsCalm e es h)
 
-pub calm_all : (all : List Opening) → ((k : ℕ) → k < length all → IsCalm (get_or all k no_opening).entry) → All IsCalm (entries_in all)
+pub calm_all : (all : List TransactionState) → ((k : ℕ) → k < length all → IsCalm (get_or all k no_transaction).entry) → All IsCalm (entries_in all)
 calm_all [] h = All-nil IsCalm
 calm_all (o ∷ os) h = All-cons IsCalm o.entry (entries_in os) (h 0 (omega arith)) (calm_all os (λ k inside. h (suc k) (omega arith)))
 
-pub calm_at : (all : List Opening) → All IsCalm (entries_in all) → (k : ℕ) → k < length all → IsCalm (get_or all k no_opening).entry
+pub calm_at : (all : List TransactionState) → All IsCalm (entries_in all) → (k : ℕ) → k < length all → IsCalm (get_or all k no_transaction).entry
 calm_at [] h k inside = absurd (omega arith)
 calm_at (o ∷ os) h zero inside = All-head IsCalm o.entry (entries_in os) h
 calm_at (o ∷ os) h (suc k) inside = calm_at os (All-tail IsCalm o.entry (entries_in os) h) k (omega arith)
 
-beside_rest : (o : Opening) (os : List Opening) (i : ℕ) → CalmBeside (o ∷ os) (suc i) → CalmBeside os i
+beside_rest : (o : TransactionState) (os : List TransactionState) (i : ℕ) → CalmBeside (o ∷ os) (suc i) → CalmBeside os i
 beside_rest o os i h k inside other = h (suc k) (omega arith) (λ e. other (omega arith))
 
 -- the one in doubt settles
-pub settled_at : (there : Bool) (all : List Opening) (i : ℕ) (new : Opening) → i < length all → CalmBeside all i →
-    new.entry ≡ settled_entry there (get_or all i no_opening).entry → map (settled_entry there) (entries_in all) ≡ entries_in (slice_set all i new)
+pub settled_at : (there : Bool) (all : List TransactionState) (i : ℕ) (new : TransactionState) → i < length all → CalmBeside all i →
+    new.entry ≡ settled_entry there (get_or all i no_transaction).entry → map (settled_entry there) (entries_in all) ≡ entries_in (slice_set all i new)
 settled_at there [] i new within others is = absurd (omega arith)
 settled_at there (o ∷ os) zero new within others is =
     ap₂ (λ f fs. f ∷ fs) (sym is) (settled_calm there (entries_in os) (calm_all os (λ k inside. others (suc k) (omega arith) (λ e. absurd (omega arith)))))
@@ -70,8 +56,8 @@ settled_at there (o ∷ os) (suc i) new within others is =
     (settled_at there os i new (omega arith) (beside_rest o os i others) is)
 
 -- and what it writes is all that is in doubt
-pub doubted_at : (all : List Opening) (i : ℕ) → i < length all → CalmBeside all i → is_doubted (get_or all i no_opening).entry.mark ≡ true →
-    doubted (entries_in all) ≡ (get_or all i no_opening).entry.writes
+pub doubted_at : (all : List TransactionState) (i : ℕ) → i < length all → CalmBeside all i → is_doubted (get_or all i no_transaction).entry.mark ≡ true →
+    doubted (entries_in all) ≡ (get_or all i no_transaction).entry.writes
 doubted_at [] i within others is = absurd (omega arith)
 doubted_at (o ∷ os) zero within others is =
     cond-true (is_doubted o.entry.mark) (o.entry.writes ++ doubted (entries_in os)) (doubted (entries_in os)) is
@@ -83,10 +69,10 @@ doubted_at (o ∷ os) (suc i) within others is =
     ∙ doubted_at os i (omega arith) (beside_rest o os i others) is
 
 -- whether the image has another version of the first page of a transaction in doubt
-abbrev pub any_moved : Noted → List Contents → List Opening → Bool
+abbrev pub any_moved : IndexState → List Contents → List TransactionState → Bool
 any_moved n image all = list_any (λ (e, x). is_doubted e.mark && has_moved n image x.names) (zip (entries_in all) (namings_in all))
 
-pub moved_calm : (n : Noted) (image : List Contents) (all : List Opening) → ((k : ℕ) → k < length all → IsCalm (get_or all k no_opening).entry) →
+pub moved_calm : (n : IndexState) (image : List Contents) (all : List TransactionState) → ((k : ℕ) → k < length all → IsCalm (get_or all k no_transaction).entry) →
     any_moved n image all ≡ false
 moved_calm n image [] h = refl
 moved_calm n image (o ∷ os) h =
@@ -94,16 +80,16 @@ moved_calm n image (o ∷ os) h =
     (and_left (is_doubted o.entry.mark) (has_moved n image o.naming.names) (h 0 (omega arith)))
     (moved_calm n image os (λ k inside. h (suc k) (omega arith)))
 
-pub moved_none : (n : Noted) (image : List Contents) (all : List Opening) →
-    ((k : ℕ) → k < length all → has_moved n image (get_or all k no_opening).naming.names ≡ false) → any_moved n image all ≡ false
+pub moved_none : (n : IndexState) (image : List Contents) (all : List TransactionState) →
+    ((k : ℕ) → k < length all → has_moved n image (get_or all k no_transaction).naming.names ≡ false) → any_moved n image all ≡ false
 moved_none n image [] h = refl
 moved_none n image (o ∷ os) h =
     or_from (is_doubted o.entry.mark && has_moved n image o.naming.names) (any_moved n image os)
     (and_right (is_doubted o.entry.mark) (has_moved n image o.naming.names) (h 0 (omega arith)))
     (moved_none n image os (λ k inside. h (suc k) (omega arith)))
 
-pub moved_one : (n : Noted) (image : List Contents) (all : List Opening) (i : ℕ) → i < length all → is_doubted (get_or all i no_opening).entry.mark ≡ true →
-    has_moved n image (get_or all i no_opening).naming.names ≡ true → any_moved n image all ≡ true
+pub moved_one : (n : IndexState) (image : List Contents) (all : List TransactionState) (i : ℕ) → i < length all → is_doubted (get_or all i no_transaction).entry.mark ≡ true →
+    has_moved n image (get_or all i no_transaction).naming.names ≡ true → any_moved n image all ≡ true
 moved_one n image [] i within is moved = absurd (omega arith)
 moved_one n image (o ∷ os) zero within is moved =
     or_left (is_doubted o.entry.mark && has_moved n image o.naming.names) (any_moved n image os)
@@ -112,13 +98,13 @@ moved_one n image (o ∷ os) (suc i) within is moved =
     or_right (is_doubted o.entry.mark && has_moved n image o.naming.names) (any_moved n image os) (moved_one n image os i (omega arith) is moved)
 
 -- names whose versions the image has as they are known have not moved
-pub not_moved : (n : Noted) (image : List Contents) (names : List Link) →
+pub not_moved : (n : IndexState) (image : List Contents) (names : List Link) →
     All (λ a. current_in n.config.protocol n.config.logical image a.page ≡ current_of n a.page) names → has_moved n image names ≡ false
 not_moved n image [] h = refl
 not_moved n image (a ∷ names) h = ap not (eq-eqb _ _ (h 0 a (omega arith)))
 
 -- names whose versions it has otherwise have moved
-pub are_moved : (n : Noted) (image : List Contents) (names : List Link) → 0 < length names →
+pub are_moved : (n : IndexState) (image : List Contents) (names : List Link) → 0 < length names →
     All (λ a. current_in n.config.protocol n.config.logical image a.page ≢ current_of n a.page) names → has_moved n image names ≡ true
 are_moved n image [] some h = absurd (omega arith)
 are_moved n image (a ∷ names) some h = ap not (ne_eqb _ _ (h 0 a (omega arith)))

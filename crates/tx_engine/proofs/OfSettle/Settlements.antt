@@ -1,60 +1,31 @@
 -- What settling makes of the open transactions: the record that was being programmed is there, or nothing that is known changed.
-use Rattle.std.proofs.Common.{◌≡◌, ◌≢◌, ◌⊎◌, ℕ, ◌+◌, ◌<◌, ◌≤◌, ◌==◌, Bool, true, false, List, [], length, map, get_or, All, AllPairs, Contains, Option, Some}
-use Rattle.std.proofs.Common.{refl, sym, ap, ap₂, ◌∙◌, subst, inl, inr, arith, eq-eqb, ne_eqb}
-use Rattle.std.specs.Prelude.{Any, slice_set, slice_index, position, ◌↔◌}
-use Rattle.std.proofs.lemmas.Bool.{cases_eq, cond-true, cond-false, both_ways}
-use Rattle.std.proofs.lemmas.List.{length-set, get_or-set_same, get_or-set_other}
-use Rattle.std.proofs.lemmas.List.Elements.{All-nil}
-use Rattle.std.proofs.Math.Seq.{map-set_same}
-use Rattle.list_facts.proofs.Positions.{position-at}
-use Rattle.list_facts.proofs.Quantifiers.{any_from_map}
-use Rattle.list_facts.proofs.Lists.{slice_get_map, slice_get_at}
-use Rattle.tx_types.specs.Batch.{PageWrite}
-use Rattle.tx_types.specs.Config.{slots_of}
-use Rattle.tx_types.specs.declared.config.Slot.{Slot}
-use Rattle.tx_types.specs.declared.record.Link.{Link}
-use Rattle.tx_types.specs.declared.record.Rec.{Rec}
-use Rattle.flash_model.specs.Flash.{FlashState, Contents, blank, damaged, complete, slot_at}
-use Rattle.record_list.specs.Records.{name_of}
-use Rattle.record_list.specs.Transaction.{ShareNoPage}
-use Rattle.version_index.specs.Images.{current_in}
-use Rattle.version_index.specs.Noted.{Noted, programmed, current_of, pinned_names}
-use Rattle.die_alloc.specs.BlockTable.{BlockTable}
-use Rattle.collector.specs.declared.unsure.Unsure.{Unsure}
+use Rattle.tx_engine.proofs.Common.{◌≡◌, ◌≢◌, ◌⊎◌, ℕ, ◌+◌, ◌<◌, ◌≤◌, ◌==◌, Bool, true, false, List, [], length, map, get_or, All, AllPairs, Contains, Option, Some, refl, sym, ap, ap₂, ◌∙◌, subst, inl, inr, arith, eq-eqb, ne_eqb, Any, slice_set, slice_index, position, ◌↔◌, cases_eq, cond-true, cond-false, both_ways, length-set, get_or-set_same, get_or-set_other, All-nil, map-set_same, PageWrite, slots_of, Slot, Link, Rec, FlashState, Contents, blank, damaged, complete, slot_at, name_of, ShareNoPage, current_in, IndexState, programmed, current_of, pinned_names, BlocksState, Unsure, array_known, Matches, CanTake, CanTakeOwn, Preserves, KeepsArray, settlement, Settlement, ArrayState, Entry, Pages, put, is_doubted, page_at, pending_pages, Mark, Plain, Doubt, Whole, settled_writes, Naming, IsAsMarked, IsUnderWay, DoubtsAs, IsOwn, name_at, write_at, text_in, no_name, settled, settled_mark, settled_entry, OpenTransactionsState, TransactionState, no_transaction, transaction_at, entries_of, namings_of, with_transaction, with_mark, with_noted_count, with_next, is_writing, ArrayStays, ImageIsSound, NotingKeeps}
+use Rattle.list_lemmas.proofs.Positions.{position-at}
+use Rattle.list_lemmas.proofs.Quantifiers.{any_from_map}
+use Rattle.list_lemmas.proofs.Lists.{slice_get_map, slice_get_at}
 use Rattle.collector.specs.declared.unsure.Unsure.TheVariants as unsure
 use Rattle.collector.specs.declared.unsure.Settled.TheVariants as found
-use Rattle.collector.specs.Known.{array_known}
-use Rattle.collector.specs.Matches.{Matches, CanTake, CanTakeOwn}
-use Rattle.collector.specs.Preserves.{Preserves, KeepsArray}
-use Rattle.collector.specs.Settling.{settlement, own_settled, Settlement}
-use Rattle.tx_engine.specs.ArrayState.{ArrayState, Entry, Pages, put, is_doubted, page_at, pending_pages}
-use Rattle.array_machine.specs.declared.mark.Mark.{Mark}
-use Rattle.array_machine.specs.declared.mark.Mark.TheVariants.{Plain, Doubt, Whole}
-use Rattle.tx_engine.specs.Exits.{MentionsRise, settled_writes}
-use Rattle.tx_engine.specs.Standing.{Naming, IsAsMarked, IsUnderWay, DoubtsAs, IsOwn, name_at, write_at, text_in, no_name}
-use Rattle.tx_engine.specs.Step.{settled, settled_mark, settled_entry, doubted}
-use Rattle.tx_engine.specs.OpenTable.{OpenTable, Opening, no_opening, opening_at, entries_of, namings_of, with_opening, with_mark, with_noted_count}
-use Rattle.tx_engine.specs.Settling.{with_next, is_writing}
-use Rattle.tx_engine.proofs.OfStanding.Arrays.{as_many_names}
+use Rattle.collector.specs.Settling.{own_settled}
+use Rattle.tx_engine.specs.Exits.{MentionsRise}
+use Rattle.tx_engine.specs.Step.{doubted}
+use Rattle.tx_engine.proofs.OfDevice.Arrays.{as_many_names}
 use Rattle.tx_engine.proofs.OfLaws.DevicesStand.{settles_there, text_there, spare_other, doubt_is}
-use Rattle.tx_engine.proofs.OfStanding.OpenOnes.{under_way, take_unsure}
-use Rattle.tx_engine.proofs.OfStanding.Kept.{IsKept, IsOpening, IsCalm, HasSameParts, kept_with, each_stays}
+use Rattle.tx_engine.proofs.OfDevice.OpenOnes.{under_way, take_unsure}
+use Rattle.tx_engine.proofs.OfDevice.Kept.{BlocksInvariant, IsTransaction, IsCalm, HasSameParts, kept_with, each_stays}
 use Rattle.tx_engine.proofs.OfSettle.SettledLists.{CalmBeside, calm_all, calm_at, calm_entry, entries_in, any_moved, settled_at, settled_calm, doubted_at}
 use Rattle.tx_engine.proofs.OfSettle.SettledLists.{moved_calm, moved_none, moved_one, not_moved, are_moved}
-use Rattle.tx_engine.proofs.OfStanding.ExitsThen.{NamedBefore}
+use Rattle.tx_engine.proofs.OfDevice.ExitsThen.{NamedBefore}
 use Rattle.tx_engine.proofs.OfSettle.NextNoted.{IsNextOf, next_kept, next_parts, names_before, next_stays, next_array, last_current, last_rises, last_array}
 use Rattle.tx_engine.proofs.OfSettle.NextNoted.{next_versions, writes_rise, writes_stay, next_mentions}
-use Rattle.tx_engine.proofs.OfStanding.ImageMoves.{KeepsNoted}
-use Rattle.collector.specs.Laws.{ArraysStay}
-use Rattle.collector.specs.Laws.{ImagesStand, NotedWrites}
+use Rattle.tx_engine.proofs.OfDevice.ImageMoves.{KeepsNoted}
 
 -- the state of the array machine of tables and open transactions
-abbrev pub machine_in : Noted → List Contents → List Opening → ArrayState
+abbrev pub machine_in : IndexState → List Contents → List TransactionState → ArrayState
 machine_in n image all = record { pages = array_known n image; entries = map (λ o. o.entry) all }
 
 -- what settling leaves
-pub record IsSettledAs (s : FlashState) (n n' : Noted) (t' : BlockTable) (o o' : OpenTable) : Type 0 where
-  pub kept : IsKept s n' t' unsure.Nothing o'
+pub record IsSettledAs (s : FlashState) (n n' : IndexState) (t' : BlocksState) (o o' : OpenTransactionsState) : Type 0 where
+  pub kept : BlocksInvariant s n' t' unsure.Nothing o'
   pub machine : machine_in n' s.image o'.all ≡ settled (any_moved n s.image o.all) (machine_in n s.image o.all)
   pub rises : All (λ w. current_of n w.page < current_of n' w.page) (settled_writes (any_moved n s.image o.all) (machine_in n s.image o.all))
   pub stays : (page : ℕ) → page < n.config.logical → All (λ w. w.page ≢ page) (settled_writes (any_moved n s.image o.all) (machine_in n s.image o.all)) →
@@ -89,61 +60,61 @@ none_of : {X : Type 0} (P : X → Type 0) (xs : List X) → xs ≡ [] → All P 
 none_of P xs is = subst (All P) (sym is) (All-nil P)
 
 -- The record of an open transaction that was being programmed
-pub record IsFoundOwn (n : Noted) (image : List Contents) (o : OpenTable) (w : Option ℕ) (m : Noted) : Type 0 where
+pub record IsFoundOwn (n : IndexState) (image : List Contents) (o : OpenTransactionsState) (w : Option ℕ) (m : IndexState) : Type 0 where
   pub at : ℕ
   pub rec : Rec
   pub place : ℕ
   pub within : place < length o.all
   pub is_place : w ≡ Some place
   pub noted : m ≡ programmed n at rec
-  pub next : IsNextOf n.config.protocol n at rec image (opening_at o place)
+  pub next : IsNextOf n.config.protocol n at rec image (transaction_at o place)
   pub calm : CalmBeside o.all place
-  pub not_whole : (opening_at o place).entry.mark ≢ Whole
-  pub doubt : is_doubted (opening_at o place).entry.mark ≡ ((opening_at o place).entry.done + 1 == length (opening_at o place).entry.writes)
+  pub not_whole : (transaction_at o place).entry.mark ≢ Whole
+  pub doubt : is_doubted (transaction_at o place).entry.mark ≡ ((transaction_at o place).entry.done + 1 == length (transaction_at o place).entry.writes)
 
 plain_is : (m : Mark) → m ≢ Whole → is_doubted m ≡ false → m ≡ Plain
 plain_is Plain h calm = refl
 plain_is Doubt h calm = cc
 plain_is Whole h calm = absurd (h refl)
 
-can_take_kept : (s : FlashState) (n : Noted) (t : BlockTable) (u : Unsure) (o : OpenTable) → IsKept s n t u o → CanTake n t u
+can_take_kept : (s : FlashState) (n : IndexState) (t : BlocksState) (u : Unsure) (o : OpenTransactionsState) → BlocksInvariant s n t u o → CanTake n t u
 can_take_kept s n t u o k =
     take_unsure s.image n t (entries_of o) (namings_of o) u k.doubt k.matches.spared
-    (λ name any. (k.pinned name).1 (any_from_map (λ (x : Opening). x.naming) (λ x. Contains x.names name) o.all no_opening any))
+    (λ name any. (k.pinned name).1 (any_from_map (λ (x : TransactionState). x.naming) (λ x. Contains x.names name) o.all no_transaction any))
 
 -- the one whose next page it is, is the one that was being written
-is_only_writing : (o : OpenTable) (place : ℕ) (rec : Rec) → AllPairs (λ a b. ShareNoPage a.naming.names b.naming.names) o.all →
-    ((k : ℕ) → k < length o.all → (opening_at o k).entry.done < length (opening_at o k).naming.names) →
-    place < length o.all → name_of rec ≡ name_at (opening_at o place).naming (opening_at o place).entry.done → position (is_writing rec.page) o.all ≡ Some place
+is_only_writing : (o : OpenTransactionsState) (place : ℕ) (rec : Rec) → AllPairs (λ a b. ShareNoPage a.naming.names b.naming.names) o.all →
+    ((k : ℕ) → k < length o.all → (transaction_at o k).entry.done < length (transaction_at o k).naming.names) →
+    place < length o.all → name_of rec ≡ name_at (transaction_at o place).naming (transaction_at o place).entry.done → position (is_writing rec.page) o.all ≡ Some place
 is_only_writing o place rec apart done within name =
-    position-at (is_writing rec.page) o.all no_opening place within
+    position-at (is_writing rec.page) o.all no_transaction place within
     (λ k less.
     let inside : k < length o.all = omega arith in
-    let share = apart k place no_opening less within in
-    ne_eqb (name_at (opening_at o k).naming (opening_at o k).entry.done).page rec.page (λ same.
-    share (opening_at o k).entry.done no_name (done k inside) (opening_at o place).entry.done no_name (done place within)
+    let share = apart k place no_transaction less within in
+    ne_eqb (name_at (transaction_at o k).naming (transaction_at o k).entry.done).page rec.page (λ same.
+    share (transaction_at o k).entry.done no_name (done k inside) (transaction_at o place).entry.done no_name (done place within)
     (same ∙ ap (λ (a : Link). a.page) name)))
-    (eq-eqb (name_at (opening_at o place).naming (opening_at o place).entry.done).page rec.page (ap (λ (a : Link). a.page) (sym name)))
+    (eq-eqb (name_at (transaction_at o place).naming (transaction_at o place).entry.done).page rec.page (ap (λ (a : Link). a.page) (sym name)))
 
-module _ (s : FlashState) (n : Noted) (t : BlockTable) (o : OpenTable) (settles : ImagesStand n.config.protocol) (notes : NotedWrites n.config.protocol) where
-  own_found : (at : Slot) (rec : Rec) (w : Option ℕ) (bytes spare : List ℕ) → IsKept s n t (unsure.Own at rec) o → w ≡ position (is_writing rec.page) o.all →
+module _ (s : FlashState) (n : IndexState) (t : BlocksState) (o : OpenTransactionsState) (settles : ImageIsSound n.config.protocol) (notes : NotingKeeps n.config.protocol) where
+  own_found : (at : Slot) (rec : Rec) (w : Option ℕ) (bytes spare : List ℕ) → BlocksInvariant s n t (unsure.Own at rec) o → w ≡ position (is_writing rec.page) o.all →
       slot_at s.image at.0 ≡ complete bytes spare → IsFoundOwn n s.image o w (settlement n t s.image (unsure.Own at rec)).noted
   own_found at rec w bytes spare k writer is =
       let own : IsOwn s.image n (entries_of o) (namings_of o) at rec = k.doubt in
       let take : CanTakeOwn n t rec = can_take_kept s n t (unsure.Own at rec) o k in
       let i = own.place in
-      let entry = slice_get_map (λ (x : Opening). x.entry) o.all i no_opening own.entry own.is_entry in
-      let naming = slice_get_map (λ (x : Opening). x.naming) o.all i no_opening own.naming own.is_naming in
-      let its = opening_at o i in
-      let open_as = k.each i no_opening entry.0 in
+      let entry = slice_get_map (λ (x : TransactionState). x.entry) o.all i no_transaction own.entry own.is_entry in
+      let naming = slice_get_map (λ (x : TransactionState). x.naming) o.all i no_transaction own.naming own.is_naming in
+      let its = transaction_at o i in
+      let open_as = k.each i no_transaction entry.0 in
       let not_whole : its.entry.mark ≢ Whole = λ h. own.not_whole (ap (λ (e : Entry). e.mark) (sym entry.1) ∙ h) in
       let doubt : is_doubted its.entry.mark ≡ (its.entry.done + 1 == length its.entry.writes) =
       subst (λ (e : Entry). is_doubted e.mark ≡ (e.done + 1 == length e.writes)) (sym entry.1) own.doubt in
       let name : name_of rec ≡ name_at its.naming its.entry.done =
       own.named ∙ ap₂ (λ (x : Naming) (e : Entry). name_at x e.done) (sym naming.1) (sym entry.1) in
-      let done : (j : ℕ) → j < length o.all → (opening_at o j).entry.done < length (opening_at o j).naming.names = λ j inside.
-      let known = (k.each j no_opening inside).named in
-      omega (arith, known.within, as_many_names (opening_at o j).naming.names (opening_at o j).entry.writes known.pages) in
+      let done : (j : ℕ) → j < length o.all → (transaction_at o j).entry.done < length (transaction_at o j).naming.names = λ j inside.
+      let known = (k.each j no_transaction inside).named in
+      omega (arith, known.within, as_many_names (transaction_at o j).naming.names (transaction_at o j).entry.writes known.pages) in
       record {
         at = at.0;
         rec = rec;
@@ -167,12 +138,12 @@ module _ (s : FlashState) (n : Noted) (t : BlockTable) (o : OpenTable) (settles 
               ∙ ap (λ (e : Entry). Some (text_in n.config.page_bytes (write_at e e.done))) (sym entry.1);
           plain = λ more. plain_is its.entry.mark not_whole (doubt ∙ ne_eqb (its.entry.done + 1) (length its.entry.writes) more);
         };
-        calm = λ j inside other. own.others j (opening_at o j).entry other (slice_get_at (λ (x : Opening). x.entry) o.all j no_opening inside);
+        calm = λ j inside other. own.others j (transaction_at o j).entry other (slice_get_at (λ (x : TransactionState). x.entry) o.all j no_transaction inside);
         not_whole = not_whole;
         doubt = doubt;
       }
 
-  own_cases : (at : Slot) (rec : Rec) (w : Option ℕ) (c : Contents) → IsKept s n t (unsure.Own at rec) o → w ≡ position (is_writing rec.page) o.all →
+  own_cases : (at : Slot) (rec : Rec) (w : Option ℕ) (c : Contents) → BlocksInvariant s n t (unsure.Own at rec) o → w ≡ position (is_writing rec.page) o.all →
       slot_at s.image at.0 ≡ c → (settlement n t s.image (unsure.Own at rec)).answer ≡ found.Present →
       IsFoundOwn n s.image o w (settlement n t s.image (unsure.Own at rec)).noted
   own_cases at rec w blank k writer is present =
@@ -183,7 +154,7 @@ module _ (s : FlashState) (n : Noted) (t : BlockTable) (o : OpenTable) (settles 
       let both : found.Missing ≡ found.Present = sym same ∙ present in cc
   own_cases at rec w (complete bytes spare) k writer is present = own_found at rec w bytes spare k writer is
 
-  pub present_found : (u : Unsure) (w : Option ℕ) → IsKept s n t u o →
+  pub present_found : (u : Unsure) (w : Option ℕ) → BlocksInvariant s n t u o →
       ((at : Slot) (rec : Rec) → u ≡ unsure.Own at rec → w ≡ position (is_writing rec.page) o.all) →
       (settlement n t s.image u).answer ≡ found.Present → IsFoundOwn n s.image o w (settlement n t s.image u).noted
   present_found unsure.Nothing w k writer present = cc
@@ -193,16 +164,16 @@ module _ (s : FlashState) (n : Noted) (t : BlockTable) (o : OpenTable) (settles 
   present_found (unsure.VictimErase block) w k writer present = absurd (spare_other _ n t _ refl present)
 
 -- a version that is known once the record is noted, where the image has it
-module _ (s : FlashState) (n : Noted) (t t' : BlockTable) (u : Unsure) (o : OpenTable) (notes : NotedWrites n.config.protocol) (i at : ℕ) (rec : Rec)
-    (k : IsKept s n t u o) (within : i < length o.all)
-    (h : IsNextOf n.config.protocol n at rec s.image (opening_at o i)) (calm : CalmBeside o.all i)
-    (doubt : is_doubted (opening_at o i).entry.mark ≡ ((opening_at o i).entry.done + 1 == length (opening_at o i).entry.writes))
+module _ (s : FlashState) (n : IndexState) (t t' : BlocksState) (u : Unsure) (o : OpenTransactionsState) (notes : NotingKeeps n.config.protocol) (i at : ℕ) (rec : Rec)
+    (k : BlocksInvariant s n t u o) (within : i < length o.all)
+    (h : IsNextOf n.config.protocol n at rec s.image (transaction_at o i)) (calm : CalmBeside o.all i)
+    (doubt : is_doubted (transaction_at o i).entry.mark ≡ ((transaction_at o i).entry.done + 1 == length (transaction_at o i).entry.writes))
     (m' : Matches s (programmed n at rec) t' unsure.Nothing)
     (current : (page : ℕ) → current_in n.config.protocol n.config.logical s.image page ≡ current_of (programmed n at rec) page) where
-  abbrev its : Opening
-  its = opening_at o i
+  abbrev its : TransactionState
+  its = transaction_at o i
 
-  abbrev now : Noted
+  abbrev now : IndexState
   now = programmed n at rec
 
   abbrev before : ArrayState
@@ -221,23 +192,23 @@ module _ (s : FlashState) (n : Noted) (t t' : BlockTable) (u : Unsure) (o : Open
       ∙ is in
       absurd (omega arith)))
 
-  calm_more : its.entry.done + 1 ≢ length its.entry.writes → (j : ℕ) → j < length o.all → IsCalm (get_or o.all j no_opening).entry
+  calm_more : its.entry.done + 1 ≢ length its.entry.writes → (j : ℕ) → j < length o.all → IsCalm (get_or o.all j no_transaction).entry
   calm_more more j inside = elim (cases_eq j i) [
-    | inl same ↦ subst (λ (x : Opening). IsCalm x.entry) (ap (λ a. get_or o.all a no_opening) (sym same))
+    | inl same ↦ subst (λ (x : TransactionState). IsCalm x.entry) (ap (λ a. get_or o.all a no_transaction) (sym same))
         (doubt ∙ ne_eqb (its.entry.done + 1) (length its.entry.writes) more)
     | inr other ↦ calm j inside other
   ]
 
   next_entry_more : its.entry.done + 1 ≢ length its.entry.writes → (with_next its).entry ≡ its.entry
   next_entry_more more =
-      ap (λ (x : Opening). x.entry)
+      ap (λ (x : TransactionState). x.entry)
       (cond-false (its.naming.noted_count + 1 == length its.entry.writes) (with_mark (with_noted_count its (its.naming.noted_count + 1)) Whole)
       (with_noted_count its (its.naming.noted_count + 1))
       (ne_eqb (its.naming.noted_count + 1) (length its.entry.writes) (λ e. more (ap (λ a. a + 1) (sym h.due) ∙ e))))
 
   next_entry_last : its.entry.done + 1 ≡ length its.entry.writes → (with_next its).entry ≡ record its.entry { mark = Whole }
   next_entry_last last =
-      ap (λ (x : Opening). x.entry)
+      ap (λ (x : TransactionState). x.entry)
       (cond-true (its.naming.noted_count + 1 == length its.entry.writes) (with_mark (with_noted_count its (its.naming.noted_count + 1)) Whole)
       (with_noted_count its (its.naming.noted_count + 1))
       (eq-eqb (its.naming.noted_count + 1) (length its.entry.writes) (ap (λ a. a + 1) h.due ∙ last)))
@@ -251,7 +222,7 @@ module _ (s : FlashState) (n : Noted) (t t' : BlockTable) (u : Unsure) (o : Open
   own_stay : KeepsNoted n s.image s.image
   own_stay name there = refl
 
-  pub found_settled : IsSettledAs s n now t' o (with_opening o i (with_next its))
+  pub found_settled : IsSettledAs s n now t' o (with_transaction o i (with_next its))
   found_settled = record {
     kept = next_kept n.config.protocol notes s s n t t' u o i at rec k within k.each calm h m';
     machine = elim (cases_eq (its.entry.done + 1) (length its.entry.writes)) [
@@ -284,11 +255,11 @@ module _ (s : FlashState) (n : Noted) (t t' : BlockTable) (u : Unsure) (o : Open
     versions = next_versions n.config.protocol notes n at rec s.image s.image its h own_stay;
     mentions = next_mentions n.config.protocol notes n at rec s.image s.image its h o.all i within refl;
     names = names_before o.all (slice_set o.all i (with_next its))
-        (map-set_same (λ (x : Opening). x.naming.names) o.all i (with_next its) no_opening (next_parts its).names);
+        (map-set_same (λ (x : TransactionState). x.naming.names) o.all i (with_next its) no_transaction (next_parts its).names);
   }
 
 -- Nothing that is known of pages changed
-module _ (s : FlashState) (n m : Noted) (t t' : BlockTable) (u : Unsure) (o : OpenTable) (law : ArraysStay n.config.protocol) (k : IsKept s n t u o)
+module _ (s : FlashState) (n m : IndexState) (t t' : BlocksState) (u : Unsure) (o : OpenTransactionsState) (law : ArrayStays n.config.protocol) (k : BlocksInvariant s n t u o)
     (m' : Matches s m t' unsure.Nothing) (keep : Preserves n m)
     (current : (page : ℕ) → current_in n.config.protocol n.config.logical s.image page ≡ current_of m page) where
   same_image : KeepsArray n.config.protocol n.config.logical s.image s.image
@@ -298,15 +269,15 @@ module _ (s : FlashState) (n m : Noted) (t t' : BlockTable) (u : Unsure) (o : Op
   same_known = law.array s s n m t t' u unsure.Nothing k.matches m' refl keep same_image
 
   is_gone : any_moved n s.image o.all ≡ false
-  is_gone = moved_none n s.image o.all (λ j inside. not_moved n s.image (get_or o.all j no_opening).naming.names (λ a d within.
-      current (get_or (get_or o.all j no_opening).naming.names a d).page
-      ∙ keep.current (get_or (get_or o.all j no_opening).naming.names a d).page ((k.each j no_opening inside).named.transaction.in_range a d within).0))
+  is_gone = moved_none n s.image o.all (λ j inside. not_moved n s.image (get_or o.all j no_transaction).naming.names (λ a d within.
+      current (get_or (get_or o.all j no_transaction).naming.names a d).page
+      ∙ keep.current (get_or (get_or o.all j no_transaction).naming.names a d).page ((k.each j no_transaction inside).named.transaction.in_range a d within).0))
 
-  each_now : All (IsOpening s.image m) o.all
+  each_now : All (IsTransaction s.image m) o.all
   each_now = each_stays s s n m t t' u unsure.Nothing o law k m' keep same_image
 
-  left_alone : (o' : OpenTable) → IsKept s m t' unsure.Nothing o' → map (settled_entry false) (entries_in o.all) ≡ entries_in o'.all →
-      map (λ (x : Opening). x.naming.names) o'.all ≡ map (λ (x : Opening). x.naming.names) o.all → IsSettledAs s n m t' o o'
+  left_alone : (o' : OpenTransactionsState) → BlocksInvariant s m t' unsure.Nothing o' → map (settled_entry false) (entries_in o.all) ≡ entries_in o'.all →
+      map (λ (x : TransactionState). x.naming.names) o'.all ≡ map (λ (x : TransactionState). x.naming.names) o.all → IsSettledAs s n m t' o o'
   left_alone o' k' entries names = record {
     kept = k';
     machine = settled_gone (any_moved n s.image o.all) (array_known n s.image) (array_known m s.image) (entries_in o.all) (entries_in o'.all) is_gone same_known
@@ -326,30 +297,30 @@ module _ (s : FlashState) (n m : Noted) (t t' : BlockTable) (u : Unsure) (o : Op
   doubt_plain Doubt e x is w = w.0
   doubt_plain Whole e x is w = cc
 
-  pub doubt_settled : (i : ℕ) → i < length o.all → CalmBeside o.all i → is_doubted (opening_at o i).entry.mark ≡ true →
-      IsSettledAs s n m t' o (with_opening o i (with_mark (opening_at o i) Plain))
+  pub doubt_settled : (i : ℕ) → i < length o.all → CalmBeside o.all i → is_doubted (transaction_at o i).entry.mark ≡ true →
+      IsSettledAs s n m t' o (with_transaction o i (with_mark (transaction_at o i) Plain))
   doubt_settled i within calm is =
-      let its = opening_at o i in
+      let its = transaction_at o i in
       let plain = with_mark its Plain in
       let parts : HasSameParts its plain = record { tag = refl; writes = refl; names = refl } in
-      let here = each_now i no_opening within in
-      let own : IsOpening s.image m plain = record {
+      let here = each_now i no_transaction within in
+      let own : IsTransaction s.image m plain = record {
         named = record { pages = here.named.pages; within = here.named.within; whole = here.named.whole; transaction = here.named.transaction };
         marked = (let w = doubt_plain its.entry.mark its.entry its.naming is here.marked in
             record { in_progress = w.in_progress; least = w.least; most = w.most; short = w.short; noted = w.noted; texts = w.texts });
       } in
-      left_alone (with_opening o i plain)
-      (kept_with s s n m t t' u unsure.Nothing o i plain k within parts m' keep.config keep.pins (λ j inside other. each_now j no_opening inside) own
+      left_alone (with_transaction o i plain)
+      (kept_with s s n m t t' u unsure.Nothing o i plain k within parts m' keep.config keep.pins (λ j inside other. each_now j no_transaction inside) own
       (calm_all (slice_set o.all i plain) (λ j inside. elim (cases_eq j i) [
-        | inl same ↦ subst (λ (x : Opening). IsCalm x.entry)
-            (sym (get_or-set_same o.all i plain no_opening within) ∙ ap (λ a. get_or (slice_set o.all i plain) a no_opening) (sym same)) refl
-        | inr other ↦ subst (λ (x : Opening). IsCalm x.entry) (sym (get_or-set_other o.all i j plain no_opening other))
+        | inl same ↦ subst (λ (x : TransactionState). IsCalm x.entry)
+            (sym (get_or-set_same o.all i plain no_transaction within) ∙ ap (λ a. get_or (slice_set o.all i plain) a no_transaction) (sym same)) refl
+        | inr other ↦ subst (λ (x : TransactionState). IsCalm x.entry) (sym (get_or-set_other o.all i j plain no_transaction other))
             (calm j (subst (λ len. j < len) (length-set o.all i plain) inside) other)
       ])))
       (settled_at false o.all i plain within calm (ap (λ q. record its.entry { mark = settled_mark false q }) (sym (doubt_is its.entry.mark is))))
-      (map-set_same (λ (x : Opening). x.naming.names) o.all i plain no_opening refl)
+      (map-set_same (λ (x : TransactionState). x.naming.names) o.all i plain no_transaction refl)
 
-  pub calm_settled : ((j : ℕ) → j < length o.all → IsCalm (get_or o.all j no_opening).entry) → IsSettledAs s n m t' o o
+  pub calm_settled : ((j : ℕ) → j < length o.all → IsCalm (get_or o.all j no_transaction).entry) → IsSettledAs s n m t' o o
   calm_settled calm =
       left_alone o (record {
         matches = m';
@@ -363,18 +334,18 @@ module _ (s : FlashState) (n m : Noted) (t t' : BlockTable) (u : Unsure) (o : Op
       (settled_calm false (entries_in o.all) (calm_all o.all calm)) refl
 
 -- which transaction is in doubt
-pub doubted_beside : (image : List Contents) (n : Noted) (o : OpenTable) (u : Unsure) → DoubtsAs image n (entries_of o) (namings_of o) u → (i : ℕ) →
+pub doubted_beside : (image : List Contents) (n : IndexState) (o : OpenTransactionsState) (u : Unsure) → DoubtsAs image n (entries_of o) (namings_of o) u → (i : ℕ) →
     i < length o.all →
-    is_doubted (opening_at o i).entry.mark ≡ true → CalmBeside o.all i
+    is_doubted (transaction_at o i).entry.mark ≡ true → CalmBeside o.all i
 doubted_beside image n o (unsure.Own at rec) own i within is = elim (cases_eq i own.place) [
-  | inl same ↦ λ j inside other. own.others j (opening_at o j).entry (λ e. other (e ∙ sym same))
-      (slice_get_at (λ (x : Opening). x.entry) o.all j no_opening inside)
+  | inl same ↦ λ j inside other. own.others j (transaction_at o j).entry (λ e. other (e ∙ sym same))
+      (slice_get_at (λ (x : TransactionState). x.entry) o.all j no_transaction inside)
   | inr other ↦ absurd
-      (both_ways (is_doubted (opening_at o i).entry.mark)
-      (own.others i (opening_at o i).entry other (slice_get_at (λ (x : Opening). x.entry) o.all i no_opening within)) is)
+      (both_ways (is_doubted (transaction_at o i).entry.mark)
+      (own.others i (transaction_at o i).entry other (slice_get_at (λ (x : TransactionState). x.entry) o.all i no_transaction within)) is)
 ]
-doubted_beside image n o unsure.Nothing doubt i within is = absurd (both_ways (is_doubted (opening_at o i).entry.mark) (calm_at o.all doubt i within) is)
-doubted_beside image n o (unsure.Copy from to) doubt i within is = absurd (both_ways (is_doubted (opening_at o i).entry.mark) (calm_at o.all doubt i within) is)
-doubted_beside image n o unsure.SpareErase doubt i within is = absurd (both_ways (is_doubted (opening_at o i).entry.mark) (calm_at o.all doubt i within) is)
+doubted_beside image n o unsure.Nothing doubt i within is = absurd (both_ways (is_doubted (transaction_at o i).entry.mark) (calm_at o.all doubt i within) is)
+doubted_beside image n o (unsure.Copy from to) doubt i within is = absurd (both_ways (is_doubted (transaction_at o i).entry.mark) (calm_at o.all doubt i within) is)
+doubted_beside image n o unsure.SpareErase doubt i within is = absurd (both_ways (is_doubted (transaction_at o i).entry.mark) (calm_at o.all doubt i within) is)
 doubted_beside image n o (unsure.VictimErase block) doubt i within is = absurd
-    (both_ways (is_doubted (opening_at o i).entry.mark) (calm_at o.all doubt i within) is)
+    (both_ways (is_doubted (transaction_at o i).entry.mark) (calm_at o.all doubt i within) is)

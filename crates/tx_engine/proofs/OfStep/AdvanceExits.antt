@@ -1,35 +1,17 @@
 -- An open transaction of a settled device goes on.
-use Rattle.std.proofs.Common.{◌≡◌, ◌≢◌, ℕ, ◌+◌, ◌<◌, ◌≤◌, ◌==◌, true, false, not, ◌&&◌, List, [], length, Ok, Err, refl, sym, ap, ap₂, ◌∙◌, subst, inl, inr}
-use Rattle.std.proofs.Common.{arith, eqb-true, eq-eqb, ne_eqb}
-use Rattle.std.specs.Prelude.{if◌then◌else◌}
-use Rattle.std.proofs.lemmas.Bool.{cases_eq, cond-true, cond-false, cond_both, eqb-false}
-use Rattle.std.proofs.Math.Seq.{map-set_same}
-use Rattle.tx_types.specs.Batch.{PageWrite}
-use Rattle.flash_model.specs.Flash.{FlashState}
-use Rattle.flash_model.specs.declared.flash.Broken.{Broken}
-use Rattle.version_index.specs.Noted.{current_of}
+use Rattle.tx_engine.proofs.Common.{◌≡◌, ◌≢◌, ℕ, ◌+◌, ◌<◌, ◌≤◌, ◌==◌, true, false, not, ◌&&◌, List, [], length, Ok, Err, refl, sym, ap, ap₂, ◌∙◌, subst, inl, inr, arith, eqb-true, eq-eqb, ne_eqb, if◌then◌else◌, cases_eq, cond-true, cond-false, cond_both, eqb-false, map-set_same, PageWrite, FlashState, Broken, current_of, ArrayState, Entry, Pages, has_tag, is_doubted, put, with_entry, without, Mark, Plain, Doubt, Whole, Progress, VersionsRise, is_plain, DeviceState, Stands, IsAsMarked, GoesOn, OpenTransactionsState, TransactionState, no_transaction, transaction_at, entries_of, with_transaction, with_mark, with_noted_count, with_next, is_at_last, next_writes, must_program, CountsOn, Counts, Advances, AdvanceRises, WriteFails, StoreState, device_in}
 use Rattle.collector.specs.declared.unsure.Unsure.TheVariants as unsure
-use Rattle.tx_engine.specs.ArrayState.{ArrayState, Entry, Pages, has_tag, is_doubted, put, with_entry, without}
-use Rattle.array_machine.specs.declared.mark.Mark.{Mark}
-use Rattle.array_machine.specs.declared.mark.Mark.TheVariants.{Plain, Doubt, Whole}
-use Rattle.array_machine.specs.declared.answers.Progress.{Progress}
 use Rattle.array_machine.specs.declared.answers.Progress.TheVariants as progress
-use Rattle.tx_engine.specs.Exits.{VersionsRise, is_plain}
-use Rattle.tx_engine.specs.Standing.{Standing, Stands, IsAsMarked}
-use Rattle.tx_engine.specs.Step.{GoesOn}
-use Rattle.tx_engine.specs.OpenTable.{OpenTable, Opening, no_opening, opening_at, entries_of, with_opening, with_mark, with_noted_count}
-use Rattle.tx_engine.specs.Settling.{with_next, is_at_last, next_writes, is_whole, is_due, CountsOn, Counts, Advances, AdvanceRises, WriteFails}
-use Rattle.tx_engine.specs.Stored.{Stored}
-use Rattle.tx_engine.specs.Tables.{standing_in}
+use Rattle.tx_engine.specs.Settling.{is_whole}
 use Rattle.tx_engine.proofs.OfAbort.Aborting.{rises_on}
-use Rattle.tx_engine.proofs.OfStanding.Kept.{from_stands}
-use Rattle.tx_engine.proofs.OfOpenings.OpenList.{IsFirstTagged, first_of_own, with_first}
+use Rattle.tx_engine.proofs.OfDevice.Kept.{from_stands}
+use Rattle.tx_engine.proofs.OfTransactions.OpenList.{IsFirstTagged, first_of_own, with_first}
 use Rattle.tx_engine.proofs.OfSettle.SettledLists.{calm_at}
 use Rattle.array_machine.proofs.UnbrokenCalls.{goes_again}
 use Rattle.tx_engine.proofs.OfWrite.WriteAfter.{settled_kept}
 
 -- Whether the next page is due
-ready_mark : (m : Mark) (o : Opening) → is_doubted m ≡ false → (m ≡ Plain → o.entry.done ≤ o.naming.noted_count) → o.entry.mark ≡ m → is_due o ≡ false →
+ready_mark : (m : Mark) (o : TransactionState) → is_doubted m ≡ false → (m ≡ Plain → o.entry.done ≤ o.naming.noted_count) → o.entry.mark ≡ m → must_program o ≡ false →
     CountsOn o
 ready_mark Plain o calm least is due =
     let none : (o.naming.noted_count == o.entry.done) ≡ false = ap (λ m. not (is_whole m) && (o.naming.noted_count == o.entry.done)) (sym is) ∙ due in
@@ -39,7 +21,7 @@ ready_mark Plain o calm least is due =
 ready_mark Doubt o calm least is due = cc
 ready_mark Whole o calm least is due = inl is
 
-due_mark : (m : Mark) (o : Opening) → is_doubted m ≡ false → o.entry.mark ≡ m → is_due o ≡ true → (o.entry.mark ≡ Plain) × (o.naming.noted_count ≡ o.entry.done)
+due_mark : (m : Mark) (o : TransactionState) → is_doubted m ≡ false → o.entry.mark ≡ m → must_program o ≡ true → (o.entry.mark ≡ Plain) × (o.naming.noted_count ≡ o.entry.done)
 due_mark Plain o calm is due =
     let same : (o.naming.noted_count == o.entry.done) ≡ true = ap (λ m. not (is_whole m) && (o.naming.noted_count == o.entry.done)) (sym is) ∙ due in
     (is, eqb-true o.naming.noted_count o.entry.done same)
@@ -47,28 +29,28 @@ due_mark Doubt o calm is due = cc
 due_mark Whole o calm is due =
     let no : false ≡ true = ap (λ m. not (is_whole m) && (o.naming.noted_count == o.entry.done)) (sym is) ∙ due in cc
 
-least_of : {F : Type 0} (state : F → FlashState) (S : Stored F) (o : Opening) (m : Mark) → IsAsMarked (state S.flash).image S.noted o.entry o.naming m →
+least_of : {F : Type 0} (state : F → FlashState) (S : StoreState F) (o : TransactionState) (m : Mark) → IsAsMarked (state S.flash).image S.noted o.entry o.naming m →
     m ≡ Plain → o.entry.done ≤ o.naming.noted_count
 least_of state S o Plain w is = w.least
 least_of state S o Doubt w is = w.0.least
 least_of state S o Whole w is = cc
 
-pub not_due_ready : {F : Type 0} (state : F → FlashState) (S : Stored F) (O : OpenTable) (i : ℕ) → Stands state (standing_in state S O) →
+pub not_due_ready : {F : Type 0} (state : F → FlashState) (S : StoreState F) (O : OpenTransactionsState) (i : ℕ) → Stands state (device_in state S O) →
     S.unsure ≡ unsure.Nothing → i < length O.all →
-    is_due (opening_at O i) ≡ false → CountsOn (opening_at O i)
+    must_program (transaction_at O i) ≡ false → CountsOn (transaction_at O i)
 not_due_ready state S O i h sure within due =
     let k = settled_kept state S O h sure in
-    let o = opening_at O i in
-    ready_mark o.entry.mark o (calm_at O.all k.doubt i within) (least_of state S o o.entry.mark (k.each i no_opening within).marked) refl due
+    let o = transaction_at O i in
+    ready_mark o.entry.mark o (calm_at O.all k.doubt i within) (least_of state S o o.entry.mark (k.each i no_transaction within).marked) refl due
 
-pub due_plain : {F : Type 0} (state : F → FlashState) (S : Stored F) (O : OpenTable) (i : ℕ) → Stands state (standing_in state S O) →
+pub due_plain : {F : Type 0} (state : F → FlashState) (S : StoreState F) (O : OpenTransactionsState) (i : ℕ) → Stands state (device_in state S O) →
     S.unsure ≡ unsure.Nothing → i < length O.all →
-    is_due (opening_at O i) ≡ true → ((opening_at O i).entry.mark ≡ Plain) × ((opening_at O i).naming.noted_count ≡ (opening_at O i).entry.done)
+    must_program (transaction_at O i) ≡ true → ((transaction_at O i).entry.mark ≡ Plain) × ((transaction_at O i).naming.noted_count ≡ (transaction_at O i).entry.done)
 due_plain state S O i h sure within due =
     let k = settled_kept state S O h sure in
-    due_mark (opening_at O i).entry.mark (opening_at O i) (calm_at O.all k.doubt i within) refl due
+    due_mark (transaction_at O i).entry.mark (transaction_at O i) (calm_at O.all k.doubt i within) refl due
 
-pub next_ready : (o : Opening) → o.entry.mark ≡ Plain → o.naming.noted_count ≡ o.entry.done → CountsOn (with_next o)
+pub next_ready : (o : TransactionState) → o.entry.mark ≡ Plain → o.naming.noted_count ≡ o.entry.done → CountsOn (with_next o)
 next_ready o plain due =
     cond_both (o.naming.noted_count + 1 == length o.entry.writes) (with_mark (with_noted_count o (o.naming.noted_count + 1)) Whole)
     (with_noted_count o (o.naming.noted_count + 1)) CountsOn
@@ -109,7 +91,7 @@ module _ (s mid new : ArrayState) (tag : ℕ) (e f : Entry) (plain : e.mark ≡ 
     | inr more ↦ (let no : Plain ≡ Whole = sym plain ∙ ap (λ (g : Entry). g.mark) (sym (same more).0) ∙ h.0 in cc)
   ]
 
-  pub written_rises : {F : Type 0} (a b c : Standing F) → VersionsRise a b (next_writes e) → ((page : ℕ) → current_of c.noted page ≡ current_of b.noted page) →
+  pub written_rises : {F : Type 0} (a b c : DeviceState F) → VersionsRise a b (next_writes e) → ((page : ℕ) → current_of c.noted page ≡ current_of b.noted page) →
       (p : Progress) → Counts mid tag f p new → AdvanceRises a c e (Ok p)
   written_rises a b c first after (progress.Wrote done all) h = elim (cases_eq (e.done + 1) (length e.writes)) [
     | inl last ↦ (let no : Plain ≡ Whole = sym h.0 ∙ ap (λ (g : Entry). g.mark) (whole last) in cc)
@@ -122,43 +104,43 @@ module _ (s mid new : ArrayState) (tag : ℕ) (e f : Entry) (plain : e.mark ≡ 
   ]
 
 -- the entries, where an opening was replaced
-pub entries_with : (o : OpenTable) (i : ℕ) (new : Opening) (tag : ℕ) → IsFirstTagged tag o.all i →
-    entries_of (with_opening o i new) ≡ with_entry tag new.entry (entries_of o)
+pub entries_with : (o : OpenTransactionsState) (i : ℕ) (new : TransactionState) (tag : ℕ) → IsFirstTagged tag o.all i →
+    entries_of (with_transaction o i new) ≡ with_entry tag new.entry (entries_of o)
 entries_with o i new tag first = sym (with_first tag o.all i new first)
 
-pub entries_same : (o : OpenTable) (i : ℕ) (tag : ℕ) → IsFirstTagged tag o.all i → with_entry tag (opening_at o i).entry (entries_of o) ≡ entries_of o
+pub entries_same : (o : OpenTransactionsState) (i : ℕ) (tag : ℕ) → IsFirstTagged tag o.all i → with_entry tag (transaction_at o i).entry (entries_of o) ≡ entries_of o
 entries_same o i tag first =
-    with_first tag o.all i (opening_at o i) first ∙ map-set_same (λ (x : Opening). x.entry) o.all i (opening_at o i) no_opening refl
+    with_first tag o.all i (transaction_at o i) first ∙ map-set_same (λ (x : TransactionState). x.entry) o.all i (transaction_at o i) no_transaction refl
 
-pub next_entry : (o : Opening) → o.naming.noted_count ≡ o.entry.done →
+pub next_entry : (o : TransactionState) → o.naming.noted_count ≡ o.entry.done →
     (o.entry.done + 1 ≡ length o.entry.writes → (with_next o).entry ≡ record o.entry { mark = Whole })
     × (o.entry.done + 1 ≢ length o.entry.writes → (with_next o).entry ≡ o.entry)
 next_entry o due = (
-  (λ last. ap (λ (x : Opening). x.entry)
+  (λ last. ap (λ (x : TransactionState). x.entry)
       (cond-true (o.naming.noted_count + 1 == length o.entry.writes) (with_mark (with_noted_count o (o.naming.noted_count + 1)) Whole)
       (with_noted_count o (o.naming.noted_count + 1))
       (eq-eqb (o.naming.noted_count + 1) (length o.entry.writes) (ap (λ k. k + 1) due ∙ last)))),
-  (λ more. ap (λ (x : Opening). x.entry)
+  (λ more. ap (λ (x : TransactionState). x.entry)
       (cond-false (o.naming.noted_count + 1 == length o.entry.writes) (with_mark (with_noted_count o (o.naming.noted_count + 1)) Whole)
       (with_noted_count o (o.naming.noted_count + 1))
       (ne_eqb (o.naming.noted_count + 1) (length o.entry.writes) (λ e. more (ap (λ k. k + 1) (sym due) ∙ e))))),
 )
 
 -- and where its write failed
-pub failed_advances : {F : Type 0} (state : F → FlashState) (S S' : Stored F) (O O' : OpenTable) (i : ℕ) (b : Broken) → Stands state (standing_in state S O) →
+pub failed_advances : {F : Type 0} (state : F → FlashState) (S S' : StoreState F) (O O' : OpenTransactionsState) (i : ℕ) (b : Broken) → Stands state (device_in state S O) →
     i < length O.all →
-    (opening_at O i).entry.mark ≡ Plain → WriteFails (standing_in state S O) (standing_in state S' O') O O' i →
-    Advances (standing_in state S O).machine (opening_at O i).entry.tag (opening_at O i).entry (Err b) (standing_in state S' O').machine
+    (transaction_at O i).entry.mark ≡ Plain → WriteFails (device_in state S O) (device_in state S' O') O O' i →
+    Advances (device_in state S O).machine (transaction_at O i).entry.tag (transaction_at O i).entry (Err b) (device_in state S' O').machine
 failed_advances state S S' O O' i b h within plain w =
     let k = from_stands state S O h in
     let first = first_of_own O.all i k.tags within in (
       plain,
       elim w.opens [
-        | inl same ↦ inl (ap₂ (λ (ps : Pages) (t : OpenTable). record { pages = ps; entries = entries_of t }) w.pages same)
+        | inl same ↦ inl (ap₂ (λ (ps : Pages) (t : OpenTransactionsState). record { pages = ps; entries = entries_of t }) w.pages same)
         | inr doubt ↦ inr (
           doubt.0,
           ap₂ (λ (ps : Pages) (es : List Entry). record { pages = ps; entries = es }) w.pages
-              (ap entries_of doubt.1 ∙ entries_with O i (with_mark (opening_at O i) Doubt) (opening_at O i).entry.tag first),
+              (ap entries_of doubt.1 ∙ entries_with O i (with_mark (transaction_at O i) Doubt) (transaction_at O i).entry.tag first),
         )
       ],
     )

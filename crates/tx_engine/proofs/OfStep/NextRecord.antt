@@ -1,57 +1,32 @@
 -- The record that an open transaction writes next: it may be programmed once nothing must go before it.
-use Rattle.std.proofs.Common.{◌≡◌, ℕ, zero, suc, ◌+◌, ◌-◌, ◌*◌, ◌^◌, ◌<◌, ◌≤◌, ◌==◌, true, false, List, [], ◌∷◌, length, map, get_or, All, Contains, None, refl}
-use Rattle.std.proofs.Common.{sym, ap, ap₂, ◌∙◌, subst, inl, inr, arith}
-use Rattle.std.specs.Prelude.{Any, find, if◌then◌else◌}
-use Rattle.std.specs.List.{flat_map, sum, sum_by}
-use Rattle.std.proofs.lemmas.List.Sums.{sum-map}
-use Rattle.std.proofs.lemmas.Bool.{cases_eq, both_ways, le-ltb}
-use Rattle.std.proofs.lemmas.List.{get_or_default}
+use Rattle.tx_engine.proofs.Common.{◌≡◌, ℕ, zero, suc, ◌+◌, ◌-◌, ◌*◌, ◌^◌, ◌<◌, ◌≤◌, ◌==◌, true, false, List, [], ◌∷◌, length, map, get_or, All, Contains, None, refl, sym, ap, ap₂, ◌∙◌, subst, inl, inr, arith, Any, find, if◌then◌else◌, flat_map, sum, sum-map, cases_eq, both_ways, le-ltb, get_or_default, All-contains, Contains-get_or, all_from, shape_of, blocks_of, Protocol, Link, Rec, FlashState, CanBeSpelled, Found, is_present, name_of, mention_at, cur, must_go, InProgress, ShareNoPage, back_version, found_named, found_in, IndexState, IsNoted, IsNextRecord, current_of, current_name_of, block_to_go, pinned_names, BlocksState, IsNextName, CanTakeOwn, Entry, is_doubted, Mark, Plain, Doubt, Whole, Naming, IsNamed, IsUnderWay, IsAsMarked, name_at, no_name, OpenTransactionsState, TransactionState, no_transaction, transaction_at}
+use Rattle.std.specs.List.{sum_by}
 use Rattle.std.proofs.lemmas.List.Concat.{length-flat_map}
-use Rattle.std.proofs.lemmas.List.Elements.{All-contains, Contains-get_or, Contains-append_left, Contains-append_right}
+use Rattle.std.proofs.lemmas.List.Elements.{Contains-append_left, Contains-append_right}
 use Rattle.std.proofs.Math.Nat.{mul-le-mul_right}
-use Rattle.list_facts.proofs.Membership.{all_from}
-use Rattle.list_facts.proofs.Tests.{none_found}
-use Rattle.list_facts.proofs.Options.{map_none}
-use Rattle.tx_types.specs.Config.{shape_of, blocks_of}
-use Rattle.tx_types.specs.declared.config.Protocol.{Protocol}
+use Rattle.list_lemmas.proofs.Tests.{none_found}
+use Rattle.list_lemmas.proofs.Options.{map_none}
 use Rattle.tx_types.specs.declared.config.Protocol.TheVariants.{Scc, Bpcc}
-use Rattle.tx_types.specs.declared.record.Link.{Link}
-use Rattle.tx_types.specs.declared.record.Rec.{Rec}
-use Rattle.flash_model.specs.Flash.{FlashState}
-use Rattle.page_record.specs.Spelling.{CanBeSpelled, IsBack}
-use Rattle.record_list.specs.declared.found.Found.{Found}
-use Rattle.record_list.specs.Records.{is_present, name_of, mentioned_at}
+use Rattle.page_record.specs.Spelling.{IsBack}
 use Rattle.record_list.specs.Changes.{NothingMustGo}
-use Rattle.record_list.specs.Current.{cur, must_go}
-use Rattle.record_list.specs.Transaction.{InProgress, ShareNoPage, back_version}
-use Rattle.record_list.proofs.OfFacts.Names.{found_named}
 use Rattle.record_list.proofs.OfFacts.Asking.{asked_at, rounded_at}
 use Rattle.record_list.proofs.OfChanges.Progress.{mention_parts}
 use Rattle.record_list.proofs.OfWalks.Rounds.{cases_in}
 use Rattle.record_list.proofs.OfFacts.Wanted.{dispensable_pinned}
-use Rattle.version_index.specs.Notes.{found_in}
-use Rattle.version_index.specs.Noted.{Noted, IsNoted, IsNextRecord, current_of, current_name_of, block_to_go, pinned_names}
 use Rattle.version_index.proofs.OfChanges.NotedChanges.{next_spelled}
-use Rattle.die_alloc.specs.BlockTable.{BlockTable}
 use Rattle.collector.specs.declared.unsure.Unsure.TheVariants as unsure
-use Rattle.collector.specs.Going.{IsNextName, IsPinBeside}
-use Rattle.collector.specs.Matches.{CanTakeOwn}
-use Rattle.tx_engine.specs.ArrayState.{Entry, is_doubted}
-use Rattle.array_machine.specs.declared.mark.Mark.{Mark}
-use Rattle.array_machine.specs.declared.mark.Mark.TheVariants.{Plain, Doubt, Whole}
-use Rattle.tx_engine.specs.Standing.{Naming, IsNamed, IsUnderWay, IsAsMarked, name_at, no_name}
-use Rattle.tx_engine.specs.OpenTable.{OpenTable, Opening, no_opening, opening_at}
-use Rattle.tx_engine.proofs.OfStanding.Arrays.{as_many_names}
-use Rattle.tx_engine.proofs.OfStanding.ImageMoves.{current_noted}
-use Rattle.tx_engine.proofs.OfStanding.Kept.{IsKept, own_pinned}
+use Rattle.collector.specs.Going.{IsPinBeside}
+use Rattle.tx_engine.proofs.OfDevice.Arrays.{as_many_names}
+use Rattle.tx_engine.proofs.OfDevice.ImageMoves.{current_noted}
+use Rattle.tx_engine.proofs.OfDevice.Kept.{BlocksInvariant, own_pinned}
 use Rattle.tx_engine.proofs.OfSettle.NextNoted.{apart_at, apart_pages}
-use Rattle.tx_engine.proofs.OfStanding.Noting.{next_has}
+use Rattle.tx_engine.proofs.OfDevice.Noting.{next_has}
 use Rattle.tx_engine.proofs.OfTables.PinnedNames.{pin_to, few_pinned}
 use Rattle.tx_engine.proofs.OfAbort.Removal.{pages_by}
 use Rattle.tx_engine.proofs.OfSettle.SettledLists.{calm_at}
 
 -- where no block is to go, no record must
-pub nothing_goes : (n : Noted) (rec : Rec) → block_to_go n rec.page rec.version ≡ None → NothingMustGo n.config.protocol (found_in n.notes) n.config.logical rec
+pub nothing_goes : (n : IndexState) (rec : Rec) → block_to_go n rec.page rec.version ≡ None → NothingMustGo n.config.protocol (found_in n.notes) n.config.logical rec
 unfolding block_to_go
 nothing_goes n rec h =
     let test = λ (f : Found). must_go n.config.protocol (found_in n.notes) n.config.logical rec.page rec.version f.rec in
@@ -59,7 +34,7 @@ nothing_goes n rec h =
     (none_found test (found_in n.notes) (map_none (λ (f : Found). f.slot.0) (find test (found_in n.notes)) (map_none _ _ h)))
 
 -- the current version of its page is below an absent name of a transaction in progress
-pub current_below : (n : Noted) → IsNoted n.config.protocol n → (names : List Link) (name : Link) →
+pub current_below : (n : IndexState) → IsNoted n.config.protocol n → (names : List Link) (name : Link) →
     InProgress n.config.protocol (found_in n.notes) n.config.logical names →
     Contains names name → is_present (found_in n.notes) name ≡ false → current_of n name.page < name.version
 current_below n is names name going own absent =
@@ -82,17 +57,17 @@ current_below n is names name going own absent =
                       ∙ ap (λ (a : Link). a.page) (sym (get_or_default names own.0 no_name name own.1 ∙ own.2))))
                 ])
             | inr foreign ↦ (
-                let below = All-contains (λ (g : Found). (Contains names (name_of g.rec) → ⊥) → All (λ (a : Link). mentioned_at a.page g.rec < a.version) names)
+                let below = All-contains (λ (g : Found). (Contains names (name_of g.rec) → ⊥) → All (λ (a : Link). mention_at a.page g.rec < a.version) names)
                 (found_in n.notes) f.0 going.begun.others f.1
                 (λ c. foreign (subst (Contains names) f.2 c)) in
-                let less = All-contains (λ (a : Link). mentioned_at a.page f.0.rec < a.version) names name below own in
+                let less = All-contains (λ (a : Link). mention_at a.page f.0.rec < a.version) names name below own in
                 let part = (mention_parts f.0.rec name less).0 (ap (λ (a : Link). a.page) f.2) in
                 let version : f.0.rec.version ≡ current_of n name.page = ap (λ (a : Link). a.version) f.2 in
                 omega (arith, part))
           ])
     ]
 
-is_back : (n : Noted) (p : Protocol) (rec : Rec) → n.config.protocol ≡ p →
+is_back : (n : IndexState) (p : Protocol) (rec : Rec) → n.config.protocol ≡ p →
     rec.back ≡ back_version n.config.protocol (found_in n.notes) n.config.logical rec.page →
     current_of n rec.page < rec.version → IsBack p rec.version rec.back
 unfolding current_of
@@ -104,43 +79,43 @@ is_back n Bpcc rec is back below =
     ∙ ap (λ q. back_version q (found_in n.notes) n.config.logical rec.page) is in
     omega (arith, below, now, its)
 
-in_flat : (all : List Opening) (name : Link) → Any (λ o. Contains o.naming.names name) all → Contains (flat_map (λ o. o.naming.names) all) name
+in_flat : (all : List TransactionState) (name : Link) → Any (λ o. Contains o.naming.names name) all → Contains (flat_map (λ o. o.naming.names) all) name
 in_flat all name any =
     let c = any.4 in
-    let its = get_or all any.0 no_opening in
-    let own : Contains its.naming.names name = subst (λ (x : Opening). Contains x.naming.names name)
-    (sym (get_or_default all any.0 no_opening any.1 any.2 ∙ any.3)) c in
+    let its = get_or all any.0 no_transaction in
+    let own : Contains its.naming.names name = subst (λ (x : TransactionState). Contains x.naming.names name)
+    (sym (get_or_default all any.0 no_transaction any.1 any.2 ∙ any.3)) c in
     go all any.0 any.2 own
   where
-    go : (os : List Opening) (j : ℕ) → j < length os → Contains (get_or os j no_opening).naming.names name → Contains (flat_map (λ o. o.naming.names) os) name
+    go : (os : List TransactionState) (j : ℕ) → j < length os → Contains (get_or os j no_transaction).naming.names name → Contains (flat_map (λ o. o.naming.names) os) name
     go [] j h i = absurd (omega arith)
     go (o ∷ os) zero h i = Contains-append_left o.naming.names (flat_map (λ o. o.naming.names) os) name i
     go (o ∷ os) (suc j) h i = Contains-append_right o.naming.names (flat_map (λ o. o.naming.names) os) name (go os j (omega arith) i)
 
-sum_same : (all : List Opening) (f g : Opening → ℕ) → ((j : ℕ) → j < length all → f (get_or all j no_opening) ≡ g (get_or all j no_opening)) →
+sum_same : (all : List TransactionState) (f g : TransactionState → ℕ) → ((j : ℕ) → j < length all → f (get_or all j no_transaction) ≡ g (get_or all j no_transaction)) →
     sum_by f all ≡ sum_by g all
 sum_same all f g h = sym (sum-map f all) ∙ ap sum (same all h) ∙ sum-map g all
   where
-    same : (os : List Opening) → ((j : ℕ) → j < length os → f (get_or os j no_opening) ≡ g (get_or os j no_opening)) → map f os ≡ map g os
+    same : (os : List TransactionState) → ((j : ℕ) → j < length os → f (get_or os j no_transaction) ≡ g (get_or os j no_transaction)) → map f os ≡ map g os
     same [] k = refl
     same (o ∷ os) k = ap₂ (λ y ys. y ∷ ys) (k 0 (omega arith)) (same os (λ j inside. k (suc j) (omega arith)))
 
-module _ (s : FlashState) (n : Noted) (t : BlockTable) (o : OpenTable) (i : ℕ) (k : IsKept s n t unsure.Nothing o) (within : i < length o.all)
-    (plain : (opening_at o i).entry.mark ≡ Plain) (due : (opening_at o i).naming.noted_count ≡ (opening_at o i).entry.done) where
+module _ (s : FlashState) (n : IndexState) (t : BlocksState) (o : OpenTransactionsState) (i : ℕ) (k : BlocksInvariant s n t unsure.Nothing o) (within : i < length o.all)
+    (plain : (transaction_at o i).entry.mark ≡ Plain) (due : (transaction_at o i).naming.noted_count ≡ (transaction_at o i).entry.done) where
   abbrev e : Entry
-  e = (opening_at o i).entry
+  e = (transaction_at o i).entry
 
   abbrev x : Naming
-  x = (opening_at o i).naming
+  x = (transaction_at o i).naming
 
   abbrev name : Link
   name = name_at x e.done
 
   pub due_named : IsNamed n.config.page_bytes n.config.logical e x
-  due_named = (k.each i no_opening within).named
+  due_named = (k.each i no_transaction within).named
 
   pub due_under : IsUnderWay s.image n e x
-  due_under = subst (IsAsMarked s.image n e x) plain (k.each i no_opening within).marked
+  due_under = subst (IsAsMarked s.image n e x) plain (k.each i no_transaction within).marked
 
   pub due_inside : e.done < length x.names
   due_inside = omega (arith, due_named.within, as_many_names x.names e.writes due_named.pages)
@@ -154,16 +129,16 @@ module _ (s : FlashState) (n : Noted) (t : BlockTable) (o : OpenTable) (i : ℕ)
   beside : (q : Link) → Contains (pinned_names n.pins) q → IsPinBeside n x.names q
   beside q pin =
       let any = (k.pinned q).0 pin in
-      let its = get_or o.all any.0 no_opening in
-      let own : Contains its.naming.names q = subst (λ (y : Opening). Contains y.naming.names q)
-      (sym (get_or_default o.all any.0 no_opening any.1 any.2 ∙ any.3)) any.4 in
+      let its = get_or o.all any.0 no_transaction in
+      let own : Contains its.naming.names q = subst (λ (y : TransactionState). Contains y.naming.names q)
+      (sym (get_or_default o.all any.0 no_transaction any.1 any.2 ∙ any.3)) any.4 in
       elim (cases_eq any.0 i) [
-        | inl same ↦ inr (inl (subst (λ j. Contains (get_or o.all j no_opening).naming.names q) same own))
-        | inr other ↦ by_mark its.entry.mark its own (apart_at o.all i any.0 k.apart within any.2 other) (k.each any.0 no_opening any.2).marked
+        | inl same ↦ inr (inl (subst (λ j. Contains (get_or o.all j no_transaction).naming.names q) same own))
+        | inr other ↦ by_mark its.entry.mark its own (apart_at o.all i any.0 k.apart within any.2 other) (k.each any.0 no_transaction any.2).marked
             (calm_at o.all k.doubt any.0 any.2)
       ]
     where
-      by_mark : (m : Mark) (y : Opening) → Contains y.naming.names q → ShareNoPage x.names y.naming.names → IsAsMarked s.image n y.entry y.naming m →
+      by_mark : (m : Mark) (y : TransactionState) → Contains y.naming.names q → ShareNoPage x.names y.naming.names → IsAsMarked s.image n y.entry y.naming m →
           is_doubted m ≡ false →
           IsPinBeside n x.names q
       by_mark Plain y own share w calm = inr (inr (record { others = y.naming.names; in_progress = w.in_progress; apart = share; named = own }))
@@ -172,11 +147,11 @@ module _ (s : FlashState) (n : Noted) (t : BlockTable) (o : OpenTable) (i : ℕ)
 
   few : length (pinned_names n.pins) ≤ n.config.pending
   few =
-      let names = flat_map (λ (y : Opening). y.naming.names) o.all in
+      let names = flat_map (λ (y : TransactionState). y.naming.names) o.all in
       let fewer = few_pinned names n.pins (λ q pin. in_flat o.all q ((k.pinned q).0 (pin_to n.pins q pin))) in
-      let long = length-flat_map (λ (y : Opening). y.naming.names) o.all in
+      let long = length-flat_map (λ (y : TransactionState). y.naming.names) o.all in
       let same = sum_same o.all (λ y. length y.naming.names) (λ y. length y.entry.writes) (λ j inside.
-      as_many_names (get_or o.all j no_opening).naming.names (get_or o.all j no_opening).entry.writes (k.each j no_opening inside).named.pages) in
+      as_many_names (get_or o.all j no_transaction).naming.names (get_or o.all j no_transaction).entry.writes (k.each j no_transaction inside).named.pages) in
       let pages = pages_by o.all in
       let most = k.few in
       omega (arith, fewer, long, same, pages, most)
@@ -239,7 +214,7 @@ module _ (s : FlashState) (n : Noted) (t : BlockTable) (o : OpenTable) (i : ℕ)
         }
 
 -- the current version is the back version under Back Pointer Cyclic Commit
-pub current_back : (n : Noted) (page version : ℕ) → n.config.protocol ≡ Bpcc → version ≡ current_of n page →
+pub current_back : (n : IndexState) (page version : ℕ) → n.config.protocol ≡ Bpcc → version ≡ current_of n page →
     version ≡ back_version n.config.protocol (found_in n.notes) n.config.logical page
 unfolding current_of
 current_back n page version is same =

@@ -1,30 +1,13 @@
 -- A step: the device settles, and the transaction goes on.
-use Rattle.std.proofs.Common.{◌≡◌, ◌≢◌, ℕ, zero, suc, ◌<◌, Bool, true, List, [], ◌∷◌, map, get_or, All, Option, Some, None, Result, Ok, Err, refl, sym, ap, ◌∙◌}
-use Rattle.std.proofs.Common.{subst, inl, inr, arith}
-use Rattle.std.specs.Prelude.{MatchOption, IfSome, find, option_map}
-use Rattle.std.specs.List.{zip}
-use Rattle.std.specs.Result.{is_err}
-use Rattle.std.proofs.lemmas.Bool.{cond-true, cond-false, cond_both}
-use Rattle.std.proofs.lemmas.List.Elements.{All-nil}
-use Rattle.tx_types.specs.Batch.{PageWrite}
-use Rattle.tx_types.specs.declared.record.Link.{Link}
-use Rattle.flash_model.specs.Flash.{FlashState}
-use Rattle.flash_model.specs.declared.flash.Broken.{Broken}
-use Rattle.tx_engine.specs.ArrayState.{ArrayState, Entry, entry_of, has_tag}
-use Rattle.array_machine.specs.declared.answers.Progress.{Progress}
+use Rattle.tx_engine.proofs.Common.{◌≡◌, ◌≢◌, ℕ, zero, suc, ◌<◌, Bool, true, List, [], ◌∷◌, map, get_or, All, Option, Some, None, Result, Ok, Err, refl, sym, ap, ◌∙◌, subst, inl, inr, arith, find, zip, is_err, cond-true, cond-false, cond_both, All-nil, PageWrite, Link, FlashState, Broken, ArrayState, Entry, entry_of, has_tag, Progress, StepError, VersionsRise, settled_writes, done_writes, is_plain, OpenTransactionsState, TransactionState, no_transaction, transaction_at, Advances, AdvanceRises, DeviceState, Naming, name_at, settled, settled_entry, StepsAs, StoreState, device_in}
+use Rattle.std.specs.Prelude.{MatchOption, IfSome, option_map}
 use Rattle.array_machine.specs.declared.answers.Progress.TheVariants as progress
-use Rattle.array_machine.specs.declared.answers.StepError.{StepError}
 use Rattle.array_machine.specs.declared.answers.StepError.TheVariants as failed
-use Rattle.tx_engine.specs.Exits.{VersionsRise, StepRises, settled_writes, done_writes, is_plain}
-use Rattle.tx_engine.specs.OpenTable.{OpenTable, Opening, no_opening, opening_at}
-use Rattle.tx_engine.specs.Settling.{Advances, AdvanceRises}
-use Rattle.tx_engine.specs.Standing.{Standing, Naming, name_at}
-use Rattle.tx_engine.specs.Step.{settled, settled_entry, StepGives, StepsAs}
-use Rattle.tx_engine.specs.Stored.{Stored}
-use Rattle.tx_engine.specs.Tables.{standing_in}
+use Rattle.tx_engine.specs.Exits.{StepRises}
+use Rattle.tx_engine.specs.Step.{StepGives}
 use Rattle.tx_engine.specs.Writing.{next_of, open_of}
 use Rattle.tx_engine.proofs.OfCollect.Collecting.{rises_stay}
-use Rattle.tx_engine.proofs.OfOpenings.OpenList.{IsFirstTagged}
+use Rattle.tx_engine.proofs.OfTransactions.OpenList.{IsFirstTagged}
 
 -- a step of the transaction that was found, if there is one
 abbrev pub StepsFor : Bool → ArrayState → ArrayState → ℕ → Option Entry → Result Progress StepError → Type 0
@@ -63,7 +46,7 @@ done_low logical e progress.Done h = cond_both (is_plain e.mark) e.writes [] (Al
 pub broken_pages : (mid new : ArrayState) (tag : ℕ) (f : Entry) (b : Broken) → Advances mid tag f (Err b) new → new.pages ≡ mid.pages
 broken_pages mid new tag f b h = elim h.1 [ inl same ↦ ap (λ (m : ArrayState). m.pages) same | inr doubt ↦ ap (λ (m : ArrayState). m.pages) doubt.1 ]
 
-pub fault_rises : {F : Type 0} (there : Bool) (a b c : Standing F) (tag own : ℕ) (f : Entry) (r : Result Progress Broken) (s : Result Progress StepError) →
+pub fault_rises : {F : Type 0} (there : Bool) (a b c : DeviceState F) (tag own : ℕ) (f : Entry) (r : Result Progress Broken) (s : Result Progress StepError) →
     is_err r ≡ true → s ≡ Err failed.Fault →
     b.config ≡ a.config → All (λ w. w.page < a.config.logical) (settled_writes there a.machine) → b.machine ≡ settled there a.machine →
     VersionsRise a b (settled_writes there a.machine) →
@@ -77,9 +60,9 @@ fault_rises there a b c tag own f (Err x) s is fault config low machine first h 
     ))
 
 -- The open transaction with a tag
-pub open_found : (tag : ℕ) (all : List Opening) (i : ℕ) → IsFirstTagged tag all i →
+pub open_found : (tag : ℕ) (all : List TransactionState) (i : ℕ) → IsFirstTagged tag all i →
     find (λ (e, x). has_tag tag e) (zip (map (λ o. o.entry) all) (map (λ o. o.naming) all)) ≡ Some
-    ((get_or all i no_opening).entry, (get_or all i no_opening).naming)
+    ((get_or all i no_transaction).entry, (get_or all i no_transaction).naming)
 open_found tag [] i h = absurd (let w = h.within in omega arith)
 open_found tag (o ∷ all) zero h =
     cond-true (has_tag tag o.entry) (Some (o.entry, o.naming)) (find (λ (e, x). has_tag tag e) (zip (map (λ o. o.entry) all) (map (λ o. o.naming) all)))
@@ -90,12 +73,12 @@ open_found tag (o ∷ all) (suc i) h =
     ∙ open_found tag all i (record { within = (let w = h.within in omega arith); tagged = h.tagged; before = λ k less. h.before (suc k) (omega arith) })
 
 -- what holds of it, and of the name that it writes next
-pub for_open : {F : Type 0} (state : F → FlashState) (S : Stored F) (O : OpenTable) (tag i : ℕ) (P : Entry → Naming → Type 0) → IsFirstTagged tag O.all i →
-    P (opening_at O i).entry (opening_at O i).naming → IfSome (open_of (standing_in state S O) tag) (λ (e, x). P e x)
+pub for_open : {F : Type 0} (state : F → FlashState) (S : StoreState F) (O : OpenTransactionsState) (tag i : ℕ) (P : Entry → Naming → Type 0) → IsFirstTagged tag O.all i →
+    P (transaction_at O i).entry (transaction_at O i).naming → IfSome (open_of (device_in state S O) tag) (λ (e, x). P e x)
 for_open state S O tag i P first h = subst (λ o. IfSome o (λ (e, x). P e x)) (sym (open_found tag O.all i first)) h
 
-pub for_next : {F : Type 0} (state : F → FlashState) (S : Stored F) (O : OpenTable) (tag i : ℕ) (P : Link → Type 0) → IsFirstTagged tag O.all i →
-    P (name_at (opening_at O i).naming (opening_at O i).entry.done) → IfSome (next_of (standing_in state S O) tag) P
+pub for_next : {F : Type 0} (state : F → FlashState) (S : StoreState F) (O : OpenTransactionsState) (tag i : ℕ) (P : Link → Type 0) → IsFirstTagged tag O.all i →
+    P (name_at (transaction_at O i).naming (transaction_at O i).entry.done) → IfSome (next_of (device_in state S O) tag) P
 for_next state S O tag i P first h =
     subst (λ o. IfSome o P) (sym (ap (option_map (λ (e, x). name_at x e.done)) (open_found tag O.all i first))) h
 

@@ -1,22 +1,7 @@
 -- Transactions that go on at once go on as one after another: first all records were noted, and then each was counted.
-use Rattle.std.proofs.Common.{◌≡◌, ◌≢◌, ℕ, ◌+◌, true, false, List, [], ◌∷◌, ◌++◌, length, map, All, AllPairs, Some, refl, sym, ap, ap₂}
-use Rattle.std.proofs.Common.{◌∙◌, subst, inl, inr, eq-eqb, ne_eqb}
-use Rattle.std.specs.Prelude.{if◌then◌else◌}
-use Rattle.std.proofs.lemmas.Bool.{cases_eq, cond-true, cond-false}
-use Rattle.std.proofs.lemmas.List.{append_assoc}
-use Rattle.std.proofs.lemmas.List.Elements.{All-head, All-tail, All-cons, All-nil, All-append}
-use Rattle.list_facts.proofs.Membership.{all_from}
-use Rattle.list_facts.proofs.Pairs.{pairs_head, pairs_tail}
-use Rattle.array_machine.specs.Batches.{GoInTurn}
-use Rattle.array_machine.specs.declared.answers.Progress.{Progress}
+use Rattle.tx_engine.proofs.Common.{◌≡◌, ◌≢◌, ℕ, ◌+◌, true, false, List, [], ◌∷◌, ◌++◌, length, map, All, AllPairs, Some, refl, sym, ap, ap₂, ◌∙◌, subst, inl, inr, eq-eqb, ne_eqb, if◌then◌else◌, cases_eq, cond-true, cond-false, append_assoc, All-head, All-tail, All-cons, All-nil, All-append, all_from, pairs_head, pairs_tail, GoInTurn, Progress, Plain, Whole, ArrayState, Entry, Pages, entry_of, has_tag, put, with_entry, without, CountInTurn, taken_writes, takes_each, is_plain, Counts, is_at_last, GoesOn}
 use Rattle.array_machine.specs.declared.answers.Progress.TheVariants as progress
-use Rattle.array_machine.specs.declared.mark.Mark.TheVariants.{Plain, Whole}
-use Rattle.tx_engine.specs.ArrayState.{ArrayState, Entry, Pages, entry_of, has_tag, put, with_entry, without}
-use Rattle.tx_engine.specs.BatchCalls.{CountInTurn}
-use Rattle.tx_engine.specs.Batches.{taken_writes, takes_each}
-use Rattle.tx_engine.specs.Exits.{is_plain, plain_writes}
-use Rattle.tx_engine.specs.Settling.{Counts, is_at_last}
-use Rattle.tx_engine.specs.Step.{GoesOn}
+use Rattle.tx_engine.specs.Exits.{plain_writes}
 
 -- The one with a tag in a list, where none before it has the tag
 abbrev pub HaveOthers : ℕ → List Entry → Type 0

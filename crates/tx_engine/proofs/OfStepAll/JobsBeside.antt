@@ -1,77 +1,55 @@
 -- The programs of other transactions that are done together with one stay as they were asked for, whether it is whole or damaged.
-use Rattle.std.proofs.Common.{◌≡◌, ◌≢◌, ℕ, ◌+◌, ◌<◌, false, List, [], ◌∷◌, length, All, Contains, None, refl, sym, ap, ap₂, ◌∙◌, subst, inl, inr}
-use Rattle.std.proofs.Common.{arith}
-use Rattle.std.proofs.lemmas.Bool.{cases_eq}
-use Rattle.std.proofs.lemmas.List.Elements.{All-contains, All-head, All-tail}
-use Rattle.list_facts.proofs.Membership.{all_from}
-use Rattle.page_record.specs.Spelling.{spelling}
-use Rattle.tx_types.specs.Batch.{bytes_in}
-use Rattle.tx_types.specs.declared.config.Config.{Config}
-use Rattle.tx_types.specs.declared.config.Shape.{Shape}
-use Rattle.tx_types.specs.declared.record.Link.{Link}
+use Rattle.tx_engine.proofs.Common.{◌≡◌, ◌≢◌, ℕ, ◌+◌, ◌<◌, false, List, [], ◌∷◌, length, All, Contains, None, refl, sym, ap, ap₂, ◌∙◌, subst, inl, inr, arith, cases_eq, All-contains, All-head, All-tail, all_from, spelling, bytes_in, Config, Shape, Link, FlashState, Load, die_of, load_left, Found, name_of, found_in, IndexState, block_to_go, damaged_at, programmed, BlocksState, with_slot, AreJobsDue, IsJobDue, load_of, loads_for, record_due, OpenTransactionsState, TransactionState, HasPlace, bytes_due, name_due, no_transaction, transaction_at, Stands, name_at, no_name, write_at, StoreState, device_in, Job}
 use Rattle.flash_model.specs.declared.outcome.Outcome.TheVariants as outcome
-use Rattle.flash_model.specs.Flash.{FlashState}
-use Rattle.flash_model.specs.Operations.{Load, die_of, load_left}
-use Rattle.record_list.specs.declared.found.Found.{Found}
-use Rattle.record_list.specs.Records.{mentions_below, name_of}
+use Rattle.record_list.specs.Records.{mentions_below}
 use Rattle.record_list.specs.SoundList.{Pages, PagesExist}
 use Rattle.record_list.proofs.OfChanges.OneMore.{inserted_in}
-use Rattle.version_index.specs.Notes.{found_in}
-use Rattle.version_index.specs.Noted.{Noted, block_to_go, damaged_at, programmed}
 use Rattle.version_index.proofs.OfTables.FoundIn.{found, found_in_programmed}
-use Rattle.die_alloc.specs.BlockTable.{BlockTable, with_slot}
 use Rattle.collector.specs.declared.unsure.Unsure.TheVariants as unsure
-use Rattle.tx_engine.specs.BatchCalls.{AreJobsDue, IsJobDue, load_of, loads_for}
-use Rattle.tx_engine.specs.Batches.{record_due}
-use Rattle.tx_engine.specs.OpenTable.{OpenTable, Opening, HasPlace, bytes_due, name_due, no_opening, opening_at}
-use Rattle.tx_engine.specs.Standing.{Stands, name_at, no_name, write_at}
-use Rattle.tx_engine.specs.Stored.{Stored}
-use Rattle.tx_engine.specs.Tables.{standing_in}
-use Rattle.tx_engine.specs.declared.jobs.Job.{Job}
 use Rattle.tx_engine.proofs.OfSettle.NextNoted.{apart_at, last_elsewhere, next_stays, next_versions}
-use Rattle.tx_engine.proofs.OfStanding.Arrays.{as_many_names}
-use Rattle.tx_engine.proofs.OfStanding.Kept.{IsKept, from_stands}
-use Rattle.tx_engine.proofs.OfStanding.Noting.{next_named}
+use Rattle.tx_engine.proofs.OfDevice.Arrays.{as_many_names}
+use Rattle.tx_engine.proofs.OfDevice.Kept.{BlocksInvariant, from_stands}
+use Rattle.tx_engine.proofs.OfDevice.Noting.{next_named}
 use Rattle.tx_engine.proofs.OfStepAll.JobsStay.{KeepsOff, blocks_apart, clear_off, due_off, first_off, mentions_off}
 use Rattle.tx_engine.proofs.OfStepAll.LoadLeft.{HasLaws, damaged_records, left_stay, spoilt_preserves, whole_next}
 
 -- each record that is noted is of a page that exists
-pub pages_low : (s : FlashState) (n : Noted) (t : BlockTable) (O : OpenTable) → IsKept s n t unsure.Nothing O →
+pub pages_low : (s : FlashState) (n : IndexState) (t : BlocksState) (O : OpenTransactionsState) → BlocksInvariant s n t unsure.Nothing O →
     All (λ f. f.rec.page < n.config.logical) (found_in n.notes)
 pages_low s n t O k = all_from (λ (f : Found). f.rec.page < n.config.logical) (found_in n.notes)
     (λ f i. (All-contains (PagesExist n.config.logical) (found_in n.notes) f (k.matches.noted.sound Pages) i).0)
 
-module _ (s : FlashState) (n : Noted) (t : BlockTable) (O : OpenTable) (k : IsKept s n t unsure.Nothing O) (j : ℕ) (within : j < length O.all) where
-  abbrev other : Opening
-  other = opening_at O j
+module _ (s : FlashState) (n : IndexState) (t : BlocksState) (O : OpenTransactionsState) (k : BlocksInvariant s n t unsure.Nothing O) (j : ℕ) (within : j < length O.all) where
+  abbrev other : TransactionState
+  other = transaction_at O j
 
   inside : other.entry.done < length other.naming.names
-  inside = let named = (k.each j no_opening within).named in
+  inside = let named = (k.each j no_transaction within).named in
       omega (arith, named.within, as_many_names other.naming.names other.entry.writes named.pages)
 
   pub due_low : (name_due O j).page < n.config.logical
-  due_low = ((k.each j no_opening within).named.transaction.in_range other.entry.done no_name inside).0
+  due_low = ((k.each j no_transaction within).named.transaction.in_range other.entry.done no_name inside).0
 
   -- no name of another transaction is of the page that it writes next
-  pub names_off : (i : ℕ) → i < length O.all → j ≢ i → All (λ a. a.page ≢ (name_due O j).page) (opening_at O i).naming.names
+  pub names_off : (i : ℕ) → i < length O.all → j ≢ i → All (λ a. a.page ≢ (name_due O j).page) (transaction_at O i).naming.names
   names_off i at apart = λ a d low. apart_at O.all i j k.apart at within apart a d low other.entry.done no_name inside
 
 -- the page that an open transaction writes next
-pub next_place : {F : Type 0} (state : F → FlashState) (S : Stored F) (O : OpenTable) → Stands state (standing_in state S O) → (i : ℕ) → i < length O.all →
-    HasPlace O i (opening_at O i).entry.done
-next_place state S O h i within = record { exists = within; within = ((from_stands state S O h).each i no_opening within).named.within }
+pub next_place : {F : Type 0} (state : F → FlashState) (S : StoreState F) (O : OpenTransactionsState) → Stands state (device_in state S O) → (i : ℕ) → i < length O.all →
+    HasPlace O i (transaction_at O i).entry.done
+next_place state S O h i within = record { exists = within; within = ((from_stands state S O h).each i no_transaction within).named.within }
 
-pub next_low : {F : Type 0} (state : F → FlashState) (S : Stored F) (O : OpenTable) → Stands state (standing_in state S O) → (i : ℕ) → i < length O.all →
+pub next_low : {F : Type 0} (state : F → FlashState) (S : StoreState F) (O : OpenTransactionsState) → Stands state (device_in state S O) → (i : ℕ) → i < length O.all →
     (name_due O i).page < S.noted.config.logical
 next_low state S O h i within =
-    let o = opening_at O i in
-    let named = ((from_stands state S O h).each i no_opening within).named in
+    let o = transaction_at O i in
+    let named = ((from_stands state S O h).each i no_transaction within).named in
     (named.transaction.in_range o.entry.done no_name (omega (arith, named.within, as_many_names o.naming.names o.entry.writes named.pages))).0
 
 -- what a table keeps of the jobs of other transactions
-module _ (n n' : Noted) (t : BlockTable) (O O' : OpenTable) (shape : Shape) (same_shape : t.shape ≡ shape) (i : ℕ) (at : ℕ)
+module _ (n n' : IndexState) (t : BlocksState) (O O' : OpenTransactionsState) (shape : Shape) (same_shape : t.shape ≡ shape) (i : ℕ) (at : ℕ)
     (low : All (λ f. f.rec.page < n.config.logical) (found_in n.notes)) (off : (j : ℕ) → j < length O.all → j ≢ i → KeepsOff n n' (name_due O j).page)
-    (opens : (j : ℕ) → j ≢ i → opening_at O' j ≡ opening_at O j) (long : length O'.all ≡ length O.all) where
+    (opens : (j : ℕ) → j ≢ i → transaction_at O' j ≡ transaction_at O j) (long : length O'.all ≡ length O.all) where
   job_beside : (j : ℕ) (job : Job) → j ≢ i → die_of shape at < die_of shape job.slot.0 → IsJobDue n t O j job → IsJobDue n' (with_slot t at) O' j job
   job_beside j job other less h =
       let same = opens j other in
@@ -79,12 +57,12 @@ module _ (n n' : Noted) (t : BlockTable) (O O' : OpenTable) (shape : Shape) (sam
       record {
         due = record {
           exists = subst (λ len. j < len) (sym long) h.due.exists;
-          plain = ap (λ (x : Opening). x.entry.mark) same ∙ h.due.plain;
-          unnoted = ap (λ (x : Opening). x.naming.noted_count) same ∙ h.due.unnoted ∙ ap (λ (x : Opening). x.entry.done) (sym same);
+          plain = ap (λ (x : TransactionState). x.entry.mark) same ∙ h.due.plain;
+          unnoted = ap (λ (x : TransactionState). x.naming.noted_count) same ∙ h.due.unnoted ∙ ap (λ (x : TransactionState). x.entry.done) (sym same);
         };
-        clear = subst (λ (x : Opening). block_to_go n' (name_at x.naming x.entry.done).page (name_at x.naming x.entry.done).version ≡ None) (sym same)
+        clear = subst (λ (x : TransactionState). block_to_go n' (name_at x.naming x.entry.done).page (name_at x.naming x.entry.done).version ≡ None) (sym same)
             (clear_off n n' (name_due O j).page (name_due O j).version keeps low h.clear);
-        its = h.its ∙ sym (due_off n n' (opening_at O j) keeps) ∙ ap (record_due n') (sym same);
+        its = h.its ∙ sym (due_off n n' (transaction_at O j) keeps) ∙ ap (record_due n') (sym same);
         first = first_off t at job.slot.0
             (blocks_apart t.shape at job.slot.0 (subst (λ (sh : Shape). die_of sh at < die_of sh job.slot.0) (sym same_shape) less)) h.first;
       }
@@ -98,20 +76,20 @@ module _ (n n' : Noted) (t : BlockTable) (O O' : OpenTable) (shape : Shape) (sam
   )
 
 -- what is loaded for them is the same
-pub loads_beside : (n n' : Noted) (O O' : OpenTable) (i : ℕ) → n'.config ≡ n.config → O'.page_bytes ≡ O.page_bytes →
-    ((j : ℕ) → j ≢ i → opening_at O' j ≡ opening_at O j) → (jobs : List Job) (j : ℕ) → i < j → loads_for n' O' j jobs ≡ loads_for n O j jobs
+pub loads_beside : (n n' : IndexState) (O O' : OpenTransactionsState) (i : ℕ) → n'.config ≡ n.config → O'.page_bytes ≡ O.page_bytes →
+    ((j : ℕ) → j ≢ i → transaction_at O' j ≡ transaction_at O j) → (jobs : List Job) (j : ℕ) → i < j → loads_for n' O' j jobs ≡ loads_for n O j jobs
 loads_beside n n' O O' i config size opens [] j less = refl
 loads_beside n n' O O' i config size opens (job ∷ jobs) j less =
     let bytes : bytes_due O' j ≡ bytes_due O j =
-    ap (λ (x : Opening). bytes_in O'.page_bytes (write_at x.entry x.entry.done)) (opens j (λ same. absurd (omega arith)))
-    ∙ ap (λ size. bytes_in size (write_at (opening_at O j).entry (opening_at O j).entry.done)) size in
+    ap (λ (x : TransactionState). bytes_in O'.page_bytes (write_at x.entry x.entry.done)) (opens j (λ same. absurd (omega arith)))
+    ∙ ap (λ size. bytes_in size (write_at (transaction_at O j).entry (transaction_at O j).entry.done)) size in
     let head : load_of n' job (bytes_due O' j) ≡ load_of n job (bytes_due O j) =
     ap (λ bs. load_of n' job bs) bytes
     ∙ ap (λ (c : Config). record { at = job.slot.0; bytes = bytes_due O j; spare_area = spelling c.protocol job.rec }) config in
     ap₂ (λ (x : Load) xs. x ∷ xs) head (loads_beside n n' O O' i config size opens jobs (j + 1) (omega arith))
 
-module _ (s : FlashState) (n : Noted) (t : BlockTable) (O : OpenTable) (i : ℕ) (job : Job) (laws : HasLaws n.config.protocol)
-    (k : IsKept s n t unsure.Nothing O) (size : O.page_bytes ≡ n.config.page_bytes) (h : IsJobDue n t O i job) (s' : FlashState) (shape : s'.shape ≡ s.shape)
+module _ (s : FlashState) (n : IndexState) (t : BlocksState) (O : OpenTransactionsState) (i : ℕ) (job : Job) (laws : HasLaws n.config.protocol)
+    (k : BlocksInvariant s n t unsure.Nothing O) (size : O.page_bytes ≡ n.config.page_bytes) (h : IsJobDue n t O i job) (s' : FlashState) (shape : s'.shape ≡ s.shape)
   where
     -- the program is whole
     pub whole_off : s'.image ≡ load_left s.image (load_of n job (bytes_due O i)) outcome.All → (j : ℕ) → j < length O.all → j ≢ i →
@@ -119,7 +97,7 @@ module _ (s : FlashState) (n : Noted) (t : BlockTable) (O : OpenTable) (i : ℕ)
     whole_off image j within other =
         let next = whole_next s n t O i job laws k size h s' shape image in
         let stay = left_stay s n t O i job laws k size h s' shape outcome.All image in
-        let o = opening_at O i in
+        let o = transaction_at O i in
         let page = (name_due O j).page in
         let low = due_low s n t O k j within in
         let apart = names_off s n t O k j within i h.due.exists other in

@@ -1,31 +1,17 @@
 -- What a program that was done, or damaged its slot, leaves of another transaction's: its record, that nothing must go before
 -- it, and its slot.
-use Rattle.std.proofs.Common.{◌≡◌, ◌≢◌, ◌⊎◌, ℕ, ◌/◌, ◌%◌, ◌<◌, ◌≤◌, Bool, true, false, ◌&&◌, ltb-true, List, All, Contains, None}
-use Rattle.std.proofs.Common.{refl, sym, ap, ap₂, ◌∙◌, subst, inl, inr, arith}
-use Rattle.std.specs.Prelude.{◌||◌, nat_lt}
-use Rattle.std.proofs.lemmas.Bool.{cases_Bool, lt-ltb, ne_eqb}
-use Rattle.std.proofs.lemmas.List.{length-set, get_or-set_other}
-use Rattle.std.proofs.lemmas.List.Elements.{All-contains}
+use Rattle.tx_engine.proofs.Common.{◌≡◌, ◌≢◌, ◌⊎◌, ℕ, ◌/◌, ◌<◌, ◌≤◌, Bool, true, false, ◌&&◌, List, All, Contains, None, refl, sym, ap, ap₂, ◌∙◌, subst, inl, inr, arith, nat_lt, cases_Bool, lt-ltb, length-set, get_or-set_other, All-contains, Config, Protocol, Shape, Rec, Found, cur, must_go, back_version, found_in, IndexState, block_to_go, current_of, BlocksState, IsFirstFree, with_slot, die_of, record_due, OpenTransactionsState, TransactionState, IsDueAt, no_transaction, transaction_at, with_transaction, name_at}
+use Rattle.std.proofs.Common.{◌%◌, ltb-true}
+use Rattle.std.specs.Prelude.{◌||◌}
+use Rattle.std.proofs.lemmas.Bool.{ne_eqb}
 use Rattle.tx_types.specs.declared.config.BlockState.TheVariants as state
-use Rattle.tx_types.specs.declared.config.Config.{Config}
-use Rattle.tx_types.specs.declared.config.Protocol.{Protocol}
 use Rattle.tx_types.specs.declared.config.Protocol.TheVariants.{Scc, Bpcc}
-use Rattle.tx_types.specs.declared.config.Shape.{Shape}
-use Rattle.tx_types.specs.declared.record.Rec.{Rec}
-use Rattle.record_list.specs.declared.found.Found.{Found}
-use Rattle.record_list.specs.Current.{cur, is_loose, must_go}
+use Rattle.record_list.specs.Current.{is_loose}
 use Rattle.record_list.specs.Records.{mentions_below}
-use Rattle.record_list.specs.Transaction.{back_version}
-use Rattle.version_index.specs.Notes.{found_in}
-use Rattle.version_index.specs.Noted.{Noted, block_to_go, current_of}
-use Rattle.die_alloc.specs.BlockTable.{BlockTable, IsFirstFree, block_of_slot, use_of, with_slot}
+use Rattle.die_alloc.specs.BlocksState.{block_of_slot, use_of}
 use Rattle.die_alloc.specs.declared.block_use.BlockUse.{BlockUse}
 use Rattle.die_alloc.proofs.Changes.{use_of-with_slot_other}
-use Rattle.flash_model.specs.Operations.{die_of}
 use Rattle.collector.proofs.OfRoom.GoneRecords.{going_none, none_going}
-use Rattle.tx_engine.specs.Batches.{record_due}
-use Rattle.tx_engine.specs.OpenTable.{OpenTable, Opening, IsDueAt, no_opening, opening_at, with_opening}
-use Rattle.tx_engine.specs.Standing.{name_at}
 
 -- a record of which neither its page nor that of its link is the page does not mention it
 pub mentions_off : (page below : ℕ) (r : Rec) → r.page ≢ page → r.next.page ≢ page → mentions_below page below r ≡ false
@@ -63,14 +49,14 @@ back_same Bpcc l m logical page same = same
 
 -- What is noted afterwards: what was noted, and a record that does not mention the page. No current version fell, and that of
 -- the page stays.
-pub record KeepsOff (n n' : Noted) (page : ℕ) : Type 0 where
+pub record KeepsOff (n n' : IndexState) (page : ℕ) : Type 0 where
   pub config : n'.config ≡ n.config
   pub records : (below : ℕ) (f : Found) → Contains (found_in n'.notes) f →
       ((g : Found) × Contains (found_in n.notes) g × (g.rec ≡ f.rec)) ⊎ (mentions_below page below f.rec ≡ false)
   pub rises : (other : ℕ) → other < n.config.logical → current_of n other ≤ current_of n' other
   pub stays : current_of n' page ≡ current_of n page
 
-pub clear_off : (n n' : Noted) (page below : ℕ) → KeepsOff n n' page → All (λ f. f.rec.page < n.config.logical) (found_in n.notes) →
+pub clear_off : (n n' : IndexState) (page below : ℕ) → KeepsOff n n' page → All (λ f. f.rec.page < n.config.logical) (found_in n.notes) →
     block_to_go n page below ≡ None → block_to_go n' page below ≡ None
 unfolding current_of
 clear_off n n' page below h low none = none_going n' page below (λ f i. elim (h.records below f i) [
@@ -88,7 +74,7 @@ clear_off n n' page below h low none = none_going n' page below (λ f i. elim (h
 ])
 
 -- the record that a transaction writes next, of whose page the current version stays
-pub due_off : (n n' : Noted) (o : Opening) → KeepsOff n n' (name_at o.naming o.entry.done).page → record_due n' o ≡ record_due n o
+pub due_off : (n n' : IndexState) (o : TransactionState) → KeepsOff n n' (name_at o.naming o.entry.done).page → record_due n' o ≡ record_due n o
 unfolding current_of
 due_off n n' o h =
     let name = name_at o.naming o.entry.done in
@@ -101,7 +87,7 @@ due_off n n' o h =
     ap (λ b. record (record_due n o) { back = b }) back
 
 -- the first free slot of a block in which no slot was used
-pub first_off : (t : BlockTable) (at other : ℕ) → block_of_slot t.shape other ≢ block_of_slot t.shape at → IsFirstFree t other →
+pub first_off : (t : BlocksState) (at other : ℕ) → block_of_slot t.shape other ≢ block_of_slot t.shape at → IsFirstFree t other →
     IsFirstFree (with_slot t at) other
 first_off t at other apart h =
     let same : use_of (with_slot t at) (block_of_slot t.shape other) ≡ use_of t (block_of_slot t.shape other) =
@@ -120,14 +106,14 @@ pub blocks_apart : (shape : Shape) (a b : ℕ) → die_of shape a < die_of shape
 blocks_apart shape a b less same = absurd (let dies : die_of shape b ≡ die_of shape a = ap (λ k. k / shape.blocks_per_die) same in omega (arith, less, dies))
 
 -- a transaction beside one that is replaced
-pub due_beside : (O : OpenTable) (i j : ℕ) (new : Opening) → j ≢ i → opening_at (with_opening O i new) j ≡ opening_at O j
-due_beside O i j new other = get_or-set_other O.all i j new no_opening other
+pub due_beside : (O : OpenTransactionsState) (i j : ℕ) (new : TransactionState) → j ≢ i → transaction_at (with_transaction O i new) j ≡ transaction_at O j
+due_beside O i j new other = get_or-set_other O.all i j new no_transaction other
 
-pub due_at_beside : (O : OpenTable) (i j : ℕ) (new : Opening) → j ≢ i → IsDueAt O j → IsDueAt (with_opening O i new) j
+pub due_at_beside : (O : OpenTransactionsState) (i j : ℕ) (new : TransactionState) → j ≢ i → IsDueAt O j → IsDueAt (with_transaction O i new) j
 due_at_beside O i j new other h =
     let same = due_beside O i j new other in
     record {
       exists = subst (λ len. j < len) (sym (length-set O.all i new)) h.exists;
-      plain = ap (λ (x : Opening). x.entry.mark) same ∙ h.plain;
-      unnoted = ap (λ (x : Opening). x.naming.noted_count) same ∙ h.unnoted ∙ ap (λ (x : Opening). x.entry.done) (sym same);
+      plain = ap (λ (x : TransactionState). x.entry.mark) same ∙ h.plain;
+      unnoted = ap (λ (x : TransactionState). x.naming.noted_count) same ∙ h.unnoted ∙ ap (λ (x : TransactionState). x.entry.done) (sym same);
     }

@@ -1,49 +1,19 @@
 -- One of several programs that are done together: how it leaves a device, whole, damaged or blank, over states in which no flash
 -- was.
-use Rattle.std.proofs.Common.{◌≡◌, ◌≢◌, ℕ, ◌<◌, true, List, length, All, Some, None, refl, sym, ap, ◌∙◌, subst, arith}
-use Rattle.std.specs.Prelude.{is_none}
-use Rattle.std.proofs.lemmas.List.{get_or-set_same}
-use Rattle.std.proofs.lemmas.List.Elements.{All-from_get_or, All-get_or}
-use Rattle.tx_types.specs.Batch.{PageWrite, bytes_in, no_write}
-use Rattle.tx_types.specs.Config.{slots_of}
-use Rattle.tx_types.specs.declared.config.Protocol.{Protocol}
-use Rattle.tx_types.specs.declared.config.Shape.{Shape}
-use Rattle.tx_types.specs.declared.config.Slot.{Slot}
-use Rattle.tx_types.specs.declared.record.Rec.{Rec}
-use Rattle.flash_model.specs.declared.outcome.Outcome.{Outcome}
+use Rattle.tx_engine.proofs.Common.{◌≡◌, ◌≢◌, ℕ, ◌<◌, true, List, length, All, Some, None, refl, sym, ap, ◌∙◌, subst, arith, is_none, get_or-set_same, All-from_get_or, PageWrite, bytes_in, no_write, slots_of, Protocol, Shape, Slot, Rec, Outcome, FlashState, Contents, IsImage, blank, damaged, complete, slot_at, CanDo, image_left, load_left, program, CanBeSpelled, spelling, is_present, name_of, back_version, text_at, ImagePartialLaw, ImageCompletingLaw, array_in, records_in, written_in, found_in, IsNextRecord, IndexState, block_to_go, damaged_at, programmed, BlocksState, IsFree, with_slot, Unsure, array_known, ArrayStays, ImageIsSound, NotingKeeps, Matches, CanTakeOwn, KeepsArray, Preserves, Settlement, matches_still, IsJobDue, load_of, OpenTransactionsState, TransactionState, bytes_due, entries_of, namings_of, no_transaction, transaction_at, with_transaction, with_next, DoubtsAs, IsNamed, name_at, text_in, text_with, write_at, Job}
+use Rattle.std.proofs.lemmas.List.Elements.{All-get_or}
 use Rattle.flash_model.specs.declared.outcome.Outcome.TheVariants as outcome
-use Rattle.flash_model.specs.Flash.{FlashState, Contents, IsImage, blank, damaged, complete, slot_at}
-use Rattle.flash_model.specs.Operations.{CanDo, image_left, load_left, program}
 use Rattle.flash_model.proofs.ImageLemmas.{IsImage-left}
-use Rattle.page_record.specs.Spelling.{CanBeSpelled, spelling}
 use Rattle.page_record.proofs.Spellings.{length-spelling}
-use Rattle.record_list.specs.Records.{is_present, name_of}
-use Rattle.record_list.specs.Transaction.{back_version}
-use Rattle.record_list.specs.Written.{text_at}
-use Rattle.version_index.specs.ImageLaws.{ImagePartialLaw, ImageCompletingLaw}
-use Rattle.version_index.specs.Images.{array_in, records_in, written_in}
-use Rattle.version_index.specs.Notes.{found_in}
-use Rattle.version_index.specs.Noted.{IsNextRecord, Noted, block_to_go, damaged_at, programmed}
 use Rattle.version_index.proofs.OfTables.FoundIn.{found_in_damaged}
-use Rattle.die_alloc.specs.BlockTable.{BlockTable, IsFree, with_slot}
 use Rattle.collector.specs.declared.unsure.Settled.TheVariants as found
-use Rattle.collector.specs.declared.unsure.Unsure.{Unsure}
 use Rattle.collector.specs.declared.unsure.Unsure.TheVariants as unsure
-use Rattle.collector.specs.Known.{array_known}
-use Rattle.collector.specs.Laws.{ArraysStay, ImagesStand, NotedWrites}
-use Rattle.collector.specs.Matches.{Matches, CanTakeOwn}
-use Rattle.collector.specs.Preserves.{KeepsArray, Preserves}
-use Rattle.collector.specs.Settling.{Settlement, own_settled}
-use Rattle.collector.proofs.OfSettle.SettledExits.{matches_still}
-use Rattle.tx_engine.specs.BatchCalls.{IsJobDue, load_of}
-use Rattle.tx_engine.specs.OpenTable.{OpenTable, Opening, bytes_due, entries_of, namings_of, no_opening, opening_at, with_opening}
-use Rattle.tx_engine.specs.Settling.{link_place, with_next}
-use Rattle.tx_engine.specs.Standing.{DoubtsAs, IsNamed, name_at, text_in, text_with, write_at}
-use Rattle.tx_engine.specs.declared.jobs.Job.{Job}
+use Rattle.collector.specs.Settling.{own_settled}
+use Rattle.tx_engine.specs.Settling.{link_place}
 use Rattle.tx_engine.proofs.OfSettle.NextNoted.{IsNextOf, next_kept}
 use Rattle.tx_engine.proofs.OfSettle.SettledLists.{CalmBeside, calm_at}
-use Rattle.tx_engine.proofs.OfStanding.ImageMoves.{KeepsNoted, image_array, image_opening, image_under}
-use Rattle.tx_engine.proofs.OfStanding.Kept.{IsKept, IsOpening, kept_still, nothing_no_own}
+use Rattle.tx_engine.proofs.OfDevice.ImageMoves.{KeepsNoted, image_array, image_transaction, image_under}
+use Rattle.tx_engine.proofs.OfDevice.Kept.{BlocksInvariant, IsTransaction, kept_still, nothing_no_own}
 use Rattle.tx_engine.proofs.OfStep.NextRecord.{due_named, due_under, next_record, next_take, next_can_be_spelled}
 use Rattle.tx_engine.proofs.OfWrite.Programs.{IsWritten, IsLeft, free_program, is_left, is_written, left_unsure}
 use Rattle.tx_engine.proofs.OfWrite.RecordWrites.{free_within}
@@ -51,18 +21,18 @@ use Rattle.tx_engine.proofs.OfWrite.WriteExits.{due_text}
 
 -- what holds of the records, images and arrays of a protocol
 pub record HasLaws (p : Protocol) : Type 0 where
-  pub images : ImagesStand p
-  pub notes : NotedWrites p
-  pub arrays : ArraysStay p
+  pub images : ImageIsSound p
+  pub notes : NotingKeeps p
+  pub arrays : ArrayStays p
   pub partial : ImagePartialLaw p
   pub completing : ImageCompletingLaw p
 
 -- a device stands over each state with the same image
-pub kept_same : (s s' : FlashState) (n : Noted) (t : BlockTable) (u : Unsure) (O : OpenTable) → s'.shape ≡ s.shape → s'.image ≡ s.image →
-    IsKept s n t u O → IsKept s' n t u O
+pub kept_same : (s s' : FlashState) (n : IndexState) (t : BlocksState) (u : Unsure) (O : OpenTransactionsState) → s'.shape ≡ s.shape → s'.image ≡ s.image →
+    BlocksInvariant s n t u O → BlocksInvariant s' n t u O
 kept_same s s' n t u O shape image k = record {
   matches = matches_still s s' n t u shape image k.matches;
-  each = subst (λ im. All (IsOpening im n) O.all) (sym image) k.each;
+  each = subst (λ im. All (IsTransaction im n) O.all) (sym image) k.each;
   doubt = subst (λ im. DoubtsAs im n (entries_of O) (namings_of O) u) (sym image) k.doubt;
   tags = k.tags;
   apart = k.apart;
@@ -70,36 +40,36 @@ kept_same s s' n t u O shape image k = record {
   pinned = k.pinned;
 }
 
-module _ (n : Noted) (t : BlockTable) (O : OpenTable) (i : ℕ) (job : Job) (h : IsJobDue n t O i job) where
-  abbrev its_opening : Opening
-  its_opening = opening_at O i
+module _ (n : IndexState) (t : BlocksState) (O : OpenTransactionsState) (i : ℕ) (job : Job) (h : IsJobDue n t O i job) where
+  abbrev its_transaction : TransactionState
+  its_transaction = transaction_at O i
 
-  pub job_name : name_of job.rec ≡ name_at its_opening.naming its_opening.entry.done
+  pub job_name : name_of job.rec ≡ name_at its_transaction.naming its_transaction.entry.done
   job_name = ap name_of h.its
 
-  pub job_link : job.rec.next ≡ name_at its_opening.naming (link_place its_opening.entry)
+  pub job_link : job.rec.next ≡ name_at its_transaction.naming (link_place its_transaction.entry)
   job_link = ap (λ (q : Rec). q.next) h.its
 
   pub job_back : job.rec.back ≡ back_version n.config.protocol (found_in n.notes) n.config.logical job.rec.page
   job_back = ap (λ (q : Rec). q.back) h.its
       ∙ ap (λ (q : Rec). back_version n.config.protocol (found_in n.notes) n.config.logical q.page) (sym h.its)
 
-  pub job_count : job.rec.count ≡ length its_opening.entry.writes
+  pub job_count : job.rec.count ≡ length its_transaction.entry.writes
   job_count = ap (λ (q : Rec). q.count) h.its
 
-  pub job_flag : job.rec.discard ≡ is_none (write_at its_opening.entry its_opening.entry.done).value
+  pub job_flag : job.rec.discard ≡ is_none (write_at its_transaction.entry its_transaction.entry.done).value
   job_flag = ap (λ (q : Rec). q.discard) h.its
 
   pub job_clear : block_to_go n job.rec.page job.rec.version ≡ None
   job_clear = ap (λ (q : Rec). block_to_go n q.page q.version) h.its ∙ h.clear
 
-module _ (s : FlashState) (n : Noted) (t : BlockTable) (O : OpenTable) (i : ℕ) (job : Job) (laws : HasLaws n.config.protocol)
-    (k : IsKept s n t unsure.Nothing O) (size : O.page_bytes ≡ n.config.page_bytes) (h : IsJobDue n t O i job) where
+module _ (s : FlashState) (n : IndexState) (t : BlocksState) (O : OpenTransactionsState) (i : ℕ) (job : Job) (laws : HasLaws n.config.protocol)
+    (k : BlocksInvariant s n t unsure.Nothing O) (size : O.page_bytes ≡ n.config.page_bytes) (h : IsJobDue n t O i job) where
   abbrev p : Protocol
   p = n.config.protocol
 
-  abbrev o : Opening
-  o = opening_at O i
+  abbrev o : TransactionState
+  o = transaction_at O i
 
   abbrev at : Slot
   at = job.slot
@@ -180,9 +150,9 @@ module _ (s : FlashState) (n : Noted) (t : BlockTable) (O : OpenTable) (i : ℕ)
     left_records : (c : Contents) → slot_at s'.image at.0 ≡ c → records_in p s'.image ≡ found_in (settled_by c).noted.notes
     left_records c is = laws.images.records s' n t (unsure.Own at r) unknown job_take refl ∙ ap (λ (x : Contents). found_in (settled_by x).noted.notes) is
 
-    each_left : All (IsOpening s'.image n) O.all
-    each_left = All-from_get_or (IsOpening s'.image n) O.all no_opening
-        (λ j inside. image_opening n s.image s'.image left_stay (opening_at O j) (k.each j no_opening inside))
+    each_left : All (IsTransaction s'.image n) O.all
+    each_left = All-from_get_or (IsTransaction s'.image n) O.all no_transaction
+        (λ j inside. image_transaction n s.image s'.image left_stay (transaction_at O j) (k.each j no_transaction inside))
 
   calm : CalmBeside O.all i
   calm j inside other = calm_at O.all k.doubt j inside
@@ -215,7 +185,7 @@ module _ (s : FlashState) (n : Noted) (t : BlockTable) (O : OpenTable) (i : ℕ)
       plain = λ more. h.due.plain;
     }
 
-    pub whole_kept : IsKept s' (programmed n at.0 r) (with_slot t at.0) unsure.Nothing (with_opening O i (with_next o))
+    pub whole_kept : BlocksInvariant s' (programmed n at.0 r) (with_slot t at.0) unsure.Nothing (with_transaction O i (with_next o))
     whole_kept =
         next_kept p laws.notes s s' n t (with_slot t at.0) unsure.Nothing O i at.0 r k h.due.exists (each_left s' shape outcome.All image) calm whole_next
         (left_matches s' shape outcome.All image (complete bytes (spelling p r)) here)
@@ -247,7 +217,7 @@ module _ (s : FlashState) (n : Noted) (t : BlockTable) (O : OpenTable) (i : ℕ)
     pub spoilt_preserves : Preserves n (damaged_at n at.0)
     spoilt_preserves = preserved.0
 
-    pub spoilt_kept : IsKept s' (damaged_at n at.0) (with_slot t at.0) unsure.Nothing O
+    pub spoilt_kept : BlocksInvariant s' (damaged_at n at.0) (with_slot t at.0) unsure.Nothing O
     spoilt_kept =
         kept_still s s' n (damaged_at n at.0) t (with_slot t at.0) unsure.Nothing unsure.Nothing O laws.arrays k nothing_no_own nothing_no_own
         (left_matches s' shape outcome.Bad image damaged spoilt) preserved.0 same_array

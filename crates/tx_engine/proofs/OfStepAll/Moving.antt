@@ -1,48 +1,34 @@
 -- Several open transactions that go on together: from what is planned to what is counted.
-use Rattle.std.proofs.Common.{◌≡◌, ◌≢◌, ℕ, ◌<◌, ◌==◌, false, eq-eqb, List, [], ◌∷◌, length, Ok, Err, refl, sym, ap, ◌∙◌, subst, arith}
-use Rattle.std.proofs.lemmas.Bool.{both_ways}
-use Rattle.std.proofs.lemmas.List.{length-map}
-use Rattle.tx_types.specs.declared.config.Config.{Config}
-use Rattle.tx_types.specs.declared.config.Protocol.{Protocol}
-use Rattle.tx_types.specs.declared.config.Slot.{Slot}
-use Rattle.flash_model.specs.Flash.{FlashState}
-use Rattle.flash_model.specs.declared.flash.Broken.{Broken}
-use Rattle.array_machine.specs.declared.answers.Moved.{Moved}
-use Rattle.tx_engine.specs.BatchCalls.{CanCountAll, CanWriteAll, CountsAll, DroppedAll, MovesAll, WrittenAll, chosen_now}
-use Rattle.tx_engine.specs.Batches.{jobs_of}
-use Rattle.tx_engine.specs.OpenTable.{OpenTable, Opening, opening_at}
-use Rattle.tx_engine.specs.Settling.{CountsOn}
-use Rattle.tx_engine.specs.Stored.{Stored}
-use Rattle.tx_engine.specs.declared.jobs.Job.{Job}
+use Rattle.tx_engine.proofs.Common.{◌≡◌, ◌≢◌, ℕ, ◌<◌, ◌==◌, false, eq-eqb, List, [], ◌∷◌, length, Ok, Err, refl, sym, ap, ◌∙◌, subst, arith, both_ways, length-map, Config, Protocol, Slot, FlashState, Broken, Moved, CanCountAll, CanWriteAll, CountsAll, DroppedAll, MovesAll, WrittenAll, chosen_now, jobs_of, OpenTransactionsState, TransactionState, transaction_at, CountsOn, StoreState, Job}
 use Rattle.tx_engine.proofs.OfStep.AdvanceExits.{next_ready}
 use Rattle.tx_engine.proofs.OfStepAll.Nexts.{AreDue, are_due, next_at, nexts_long}
 
 -- what was written at once may be counted
-pub written_counts : {F : Type 0} (state : F → FlashState) (p : Protocol) (S S1 : Stored F) (O O1 : OpenTable) (jobs : List Job) →
+pub written_counts : {F : Type 0} (state : F → FlashState) (p : Protocol) (S S1 : StoreState F) (O O1 : OpenTransactionsState) (jobs : List Job) →
     CanWriteAll state p S O jobs → WrittenAll state S S1 O O1 jobs → CanCountAll state p S1 O1 (length jobs)
 written_counts state p S S1 O O1 jobs can w =
     let due : AreDue O (length jobs) = are_due S.noted S.table O jobs can.due in
     record {
       ready = record { stands = w.stands; rule = ap (λ (c : Config). c.protocol) w.exits.tables.config ∙ can.ready.rule; sure = w.sure };
       within =
-          let long : length O1.all ≡ length O.all = ap (λ (o : OpenTable). length o.all) w.opens ∙ nexts_long O jobs due in
+          let long : length O1.all ≡ length O.all = ap (λ (o : OpenTransactionsState). length o.all) w.opens ∙ nexts_long O jobs due in
           let within = due.within in omega (arith, long, within);
-      counts = λ k less. subst CountsOn (sym (ap (λ (o : OpenTable). opening_at o k) w.opens ∙ next_at O jobs due k less))
-          (next_ready (opening_at O k) (due.plain k less) (due.unnoted k less));
+      counts = λ k less. subst CountsOn (sym (ap (λ (o : OpenTransactionsState). transaction_at o k) w.opens ∙ next_at O jobs due k less))
+          (next_ready (transaction_at O k) (due.plain k less) (due.unnoted k less));
     }
 
 pub some_by : (jobs : List Job) (long : ℕ) → length jobs ≡ long → (long == 0) ≡ false → jobs ≢ []
 some_by jobs long is other none = let zero : long ≡ 0 = sym is ∙ ap length none in both_ways (long == 0) other (eq-eqb long 0 zero)
 
 -- nothing was chosen where there is no program
-pub none_chosen : (n : _) (chosen : List (Slot × Opening)) → jobs_of n chosen ≡ [] → chosen ≡ []
+pub none_chosen : (n : _) (chosen : List (Slot × TransactionState)) → jobs_of n chosen ≡ [] → chosen ≡ []
 none_chosen n [] is = refl
 none_chosen n (x ∷ chosen) is = absurd (let long = ap length is in omega (arith, long))
 
-pub some_chosen : (n : _) (chosen : List (Slot × Opening)) → chosen ≢ [] → jobs_of n chosen ≢ []
+pub some_chosen : (n : _) (chosen : List (Slot × TransactionState)) → chosen ≢ [] → jobs_of n chosen ≢ []
 some_chosen n chosen some is = some (none_chosen n chosen is)
 
-module _ {F : Type 0} (state : F → FlashState) (S T W : Stored F) (O OW : OpenTable) (jobs : List Job) (same : T ≡ S)
+module _ {F : Type 0} (state : F → FlashState) (S T W : StoreState F) (O OW : OpenTransactionsState) (jobs : List Job) (same : T ≡ S)
     (its : jobs ≡ jobs_of S.noted (chosen_now S O)) (some : jobs ≢ []) (any_open : 0 < length O.all) where
   not_none : O.all ≢ []
   not_none is = absurd (let long = ap length is in omega (arith, long, any_open))
@@ -50,7 +36,7 @@ module _ {F : Type 0} (state : F → FlashState) (S T W : Stored F) (O OW : Open
   not_first : chosen_now S O ≢ []
   not_first is = some (its ∙ ap (jobs_of S.noted) is)
 
-  pub moved_chosen : (S' : Stored F) (O' : OpenTable) (moved : ℕ) (answer : Moved) → WrittenAll state T W O OW jobs →
+  pub moved_chosen : (S' : StoreState F) (O' : OpenTransactionsState) (moved : ℕ) (answer : Moved) → WrittenAll state T W O OW jobs →
       CountsAll state W S' OW O' moved answer → moved ≡ length jobs → MovesAll state S S' O O' (Ok answer)
   moved_chosen S' O' moved answer w counts is = record {
     none = λ none. absurd (not_none none);
@@ -59,7 +45,7 @@ module _ {F : Type 0} (state : F → FlashState) (S T W : Stored F) (O OW : Open
       between = W;
       opens = OW;
       moved = (
-        subst (λ (X : Stored F). WrittenAll state X W O OW (jobs_of S.noted (chosen_now S O))) same (subst (WrittenAll state T W O OW) its w),
+        subst (λ (X : StoreState F). WrittenAll state X W O OW (jobs_of S.noted (chosen_now S O))) same (subst (WrittenAll state T W O OW) its w),
         subst (λ m. CountsAll state W S' OW O' m answer) (is ∙ ap length its ∙ length-map (chosen_now S O) _) counts,
       );
       broken = tt;
@@ -75,7 +61,7 @@ module _ {F : Type 0} (state : F → FlashState) (S T W : Stored F) (O OW : Open
       between = W;
       opens = OW;
       moved = tt;
-      broken = subst (λ (X : Stored F). DroppedAll state X W O (jobs_of S.noted (chosen_now S O))) same (subst (DroppedAll state T W O) its broken);
+      broken = subst (λ (X : StoreState F). DroppedAll state X W O (jobs_of S.noted (chosen_now S O))) same (subst (DroppedAll state T W O) its broken);
       kept = kept;
     };
   }

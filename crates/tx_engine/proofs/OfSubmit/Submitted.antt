@@ -1,44 +1,25 @@
 -- A device stands once a transaction is opened.
-use Rattle.std.proofs.Common.{◌≡◌, ◌≢◌, ◌↔◌, ℕ, ◌+◌, ◌^◌, ◌<◌, ◌≤◌, ◌==◌, false, List, [], ◌∷◌, ◌++◌, length, map, get_or, All, Any, AllPairs, Contains, refl}
-use Rattle.std.proofs.Common.{sym, ap, ap₂, ◌∙◌, subst, subst₂, inl, inr, arith}
-use Rattle.std.specs.List.{AllZip}
-use Rattle.std.proofs.lemmas.Bool.{cases_Bool, le-ltb, cond-true, eq-eqb}
-use Rattle.std.proofs.lemmas.List.{map_push, length-map}
+use Rattle.tx_engine.proofs.Common.{◌≡◌, ◌≢◌, ℕ, ◌+◌, ◌^◌, ◌<◌, ◌≤◌, ◌==◌, false, List, [], ◌∷◌, ◌++◌, length, map, get_or, All, AllPairs, Contains, refl, sym, ap, ap₂, ◌∙◌, subst, inl, inr, arith, AllZip, cases_Bool, le-ltb, cond-true, map_push, length-map, All-push, All-contains, Contains-get_or, all_from, pairs_cons, pairs_head, pairs_tail, PageWrite, bytes_in, Protocol, Link, Rec, FlashState, Contents, Found, mention, mention_at, version_of, is_present, ShareNoPage, found_named, found_in, IndexState, IsNextRecord, current_of, mention_of, pinned_names, Unsure, array_known, Entry, is_doubted, pending_pages, Mark, Plain, Doubt, Whole, with_pins, OpenTransactionsState, TransactionState, entries_of, namings_of, begun, Naming, Stands, DoubtsAs, IsOpenAs, IsNamed, IsAsMarked, IsUnderWay, name_at, limits_of, no_name, StoreState, IsStoreState, DeviceInvariant, device_in, Inside}
+use Rattle.std.proofs.Common.{◌↔◌, Any}
+use Rattle.std.proofs.Common.{subst₂}
+use Rattle.std.proofs.lemmas.Bool.{eq-eqb}
 use Rattle.std.proofs.lemmas.List.Sums.{sum_by_push}
-use Rattle.std.proofs.lemmas.List.Elements.{All-push, All-contains, Contains-get_or, Contains-push}
+use Rattle.std.proofs.lemmas.List.Elements.{Contains-push}
 use Rattle.std.proofs.lemmas.List.Quantifiers.{all_pairs_push, Any-push}
 use Rattle.std.proofs.lemmas.Option.{slice_get-get_or}
 use Rattle.std.proofs.lemmas.Slice.Zip.{AllZip-long}
-use Rattle.list_facts.proofs.Membership.{all_from, in_map, map_in}
-use Rattle.list_facts.proofs.Quantifiers.{any_before, any_push_cases}
-use Rattle.list_facts.proofs.Lists.{got_before, got_push}
-use Rattle.list_facts.proofs.Pairs.{pairs_cons, pairs_head, pairs_tail, zip_weaker, zip_push, zip_at}
-use Rattle.tx_types.specs.Batch.{PageWrite, bytes_in}
-use Rattle.tx_types.specs.declared.config.Protocol.{Protocol}
-use Rattle.tx_types.specs.declared.record.Link.{Link}
-use Rattle.tx_types.specs.declared.record.Rec.{Rec}
-use Rattle.flash_model.specs.Flash.{FlashState, Contents}
-use Rattle.record_list.specs.declared.found.Found.{Found}
-use Rattle.record_list.specs.Records.{mention, mentioned_at, version_of, is_present}
-use Rattle.record_list.specs.Transaction.{IsTransaction, ShareNoPage}
-use Rattle.record_list.proofs.OfFacts.Names.{found_named, greatest_bound}
+use Rattle.list_lemmas.proofs.Membership.{in_map, map_in}
+use Rattle.list_lemmas.proofs.Quantifiers.{any_before, any_push_cases}
+use Rattle.list_lemmas.proofs.Lists.{got_before, got_push}
+use Rattle.list_lemmas.proofs.Pairs.{zip_weaker, zip_push, zip_at}
+use Rattle.record_list.specs.Transaction.{IsTransaction}
+use Rattle.record_list.proofs.OfFacts.Names.{greatest_bound}
 use Rattle.record_list.proofs.OfFacts.Asking.{begins}
-use Rattle.version_index.specs.Notes.{found_in}
-use Rattle.version_index.specs.Noted.{Noted, IsNextRecord, current_of, mention_of, pinned_names}
-use Rattle.collector.specs.declared.unsure.Unsure.{Unsure}
 use Rattle.collector.specs.declared.unsure.Unsure.TheVariants as unsure
-use Rattle.collector.specs.Known.{array_known}
-use Rattle.tx_engine.specs.ArrayState.{Entry, is_doubted, pending_pages, opening}
-use Rattle.array_machine.specs.declared.mark.Mark.{Mark}
-use Rattle.array_machine.specs.declared.mark.Mark.TheVariants.{Plain, Doubt, Whole}
-use Rattle.tx_engine.specs.Naming.{with_pins}
-use Rattle.tx_engine.specs.OpenTable.{OpenTable, IsOpenTable, Opening, entries_of, namings_of, next_name, begun}
-use Rattle.tx_engine.specs.Standing.{Naming, Stands, DoubtsAs, IsOpenAs, IsNamed, IsAsMarked, IsUnderWay, name_at, limits_of, no_name}
-use Rattle.tx_engine.specs.Stored.{Stored, IsStored}
-use Rattle.tx_engine.specs.Tables.{IsStanding, standing_in}
-use Rattle.tx_engine.specs.declared.device.Device.TheInside.{Inside}
+use Rattle.tx_engine.specs.ArrayState.{new_entry}
+use Rattle.tx_engine.specs.OpenTransactionsState.{IsOpenTransactionsState, next_name}
 use Rattle.array_machine.proofs.Accepting.{IsAccepted}
-use Rattle.tx_engine.proofs.OfStanding.KeptDevices.{kept_is}
+use Rattle.tx_engine.proofs.OfDevice.KeptDevices.{kept_is}
 use Rattle.tx_engine.proofs.OfTables.PinnedNames.{pinned_then}
 
 -- a name above all mentions of its page is absent
@@ -47,7 +28,7 @@ above_mention l a above = elim (cases_Bool (is_present l a)) [
   | inr gone ↦ gone
   | inl here ↦ (
       let f = found_named l a here in
-      let bound : mentioned_at a.page f.0.rec ≤ mention l a.page = greatest_bound (mentioned_at a.page) l f.0 f.1 in
+      let bound : mention_at a.page f.0.rec ≤ mention l a.page = greatest_bound (mention_at a.page) l f.0 f.1 in
       let page : f.0.rec.page ≡ a.page = ap (λ (b : Link). b.page) f.2 in
       let version : f.0.rec.version ≡ a.version = ap (λ (b : Link). b.version) f.2 in
       let at : version_of a.page f.0.rec ≡ f.0.rec.version = cond-true (f.0.rec.page == a.page) f.0.rec.version 0 (eq-eqb f.0.rec.page a.page page) in
@@ -55,31 +36,31 @@ above_mention l a above = elim (cases_Bool (is_present l a)) [
 ]
 
 -- the pins say nothing of open transactions
-abbrev pub repinned : Noted → List ℕ → Noted
+abbrev pub repinned : IndexState → List ℕ → IndexState
 repinned n pins = record n { pins = pins }
 
-under_way_aside : (image : List Contents) (n : Noted) (pins : List ℕ) (e : Entry) (x : Naming) → IsUnderWay image n e x → IsUnderWay image (repinned n pins) e x
+under_way_aside : (image : List Contents) (n : IndexState) (pins : List ℕ) (e : Entry) (x : Naming) → IsUnderWay image n e x → IsUnderWay image (repinned n pins) e x
 under_way_aside image n pins e x u = record { in_progress = u.in_progress; least = u.least; most = u.most; short = u.short; noted = u.noted; texts = u.texts }
 
-marked_aside : (image : List Contents) (n : Noted) (pins : List ℕ) (e : Entry) (x : Naming) (m : Mark) → IsAsMarked image n e x m →
+marked_aside : (image : List Contents) (n : IndexState) (pins : List ℕ) (e : Entry) (x : Naming) (m : Mark) → IsAsMarked image n e x m →
     IsAsMarked image (repinned n pins) e x m
 unfolding current_of
 marked_aside image n pins e x Plain u = under_way_aside image n pins e x u
 marked_aside image n pins e x Doubt u = (under_way_aside image n pins e x u.0, u.1)
 marked_aside image n pins e x Whole u = u
 
-pub open_aside : (image : List Contents) (n : Noted) (pins : List ℕ) (e : Entry) (x : Naming) → IsOpenAs image n e x → IsOpenAs image (repinned n pins) e x
+pub open_aside : (image : List Contents) (n : IndexState) (pins : List ℕ) (e : Entry) (x : Naming) → IsOpenAs image n e x → IsOpenAs image (repinned n pins) e x
 open_aside image n pins e x o = record { named = o.named; marked = marked_aside image n pins e x e.mark o.marked }
 
-abbrev pub next_aside : (n : Noted) (pins : List ℕ) (rec : Rec) → IsNextRecord n rec → IsNextRecord (repinned n pins) rec
+abbrev pub next_aside : (n : IndexState) (pins : List ℕ) (rec : Rec) → IsNextRecord n rec → IsNextRecord (repinned n pins) rec
 next_aside n pins rec h = record { names = h.names; in_progress = h.in_progress; named = h.named; fresh = h.fresh; asked = h.asked; clear = h.clear }
 
-pub array_aside : (n : Noted) (pins : List ℕ) (image : List Contents) → array_known (repinned n pins) image ≡ array_known n image
+pub array_aside : (n : IndexState) (pins : List ℕ) (image : List Contents) → array_known (repinned n pins) image ≡ array_known n image
 unfolding array_known current_of
 array_aside n pins image = refl
 
 -- what is in doubt stays so beside one that was just opened
-pub doubt_push : (image : List Contents) (n : Noted) (pins : List ℕ) (entries : List Entry) (namings : List Naming) (e : Entry) (x : Naming) →
+pub doubt_push : (image : List Contents) (n : IndexState) (pins : List ℕ) (entries : List Entry) (namings : List Naming) (e : Entry) (x : Naming) →
     is_doubted e.mark ≡ false → (u : Unsure) →
     DoubtsAs image n entries namings u → DoubtsAs image (repinned n pins) (entries ++ e ∷ []) (namings ++ x ∷ []) u
 doubt_push image n pins entries namings e x plain (unsure.Own at rec) own = record {
@@ -106,11 +87,11 @@ doubt_push image n pins entries namings e x plain unsure.SpareErase all = All-pu
 doubt_push image n pins entries namings e x plain (unsure.VictimErase block) all = All-push (λ (f : Entry). is_doubted f.mark ≡ false) entries e all plain
 
 -- the pages of names and of writes
-same_pages_of : (n : Noted) (ws : List PageWrite) → map (λ (a : Link). a.page) (map (next_name n) ws) ≡ map (λ (w : PageWrite). w.page) ws
+same_pages_of : (n : IndexState) (ws : List PageWrite) → map (λ (a : Link). a.page) (map (next_name n) ws) ≡ map (λ (w : PageWrite). w.page) ws
 same_pages_of n [] = refl
 same_pages_of n (w ∷ ws) = ap (λ ps. w.page ∷ ps) (same_pages_of n ws)
 
-distinct_names : (n : Noted) (ws : List PageWrite) → AllPairs (λ (v : PageWrite) (w : PageWrite). v.page ≢ w.page) ws →
+distinct_names : (n : IndexState) (ws : List PageWrite) → AllPairs (λ (v : PageWrite) (w : PageWrite). v.page ≢ w.page) ws →
     AllPairs (λ (a : Link) (b : Link). a.page ≢ b.page) (map (next_name n) ws)
 distinct_names n [] all = λ i j d less below. absurd (omega arith)
 distinct_names n (w ∷ ws) all =
@@ -126,12 +107,12 @@ write_of_name : (names : List Link) (ws : List PageWrite) → map (λ (a : Link)
 write_of_name names ws pages a i =
     in_map (λ (w : PageWrite). w.page) ws a.page (subst (λ ps. Contains ps a.page) pages (map_in (λ (b : Link). b.page) names a i))
 
-module _ {F : Type 0} (state : F → FlashState) (p : Protocol) (s : Stored F) (t : OpenTable) (stands : Stands state (standing_in state s t))
+module _ {F : Type 0} (state : F → FlashState) (p : Protocol) (s : StoreState F) (t : OpenTransactionsState) (stands : Stands state (device_in state s t))
     (rule : s.noted.config.protocol ≡ p)
     (tag : ℕ) (ws : List PageWrite) (ok : IsAccepted (limits_of s.noted.config) (entries_of t) tag ws)
     (unspent : All (λ w. mention_of s.noted w.page < 2 ^ 62) ws)
     (whole : All (λ w. length (bytes_in s.noted.config.page_bytes w) ≡ s.noted.config.page_bytes) ws) where
-  abbrev pub n : Noted
+  abbrev pub n : IndexState
   n = s.noted
 
   abbrev pub image : List Contents
@@ -140,8 +121,8 @@ module _ {F : Type 0} (state : F → FlashState) (p : Protocol) (s : Stored F) (
   abbrev pub names : List Link
   names = map (next_name n) ws
 
-  abbrev pub the_opening : Opening
-  the_opening = begun n tag ws
+  abbrev pub the_transaction : TransactionState
+  the_transaction = begun n tag ws
 
   abbrev pub pins : List ℕ
   pins = with_pins n.pins names
@@ -172,7 +153,7 @@ module _ {F : Type 0} (state : F → FlashState) (p : Protocol) (s : Stored F) (
   as_many : length names ≡ length ws
   as_many = length-map ws (next_name n)
 
-  pub opened_as : IsOpenAs image (repinned n pins) the_opening.entry the_opening.naming
+  pub opened_as : IsOpenAs image (repinned n pins) the_transaction.entry the_transaction.naming
   opened_as = record {
     named = record {
       pages = same_pages_of n ws;
@@ -185,7 +166,7 @@ module _ {F : Type 0} (state : F → FlashState) (p : Protocol) (s : Stored F) (
       least = omega arith;
       most = omega arith;
       short = omega (arith, as_many, ok.some);
-      noted = λ k inside. above_mention (found_in n.notes) (name_at the_opening.naming k) (all_below k no_name inside) ∙ sym (le-ltb k 0 (omega arith));
+      noted = λ k inside. above_mention (found_in n.notes) (name_at the_transaction.naming k) (all_below k no_name inside) ∙ sym (le-ltb k 0 (omega arith));
       texts = λ k less. absurd (omega arith);
     };
   }
@@ -205,10 +186,10 @@ module _ {F : Type 0} (state : F → FlashState) (p : Protocol) (s : Stored F) (
   apart_at k d inside =
       let long = AllZip-long (IsOpenAs image n) (entries_of t) (namings_of t) stands.each in
       let within : k < length (entries_of t) = omega arith in
-      let e = get_or (entries_of t) k the_opening.entry in
+      let e = get_or (entries_of t) k the_transaction.entry in
       let o = zip_at (IsOpenAs image n) (entries_of t) (namings_of t) k e (get_or (namings_of t) k d) stands.each
-      (slice_get-get_or (entries_of t) k the_opening.entry within) (slice_get-get_or (namings_of t) k d inside) in
-      apart_open e (get_or (namings_of t) k d) (Contains-get_or (entries_of t) k the_opening.entry within) o.named
+      (slice_get-get_or (entries_of t) k the_transaction.entry within) (slice_get-get_or (namings_of t) k d inside) in
+      apart_open e (get_or (namings_of t) k d) (Contains-get_or (entries_of t) k the_transaction.entry within) o.named
 
   -- what was pinned is of other pages
   apart_pinned : (a b : Link) → Contains (pinned_names n.pins) a → Contains names b → a.page ≢ b.page
@@ -217,7 +198,7 @@ module _ {F : Type 0} (state : F → FlashState) (p : Protocol) (s : Stored F) (
       apart_at any.0 any.1 any.2 a b
       (subst (λ (x : Naming). Contains x.names a) (sym any.3) any.4) j
 
-  pub pinned_now : (name : Link) → Contains (pinned_names pins) name ↔ Any (λ x. Contains x.names name) (namings_of t ++ the_opening.naming ∷ [])
+  pub pinned_now : (name : Link) → Contains (pinned_names pins) name ↔ Any (λ x. Contains x.names name) (namings_of t ++ the_transaction.naming ∷ [])
   pinned_now name =
       let then = pinned_then names n.pins transaction.distinct
       (all_from (λ a. (a.page < length n.pins) × (1 ≤ a.version)) names (λ a i.
@@ -227,83 +208,83 @@ module _ {F : Type 0} (state : F → FlashState) (p : Protocol) (s : Stored F) (
       apart_pinned name in
       let P : Naming → Type 0 = λ x. Contains x.names name in (
         λ c. elim (then.0 c) [
-          | inl before ↦ any_before P (namings_of t) the_opening.naming ((stands.pinned name).0 before)
-          | inr new ↦ Any-push P (namings_of t) the_opening.naming new
+          | inl before ↦ any_before P (namings_of t) the_transaction.naming ((stands.pinned name).0 before)
+          | inr new ↦ Any-push P (namings_of t) the_transaction.naming new
         ],
-        λ any. elim (any_push_cases P (namings_of t) the_opening.naming any) [
+        λ any. elim (any_push_cases P (namings_of t) the_transaction.naming any) [
           | inl before ↦ then.1 (inl ((stands.pinned name).1 before))
           | inr new ↦ then.1 (inr new)
         ],
       )
 
   -- the device stands with it, where its store has the tables with these pins
-  module _ (stored : IsStored state p (record s { noted = repinned n pins })) where
-    abbrev pub table : OpenTable
-    table = record t { all = t.all ++ the_opening ∷ [] }
+  module _ (stored : IsStoreState state p (record s { noted = repinned n pins })) where
+    abbrev pub table : OpenTransactionsState
+    table = record t { all = t.all ++ the_transaction ∷ [] }
 
-    entries_are : entries_of table ≡ entries_of t ++ the_opening.entry ∷ []
-    entries_are = map_push (λ (o : Opening). o.entry) t.all the_opening
+    entries_are : entries_of table ≡ entries_of t ++ the_transaction.entry ∷ []
+    entries_are = map_push (λ (o : TransactionState). o.entry) t.all the_transaction
 
-    namings_are : namings_of table ≡ namings_of t ++ the_opening.naming ∷ []
-    namings_are = map_push (λ (o : Opening). o.naming) t.all the_opening
+    namings_are : namings_of table ≡ namings_of t ++ the_transaction.naming ∷ []
+    namings_are = map_push (λ (o : TransactionState). o.naming) t.all the_transaction
 
-    pub stands_then : Stands state (standing_in state (record s { noted = repinned n pins }) table)
+    pub stands_then : Stands state (device_in state (record s { noted = repinned n pins }) table)
     stands_then = record {
       matches = stored.matches;
       config = refl;
       array = refl;
       each = subst₂ (AllZip (IsOpenAs image (repinned n pins))) (sym entries_are) (sym namings_are)
-          (zip_push (IsOpenAs image (repinned n pins)) (entries_of t) (namings_of t) the_opening.entry the_opening.naming
+          (zip_push (IsOpenAs image (repinned n pins)) (entries_of t) (namings_of t) the_transaction.entry the_transaction.naming
           (zip_weaker (IsOpenAs image n) (IsOpenAs image (repinned n pins)) (open_aside image n pins) (entries_of t) (namings_of t) stands.each) opened_as);
       doubt = subst₂ (λ es xs. DoubtsAs image (repinned n pins) es xs s.unsure) (sym entries_are) (sym namings_are)
-          (doubt_push image n pins (entries_of t) (namings_of t) the_opening.entry the_opening.naming refl s.unsure stands.doubt);
+          (doubt_push image n pins (entries_of t) (namings_of t) the_transaction.entry the_transaction.naming refl s.unsure stands.doubt);
       tags = subst (AllPairs (λ (a : Entry) (b : Entry). a.tag ≢ b.tag)) (sym entries_are)
-          (all_pairs_push (λ (a : Entry) (b : Entry). a.tag ≢ b.tag) (entries_of t) the_opening.entry stands.tags ok.unused);
+          (all_pairs_push (λ (a : Entry) (b : Entry). a.tag ≢ b.tag) (entries_of t) the_transaction.entry stands.tags ok.unused);
       apart = subst (AllPairs (λ (a : Naming) (b : Naming). ShareNoPage a.names b.names)) (sym namings_are)
-          (all_pairs_push (λ (a : Naming) (b : Naming). ShareNoPage a.names b.names) (namings_of t) the_opening.naming stands.apart (λ k d inside.
+          (all_pairs_push (λ (a : Naming) (b : Naming). ShareNoPage a.names b.names) (namings_of t) the_transaction.naming stands.apart (λ k d inside.
           all_from (λ a. All (λ b. a.page ≢ b.page) names) (get_or (namings_of t) k d).names (λ a i.
           all_from (λ b. a.page ≢ b.page) names (λ b j. apart_at k d inside a b i j))));
       few = subst (λ es. pending_pages es ≤ n.config.pending) (sym entries_are)
-          (omega (arith, sum_by_push (λ (e : Entry). length e.writes) (entries_of t) the_opening.entry, ok.room, ok.some, stands.few));
+          (omega (arith, sum_by_push (λ (e : Entry). length e.writes) (entries_of t) the_transaction.entry, ok.room, ok.some, stands.few));
       pinned = λ name. subst (λ xs. Contains (pinned_names pins) name ↔ Any (λ x. Contains x.names name) xs) (sym namings_are) (pinned_now name);
     }
 
 -- the writes of the last transaction of a table are whole
-whole_last : (t t' : OpenTable) (o : Opening) → t' ≡ record t { all = t.all ++ o ∷ [] } → IsOpenTable t' →
+whole_last : (t t' : OpenTransactionsState) (o : TransactionState) → t' ≡ record t { all = t.all ++ o ∷ [] } → IsOpenTransactionsState t' →
     All (λ w. length (bytes_in t.page_bytes w) ≡ t.page_bytes) o.entry.writes
 whole_last t t' o same kept =
-    let is : IsOpenTable (record t { all = t.all ++ o ∷ [] }) = subst IsOpenTable same kept in
-    All-contains (λ (x : Opening). All (λ w. length (bytes_in t.page_bytes w) ≡ t.page_bytes) x.entry.writes) (t.all ++ o ∷ []) o is.whole
+    let is : IsOpenTransactionsState (record t { all = t.all ++ o ∷ [] }) = subst IsOpenTransactionsState same kept in
+    All-contains (λ (x : TransactionState). All (λ w. length (bytes_in t.page_bytes w) ≡ t.page_bytes) x.entry.writes) (t.all ++ o ∷ []) o is.whole
     (Contains-push t.all o)
 
 -- The device after a batch that is not refused was opened, with the calls that do it.
-module _ {F R : Type 0} (state : F → FlashState) (p : Protocol) (d : Inside F R) (h : IsStanding state p d)
-    (stands : Stands state (standing_in state d.store d.openings)) (tag : ℕ) (ws : List PageWrite)
-    (ok : IsAccepted (limits_of d.store.noted.config) (entries_of d.openings) tag ws) (unspent : All (λ w. mention_of d.store.noted w.page < 2 ^ 62) ws)
-    (store : Stored F) (stored : IsStored state p store)
+module _ {F R : Type 0} (state : F → FlashState) (p : Protocol) (d : Inside F R) (h : DeviceInvariant state p d)
+    (stands : Stands state (device_in state d.store d.transactions)) (tag : ℕ) (ws : List PageWrite)
+    (ok : IsAccepted (limits_of d.store.noted.config) (entries_of d.transactions) tag ws) (unspent : All (λ w. mention_of d.store.noted w.page < 2 ^ 62) ws)
+    (store : StoreState F) (stored : IsStoreState state p store)
     (pins : store ≡ record d.store { noted = repinned d.store.noted (with_pins d.store.noted.pins (map (next_name d.store.noted) ws)) })
-    (openings : OpenTable) (kept : IsOpenTable openings)
-    (opens : openings ≡ record d.openings { all = d.openings.all ++ begun d.store.noted tag ws ∷ [] }) where
-  abbrev new_store : Stored F
+    (transactions : OpenTransactionsState) (kept : IsOpenTransactionsState transactions)
+    (opens : transactions ≡ record d.transactions { all = d.transactions.all ++ begun d.store.noted tag ws ∷ [] }) where
+  abbrev new_store : StoreState F
   new_store = record d.store { noted = repinned d.store.noted (with_pins d.store.noted.pins (map (next_name d.store.noted) ws)) }
 
-  abbrev new_table : OpenTable
-  new_table = record d.openings { all = d.openings.all ++ begun d.store.noted tag ws ∷ [] }
+  abbrev new_table : OpenTransactionsState
+  new_table = record d.transactions { all = d.transactions.all ++ begun d.store.noted tag ws ∷ [] }
 
-  pub standing_then : IsStanding state p (record d { store = store; openings = openings })
-  standing_then =
+  pub device_then : DeviceInvariant state p (record d { store = store; transactions = transactions })
+  device_then =
       let whole : All (λ w. length (bytes_in d.store.noted.config.page_bytes w) ≡ d.store.noted.config.page_bytes) ws =
       subst (λ size. All (λ (w : PageWrite). length (bytes_in size w) ≡ size) ws) h.page_bytes
-      (whole_last d.openings openings (begun d.store.noted tag ws) opens kept) in
-      subst₂ (λ (s : Stored F) (t : OpenTable). IsStanding state p (record d { store = s; openings = t })) (sym pins) (sym opens)
+      (whole_last d.transactions transactions (begun d.store.noted tag ws) opens kept) in
+      subst₂ (λ (s : StoreState F) (t : OpenTransactionsState). DeviceInvariant state p (record d { store = s; transactions = t })) (sym pins) (sym opens)
       (kept_is state p d new_store new_table h
-      (stands_then state p d.store d.openings stands h.rule tag ws ok unspent whole (subst (IsStored state p) pins stored)) refl
+      (stands_then state p d.store d.transactions stands h.rule tag ws ok unspent whole (subst (IsStoreState state p) pins stored)) refl
       (record { page_bytes = refl; logical = refl; pending = refl }))
 
-  pub machine_then : (standing_in state store openings).machine
-      ≡ record (standing_in state d.store d.openings).machine { entries = entries_of d.openings ++ opening tag ws ∷ [] }
+  pub machine_then : (device_in state store transactions).machine
+      ≡ record (device_in state d.store d.transactions).machine { entries = entries_of d.transactions ++ new_entry tag ws ∷ [] }
   machine_then =
-      ap₂ (λ (s : Stored F) (t : OpenTable). (standing_in state s t).machine) pins opens
+      ap₂ (λ (s : StoreState F) (t : OpenTransactionsState). (device_in state s t).machine) pins opens
       ∙ ap₂ (λ pages es. record { pages = pages; entries = es })
       (array_aside d.store.noted (with_pins d.store.noted.pins (map (next_name d.store.noted) ws)) (state d.store.flash).image)
-      (map_push (λ (o : Opening). o.entry) d.openings.all (begun d.store.noted tag ws))
+      (map_push (λ (o : TransactionState). o.entry) d.transactions.all (begun d.store.noted tag ws))

@@ -1,20 +1,10 @@
 -- What submitting a batch asks of the calls that it makes, and what it answers.
-use Rattle.std.proofs.Common.{◌≡◌, ℕ, ◌+◌, ◌^◌, ◌<◌, Bool, false, List, [], ◌∷◌, ◌++◌, length, map, take, get_or, set, All, Option, None, Ok, refl, sym, ap}
-use Rattle.std.proofs.Common.{ap₂, ◌∙◌, arith, leb-false}
-use Rattle.std.specs.List.{AllZip}
-use Rattle.std.proofs.lemmas.List.{take_more, map_push}
-use Rattle.std.proofs.lemmas.List.Elements.{All-cons, All-nil, All-contains}
-use Rattle.list_facts.proofs.Membership.{all_from}
-use Rattle.tx_types.specs.Batch.{PageWrite, Writes, no_write}
-use Rattle.tx_types.specs.declared.config.Config.{Config}
-use Rattle.tx_types.specs.declared.record.Link.{Link}
-use Rattle.flash_model.specs.Flash.{Contents}
-use Rattle.version_index.specs.Noted.{Noted, mention_of}
-use Rattle.tx_engine.specs.ArrayState.{ArrayState, Entry, opening}
-use Rattle.tx_engine.specs.Naming.{with_pins, is_spent}
-use Rattle.tx_engine.specs.OpenTable.{CanOpen, OpenTable, Opening, entries_of, next_name}
-use Rattle.tx_engine.specs.Standing.{IsOpenAs, limits_of}
-use Rattle.tx_engine.specs.Submit.{Limits, Submits, first_refusals, spent_page, refusal, or_else, answer, opened}
+use Rattle.tx_engine.proofs.Common.{◌≡◌, ℕ, ◌+◌, ◌^◌, ◌<◌, Bool, false, List, [], ◌∷◌, ◌++◌, length, map, get_or, set, All, Option, None, Ok, refl, sym, ap, ap₂, ◌∙◌, arith, AllZip, take_more, map_push, All-cons, All-nil, All-contains, all_from, PageWrite, Writes, no_write, Config, Link, Contents, IndexState, mention_of, ArrayState, Entry, with_pins, is_spent, OpenTransactionsState, TransactionState, entries_of, IsOpenAs, limits_of, spent_page, or_else}
+use Rattle.std.proofs.Common.{take}
+use Rattle.std.proofs.Common.{leb-false}
+use Rattle.tx_engine.specs.ArrayState.{new_entry}
+use Rattle.tx_engine.specs.OpenTransactionsState.{CanOpen, next_name}
+use Rattle.tx_engine.specs.Submit.{Limits, Submits, first_refusals, refusal, answer, opened}
 use Rattle.array_machine.specs.declared.answers.SubmitError.{SubmitError}
 use Rattle.array_machine.proofs.Accepting.{IsAccepted, unspent}
 
@@ -23,7 +13,7 @@ with_pins_push [] pins a = refl
 with_pins_push (b ∷ rest) pins a = with_pins_push rest (set pins b.page b.version) a
 
 -- the next page of a batch is pinned
-pub pins_more : (n : Noted) (ws : List PageWrite) (at page version : ℕ) → at < length ws → page ≡ (get_or ws at no_write).page →
+pub pins_more : (n : IndexState) (ws : List PageWrite) (at page version : ℕ) → at < length ws → page ≡ (get_or ws at no_write).page →
     version ≡ mention_of n page + 1 →
     set (with_pins n.pins (map (next_name n) (take at ws))) page version ≡ with_pins n.pins (map (next_name n) (take (at + 1) ws))
 pins_more n ws at page version within its next =
@@ -34,11 +24,11 @@ pins_more n ws at page version within its next =
     ∙ sym (ap (λ l. with_pins n.pins (map (next_name n) l)) (take_more ws at no_write within))
 
 -- each open transaction has a page
-pub some_each : (image : List Contents) (n : Noted) (all : List Opening) →
-    AllZip (IsOpenAs image n) (map (λ (o : Opening). o.entry) all) (map (λ (o : Opening). o.naming) all) →
+pub some_each : (image : List Contents) (n : IndexState) (all : List TransactionState) →
+    AllZip (IsOpenAs image n) (map (λ (o : TransactionState). o.entry) all) (map (λ (o : TransactionState). o.naming) all) →
     All (λ o. 0 < length o.entry.writes) all
-some_each image n [] h = All-nil (λ (o : Opening). 0 < length o.entry.writes)
-some_each image n (o ∷ rest) h = All-cons (λ (o : Opening). 0 < length o.entry.writes) o rest (let within = h.0.named.within in omega arith)
+some_each image n [] h = All-nil (λ (o : TransactionState). 0 < length o.entry.writes)
+some_each image n (o ∷ rest) h = All-cons (λ (o : TransactionState). 0 < length o.entry.writes) o rest (let within = h.0.named.within in omega arith)
     (some_each image n rest h.1)
 
 -- a page that is not spent has a version left
@@ -54,7 +44,7 @@ both a b h k = ap (λ o. or_else o b) h ∙ k
 -- a batch that is not refused is opened
 pub submits : (limits : Limits) (spent : ℕ → Bool) (old new : ArrayState) (tag : ℕ) (ws : List PageWrite) → first_refusals limits old.entries tag ws ≡ None →
     spent_page spent ws ≡ None →
-    new ≡ record old { entries = old.entries ++ opening tag ws ∷ [] } → Submits limits spent old new tag ws (Ok tt)
+    new ≡ record old { entries = old.entries ++ new_entry tag ws ∷ [] } → Submits limits spent old new tag ws (Ok tt)
 submits limits spent old new tag ws first second is =
     let none : refusal limits spent old.entries tag ws ≡ None = both (first_refusals limits old.entries tag ws) (spent_page spent ws) first second in
     record {
@@ -71,7 +61,7 @@ not_refused config logical pending entries tag ws result same limit is none =
     ap₂ (λ m n. first_refusals (record { logical = m; pending = n }) entries tag ws) (sym same) (sym limit) ∙ sym is ∙ none
 
 -- a batch that is not refused may be opened
-pub can_open : (n : Noted) (t : OpenTable) (tag : ℕ) (batch : Writes) → t.page_bytes ≡ n.config.page_bytes → t.logical ≡ n.config.logical →
+pub can_open : (n : IndexState) (t : OpenTransactionsState) (tag : ℕ) (batch : Writes) → t.page_bytes ≡ n.config.page_bytes → t.logical ≡ n.config.logical →
     t.pending ≡ n.config.pending → batch.page_bytes ≡ n.config.page_bytes → All (λ o. 0 < length o.entry.writes) t.all →
     IsAccepted (limits_of n.config) (entries_of t) tag batch.entries → All (λ w. mention_of n w.page < 2 ^ 62) batch.entries → CanOpen t n batch
 can_open n t tag batch size logical pending same each accepted unspent = record {

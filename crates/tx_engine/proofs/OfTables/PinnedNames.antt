@@ -1,20 +1,10 @@
 -- The names that are pinned, by the table of pins, and once the names of a transaction are pinned too.
-use Rattle.std.proofs.Common.{◌≡◌, ◌≢◌, ◌⊎◌, ℕ, zero, suc, ◌+◌, ◌<◌, ◌≤◌, eqb, List, [], ◌∷◌, length, get_or, set, Contains, Option, Some, None, refl, sym, ap}
-use Rattle.std.proofs.Common.{◌∙◌, subst, inl, inr, arith, eq-eqb, ne_eqb, All, AllPairs}
-use Rattle.std.specs.List.{cons_option}
-use Rattle.std.specs.Prelude.{◌↔◌}
-use Rattle.std.proofs.lemmas.Bool.{cases_eq, cond-true, cond-false}
-use Rattle.std.proofs.lemmas.List.{length-set, get_or-set_same, get_or-set_other}
-use Rattle.std.proofs.lemmas.List.Elements.{All-contains}
-use Rattle.list_facts.proofs.Membership.{Contains-cases, Contains-first, Contains-here, Contains-nil, Contains-rest}
-use Rattle.list_facts.proofs.Pairs.{pairs_head, pairs_tail}
-use Rattle.tx_types.specs.declared.record.Link.{Link}
+use Rattle.tx_engine.proofs.Common.{◌≡◌, ◌≢◌, ◌⊎◌, ℕ, zero, suc, ◌+◌, ◌<◌, ◌≤◌, eqb, List, [], ◌∷◌, length, get_or, set, Contains, Option, Some, None, refl, sym, ap, ◌∙◌, subst, inl, inr, arith, eq-eqb, ne_eqb, All, AllPairs, cons_option, ◌↔◌, cases_eq, cond-true, cond-false, length-set, get_or-set_same, get_or-set_other, All-contains, Contains-cases, Contains-nil, Contains-rest, pairs_head, pairs_tail, Link, pinned_at, pinned_names, with_pins}
+use Rattle.list_lemmas.proofs.Membership.{Contains-first, Contains-here}
 use Rattle.record_list.proofs.OfFacts.Names.{same_name}
 use Rattle.record_list.proofs.OfWalks.Rounds.{cases_page}
-use Rattle.version_index.specs.Noted.{pinned_at, pinned_names}
-use Rattle.version_index.proofs.OfTables.Given.{given}
+use Rattle.version_index.proofs.OfTables.BaseTables.{given}
 use Rattle.version_index.proofs.OfChanges.Pins.{numbered_pin}
-use Rattle.tx_engine.specs.Naming.{with_pins}
 
 -- a name is pinned
 pub record IsPin (pins : List ℕ) (name : Link) : Type 0 where

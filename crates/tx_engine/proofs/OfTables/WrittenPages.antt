@@ -1,31 +1,17 @@
 -- The pages of a device that are not blank are those whose current record does not discard them.
-use Rattle.std.proofs.Common.{◌≡◌, ℕ, ◌+◌, ◌<◌, ◌==◌, ◌&&◌, ◌||◌, Bool, true, false, not, cond, List, [], ◌∷◌, map, find, get_or, Option, None, Some, is_some}
-use Rattle.std.proofs.Common.{count_by, refl, sym, ap, ap₂, ◌∙◌, inl, inr, arith, eq-eqb, ne_eqb}
-use Rattle.std.specs.Prelude.{option_and_then}
-use Rattle.std.specs.List.{range_with_len}
-use Rattle.std.specs.Option.{option_map}
-use Rattle.std.proofs.lemmas.Bool.{cases_Bool, cases_eq, cond-true, cond-false, or_left}
+use Rattle.tx_engine.proofs.Common.{◌≡◌, ℕ, ◌+◌, ◌<◌, ◌==◌, ◌&&◌, ◌||◌, Bool, true, false, not, cond, List, [], ◌∷◌, map, get_or, Option, None, Some, is_some, count_by, refl, sym, ap, ap₂, ◌∙◌, inl, inr, arith, eq-eqb, ne_eqb, option_and_then, range_with_len, option_map, cases_Bool, cases_eq, cond-true, cond-false, Protocol, Link, Rec, FlashState, Contents, cur, is_present, value_at, value_of, array_in, written_in, records_in, found_in, IndexState, current_of, current_name_of, discarded_of, noted_present, BlocksState, Unsure, known_image, page_known, array_known, Matches}
+use Rattle.std.proofs.Common.{find}
+use Rattle.std.proofs.lemmas.Bool.{or_left}
 use Rattle.std.proofs.lemmas.List.FromFn.{sum_by-map-range_with_len_more}
-use Rattle.tx_types.specs.declared.config.Protocol.{Protocol}
-use Rattle.tx_types.specs.declared.record.Link.{Link}
-use Rattle.tx_types.specs.declared.record.Rec.{Rec}
-use Rattle.flash_model.specs.Flash.{FlashState, Contents}
-use Rattle.record_list.specs.Current.{cur}
-use Rattle.record_list.specs.Records.{has_name, is_present}
+use Rattle.record_list.specs.Records.{has_name}
 use Rattle.record_list.specs.Verdict.{record_named}
-use Rattle.record_list.specs.Written.{Written, page_at, records_of, text_of, value_at, value_of}
-use Rattle.version_index.specs.Images.{array_in, written_in, records_in}
-use Rattle.version_index.specs.Notes.{found_in, notes_of}
-use Rattle.version_index.specs.Noted.{Noted, current_of, current_name_of, discarded_of}
-use Rattle.version_index.proofs.OfTables.NotedFacts.{noted_present, noted_positive}
+use Rattle.record_list.specs.Written.{Written, page_at, records_of, text_of}
+use Rattle.version_index.specs.Notes.{notes_of}
+use Rattle.version_index.proofs.OfTables.NotedFacts.{noted_positive}
 use Rattle.version_index.proofs.OfLaws.NotedImages.{found_in_notes}
-use Rattle.die_alloc.specs.BlockTable.{BlockTable}
-use Rattle.collector.specs.declared.unsure.Unsure.{Unsure}
-use Rattle.collector.specs.Known.{known_image, page_known, array_known}
-use Rattle.collector.specs.Matches.{Matches}
 use Rattle.tx_engine.specs.Read.{is_written}
-use Rattle.tx_engine.proofs.OfStanding.Arrays.{at_page}
-use Rattle.tx_engine.proofs.OfStanding.OtherFlash.{known_at}
+use Rattle.tx_engine.proofs.OfDevice.Arrays.{at_page}
+use Rattle.tx_engine.proofs.OfDevice.OtherFlash.{known_at}
 
 -- a text is of a page that is not blank where it does not discard it
 has_value : (list : List Written) (name : Link) →
@@ -53,7 +39,7 @@ image_page : (p : Protocol) (logical : ℕ) (image : List Contents) (page : ℕ)
 unfolding array_in
 image_page p logical image page within = at_page (page_at p (written_in p image) logical) logical page None within
 
-module _ (p : Protocol) (s : FlashState) (n : Noted) (t : BlockTable) (u : Unsure) (m : Matches s n t u) (rule : n.config.protocol ≡ p)
+module _ (p : Protocol) (s : FlashState) (n : IndexState) (t : BlocksState) (u : Unsure) (m : Matches s n t u) (rule : n.config.protocol ≡ p)
     (notes : notes_of p (known_image n t.spare u s.image) ≡ n.notes)
     (array : array_in p n.config.logical (known_image n t.spare u s.image) ≡ array_known n s.image) where
   abbrev known : List Contents
@@ -126,7 +112,7 @@ module _ (p : Protocol) (s : FlashState) (n : Noted) (t : BlockTable) (u : Unsur
       count_page page within ∙ ap (λ b. count_by is_some (map (page_known n s.image) (range_with_len 0 page)) + cond b 1 0) none
 
 -- and ends with all pages
-pub count_all : (n : Noted) (image : List Contents) →
+pub count_all : (n : IndexState) (image : List Contents) →
     count_by is_some (array_known n image) ≡ count_by is_some (map (page_known n image) (range_with_len 0 n.config.logical))
 unfolding array_known
 count_all n image = refl

@@ -1,34 +1,23 @@
 -- What making room leaves of a device, by what each such call of its store keeps.
-use Rattle.std.proofs.Common.{◌≡◌, ℕ, ◌<◌, Bool, false, List, Option, refl, sym, ap, ◌∙◌, subst, inl, inr}
-use Rattle.std.specs.Prelude.{slice_index}
-use Rattle.tx_types.specs.declared.config.Protocol.{Protocol}
-use Rattle.flash_model.specs.Flash.{FlashState}
+use Rattle.tx_engine.proofs.Common.{◌≡◌, ℕ, ◌<◌, Bool, false, List, Option, refl, sym, ap, ◌∙◌, subst, inl, inr, slice_index, Protocol, FlashState, KeepsArray, array_known, page_at, DeviceState, Stands, OpenTransactionsState, entries_of, namings_of, StoreState, store_in, device_in, ArrayStays}
 use Rattle.collector.specs.Calls.{Keeps}
-use Rattle.collector.specs.Preserves.{KeepsArray}
 use Rattle.collector.specs.Retiring.{KeepsStore}
 use Rattle.collector.proofs.OfNotes.KeepsLemmas.{tables_of}
 use Rattle.collector.specs.declared.unsure.Unsure.TheVariants as unsure
-use Rattle.collector.specs.Known.{array_known}
-use Rattle.tx_engine.specs.ArrayState.{page_at}
-use Rattle.tx_engine.specs.Standing.{Standing, Stands}
-use Rattle.tx_engine.specs.OpenTable.{OpenTable, entries_of, namings_of}
 use Rattle.tx_engine.specs.Retire.{LeavesTables}
 use Rattle.tx_engine.specs.Settling.{IsLeft}
-use Rattle.tx_engine.specs.Stored.{Stored, store_in}
-use Rattle.tx_engine.specs.Tables.{standing_in}
-use Rattle.tx_engine.proofs.OfStanding.Kept.{IsKept, IsNoOwn, from_stands, to_stands, kept_still, nothing_no_own}
-use Rattle.tx_engine.proofs.OfStanding.ExitsThen.{before_itself, exits_then}
+use Rattle.tx_engine.proofs.OfDevice.Kept.{BlocksInvariant, IsNoOwn, from_stands, to_stands, kept_still, nothing_no_own}
+use Rattle.tx_engine.proofs.OfDevice.ExitsThen.{before_itself, exits_then}
 use Rattle.collector.proofs.OfNotes.Keeping.{preserves_then}
-use Rattle.collector.specs.Laws.{ArraysStay}
 
-module _ {F : Type 0} (state : F → FlashState) (S S' : Stored F) (O : OpenTable) (broken : Bool) (p : Protocol) (law : ArraysStay p)
+module _ {F : Type 0} (state : F → FlashState) (S S' : StoreState F) (O : OpenTransactionsState) (broken : Bool) (p : Protocol) (law : ArrayStays p)
     (rule : S.noted.config.protocol ≡ p)
-    (h : Stands state (standing_in state S O)) (keep : KeepsStore p (store_in state S) (store_in state S') broken) (sure : S.unsure ≡ unsure.Nothing) where
-  kept : IsKept (state S.flash) S.noted S.table S.unsure O
+    (h : Stands state (device_in state S O)) (keep : KeepsStore p (store_in state S) (store_in state S') broken) (sure : S.unsure ≡ unsure.Nothing) where
+  kept : BlocksInvariant (state S.flash) S.noted S.table S.unsure O
   kept = from_stands state S O h
 
-  its : ArraysStay S.noted.config.protocol
-  its = subst ArraysStay (sym rule) law
+  its : ArrayStays S.noted.config.protocol
+  its = subst ArrayStays (sym rule) law
 
   array : KeepsArray S.noted.config.protocol S.noted.config.logical (state S.flash).image (state S'.flash).image
   array = subst (λ q. KeepsArray q S.noted.config.logical (state S.flash).image (state S'.flash).image) (sym rule) keep.array
@@ -37,7 +26,7 @@ module _ {F : Type 0} (state : F → FlashState) (S S' : Stored F) (O : OpenTabl
   same_known = its.array (state S.flash) (state S'.flash) S.noted S'.noted S.table S'.table S.unsure S'.unsure kept.matches keep.matches refl keep.preserves
       array
 
-  pub tables_left : LeavesTables state (standing_in state S O) (standing_in state S' O)
+  pub tables_left : LeavesTables state (device_in state S O) (device_in state S' O)
   tables_left = record {
     stands = to_stands state S' O (kept_still (state S.flash) (state S'.flash) S.noted S'.noted S.table S'.table S.unsure S'.unsure O its kept
         (subst IsNoOwn (sym sure) nothing_no_own) keep.others keep.matches keep.preserves array);
@@ -54,9 +43,9 @@ module _ {F : Type 0} (state : F → FlashState) (S S' : Stored F) (O : OpenTabl
   }
 
 -- and what a call moves and carries over that replaces no block
-pub left_by : {F : Type 0} (state : F → FlashState) (S S' : Stored F) (O : OpenTable) (broken : Bool) (p : Protocol) → ArraysStay p →
-    S.noted.config.protocol ≡ p → Stands state (standing_in state S O) → Keeps p (store_in state S) (store_in state S') broken → S.unsure ≡ unsure.Nothing →
-    IsLeft state (standing_in state S O) (standing_in state S' O) broken
+pub left_by : {F : Type 0} (state : F → FlashState) (S S' : StoreState F) (O : OpenTransactionsState) (broken : Bool) (p : Protocol) → ArrayStays p →
+    S.noted.config.protocol ≡ p → Stands state (device_in state S O) → Keeps p (store_in state S) (store_in state S') broken → S.unsure ≡ unsure.Nothing →
+    IsLeft state (device_in state S O) (device_in state S' O) broken
 left_by state S S' O broken p law rule h keep sure =
     let left = tables_left state S S' O broken p law rule h (tables_of p (store_in state S) (store_in state S') broken keep) sure in
     record {
@@ -68,7 +57,7 @@ left_by state S S' O broken p law rule h keep sure =
     }
 
 -- one after another
-pub left_then : {F : Type 0} (state : F → FlashState) (a b c : Standing F) (broken : Bool) → a.config ≡ a.noted.config → b.config ≡ b.noted.config →
+pub left_then : {F : Type 0} (state : F → FlashState) (a b c : DeviceState F) (broken : Bool) → a.config ≡ a.noted.config → b.config ≡ b.noted.config →
     IsLeft state a b false → IsLeft state b c broken → IsLeft state a c broken
 left_then state a b c broken config config' first second = record {
   stands = second.stands;

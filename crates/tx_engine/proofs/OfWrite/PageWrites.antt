@@ -1,45 +1,26 @@
 -- The write of a page as a whole: what it asks for on its way, and what each of its ends leaves.
-use Rattle.std.proofs.Common.{◌≡◌, ℕ, ◌<◌, length, false, true, List, None, Ok, Err, refl, sym, ap, ◌∙◌, subst, inl}
-use Rattle.std.specs.Prelude.{if◌then◌else◌}
-use Rattle.tx_types.specs.Batch.{bytes_in, no_write}
-use Rattle.tx_types.specs.declared.config.Config.{Config}
-use Rattle.tx_types.specs.declared.config.Protocol.{Protocol}
-use Rattle.tx_types.specs.declared.config.Slot.{Slot}
-use Rattle.tx_types.specs.declared.record.Link.{Link}
-use Rattle.tx_types.specs.declared.record.Rec.{Rec}
-use Rattle.flash_model.specs.declared.flash.Broken.{Broken}
-use Rattle.flash_model.specs.Flash.{FlashState}
-use Rattle.version_index.specs.Noted.{block_to_go}
+use Rattle.tx_engine.proofs.Common.{◌≡◌, ℕ, ◌<◌, length, false, true, List, None, Ok, Err, refl, sym, ap, ◌∙◌, subst, inl, if◌then◌else◌, bytes_in, no_write, Config, Protocol, Slot, Link, Rec, Broken, FlashState, block_to_go, IsNextName, ImageIsSound, NotingKeeps, Doubt, IsReady, WritesPage, HasPlace, IsDueAt, OpenTransactionsState, TransactionState, bytes_due, name_due, transaction_at, with_mark, with_transaction, is_at_last, with_next, DeviceState, write_at, no_name, text_in, text_with, CanWrite, StoreState, WritesOwn, WritesStored, store_in, device_in, due_record, IsFirstFree}
 use Rattle.collector.specs.declared.unsure.Unsure.TheVariants as unsure
-use Rattle.collector.specs.Going.{IsNextName}
-use Rattle.collector.specs.Laws.{ImagesStand, NotedWrites}
-use Rattle.array_machine.specs.declared.mark.Mark.TheVariants.{Doubt}
-use Rattle.tx_engine.specs.Calls.{ClearsFor, FindsFor, IsReady, IsRecordDue, WritesPage}
-use Rattle.tx_engine.specs.OpenTable.{HasPlace, IsDueAt, OpenTable, Opening, bytes_due, name_due, opening_at, with_mark, with_opening}
-use Rattle.tx_engine.specs.Settling.{IsLeft, is_at_last, with_next}
-use Rattle.tx_engine.specs.Standing.{Standing, write_at, no_name, text_in, text_with}
-use Rattle.tx_engine.specs.Stored.{CanWrite, Stored, WritesOwn, WritesStored, store_in}
-use Rattle.tx_engine.specs.Tables.{standing_in}
-use Rattle.tx_engine.specs.Writing.{due_record}
+use Rattle.tx_engine.specs.Calls.{ClearsFor, FindsFor, IsRecordDue}
+use Rattle.tx_engine.specs.Settling.{IsLeft}
 use Rattle.tx_engine.proofs.OfWrite.Breaking.{seeking_breaks, record_breaks}
 use Rattle.tx_engine.proofs.OfStep.CostFacts.{costs_clear, costs_slot, costs_all}
-use Rattle.tx_engine.proofs.OfStanding.ExitsThen.{exits_then}
-use Rattle.tx_engine.proofs.OfStanding.Kept.{IsKept}
+use Rattle.tx_engine.proofs.OfDevice.ExitsThen.{exits_then}
+use Rattle.tx_engine.proofs.OfDevice.Kept.{BlocksInvariant}
 use Rattle.tx_engine.proofs.OfWrite.Leaving.{left_then}
 use Rattle.tx_engine.proofs.OfStep.NextRecord.{due_named, due_inside, next_name, next_record, next_take, next_can_be_spelled}
 use Rattle.tx_engine.proofs.OfWrite.RecordWrites.{writes_record, adds_own, free_within}
 use Rattle.tx_engine.proofs.OfWrite.WriteAfter.{settled_kept, next_low, written_after, fails_after, fails_room}
-use Rattle.die_alloc.specs.BlockTable.{IsFirstFree}
 use Rattle.tx_engine.proofs.OfWrite.WriteExits.{IsAsked, due_text, written_stands, written_next, written_exits, broken_stands, broken_fails, broken_exits}
 
-module _ {F : Type 0} (state : F → FlashState) (p : Protocol) (S : Stored F) (O : OpenTable) (i : ℕ) (ready : IsReady state p S O) (due : IsDueAt O i) where
-  abbrev o : Opening
-  o = opening_at O i
+module _ {F : Type 0} (state : F → FlashState) (p : Protocol) (S : StoreState F) (O : OpenTransactionsState) (i : ℕ) (ready : IsReady state p S O) (due : IsDueAt O i) where
+  abbrev o : TransactionState
+  o = transaction_at O i
 
   abbrev name : Link
   name = name_due O i
 
-  kept : IsKept (state S.flash) S.noted S.table unsure.Nothing O
+  kept : BlocksInvariant (state S.flash) S.noted S.table unsure.Nothing O
   kept = settled_kept state S O ready.stands ready.sure
 
   pub place : HasPlace O i o.entry.done
@@ -82,23 +63,23 @@ module _ {F : Type 0} (state : F → FlashState) (p : Protocol) (S : Stored F) (
             (due_text S.noted.config.page_bytes o.entry rec its.discard);
       }
 
-module _ {F : Type 0} (state : F → FlashState) (p : Protocol) (S : Stored F) (O : OpenTable) (i : ℕ) (ready : IsReady state p S O) (due : IsDueAt O i) where
-  abbrev its : Opening
-  its = opening_at O i
+module _ {F : Type 0} (state : F → FlashState) (p : Protocol) (S : StoreState F) (O : OpenTransactionsState) (i : ℕ) (ready : IsReady state p S O) (due : IsDueAt O i) where
+  abbrev its : TransactionState
+  its = transaction_at O i
 
   abbrev its_name : Link
   its_name = name_due O i
 
-  abbrev first : Standing F
-  first = standing_in state S O
+  abbrev first : DeviceState F
+  first = device_in state S O
 
-  pub clearing_breaks : (S1 : Stored F) (x y : Broken) → ClearsFor state p S S1 O its_name (Err x) → WritesPage state S S1 O O i (Err y)
+  pub clearing_breaks : (S1 : StoreState F) (x y : Broken) → ClearsFor state p S S1 O its_name (Err x) → WritesPage state S S1 O O i (Err y)
   clearing_breaks S1 x y cl = record {
     stands = cl.left.stands;
     written = tt;
     next = tt;
     sure = tt;
-    failed = fails_room state first (standing_in state S1 O) O i true cl.left;
+    failed = fails_room state first (device_in state S1 O) O i true cl.left;
     exits = cl.left.exits;
     costs = costs_clear state S S1 S1 S1 O O its_name ready.stands.matches.noted cl.clears.costs true refl cl.idle;
     writes = tt;
@@ -106,9 +87,9 @@ module _ {F : Type 0} (state : F → FlashState) (p : Protocol) (S : Stored F) (
     breaks = inl cl.clears.broken;
   }
 
-  module _ (S1 : Stored F) (cl : ClearsFor state p S S1 O its_name (Ok tt)) where
-    abbrev mid : Standing F
-    mid = standing_in state S1 O
+  module _ (S1 : StoreState F) (cl : ClearsFor state p S S1 O its_name (Ok tt)) where
+    abbrev mid : DeviceState F
+    mid = device_in state S1 O
 
     config1 : S1.noted.config ≡ S.noted.config
     config1 = cl.left.exits.tables.config
@@ -119,9 +100,9 @@ module _ {F : Type 0} (state : F → FlashState) (p : Protocol) (S : Stored F) (
     pub ready_cleared : IsReady state p S1 O
     ready_cleared = record { stands = cl.left.stands; rule = ap (λ (k : Config). k.protocol) config1 ∙ ready.rule; sure = cl.clears.keeps.sure }
 
-    pub slot_breaks : (S2 : Stored F) (x y : Broken) → FindsFor state p S1 S2 O its_name (Err x) → WritesPage state S S2 O O i (Err y)
+    pub slot_breaks : (S2 : StoreState F) (x y : Broken) → FindsFor state p S1 S2 O its_name (Err x) → WritesPage state S S2 O O i (Err y)
     slot_breaks S2 x y fd =
-        let last = standing_in state S2 O in
+        let last = device_in state S2 O in
         record {
           stands = fd.left.stands;
           written = tt;
@@ -135,9 +116,9 @@ module _ {F : Type 0} (state : F → FlashState) (p : Protocol) (S : Stored F) (
           breaks = seeking_breaks state S S1 S2 O O its_name cl.clears.turns cl.left.exits.moves fd.finds.stays fd.finds.broken;
         }
 
-    module _ (S2 : Stored F) (at : Slot) (fd : FindsFor state p S1 S2 O its_name (Ok at)) (size : O.page_bytes ≡ S.noted.config.page_bytes) where
-      abbrev last : Standing F
-      last = standing_in state S2 O
+    module _ (S2 : StoreState F) (at : Slot) (fd : FindsFor state p S1 S2 O its_name (Ok at)) (size : O.page_bytes ≡ S.noted.config.page_bytes) where
+      abbrev last : DeviceState F
+      last = device_in state S2 O
 
       left : IsLeft state first last false
       left = left_then state first mid last false refl refl cl.left fd.left
@@ -151,15 +132,15 @@ module _ {F : Type 0} (state : F → FlashState) (p : Protocol) (S : Stored F) (
       pub size_found : O.page_bytes ≡ S2.noted.config.page_bytes
       size_found = size ∙ ap (λ (k : Config). k.page_bytes) (sym config2)
 
-      module _ (rec : Rec) (right : IsRecordDue S2.noted O i rec) (images : ImagesStand p) (law : NotedWrites p) (S3 : Stored F) (O' : OpenTable) where
-        abbrev new : Standing F
-        new = standing_in state S3 O'
+      module _ (rec : Rec) (right : IsRecordDue S2.noted O i rec) (images : ImageIsSound p) (law : NotingKeeps p) (S3 : StoreState F) (O' : OpenTransactionsState) where
+        abbrev new : DeviceState F
+        new = device_in state S3 O'
 
         asked : IsAsked state p S2 O i at rec (bytes_due O i)
         asked = is_asked state p S2 O i ready_found due rec right fd.clear at fd.finds.free size_found
 
         pub program_breaks : (x : Broken) → WritesOwn (store_in state S2) (store_in state S3) at rec (bytes_due O i) (Err x) →
-            O' ≡ (if is_at_last its.entry then with_opening O i (with_mark its Doubt) else O) → WritesPage state S S3 O O' i (Err x)
+            O' ≡ (if is_at_last its.entry then with_transaction O i (with_mark its Doubt) else O) → WritesPage state S S3 O O' i (Err x)
         program_breaks x w opens = record {
           stands = broken_stands state p S2 S3 O i at rec _ asked images law w.matches w.broken O' opens;
           written = tt;
@@ -176,7 +157,7 @@ module _ {F : Type 0} (state : F → FlashState) (p : Protocol) (S : Stored F) (
         }
 
         pub page_written : WritesOwn (store_in state S2) (store_in state S3) at rec (bytes_due O i) (Ok tt) →
-            O' ≡ with_opening O i (with_next its) → WritesPage state S S3 O O' i (Ok tt)
+            O' ≡ with_transaction O i (with_next its) → WritesPage state S S3 O O' i (Ok tt)
         page_written w opens =
             let wanted = due_record S.noted.config.page_bytes its.entry its.naming in
             let written = subst (λ k. WritesStored (store_in state S2) (store_in state S3) at.0 rec (bytes_in k (write_at its.entry its.entry.done))) size
@@ -196,7 +177,7 @@ module _ {F : Type 0} (state : F → FlashState) (p : Protocol) (S : Stored F) (
               writes = writes_record state S S1 S2 S3 O O' wanted at rec ready.stands.matches.noted cl.left.kept idle1 false fd.direct
                   left.exits.carries.shape cl.clears.cleared fd.slot right.named right.next right.counts right.discard right.back
                   (free_within (state S2.flash) S2.noted S2.table S2.unsure matches at.0 fd.finds.free) written cl.clears.turns left.exits.moves;
-              fresh = adds_own state S S1 S2 S3 O O' wanted at rec (subst NotedWrites (sym ready_found.rule) law) matches.noted S2.unsure matches fd.finds.free
+              fresh = adds_own state S S1 S2 S3 O O' wanted at rec (subst NotingKeeps (sym ready_found.rule) law) matches.noted S2.unsure matches fd.finds.free
                   cl.left.kept fd.left.kept right.named written;
               breaks = tt;
             }

@@ -1,52 +1,36 @@
 -- A record that a transaction asks for is programmed in a free slot: what is left where the program is done, and where it is
 -- broken.
-use Rattle.std.proofs.Common.{◌≡◌, ◌≢◌, ℕ, ◌+◌, ◌*◌, ◌/◌, ◌%◌, ◌<◌, ◌≤◌, Bool, true, eq-eqb, List, length, set, refl, sym, ap, ◌∙◌, subst, inl, inr, arith}
-use Rattle.std.proofs.Common.{Contains}
-use Rattle.std.proofs.lemmas.List.{get_or-set_same, get_or-set_other}
+use Rattle.tx_engine.proofs.Common.{◌≡◌, ◌≢◌, ℕ, ◌+◌, ◌*◌, ◌/◌, ◌<◌, ◌≤◌, Bool, true, eq-eqb, List, length, set, refl, sym, ap, ◌∙◌, subst, inl, inr, arith, Contains, get_or-set_same, get_or-set_other, All-contains, all_from, shape_of, slots_of, blocks_of, Protocol, Shape, Slot, Link, Rec, Outcome, FlashState, Contents, IsImage, blank, damaged, complete, slot_at, program, image_left, CanBeSpelled, spelling, Found, name_of, is_present, is_outside, text_at, InProgress, found_named, IsSoundImage, written_in, records_in, TextsStay, ImagePartialLaw, ImageCompletingLaw, found_in, IndexState, written, BlocksState, IsBlocksState, IsFree, Matches, CanTakeOwn}
+use Rattle.std.proofs.Common.{◌%◌}
 use Rattle.std.proofs.Math.Nat.{mod-add-div', div-eq_of_lt-le}
-use Rattle.std.proofs.lemmas.List.Elements.{All-contains}
-use Rattle.list_facts.proofs.Membership.{all_from, in_filter, from_filter}
-use Rattle.tx_types.specs.Config.{shape_of, slots_of, blocks_of}
-use Rattle.tx_types.specs.declared.config.Protocol.{Protocol}
-use Rattle.tx_types.specs.declared.config.Shape.{Shape}
-use Rattle.tx_types.specs.declared.config.Slot.{Slot}
-use Rattle.tx_types.specs.declared.record.Link.{Link}
-use Rattle.tx_types.specs.declared.record.Rec.{Rec}
-use Rattle.flash_model.specs.declared.outcome.Outcome.{Outcome}
+use Rattle.list_lemmas.proofs.Membership.{in_filter, from_filter}
 use Rattle.flash_model.specs.declared.outcome.Outcome.TheVariants as outcome
-use Rattle.flash_model.specs.Flash.{FlashState, Contents, IsImage, blank, damaged, complete, slot_at}
-use Rattle.flash_model.specs.Operations.{CanProgram, block_end, program, image_left}
+use Rattle.flash_model.specs.Operations.{CanProgram, block_end}
 use Rattle.flash_model.proofs.ImageLemmas.{block_within}
-use Rattle.page_record.specs.Spelling.{CanBeSpelled, spelling}
 use Rattle.page_record.proofs.Spellings.{record_of-spelling}
-use Rattle.record_list.specs.declared.found.Found.{Found}
-use Rattle.record_list.specs.Records.{name_of, is_present}
 use Rattle.record_list.specs.Changes.{IsInserted, left}
-use Rattle.record_list.specs.Written.{found_of, is_outside, text_at}
+use Rattle.record_list.specs.Written.{found_of}
 use Rattle.record_list.specs.WrittenChanges.{HasRoomAround}
-use Rattle.record_list.specs.Transaction.{InProgress, IsAsked}
+use Rattle.record_list.specs.Transaction.{IsAsked}
 use Rattle.record_list.specs.Changes.{NothingMustGo}
-use Rattle.record_list.proofs.OfFacts.Names.{found_named, present_as}
+use Rattle.record_list.proofs.OfFacts.Names.{present_as}
 use Rattle.record_list.proofs.OfChanges.OneMore.{inserted_in, in_inserted, new_in}
 use Rattle.record_list.proofs.OfChanges.WrittenLists.{inserted_records}
-use Rattle.version_index.specs.Images.{IsSoundImage, written_in, records_in}
-use Rattle.version_index.specs.ImageChanges.{image_with, AsksFor, TextsStay, TextsCome}
-use Rattle.version_index.specs.ImageLaws.{ImagePartialLaw, ImageCompletingLaw}
-use Rattle.version_index.specs.Notes.{note_of, found_in}
-use Rattle.version_index.specs.Noted.{Noted}
+use Rattle.version_index.specs.ImageChanges.{image_with, AsksFor, TextsCome}
+use Rattle.version_index.specs.Notes.{note_of}
 use Rattle.version_index.proofs.OfLaws.ImageLaws.{image_damage_law}
-use Rattle.version_index.proofs.OfLaws.ImageScans.{written, written_inserted}
-use Rattle.die_alloc.specs.BlockTable.{BlockTable, IsBlockTable, IsFree, HasRoom, used_of}
+use Rattle.version_index.proofs.OfLaws.ImageScans.{written_inserted}
+use Rattle.die_alloc.specs.BlocksState.{HasRoom, used_of}
 use Rattle.die_alloc.proofs.Changes.{block_within as block_in}
 use Rattle.collector.specs.declared.unsure.Unsure.TheVariants as unsure
-use Rattle.collector.specs.Matches.{Matches, CanTakeOwn, IsProgramming, SpellsRecord}
+use Rattle.collector.specs.Matches.{IsProgramming, SpellsRecord}
 use Rattle.collector.proofs.OfNotes.Calm.{same_records, image_can_lose}
 use Rattle.collector.proofs.OfSettle.OwnExits.{free_out}
 use Rattle.collector.proofs.OfSettle.Programming.{all, missing, are_there}
 use Rattle.collector.proofs.OfCopies.CopyExits.{blank_noted}
 
 -- the slots of a block after a free one are free
-later_free : (t : BlockTable) → IsBlockTable t → (at : ℕ) → IsFree t at → (k : ℕ) → at ≤ k → k < block_end t.shape at → IsFree t k
+later_free : (t : BlocksState) → IsBlocksState t → (at : ℕ) → IsFree t at → (k : ℕ) → at ≤ k → k < block_end t.shape at → IsFree t k
 later_free t h at free k low high =
     let per = t.shape.pages_per_block in
     let fits = block_within t.shape (at / per) (block_in t h at free.within) in
@@ -62,7 +46,7 @@ later_free t h at free k low high =
     }
 
 -- a free slot may be programmed
-pub free_program : (s : FlashState) (n : Noted) (t : BlockTable) → Matches s n t unsure.Nothing → (at : ℕ) → IsFree t at → CanProgram s.shape s.image at
+pub free_program : (s : FlashState) (n : IndexState) (t : BlocksState) → Matches s n t unsure.Nothing → (at : ℕ) → IsFree t at → CanProgram s.shape s.image at
 free_program s n t m at free = record {
   in_range = (let w = free.within in omega (arith, w, ap slots_of m.blocks));
   blank_on = λ k low high.
@@ -71,7 +55,7 @@ free_program s n t m at free = record {
       blank_noted n.config.protocol (slot_at s.image k) (sym (m.sure k within refl) ∙ m.free k f);
 }
 
-module _ (s : FlashState) (n : Noted) (t : BlockTable) (m : Matches s n t unsure.Nothing) (at : Slot) (rec : Rec) (free : IsFree t at.0)
+module _ (s : FlashState) (n : IndexState) (t : BlocksState) (m : Matches s n t unsure.Nothing) (at : Slot) (rec : Rec) (free : IsFree t at.0)
     (take : CanTakeOwn n t rec) (spelled : CanBeSpelled n.config.protocol rec) (bytes : List ℕ) where
   abbrev p : Protocol
   p = n.config.protocol

@@ -1,43 +1,31 @@
 -- The write of a page after room was made for it.
-use Rattle.std.proofs.Common.{◌≡◌, ℕ, ◌<◌, Bool, false, List, [], length, get_or, All, refl, sym, ap, ◌∙◌, subst, inl}
-use Rattle.std.proofs.lemmas.Bool.{cond_both}
-use Rattle.std.proofs.lemmas.List.Elements.{All-nil}
-use Rattle.tx_types.specs.Batch.{PageWrite}
-use Rattle.tx_types.specs.declared.config.Config.{Config}
-use Rattle.flash_model.specs.Flash.{FlashState}
-use Rattle.version_index.specs.Noted.{current_of}
+use Rattle.tx_engine.proofs.Common.{◌≡◌, ℕ, ◌<◌, Bool, false, List, [], length, get_or, All, refl, sym, ap, ◌∙◌, subst, inl, cond_both, All-nil, PageWrite, Config, FlashState, current_of, Entry, put, VersionsRise, OpenTransactionsState, transaction_at, WriteFails, is_at_last, next_writes, DeviceState, Stands, StoreState, device_in}
 use Rattle.collector.specs.declared.unsure.Unsure.TheVariants as unsure
-use Rattle.tx_engine.specs.ArrayState.{Entry, put}
-use Rattle.tx_engine.specs.Exits.{VersionsRise}
-use Rattle.tx_engine.specs.OpenTable.{OpenTable, opening_at}
-use Rattle.tx_engine.specs.Settling.{IsLeft, WritesNext, WriteFails, is_at_last, next_writes}
-use Rattle.tx_engine.specs.Standing.{Standing, Stands}
-use Rattle.tx_engine.specs.Stored.{Stored}
-use Rattle.tx_engine.specs.Tables.{standing_in}
+use Rattle.tx_engine.specs.Settling.{IsLeft, WritesNext}
 use Rattle.tx_engine.proofs.OfCollect.Collecting.{own_writes_low}
-use Rattle.tx_engine.proofs.OfStanding.Kept.{IsKept, from_stands}
+use Rattle.tx_engine.proofs.OfDevice.Kept.{BlocksInvariant, from_stands}
 use Rattle.collector.proofs.OfNotes.Keeping.{preserves_then}
 
-pub settled_kept : {F : Type 0} (state : F → FlashState) (S : Stored F) (O : OpenTable) → Stands state (standing_in state S O) → S.unsure ≡ unsure.Nothing →
-    IsKept (state S.flash) S.noted S.table unsure.Nothing O
-settled_kept state S O h sure = subst (λ u. IsKept (state S.flash) S.noted S.table u O) sure (from_stands state S O h)
+pub settled_kept : {F : Type 0} (state : F → FlashState) (S : StoreState F) (O : OpenTransactionsState) → Stands state (device_in state S O) → S.unsure ≡ unsure.Nothing →
+    BlocksInvariant (state S.flash) S.noted S.table unsure.Nothing O
+settled_kept state S O h sure = subst (λ u. BlocksInvariant (state S.flash) S.noted S.table u O) sure (from_stands state S O h)
 
-pub next_low : {F : Type 0} (state : F → FlashState) (S : Stored F) (O : OpenTable) (i : ℕ) → Stands state (standing_in state S O) → i < length O.all →
-    All (λ w. w.page < S.noted.config.logical) (next_writes (opening_at O i).entry)
+pub next_low : {F : Type 0} (state : F → FlashState) (S : StoreState F) (O : OpenTransactionsState) (i : ℕ) → Stands state (device_in state S O) → i < length O.all →
+    All (λ w. w.page < S.noted.config.logical) (next_writes (transaction_at O i).entry)
 next_low state S O i h within =
-    cond_both (is_at_last (opening_at O i).entry) (opening_at O i).entry.writes [] (All (λ w. w.page < S.noted.config.logical))
+    cond_both (is_at_last (transaction_at O i).entry) (transaction_at O i).entry.writes [] (All (λ w. w.page < S.noted.config.logical))
     (λ is. own_writes_low (state S.flash) S.noted O S.table S.unsure (from_stands state S O h) i within)
     (λ is. All-nil (λ (w : PageWrite). w.page < S.noted.config.logical))
 
 -- versions rise after they stayed
-pub rises_after : {F : Type 0} (a b c : Standing F) (ws : List PageWrite) → b.config ≡ a.config → All (λ w. w.page < a.config.logical) ws →
+pub rises_after : {F : Type 0} (a b c : DeviceState F) (ws : List PageWrite) → b.config ≡ a.config → All (λ w. w.page < a.config.logical) ws →
     ((page : ℕ) → page < a.config.logical → current_of b.noted page ≡ current_of a.noted page) → VersionsRise b c ws → VersionsRise a c ws
 rises_after a b c ws config low same second = record {
   rises = λ k d h. subst (λ v. v < current_of c.noted (get_or ws k d).page) (same (get_or ws k d).page (low k d h)) (second.rises k d h);
   stays = λ page within others. second.stays page (subst (λ (k : Config). page < k.logical) (sym config) within) others ∙ same page within;
 }
 
-pub written_after : {F : Type 0} (state : F → FlashState) (a b c : Standing F) (e : Entry) → IsLeft state a b false →
+pub written_after : {F : Type 0} (state : F → FlashState) (a b c : DeviceState F) (e : Entry) → IsLeft state a b false →
     All (λ w. w.page < a.config.logical) (next_writes e) →
     WritesNext b c e → WritesNext a c e
 written_after state a b c e left low w = record {
@@ -45,7 +33,7 @@ written_after state a b c e left low w = record {
   rises = rises_after a b c (next_writes e) left.exits.tables.config low left.versions w.rises;
 }
 
-pub fails_after : {F : Type 0} (state : F → FlashState) (a b c : Standing F) (o o' : OpenTable) (i : ℕ) → IsLeft state a b false → WriteFails b c o o' i →
+pub fails_after : {F : Type 0} (state : F → FlashState) (a b c : DeviceState F) (o o' : OpenTransactionsState) (i : ℕ) → IsLeft state a b false → WriteFails b c o o' i →
     WriteFails a c o o' i
 fails_after state a b c o o' i left w = record {
   pages = w.pages ∙ ap (λ m. m.pages) left.machine;
@@ -55,7 +43,7 @@ fails_after state a b c o o' i left w = record {
 }
 
 -- room was not made
-pub fails_room : {F : Type 0} (state : F → FlashState) (a b : Standing F) (o : OpenTable) (i : ℕ) (broken : Bool) → IsLeft state a b broken →
+pub fails_room : {F : Type 0} (state : F → FlashState) (a b : DeviceState F) (o : OpenTransactionsState) (i : ℕ) (broken : Bool) → IsLeft state a b broken →
     WriteFails a b o o i
 fails_room state a b o i broken left = record {
   pages = ap (λ m. m.pages) left.machine;

@@ -1,23 +1,11 @@
 -- A copy, a damaged slot, a pin, another spare: nothing that was judged moves.
-use Rattle.std.proofs.Common.{◌≡◌, ℕ, ◌<◌, length, set, IsSome, refl, sym, ap, ◌∙◌, subst, arith}
-use Rattle.std.proofs.lemmas.Bool.{false≢true}
-use Rattle.std.proofs.lemmas.List.Elements.{All-contains}
-use Rattle.list_facts.proofs.Membership.{all_from}
-use Rattle.tx_types.specs.declared.record.Rec.{Rec}
-use Rattle.tx_types.specs.declared.config.Protocol.{Protocol}
-use Rattle.tx_types.specs.Config.{shape_of, slots_of}
-use Rattle.record_list.specs.Current.{cur}
-use Rattle.record_list.specs.Changes.{CopyLaw, CopyKeeps}
+use Rattle.version_index.proofs.Common.{◌≡◌, ℕ, ◌<◌, length, set, IsSome, refl, sym, ap, ◌∙◌, subst, arith, false≢true, All-contains, all_from, Rec, Protocol, shape_of, slots_of, cur, CopyLaw, Note, Blank, Damaged, Holds, note_at, rec_of, found_in, IndexState, IsNoted, copied, damaged_at, current_of, IsDerivedAlike, NothingMoves}
+use Rattle.record_list.specs.Changes.{CopyKeeps}
 use Rattle.record_list.proofs.OfChanges.OneMore.{inserted_all}
-use Rattle.version_index.specs.declared.note.Note.{Note}
-use Rattle.version_index.specs.declared.note.Note.TheVariants.{Blank, Damaged, Holds}
-use Rattle.version_index.specs.Notes.{note_at, rec_of, found_in}
-use Rattle.version_index.specs.Noted.{Noted, IsNoted, copied, damaged_at, pinned, with_spare, current_of}
-use Rattle.version_index.specs.Judged.{IsJudgedAlike}
-use Rattle.version_index.specs.JudgedChanges.{NothingMoves}
+use Rattle.version_index.specs.IndexState.{pinned, with_spare}
 use Rattle.version_index.proofs.OfTables.FoundIn.{found, found_in_programmed, found_in_damaged, found_in_ascending, noted_in, holds_within}
 use Rattle.version_index.proofs.OfChanges.NotedChanges.{HasVersions}
-use Rattle.version_index.proofs.OfTables.Judged.{IsAlike, all_alike, judged_alike}
+use Rattle.version_index.proofs.OfTables.Derived.{IsAlike, all_alike, derived_alike}
 use Rattle.version_index.proofs.OfProgram.PartialWrites.{configured}
 
 -- a note with a record holds it
@@ -27,27 +15,27 @@ some_held Damaged some = absurd (false≢true some)
 some_held (Holds rec) some = (rec, refl)
 
 -- with the same records nothing moves
-pub same_records : (n m : Noted) → m.config ≡ n.config → found_in m.notes ≡ found_in n.notes → NothingMoves n m
+pub same_records : (n m : IndexState) → m.config ≡ n.config → found_in m.notes ≡ found_in n.notes → NothingMoves n m
 unfolding current_of
 same_records n m e same =
     let p = n.config.protocol in
     record {
       currents = λ page below.
           ap (λ c. cur c.protocol (found_in m.notes) c.logical page) e ∙ ap (λ l. cur p l n.config.logical page) same;
-      records = all_from (λ f. IsJudgedAlike n m f.rec) (found_in m.notes) (λ f i.
-          judged_alike n m f.rec e (subst (λ l. IsAlike p (found_in n.notes) l n.config.logical f.rec) (sym same)
+      records = all_from (λ f. IsDerivedAlike n m f.rec) (found_in m.notes) (λ f i.
+          derived_alike n m f.rec e (subst (λ l. IsAlike p (found_in n.notes) l n.config.logical f.rec) (sym same)
           (record { loose = refl; answerer = refl; waits = refl })));
     }
 
 -- a pin, or none
-pub pin_moves_nothing : (n : Noted) (page version : ℕ) → NothingMoves n (pinned n page version)
+pub pin_moves_nothing : (n : IndexState) (page version : ℕ) → NothingMoves n (pinned n page version)
 pin_moves_nothing n page version = same_records n (pinned n page version) refl refl
 
 -- another spare
-pub spare_moves_nothing : (n : Noted) (block : ℕ) → NothingMoves n (with_spare n block)
+pub spare_moves_nothing : (n : IndexState) (block : ℕ) → NothingMoves n (with_spare n block)
 spare_moves_nothing n block = same_records n (with_spare n block) refl refl
 
-module _ (protocol : Protocol) (n : Noted) (k : IsNoted protocol n) where
+module _ (protocol : Protocol) (n : IndexState) (k : IsNoted protocol n) where
   -- a damaged slot that was blank
   pub damage_moves_nothing : (at : ℕ) → at < slots_of (shape_of n.config) → note_at n.notes at ≡ Blank → NothingMoves n (damaged_at n at)
   damage_moves_nothing at exists was =
@@ -81,6 +69,6 @@ module _ (protocol : Protocol) (n : Noted) (k : IsNoted protocol n) where
       }) in
       subst (λ note. NothingMoves n (record n { notes = set n.notes to note })) (sym held.1) (record {
         currents = keeps.same_current;
-        records = all_from (λ f. IsJudgedAlike n m f.rec) l' (λ f i.
-            judged_alike n m f.rec refl (all_alike p l l' logical keeps.same_current keeps.responsible keeps.sound f i));
+        records = all_from (λ f. IsDerivedAlike n m f.rec) l' (λ f i.
+            derived_alike n m f.rec refl (all_alike p l l' logical keeps.same_current keeps.responsible keeps.sound f i));
       })

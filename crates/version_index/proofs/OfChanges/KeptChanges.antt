@@ -1,42 +1,26 @@
 -- Pins, spares, damaged slots and copies leave tables that have what was noted.
-use Rattle.std.proofs.Common.{◌≡◌, ◌≢◌, ℕ, ◌<◌, List, length, set, IsSome, Some, refl, sym, ap, ap₂, ◌∙◌, subst, inl, inr, arith}
-use Rattle.std.proofs.lemmas.Bool.{cases_eq}
-use Rattle.std.proofs.lemmas.List.{length-set, get_or-set_same, get_or-set_other, map-set}
-use Rattle.tx_types.specs.declared.config.Config.{Config}
-use Rattle.tx_types.specs.declared.config.Protocol.{Protocol}
-use Rattle.tx_types.specs.declared.record.Rec.{Rec}
-use Rattle.tx_types.specs.Config.{shape_of, slots_of, blocks_of}
-use Rattle.record_list.specs.Current.{cur}
-use Rattle.record_list.specs.Changes.{CopyLaw}
-use Rattle.slot_tables.specs.declared.slots.SlotUse.{SlotUse}
+use Rattle.version_index.proofs.Common.{◌≡◌, ◌≢◌, ℕ, ◌<◌, List, length, set, IsSome, Some, refl, sym, ap, ap₂, ◌∙◌, subst, inl, inr, arith, cases_eq, length-set, get_or-set_same, get_or-set_other, Config, Protocol, Rec, shape_of, slots_of, blocks_of, cur, CopyLaw, SlotUse, TablesState, use_at, Note, note_at, rec_of, found_in, IndexState, IsNoted, current_of, damaged_at, copied, answerer, is_waiting, answerer_of, waits_of, Derived, derived_of, NothingMoves, rec_at, AreDerived, note_in, notes_in, noted_by, numbered_of, AreHeld, AreIndexed}
+use Rattle.std.proofs.lemmas.List.{map-set}
 use Rattle.slot_tables.specs.declared.slots.SlotUse.TheVariants as slot
-use Rattle.slot_tables.specs.Kept.{Kept, use_at}
-use Rattle.version_index.specs.declared.note.Note.{Note}
 use Rattle.version_index.specs.declared.note.Note.TheVariants as note
-use Rattle.version_index.specs.Notes.{note_at, rec_of, found_in}
-use Rattle.version_index.specs.Noted.{Noted, IsNoted, current_of, damaged_at, copied}
-use Rattle.version_index.specs.Judged.{answerer, is_waiting, answerer_of, waits_of}
-use Rattle.version_index.specs.JudgedChanges.{Judged, judged_of, NothingMoves}
-use Rattle.version_index.specs.Numbered.{rec_at, AreJudged}
-use Rattle.version_index.specs.Tables.{note_in, notes_in, noted_by, numbered_of, AreHeld, AreIndexed}
 use Rattle.version_index.proofs.OfChanges.Copies.{copy_moves_nothing, damage_moves_nothing}
 use Rattle.version_index.proofs.OfTables.KeptNotes.{note_by, kept_noted, blank_slot, length-notes}
 use Rattle.version_index.proofs.OfChanges.NotedChanges.{damaged_noted, copied_noted}
-use Rattle.version_index.proofs.OfTables.Numbered.{judged_as}
-use Rattle.version_index.proofs.OfChanges.WholeJudged.{judged_still}
+use Rattle.version_index.proofs.OfTables.Numbered.{derived_as}
+use Rattle.version_index.proofs.OfChanges.WholeDerived.{derived_still}
 
 -- what is judged is by the configuration and the notes alone
-pub judged_same : (n n' : Noted) → n'.config ≡ n.config → n'.notes ≡ n.notes → judged_of n' ≡ judged_of n
+pub derived_same : (n n' : IndexState) → n'.config ≡ n.config → n'.notes ≡ n.notes → derived_of n' ≡ derived_of n
 unfolding current_of answerer_of waits_of
-judged_same n n' c s =
-    ap₂ {C = Judged} (λ (its : Config) (notes : List Note). record {
+derived_same n n' c s =
+    ap₂ {C = Derived} (λ (its : Config) (notes : List Note). record {
       current = λ page. cur its.protocol (found_in notes) its.logical page;
       answerer = λ r. answerer its.protocol (found_in notes) its.logical r;
       waits = λ r. is_waiting its.protocol (found_in notes) its.logical r;
     }) c s
 
 -- a blank slot that holds a number with a record, or none
-pub held_more : (k : Kept) (at : ℕ) (u : SlotUse) → AreHeld k → at < length k.slots → use_at k.slots at ≡ slot.Blank →
+pub held_more : (k : TablesState) (at : ℕ) (u : SlotUse) → AreHeld k → at < length k.slots → use_at k.slots at ≡ slot.Blank →
     ((x : ℕ) → u ≡ slot.Holds x → (r : Rec) × (rec_at k.records x ≡ Some r)) → AreHeld (record k { slots = set k.slots at u })
 held_more k at u h within blank own = record {
   held = λ a x e. elim (cases_eq a at) [
@@ -52,29 +36,29 @@ held_more k at u h within blank own = record {
 }
 
 -- the notes of a slot that is used otherwise
-pub notes_set : (k : Kept) (at : ℕ) (u : SlotUse) →
+pub notes_set : (k : TablesState) (at : ℕ) (u : SlotUse) →
     notes_in (record k { slots = set k.slots at u }) ≡ set (notes_in k) at (note_in k.records u)
 notes_set k at u = map-set (note_in k.records) k.slots at u
 
-module _ (protocol : Protocol) (its : Config) (m : List ℕ) (k : Kept) (i : AreIndexed protocol its m k) where
+module _ (protocol : Protocol) (its : Config) (m : List ℕ) (k : TablesState) (i : AreIndexed protocol its m k) where
   -- where nothing moves, the tables are judged as before
-  pub still_indexed : (k' : Kept) → k'.shape ≡ k.shape → length k'.pages ≡ length k.pages → AreHeld k' →
-      AreJudged (numbered_of k') its.logical (judged_of (noted_by its m k)) → IsNoted protocol (noted_by its m k') →
+  pub still_indexed : (k' : TablesState) → k'.shape ≡ k.shape → length k'.pages ≡ length k.pages → AreHeld k' →
+      AreDerived (numbered_of k') its.logical (derived_of (noted_by its m k)) → IsNoted protocol (noted_by its m k') →
       NothingMoves (noted_by its m k) (noted_by its m k') → AreIndexed protocol its m k'
   still_indexed k' shape pages held judged noted moves = record {
     noted = noted;
     shape = shape ∙ i.shape;
     pages = pages ∙ i.pages;
     held = held;
-    judged = judged_as (numbered_of k') (noted_by its m k') (judged_of (noted_by its m k)) judged
-        (judged_still (noted_by its m k) (noted_by its m k') refl moves) (kept_noted k' held);
+    judged = derived_as (numbered_of k') (noted_by its m k') (derived_of (noted_by its m k)) judged
+        (derived_still (noted_by its m k) (noted_by its m k') refl moves) (kept_noted k' held);
   }
 
   -- another pin
   pub pinned_indexed : (page version : ℕ) → AreIndexed protocol its m (record k { pins = set k.pins page version })
   pinned_indexed page version =
       let n = i.noted in
-      let k' : Kept = record k { pins = set k.pins page version } in
+      let k' : TablesState = record k { pins = set k.pins page version } in
       record {
         noted = record {
           check = n.check;
@@ -91,14 +75,14 @@ module _ (protocol : Protocol) (its : Config) (m : List ℕ) (k : Kept) (i : Are
         shape = i.shape;
         pages = i.pages;
         held = record { held = i.held.held; used = i.held.used; once = i.held.once; unused = i.held.unused };
-        judged = subst (AreJudged (numbered_of k) its.logical) (sym (judged_same (noted_by its m k) (noted_by its m k') refl refl)) i.judged;
+        judged = subst (AreDerived (numbered_of k) its.logical) (sym (derived_same (noted_by its m k) (noted_by its m k') refl refl)) i.judged;
       }
 
   -- another spare
   pub spared_indexed : (block : ℕ) → block < blocks_of (shape_of its) → AreIndexed protocol its m (record k { spare = Some block })
   spared_indexed block exists =
       let n = i.noted in
-      let k' : Kept = record k { spare = Some block } in
+      let k' : TablesState = record k { spare = Some block } in
       record {
         noted = record {
           check = n.check;
@@ -115,7 +99,7 @@ module _ (protocol : Protocol) (its : Config) (m : List ℕ) (k : Kept) (i : Are
         shape = i.shape;
         pages = i.pages;
         held = record { held = i.held.held; used = i.held.used; once = i.held.once; unused = i.held.unused };
-        judged = subst (AreJudged (numbered_of k) its.logical) (sym (judged_same (noted_by its m k) (noted_by its m k') refl refl)) i.judged;
+        judged = subst (AreDerived (numbered_of k) its.logical) (sym (derived_same (noted_by its m k) (noted_by its m k') refl refl)) i.judged;
       }
 
   slot_within : (at : ℕ) → at < slots_of (shape_of its) → at < length k.slots

@@ -1,22 +1,12 @@
 -- Mentions that a noted record raises.
-use Rattle.std.proofs.Common.{◌≡◌, ℕ, ◌<◌, ◌≤◌, max, ◌==◌, ◌+◌, List, [], ◌∷◌, refl, ap₂, length, map, take, get_or, sym, ap, ◌∙◌, subst, inl, inr, arith, eqb}
-use Rattle.std.proofs.Common.{eq-eqb, ne_eqb, if◌then◌else◌}
-use Rattle.std.proofs.lemmas.Bool.{cases_eq, cond-true, cond-false}
-use Rattle.std.specs.List.{range_with_len}
-use Rattle.std.proofs.lemmas.List.{length-set, get_or-set_same, get_or-set_other, ext_get_or}
-use Rattle.std.proofs.lemmas.List.FromFn.{get_or-map-range_with_len, length-map-range_with_len}
+use Rattle.version_index.proofs.Common.{◌≡◌, ℕ, ◌<◌, ◌≤◌, ◌+◌, List, [], ◌∷◌, refl, ap₂, length, map, take, get_or, sym, ap, ◌∙◌, subst, inl, inr, arith, eqb, eq-eqb, ne_eqb, if◌then◌else◌, cases_eq, cond-true, cond-false, range_with_len, length-set, get_or-set_same, get_or-set_other, ext_get_or, get_or-map-range_with_len, length-map-range_with_len, Link, Rec, Found, name_of, nothing, IsInserted, greatest_least, inserted_in, Sorts}
+use Rattle.std.proofs.Common.{max, ◌==◌}
 use Rattle.std.proofs.Math.Nat.{max-eq_left}
-use Rattle.tx_types.specs.declared.record.Link.{Link}
-use Rattle.tx_types.specs.declared.record.Rec.{Rec}
-use Rattle.record_list.specs.declared.found.Found.{Found}
-use Rattle.record_list.specs.Records.{mention, mentioned_at, version_of, linked_at, name_of, nothing}
-use Rattle.record_list.specs.Changes.{IsInserted}
+use Rattle.record_list.specs.Records.{mention, mention_at, version_of, linked_at}
 use Rattle.record_list.proofs.OfFacts.Greatest.{greatest_step}
-use Rattle.record_list.proofs.OfFacts.Names.{greatest_bound, greatest_least}
-use Rattle.record_list.proofs.OfChanges.OneMore.{inserted_in}
-use Rattle.record_chart.specs.Charts.{Sorts}
-use Rattle.record_chart.proofs.OfSort.Alike.{greatest_alike}
-use Rattle.version_index.specs.Noted.{raised, raised_to}
+use Rattle.record_list.proofs.OfFacts.Names.{greatest_bound}
+use Rattle.sorted_records.proofs.OfSort.Alike.{greatest_alike}
+use Rattle.version_index.specs.IndexState.{raised, raised_to}
 
 -- the version at which a name mentions a page
 abbrev named_at : ℕ → Link → ℕ
@@ -40,7 +30,7 @@ raised_to_at name mentions page within = elim (cases_eq name.page page) [
 
 -- a mention is the greater of what it was and of that by the record
 pub raised_at : (rec : Rec) (mentions : List ℕ) (page : ℕ) → rec.page < length mentions → rec.next.page < length mentions →
-    get_or (raised rec mentions) page 0 ≡ max (get_or mentions page 0) (mentioned_at page rec)
+    get_or (raised rec mentions) page 0 ≡ max (get_or mentions page 0) (mention_at page rec)
 raised_at rec mentions page within next_within =
     let once = raised_to_at (name_of rec) mentions page within in
     let long : rec.next.page < length (raised_to (name_of rec) mentions) = subst (λ k. rec.next.page < k) (sym (length-set mentions rec.page _)) next_within in
@@ -56,9 +46,9 @@ pub raised_bounds : (list list' : List Found) (f : Found) (mentions : List ℕ) 
     mention list' page ≤ get_or (raised f.rec mentions) page 0
 raised_bounds list list' f mentions page ins within next_within before =
     let at = raised_at f.rec mentions page within next_within in
-    greatest_least (mentioned_at page) list' (get_or (raised f.rec mentions) page 0) (λ g i. elim (inserted_in list list' f ins g i) [
-      | inl new ↦ (let same = ap (λ h. mentioned_at page h.rec) new in omega arith)
-      | inr old ↦ (let bound = greatest_bound (mentioned_at page) list g old in omega arith)
+    greatest_least (mention_at page) list' (get_or (raised f.rec mentions) page 0) (λ g i. elim (inserted_in list list' f ins g i) [
+      | inl new ↦ (let same = ap (λ h. mention_at page h.rec) new in omega arith)
+      | inr old ↦ (let bound = greatest_bound (mention_at page) list g old in omega arith)
     ])
 
 -- a mention of an existing page is not raised by the name of one that does not exist
@@ -85,7 +75,7 @@ mentions_more list at count old once new within before size_once size_new own li
       let a = own page (omega arith) in
       let b = linked page (omega arith) in
       let c = before.each page low in
-      let d = greatest_step (mentioned_at page) list at within in
+      let d = greatest_step (mention_at page) list at within in
       omega arith;
 }
 
@@ -103,4 +93,4 @@ pub mentions_sorted : (list sorted records : List Found) → Sorts list sorted �
     map (mention records) pages ≡ map (mention list) pages
 mentions_sorted list sorted records is same [] = refl
 mentions_sorted list sorted records is same (page ∷ pages) =
-    ap₂ (λ x xs. x ∷ xs) (ap (λ l. mention l page) same ∙ greatest_alike list sorted is (mentioned_at page)) (mentions_sorted list sorted records is same pages)
+    ap₂ (λ x xs. x ∷ xs) (ap (λ l. mention l page) same ∙ greatest_alike list sorted is (mention_at page)) (mentions_sorted list sorted records is same pages)

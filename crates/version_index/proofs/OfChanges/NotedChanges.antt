@@ -1,31 +1,14 @@
 -- Each change of what was noted leaves what a device can have noted.
-use Rattle.std.proofs.Common.{◌≡◌, ℕ, ◌+◌, ◌*◌, ◌<◌, ◌≤◌, ◌^◌, List, length, get_or, set, zip, All, None, IsSome, IfSome, Ok}
-use Rattle.std.proofs.Common.{refl, sym, ap, ◌∙◌, subst, inl, inr, arith, Contains}
-use Rattle.std.proofs.lemmas.Bool.{false≢true}
-use Rattle.std.proofs.lemmas.List.{length-set, length-map, length-replicate}
-use Rattle.std.proofs.lemmas.List.FromFn.{length-map-range_with_len, get_or-map-range_with_len}
-use Rattle.std.proofs.lemmas.List.Elements.{All-filter, All-contains}
-use Rattle.list_facts.proofs.Membership.{from_filter}
-use Rattle.tx_types.specs.declared.record.Link.{Link}
-use Rattle.tx_types.specs.declared.record.Rec.{Rec}
-use Rattle.tx_types.specs.declared.config.Config.{Config}
-use Rattle.tx_types.specs.declared.config.Protocol.{Protocol}
-use Rattle.tx_types.specs.Config.{IsConfig, checked, shape_of, slots_of, blocks_of}
-use Rattle.flash_model.proofs.ImageLemmas.{block_within}
-use Rattle.flash_model.specs.declared.flash.Seen.{Seen}
-use Rattle.record_list.specs.declared.found.Found.{Found}
-use Rattle.record_list.specs.Records.{mention, mentioned_at, name_of, IsScanned}
-use Rattle.record_list.specs.SoundList.{IsSoundList}
-use Rattle.record_list.specs.Transaction.{next_names, IsAskedAt}
-use Rattle.record_list.specs.Changes.{IsWrite, PartialWriteLaw, CompletingWriteLaw, CopyLaw, LossLaw, left}
-use Rattle.record_list.specs.Written.{is_outside, IsRemovable}
-use Rattle.record_list.proofs.OfFacts.Names.{greatest_bound, greatest_least, cases_present}
-use Rattle.record_list.proofs.OfChanges.OneMore.{inserted_in, inserted_all}
-use Rattle.record_list.proofs.OfWalks.Rounds.{Follows, follows_of, follows_in}
-use Rattle.version_index.specs.declared.note.Note.{Note}
-use Rattle.version_index.specs.declared.note.Note.TheVariants.{Blank, Damaged, Holds}
-use Rattle.version_index.specs.Notes.{note_at, rec_of, seen_as, found_in, with_block_noted}
-use Rattle.version_index.specs.Noted.{Noted, IsNoted, IsNotedFrom, IsNextRecord, CanLose, mention_of, programmed, damaged_at, copied}
+use Rattle.version_index.proofs.Common.{◌≡◌, ℕ, ◌+◌, ◌*◌, ◌<◌, ◌≤◌, List, length, get_or, set, zip, All, None, IsSome, IfSome, refl, sym, ap, ◌∙◌, subst, inl, inr, arith, Contains, false≢true, length-set, length-map, length-replicate, length-map-range_with_len, get_or-map-range_with_len, All-contains, from_filter, Link, Rec, Config, Protocol, shape_of, slots_of, blocks_of, block_within, Seen, Found, name_of, IsScanned, IsSoundList, next_names, IsWrite, PartialWriteLaw, CompletingWriteLaw, CopyLaw, LossLaw, left, is_outside, greatest_least, inserted_in, Follows, follows_of, follows_in, Note, Blank, Damaged, Holds, note_at, rec_of, seen_as, found_in, with_block_noted, IndexState, IsNoted, IsNextRecord, CanLose, programmed, damaged_at, copied}
+use Rattle.std.proofs.Common.{◌^◌, Ok}
+use Rattle.std.proofs.lemmas.List.Elements.{All-filter}
+use Rattle.tx_types.specs.Config.{IsConfig, checked}
+use Rattle.record_list.specs.Records.{mention, mention_at}
+use Rattle.record_list.specs.Transaction.{IsAskedAt}
+use Rattle.record_list.specs.Written.{IsRemovable}
+use Rattle.record_list.proofs.OfFacts.Names.{greatest_bound, cases_present}
+use Rattle.record_list.proofs.OfChanges.OneMore.{inserted_all}
+use Rattle.version_index.specs.IndexState.{IsNotedFrom, mention_of}
 use Rattle.version_index.proofs.OfTables.FoundIn.{found, found_in_programmed, found_in_damaged, found_in_block, found_in_ascending, noted_in, holds_within}
 use Rattle.version_index.proofs.OfTables.Blocks.{length-with_item}
 use Rattle.version_index.proofs.OfChanges.Mentions.{length-raised, raised_bounds}
@@ -37,7 +20,7 @@ pub record IsSpelledOut (logical : ℕ) (rec : Rec) : Type 0 where
   pub version : 1 ≤ rec.version
   pub next_version : 1 ≤ rec.next.version
 
-module _ (n : Noted) (rec : Rec) (next : IsNextRecord n rec) where
+module _ (n : IndexState) (rec : Rec) (next : IsNextRecord n rec) where
   names_in : Contains next.names (name_of rec)
   names_in = next.named
 
@@ -64,7 +47,7 @@ abbrev pub HasVersions : Found → Type 0
 HasVersions f = (1 ≤ f.rec.version) × (1 ≤ f.rec.next.version)
 
 -- what stays where the notes change
-pub record IsNextNoted (protocol : Protocol) (n m : Noted) : Type 0 where
+pub record IsNextNoted (protocol : Protocol) (n m : IndexState) : Type 0 where
   pub config : m.config ≡ n.config
   pub slots : length m.notes ≡ length n.notes
   pub pages : length m.pins ≡ length n.pins
@@ -74,9 +57,9 @@ pub record IsNextNoted (protocol : Protocol) (n m : Noted) : Type 0 where
   pub sound : IsSoundList protocol (found_in m.notes) n.config.logical
   pub mentioned : (page : ℕ) → page < n.config.logical → mention (found_in m.notes) page ≤ mention_of m page
 
-module _ (protocol : Protocol) (n : Noted) (k : IsNoted protocol n) where
+module _ (protocol : Protocol) (n : IndexState) (k : IsNoted protocol n) where
   -- the notes so changed are what a device can have noted
-  next_noted : (m : Noted) → IsNextNoted protocol n m → IsNoted protocol m
+  next_noted : (m : IndexState) → IsNextNoted protocol n m → IsNoted protocol m
   next_noted m s = record {
     check = subst (λ c. checked c ≡ Ok (shape_of c)) (sym s.config) k.check;
     bounds = subst IsConfig (sym s.config) k.bounds;
@@ -187,11 +170,11 @@ module _ (protocol : Protocol) (n : Noted) (k : IsNoted protocol n) where
             sound = keeps.sound;
             mentioned = λ page below.
                 let before = k.mentioned page below in
-                greatest_least (mentioned_at page) list' (mention_of n page) (λ g i. elim (inserted_in (found_in n.notes) list' (found to rec) added g i) [
+                greatest_least (mention_at page) list' (mention_of n page) (λ g i. elim (inserted_in (found_in n.notes) list' (found to rec) added g i) [
                   | inl new ↦ (
-                      let equal = ap (λ h. mentioned_at page h.rec) new in
-                      let bound = greatest_bound (mentioned_at page) (found_in n.notes) (found from rec) source in omega arith)
-                  | inr old ↦ (let bound = greatest_bound (mentioned_at page) (found_in n.notes) g old in omega arith)
+                      let equal = ap (λ h. mention_at page h.rec) new in
+                      let bound = greatest_bound (mention_at page) (found_in n.notes) (found from rec) source in omega arith)
+                  | inr old ↦ (let bound = greatest_bound (mention_at page) (found_in n.notes) g old in omega arith)
                 ]);
           }))
 
@@ -217,12 +200,12 @@ module _ (protocol : Protocol) (n : Noted) (k : IsNoted protocol n) where
         mentioned = λ page below.
             let before = k.mentioned page below in
             subst (λ l. mention l page ≤ mention_of n page) (sym rest)
-            (greatest_least (mentioned_at page) (left keep (found_in n.notes)) (mention_of n page) (λ g i.
-            let bound = greatest_bound (mentioned_at page) (found_in n.notes) g (from_filter (λ f. keep f.slot.0) g (found_in n.notes) i).0 in omega arith));
+            (greatest_least (mention_at page) (left keep (found_in n.notes)) (mention_of n page) (λ g i.
+            let bound = greatest_bound (mention_at page) (found_in n.notes) g (from_filter (λ f. keep f.slot.0) g (found_in n.notes) i).0 in omega arith));
       })
 
 -- what was noted from a scan is what a device can have noted
-pub fresh_noted : (protocol : Protocol) (its : Config) (all : List Seen) (list : List Found) (n : Noted) →
+pub fresh_noted : (protocol : Protocol) (its : Config) (all : List Seen) (list : List Found) (n : IndexState) →
     checked its ≡ Ok (shape_of its) → IsConfig its → its.protocol ≡ protocol → length all ≡ slots_of (shape_of its) →
     IsScanned list → IsSoundList protocol list its.logical → IsNotedFrom its all list n → IsNoted protocol n
 fresh_noted protocol its all list n check bounds rule slots scanned sound from = record {

@@ -1,13 +1,7 @@
 -- The pinned names, by the table of pins.
-use Rattle.std.proofs.Common.{◌≡◌, ℕ, zero, suc, ◌+◌, ◌<◌, ◌≤◌, Bool, true, false, ◌&&◌, ◌||◌, eqb, List, [], ◌∷◌, length, get_or, Option, Some, None, refl}
-use Rattle.std.proofs.Common.{sym, ap, ◌∙◌, inl, inr, arith, ne_eqb, eq-eqb}
-use Rattle.std.specs.List.{cons_option, list_any}
-use Rattle.std.proofs.lemmas.Bool.{cases_eq, cond-true, cond-false}
-use Rattle.tx_types.specs.declared.record.Link.{Link}
-use Rattle.tx_types.specs.declared.record.Rec.{Rec}
-use Rattle.record_list.specs.Records.{has_name}
-use Rattle.version_index.specs.Noted.{pinned_at, pinned_names}
-use Rattle.version_index.proofs.OfTables.Given.{given}
+use Rattle.version_index.proofs.Common.{◌≡◌, ℕ, zero, suc, ◌+◌, ◌<◌, ◌≤◌, Bool, true, false, ◌&&◌, ◌||◌, eqb, List, [], ◌∷◌, length, get_or, Option, Some, None, refl, sym, ap, ◌∙◌, inl, inr, arith, ne_eqb, eq-eqb, cons_option, list_any, cases_eq, cond-true, cond-false, Link, Rec, has_name}
+use Rattle.version_index.specs.IndexState.{pinned_at, pinned_names}
+use Rattle.version_index.proofs.OfTables.BaseTables.{given}
 
 abbrev pub numbered_pin : ℕ × ℕ → Option Link
 numbered_pin (page, version) = pinned_at page version

@@ -1,29 +1,15 @@
 -- When a noted record completes its cycle: exactly where its links lead back to it over newest records.
-use Rattle.std.proofs.Common.{◌≡◌, ℕ, zero, suc, ◌<◌, ◌≤◌, Bool, true, false, eqb, ◌||◌, List, [], ◌∷◌, ◌++◌, length, zip, All, Any, Contains, refl, sym, ◌∙◌}
-use Rattle.std.proofs.Common.{subst, inl, inr, arith, if◌then◌else◌, eq-eqb, eqb-true, ne_eqb, le-ltb}
-use Rattle.std.proofs.lemmas.Bool.{false≢true, and_parts, and_from, and_left, or_cases, or_left, or_right}
-use Rattle.std.proofs.lemmas.List.Elements.{All-contains}
-use Rattle.list_facts.proofs.Membership.{Contains-first, Contains-rest, all_from}
-use Rattle.tx_types.specs.declared.record.Link.{Link}
-use Rattle.tx_types.specs.declared.record.Rec.{Rec}
-use Rattle.tx_types.specs.declared.config.Protocol.{Protocol}
-use Rattle.tx_types.specs.Config.{shape_of, slots_of}
-use Rattle.record_list.specs.declared.found.Found.{Found}
+use Rattle.version_index.proofs.Common.{◌≡◌, ℕ, zero, suc, ◌<◌, ◌≤◌, Bool, true, false, eqb, ◌||◌, List, [], ◌∷◌, ◌++◌, length, zip, All, Any, Contains, refl, sym, ◌∙◌, subst, inl, inr, arith, if◌then◌else◌, eq-eqb, eqb-true, ne_eqb, le-ltb, false≢true, and_parts, and_from, and_left, or_cases, All-contains, Contains-first, Contains-rest, all_from, Link, Rec, Protocol, shape_of, slots_of, Found, newest, name_of, is_present, link_of, next_names, same_name, follows_in, follows_of, name_newest, step_underway, step_of, Blank, note_at, found_in, IndexState, IsNoted, IsNextRecord, programmed, comes_back, completes}
+use Rattle.std.proofs.lemmas.Bool.{or_left, or_right}
 use Rattle.record_list.specs.declared.found.Why.{Why}
 use Rattle.record_list.specs.declared.found.Why.TheVariants.{Cycle, Absent}
-use Rattle.record_list.specs.Records.{newest, name_of, is_present, is_same}
-use Rattle.record_list.specs.Verdict.{newest_name, link_of, passed, is_ahead, is_behind, walk, is_committed}
-use Rattle.record_list.specs.Transaction.{next_names}
-use Rattle.record_list.proofs.OfFacts.Names.{same_name, cases_present}
-use Rattle.record_list.proofs.OfWalks.Rounds.{follows_in, follows_of}
+use Rattle.record_list.specs.Records.{is_same}
+use Rattle.record_list.specs.Verdict.{newest_name, why_below_newest, is_ahead, is_behind, walk, is_committed}
+use Rattle.record_list.proofs.OfFacts.Names.{cases_present}
 use Rattle.record_list.proofs.OfFacts.Safe.{IsLinked, turn_closes}
-use Rattle.record_list.proofs.OfChanges.Progress.{IsUnderway, name_newest, name_uncounted, absent_name}
-use Rattle.record_list.proofs.OfChanges.OneMore.{step_underway, step_linked, its_link}
-use Rattle.record_list.proofs.OfChanges.Keeping.{step_of}
-use Rattle.version_index.specs.declared.note.Note.TheVariants.{Blank}
-use Rattle.version_index.specs.Notes.{note_at, found_in}
-use Rattle.version_index.specs.Noted.{Noted, IsNoted, IsNextRecord, programmed}
-use Rattle.version_index.specs.JudgedChanges.{comes_back, completes, IsRound}
+use Rattle.record_list.proofs.OfChanges.Progress.{IsUnderway, name_uncounted, absent_name}
+use Rattle.record_list.proofs.OfChanges.OneMore.{step_linked, its_link}
+use Rattle.version_index.specs.DerivedChanges.{IsRound}
 use Rattle.version_index.proofs.OfTables.FoundIn.{found}
 use Rattle.version_index.proofs.OfTables.NotedFacts.{noted_map}
 use Rattle.version_index.proofs.OfChanges.NotedChanges.{next_write}
@@ -96,8 +82,8 @@ back_walks p l start (suc t) (suc u) q le h =
     let ahead : is_ahead l q ≡ false = le-ltb (newest l q.page) q.version (omega arith) in
     let behind : is_behind l q ≡ false = le-ltb q.version (newest l q.page) (omega arith) in
     elim (or_cases (is_same q start) (comes_back l start t (link_of l q)) parts.1) [
-      | inl same ↦ turn_closes (is_ahead l q) (is_behind l q) (is_same q start) (passed p l q) (walk p l start u (link_of l q)) ahead behind same
-      | inr on ↦ turn_on (is_ahead l q) (is_behind l q) (is_same q start) (passed p l q) (walk p l start u (link_of l q)) ahead behind
+      | inl same ↦ turn_closes (is_ahead l q) (is_behind l q) (is_same q start) (why_below_newest p l q) (walk p l start u (link_of l q)) ahead behind same
+      | inr on ↦ turn_on (is_ahead l q) (is_behind l q) (is_same q start) (why_below_newest p l q) (walk p l start u (link_of l q)) ahead behind
           (back_walks p l start t u (link_of l q) (omega arith) on)
     ]
 
@@ -127,7 +113,7 @@ module _ (l : List Found) (logical : ℕ) (names : List Link) (t : IsUnderway l 
       name_uncounted l logical names t p linked gone i absent start own here
       (omega arith, subst (λ u. is_committed (walk p l u (suc logical) (link_of l u)) ≡ true) (sym its) walks)
 
-module _ (protocol : Protocol) (n : Noted) (k : IsNoted protocol n) (at : ℕ) (rec : Rec) (exists : at < slots_of (shape_of n.config))
+module _ (protocol : Protocol) (n : IndexState) (k : IsNoted protocol n) (at : ℕ) (rec : Rec) (exists : at < slots_of (shape_of n.config))
     (was : note_at n.notes at ≡ Blank) (next : IsNextRecord n rec) where
   -- the names as they stand once the record is noted
   record Stands : Type 0 where

@@ -1,16 +1,11 @@
 -- The names of a cycle from one of them on, in the order in which they follow each other.
-use Rattle.std.proofs.Common.{◌≡◌, ◌≢◌, ℕ, ◌<◌, ◌≤◌, false, eqb, List, [], ◌∷◌, ◌++◌, length, map, zip, Contains, refl, sym, ap, ◌∙◌, subst, inl, inr, ne_eqb}
-use Rattle.std.proofs.Common.{eqb-true}
+use Rattle.version_index.proofs.Common.{◌≡◌, ◌≢◌, ℕ, ◌<◌, ◌≤◌, false, eqb, List, [], ◌∷◌, ◌++◌, length, map, zip, Contains, refl, sym, ap, ◌∙◌, subst, inl, inr, ne_eqb, eqb-true, length-map, Contains-get_or, Contains-cases, Contains-first, Contains-here, Contains-nil, Contains-rest, any_of, pairs_head, pairs_tail, Link, Follows, Apart}
 use Rattle.std.specs.List.{AllByRecursion, IsDistinct}
-use Rattle.std.proofs.lemmas.List.{length-map, append_assoc}
-use Rattle.std.proofs.lemmas.List.Elements.{Contains-append_left, Contains-push_cases, Contains-push, Contains-get_or}
+use Rattle.std.proofs.lemmas.List.{append_assoc}
+use Rattle.std.proofs.lemmas.List.Elements.{Contains-append_left, Contains-push_cases, Contains-push}
 use Rattle.std.proofs.lemmas.List.Quantifiers.{all_pairs_push}
 use Rattle.std.proofs.lemmas.Map.Steps.{length-le_from_distinct_below}
-use Rattle.list_facts.proofs.Membership.{Contains-cases, Contains-first, Contains-here, Contains-nil, Contains-rest, in_map}
-use Rattle.list_facts.proofs.Tests.{any_of}
-use Rattle.list_facts.proofs.Pairs.{pairs_head, pairs_tail}
-use Rattle.tx_types.specs.declared.record.Link.{Link}
-use Rattle.record_list.proofs.OfWalks.Rounds.{Follows, Apart}
+use Rattle.list_lemmas.proofs.Membership.{in_map}
 
 -- one name more at the end
 pairs_push : (y : Link) (ys : List Link) (x end : Link) →

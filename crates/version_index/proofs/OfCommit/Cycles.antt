@@ -1,30 +1,14 @@
 -- The names of a complete cycle are current.
-use Rattle.std.proofs.Common.{◌≡◌, ℕ, ◌<◌, true, List, length, zip, All, refl, sym, ap, ◌∙◌, subst, inr, arith, Contains}
-use Rattle.std.proofs.lemmas.List.Elements.{All-contains}
-use Rattle.list_facts.proofs.Membership.{all_from}
-use Rattle.tx_types.specs.declared.record.Link.{Link}
-use Rattle.tx_types.specs.declared.record.Rec.{Rec}
-use Rattle.tx_types.specs.declared.config.Protocol.{Protocol}
-use Rattle.tx_types.specs.Config.{shape_of, slots_of}
-use Rattle.record_list.specs.Records.{newest, is_present}
-use Rattle.record_list.specs.Verdict.{newest_name, link_of}
-use Rattle.record_list.specs.Current.{cur}
-use Rattle.record_list.specs.Transaction.{next_names}
-use Rattle.record_list.proofs.OfFacts.Names.{same_name}
-use Rattle.record_list.proofs.OfWalks.Rounds.{Follows, follows_of, follows_in}
+use Rattle.version_index.proofs.Common.{◌≡◌, ℕ, ◌<◌, true, List, length, zip, All, refl, sym, ap, ◌∙◌, subst, inr, arith, Contains, All-contains, all_from, Link, Rec, Protocol, shape_of, slots_of, newest, is_present, link_of, cur, next_names, same_name, Follows, follows_of, follows_in, name_newest, step_underway, step_of, Blank, note_at, found_in, IndexState, IsNoted, IsNextRecord, programmed, current_of}
+use Rattle.record_list.specs.Verdict.{newest_name}
 use Rattle.record_list.proofs.OfFacts.Safe.{top_link, Goes, IsSafe, counts_from}
 use Rattle.record_list.proofs.OfFacts.Facts.{cur_committed}
-use Rattle.record_list.proofs.OfChanges.Progress.{name_newest}
-use Rattle.record_list.proofs.OfChanges.OneMore.{step_underway}
-use Rattle.record_list.proofs.OfChanges.Keeping.{step_of}
-use Rattle.version_index.specs.declared.note.Note.TheVariants.{Blank}
-use Rattle.version_index.specs.Notes.{note_at, found_in}
-use Rattle.version_index.specs.Noted.{Noted, IsNoted, IsNextRecord, IsCompleteCycle, programmed, current_of}
+use Rattle.version_index.specs.IndexState.{IsCompleteCycle}
 use Rattle.version_index.proofs.OfTables.FoundIn.{found}
 use Rattle.version_index.proofs.OfTables.NotedFacts.{noted_map}
 use Rattle.version_index.proofs.OfChanges.NotedChanges.{next_write}
 
-module _ (protocol : Protocol) (n : Noted) (k : IsNoted protocol n) (names : List Link) (cycle : IsCompleteCycle n names) where
+module _ (protocol : Protocol) (n : IndexState) (k : IsNoted protocol n) (names : List Link) (cycle : IsCompleteCycle n names) where
   -- what the cycle says of a name and the one that follows
   pub record IsClosed (a b : Link) : Type 0 where
     pub here : is_present (found_in n.notes) a ≡ true
@@ -70,7 +54,7 @@ module _ (protocol : Protocol) (n : Noted) (k : IsNoted protocol n) (names : Lis
       ap (λ p. cur p (found_in n.notes) n.config.logical a.page) k.rule ∙ cur_committed protocol (found_in n.notes) n.config.logical a.page counts.1 ∙ c.top)
 
 -- Once its last record is noted, the names of a transaction in progress are a complete cycle.
-pub cycle_written : (protocol : Protocol) (n : Noted) → IsNoted protocol n → (at : ℕ) (rec : Rec) → at < slots_of (shape_of n.config) →
+pub cycle_written : (protocol : Protocol) (n : IndexState) → IsNoted protocol n → (at : ℕ) (rec : Rec) → at < slots_of (shape_of n.config) →
     note_at n.notes at ≡ Blank → (next : IsNextRecord n rec) → All (λ name. is_present (found_in (programmed n at rec).notes) name ≡ true) next.names →
     IsCompleteCycle (programmed n at rec) next.names
 cycle_written protocol n k at rec exists was next all =

@@ -1,41 +1,28 @@
 -- The records of a whole cycle are current, or answer, one after the other.
-use Rattle.std.proofs.Common.{◌≡◌, ◌≢◌, ℕ, ◌+◌, ◌<◌, ◌≤◌, eqb, List, length, take, get_or, option_and_then, Option, Some, None, refl, sym, ap, ◌∙◌, subst, inl}
-use Rattle.std.proofs.Common.{inr, arith, eq-eqb, eqb-true}
-use Rattle.std.specs.Option.{option_map, option_map_or}
-use Rattle.std.proofs.lemmas.Bool.{cases_Bool, cases_lt, cond-true, cond-false}
-use Rattle.std.proofs.lemmas.List.{get_or_past, take_all}
-use Rattle.std.proofs.lemmas.Option.{none-some, same_Some}
-use Rattle.list_facts.proofs.Options.{cases_Option}
-use Rattle.tx_types.specs.declared.record.Link.{Link}
-use Rattle.tx_types.specs.declared.record.Rec.{Rec}
-use Rattle.record_list.specs.Records.{name_of}
-use Rattle.slot_tables.specs.Kept.{Kept, record_at, number_at}
-use Rattle.version_index.specs.Committing.{LinksExist, newest_at, newest_named, with_version, OnlyJudges, IsTaken, IsTop, IsRoundIn, Rests, TakesRound}
-use Rattle.version_index.specs.Judged.{name_at}
-use Rattle.version_index.specs.JudgedChanges.{Judged, with_current, all_current}
-use Rattle.version_index.specs.Numbered.{AreJudged, named}
-use Rattle.version_index.specs.Tables.{version_at, numbered_of}
+use Rattle.version_index.proofs.Common.{◌≡◌, ◌≢◌, ℕ, ◌+◌, ◌<◌, ◌≤◌, eqb, List, length, take, get_or, Option, Some, None, refl, sym, ap, ◌∙◌, subst, inl, inr, arith, eq-eqb, eqb-true, option_map, option_map_or, cases_Bool, cases_lt, cond-true, cond-false, get_or_past, take_all, none-some, same_Some, cases_Option, Link, Rec, name_of, TablesState, record_at, number_at, LinksExist, newest_at, newest_with_name, OnlyDerives, IsTaken, IsRoundIn, name_at, Derived, with_current, all_current, AreDerived, named, version_at, numbered_of}
+use Rattle.std.proofs.Common.{option_and_then}
+use Rattle.version_index.specs.Committing.{with_version, IsTop, Rests, CommitsRound}
 use Rattle.version_index.proofs.OfTables.CurrentNames.{IsRested, rested_on}
-use Rattle.version_index.proofs.OfTables.Judged.{name_at_is, name_at_some}
+use Rattle.version_index.proofs.OfTables.Derived.{name_at_is, name_at_some}
 use Rattle.version_index.proofs.OfTables.Numbered.{named_some, made_current}
 use Rattle.version_index.proofs.OfCommit.RoundSteps.{current_more}
 
 -- one change after another
-pub judges_then : (k t u : Kept) → OnlyJudges k t → OnlyJudges t u → OnlyJudges k u
-judges_then k t u a b = record {
-  rest = b.rest ∙ ap (λ (v : Kept). record v { current = u.current; answerers = u.answerers; waits = u.waits }) a.rest;
+pub derives_then : (k t u : TablesState) → OnlyDerives k t → OnlyDerives t u → OnlyDerives k u
+derives_then k t u a b = record {
+  rest = b.rest ∙ ap (λ (v : TablesState). record v { current = u.current; answerers = u.answerers; waits = u.waits }) a.rest;
   unused = λ y none rests. (
       let first = a.unused y none rests in
-      let still : record_at t.records y ≡ None = ap (λ (v : Kept). record_at v.records y) a.rest ∙ none in
+      let still : record_at t.records y ≡ None = ap (λ (v : TablesState). record_at v.records y) a.rest ∙ none in
       let second = b.unused y still (first.1 ∙ rests) in
       (second.0 ∙ first.0, second.1 ∙ first.1));
 }
 
-pub judges_none : (k : Kept) → OnlyJudges k k
-judges_none k = record { rest = refl; unused = λ y none rests. (refl, refl) }
+pub derives_none : (k : TablesState) → OnlyDerives k k
+derives_none k = record { rest = refl; unused = λ y none rests. (refl, refl) }
 
 -- what is named is a record of the tables
-pub record IsNamed (k : Kept) (name : Link) (r : Rec) : Type 0 where
+pub record IsNamed (k : TablesState) (name : Link) (r : Rec) : Type 0 where
   pub number : ℕ
   pub newest : newest_at k name.page ≡ Some number
   pub is : record_at k.records number ≡ Some r
@@ -47,7 +34,7 @@ versioned version s r e = elim (cases_Bool (eqb s.version version)) [
   | inr other ↦ absurd (none-some r (sym (cond-false (eqb s.version version) (Some s) None other) ∙ e))
 ]
 
-pub named_rec : (k : Kept) (name : Link) (r : Rec) → newest_named k name ≡ Some r → IsNamed k name r
+pub named_rec : (k : TablesState) (name : Link) (r : Rec) → newest_with_name k name ≡ Some r → IsNamed k name r
 named_rec k name r e =
     let second : Option Rec → Option Rec = option_and_then (with_version name.version) in
     elim (cases_Option (newest_at k name.page)) [
@@ -63,7 +50,7 @@ named_rec k name r e =
     ]
 
 -- and a top record is the one that is named
-pub top_named : (k : Kept) (name next : Link) (t : IsTop k name next) → newest_named k name ≡ Some t.rec
+pub top_named : (k : TablesState) (name next : Link) (t : IsTop k name next) → newest_with_name k name ≡ Some t.rec
 top_named k name next t =
     let second : Option Rec → Option Rec = option_and_then (with_version name.version) in
     let version : t.rec.version ≡ name.version = ap (λ u. u.version) t.its_name in
@@ -71,14 +58,14 @@ top_named k name next t =
     ∙ cond-true (eqb t.rec.version name.version) (Some t.rec) None (eq-eqb t.rec.version name.version version)
 
 -- the same where only what is judged changes
-pub named_still : (k t : Kept) (name : Link) → OnlyJudges k t → newest_named t name ≡ newest_named k name
+pub named_still : (k t : TablesState) (name : Link) → OnlyDerives k t → newest_with_name t name ≡ newest_with_name k name
 named_still k t name h =
-    ap (λ (v : Kept). newest_named v name) h.rest
+    ap (λ (v : TablesState). newest_with_name v name) h.rest
 
 -- the current version that is kept is the one that is judged
-judged_version : (t : Kept) (pages : ℕ) (j : Judged) (page : ℕ) → AreJudged (numbered_of t) pages j → page < pages →
+derived_version : (t : TablesState) (pages : ℕ) (j : Derived) (page : ℕ) → AreDerived (numbered_of t) pages j → page < pages →
     version_at t (number_at t.current page) ≡ j.current page
-judged_version t pages j page judged below =
+derived_version t pages j page judged below =
     let number = number_at t.current page in
     let version : ℕ → ℕ = λ x. option_map_or (λ r. r.version) (record_at t.records x) 0 in
     let is = judged.current page below in
@@ -96,59 +83,59 @@ judged_version t pages j page judged below =
           ∙ ap (λ u. u.version) (name_at_is page (j.current page) (name_of some.0) some.2).1)
     ]
 
-at_rest : (j : Judged) → Rests j → IsRested j
+at_rest : (j : Derived) → Rests j → IsRested j
 at_rest j h r low = let both = h r low in record { answerer = both.0; waits = both.1 }
 
-rests : (j : Judged) → IsRested j → Rests j
+rests : (j : Derived) → IsRested j → Rests j
 rests j h r low = let both = h r low in (both.answerer, both.waits)
 
 -- so far a round is taken: at which name it is, and what is judged
-pub record IsTakenSo (k t : Kept) (start link : Link) (n its_pages : ℕ) (j : Judged) (round : List Link) : Type 0 where
+pub record IsTakenSo (k t : TablesState) (start link : Link) (n its_pages : ℕ) (j : Derived) (round : List Link) : Type 0 where
   pub within : n < length round
   pub at : get_or round n start ≡ link
-  pub judged : AreJudged (numbered_of t) its_pages (all_current (take n round) j)
+  pub judged : AreDerived (numbered_of t) its_pages (all_current (take n round) j)
   pub rested : Rests (all_current (take n round) j)
 
 -- the tables while a round is taken
-pub record IsTakingRound (k t : Kept) (start link : Link) (n : ℕ) : Type 0 where
-  pub judges : OnlyJudges k t
+pub record IsTakingRound (k t : TablesState) (start link : Link) (n : ℕ) : Type 0 where
+  pub judges : OnlyDerives k t
   pub page : link.page < length k.pages
   pub rounds :
-      (its_pages : ℕ) (j : Judged) (round : List Link) → IsRoundIn k start round → its_pages ≡ length k.pages → Rests j →
-      AreJudged (numbered_of k) its_pages j → IsTakenSo k t start link n its_pages j round
+      (its_pages : ℕ) (j : Derived) (round : List Link) → IsRoundIn k start round → its_pages ≡ length k.pages → Rests j →
+      AreDerived (numbered_of k) its_pages j → IsTakenSo k t start link n its_pages j round
 
-pub start_taking : (k : Kept) (start : Link) → start.page < length k.pages → IsTakingRound k k start start 0
+pub start_taking : (k : TablesState) (start : Link) → start.page < length k.pages → IsTakingRound k k start start 0
 start_taking k start page = record {
-  judges = judges_none k;
+  judges = derives_none k;
   page = page;
   rounds = λ its_pages j round r pages rest judged. record { within = r.some; at = r.first; judged = judged; rested = rest };
 }
 
-module _ (k t u : Kept) (start link : Link) (n : ℕ) (h : IsTakingRound k t start link n) (judges : OnlyJudges t u)
+module _ (k t u : TablesState) (start link : Link) (n : ℕ) (h : IsTakingRound k t start link n) (judges : OnlyDerives t u)
     (taken : IsTaken t u link.page) where
   -- what is judged once its record is current
-  one_current : (its_pages : ℕ) (j : Judged) (round : List Link) → IsRoundIn k start round → its_pages ≡ length k.pages → Rests j →
-      AreJudged (numbered_of k) its_pages j →
-      AreJudged (numbered_of u) its_pages (all_current (take (n + 1) round) j) × Rests (all_current (take (n + 1) round) j)
+  one_current : (its_pages : ℕ) (j : Derived) (round : List Link) → IsRoundIn k start round → its_pages ≡ length k.pages → Rests j →
+      AreDerived (numbered_of k) its_pages j →
+      AreDerived (numbered_of u) its_pages (all_current (take (n + 1) round) j) × Rests (all_current (take (n + 1) round) j)
   one_current its_pages j round r pages rest judged =
       let so = h.rounds its_pages j round r pages rest judged in
       let top = r.tops n so.within in
       let now = all_current (take n round) j in
       let name = top.its_name ∙ so.at in
       let own_page : top.rec.page ≡ link.page = ap (λ l. l.page) name in
-      let same = ap (λ (v : Kept). v.records) h.judges.rest in
+      let same = ap (λ (v : TablesState). v.records) h.judges.rest in
       let is : record_at t.records top.number ≡ Some top.rec = ap (λ l. record_at l top.number) same ∙ top.is in
       let newest : newest_at t link.page ≡ Some top.number =
-      ap (λ (v : Kept). newest_at v link.page) h.judges.rest ∙ ap (newest_at k) (ap (λ (l : Link). l.page) (sym so.at)) ∙ top.newest in
+      ap (λ (v : TablesState). newest_at v link.page) h.judges.rest ∙ ap (newest_at k) (ap (λ (l : Link). l.page) (sym so.at)) ∙ top.newest in
       let low = h.page in
       let version : version_at t (number_at t.current link.page) ≡ now.current link.page =
-      judged_version t its_pages now link.page so.judged (omega arith) in
+      derived_version t its_pages now link.page so.judged (omega arith) in
       let rested = at_rest now so.rested in
       let more = current_more round j n start so.within in
       let its : with_current (name_of top.rec) now ≡ all_current (take (n + 1) round) j =
       ap (λ l. with_current l now) top.its_name ∙ sym more in
       let made = made_current (numbered_of t) (numbered_of u) its_pages now top.number top.rec so.judged rested top.positive (record {
-        records = ap (λ (v : Kept). v.records) judges.rest;
+        records = ap (λ (v : TablesState). v.records) judges.rest;
         own = is;
         current = ap (number_at u.current) own_page ∙ taken.current ∙ newest;
         elsewhere = λ page off. taken.elsewhere page (λ e. off (e ∙ sym own_page));
@@ -159,24 +146,24 @@ module _ (k t u : Kept) (start link : Link) (n : ℕ) (h : IsTakingRound k t sta
           | inr under ↦ inr (subst (λ v. s.version ≤ v) (sym version) (subst (λ p. s.version ≤ now.current p) own_page under))
         ]);
       }) in (
-        subst (AreJudged (numbered_of u) its_pages) its made,
+        subst (AreDerived (numbered_of u) its_pages) its made,
         subst Rests its (rests (with_current (name_of top.rec) now)
             (rested_on (name_of top.rec) now rested)),
       )
 
   -- the record of the name that it is at
-  its_top : (its_pages : ℕ) (j : Judged) (round : List Link) (r : IsRoundIn k start round) → its_pages ≡ length k.pages → Rests j →
-      AreJudged (numbered_of k) its_pages j → (rec : Rec) × (newest_named u link ≡ Some rec) × (rec.next ≡ get_or round (n + 1) start)
+  its_top : (its_pages : ℕ) (j : Derived) (round : List Link) (r : IsRoundIn k start round) → its_pages ≡ length k.pages → Rests j →
+      AreDerived (numbered_of k) its_pages j → (rec : Rec) × (newest_with_name u link ≡ Some rec) × (rec.next ≡ get_or round (n + 1) start)
   its_top its_pages j round r pages rest judged =
       let so = h.rounds its_pages j round r pages rest judged in
       let top = r.tops n so.within in (
         top.rec,
-        named_still k u link (judges_then k t u h.judges judges) ∙ ap (newest_named k) (sym so.at) ∙
+        named_still k u link (derives_then k t u h.judges judges) ∙ ap (newest_with_name k) (sym so.at) ∙
             top_named k (get_or round n start) (get_or round (n + 1) start) top,
         top.link,
       )
 
-  pub taking_ends : (logical : ℕ) (rec : Rec) → newest_named u link ≡ Some rec → rec.next.page ≡ start.page → TakesRound k u start logical
+  pub taking_ends : (logical : ℕ) (rec : Rec) → newest_with_name u link ≡ Some rec → rec.next.page ≡ start.page → CommitsRound k u start logical
   taking_ends logical rec is ends its_pages j round r short pages rest judged =
       let top = its_top its_pages j round r pages rest judged in
       let so = h.rounds its_pages j round r pages rest judged in
@@ -187,18 +174,18 @@ module _ (k t u : Kept) (start link : Link) (n : ℕ) (h : IsTakingRound k t sta
         | inl more ↦ absurd (r.before (n + 1) (omega arith) more page)
         | inr done ↦ done
       ] in
-      subst (λ l. AreJudged (numbered_of u) its_pages (all_current l j)) (take_all (n + 1) round whole)
+      subst (λ l. AreDerived (numbered_of u) its_pages (all_current l j)) (take_all (n + 1) round whole)
       (one_current its_pages j round r pages rest judged).0
 
-  pub taking_fails : (logical : ℕ) → newest_named u link ≡ None → TakesRound k u start logical
+  pub taking_fails : (logical : ℕ) → newest_with_name u link ≡ None → CommitsRound k u start logical
   taking_fails logical none its_pages j round r short pages rest judged =
       let top = its_top its_pages j round r pages rest judged in
       absurd (none-some top.0 (sym none ∙ top.1))
 
-  pub taking_more : LinksExist k → (rec : Rec) → newest_named u link ≡ Some rec → rec.next.page ≢ start.page →
+  pub taking_more : LinksExist k → (rec : Rec) → newest_with_name u link ≡ Some rec → rec.next.page ≢ start.page →
       IsTakingRound k u start rec.next (n + 1)
   taking_more links rec is goes =
-      let all = judges_then k t u h.judges judges in
+      let all = derives_then k t u h.judges judges in
       let x = named_rec k link rec (sym (named_still k u link all) ∙ is) in
       record {
         judges = all;
@@ -220,7 +207,7 @@ module _ (k t u : Kept) (start link : Link) (n : ℕ) (h : IsTakingRound k t sta
       }
 
 -- a round of no more names than turns has an end
-pub taking_whole : (k t : Kept) (start link : Link) (n logical : ℕ) → IsTakingRound k t start link n → logical ≤ n → TakesRound k t start logical
+pub taking_whole : (k t : TablesState) (start link : Link) (n logical : ℕ) → IsTakingRound k t start link n → logical ≤ n → CommitsRound k t start logical
 taking_whole k t start link n logical h past its_pages j round r short pages rest judged =
     let so = h.rounds its_pages j round r pages rest judged in
     let within = so.within in

@@ -1,15 +1,6 @@
 -- The newest record of a page, by the numbers of the page.
-use Rattle.std.proofs.Common.{◌≡◌, ℕ, ◌≤◌, List, [], ◌∷◌, AllPairs, Contains, Some, None, refl, sym, ap, ◌∙◌, subst, inl, inr, arith}
-use Rattle.std.specs.List.{slice_get}
-use Rattle.std.proofs.lemmas.Option.{none-some, same_Some}
-use Rattle.list_facts.proofs.Membership.{Contains-cases, Contains-first, Contains-nil}
-use Rattle.list_facts.proofs.Pairs.{pairs_head}
-use Rattle.tx_types.specs.declared.record.Rec.{Rec}
-use Rattle.record_list.specs.Records.{newest}
-use Rattle.slot_tables.specs.Kept.{Kept, numbers_at, IsNewer, AreVersions}
-use Rattle.version_index.specs.Notes.{found_in}
-use Rattle.version_index.specs.Numbered.{rec_at}
-use Rattle.version_index.specs.Tables.{notes_in, AreHeld}
+use Rattle.version_index.proofs.Common.{◌≡◌, ℕ, ◌≤◌, List, [], ◌∷◌, AllPairs, Contains, Some, None, refl, sym, ap, ◌∙◌, subst, inl, inr, arith, slice_get, none-some, same_Some, Contains-cases, Contains-first, Contains-nil, pairs_head, Rec, newest, TablesState, numbers_at, found_in, rec_at, notes_in, AreHeld}
+use Rattle.slot_tables.specs.TablesState.{IsNewer, AreVersions}
 use Rattle.version_index.proofs.OfTables.FoundIn.{found}
 use Rattle.version_index.proofs.OfTables.KeptNotes.{kept_found, found_number}
 use Rattle.version_index.proofs.OfReadings.Readings.{newest_is, newest_none}
@@ -23,7 +14,7 @@ headless [] e = refl
 headless (y ∷ ys) e = absurd (none-some y (sym e))
 
 -- a number of a page stands first or has an older record than the first
-pub record IsNewestNumber (k : Kept) (page x : ℕ) : Type 0 where
+pub record IsNewestNumber (k : TablesState) (page x : ℕ) : Type 0 where
   pub rec : Rec
   pub is : rec_at k.records x ≡ Some rec
   pub own_page : rec.page ≡ page
@@ -31,13 +22,13 @@ pub record IsNewestNumber (k : Kept) (page x : ℕ) : Type 0 where
   pub most : (y : ℕ) (s : Rec) → rec_at k.records y ≡ Some s → s.page ≡ page → s.version ≤ rec.version
 
 -- the same without what was noted
-pub record IsHead (k : Kept) (page x : ℕ) : Type 0 where
+pub record IsHead (k : TablesState) (page x : ℕ) : Type 0 where
   pub rec : Rec
   pub is : rec_at k.records x ≡ Some rec
   pub own_page : rec.page ≡ page
   pub most : (y : ℕ) (s : Rec) → rec_at k.records y ≡ Some s → s.page ≡ page → s.version ≤ rec.version
 
-module _ (k : Kept) (v : AreVersions k.records k.pages) (page : ℕ) where
+module _ (k : TablesState) (v : AreVersions k.records k.pages) (page : ℕ) where
   pub head_number : (x : ℕ) → slice_get (numbers_at k.pages page) 0 ≡ Some x → IsHead k page x
   head_number x e =
       let head = head_of (numbers_at k.pages page) x e in
@@ -62,7 +53,7 @@ module _ (k : Kept) (v : AreVersions k.records k.pages) (page : ℕ) where
       Contains-nil y (subst (λ l. Contains l y) (headless (numbers_at k.pages page) e)
       (subst (λ p. Contains (numbers_at k.pages p) y) of_page (v.listed y s is).1))
 
-module _ (k : Kept) (h : AreHeld k) (v : AreVersions k.records k.pages) (page : ℕ) where
+module _ (k : TablesState) (h : AreHeld k) (v : AreVersions k.records k.pages) (page : ℕ) where
   pub newest_number : (x : ℕ) → slice_get (numbers_at k.pages page) 0 ≡ Some x → IsNewestNumber k page x
   newest_number x e =
       let head = head_number k v page x e in

@@ -1,17 +1,8 @@
 -- The names of a round one after the other: each links to the next, the last to the first.
-use Rattle.std.proofs.Common.{◌≡◌, ◌≢◌, ℕ, zero, suc, ◌+◌, ◌<◌, true, List, [], ◌∷◌, ◌++◌, length, get_or, take, zip, AllPairs, refl, sym, ap, ◌∙◌, subst}
-use Rattle.std.proofs.Common.{arith}
-use Rattle.std.proofs.lemmas.List.{length-append, take_more, get_or_past}
-use Rattle.std.proofs.lemmas.List.Elements.{All-contains, Contains-get_or}
+use Rattle.version_index.proofs.Common.{◌≡◌, ◌≢◌, ℕ, zero, suc, ◌+◌, ◌<◌, true, List, [], ◌∷◌, ◌++◌, length, get_or, take, zip, AllPairs, refl, sym, ap, ◌∙◌, subst, arith, length-append, take_more, get_or_past, All-contains, Contains-get_or, pairs_head, Link, newest, is_present, link_of, next_names, found_in, IndexState, Derived, with_current, with_answers, all_current, all_answered}
 use Rattle.std.proofs.lemmas.Slice.Zip.{length-zip, get_or-zip}
-use Rattle.list_facts.proofs.Pairs.{pairs_head}
-use Rattle.tx_types.specs.declared.record.Link.{Link}
-use Rattle.record_list.specs.Records.{newest, is_present}
-use Rattle.record_list.specs.Verdict.{link_of}
-use Rattle.record_list.specs.Transaction.{next_names}
-use Rattle.version_index.specs.Notes.{found_in}
-use Rattle.version_index.specs.Noted.{Noted, IsCompleteCycle}
-use Rattle.version_index.specs.JudgedChanges.{IsRound, IsRoundByIndex, Judged, with_current, with_answers, all_current, all_answered}
+use Rattle.version_index.specs.IndexState.{IsCompleteCycle}
+use Rattle.version_index.specs.DerivedChanges.{IsRound, IsRoundByIndex}
 use Rattle.version_index.proofs.OfTables.CurrentNames.{current_push, answered_push}
 
 -- with what stands behind the last as what stands for none, one more changes nothing
@@ -26,10 +17,10 @@ after_at : (start : Link) (rest : List Link) (i : ℕ) → get_or (next_names (s
 after_at start rest i = push_default rest start i ∙ ap (λ k. get_or (start ∷ rest) k start) (let next : suc i ≡ i + 1 = omega arith in next)
 
 -- what a name of a round is
-abbrev IsStep : Noted → Link → Link → Type 0
+abbrev IsStep : IndexState → Link → Link → Type 0
 IsStep n a b = (is_present (found_in n.notes) a ≡ true) × (newest (found_in n.notes) a.page ≡ a.version) × (link_of (found_in n.notes) a ≡ b)
 
-module _ (n : Noted) (names : List Link) (start : Link) (round : List Link) (r : IsRound n names start round) where
+module _ (n : IndexState) (names : List Link) (start : Link) (round : List Link) (r : IsRound n names start round) where
   step_at : (i : ℕ) → i < length (start ∷ r.rest) → IsStep n (get_or (start ∷ r.rest) i start) (get_or (start ∷ r.rest) (i + 1) start)
   step_at i within =
       let xs = start ∷ r.rest in
@@ -65,10 +56,10 @@ module _ (n : Noted) (names : List Link) (start : Link) (round : List Link) (r :
           (Contains-get_or xs i x (omega arith)) (sym e)
 
 -- what is judged with one name more of a list
-pub current_more : (names : List Link) (j : Judged) (i : ℕ) (d : Link) → i < length names →
+pub current_more : (names : List Link) (j : Derived) (i : ℕ) (d : Link) → i < length names →
     all_current (take (i + 1) names) j ≡ with_current (get_or names i d) (all_current (take i names) j)
 current_more names j i d within = ap (λ l. all_current l j) (take_more names i d within) ∙ current_push (take i names) (get_or names i d) j
 
-pub answered_more : (names : List Link) (j : Judged) (i : ℕ) (d : Link) → i < length names →
+pub answered_more : (names : List Link) (j : Derived) (i : ℕ) (d : Link) → i < length names →
     all_answered (take (i + 1) names) j ≡ with_answers (get_or names i d) (all_answered (take i names) j)
 answered_more names j i d within = ap (λ l. all_answered l j) (take_more names i d within) ∙ answered_push (take i names) (get_or names i d) j

@@ -1,21 +1,8 @@
 -- Records of a page are let go, one after the other from the newest on.
-use Rattle.std.proofs.Common.{◌≡◌, ◌≢◌, ℕ, suc, ◌+◌, ◌<◌, ◌≤◌, ◌⊎◌, not, eqb, List, [], ◌∷◌, ◌++◌, length, set, AllPairs, Contains, IfSome, Option, Some, None}
-use Rattle.std.proofs.Common.{refl, sym, ap, ◌∙◌, subst, inl, inr, arith, eq-eqb, ne_eqb}
-use Rattle.std.specs.List.{slice_get}
-use Rattle.std.specs.Option.{option_map_or}
-use Rattle.std.proofs.lemmas.Bool.{cases_eq, cases_lt, cond-true, cond-false}
-use Rattle.std.proofs.lemmas.List.{length-set, get_or-set_same, get_or-set_other, get_or_past}
-use Rattle.std.proofs.lemmas.Option.{none-some, same_Some}
-use Rattle.list_facts.proofs.Membership.{Contains-cases, Contains-first, Contains-nil, Contains-rest}
-use Rattle.list_facts.proofs.Options.{cases_Option}
-use Rattle.list_facts.proofs.Pairs.{pairs_head, pairs_tail}
-use Rattle.plain_tables.specs.ChainLists.{index_in, next_in}
-use Rattle.tx_types.specs.declared.record.Rec.{Rec}
-use Rattle.tx_types.specs.Config.{slots_of}
-use Rattle.slot_tables.specs.Kept.{Kept, IsKept, record_at, number_at, numbers_at, IsNewer, AreVersions}
-use Rattle.version_index.specs.Committing.{OnlyJudges, AreLetGo, IsTaken, newest_at}
-use Rattle.version_index.specs.Losing.{freed}
-use Rattle.version_index.specs.Tables.{version_at}
+use Rattle.version_index.proofs.Common.{◌≡◌, ◌≢◌, ℕ, suc, ◌+◌, ◌<◌, ◌≤◌, ◌⊎◌, not, eqb, List, [], ◌∷◌, ◌++◌, length, set, AllPairs, Contains, IfSome, Option, Some, None, refl, sym, ap, ◌∙◌, subst, inl, inr, arith, eq-eqb, ne_eqb, slice_get, option_map_or, cases_eq, cases_lt, cond-true, cond-false, length-set, get_or-set_same, get_or-set_other, get_or_past, none-some, same_Some, Contains-cases, Contains-first, Contains-nil, Contains-rest, cases_Option, pairs_head, pairs_tail, Rec, slots_of, TablesState, IsTablesState, record_at, number_at, numbers_at, OnlyDerives, IsTaken, newest_at, freed, version_at}
+use Rattle.dense_tables.specs.LinkedLists.{index_in, next_in}
+use Rattle.slot_tables.specs.TablesState.{IsNewer, AreVersions}
+use Rattle.version_index.specs.Committing.{AreReleased}
 use Rattle.version_index.proofs.OfCommit.Newest.{head_of, headless, head_number, no_number}
 
 -- a list about one of its numbers, and the number behind that
@@ -69,7 +56,7 @@ after_pairs R [] x after p = pairs_tail R x after p
 after_pairs R (b ∷ bs) x after p = after_pairs R bs x after (pairs_tail R b (bs ++ x ∷ after) p)
 
 -- which record of a page comes after one
-pub record IsOlderOf (k : Kept) (r : Rec) (x z : ℕ) : Type 0 where
+pub record IsOlderOf (k : TablesState) (r : Rec) (x z : ℕ) : Type 0 where
   pub rec : Rec
   pub is : record_at k.records z ≡ Some rec
   pub own_page : rec.page ≡ r.page
@@ -78,7 +65,7 @@ pub record IsOlderOf (k : Kept) (r : Rec) (x z : ℕ) : Type 0 where
       (y : ℕ) (s : Rec) → record_at k.records y ≡ Some s → s.page ≡ r.page → y ≢ x →
       (r.version < s.version) ⊎ (s.version ≤ rec.version)
 
-module _ (k : Kept) (v : AreVersions k.records k.pages) (x : ℕ) (r : Rec) (is : record_at k.records x ≡ Some r) where
+module _ (k : TablesState) (v : AreVersions k.records k.pages) (x : ℕ) (r : Rec) (is : record_at k.records x ≡ Some r) where
   abbrev xs : List ℕ
   xs = numbers_at k.pages r.page
 
@@ -141,7 +128,7 @@ module _ (k : Kept) (v : AreVersions k.records k.pages) (x : ℕ) (r : Rec) (is 
       after_newer {z} (b ∷ bs) p i = after_newer bs (pairs_tail (IsNewer k.records) b (bs ++ x ∷ its_split.after) p) i
 
 -- its number is in range
-pub older_below : (k : Kept) → IsKept k → (x : ℕ) (r : Rec) → record_at k.records x ≡ Some r → (next : Option ℕ) →
+pub older_below : (k : TablesState) → IsTablesState k → (x : ℕ) (r : Rec) → record_at k.records x ≡ Some r → (next : Option ℕ) →
     next ≡ next_in (numbers_at k.pages r.page) x → IfSome next (λ z. z < slots_of k.shape)
 older_below k sizes x r is None e = tt
 older_below k sizes x r is (Some z) e =
@@ -153,7 +140,7 @@ older_below k sizes x r is (Some z) e =
     ]
 
 -- a version is not above that of the next record
-pub record IsNotAbove (k : Kept) (next : Option ℕ) (s : Rec) : Type 0 where
+pub record IsNotAbove (k : TablesState) (next : Option ℕ) (s : Rec) : Type 0 where
   pub number : ℕ
   pub rec : Rec
   pub is_next : next ≡ Some number
@@ -161,11 +148,11 @@ pub record IsNotAbove (k : Kept) (next : Option ℕ) (s : Rec) : Type 0 where
   pub low : s.version ≤ rec.version
 
 -- a record is none of those that were let go so far
-abbrev pub Stays : Kept → ℕ → ℕ → Option ℕ → Rec → Type 0
+abbrev pub Stays : TablesState → ℕ → ℕ → Option ℕ → Rec → Type 0
 Stays k page version next s = (s.page ≢ page) ⊎ ((s.version ≤ version) ⊎ IsNotAbove k next s)
 
 -- the records of the page above the version, and above the next one, are let go
-pub record IsTaking (k new : Kept) (page version : ℕ) (next : Option ℕ) : Type 0 where
+pub record IsTaking (k new : TablesState) (page version : ℕ) (next : Option ℕ) : Type 0 where
   pub rest : new ≡ record k { answerers = new.answerers; waits = new.waits }
   pub answerers : length new.answerers ≡ length k.answerers
   pub waits : length new.waits ≡ length k.waits
@@ -183,10 +170,10 @@ pub record IsTaking (k new : Kept) (page version : ℕ) (next : Option ℕ) : Ty
 abbrev pub over_of : List (Option Rec) → Option ℕ → ℕ
 over_of records next = option_map_or (λ x. option_map_or (λ r. r.version) (record_at records x) 0 + 1) next 0
 
-abbrev pub left_over : Kept → Option ℕ → ℕ
+abbrev pub left_over : TablesState → Option ℕ → ℕ
 left_over k next = over_of k.records next
 
-module _ (k : Kept) (sizes : IsKept k) (page version : ℕ) where
+module _ (k : TablesState) (sizes : IsTablesState k) (page version : ℕ) where
   pub none_taken : (next : Option ℕ) → next ≡ newest_at k page → IfSome next (λ x. x < slots_of k.shape) → IsTaking k k page version next
   none_taken next is_newest within = record {
     rest = refl;
@@ -205,7 +192,7 @@ module _ (k : Kept) (sizes : IsKept k) (page version : ℕ) where
     others = λ y stays. (refl, refl);
   }
 
-  module _ (t : Kept) (x : ℕ) (h : IsTaking k t page version (Some x)) (next : Option ℕ)
+  module _ (t : TablesState) (x : ℕ) (h : IsTaking k t page version (Some x)) (next : Option ℕ)
       (is_older : (r : Rec) → record_at k.records x ≡ Some r → next ≡ next_in (numbers_at k.pages r.page) x)
       (within : IfSome next (λ z. z < slots_of k.shape)) (above : version < version_at k (Some x)) where
     abbrev its_rec : Rec
@@ -241,10 +228,10 @@ module _ (k : Kept) (sizes : IsKept k) (page version : ℕ) where
 
     pub one_taken : IsTaking k (freed t x) page version next
     one_taken = record {
-      rest = ap (λ (u : Kept). freed u x) h.rest;
+      rest = ap (λ (u : TablesState). freed u x) h.rest;
       answerers = length-set t.answerers x None ∙ h.answerers;
       waits = length-set t.waits x None ∙ h.waits;
-      within = subst (λ s. IfSome next (λ z. z < slots_of s)) (sym (ap (λ (u : Kept). u.shape) h.rest)) within;
+      within = subst (λ s. IfSome next (λ z. z < slots_of s)) (sym (ap (λ (u : TablesState). u.shape) h.rest)) within;
       its = λ z e. (
           let older = some_older k sizes.versions x its_rec its_is z (sym older_next ∙ e) in
           (older.rec, older.is, older.own_page ∙ its_page));
@@ -318,8 +305,8 @@ module _ (k : Kept) (sizes : IsKept k) (page version : ℕ) where
     ]
 
   -- where no record above is left, all are let go
-  pub all_taken : (t : Kept) (next : Option ℕ) → IsTaking k t page version next → ((x : ℕ) → next ≡ Some x → version_at k (Some x) ≤ version) →
-      AreLetGo k t page version
+  pub all_taken : (t : TablesState) (next : Option ℕ) → IsTaking k t page version next → ((x : ℕ) → next ≡ Some x → version_at k (Some x) ≤ version) →
+      AreReleased k t page version
   all_taken t next h low = record {
     rest = h.rest;
     let_go = λ y s is of_page high. h.let_go y s is of_page high (λ x r e is_r. (
@@ -330,12 +317,12 @@ module _ (k : Kept) (sizes : IsKept k) (page version : ℕ) where
   }
 
 -- the newest record of the page is current then
-pub taken_then : (k t : Kept) (page version : ℕ) → AreLetGo k t page version → version ≡ version_at k (number_at k.current page) →
+pub taken_then : (k t : TablesState) (page version : ℕ) → AreReleased k t page version → version ≡ version_at k (number_at k.current page) →
     page < length t.current → IsTaken k (record t { current = set t.current page (newest_at k page) }) page
 taken_then k t page version h is within = record {
   current = get_or-set_same t.current page (newest_at k page) None within;
   elsewhere = λ other off. get_or-set_other t.current page other (newest_at k page) None off
-      ∙ ap (λ c. number_at c other) (ap (λ (u : Kept). u.current) h.rest);
+      ∙ ap (λ c. number_at c other) (ap (λ (u : TablesState). u.current) h.rest);
   let_go = λ y s is_y of_page above. h.let_go y s is_y of_page (subst (λ v. v < s.version) (sym is) above);
   others = λ y s is_y off. h.others y (λ u is_u. (
       let one : s ≡ u = same_Some s u (sym is_y ∙ is_u) in
@@ -346,8 +333,8 @@ taken_then k t page version h is within = record {
 }
 
 -- and nothing else changes
-pub taken_judges : (k t : Kept) (page version : ℕ) → AreLetGo k t page version → (c : List (Option ℕ)) → OnlyJudges k (record t { current = c })
-taken_judges k t page version h c = record {
-  rest = ap (λ (u : Kept). record u { current = c }) h.rest;
+pub taken_derives : (k t : TablesState) (page version : ℕ) → AreReleased k t page version → (c : List (Option ℕ)) → OnlyDerives k (record t { current = c })
+taken_derives k t page version h c = record {
+  rest = ap (λ (u : TablesState). record u { current = c }) h.rest;
   unused = λ y none rests. h.others y (λ s is. absurd (none-some s (sym none ∙ is)));
 }

@@ -1,33 +1,15 @@
 -- A noted record that completes its cycle: which records are let go, which are answered, and that no other is judged anew.
-use Rattle.std.proofs.Common.{◌≡◌, ◌≢◌, ℕ, ◌<◌, ◌≤◌, true, false, ltb, List, All, Contains, Some, None, length, refl, sym, ap, ◌∙◌, subst, inl, inr, arith}
-use Rattle.std.proofs.Common.{lt-ltb, le-ltb, ltb-true, ltb-false}
-use Rattle.std.proofs.lemmas.Bool.{cases_Bool, cond-true, and_parts, and_right}
-use Rattle.std.proofs.lemmas.List.Elements.{All-contains}
-use Rattle.list_facts.proofs.Membership.{all_from}
-use Rattle.tx_types.specs.declared.record.Link.{Link}
-use Rattle.tx_types.specs.declared.record.Rec.{Rec}
-use Rattle.tx_types.specs.declared.config.Protocol.{Protocol}
-use Rattle.tx_types.specs.declared.config.Protocol.TheVariants.{Scc, Bpcc}
-use Rattle.tx_types.specs.Config.{shape_of, slots_of}
-use Rattle.record_list.specs.declared.found.Found.{Found}
-use Rattle.record_list.specs.Records.{newest, name_of, is_present}
-use Rattle.record_list.specs.Current.{cur, IsLoose, is_loose, responsible}
-use Rattle.record_list.specs.SoundList.{Pages, PagesExist}
-use Rattle.record_list.specs.Changes.{CompletingWriteLaw, CompletingWriteKeeps, IsAnsweredAfter, IsOvertaken}
-use Rattle.record_list.proofs.OfFacts.Names.{named, same_name, newest_bound, present_in}
-use Rattle.record_list.proofs.OfFacts.SoundNames.{map_link, sound_map}
+use Rattle.version_index.proofs.Common.{◌≡◌, ◌≢◌, ℕ, ◌<◌, ◌≤◌, true, false, ltb, List, All, Contains, Some, None, length, refl, sym, ap, ◌∙◌, subst, inl, inr, arith, lt-ltb, le-ltb, ltb-true, cases_Bool, cond-true, and_parts, and_right, All-contains, all_from, Link, Rec, Protocol, Scc, Bpcc, shape_of, slots_of, Found, newest, name_of, is_present, cur, is_loose, Pages, PagesExist, CompletingWriteLaw, same_name, newest_bound, present_in, sound_map, name_newest, step_underway, step_of, Blank, note_at, found_in, IndexState, IsNoted, IsNextRecord, programmed, current_of, name_at, answerer, is_waiting, IsDerivedAlike, IsCommittedFor, loose_of, answerer_of, waits_of}
+use Rattle.std.proofs.Common.{ltb-false}
+use Rattle.record_list.specs.Current.{IsLoose, responsible}
+use Rattle.record_list.specs.Changes.{CompletingWriteKeeps, IsAnsweredAfter, IsOvertaken}
+use Rattle.record_list.proofs.OfFacts.Names.{named}
+use Rattle.record_list.proofs.OfFacts.SoundNames.{map_link}
 use Rattle.record_list.proofs.OfWalks.Rounds.{cases_page}
-use Rattle.record_list.proofs.OfChanges.Progress.{name_newest}
-use Rattle.record_list.proofs.OfChanges.OneMore.{step_underway}
-use Rattle.record_list.proofs.OfChanges.Keeping.{step_of}
-use Rattle.version_index.specs.declared.note.Note.TheVariants.{Blank}
-use Rattle.version_index.specs.Notes.{note_at, found_in}
-use Rattle.version_index.specs.Noted.{Noted, IsNoted, IsNextRecord, programmed, current_of}
-use Rattle.version_index.specs.Judged.{name_at, answerer, is_waiting, IsJudgedAlike, IsSettled, loose_of, answerer_of, waits_of}
-use Rattle.version_index.specs.JudgedChanges.{IsOffPages, AwaitsName, IsAnsweredBy, IsWholeWrite}
+use Rattle.version_index.specs.DerivedChanges.{IsOffPages, AwaitsName, IsAnsweredBy, IsWholeWrite}
 use Rattle.version_index.proofs.OfTables.FoundIn.{found}
 use Rattle.version_index.proofs.OfChanges.NotedChanges.{next_write}
-use Rattle.version_index.proofs.OfTables.Judged.{IsAlike, alike_scc, alike_bpcc, judged_alike, settled, name_at_some}
+use Rattle.version_index.proofs.OfTables.Derived.{IsAlike, alike_scc, alike_bpcc, derived_alike, decided, name_at_some}
 use Rattle.version_index.proofs.OfProgram.PartialWrites.{configured}
 
 -- the record of this name answers for it afterwards
@@ -128,7 +110,7 @@ answered_by Bpcc l l' logical names keeps f i off name j positive below awaits =
     let a = answered_name l l' logical names keeps f i off name j positive below awaits.page awaits.waits in
     (a.loose, a.answerer, a.waits)
 
-module _ (protocol : Protocol) (n : Noted) (k : IsNoted protocol n) where
+module _ (protocol : Protocol) (n : IndexState) (k : IsNoted protocol n) where
   pub whole_write : CompletingWriteLaw protocol → (at : ℕ) (rec : Rec) → at < slots_of (shape_of n.config) → note_at n.notes at ≡ Blank →
       (next : IsNextRecord n rec) →
       All (λ name. is_present (found_in (programmed n at rec).notes) name ≡ true) next.names → IsWholeWrite n (programmed n at rec) next.names
@@ -150,13 +132,13 @@ module _ (protocol : Protocol) (n : Noted) (k : IsNoted protocol n) where
         committed = keeps.committed;
         rises = keeps.rises;
         elsewhere = keeps.elsewhere;
-        settled = all_from (λ f. All (λ name. name.page ≡ f.rec.page → IsSettled m f.rec) names) l' (λ f i.
-            all_from (λ name. name.page ≡ f.rec.page → IsSettled m f.rec) names (λ name j e.
+        settled = all_from (λ f. All (λ name. name.page ≡ f.rec.page → IsCommittedFor m f.rec) names) l' (λ f i.
+            all_from (λ name. name.page ≡ f.rec.page → IsCommittedFor m f.rec) names (λ name j e.
             let here = All-contains (λ a. is_present l' a ≡ true) names name all j in
             let top = ap (newest l') (sym e) ∙ name_newest l' logical names t name j here in
             let bound = newest_bound l' (name_of f.rec) (present_in l' f i) in
             let current = ap (cur p l' logical) (sym e) ∙ All-contains (λ a. cur p l' logical a.page ≡ a.version) names name keeps.committed j in
-            settled m f.rec (le-ltb (cur p l' logical f.rec.page) f.rec.version (omega arith))));
+            decided m f.rec (le-ltb (cur p l' logical f.rec.page) f.rec.version (omega arith))));
         answered = all_from (λ f. IsOffPages names f.rec.page →
             All (λ name. AwaitsName n name f.rec → IsAnsweredBy n m name f.rec) names) l' (λ f i off.
             all_from (λ name. AwaitsName n name f.rec → IsAnsweredBy n m name f.rec) names (λ name j awaits.
@@ -167,9 +149,9 @@ module _ (protocol : Protocol) (n : Noted) (k : IsNoted protocol n) where
             let a = answered_by p l l' logical names keeps f i off name j (t.range name j).1 below
             (record { protocol = awaits.protocol; page = awaits.page; waits = awaits.waits }) in
             record { loose = a.0; answerer = a.1; waits = a.2 }));
-        others = all_from (λ f. IsOffPages names f.rec.page → All (λ name. AwaitsName n name f.rec → ⊥) names → IsJudgedAlike n m f.rec) l'
+        others = all_from (λ f. IsOffPages names f.rec.page → All (λ name. AwaitsName n name f.rec → ⊥) names → IsDerivedAlike n m f.rec) l'
             (λ f i off none.
-            judged_alike n m f.rec refl (others_alike p l l' logical names keeps f i off (λ a j awaits.
+            derived_alike n m f.rec refl (others_alike p l l' logical names keeps f i off (λ a j awaits.
             All-contains (λ name. AwaitsName n name f.rec → ⊥) names a none j
             (record { protocol = awaits.protocol; page = awaits.page; waits = awaits.waits }))));
       }

@@ -1,13 +1,7 @@
 -- The lowest slot of a record that must go, as a search along the list comes to it.
-use Rattle.std.proofs.Common.{◌≡◌, ℕ, ◌+◌, ◌<◌, ◌≤◌, true, false, List, length, get_or, drop, find, Option, Some, None, refl, ap, ◌∙◌}
-use Rattle.std.specs.Option.{option_map}
-use Rattle.std.proofs.lemmas.Bool.{cond-true, cond-false}
+use Rattle.version_index.proofs.Common.{◌≡◌, ℕ, ◌+◌, ◌<◌, ◌≤◌, true, false, List, length, get_or, drop, find, Option, Some, None, refl, ap, ◌∙◌, option_map, cond-true, cond-false, Protocol, Found, nothing, must_go, first_slot}
 use Rattle.std.proofs.lemmas.List.{drop_more, drop_all}
-use Rattle.tx_types.specs.declared.config.Protocol.{Protocol}
-use Rattle.record_list.specs.declared.found.Found.{Found}
-use Rattle.record_list.specs.Records.{nothing, record_at}
-use Rattle.record_list.specs.Current.{must_go}
-use Rattle.record_list.specs.Written.{first_slot}
+use Rattle.record_list.specs.Records.{record_at}
 
 -- the lowest slot of a record of these that must go
 unfoldable pub going : Protocol → List Found → ℕ → ℕ → ℕ → List Found → Option ℕ

@@ -1,29 +1,15 @@
 -- The blocks that hold records which must go, by the tables.
-use Rattle.std.proofs.Common.{◌≡◌, ℕ, ◌*◌, ◌/◌, ◌<◌, ◌↔◌, Bool, true, false, eqb, ◌&&◌, List, [], ◌∷◌, map, ap₂, refl, sym, ap, ◌∙◌, subst, inl, inr, arith}
-use Rattle.std.proofs.Common.{eq-eqb, eqb-true}
-use Rattle.std.specs.List.{AllPairs, Contains, filter, range_with_len}
-use Rattle.std.proofs.lemmas.Bool.{false≢true, cases_Bool}
+use Rattle.version_index.proofs.Common.{◌≡◌, ℕ, ◌*◌, ◌/◌, ◌<◌, ◌↔◌, Bool, true, false, eqb, ◌&&◌, List, [], ◌∷◌, map, ap₂, refl, sym, ap, ◌∙◌, subst, inl, inr, arith, eq-eqb, eqb-true, range_with_len, false≢true, cases_Bool, Contains-nil, Contains-cases, Contains-first, Contains-rest, in_filter, from_filter, pairs_head, pairs_tail, any_of, any_from, Block, Config, Protocol, Scc, Bpcc, shape_of, blocks_of, slots_of, Found, must_go, TablesState, IsTablesState, use_at, AreGathered, found_in, goes_of, Goes, AreRising, notes_in, noted_by, AreIndexed}
+use Rattle.std.specs.List.{AllPairs, Contains, filter}
 use Rattle.std.proofs.lemmas.Nat.{div_below}
-use Rattle.list_facts.proofs.Membership.{Contains-nil, Contains-cases, Contains-first, Contains-rest, in_filter, from_filter, in_map, map_in}
-use Rattle.list_facts.proofs.Pairs.{pairs_head, pairs_tail, pairs_to}
-use Rattle.list_facts.proofs.Ranges.{in_range}
-use Rattle.list_facts.proofs.Tests.{any_of, any_from}
-use Rattle.tx_types.specs.declared.config.Block.{Block}
-use Rattle.tx_types.specs.declared.config.Config.{Config}
-use Rattle.tx_types.specs.declared.config.Protocol.{Protocol}
-use Rattle.tx_types.specs.declared.config.Protocol.TheVariants.{Scc, Bpcc}
-use Rattle.tx_types.specs.Config.{shape_of, blocks_of, slots_of}
-use Rattle.record_list.specs.declared.found.Found.{Found}
-use Rattle.record_list.specs.Current.{must_go}
-use Rattle.slot_tables.specs.Kept.{Kept, IsKept, use_at}
-use Rattle.slot_tables.specs.Gathered.{block_at, copies_of_all, AreGathered}
-use Rattle.slot_tables.proofs.OfGiven.Copying.{copies_have, filter_rises}
+use Rattle.list_lemmas.proofs.Membership.{in_map, map_in}
+use Rattle.list_lemmas.proofs.Pairs.{pairs_to}
+use Rattle.list_lemmas.proofs.Ranges.{in_range}
+use Rattle.slot_tables.specs.Gathered.{block_at, copies_of_all}
+use Rattle.slot_tables.proofs.OfBaseTables.Copying.{copies_have, filter_rises}
 use Rattle.slot_tables.proofs.OfSlots.GatheredSlots.{in_all, from_all}
-use Rattle.version_index.specs.Notes.{found_in}
-use Rattle.version_index.specs.Noted.{is_going, going_blocks}
-use Rattle.version_index.specs.Judged.{goes_of}
-use Rattle.version_index.specs.Going.{Goes, BlockGoes, AreRising}
-use Rattle.version_index.specs.Tables.{notes_in, noted_by, AreIndexed}
+use Rattle.version_index.specs.IndexState.{is_going, going_blocks}
+use Rattle.version_index.specs.Going.{BlockMustGo}
 use Rattle.version_index.proofs.OfTables.FoundIn.{found, noted_in, noted_from, holds_within}
 use Rattle.version_index.proofs.OfGoing.KeptGoing.{use_within, number_goes, goes_number}
 use Rattle.version_index.proofs.OfReadings.KeptHomes.{holds_use, use_holds}
@@ -67,8 +53,8 @@ both_true true b e = (refl, e)
 both_true false b e = absurd (false≢true e)
 
 -- a number of a block that was gathered has a slot that goes there
-pub gathered_goes : (k : Kept) (page below : ℕ) (blocks : List Block) → AreGathered k (Goes k page below) blocks
-    → (b : ℕ) → Contains (map (λ c. c.0) blocks) b ↔ BlockGoes k page below b
+pub gathered_goes : (k : TablesState) (page below : ℕ) (blocks : List Block) → AreGathered k (Goes k page below) blocks
+    → (b : ℕ) → Contains (map (λ c. c.0) blocks) b ↔ BlockMustGo k page below b
 gathered_goes k page below blocks g b = (
   λ has. (
       let one = in_map (λ (c : Block). c.0) blocks b has in
@@ -79,7 +65,7 @@ gathered_goes k page below blocks g b = (
         inside = ap (λ (c : Block). c.0) two.2 ∙ one.2;
         goes = (f.0, holds_use f.0 (use_at k.slots two.0) ((copies_have k.slots f.0 two.0).0 f.2).1, (g.such f.0).0 f.1);
       }),
-  λ (h : BlockGoes k page below b). (
+  λ (h : BlockMustGo k page below b). (
       let x = h.goes.0 in
       let own = (copies_have k.slots x h.at).1 (use_within k h.at x h.goes.1, use_holds x (use_at k.slots h.at) h.goes.1) in
       let gathered = in_all k g.numbers x h.at ((g.such x).1 h.goes.2) own in
@@ -89,12 +75,12 @@ gathered_goes k page below blocks g b = (
       (map_in (block_at k.shape.pages_per_block) (copies_of_all k g.numbers) h.at gathered)))),
 )
 
-module _ (protocol : Protocol) (its : Config) (m : List ℕ) (k : Kept) (i : AreIndexed protocol its m k) (kept' : IsKept k)
+module _ (protocol : Protocol) (its : Config) (m : List ℕ) (k : TablesState) (i : AreIndexed protocol its m k) (kept' : IsTablesState k)
     (scc : its.protocol ≡ Scc) (page below : ℕ) where
   abbrev test : ℕ → Found → Bool
   test block f = eqb (f.slot.0 / its.pages_per_block) block && must_go its.protocol (found_in (notes_in k)) its.logical page below f.rec
 
-  pub block_going : (block : ℕ) → BlockGoes k page below block → is_going (noted_by its m k) page below block ≡ true
+  pub block_going : (block : ℕ) → BlockMustGo k page below block → is_going (noted_by its m k) page below block ≡ true
   unfolding goes_of
   block_going block h =
       let x = h.goes.0 in
@@ -104,7 +90,7 @@ module _ (protocol : Protocol) (its : Config) (m : List ℕ) (k : Kept) (i : Are
       any_from (test block) (found_in (notes_in k)) (found h.at r.0) (noted_in (notes_in k) h.at r.0 (holds_within (notes_in k) h.at r.0 here) here)
       (ap₂ (λ a b. a && b) (eq-eqb (h.at / its.pages_per_block) block inside) (number_goes protocol its m k i kept' scc page below x r.0 r.1 h.goes.2))
 
-  pub going_block : (block : ℕ) → is_going (noted_by its m k) page below block ≡ true → BlockGoes k page below block
+  pub going_block : (block : ℕ) → is_going (noted_by its m k) page below block ≡ true → BlockMustGo k page below block
   unfolding goes_of
   going_block block e =
       let some = any_of (test block) (found_in (notes_in k)) e in
@@ -118,7 +104,7 @@ module _ (protocol : Protocol) (its : Config) (m : List ℕ) (k : Kept) (i : Are
         goes = (x.number, x.holds, goes_number protocol its m k i kept' scc page below x.number f.rec x.is both.1);
       }
 
-  pub read_going_block : (block : ℕ) (result : Bool) → (result ≡ true) ↔ BlockGoes k page below block
+  pub read_going_block : (block : ℕ) (result : Bool) → (result ≡ true) ↔ BlockMustGo k page below block
       → result ≡ is_going (noted_by its m k) page below block
   read_going_block block true both = sym (block_going block (both.0 refl))
   read_going_block block false both = elim (cases_Bool (is_going (noted_by its m k) page below block)) [
@@ -162,7 +148,7 @@ none_left p a n h = go (range_with_len a n)
     go [] = refl
     go (x ∷ xs) = rw (h x) (go xs)
 
-module _ (its : Config) (m : List ℕ) (k : Kept) (page below : ℕ) (bpcc : its.protocol ≡ Bpcc) where
+module _ (its : Config) (m : List ℕ) (k : TablesState) (page below : ℕ) (bpcc : its.protocol ≡ Bpcc) where
   pub none_going : (block : ℕ) → is_going (noted_by its m k) page below block ≡ false
   none_going block = elim (cases_Bool (is_going (noted_by its m k) page below block)) [
     | inl goes ↦ (

@@ -1,28 +1,10 @@
 -- The lowest block that must go, by the tables.
-use Rattle.std.proofs.Common.{◌≡◌, ℕ, ◌<◌, ◌/◌, ◌⊎◌, true, ◌↔◌, List, length, min, IsSome, IsSomeAnd, Option, Some, None, refl, sym, ap, ◌∙◌, subst, inl, inr}
-use Rattle.std.proofs.Common.{arith}
-use Rattle.std.specs.List.{slice_get}
-use Rattle.std.specs.Option.{option_map}
-use Rattle.std.proofs.lemmas.Bool.{false≢true, cases_Bool, cases_lt}
-use Rattle.std.proofs.lemmas.Option.{none-some, same_Some}
-use Rattle.std.proofs.lemmas.List.{get_or_past}
-use Rattle.std.proofs.lemmas.List.Elements.{All-contains}
-use Rattle.list_facts.proofs.Options.{cases_Option}
-use Rattle.tx_types.specs.declared.record.Rec.{Rec}
-use Rattle.tx_types.specs.declared.config.Config.{Config}
-use Rattle.tx_types.specs.declared.config.Protocol.{Protocol}
-use Rattle.tx_types.specs.declared.config.Protocol.TheVariants.{Scc, Bpcc}
-use Rattle.record_list.specs.Records.{name_of}
-use Rattle.record_list.proofs.OfFacts.Names.{same_name}
+use Rattle.version_index.proofs.Common.{◌≡◌, ℕ, ◌<◌, ◌/◌, ◌⊎◌, true, ◌↔◌, List, length, IsSome, IsSomeAnd, Option, Some, None, refl, sym, ap, ◌∙◌, subst, inl, inr, arith, slice_get, option_map, false≢true, cases_Bool, cases_lt, none-some, same_Some, get_or_past, All-contains, cases_Option, Rec, Config, Protocol, Scc, Bpcc, name_of, same_name, TablesState, IsTablesState, use_at, holds, copies_of, number_at, numbers_at, found_in, block_to_go, loose_of, waits_of, goes_of, is_waiting, is_loose, rec_at, Goes, notes_in, noted_by, numbered_of, AreIndexed}
+use Rattle.std.proofs.Common.{min}
 use Rattle.slot_tables.specs.declared.slots.SlotUse.TheVariants as slot
-use Rattle.slot_tables.specs.Kept.{Kept, IsKept, use_at, holds, copies_of, number_at, numbers_at, lower}
-use Rattle.version_index.specs.Notes.{found_in}
-use Rattle.version_index.specs.Noted.{block_to_go}
-use Rattle.version_index.specs.Judged.{loose_of, waits_of, goes_of, IsLooseTop, WaitsBelow, is_waiting}
-use Rattle.record_list.specs.Current.{is_loose}
-use Rattle.version_index.specs.Numbered.{rec_at}
-use Rattle.version_index.specs.Going.{Goes, IsLowestOf, IsLowestIn}
-use Rattle.version_index.specs.Tables.{notes_in, noted_by, numbered_of, AreIndexed}
+use Rattle.slot_tables.specs.TablesState.{lower}
+use Rattle.version_index.specs.Derived.{IsNewestUncommitted, WaitsBelow}
+use Rattle.version_index.specs.Going.{IsLowestOf, IsLowestIn}
 use Rattle.version_index.proofs.OfReadings.Firsts.{head_find, first_passed, none_passed}
 use Rattle.version_index.proofs.OfTables.FoundIn.{found}
 use Rattle.version_index.proofs.OfReadings.KeptHomes.{holds_use, use_holds}
@@ -32,14 +14,14 @@ use Rattle.version_index.proofs.OfCommit.Newest.{newest_number, no_number}
 use Rattle.version_index.proofs.OfReadings.NumberedReadings.{waiting_number}
 use Rattle.version_index.proofs.OfReadings.Readings.{going_reading, none_goes}
 
-pub use_within : (k : Kept) (at x : ℕ) → use_at k.slots at ≡ slot.Holds x → at < length k.slots
+pub use_within : (k : TablesState) (at x : ℕ) → use_at k.slots at ≡ slot.Holds x → at < length k.slots
 use_within k at x e = elim (cases_lt at (length k.slots)) [
   | inl within ↦ within
   | inr past ↦ (let other : slot.Blank ≡ slot.Holds x = sym (get_or_past k.slots at slot.Blank past) ∙ e in absurd cc)
 ]
 
 -- the lowest copy of a number that is such, where no other is
-pub lowest_copy : (k : Kept) (Such : ℕ → Type 0) (x : ℕ) → Such x → ((y : ℕ) → Such y → y ≡ x) →
+pub lowest_copy : (k : TablesState) (Such : ℕ → Type 0) (x : ℕ) → Such x → ((y : ℕ) → Such y → y ≡ x) →
     IsLowestIn k Such (slice_get (copies_of k.slots x) 0)
 unfolding copies_of
 lowest_copy k Such x such only = of_head (slice_get (copies_of k.slots x) 0) refl
@@ -60,7 +42,7 @@ lowest_copy k Such x such only = of_head (slice_get (copies_of k.slots x) 0) ref
         }
 
 -- the lower one of two such slots
-pub lower_of : (k : Kept) (P Q : ℕ → Type 0) (a b : Option ℕ) → IsLowestIn k P a → IsLowestIn k Q b →
+pub lower_of : (k : TablesState) (P Q : ℕ → Type 0) (a b : Option ℕ) → IsLowestIn k P a → IsLowestIn k Q b →
     IsLowestIn k (λ x. P x ⊎ Q x) (lower a b)
 lower_of k P Q None None p q = λ at x here such. elim such [ inl one ↦ p at x here one | inr other ↦ q at x here other ]
 lower_of k P Q None (Some b) p q = record {
@@ -108,7 +90,7 @@ some_and (Some s) P r e h = subst P (same_Some s r e) h
 and_some : (o : Option Rec) (P : Rec → Type 0) (r : Rec) → o ≡ Some r → P r → IsSomeAnd o P
 and_some o P r e h = subst (λ q. IsSomeAnd q P) (sym e) h
 
-module _ (protocol : Protocol) (its : Config) (m : List ℕ) (k : Kept) (i : AreIndexed protocol its m k) (kept' : IsKept k)
+module _ (protocol : Protocol) (its : Config) (m : List ℕ) (k : TablesState) (i : AreIndexed protocol its m k) (kept' : IsTablesState k)
     (scc : its.protocol ≡ Scc) (page below : ℕ) where
   waits_loose : (r : Rec) → waits_of (noted_by its m k) r ≡ loose_of (noted_by its m k) r
   unfolding waits_of loose_of
@@ -121,7 +103,7 @@ module _ (protocol : Protocol) (its : Config) (m : List ℕ) (k : Kept) (i : Are
   number_goes x r is goes =
       let n = noted_by its m k in
       let f = kept_found k i.held x r is in
-      let reading = All-contains (λ f. (goes_of n page below f.rec ≡ true) ↔ (IsLooseTop n page below f.rec ⊎ WaitsBelow n page below f.rec))
+      let reading = All-contains (λ f. (goes_of n page below f.rec ≡ true) ↔ (IsNewestUncommitted n page below f.rec ⊎ WaitsBelow n page below f.rec))
       (found_in n.notes) (found f.0 r) (going_reading protocol n i.noted scc page below) f.2 in
       let waiting = λ (to : ℕ). waiting_number protocol n i.noted (numbered_of k) (numbering protocol its m k i) x r is to in
       reading.1 (elim goes [
@@ -146,7 +128,7 @@ module _ (protocol : Protocol) (its : Config) (m : List ℕ) (k : Kept) (i : Are
   goes_number x r is goes =
       let n = noted_by its m k in
       let f = kept_found k i.held x r is in
-      let reading = All-contains (λ f. (goes_of n page below f.rec ≡ true) ↔ (IsLooseTop n page below f.rec ⊎ WaitsBelow n page below f.rec))
+      let reading = All-contains (λ f. (goes_of n page below f.rec ≡ true) ↔ (IsNewestUncommitted n page below f.rec ⊎ WaitsBelow n page below f.rec))
       (found_in n.notes) (found f.0 r) (going_reading protocol n i.noted scc page below) f.2 in
       let waiting = λ (to : ℕ). waiting_number protocol n i.noted (numbered_of k) (numbering protocol its m k i) x r is to in
       elim (reading.0 goes) [
@@ -181,7 +163,7 @@ module _ (protocol : Protocol) (its : Config) (m : List ℕ) (k : Kept) (i : Are
       }))
 
 -- and under Back Pointer Cyclic Commit there is none
-module _ (protocol : Protocol) (its : Config) (m : List ℕ) (k : Kept) (i : AreIndexed protocol its m k) (kept' : IsKept k)
+module _ (protocol : Protocol) (its : Config) (m : List ℕ) (k : TablesState) (i : AreIndexed protocol its m k) (kept' : IsTablesState k)
     (page below : ℕ) where
   pub read_going : (o : Option ℕ) → (its.protocol ≡ Scc → IsLowestIn k (Goes k page below) o) → (its.protocol ≡ Bpcc → o ≡ None) →
       option_map (λ at. at / its.pages_per_block) o ≡ block_to_go (noted_by its m k) page below

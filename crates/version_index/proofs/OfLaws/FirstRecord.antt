@@ -1,16 +1,9 @@
 -- The first record where there is none: a transaction of one page asks for it.
-use Rattle.std.proofs.Common.{◌≡◌, ℕ, ◌<◌, ◌≤◌, List, [], ◌∷◌, refl, sym, ap, subst, arith}
+use Rattle.version_index.proofs.Common.{◌≡◌, ℕ, ◌<◌, ◌≤◌, List, [], ◌∷◌, refl, sym, ap, subst, arith, Link, Rec, Scc, Found, name_of, is_present, found_in, IndexState, IsNextRecord}
 use Rattle.std.proofs.lemmas.List.Elements.{All-from_recursion}
 use Rattle.tx_types.specs.Limits.{max_version}
-use Rattle.tx_types.specs.declared.record.Link.{Link}
-use Rattle.tx_types.specs.declared.record.Rec.{Rec}
-use Rattle.tx_types.specs.declared.config.Protocol.TheVariants.{Scc}
-use Rattle.record_list.specs.declared.found.Found.{Found}
-use Rattle.record_list.specs.Records.{name_of, is_present}
 use Rattle.record_list.specs.Transaction.{IsAsked, IsBegun, InProgress, IsAskedAt}
 use Rattle.record_list.specs.Changes.{NothingMustGo}
-use Rattle.version_index.specs.Notes.{found_in}
-use Rattle.version_index.specs.Noted.{Noted, IsNextRecord}
 
 -- a record that links to itself, and counts itself
 pub record IsAlone (logical : ℕ) (rec : Rec) : Type 0 where
@@ -39,7 +32,7 @@ module _ (logical : ℕ) (rec : Rec) (a : IsAlone logical rec) where
     others = λ k d within. absurd (omega arith);
   }
 
-pub first_next : (n : Noted) (rec : Rec) → n.config.protocol ≡ Scc → found_in n.notes ≡ [] → IsAlone n.config.logical rec → IsNextRecord n rec
+pub first_next : (n : IndexState) (rec : Rec) → n.config.protocol ≡ Scc → found_in n.notes ≡ [] → IsAlone n.config.logical rec → IsNextRecord n rec
 first_next n rec rule empty a = record {
   names = name_of rec ∷ [];
   in_progress = subst (λ p. InProgress p (found_in n.notes) n.config.logical (name_of rec ∷ [])) (sym rule)

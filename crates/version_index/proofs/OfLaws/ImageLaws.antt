@@ -1,35 +1,21 @@
 -- The commit laws of images, from those of lists.
-use Rattle.std.proofs.Common.{◌≡◌, ℕ, ◌+◌, ◌*◌, ◌^◌, ◌++◌, ◌<◌, ◌≤◌, Bool, true, List, set, take, drop, replicate, Option, None, Some, refl, sym, ap, ◌∙◌, subst}
-use Rattle.std.proofs.Common.{inl, inr, arith, All, Contains}
+use Rattle.version_index.proofs.Common.{◌≡◌, ℕ, ◌+◌, ◌*◌, ◌++◌, ◌<◌, ◌≤◌, Bool, true, List, set, take, drop, replicate, Option, None, Some, refl, sym, ap, ◌∙◌, subst, inl, inr, arith, All, Contains, get_or-map-range_with_len, All-contains, all_from, from_filter, Link, Rec, record_of, Found, name_of, is_present, Pages, PagesExist, IsSoundList, IsInserted, IsWrite, found_of, is_outside, cur, blocks_of, found_named, present_as, inserted_in, Protocol, Shape, Contents, blank, damaged, complete, Written, records_of, written_in, records_in, SlotReads}
+use Rattle.std.proofs.Common.{◌^◌}
 use Rattle.std.specs.Prelude.{slice_index_or, IsSomeAnd}
-use Rattle.std.proofs.lemmas.List.FromFn.{get_or-map-range_with_len}
-use Rattle.std.proofs.lemmas.List.Elements.{All-append, All-take, All-drop, All-replicate, All-set, All-contains}
-use Rattle.list_facts.proofs.Membership.{all_from, from_filter}
-use Rattle.tx_types.specs.declared.record.Link.{Link}
-use Rattle.tx_types.specs.declared.record.Rec.{Rec}
+use Rattle.std.proofs.lemmas.List.Elements.{All-append, All-take, All-drop, All-replicate, All-set}
 use Rattle.flash_model.specs.Flash.{IsImage}
 use Rattle.flash_model.specs.Operations.{with_block}
-use Rattle.page_record.specs.Rules.{record_of}
 use Rattle.page_record.specs.Spelling.{spelling}
 use Rattle.page_record.proofs.Spellings.{record_of-spelling}
-use Rattle.record_list.specs.declared.found.Found.{Found}
-use Rattle.record_list.specs.Records.{name_of, is_present}
-use Rattle.record_list.specs.SoundList.{Pages, PagesExist, IsSoundList}
-use Rattle.record_list.specs.Changes.{IsInserted, IsWrite, SameCurrent, LossKeeps}
-use Rattle.record_list.specs.Written.{found_of, page_at, text_at, value_at, is_outside, IsRemovable}
-use Rattle.record_list.specs.Current.{cur}
-use Rattle.tx_types.specs.Config.{blocks_of}
+use Rattle.record_list.specs.Changes.{SameCurrent, LossKeeps}
+use Rattle.record_list.specs.Written.{page_at, text_at, value_at, IsRemovable}
 use Rattle.record_list.specs.WrittenChanges.{WrittenPartialWriteLaw, WrittenCompletingWriteLaw, WrittenCopyLaw, WrittenLossLaw}
 use Rattle.record_list.specs.Losses.{left_written, WrittenLossKeeps}
-use Rattle.record_list.proofs.OfFacts.Names.{found_named, present_as}
-use Rattle.record_list.proofs.OfChanges.OneMore.{new_in, inserted_in}
+use Rattle.record_list.proofs.OfChanges.OneMore.{new_in}
 use Rattle.record_list.proofs.OfChanges.WrittenLists.{in_records, inserted_records, IsOneText, one_text}
 use Rattle.record_list.proofs.OfChanges.Arrays.{array_grows, array_left, text_grows, text_new, text_old, page_committed, page_elsewhere}
-use Rattle.tx_types.specs.declared.config.Protocol.{Protocol}
-use Rattle.tx_types.specs.declared.config.Shape.{Shape}
-use Rattle.flash_model.specs.Flash.{Contents, blank, damaged, complete}
-use Rattle.record_list.specs.Written.{Written, records_of, array_of, IsSoundWritten}
-use Rattle.version_index.specs.Images.{written_in, records_in, array_in, SlotReads, IsSoundImage}
+use Rattle.record_list.specs.Written.{array_of, IsSoundWritten}
+use Rattle.version_index.specs.Images.{array_in, IsSoundImage}
 use Rattle.version_index.specs.ImageChanges.{image_with, AsksFor, KeepsLost}
 use Rattle.version_index.specs.ImageLaws.{ImagePartialLaw, ImageCompletingLaw, ImageCopyLaw, ImageLossLaw, ImageDamageLaw}
 use Rattle.version_index.proofs.OfLaws.ImageScans.{written, written_inserted, written_damaged, records_scanned, HasNone, written_left, read_slot}

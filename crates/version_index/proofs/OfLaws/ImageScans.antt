@@ -1,28 +1,15 @@
 -- The records of an image as its slots change.
-use Rattle.std.proofs.Common.{◌≡◌, ℕ, ◌+◌, ◌*◌, ◌<◌, ◌≤◌, Bool, true, false, List, length, get_or, set, AllPairs, Option, Some, None}
-use Rattle.std.proofs.Common.{refl, sym, ap, ◌∙◌, subst, arith, Contains, if◌then◌else◌}
-use Rattle.std.specs.Option.{option_map}
-use Rattle.std.proofs.lemmas.Option.{none-some, same_Some}
+use Rattle.version_index.proofs.Common.{◌≡◌, ℕ, ◌+◌, ◌*◌, ◌<◌, ◌≤◌, Bool, true, false, List, length, get_or, set, AllPairs, Option, Some, None, refl, sym, ap, ◌∙◌, subst, arith, Contains, if◌then◌else◌, option_map, none-some, same_Some, all_from, blocks_of, Protocol, Shape, Rec, Contents, blank, damaged, complete, slot_at, block_within, record_of, IsScanned, IsInserted, Written, found_of, written_in, records_in}
 use Rattle.std.proofs.lemmas.List.Elements.{All-map}
-use Rattle.list_facts.proofs.Membership.{all_from}
-use Rattle.list_facts.proofs.Pairs.{pairs_to}
-use Rattle.tx_types.specs.Config.{blocks_of}
-use Rattle.tx_types.specs.declared.config.Protocol.{Protocol}
-use Rattle.tx_types.specs.declared.config.Shape.{Shape}
-use Rattle.tx_types.specs.declared.record.Rec.{Rec}
-use Rattle.flash_model.specs.Flash.{Contents, blank, damaged, complete, slot_at, IsImage}
+use Rattle.list_lemmas.proofs.Pairs.{pairs_to}
+use Rattle.flash_model.specs.Flash.{IsImage}
 use Rattle.flash_model.specs.Operations.{with_block}
-use Rattle.flash_model.proofs.ImageLemmas.{block_within}
 use Rattle.version_index.proofs.OfTables.Blocks.{given-with_item}
-use Rattle.page_record.specs.Rules.{record_of}
 use Rattle.page_record.proofs.Spellings.{record_of-some}
-use Rattle.record_list.specs.Records.{IsScanned}
-use Rattle.record_list.specs.Changes.{IsInserted}
-use Rattle.record_list.specs.Written.{Written, found_of}
 use Rattle.record_list.specs.WrittenChanges.{left_outside}
 use Rattle.record_list.specs.Losses.{left_written}
-use Rattle.version_index.specs.Images.{written_at, written_in, records_in}
-use Rattle.version_index.proofs.OfTables.Given.{given, given-inserted, given-unchanged, given_from, given_in, given_ascending, given_same, chosen, given-chosen}
+use Rattle.version_index.specs.Images.{written_at}
+use Rattle.version_index.proofs.OfTables.BaseTables.{given, given-inserted, given-unchanged, given_from, given_in, given_ascending, given_same, chosen, given-chosen}
 
 -- a numbered slot with its record
 abbrev pub read_at : Protocol → ℕ × Contents → Option Written

@@ -1,18 +1,9 @@
 -- Tables that mirror an image: the noted records are those of the image.
-use Rattle.std.proofs.Common.{◌≡◌, ℕ, ◌+◌, ◌<◌, List, [], ◌∷◌, length, Option, Some, None, refl, sym, ap, ◌∙◌, arith}
-use Rattle.std.specs.Option.{option_map, option_map_or}
+use Rattle.version_index.proofs.Common.{◌≡◌, ℕ, ◌+◌, ◌<◌, List, [], ◌∷◌, length, Option, Some, None, refl, sym, ap, ◌∙◌, arith, option_map, option_map_or, cons_option, Protocol, Rec, Contents, blank, damaged, complete, slot_at, record_of, found_of, records_of, Note, Blank, Damaged, Holds, records_in, note_at, found_at, found_in}
 use Rattle.std.specs.Prelude.{map}
-use Rattle.std.specs.List.{cons_option}
-use Rattle.tx_types.specs.declared.config.Protocol.{Protocol}
-use Rattle.tx_types.specs.declared.record.Rec.{Rec}
-use Rattle.flash_model.specs.Flash.{Contents, blank, damaged, complete, slot_at}
-use Rattle.page_record.specs.Rules.{record_of}
-use Rattle.record_list.specs.Written.{found_of, records_of}
-use Rattle.version_index.specs.declared.note.Note.{Note}
-use Rattle.version_index.specs.declared.note.Note.TheVariants.{Blank, Damaged, Holds}
-use Rattle.version_index.specs.Images.{written_at, records_in}
-use Rattle.version_index.specs.Notes.{note_at, note_of, found_at, found_in}
-use Rattle.version_index.proofs.OfTables.Given.{given, given_same}
+use Rattle.version_index.specs.Images.{written_at}
+use Rattle.version_index.specs.Notes.{note_of}
+use Rattle.version_index.proofs.OfTables.BaseTables.{given, given_same}
 use Rattle.version_index.proofs.OfTables.FoundIn.{numbered}
 use Rattle.version_index.proofs.OfLaws.ImageScans.{read_at, written_in_is}
 

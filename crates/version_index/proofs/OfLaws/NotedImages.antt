@@ -1,23 +1,12 @@
 -- The notes of an image: their records are those of the image, and a scan of the image gives them.
-use Rattle.std.proofs.Common.{◌≡◌, ℕ, ◌+◌, Bool, true, false, List, [], ◌∷◌, suc, length, get_or, drop, map, All, Option, Some, None, IsSomeAnd, refl, sym, ap}
-use Rattle.std.proofs.Common.{ap₂, ◌∙◌, arith}
-use Rattle.std.specs.Option.{option_map_or}
-use Rattle.std.proofs.lemmas.Bool.{false≢true}
-use Rattle.std.proofs.lemmas.List.{length-map, get_or-map}
+use Rattle.version_index.proofs.Common.{◌≡◌, ℕ, ◌+◌, Bool, true, false, List, [], ◌∷◌, suc, length, get_or, drop, map, All, Option, Some, None, IsSomeAnd, refl, sym, ap, ap₂, ◌∙◌, arith, option_map_or, false≢true, length-map, Rec, Protocol, Contents, blank, damaged, complete, Seen, record_of, nothing, Note, Blank, Damaged, Holds, records_in, SlotReads, seen_as, found_in}
+use Rattle.std.proofs.lemmas.List.{get_or-map}
 use Rattle.std.proofs.lemmas.List.Elements.{All-head, All-tail}
-use Rattle.tx_types.specs.declared.record.Rec.{Rec}
-use Rattle.tx_types.specs.declared.config.Protocol.{Protocol}
-use Rattle.flash_model.specs.Flash.{Contents, blank, damaged, complete}
 use Rattle.flash_model.specs.Calls.{seen_of}
-use Rattle.flash_model.specs.declared.flash.Seen.{Seen}
 use Rattle.flash_model.specs.declared.flash.Seen.TheVariants as seen
-use Rattle.page_record.specs.Rules.{record_of}
-use Rattle.record_list.specs.Records.{nothing}
-use Rattle.version_index.specs.declared.note.Note.{Note}
-use Rattle.version_index.specs.declared.note.Note.TheVariants.{Blank, Damaged, Holds}
-use Rattle.version_index.specs.Images.{records_in, HasPages, SlotReads}
-use Rattle.version_index.specs.Notes.{seen_as, found_in, note_of, notes_of}
-use Rattle.version_index.proofs.OfTables.Given.{given}
+use Rattle.version_index.specs.Images.{HasPages}
+use Rattle.version_index.specs.Notes.{note_of, notes_of}
+use Rattle.version_index.proofs.OfTables.BaseTables.{given}
 use Rattle.version_index.proofs.OfLaws.Mirror.{mirrored}
 use Rattle.version_index.proofs.OfTables.FoundIn.{numbered}
 

@@ -1,16 +1,11 @@
 -- An image of which some slots are lost: its records are those of the slots that stay.
-use Rattle.std.proofs.Common.{◌≡◌, ℕ, ◌<◌, Bool, true, false, List, [], length, All, refl, sym, ap, ◌∙◌, subst, inl, inr}
+use Rattle.version_index.proofs.Common.{◌≡◌, ℕ, ◌<◌, Bool, true, false, List, [], length, All, refl, sym, ap, ◌∙◌, subst, inl, inr, Protocol, Contents, blank, slot_at, IsWrite, LossLaw, left, found_of, records_of, is_outside, written_in, records_in, SlotReads}
 use Rattle.std.proofs.lemmas.List.{get_or_default}
-use Rattle.tx_types.specs.declared.config.Protocol.{Protocol}
-use Rattle.flash_model.specs.Flash.{Contents, blank, slot_at}
-use Rattle.record_list.specs.Changes.{IsWrite, LossLaw, left}
-use Rattle.record_list.specs.Written.{found_of, records_of, is_outside}
 use Rattle.record_list.specs.Losses.{WrittenSlotLossLaw}
 use Rattle.record_list.proofs.OfChanges.Spared.{counted_first}
 use Rattle.record_list.proofs.OfChanges.SlotLosses.{written_slot_loss}
 use Rattle.record_list.proofs.OfChanges.LostWrites.{write_after_loss}
 use Rattle.record_list.proofs.OfChanges.WrittenLists.{records_left}
-use Rattle.version_index.specs.Images.{written_in, records_in, SlotReads}
 use Rattle.version_index.specs.ImageChanges.{image_with}
 use Rattle.version_index.specs.SlotLosses.{LosesSlots, ImageSlotLossLaw, AsksAfterLossLaw}
 use Rattle.version_index.proofs.OfLaws.ImageScans.{written, records_scanned, HasNone, written_lost}

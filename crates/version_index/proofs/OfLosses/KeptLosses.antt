@@ -1,35 +1,11 @@
 -- A block whose slots are used otherwise leaves tables that have what was noted.
-use Rattle.std.proofs.Common.{◌≡◌, ◌≢◌, ℕ, zero, suc, ◌+◌, ◌*◌, ◌<◌, ◌≤◌, ◌⊎◌, true, false, List, length, set, get_or, Option, Some, None, refl, sym, ap, ◌∙◌}
-use Rattle.std.proofs.Common.{subst, inl, inr, arith}
-use Rattle.std.specs.List.{slice_get}
-use Rattle.std.specs.Option.{option_map_or}
-use Rattle.std.proofs.lemmas.Bool.{false≢true, cases_Bool, cases_eq, cases_lt}
-use Rattle.std.proofs.lemmas.List.{length-set, get_or-set_same, get_or-set_other, get_or_past, ext_get_or}
-use Rattle.std.proofs.lemmas.List.Elements.{All-contains}
-use Rattle.std.proofs.lemmas.Option.{none-some, same_Some}
-use Rattle.list_facts.proofs.Membership.{from_filter}
-use Rattle.flash_model.proofs.ImageLemmas.{block_within}
-use Rattle.tx_types.specs.declared.config.Config.{Config}
-use Rattle.tx_types.specs.declared.config.Protocol.{Protocol}
-use Rattle.tx_types.specs.declared.record.Rec.{Rec}
-use Rattle.tx_types.specs.Config.{shape_of, blocks_of}
-use Rattle.record_list.specs.Records.{name_of, is_present}
-use Rattle.record_list.specs.Changes.{LossLaw, left}
-use Rattle.record_list.specs.Written.{is_outside}
-use Rattle.record_list.proofs.OfFacts.Names.{found_named, present_in}
-use Rattle.slot_tables.specs.declared.slots.SlotUse.{SlotUse}
+use Rattle.version_index.proofs.Common.{◌≡◌, ◌≢◌, ℕ, zero, suc, ◌+◌, ◌*◌, ◌<◌, ◌≤◌, ◌⊎◌, true, false, List, length, set, get_or, Option, Some, None, refl, sym, ap, ◌∙◌, subst, inl, inr, arith, slice_get, option_map_or, false≢true, cases_Bool, cases_eq, cases_lt, length-set, get_or-set_same, get_or-set_other, get_or_past, ext_get_or, All-contains, none-some, same_Some, from_filter, block_within, Config, Protocol, Rec, shape_of, blocks_of, name_of, is_present, LossLaw, left, is_outside, found_named, present_in, SlotUse, TablesState, IsTablesState, use_at, holds, copies_of, number_in, Note, note_at, rec_of, found_in, with_block_noted, IndexState, IsNoted, CanLose, current_of, answerer_of, derived_of, NothingMoves, freed, used_so, used_from, rec_at, AreDerived, note_in, notes_in, noted_by, numbered_of, AreHeld, AreIndexed}
 use Rattle.slot_tables.specs.declared.slots.SlotUse.TheVariants as slot
 use Rattle.slot_tables.specs.Copies.{HoldsNone}
-use Rattle.slot_tables.specs.Kept.{Kept, IsKept, use_at, holds, copies_of, number_in, given_up}
-use Rattle.version_index.specs.declared.note.Note.{Note}
+use Rattle.slot_tables.specs.TablesState.{given_up}
 use Rattle.version_index.specs.declared.note.Note.TheVariants as note
-use Rattle.version_index.specs.Notes.{note_at, rec_of, found_in, with_block_noted}
-use Rattle.version_index.specs.Noted.{Noted, IsNoted, CanLose, current_of}
-use Rattle.version_index.specs.Judged.{answerer_of}
-use Rattle.version_index.specs.JudgedChanges.{judged_of, NothingMoves}
-use Rattle.version_index.specs.Losing.{freed, bared_as, without, used_so, used_from}
-use Rattle.version_index.specs.Numbered.{rec_at, number_at, AreJudged}
-use Rattle.version_index.specs.Tables.{note_in, notes_in, noted_by, numbered_of, AreHeld, AreIndexed}
+use Rattle.version_index.specs.Losing.{bared_as, without}
+use Rattle.version_index.specs.Numbered.{number_at}
 use Rattle.version_index.proofs.OfTables.Blocks.{length-with_item, item_in, item_out, outside_it}
 use Rattle.version_index.proofs.OfReadings.Firsts.{head_find, first_passed, none_passed}
 use Rattle.version_index.proofs.OfTables.FoundIn.{found}
@@ -38,7 +14,7 @@ use Rattle.version_index.proofs.OfReadings.KeptHomes.{holds_use, use_holds}
 use Rattle.version_index.proofs.OfTables.KeptNotes.{note_by, kept_found, found_number, length-notes}
 use Rattle.version_index.proofs.OfLosses.Losses.{left_in, loss_moves_nothing, lost_answers_none, lost_not_current}
 use Rattle.version_index.proofs.OfChanges.NotedChanges.{block_noted}
-use Rattle.version_index.proofs.OfTables.Numbered.{given_up_judged}
+use Rattle.version_index.proofs.OfTables.Numbered.{given_up_derived}
 
 -- a slot that holds no number
 holds_none : (u : SlotUse) (x : ℕ) → HoldsNone u → u ≡ slot.Holds x → ⊥
@@ -56,13 +32,13 @@ some_within xs i x e = elim (cases_lt i (length xs)) [
 ]
 
 -- the copies of a number: one of them, or none at all
-copy_holds : (k : Kept) (x at : ℕ) → slice_get (copies_of k.slots x) 0 ≡ Some at → use_at k.slots at ≡ slot.Holds x
+copy_holds : (k : TablesState) (x at : ℕ) → slice_get (copies_of k.slots x) 0 ≡ Some at → use_at k.slots at ≡ slot.Holds x
 unfolding copies_of
 copy_holds k x at e =
     let first = first_passed (λ j. holds x (use_at k.slots j)) (λ _. true) 0 (length k.slots) at (sym (head_find (copies_of k.slots x)) ∙ e) in
     holds_use x (use_at k.slots at) first.one
 
-no_copy : (k : Kept) (x at : ℕ) → slice_get (copies_of k.slots x) 0 ≡ None → use_at k.slots at ≡ slot.Holds x → ⊥
+no_copy : (k : TablesState) (x at : ℕ) → slice_get (copies_of k.slots x) 0 ≡ None → use_at k.slots at ≡ slot.Holds x → ⊥
 unfolding copies_of
 no_copy k x at e here = elim (cases_lt at (length k.slots)) [
   | inl within ↦ false≢true (sym (none_passed (λ j. holds x (use_at k.slots j)) (λ _. true) (length k.slots) (sym (head_find (copies_of k.slots x)) ∙ e)
@@ -70,11 +46,11 @@ no_copy k x at e here = elim (cases_lt at (length k.slots)) [
   | inr past ↦ (let other : slot.Blank ≡ slot.Holds x = sym (get_or_past k.slots at slot.Blank past) ∙ here in absurd cc)
 ]
 
-module _ (protocol : Protocol) (its : Config) (m : List ℕ) (k : Kept) (i : AreIndexed protocol its m k) (sizes : IsKept k)
+module _ (protocol : Protocol) (its : Config) (m : List ℕ) (k : TablesState) (i : AreIndexed protocol its m k) (sizes : IsTablesState k)
     (loss : LossLaw protocol) (block : ℕ) (exists : block < blocks_of (shape_of its)) (lose : CanLose (noted_by its m k) block)
     (to : SlotUse) (holds_no : HoldsNone to) (its_note : Note) (no_record : rec_of its_note ≡ None)
     (noted_so : (records : List (Option Rec)) → note_in records to ≡ its_note) where
-  abbrev n : Noted
+  abbrev n : IndexState
   n = noted_by its m k
 
   abbrev per : ℕ
@@ -83,7 +59,7 @@ module _ (protocol : Protocol) (its : Config) (m : List ℕ) (k : Kept) (i : Are
   abbrev first : ℕ
   first = block * per
 
-  abbrev after : Noted
+  abbrev after : IndexState
   after = record n { notes = with_block_noted (shape_of its) (notes_in k) block its_note }
 
   -- slots of which so many of the block are used so
@@ -113,7 +89,7 @@ module _ (protocol : Protocol) (its : Config) (m : List ℕ) (k : Kept) (i : Are
   }
 
   -- the tables once so many slots of the block are used so
-  record IsLosing (count : ℕ) (t : Kept) : Type 0 where
+  record IsLosing (count : ℕ) (t : TablesState) : Type 0 where
     shape : t.shape ≡ k.shape
     slots : AreUsed count t.slots
     pages : length t.pages ≡ length k.pages
@@ -123,7 +99,7 @@ module _ (protocol : Protocol) (its : Config) (m : List ℕ) (k : Kept) (i : Are
     spare : t.spare ≡ k.spare
     records : (x : ℕ) (r : Rec) → rec_at t.records x ≡ Some r → rec_at k.records x ≡ Some r
     held : AreHeld t
-    judged : AreJudged (numbered_of t) its.logical (judged_of n)
+    judged : AreDerived (numbered_of t) its.logical (derived_of n)
 
   start : IsLosing 0 k
   start = record {
@@ -155,11 +131,11 @@ module _ (protocol : Protocol) (its : Config) (m : List ℕ) (k : Kept) (i : Are
         absurd (nowhere f.0.slot.0 (outside_it (shape_of its) block f.0.slot.0 parts.1) (y.holds ∙ ap slot.Holds same)))
   ]
 
-  module _ (count : ℕ) (t : Kept) (below : count < per) (l : IsLosing count t) where
+  module _ (count : ℕ) (t : TablesState) (below : count < per) (l : IsLosing count t) where
     abbrev at : ℕ
     at = first + count
 
-    abbrev t1 : Kept
+    abbrev t1 : TablesState
     t1 = record t { slots = set t.slots at to }
 
     -- a slot that holds a number yet is another one
@@ -197,7 +173,7 @@ module _ (protocol : Protocol) (its : Config) (m : List ℕ) (k : Kept) (i : Are
 
     module _ (x : ℕ) (r : Rec) (holds_x : use_at t.slots at ≡ slot.Holds x) (is : rec_at t.records x ≡ Some r)
         (none : slice_get (copies_of t1.slots x) 0 ≡ None) where
-      abbrev t2 : Kept
+      abbrev t2 : TablesState
       t2 = given_up (freed t1 x) r.page x
 
       not_x : (y : ℕ) (s : Rec) → rec_at t2.records y ≡ Some s → y ≢ x
@@ -268,7 +244,7 @@ module _ (protocol : Protocol) (its : Config) (m : List ℕ) (k : Kept) (i : Are
                 (get_or-set_other t.answerers x y None None off ∙ old.0, get_or-set_other t.waits x y None None off ∙ old.1))
           ];
         };
-        judged = given_up_judged (numbered_of t) (numbered_of t2) its.logical (judged_of n) x r l.judged is stale free (record {
+        judged = given_up_derived (numbered_of t) (numbered_of t2) its.logical (derived_of n) x r l.judged is stale free (record {
           own = get_or-set_same t.records x None None (some_within t.records x r is);
           others = others;
           current = refl;
@@ -306,7 +282,7 @@ module _ (protocol : Protocol) (its : Config) (m : List ℕ) (k : Kept) (i : Are
       subst (λ c. IsLosing c (used_so (used_from k first to count) (first + count) to)) more
       (one_step count (used_from k first to count) (omega arith) (all_steps count (omega arith)))
 
-  abbrev whole : Kept
+  abbrev whole : TablesState
   whole = used_from k first to per
 
   -- the notes once the whole block is used so

@@ -1,27 +1,13 @@
 -- A block without its records: what is left is judged as before, and what goes answers for none.
-use Rattle.std.proofs.Common.{◌≡◌, ◌≢◌, ℕ, ◌+◌, ◌*◌, ◌<◌, ◌≤◌, true, false, ◌⊎◌, length, None, Some, refl, sym, ap, ◌∙◌, subst, inl, inr, arith}
-use Rattle.std.proofs.lemmas.Bool.{false≢true}
-use Rattle.std.proofs.lemmas.List.Elements.{All-contains}
-use Rattle.list_facts.proofs.Membership.{all_from}
-use Rattle.tx_types.specs.declared.record.Link.{Link}
-use Rattle.tx_types.specs.declared.config.Protocol.{Protocol}
-use Rattle.tx_types.specs.Config.{shape_of, blocks_of}
-use Rattle.flash_model.proofs.ImageLemmas.{block_within}
-use Rattle.record_list.specs.Records.{name_of, is_present}
-use Rattle.record_list.specs.Current.{cur, IsCurrent, is_held}
-use Rattle.record_list.proofs.OfFacts.Names.{found_named}
-use Rattle.record_list.specs.Changes.{LossLaw, LossKeeps, left}
-use Rattle.record_list.specs.Written.{is_outside}
-use Rattle.version_index.specs.declared.note.Note.{Note}
-use Rattle.version_index.specs.Notes.{rec_of, found_in, with_block_noted}
-use Rattle.version_index.specs.Noted.{Noted, IsNoted, CanLose, current_of}
-use Rattle.version_index.specs.Judged.{IsJudgedAlike, AnswersForNone, answerer_of}
-use Rattle.version_index.specs.JudgedChanges.{NothingMoves}
+use Rattle.version_index.proofs.Common.{◌≡◌, ◌≢◌, ℕ, ◌+◌, ◌*◌, ◌<◌, ◌≤◌, true, false, ◌⊎◌, length, None, Some, refl, sym, ap, ◌∙◌, subst, inl, inr, arith, false≢true, All-contains, all_from, Link, Protocol, shape_of, blocks_of, block_within, name_of, is_present, cur, is_held, found_named, LossLaw, left, is_outside, Note, rec_of, found_in, with_block_noted, IndexState, IsNoted, CanLose, current_of, IsDerivedAlike, answerer_of, NothingMoves}
+use Rattle.record_list.specs.Current.{IsCurrent}
+use Rattle.record_list.specs.Changes.{LossKeeps}
+use Rattle.version_index.specs.Derived.{AnswersForNone}
 use Rattle.version_index.proofs.OfTables.FoundIn.{found_in_block}
-use Rattle.version_index.proofs.OfTables.Judged.{all_alike, judged_alike, answerer_held}
+use Rattle.version_index.proofs.OfTables.Derived.{all_alike, derived_alike, answerer_held}
 use Rattle.version_index.proofs.OfProgram.PartialWrites.{configured}
 
-module _ (protocol : Protocol) (n : Noted) (k : IsNoted protocol n) (block : ℕ) (note : Note) (none : rec_of note ≡ None)
+module _ (protocol : Protocol) (n : IndexState) (k : IsNoted protocol n) (block : ℕ) (note : Note) (none : rec_of note ≡ None)
     (exists : block < blocks_of (shape_of n.config)) (lose : CanLose n block) where
   -- what is left of the records
   pub left_in : found_in (with_block_noted (shape_of n.config) n.notes block note) ≡ left (is_outside (shape_of n.config) block) (found_in n.notes)
@@ -45,8 +31,8 @@ module _ (protocol : Protocol) (n : Noted) (k : IsNoted protocol n) (block : ℕ
       (subst LossLaw (sym k.rule) loss l logical keep (configured protocol n k) k.scanned lose) in
       record {
         currents = keeps.same_current;
-        records = all_from (λ f. IsJudgedAlike n m f.rec) l' (λ f i.
-            judged_alike n m f.rec refl (all_alike p l l' logical keeps.same_current keeps.responsible keeps.sound f i));
+        records = all_from (λ f. IsDerivedAlike n m f.rec) l' (λ f i.
+            derived_alike n m f.rec refl (all_alike p l l' logical keeps.same_current keeps.responsible keeps.sound f i));
       }
 
   -- a name that goes is no answerer, also of none that goes with it

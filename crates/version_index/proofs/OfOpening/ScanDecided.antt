@@ -1,27 +1,8 @@
 -- What is judged of the records of a scan, number by number.
-use Rattle.std.proofs.Common.{◌≡◌, ◌≢◌, ℕ, ◌+◌, ◌<◌, Bool, true, List, length, set, get_or, IfSome, Option, Some, None, refl, sym, ap, ◌∙◌, subst, inl, inr}
-use Rattle.std.proofs.Common.{arith}
-use Rattle.std.specs.Prelude.{position}
-use Rattle.std.specs.Option.{option_map}
-use Rattle.std.proofs.lemmas.Bool.{cases_eq, cases_lt, cases_Bool, cond-true, cond-false}
-use Rattle.std.proofs.lemmas.List.{length-set, get_or-set_same, get_or-set_other, get_or_past}
-use Rattle.std.proofs.lemmas.Option.{none-some, same_Some}
-use Rattle.list_facts.proofs.Options.{cases_Option}
-use Rattle.list_facts.proofs.Positions.{position_some}
-use Rattle.list_facts.proofs.Tests.{find-position, find_stands}
-use Rattle.tx_types.specs.Config.{slots_of}
-use Rattle.tx_types.specs.declared.config.Protocol.{Protocol}
-use Rattle.tx_types.specs.declared.record.Link.{Link}
-use Rattle.tx_types.specs.declared.record.Rec.{Rec}
-use Rattle.record_list.specs.declared.found.Found.{Found}
+use Rattle.version_index.proofs.Common.{◌≡◌, ◌≢◌, ℕ, ◌+◌, ◌<◌, Bool, true, List, length, set, get_or, IfSome, Option, Some, None, refl, sym, ap, ◌∙◌, subst, inl, inr, arith, position, option_map, cases_eq, cases_lt, cases_Bool, cond-true, cond-false, length-set, get_or-set_same, get_or-set_other, get_or_past, none-some, same_Some, cases_Option, find_stands, slots_of, Protocol, Link, Rec, Found, has_name, nothing, cur, TablesState, IsTablesState, record_at, number_at, derived_by, number_by, AreNumbered, AreDecided, name_at, answerer, Derived, awaited}
+use Rattle.list_lemmas.proofs.Positions.{position_some}
+use Rattle.list_lemmas.proofs.Tests.{find-position}
 use Rattle.record_list.specs.Records as records
-use Rattle.record_list.specs.Records.{has_name, nothing}
-use Rattle.record_list.specs.Current.{cur}
-use Rattle.slot_tables.specs.Kept.{Kept, IsKept, record_at, number_at}
-use Rattle.version_index.specs.Filling.{judged_by, number_by, AreNumbered, AreDecided}
-use Rattle.version_index.specs.Judged.{name_at, answerer}
-use Rattle.version_index.specs.JudgedChanges.{Judged}
-use Rattle.version_index.specs.Numbered.{awaited}
 
 -- the place of a name that has a number
 pub record IsPlaced (list : List Found) (numbers : List ℕ) (name : Option Link) (x : ℕ) : Type 0 where
@@ -50,8 +31,8 @@ placed_by list numbers (Some link) x e = elim (cases_Option (position (λ f. has
       })
 ]
 
-module _ (list : List Found) (numbers : List ℕ) (k : Kept) (numbered : AreNumbered list numbers k) (whole : length numbers ≡ length list)
-    (sizes : IsKept k) where
+module _ (list : List Found) (numbers : List ℕ) (k : TablesState) (numbered : AreNumbered list numbers k) (whole : length numbers ≡ length list)
+    (sizes : IsTablesState k) where
   -- a number of a place is in range
   pub place_below : (j : ℕ) → j < length list → get_or numbers j 0 < slots_of k.shape
   place_below j low =
@@ -69,17 +50,17 @@ module _ (list : List Found) (numbers : List ℕ) (k : Kept) (numbered : AreNumb
       subst (λ y. y < slots_of k.shape) p.number (place_below p.place p.within)
 
 -- the first pages have the numbers of their current records
-pub record IsCurrentSo (protocol : Protocol) (list : List Found) (numbers : List ℕ) (logical : ℕ) (k t : Kept) (count : ℕ) : Type 0 where
+pub record IsCurrentSo (protocol : Protocol) (list : List Found) (numbers : List ℕ) (logical : ℕ) (k t : TablesState) (count : ℕ) : Type 0 where
   pub rest : t ≡ record k { current = t.current }
   pub long : length t.current ≡ length k.current
   pub each : (page : ℕ) → page < count → number_at t.current page ≡ number_by list numbers (name_at page (cur protocol list logical page))
 
 module _ (protocol : Protocol) (list : List Found) (numbers : List ℕ) (logical : ℕ) where
-  pub current_more : (k t : Kept) (page : ℕ) (o : Option ℕ) → IsCurrentSo protocol list numbers logical k t page → page < length k.current →
+  pub current_more : (k t : TablesState) (page : ℕ) (o : Option ℕ) → IsCurrentSo protocol list numbers logical k t page → page < length k.current →
       o ≡ number_by list numbers (name_at page (cur protocol list logical page)) →
       IsCurrentSo protocol list numbers logical k (record t { current = set t.current page o }) (page + 1)
   current_more k t page o h within is = record {
-    rest = ap (λ (v : Kept). record v { current = set t.current page o }) h.rest;
+    rest = ap (λ (v : TablesState). record v { current = set t.current page o }) h.rest;
     long = length-set t.current page o ∙ h.long;
     each = λ other low. elim (cases_eq other page) [
       | inl here ↦ (
@@ -90,7 +71,7 @@ module _ (protocol : Protocol) (list : List Found) (numbers : List ℕ) (logical
     ];
   }
 
-  pub start_decided : (k : Kept) → AreDecided protocol list numbers logical k k 0
+  pub start_decided : (k : TablesState) → AreDecided protocol list numbers logical k k 0
   start_decided k = record {
     rest = refl;
     answerers = refl;
@@ -99,10 +80,10 @@ module _ (protocol : Protocol) (list : List Found) (numbers : List ℕ) (logical
     others = λ x none. (refl, refl);
   }
 
-  module _ (k t : Kept) (numbered : AreNumbered list numbers k) (whole : length numbers ≡ length list) (sizes : IsKept k) (i : ℕ)
+  module _ (k t : TablesState) (numbered : AreNumbered list numbers k) (whole : length numbers ≡ length list) (sizes : IsTablesState k) (i : ℕ)
       (h : AreDecided protocol list numbers logical k t i) (below : i < length list) (a w : Option ℕ)
       (is_a : a ≡ number_by list numbers (answerer protocol list logical (records.record_at list i)))
-      (is_w : w ≡ awaited (judged_by protocol list logical) (records.record_at list i)) where
+      (is_w : w ≡ awaited (derived_by protocol list logical) (records.record_at list i)) where
     abbrev x : ℕ
     x = get_or numbers i 0
 
@@ -123,7 +104,7 @@ module _ (protocol : Protocol) (list : List Found) (numbers : List ℕ) (logical
 
     pub decided_more : AreDecided protocol list numbers logical k (record t { answerers = set t.answerers x a; waits = set t.waits x w }) (i + 1)
     decided_more = record {
-      rest = ap (λ (v : Kept). record v { answerers = set t.answerers x a; waits = set t.waits x w }) h.rest;
+      rest = ap (λ (v : TablesState). record v { answerers = set t.answerers x a; waits = set t.waits x w }) h.rest;
       answerers = length-set t.answerers x a ∙ h.answerers;
       waits = length-set t.waits x w ∙ h.waits;
       done = λ j low. elim (cases_eq (get_or numbers j 0) x) [
@@ -132,7 +113,7 @@ module _ (protocol : Protocol) (list : List Found) (numbers : List ℕ) (logical
               ap (number_at (set t.answerers x a)) here ∙ get_or-set_same t.answerers x a None in_tables.0 ∙ is_a
                   ∙ ap (λ r. number_by list numbers (answerer protocol list logical r)) one,
               ap (number_at (set t.waits x w)) here ∙ get_or-set_same t.waits x w None in_tables.1 ∙ is_w
-                  ∙ ap (awaited (judged_by protocol list logical)) one,
+                  ∙ ap (awaited (derived_by protocol list logical)) one,
             ))
         | inr off ↦ (
             let less : j < i = elim (cases_eq j i) [
@@ -151,7 +132,7 @@ module _ (protocol : Protocol) (list : List Found) (numbers : List ℕ) (logical
     }
 
 -- the page that a record waits for exists
-pub awaited_exists : (j : Judged) (r : Rec) (count : ℕ) (o : Option ℕ) → o ≡ awaited j r → r.next.page < count → IfSome o (λ page. page < count)
+pub awaited_exists : (j : Derived) (r : Rec) (count : ℕ) (o : Option ℕ) → o ≡ awaited j r → r.next.page < count → IfSome o (λ page. page < count)
 awaited_exists j r count None e below = tt
 awaited_exists j r count (Some page) e below = elim (cases_Bool (j.waits r)) [
   | inl waits ↦ (

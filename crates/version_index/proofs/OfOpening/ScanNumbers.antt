@@ -1,29 +1,18 @@
 -- The numbers that the records of a scan get, in the order of their names.
-use Rattle.std.proofs.Common.{◌≡◌, ◌≢◌, ℕ, ◌+◌, ◌<◌, ◌≤◌, ◌⊎◌, List, [], ◌∷◌, ◌++◌, length, get_or, replicate, All, Contains, Option, Some, None, refl, sym, ap}
-use Rattle.std.proofs.Common.{◌∙◌, subst, inl, inr, arith}
+use Rattle.version_index.proofs.Common.{◌≡◌, ◌≢◌, ℕ, ◌+◌, ◌<◌, ◌≤◌, ◌⊎◌, List, [], ◌∷◌, ◌++◌, length, get_or, replicate, All, Contains, Option, Some, None, refl, sym, ap, ◌∙◌, subst, inl, inr, arith, cases_eq, cases_lt, length-append, length-set, length-replicate, get_or-set_same, get_or-set_other, get_or_past, All-contains, Contains-get_or, none-some, same_Some, slots_of, Shape, Link, Rec, Found, name_of, nothing, TablesState, IsTablesState, record_at, HasFree, NamesAgree, AreNumbered, AreBlankBut}
 use Rattle.std.proofs.Math.ListN.{get_or-append}
 use Rattle.std.proofs.Math.Seq.{get_or-append_seam}
-use Rattle.std.proofs.lemmas.Bool.{cases_eq, cases_lt}
-use Rattle.std.proofs.lemmas.List.{length-append, length-set, length-replicate, get_or-set_same, get_or-set_other, get_or-replicate, get_or_past}
-use Rattle.std.proofs.lemmas.List.Elements.{All-contains, Contains-get_or}
-use Rattle.std.proofs.lemmas.Option.{none-some, same_Some}
-use Rattle.tx_types.specs.Config.{slots_of}
-use Rattle.tx_types.specs.declared.config.Shape.{Shape}
-use Rattle.tx_types.specs.declared.record.Link.{Link}
-use Rattle.tx_types.specs.declared.record.Rec.{Rec}
-use Rattle.record_list.specs.declared.found.Found.{Found}
+use Rattle.std.proofs.lemmas.List.{get_or-replicate}
 use Rattle.record_list.specs.Records as records
-use Rattle.record_list.specs.Records.{name_of, nothing}
 use Rattle.record_list.specs.SoundList.{OwnPageExists}
-use Rattle.record_chart.specs.Charts.{IsInOrder}
-use Rattle.record_chart.proofs.OfSort.Order.{later_from}
-use Rattle.slot_tables.specs.Kept.{Kept, IsKept, record_at, added, blank_tables, IsNewest}
-use Rattle.slot_tables.specs.Versions.{HasFree}
-use Rattle.version_index.specs.Filling.{NamesAgree, IsNotOlder, IsNumbered, HasNumber, AreNumbered, AreBlankBut}
+use Rattle.sorted_records.specs.SortedRecords.{IsInOrder}
+use Rattle.sorted_records.proofs.OfSort.Order.{later_from}
+use Rattle.slot_tables.specs.TablesState.{added, blank_tables, IsNewest}
+use Rattle.version_index.specs.Filling.{IsNotOlder, IsNumbered, HasNumber}
 use Rattle.version_index.proofs.OfProgram.FreeNumbers.{covers, find_free}
 
 -- a record that is added has its number
-pub added_numbered : (k : Kept) → IsKept k → (x : ℕ) (rec : Rec) → x < slots_of k.shape → record_at k.records x ≡ None → IsNewest k.records rec →
+pub added_numbered : (k : TablesState) → IsTablesState k → (x : ℕ) (rec : Rec) → x < slots_of k.shape → record_at k.records x ≡ None → IsNewest k.records rec →
     IsNumbered k (added k x rec) rec x
 added_numbered k sizes x rec within free newest =
     let all = sizes.records in
@@ -39,21 +28,21 @@ added_numbered k sizes x rec within free newest =
     }
 
 -- while the records get their numbers
-pub record IsNumberingSo (its_shape : Shape) (logical : ℕ) (list : List Found) (numbers : List ℕ) (k : Kept) (at : ℕ) : Type 0 where
+pub record IsNumberingSo (its_shape : Shape) (logical : ℕ) (list : List Found) (numbers : List ℕ) (k : TablesState) (at : ℕ) : Type 0 where
   pub blank : AreBlankBut its_shape logical k
   pub long : length numbers ≡ at
   pub numbered : AreNumbered list numbers k
 
-pub start_numbering : (its_shape : Shape) (logical : ℕ) (list : List Found) (k : Kept) → k ≡ blank_tables its_shape logical →
+pub start_numbering : (its_shape : Shape) (logical : ℕ) (list : List Found) (k : TablesState) → k ≡ blank_tables its_shape logical →
     IsNumberingSo its_shape logical list [] k 0
 start_numbering its_shape logical list k e =
     let b = blank_tables its_shape logical in
-    let none : (x : ℕ) → record_at k.records x ≡ None = λ x. ap (λ (t : Kept). record_at t.records x) e ∙ bare x in
+    let none : (x : ℕ) → record_at k.records x ≡ None = λ x. ap (λ (t : TablesState). record_at t.records x) e ∙ bare x in
     record {
       blank = record {
-        rest = e ∙ ap (λ (t : Kept). record b { records = t.records; pages = t.pages }) (sym e);
-        pages = ap (λ (t : Kept). length t.pages) e ∙ length-replicate logical [];
-        sizes = ap (λ (t : Kept). length t.records) e ∙ length-replicate (slots_of its_shape) None;
+        rest = e ∙ ap (λ (t : TablesState). record b { records = t.records; pages = t.pages }) (sym e);
+        pages = ap (λ (t : TablesState). length t.pages) e ∙ length-replicate logical [];
+        sizes = ap (λ (t : TablesState). length t.records) e ∙ length-replicate (slots_of its_shape) None;
       };
       long = refl;
       numbered = record {
@@ -70,7 +59,7 @@ start_numbering its_shape logical list k e =
           omega arith)
     ]
 
-module _ (its_shape : Shape) (logical : ℕ) (list : List Found) (numbers : List ℕ) (k : Kept) (at : ℕ)
+module _ (its_shape : Shape) (logical : ℕ) (list : List Found) (numbers : List ℕ) (k : TablesState) (at : ℕ)
     (h : IsNumberingSo its_shape logical list numbers k at) (below : at < length list) where
   abbrev rec : Rec
   rec = records.record_at list at
@@ -107,7 +96,7 @@ module _ (its_shape : Shape) (logical : ℕ) (list : List Found) (numbers : List
       let version = ap (λ (s : Rec). s.version) its in
       elim from [ inl less ↦ absurd (omega arith) | inr both ↦ (let low = both.1 in omega arith) ]
 
-  module _ (agree : NamesAgree list) (new : Kept) (x : ℕ) (has : HasNumber k new rec x) where
+  module _ (agree : NamesAgree list) (new : TablesState) (x : ℕ) (has : HasNumber k new rec x) where
     abbrev more : List ℕ
     more = numbers ++ x ∷ []
 
@@ -121,7 +110,7 @@ module _ (its_shape : Shape) (logical : ℕ) (list : List Found) (numbers : List
     longer = length-append numbers (x ∷ []) ∙ ap (λ i. i + 1) h.long
 
     -- the numbers once it has one too
-    numbers_more : (t : Kept) → record_at t.records x ≡ Some rec →
+    numbers_more : (t : TablesState) → record_at t.records x ≡ Some rec →
         ((j : ℕ) → j < at → record_at t.records (get_or numbers j 0) ≡ Some (records.record_at list j)) →
         ((y : ℕ) (r : Rec) → record_at t.records y ≡ Some r → (y ≡ x) ⊎ ((j : ℕ) × (j < at) × (get_or numbers j 0 ≡ y))) →
         ((y z : ℕ) (r s : Rec) → record_at t.records y ≡ Some r → record_at t.records z ≡ Some s → name_of r ≡ name_of s → y ≡ z) →
@@ -165,7 +154,7 @@ module _ (its_shape : Shape) (logical : ℕ) (list : List Found) (numbers : List
           })
       | inr new_one ↦ record {
         blank = record {
-          rest = new_one.rest ∙ ap (λ (t : Kept). record t { records = new.records; pages = new.pages }) h.blank.rest;
+          rest = new_one.rest ∙ ap (λ (t : TablesState). record t { records = new.records; pages = new.pages }) h.blank.rest;
           pages = new_one.pages ∙ h.blank.pages;
           sizes = new_one.sizes ∙ h.blank.sizes;
         };

@@ -1,33 +1,14 @@
 -- The slots of a scan hold the numbers of their records.
-use Rattle.std.proofs.Common.{◌≡◌, ℕ, ◌+◌, ◌<◌, ◌≤◌, true, eqb, List, length, map, set, get_or, All, Contains, Some, None, refl, sym, ap, ◌∙◌, subst, subst₂}
-use Rattle.std.proofs.Common.{inl, inr, arith, eq-eqb}
-use Rattle.std.specs.Option.{option_map_or}
-use Rattle.std.specs.Prelude.{position}
-use Rattle.std.proofs.Math.ListN.{get_or-map}
-use Rattle.std.proofs.lemmas.Bool.{false≢true, cases_eq, cases_lt, and_from}
-use Rattle.std.proofs.lemmas.List.{length-map, length-set, get_or-set_same, get_or-set_other, get_or_past, ext_get_or}
-use Rattle.std.proofs.lemmas.List.Elements.{at_from_Contains, Contains-get_or}
-use Rattle.std.proofs.lemmas.Option.{none-some}
-use Rattle.list_facts.proofs.Membership.{all_from}
-use Rattle.list_facts.proofs.Positions.{position-all}
-use Rattle.tx_types.specs.Config.{slots_of}
-use Rattle.tx_types.specs.declared.record.Link.{Link}
-use Rattle.tx_types.specs.declared.record.Rec.{Rec}
-use Rattle.record_list.specs.declared.found.Found.{Found}
+use Rattle.version_index.proofs.Common.{◌≡◌, ℕ, ◌+◌, ◌<◌, ◌≤◌, true, eqb, List, length, map, set, get_or, All, Contains, Some, None, refl, sym, ap, ◌∙◌, subst, inl, inr, arith, eq-eqb, option_map_or, position, get_or-map, false≢true, cases_eq, cases_lt, and_from, length-map, length-set, get_or-set_same, get_or-set_other, get_or_past, ext_get_or, at_from_Contains, Contains-get_or, none-some, all_from, slots_of, Link, Rec, Found, name_of, has_name, is_present, nothing, found_named, present_in, has_name_true, SlotUse, TablesState, record_at, use_at, Note, NamesAgree, AreNumbered, Seen, note_at, seen_as, complete_slots, note_in, notes_in}
+use Rattle.std.proofs.Common.{subst₂}
+use Rattle.list_lemmas.proofs.Positions.{position-all}
 use Rattle.record_list.specs.Records as records
-use Rattle.record_list.specs.Records.{name_of, has_name, is_present, nothing}
-use Rattle.record_list.proofs.OfFacts.Names.{found_named, present_in, has_name_true, has_own_name}
-use Rattle.slot_tables.specs.declared.slots.SlotUse.{SlotUse}
+use Rattle.record_list.proofs.OfFacts.Names.{has_own_name}
 use Rattle.slot_tables.specs.declared.slots.SlotUse.TheVariants as slot
 use Rattle.slot_tables.specs.Copies.{NumbersBelow}
-use Rattle.slot_tables.specs.Kept.{Kept, record_at, use_at}
-use Rattle.version_index.specs.declared.note.Note.{Note}
 use Rattle.version_index.specs.declared.note.Note.TheVariants as note
-use Rattle.version_index.specs.Filling.{NamesAgree, AreNumbered, AreListed, AreUses, IsNumberAt, UsesNote, first_use, ArePut}
-use Rattle.flash_model.specs.declared.flash.Seen.{Seen}
+use Rattle.version_index.specs.Filling.{AreListed, AreUses, IsNumberAt, UsesNote, first_use, ArePut}
 use Rattle.flash_model.specs.declared.flash.Seen.TheVariants as seen
-use Rattle.version_index.specs.Notes.{note_at, seen_as, complete_slots}
-use Rattle.version_index.specs.Tables.{note_in, notes_in}
 use Rattle.version_index.proofs.OfTables.FoundIn.{noted_in, noted_from, holds_within, found}
 use Rattle.version_index.proofs.OfOpening.Scans.{slots, scanned_notes}
 
@@ -41,7 +22,7 @@ not_missing list rec present none =
     (eq-eqb f.0.rec.page rec.page (ap (λ (l : Link). l.page) f.2)) (eq-eqb f.0.rec.version rec.version (ap (λ (l : Link). l.version) f.2)) in
     false≢true (sym fails ∙ ap (λ g. has_name (name_of rec) g.rec) (k.2 nothing) ∙ own)
 
-module _ (list : List Found) (numbers : List ℕ) (k : Kept) (numbered : AreNumbered list numbers k) (whole : length numbers ≡ length list)
+module _ (list : List Found) (numbers : List ℕ) (k : TablesState) (numbered : AreNumbered list numbers k) (whole : length numbers ≡ length list)
     (agree : NamesAgree list) where
   -- a number at a place of a name has the record of that name
   its_record : (rec : Rec) (x : ℕ) → is_present list (name_of rec) ≡ true → ((f : Found) → Contains list f → name_of f.rec ≡ name_of rec → f.rec ≡ rec) →
@@ -82,23 +63,23 @@ module _ (list : List Found) (numbers : List ℕ) (k : Kept) (numbered : AreNumb
       omega arith
 
 -- the last slots are used as they were noted
-pub record IsHolding (list : List Found) (numbers : List ℕ) (k t : Kept) (notes : List Note) (count : ℕ) : Type 0 where
+pub record IsHolding (list : List Found) (numbers : List ℕ) (k t : TablesState) (notes : List Note) (count : ℕ) : Type 0 where
   pub rest : t ≡ record k { slots = t.slots }
   pub size : length t.slots ≡ length notes
   pub done : (a : ℕ) → length notes ≤ a + count → a < length notes →
       (note_in k.records (use_at t.slots a) ≡ note_at notes a) × UsesNote list numbers (note_at notes a) (use_at t.slots a)
 
-module _ (list : List Found) (numbers : List ℕ) (k : Kept) (notes : List Note) where
-  pub all_held : (t : Kept) (count : ℕ) → IsHolding list numbers k t notes count → length notes ≤ count → notes_in t ≡ notes
+module _ (list : List Found) (numbers : List ℕ) (k : TablesState) (notes : List Note) where
+  pub all_held : (t : TablesState) (count : ℕ) → IsHolding list numbers k t notes count → length notes ≤ count → notes_in t ≡ notes
   all_held t count h all =
-      ap (λ l. map (note_in l) t.slots) (ap (λ (v : Kept). v.records) h.rest)
+      ap (λ l. map (note_in l) t.slots) (ap (λ (v : TablesState). v.records) h.rest)
       ∙ ext_get_or note.Blank (map (note_in k.records) t.slots) notes (length-map t.slots (note_in k.records) ∙ h.size) (λ a low.
       let long = length-map t.slots (note_in k.records) in
       let size = h.size in
       get_or-map (note_in k.records) t.slots a slot.Blank ∙ (h.done a (omega arith) (omega arith)).0)
 
   -- a slot that holds a number holds one of a place
-  pub all_placed : (t : Kept) (count : ℕ) → IsHolding list numbers k t notes count → length notes ≤ count → (a x : ℕ) →
+  pub all_placed : (t : TablesState) (count : ℕ) → IsHolding list numbers k t notes count → length notes ≤ count → (a x : ℕ) →
       use_at t.slots a ≡ slot.Holds x → (j : ℕ) × (j < length list) × (get_or numbers j 0 ≡ x)
   all_placed t count h all a x e = elim (cases_lt a (length t.slots)) [
     | inl low ↦ (let size = h.size in of_note (note_at notes a) (subst (UsesNote list numbers (note_at notes a)) e (h.done a (omega arith) (omega arith)).1))
@@ -111,14 +92,14 @@ module _ (list : List Found) (numbers : List ℕ) (k : Kept) (notes : List Note)
       of_note (note.Holds rec) h = (h.place, h.within, h.number)
 
 -- slots that are used so by what is noted of them are used as they were noted
-pub uses_held : (list : List Found) (numbers : List ℕ) (k t : Kept) (all : List Seen) (scanned : List Found) (uses : List SlotUse)
+pub uses_held : (list : List Found) (numbers : List ℕ) (k t : TablesState) (all : List Seen) (scanned : List Found) (uses : List SlotUse)
     → AreNumbered list numbers k → length numbers ≡ length list → NamesAgree list → ((f : Found) → Contains scanned f → Contains list f)
     → (h : AreUses list numbers all scanned uses) → t ≡ record k { slots = uses } → IsHolding list numbers k t h.notes (length h.notes)
 uses_held list numbers k t all scanned uses numbered whole agree listed h e = record {
-  rest = e ∙ ap (λ (s : List SlotUse). record k { slots = s }) (sym (ap (λ (v : Kept). v.slots) e));
-  size = ap (λ (v : Kept). length v.slots) e ∙ h.size;
+  rest = e ∙ ap (λ (s : List SlotUse). record k { slots = s }) (sym (ap (λ (v : TablesState). v.slots) e));
+  size = ap (λ (v : TablesState). length v.slots) e ∙ h.size;
   done = λ a low high.
-      let slots = ap (λ (v : Kept). v.slots) e in
+      let slots = ap (λ (v : TablesState). v.slots) e in
       let its = h.each a high in
       let own : AreListed h.notes list = λ f i. listed f (subst (λ l. Contains l f) h.found i) in (
         ap (λ s. note_in k.records (use_at s a)) slots
@@ -128,7 +109,7 @@ uses_held list numbers k t all scanned uses numbered whole agree listed h e = re
 }
 
 -- the numbers of such slots are in range
-pub each_below : (list : List Found) (numbers : List ℕ) (k : Kept) (all : List Seen) (scanned : List Found) (uses : List SlotUse)
+pub each_below : (list : List Found) (numbers : List ℕ) (k : TablesState) (all : List Seen) (scanned : List Found) (uses : List SlotUse)
     → AreNumbered list numbers k → length numbers ≡ length list → NamesAgree list → length k.records ≡ slots_of k.shape
     → (h : AreUses list numbers all scanned uses) → (at : ℕ) → NumbersBelow (slots_of k.shape) (use_at uses at)
 each_below list numbers k all scanned uses numbered whole agree sizes h at = elim (cases_lt at (length uses)) [
@@ -220,16 +201,16 @@ none_put list numbers all uses is = record {
 }
 
 -- so many of the last slots are used so
-pub record AreUsedFrom (k t : Kept) (uses : List SlotUse) (count : ℕ) : Type 0 where
+pub record AreUsedFrom (k t : TablesState) (uses : List SlotUse) (count : ℕ) : Type 0 where
   pub rest : t ≡ record k { slots = t.slots }
   pub size : length t.slots ≡ length k.slots
   pub done : (a : ℕ) → length uses ≤ a + count → a < length uses → use_at t.slots a ≡ use_at uses a
 
-module _ (k : Kept) (uses : List SlotUse) where
-  pub one_used : (t : Kept) (count at : ℕ) (u : SlotUse) → AreUsedFrom k t uses count → at < length t.slots → at + count + 1 ≡ length uses
+module _ (k : TablesState) (uses : List SlotUse) where
+  pub one_used : (t : TablesState) (count at : ℕ) (u : SlotUse) → AreUsedFrom k t uses count → at < length t.slots → at + count + 1 ≡ length uses
       → u ≡ use_at uses at → AreUsedFrom k (record t { slots = set t.slots at u }) uses (count + 1)
   one_used t count at u h low place is = record {
-    rest = ap (λ (v : Kept). record v { slots = set t.slots at u }) h.rest;
+    rest = ap (λ (v : TablesState). record v { slots = set t.slots at u }) h.rest;
     size = length-set t.slots at u ∙ h.size;
     done = λ a least high. elim (cases_eq a at) [
       | inl here ↦ ap (use_at (set t.slots at u)) here ∙ get_or-set_same t.slots at u slot.Blank low ∙ is ∙ ap (use_at uses) (sym here)
@@ -237,7 +218,7 @@ module _ (k : Kept) (uses : List SlotUse) where
     ];
   }
 
-  pub all_used : (t : Kept) (count : ℕ) → AreUsedFrom k t uses count → length k.slots ≡ length uses → length uses ≤ count → t ≡ record k { slots = uses }
+  pub all_used : (t : TablesState) (count : ℕ) → AreUsedFrom k t uses count → length k.slots ≡ length uses → length uses ≤ count → t ≡ record k { slots = uses }
   all_used t count h size all =
       h.rest ∙ ap (λ (s : List SlotUse). record k { slots = s })
       (ext_get_or slot.Blank t.slots uses (h.size ∙ size) (λ a low. let long = h.size in h.done a (omega arith) (omega arith)))

@@ -1,18 +1,9 @@
 -- The notes of slots that were scanned, made from how they read and from the list of their records.
-use Rattle.std.proofs.Common.{◌≡◌, ℕ, zero, suc, ◌+◌, ◌<◌, ◌≤◌, List, [], ◌∷◌, ◌++◌, ◌⊎◌, inl, inr, length, get_or, take, drop, map, Option, None, refl, sym}
-use Rattle.std.proofs.Common.{ap, ◌∙◌, arith}
-use Rattle.std.specs.List.{cons_option}
-use Rattle.std.proofs.lemmas.List.{take_all, drop_all, nil_from_length, append-nil, append_assoc, length-drop, length-map, take_more, drop_more, map_push}
-use Rattle.std.proofs.lemmas.List.{length-take-le}
-use Rattle.tx_types.specs.declared.record.Rec.{Rec}
-use Rattle.flash_model.specs.declared.flash.Seen.{Seen}
+use Rattle.version_index.proofs.Common.{◌≡◌, ℕ, zero, suc, ◌+◌, ◌<◌, ◌≤◌, List, [], ◌∷◌, ◌++◌, ◌⊎◌, inl, inr, length, get_or, take, drop, map, Option, None, refl, sym, ap, ◌∙◌, arith, cons_option, take_all, length-map, take_more, length-take-le, Rec, Seen, Found, nothing, Note, Blank, Damaged, Holds, seen_as, found_at, found_in, complete_slots}
+use Rattle.std.proofs.lemmas.List.{drop_all, nil_from_length, append-nil, append_assoc, length-drop, drop_more, map_push}
 use Rattle.flash_model.specs.declared.flash.Seen.TheVariants as seen
-use Rattle.record_list.specs.declared.found.Found.{Found}
-use Rattle.record_list.specs.Records.{nothing}
-use Rattle.version_index.specs.declared.note.Note.{Note}
-use Rattle.version_index.specs.declared.note.Note.TheVariants.{Blank, Damaged, Holds}
-use Rattle.version_index.specs.Notes.{seen_as, found_at, found_in, complete_at, complete_slots}
-use Rattle.version_index.proofs.OfTables.Given.{given}
+use Rattle.version_index.specs.Notes.{complete_at}
+use Rattle.version_index.proofs.OfTables.BaseTables.{given}
 use Rattle.version_index.proofs.OfTables.FoundIn.{found_in_nil, found_in_push}
 
 abbrev pub numbered_complete : ℕ × Seen → Option ℕ

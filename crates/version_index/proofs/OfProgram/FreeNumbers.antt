@@ -1,17 +1,8 @@
 -- Where a slot is blank, a number has no record.
-use Rattle.std.proofs.Common.{◌≡◌, ℕ, zero, suc, ◌+◌, ◌<◌, ◌≤◌, ◌⊎◌, Bool, not, eqb, List, [], ◌∷◌, length, map, filter, Contains, Option, Some, None, refl}
-use Rattle.std.proofs.Common.{sym, ap, ◌∙◌, subst, inl, inr, arith, eq-eqb, ne_eqb}
-use Rattle.std.proofs.lemmas.Bool.{cases_lt, cases_eq}
-use Rattle.std.proofs.lemmas.List.{length-map, get_or_past}
-use Rattle.std.proofs.lemmas.List.Elements.{Contains-get_or}
-use Rattle.list_facts.proofs.Membership.{in_filter, map_in}
-use Rattle.list_facts.proofs.Ranges.{fewer}
-use Rattle.tx_types.specs.declared.record.Rec.{Rec}
-use Rattle.slot_tables.specs.declared.slots.SlotUse.{SlotUse}
+use Rattle.version_index.proofs.Common.{◌≡◌, ℕ, zero, suc, ◌+◌, ◌<◌, ◌≤◌, ◌⊎◌, Bool, not, eqb, List, [], ◌∷◌, length, map, filter, Contains, Option, Some, None, refl, sym, ap, ◌∙◌, subst, inl, inr, arith, eq-eqb, ne_eqb, cases_lt, cases_eq, length-map, get_or_past, Contains-get_or, in_filter, Rec, SlotUse, TablesState, use_at, record_at, HasFree, AreHeld}
+use Rattle.list_lemmas.proofs.Membership.{map_in}
+use Rattle.list_lemmas.proofs.Ranges.{fewer}
 use Rattle.slot_tables.specs.declared.slots.SlotUse.TheVariants as slot
-use Rattle.slot_tables.specs.Kept.{Kept, use_at, record_at}
-use Rattle.slot_tables.specs.Versions.{HasFree}
-use Rattle.version_index.specs.Tables.{AreHeld}
 
 -- a list with each number below n has at least n items
 pub covers : (n : ℕ) (xs : List ℕ) → ((x : ℕ) → x < n → Contains xs x) → n ≤ length xs
@@ -42,7 +33,7 @@ number_or none slot.Blank = none
 number_or none slot.Damaged = none
 number_or none (slot.Holds x) = x
 
-pub has_free : (k : Kept) → AreHeld k → length k.records ≡ length k.slots → (at : ℕ) → at < length k.slots →
+pub has_free : (k : TablesState) → AreHeld k → length k.records ≡ length k.slots → (at : ℕ) → at < length k.slots →
     use_at k.slots at ≡ slot.Blank → HasFree k.records
 unfolding number_or
 has_free k h sizes at within blank = elim (find_free k.records) [

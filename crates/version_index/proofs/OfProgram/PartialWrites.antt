@@ -1,25 +1,14 @@
 -- A noted record that leaves its cycle open: nothing that was judged moves, and the record waits.
-use Rattle.std.proofs.Common.{◌≡◌, ℕ, ◌<◌, false, Any, length, refl, sym, subst, arith}
-use Rattle.list_facts.proofs.Membership.{all_from}
-use Rattle.tx_types.specs.declared.record.Rec.{Rec}
-use Rattle.tx_types.specs.declared.config.Protocol.{Protocol}
-use Rattle.tx_types.specs.Config.{shape_of, slots_of}
-use Rattle.record_list.specs.Records.{newest, name_of, is_present}
-use Rattle.record_list.specs.SoundList.{IsSoundList}
-use Rattle.record_list.specs.Changes.{PartialWriteLaw, PartialWriteKeeps}
-use Rattle.record_list.proofs.OfFacts.SoundNames.{sound_map}
-use Rattle.record_list.proofs.OfWalks.Rounds.{follows_in}
+use Rattle.version_index.proofs.Common.{◌≡◌, ℕ, ◌<◌, false, Any, length, refl, sym, subst, arith, all_from, Rec, Protocol, shape_of, slots_of, newest, name_of, is_present, IsSoundList, PartialWriteLaw, sound_map, follows_in, Blank, note_at, found_in, IndexState, IsNoted, IsNextRecord, programmed, current_of, IsDerivedAlike}
+use Rattle.record_list.specs.Changes.{PartialWriteKeeps}
 use Rattle.record_list.proofs.OfChanges.Progress.{underway_of, absent_name, name_ahead, name_loose}
-use Rattle.version_index.specs.declared.note.Note.TheVariants.{Blank}
-use Rattle.version_index.specs.Notes.{note_at, found_in}
-use Rattle.version_index.specs.Noted.{Noted, IsNoted, IsNextRecord, programmed, current_of}
-use Rattle.version_index.specs.Judged.{IsJudgedAlike, IsNewlyLoose}
-use Rattle.version_index.specs.JudgedChanges.{IsOpenWrite}
+use Rattle.version_index.specs.Derived.{IsNewlyLoose}
+use Rattle.version_index.specs.DerivedChanges.{IsOpenWrite}
 use Rattle.version_index.proofs.OfTables.FoundIn.{found}
 use Rattle.version_index.proofs.OfChanges.NotedChanges.{next_write, next_follows}
-use Rattle.version_index.proofs.OfTables.Judged.{all_alike, judged_alike, newly_loose}
+use Rattle.version_index.proofs.OfTables.Derived.{all_alike, derived_alike, newly_loose}
 
-module _ (protocol : Protocol) (n : Noted) (k : IsNoted protocol n) where
+module _ (protocol : Protocol) (n : IndexState) (k : IsNoted protocol n) where
   -- the list keeps the laws of the protocol that is configured
   pub configured : IsSoundList n.config.protocol (found_in n.notes) n.config.logical
   configured = subst (λ p. IsSoundList p (found_in n.notes) n.config.logical) (sym k.rule) k.sound
@@ -45,8 +34,8 @@ module _ (protocol : Protocol) (n : Noted) (k : IsNoted protocol n) where
       record {
         nothing_moves = record {
           currents = keeps.same_current;
-          records = all_from (λ f. IsJudgedAlike n m f.rec) l' (λ f i.
-              judged_alike n m f.rec refl (all_alike p l l' logical keeps.same_current keeps.responsible keeps.sound f i));
+          records = all_from (λ f. IsDerivedAlike n m f.rec) l' (λ f i.
+              derived_alike n m f.rec refl (all_alike p l l' logical keeps.same_current keeps.responsible keeps.sound f i));
         };
         new = newly_loose m rec
             (name_loose l' logical next.names underway p map' gone.0 gone.1 gone.2 (name_of rec) next.named)

@@ -1,11 +1,7 @@
 -- The first number of a range that passes two tests.
-use Rattle.std.proofs.Common.{◌≡◌, ℕ, zero, suc, ◌+◌, ◌<◌, ◌≤◌, Bool, true, false, List, [], ◌∷◌, filter, find, Some, None, refl, sym, ap, ◌∙◌, inl, inr, arith}
-use Rattle.std.specs.List.{range_with_len, slice_get}
-use Rattle.std.proofs.lemmas.Bool.{false≢true, cases_Bool, cases_eq, cond-true, cond-false}
-use Rattle.std.proofs.lemmas.Option.{none-some, same_Some}
-use Rattle.list_facts.proofs.Membership.{in_filter, from_filter}
-use Rattle.list_facts.proofs.Ranges.{in_range}
-use Rattle.list_facts.proofs.Tests.{find_stands, none_found}
+use Rattle.version_index.proofs.Common.{◌≡◌, ℕ, zero, suc, ◌+◌, ◌<◌, ◌≤◌, Bool, true, false, List, [], ◌∷◌, filter, find, Some, None, refl, sym, ap, ◌∙◌, inl, inr, arith, range_with_len, slice_get, false≢true, cases_Bool, cases_eq, cond-true, cond-false, none-some, same_Some, in_filter, from_filter, find_stands}
+use Rattle.list_lemmas.proofs.Ranges.{in_range}
+use Rattle.list_lemmas.proofs.Tests.{none_found}
 
 -- the first item is the first that passes where each passes
 pub head_find : {X : Type 0} (xs : List X) → slice_get xs 0 ≡ find (λ _. true) xs

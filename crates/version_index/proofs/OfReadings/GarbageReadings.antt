@@ -1,12 +1,7 @@
 -- The garbage of a block by its needed and its blank slots.
-use Rattle.std.proofs.Common.{◌≡◌, ℕ, zero, suc, ◌+◌, ◌*◌, Bool, true, false, not, ◌||◌, count_by, None, refl, ap, ◌∙◌, arith}
-use Rattle.std.specs.List.{range_with_len}
-use Rattle.list_facts.proofs.Counts.{one_of, count_first}
-use Rattle.record_list.specs.Written.{is_slot}
-use Rattle.version_index.specs.declared.note.Note.{Note}
-use Rattle.version_index.specs.declared.note.Note.TheVariants.{Blank, Damaged, Holds}
-use Rattle.version_index.specs.Notes.{note_at, rec_of}
-use Rattle.version_index.specs.Noted.{Noted, garbage_of, is_garbage_at, shut_or_part, is_blank, needed_of}
+use Rattle.version_index.proofs.Common.{◌≡◌, ℕ, zero, suc, ◌+◌, ◌*◌, Bool, true, false, not, ◌||◌, count_by, None, refl, ap, ◌∙◌, arith, range_with_len, is_slot, Note, Blank, Damaged, Holds, note_at, rec_of, IndexState, garbage_of, is_garbage_at, shut_or_part, needed_of}
+use Rattle.list_lemmas.proofs.Counts.{one_of, count_first}
+use Rattle.version_index.specs.IndexState.{is_blank}
 use Rattle.version_index.proofs.OfTables.NotedFacts.{other_garbage}
 use Rattle.version_index.proofs.OfReadings.Readings.{unneeded_reading}
 
@@ -42,7 +37,7 @@ one_way false true h = omega arith
 one_way false false h = omega arith
 one_way true needed h = let none = ap one_of (h refl) in omega arith
 
-module _ (n : Noted) (block : ℕ) (other : is_slot block n.spare ≡ false) where
+module _ (n : IndexState) (block : ℕ) (other : is_slot block n.spare ≡ false) where
   -- each slot of a block that is shut is needed or garbage
   pub garbage_shut : garbage_of n block true + count_by (needed_of n)
       (range_with_len (block * n.config.pages_per_block) n.config.pages_per_block) ≡ n.config.pages_per_block

@@ -1,24 +1,9 @@
 -- Where the record of a number is read: its home, and its lowest slot outside a block.
-use Rattle.std.proofs.Common.{◌≡◌, ℕ, ◌<◌, Bool, true, eqb, ◌&&◌, List, length, find, Some, None, refl, sym, ap, ◌∙◌, inl, inr, arith, eq-eqb, eqb-true}
-use Rattle.std.specs.List.{slice_get}
-use Rattle.std.specs.Option.{option_or}
-use Rattle.std.proofs.lemmas.Bool.{false≢true, cases_Bool, and_from, and_parts, and_left, and_right}
-use Rattle.list_facts.proofs.Options.{cases_Option}
-use Rattle.tx_types.specs.declared.record.Rec.{Rec}
-use Rattle.tx_types.specs.declared.config.Config.{Config}
-use Rattle.tx_types.specs.Config.{shape_of}
-use Rattle.record_list.specs.Records.{name_of, has_name}
-use Rattle.record_list.specs.Written.{is_outside, is_outside_spare}
-use Rattle.record_list.proofs.OfFacts.Names.{has_name_true}
-use Rattle.slot_tables.specs.declared.slots.SlotUse.{SlotUse}
+use Rattle.version_index.proofs.Common.{◌≡◌, ℕ, ◌<◌, Bool, true, eqb, ◌&&◌, List, length, find, Some, None, refl, sym, ap, ◌∙◌, inl, inr, arith, eq-eqb, eqb-true, slice_get, option_or, false≢true, cases_Bool, and_from, and_parts, and_left, and_right, cases_Option, Rec, Config, shape_of, name_of, has_name, is_outside, is_outside_spare, has_name_true, SlotUse, TablesState, use_at, holds, copies_of, note_at, home_of, slot_off, rec_at, notes_in, noted_by, AreHeld}
 use Rattle.slot_tables.specs.declared.slots.SlotUse.TheVariants as slot
-use Rattle.slot_tables.specs.Kept.{Kept, use_at, holds, copies_of, home_in}
+use Rattle.slot_tables.specs.TablesState.{home_in}
 use Rattle.version_index.specs.declared.note.Note.TheVariants as note
-use Rattle.version_index.specs.Notes.{note_at}
-use Rattle.version_index.specs.Noted.{home_of, slot_off}
-use Rattle.version_index.specs.Judged.{IsLowestSlot, HasNoSlot}
-use Rattle.version_index.specs.Numbered.{rec_at}
-use Rattle.version_index.specs.Tables.{notes_in, noted_by, AreHeld}
+use Rattle.version_index.specs.Derived.{IsLowestSlot, HasNoSlot}
 use Rattle.version_index.proofs.OfReadings.Firsts.{head_find, first_passed, none_passed}
 use Rattle.version_index.proofs.OfTables.FoundIn.{holds_within}
 use Rattle.version_index.proofs.OfTables.KeptNotes.{note_held, held_number, length-notes}
@@ -33,7 +18,7 @@ holds_use x (slot.Holds y) e = ap slot.Holds (eqb-true y x e)
 pub use_holds : (x : ℕ) (u : SlotUse) → u ≡ slot.Holds x → holds x u ≡ true
 use_holds x u e = ap (holds x) e ∙ eq-eqb x x refl
 
-module _ (its : Config) (m : List ℕ) (k : Kept) (h : AreHeld k) (x : ℕ) (r : Rec) (is : rec_at k.records x ≡ Some r) where
+module _ (its : Config) (m : List ℕ) (k : TablesState) (h : AreHeld k) (x : ℕ) (r : Rec) (is : rec_at k.records x ≡ Some r) where
   -- a slot with the name of its record holds the number
   number_slot : (at : ℕ) (s : Rec) → note_at (notes_in k) at ≡ note.Holds s → has_name (name_of r) s ≡ true →
       (at < length k.slots) × (holds x (use_at k.slots at) ≡ true)

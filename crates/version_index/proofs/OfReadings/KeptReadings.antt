@@ -1,37 +1,20 @@
 -- What is read of the tables, by what was noted.
-use Rattle.std.proofs.Common.{◌≡◌, ℕ, ◌<◌, Bool, true, false, eqb, ◌&&◌, ◌||◌, cond, List, [], ◌∷◌, ◌+◌, ◌*◌, ap₂, length, get_or, count_by, find, Option, Some}
-use Rattle.std.proofs.Common.{None, refl, sym, ap, ◌∙◌, inl, inr, eq-eqb, eqb-true}
-use Rattle.std.specs.List.{range_with_len, list_any}
-use Rattle.std.specs.Option.{option_map_or, option_and_then}
-use Rattle.std.proofs.lemmas.Bool.{false≢true, cases_Bool, cases_lt, and_left}
-use Rattle.std.proofs.lemmas.Option.{none-some}
-use Rattle.std.proofs.lemmas.List.{get_or_past}
-use Rattle.std.proofs.lemmas.List.Elements.{All-contains, Contains-get_or, at_from_Contains}
+use Rattle.version_index.proofs.Common.{◌≡◌, ℕ, ◌<◌, Bool, true, false, eqb, ◌&&◌, ◌||◌, cond, List, [], ◌∷◌, ◌+◌, ◌*◌, ap₂, length, get_or, count_by, find, Option, Some, None, refl, sym, ap, ◌∙◌, inl, inr, eq-eqb, eqb-true, range_with_len, list_any, option_map_or, false≢true, cases_Bool, cases_lt, and_left, none-some, get_or_past, All-contains, Contains-get_or, at_from_Contains, cases_Option, any_of, any_from, Rec, Config, Protocol, Shape, shape_of, name_of, has_name, is_outside, is_slot, has_name_true, present_as, SlotUse, TablesState, use_at, copies_of, number_in, is_number, note_at, rec_of, found_in, current_of, current_name_of, discarded_of, home_of, slot_off, held_of, needed_of, name_at, rec_at, named, version_at, note_in, notes_in, noted_by, numbered_of, AreIndexed}
+use Rattle.std.specs.Option.{option_and_then}
 use Rattle.std.proofs.lemmas.List.Sums.{sum_by-cons}
-use Rattle.list_facts.proofs.Options.{cases_Option}
-use Rattle.list_facts.proofs.Tests.{any_of, any_from}
-use Rattle.list_facts.proofs.Values.{one_test}
-use Rattle.tx_types.specs.declared.record.Rec.{Rec}
-use Rattle.tx_types.specs.declared.config.Config.{Config}
-use Rattle.tx_types.specs.declared.config.Protocol.{Protocol}
-use Rattle.tx_types.specs.declared.config.Shape.{Shape}
-use Rattle.tx_types.specs.Config.{shape_of}
-use Rattle.record_list.specs.Records.{name_of, has_name}
-use Rattle.record_list.specs.Written.{is_outside, is_slot, is_garbage}
-use Rattle.record_list.proofs.OfFacts.Names.{absent_record, has_name_true, present_as}
-use Rattle.slot_tables.specs.declared.slots.SlotUse.{SlotUse}
+use Rattle.list_lemmas.proofs.Values.{one_test}
+use Rattle.record_list.specs.Written.{is_garbage}
+use Rattle.record_list.proofs.OfFacts.Names.{absent_record}
 use Rattle.slot_tables.specs.declared.slots.SlotUse.TheVariants as slot
 use Rattle.version_index.specs.declared.note.Note.TheVariants as note
-use Rattle.version_index.specs.Noted as noted
-use Rattle.slot_tables.specs.Kept.{Kept, is_blank, is_garbage_at, garbage_of, shut_or_part, use_at, copies_of, home, copy_off, is_wanted, is_wanted_as}
-use Rattle.slot_tables.specs.Kept.{is_needed, is_needed_for, number_in, is_answerer, is_number}
-use Rattle.version_index.specs.Notes.{note_at, rec_of, found_in}
-use Rattle.version_index.specs.Noted.{current_of, current_name_of, discarded_of, home_of, slot_off, held_of, needed_of}
-use Rattle.version_index.specs.Judged.{name_at, wanted_of}
-use Rattle.version_index.specs.Numbered.{rec_at, number_at, named}
-use Rattle.version_index.specs.Tables.{discard_at, version_at, note_in, notes_in, noted_by, numbered_of, AreIndexed}
+use Rattle.version_index.specs.IndexState as noted
+use Rattle.slot_tables.specs.TablesState.{is_blank, is_garbage_at, garbage_of, shut_or_part, home, copy_off, is_wanted, is_wanted_as}
+use Rattle.slot_tables.specs.TablesState.{is_needed, is_needed_for, is_answerer}
+use Rattle.version_index.specs.Derived.{wanted_of}
+use Rattle.version_index.specs.Numbered.{number_at}
+use Rattle.version_index.specs.Tables.{discard_at}
 use Rattle.version_index.proofs.OfTables.FoundIn.{found, noted_in, holds_within}
-use Rattle.version_index.proofs.OfTables.Judged.{name_at_is}
+use Rattle.version_index.proofs.OfTables.Derived.{name_at_is}
 use Rattle.version_index.proofs.OfReadings.KeptHomes.{kept_home, kept_off}
 use Rattle.version_index.proofs.OfTables.KeptNotes.{note_by, note_held, kept_found, numbering}
 use Rattle.version_index.proofs.OfReadings.LowestSlots.{off_none}
@@ -67,7 +50,7 @@ count_same p q (x ∷ xs) h = sum_by-cons (λ y. cond (p y) 1 0) x xs ∙ ap₂ 
     ∙ sym (sum_by-cons (λ y. cond (q y) 1 0) x xs)
 
 -- a slot is blank where it is noted so
-pub blank_reading : (k : Kept) (at : ℕ) → is_blank (use_at k.slots at) ≡ noted.is_blank (note_at (notes_in k) at)
+pub blank_reading : (k : TablesState) (at : ℕ) → is_blank (use_at k.slots at) ≡ noted.is_blank (note_at (notes_in k) at)
 blank_reading k at = of_use (use_at k.slots at) ∙ ap noted.is_blank (sym (note_by k at))
   where
     of_use : (u : SlotUse) → is_blank u ≡ noted.is_blank (note_in k.records u)
@@ -79,12 +62,12 @@ blank_reading k at = of_use (use_at k.slots at) ∙ ap noted.is_blank (sym (note
     ]
 
 -- the record of a page's current number
-pub record IsCurrentRecord (k : Kept) (page version x : ℕ) : Type 0 where
+pub record IsCurrentRecord (k : TablesState) (page version x : ℕ) : Type 0 where
   pub rec : Rec
   pub is : rec_at k.records x ≡ Some rec
   pub name : name_of rec ≡ record { page = page; version = version }
 
-module _ (protocol : Protocol) (its : Config) (m : List ℕ) (k : Kept) (i : AreIndexed protocol its m k) where
+module _ (protocol : Protocol) (its : Config) (m : List ℕ) (k : TablesState) (i : AreIndexed protocol its m k) where
   pub current_record : (page x : ℕ) → page < its.logical → number_at k.current page ≡ Some x →
       IsCurrentRecord k page (current_of (noted_by its m k) page) x
   current_record page x below e =

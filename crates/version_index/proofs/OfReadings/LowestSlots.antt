@@ -1,19 +1,6 @@
 -- The lowest slot that holds a record which passes a test: homes, and the lowest block that must go.
-use Rattle.std.proofs.Common.{◌≡◌, ℕ, ◌<◌, ◌≤◌, ◌/◌, Bool, true, false, ◌&&◌, List, [], ◌∷◌, find, None, Some, AllPairs, Contains, refl, sym, ap, ◌∙◌, inl, inr}
-use Rattle.std.proofs.Common.{arith}
-use Rattle.std.specs.Option.{option_map, option_or}
-use Rattle.std.proofs.lemmas.Bool.{false≢true, cases_Bool, cond-true, cond-false}
-use Rattle.list_facts.proofs.Membership.{Contains-cases, Contains-first, Contains-nil, Contains-rest}
-use Rattle.list_facts.proofs.Pairs.{pairs_head, pairs_tail}
-use Rattle.tx_types.specs.declared.record.Link.{Link}
-use Rattle.tx_types.specs.Config.{shape_of}
-use Rattle.record_list.specs.declared.found.Found.{Found}
-use Rattle.record_list.specs.Records.{has_name}
-use Rattle.record_list.specs.Current.{must_go}
-use Rattle.record_list.specs.Written.{first_slot, is_outside, is_outside_spare}
-use Rattle.version_index.specs.Notes.{found_in}
-use Rattle.version_index.specs.Noted.{Noted, home_of, slot_off, block_to_go}
-use Rattle.version_index.specs.Judged.{goes_of, IsLowestSlot, HasNoSlot}
+use Rattle.version_index.proofs.Common.{◌≡◌, ℕ, ◌<◌, ◌≤◌, ◌/◌, Bool, true, false, ◌&&◌, List, [], ◌∷◌, find, None, Some, AllPairs, Contains, refl, sym, ap, ◌∙◌, inl, inr, arith, option_map, option_or, false≢true, cases_Bool, cond-true, cond-false, Contains-cases, Contains-first, Contains-nil, Contains-rest, pairs_head, pairs_tail, Link, shape_of, Found, has_name, must_go, first_slot, is_outside, is_outside_spare, found_in, IndexState, home_of, slot_off, block_to_go, goes_of}
+use Rattle.version_index.specs.Derived.{IsLowestSlot, HasNoSlot}
 use Rattle.version_index.proofs.OfTables.FoundIn.{found, found_in_ascending, noted_from, noted_in, holds_within}
 
 -- the first slot that passes, in the order of slots, is the lowest
@@ -44,7 +31,7 @@ first_none test (x ∷ xs) h =
     ap (option_map (λ g. g.slot.0)) (cond-false (test x) (Some x) (find test xs) (h x (Contains-first x xs)))
     ∙ first_none test xs (λ g j. h g (Contains-rest x xs g j))
 
-module _ (n : Noted) (test : Found → Bool) where
+module _ (n : IndexState) (test : Found → Bool) where
   -- the same of the slots that are noted
   pub lowest_slot : (at : ℕ) → IsLowestSlot n test at → first_slot test (found_in n.notes) ≡ Some at
   lowest_slot at s =
@@ -55,7 +42,7 @@ module _ (n : Noted) (test : Found → Bool) where
   pub no_slot : HasNoSlot n test → first_slot test (found_in n.notes) ≡ None
   no_slot none = first_none test (found_in n.notes) (λ g i. none g.slot.0 g.rec (noted_from n.notes g i).1)
 
-module _ (n : Noted) (name : Link) where
+module _ (n : IndexState) (name : Link) where
   -- the lowest slot of a name outside the spare is its home
   pub home_outside : (at : ℕ) → IsLowestSlot n (λ f. has_name name f.rec && is_outside_spare (shape_of n.config) n.spare f.slot.0) at →
       home_of n name ≡ Some at
@@ -83,7 +70,7 @@ module _ (n : Noted) (name : Link) where
   unfolding slot_off
   off_none block none = no_slot n (λ f. has_name name f.rec && is_outside (shape_of n.config) block f.slot.0) none
 
-module _ (n : Noted) (page below : ℕ) where
+module _ (n : IndexState) (page below : ℕ) where
   -- the block of the lowest slot with a record that must go
   pub lowest_to_go : (at : ℕ) → IsLowestSlot n (λ f. goes_of n page below f.rec) at → block_to_go n page below ≡ Some (at / n.config.pages_per_block)
   unfolding block_to_go goes_of

@@ -1,26 +1,12 @@
 -- The blocks with the most garbage, by the numbers of the tables.
-use Rattle.std.proofs.Common.{◌≡◌, ℕ, ◌+◌, ◌-◌, ◌*◌, ◌<◌, ◌≤◌, ◌↔◌, Bool, true, false, not, ◌||◌, cond, List, length, get_or, count_by, All, Option}
-use Rattle.std.proofs.Common.{Some, None, IsNone, IfSome, refl, sym, ap, ◌∙◌, subst, inl, inr, arith}
-use Rattle.std.specs.List.{range_with_len}
-use Rattle.std.proofs.lemmas.Bool.{false≢true, cases_lt}
-use Rattle.std.proofs.lemmas.List.Elements.{All-contains, Contains-get_or, at_from_Contains}
-use Rattle.std.proofs.lemmas.List.FromFn.{length-map-range_with_len, get_or-map-range_with_len}
-use Rattle.list_facts.proofs.Counts.{count_more}
-use Rattle.list_facts.proofs.Membership.{all_from}
-use Rattle.tx_types.specs.declared.config.Block.{Block}
-use Rattle.tx_types.specs.declared.config.Config.{Config}
-use Rattle.tx_types.specs.declared.config.Protocol.{Protocol}
-use Rattle.tx_types.specs.declared.config.Shape.{Shape}
-use Rattle.tx_types.specs.Config.{shape_of, blocks_of}
-use Rattle.record_list.specs.Written.{is_slot}
-use Rattle.plain_tables.specs.Greatest.{greatest, group_of, IsFirstGreatest}
-use Rattle.plain_tables.proofs.GreatestNumbers.{at_most_greatest, greatest_stands, length-group, get_or-group}
-use Rattle.slot_tables.specs.Kept as kept
-use Rattle.slot_tables.specs.Kept.{Kept, use_at, garbage_numbers}
-use Rattle.version_index.specs.Notes.{note_at}
-use Rattle.version_index.specs.Noted.{Noted, garbage_of, is_garbage_at, shut_or_part, is_blank, needed_of, blanks_of, HasMostGarbage, FindsMostGarbage, IsAmong}
-use Rattle.version_index.specs.Noted.{IsMostAmong}
-use Rattle.version_index.specs.Tables.{notes_in, noted_by, AreIndexed}
+use Rattle.version_index.proofs.Common.{◌≡◌, ℕ, ◌+◌, ◌-◌, ◌*◌, ◌<◌, ◌≤◌, ◌↔◌, Bool, true, false, not, ◌||◌, cond, List, length, get_or, count_by, All, Option, Some, None, IfSome, refl, sym, ap, ◌∙◌, subst, inl, inr, arith, range_with_len, false≢true, cases_lt, All-contains, Contains-get_or, at_from_Contains, length-map-range_with_len, get_or-map-range_with_len, all_from, Block, Config, Protocol, Shape, shape_of, blocks_of, is_slot, TablesState, use_at, note_at, IndexState, garbage_of, is_garbage_at, shut_or_part, needed_of, IsMostAmong, notes_in, noted_by, AreIndexed}
+use Rattle.std.proofs.Common.{IsNone}
+use Rattle.list_lemmas.proofs.Counts.{count_more}
+use Rattle.dense_tables.specs.Greatest.{greatest, group_of, IsFirstGreatest}
+use Rattle.dense_tables.proofs.GreatestNumbers.{at_most_greatest, greatest_stands, length-group, get_or-group}
+use Rattle.slot_tables.specs.TablesState as kept
+use Rattle.slot_tables.specs.TablesState.{garbage_numbers}
+use Rattle.version_index.specs.IndexState.{is_blank, blanks_of, HasMostGarbage, FindsMostGarbage, IsAmong}
 use Rattle.version_index.proofs.OfReadings.KeptReadings.{count_same, blank_reading, read_garbage}
 
 part_shut : (blank needed : Bool) → not (blank || needed) ≡ true → not needed ≡ true
@@ -28,7 +14,7 @@ part_shut true needed e = absurd (false≢true e)
 part_shut false needed e = e
 
 -- a block that is not shut has no more garbage than if it were
-pub shut_most : (n : Noted) (block : ℕ) (shut : Bool) → garbage_of n block shut ≤ garbage_of n block true
+pub shut_most : (n : IndexState) (block : ℕ) (shut : Bool) → garbage_of n block shut ≤ garbage_of n block true
 unfolding garbage_of
 shut_most n block true = omega arith
 shut_most n block false = by_spare (is_slot block n.spare)
@@ -44,7 +30,7 @@ shut_most n block false = by_spare (is_slot block n.spare)
     by_spare true = omega arith
     by_spare false = more
 
-module _ (protocol : Protocol) (its : Config) (m : List ℕ) (k : Kept) (i : AreIndexed protocol its m k) where
+module _ (protocol : Protocol) (its : Config) (m : List ℕ) (k : TablesState) (i : AreIndexed protocol its m k) where
   -- as many slots of a block are blank
   pub read_blanks : (block : ℕ) → kept.blanks_of k block ≡ blanks_of (noted_by its m k) block
   unfolding kept.blanks_of blanks_of
@@ -110,9 +96,9 @@ module _ (protocol : Protocol) (its : Config) (m : List ℕ) (k : Kept) (i : Are
   finds_most (Some block) none first = first_most block.0 (λ all. false≢true (sym (none.1 all))) first
 
   -- and of a group of blocks
-  pub most_among : (size group most : ℕ) → 0 < size → size * group < blocks_of (shape_of its)
+  pub most_garbage_among : (size group most : ℕ) → 0 < size → size * group < blocks_of (shape_of its)
       → most ≡ greatest (group_of size (garbage_numbers k) group) → IsMostAmong (noted_by its m k) size group most
-  most_among size group most some below is =
+  most_garbage_among size group most some below is =
       let n = noted_by its m k in
       let all = garbage_numbers k in
       let xs = group_of size all group in

@@ -1,36 +1,21 @@
 -- What is read by numbers, where they keep what is judged by names.
-use Rattle.std.proofs.Common.{◌≡◌, ℕ, ◌<◌, ◌≤◌, true, ◌↔◌, Contains, Option, Some, None, sym, ap, ◌∙◌, subst, inl, inr, arith}
-use Rattle.std.specs.Option.{option_map}
-use Rattle.std.proofs.lemmas.Bool.{cases_Bool, cases_lt, cond-true, cond-false}
-use Rattle.std.proofs.lemmas.Option.{none-some, same_Some}
-use Rattle.std.proofs.lemmas.List.Elements.{All-contains}
-use Rattle.list_facts.proofs.Membership.{in_any, any_in}
-use Rattle.list_facts.proofs.Options.{cases_Option}
-use Rattle.tx_types.specs.declared.record.Link.{Link}
-use Rattle.tx_types.specs.declared.record.Rec.{Rec}
-use Rattle.tx_types.specs.declared.config.Protocol.{Protocol}
-use Rattle.record_list.specs.declared.found.Found.{Found}
-use Rattle.record_list.specs.Records.{name_of}
-use Rattle.record_list.specs.SoundList.{Pages, PagesExist}
-use Rattle.version_index.specs.Notes.{found_in}
-use Rattle.version_index.specs.Noted.{Noted, IsNoted, current_of, held_of}
-use Rattle.version_index.specs.Judged.{name_at, answerer_of, waits_of, AnswersForSome}
-use Rattle.version_index.specs.JudgedChanges.{judged_of}
-use Rattle.version_index.specs.Numbered.{Numbered, rec_at, number_at, named, AreJudged}
-use Rattle.version_index.proofs.OfTables.Judged.{name_at_some, name_at_is}
+use Rattle.version_index.proofs.Common.{◌≡◌, ℕ, ◌<◌, ◌≤◌, true, ◌↔◌, Contains, Option, Some, None, sym, ap, ◌∙◌, subst, inl, inr, arith, option_map, cases_Bool, cases_lt, cond-true, cond-false, none-some, same_Some, All-contains, in_any, any_in, cases_Option, Link, Rec, Protocol, Found, name_of, Pages, PagesExist, found_in, IndexState, IsNoted, current_of, held_of, name_at, answerer_of, waits_of, derived_of, rec_at, named, AreDerived}
+use Rattle.version_index.specs.Derived.{AnswersForSome}
+use Rattle.version_index.specs.Numbered.{Numbered, number_at}
+use Rattle.version_index.proofs.OfTables.Derived.{name_at_some, name_at_is}
 use Rattle.version_index.proofs.OfTables.Numbered.{AreNoted, named_some}
 use Rattle.version_index.proofs.OfReadings.Readings.{held_reading}
 
 -- each noted record has one number, and no other number has an answerer
-pub record IsNumbering (t : Numbered) (n : Noted) : Type 0 where
-  pub judged : AreJudged t n.config.logical (judged_of n)
+pub record IsNumbering (t : Numbered) (n : IndexState) : Type 0 where
+  pub judged : AreDerived t n.config.logical (derived_of n)
   pub noted : AreNoted t n
   pub each : (f : Found) → Contains (found_in n.notes) f → (x : ℕ) × (rec_at t.records x ≡ Some f.rec)
   pub once : (x y : ℕ) (r s : Rec) → rec_at t.records x ≡ Some r → rec_at t.records y ≡ Some s → name_of r ≡ name_of s → x ≡ y
   pub unused : (x : ℕ) → rec_at t.records x ≡ None → number_at t.answerers x ≡ None
 
 -- what stands for a name is the number of its record
-named_number : (t : Numbered) (n : Noted) → IsNumbering t n → (number : Option ℕ) (x : ℕ) (r : Rec) → rec_at t.records x ≡ Some r →
+named_number : (t : Numbered) (n : IndexState) → IsNumbering t n → (number : Option ℕ) (x : ℕ) (r : Rec) → rec_at t.records x ≡ Some r →
     named t.records number ≡ Some (Some (name_of r)) → number ≡ Some x
 named_number t n k None x r at e = absurd (none-some (Some (name_of r)) e)
 named_number t n k (Some z) x r at e =
@@ -44,7 +29,7 @@ number_named t number x r o at is e =
     let some = named_some t.records o x (ap (named t.records) (sym is) ∙ e) in
     some.2 ∙ ap (λ s. Some (name_of s)) (same_Some some.0 r (sym some.1 ∙ at))
 
-module _ (protocol : Protocol) (n : Noted) (k : IsNoted protocol n) (t : Numbered) (its : IsNumbering t n) (x : ℕ) (r : Rec)
+module _ (protocol : Protocol) (n : IndexState) (k : IsNoted protocol n) (t : Numbered) (its : IsNumbering t n) (x : ℕ) (r : Rec)
     (at : rec_at t.records x ≡ Some r) where
   -- the record is noted
   its_found : (f : Found) × Contains (found_in n.notes) f × (f.rec ≡ r)
@@ -101,7 +86,7 @@ module _ (protocol : Protocol) (n : Noted) (k : IsNoted protocol n) (t : Numbere
       )
 
 -- a page has no number as the current one exactly where it has no current version
-pub uncurrent_number : (t : Numbered) (n : Noted) → IsNumbering t n → (page : ℕ) → page < n.config.logical →
+pub uncurrent_number : (t : Numbered) (n : IndexState) → IsNumbering t n → (page : ℕ) → page < n.config.logical →
     (number_at t.current page ≡ None) ↔ (current_of n page ≡ 0)
 uncurrent_number t n its page below =
     let is = its.judged.current page below in (

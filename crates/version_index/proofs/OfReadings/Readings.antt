@@ -1,32 +1,16 @@
 -- What is read of noted records, by what is judged of them: held, wanted and needed ones, and those that must go.
-use Rattle.std.proofs.Common.{◌≡◌, ◌≢◌, ℕ, ◌<◌, ◌≤◌, Bool, true, false, eqb, ltb, ◌&&◌, ◌||◌, ◌↔◌, ◌⊎◌, List, get_or, All, Any, Contains, None, Some, sym, ap}
-use Rattle.std.proofs.Common.{◌∙◌, subst, inl, inr, arith, eqb-true, eq-eqb, ltb-true, lt-ltb}
-use Rattle.std.proofs.lemmas.Bool.{cond_both, and_parts, and_from, or_cases, or_left, or_right}
-use Rattle.std.proofs.lemmas.Option.{none-some}
-use Rattle.std.proofs.lemmas.List.Elements.{All-contains, at_from_Contains}
-use Rattle.list_facts.proofs.Membership.{all_from, any_in, in_any}
-use Rattle.tx_types.specs.declared.record.Rec.{Rec}
-use Rattle.tx_types.specs.declared.config.Protocol.{Protocol}
-use Rattle.tx_types.specs.declared.config.Protocol.TheVariants.{Scc, Bpcc}
-use Rattle.tx_types.specs.Config.{shape_of}
-use Rattle.record_list.specs.declared.found.Found.{Found}
-use Rattle.record_list.specs.Records.{nothing, version_of, newest, name_of, mentions_below}
-use Rattle.record_list.specs.Verdict.{record_named}
-use Rattle.record_list.specs.Current.{cur, is_loose, must_go, is_held}
-use Rattle.record_list.specs.SoundList.{Pages, PagesExist}
-use Rattle.record_list.specs.Written.{is_slot, is_wanted, home}
-use Rattle.record_list.proofs.OfFacts.Names.{present_in, newest_bound, greatest_least}
-use Rattle.record_list.proofs.OfFacts.SoundNames.{IsSoundMap}
+use Rattle.version_index.proofs.Common.{◌≡◌, ◌≢◌, ℕ, ◌<◌, ◌≤◌, Bool, true, false, eqb, ltb, ◌&&◌, ◌||◌, ◌↔◌, ◌⊎◌, List, get_or, All, Any, Contains, None, Some, sym, ap, ◌∙◌, subst, inl, inr, arith, eqb-true, eq-eqb, ltb-true, lt-ltb, cond_both, and_parts, and_from, or_cases, none-some, All-contains, at_from_Contains, all_from, any_in, in_any, Rec, Protocol, Scc, Bpcc, shape_of, Found, nothing, newest, name_of, record_named, cur, is_loose, must_go, is_held, Pages, PagesExist, is_slot, home, present_in, newest_bound, greatest_least, IsSoundMap, Holds, note_at, rec_of, found_in, IndexState, IsNoted, current_of, held_of, home_of, needed_of, loose_of, waits_of, answerer, answerer_of, is_waiting, goes_of}
+use Rattle.std.proofs.lemmas.Bool.{or_left, or_right}
+use Rattle.record_list.specs.Records.{version_of, mentions_below}
+use Rattle.record_list.specs.Written.{is_wanted}
 use Rattle.record_list.proofs.OfFacts.Facts.{scc_loose}
-use Rattle.version_index.specs.declared.note.Note.TheVariants.{Holds}
-use Rattle.version_index.specs.Notes.{note_at, rec_of, found_in}
-use Rattle.version_index.specs.Noted.{Noted, IsNoted, current_of, held_of, home_of, needed_of, pinned_names}
-use Rattle.version_index.specs.Judged.{loose_of, waits_of, answerer, answerer_of, is_waiting, wanted_of, goes_of, IsLooseTop, WaitsBelow, AnswersForSome}
+use Rattle.version_index.specs.IndexState.{pinned_names}
+use Rattle.version_index.specs.Derived.{wanted_of, IsNewestUncommitted, WaitsBelow, AnswersForSome}
 use Rattle.version_index.proofs.OfTables.FoundIn.{found, found_in_ascending, noted_from, noted_in, holds_within}
 use Rattle.version_index.proofs.OfTables.NotedFacts.{noted_map}
 use Rattle.version_index.proofs.OfChanges.Pins.{pinned_at_page}
 use Rattle.version_index.proofs.OfTables.Places.{needed_at, needed_none}
-use Rattle.version_index.proofs.OfTables.Judged.{held_answers, held_from}
+use Rattle.version_index.proofs.OfTables.Derived.{held_answers, held_from}
 
 -- which records must go under Simple Cyclic Commit
 must_go_scc : (l : List Found) (logical page below : ℕ) (f : Found) → Contains l f → must_go Scc l logical page below f.rec ≡ true →
@@ -47,7 +31,7 @@ must_go_scc l logical page below f i goes =
           inr (parts.0, eqb-true r.next.page page both.0, ltb-true r.next.version below both.1))
     ]
 
-module _ (n : Noted) where
+module _ (n : IndexState) where
   -- a slot with a record is needed where it is the record's home and the record is wanted
   pub needed_reading : (at : ℕ) (rec : Rec) → note_at n.notes at ≡ Holds rec →
       needed_of n at ≡ (is_slot at (home_of n (name_of rec)) && wanted_of n rec)
@@ -72,7 +56,7 @@ module _ (n : Noted) where
       let here = (noted_from n.notes f i).1 in
       none-some f.rec (sym none ∙ ap (λ s. rec_of (note_at n.notes s)) (sym e) ∙ ap rec_of here))
 
-module _ (protocol : Protocol) (n : Noted) (k : IsNoted protocol n) where
+module _ (protocol : Protocol) (n : IndexState) (k : IsNoted protocol n) where
   configured_map : IsSoundMap n.config.protocol (found_in n.notes) n.config.logical
   configured_map = subst (λ p. IsSoundMap p (found_in n.notes) n.config.logical) (sym k.rule) (noted_map protocol n k)
 
@@ -110,13 +94,13 @@ module _ (protocol : Protocol) (n : Noted) (k : IsNoted protocol n) where
   -- what must go under Simple Cyclic Commit: the newest record of the page, where it is loose and below, and those that
   -- wait for the page and link to it below
   pub going_reading : n.config.protocol ≡ Scc → (page below : ℕ) →
-      All (λ f. (goes_of n page below f.rec ≡ true) ↔ (IsLooseTop n page below f.rec ⊎ WaitsBelow n page below f.rec)) (found_in n.notes)
+      All (λ f. (goes_of n page below f.rec ≡ true) ↔ (IsNewestUncommitted n page below f.rec ⊎ WaitsBelow n page below f.rec)) (found_in n.notes)
   unfolding goes_of loose_of waits_of
   going_reading scc page below =
       let p = n.config.protocol in
       let l = found_in n.notes in
       let logical = n.config.logical in
-      all_from (λ f. (must_go p l logical page below f.rec ≡ true) ↔ (IsLooseTop n page below f.rec ⊎ WaitsBelow n page below f.rec)) l (λ f i.
+      all_from (λ f. (must_go p l logical page below f.rec ≡ true) ↔ (IsNewestUncommitted n page below f.rec ⊎ WaitsBelow n page below f.rec)) l (λ f i.
       let r = f.rec in (
         (λ goes. elim (must_go_scc l logical page below f i (subst (λ q. must_go q l logical page below r ≡ true) scc goes)) [
           | inl own ↦ inl (record { own_page = own.0; top = own.1; loose = subst (λ q. is_loose q l logical r ≡ true) (sym scc) own.2; low = own.3 })
@@ -157,7 +141,7 @@ newest_none l page none =
     (λ other. omega arith)) in
     omega arith
 
-module _ (protocol : Protocol) (n : Noted) (k : IsNoted protocol n) where
+module _ (protocol : Protocol) (n : IndexState) (k : IsNoted protocol n) where
   -- the record of a name is one, in whatever slots
   pub one_record : (at other : ℕ) (r s : Rec) → note_at n.notes at ≡ Holds r → note_at n.notes other ≡ Holds s → name_of r ≡ name_of s → r ≡ s
   one_record at other r s here there e =

@@ -1,13 +1,10 @@
 -- A list with the same item in each place of a block, and what its items give.
-use Rattle.std.proofs.Common.{◌≡◌, ◌≢◌, ℕ, ◌+◌, ◌*◌, ◌/◌, ◌<◌, ◌≤◌, Bool, true, false, not, List, ◌++◌, length, get_or, take, drop, replicate, filter, Option}
-use Rattle.std.proofs.Common.{Some, None, ◌⊎◌, refl, sym, ap, ◌∙◌, subst, inl, inr, arith, eqb, eqb-true, eq-eqb, length-append, length-drop, if◌then◌else◌}
-use Rattle.std.proofs.lemmas.Bool.{false≢true}
-use Rattle.std.proofs.lemmas.List.{length-take, length-replicate, places}
+use Rattle.version_index.proofs.Common.{◌≡◌, ◌≢◌, ℕ, ◌+◌, ◌*◌, ◌/◌, ◌<◌, ◌≤◌, Bool, true, false, not, List, ◌++◌, length, get_or, take, drop, replicate, filter, Option, Some, None, ◌⊎◌, refl, sym, ap, ◌∙◌, subst, inl, inr, arith, eqb, eqb-true, eq-eqb, if◌then◌else◌, false≢true, length-replicate, Shape, is_outside}
+use Rattle.std.proofs.Common.{length-append, length-drop}
+use Rattle.std.proofs.lemmas.List.{length-take, places}
 use Rattle.std.proofs.Math.Nat.{div-mul-le_self, lt-div-mul-add}
-use Rattle.tx_types.specs.declared.config.Shape.{Shape}
 use Rattle.flash_model.proofs.ImageLemmas.{outside_block}
-use Rattle.record_list.specs.Written.{is_outside}
-use Rattle.version_index.proofs.OfTables.Given.{given, chosen, given-chosen, given_same}
+use Rattle.version_index.proofs.OfTables.BaseTables.{given, chosen, given-chosen, given_same}
 
 -- a slot of another block, and one of this block, by test
 pub other_block : (a b : ℕ) (t : Bool) → eqb a b ≡ t → not t ≡ true → a ≢ b

@@ -1,19 +1,7 @@
 -- The noted records as notes are added and changed.
-use Rattle.std.proofs.Common.{◌≡◌, ℕ, ◌+◌, ◌*◌, ◌<◌, ◌≤◌, true, List, [], ◌∷◌, ◌++◌, length, set, take, AllPairs, Option, Some, None, is_some, IsSome, refl}
-use Rattle.std.proofs.Common.{sym, ap, ◌∙◌, subst, inl, inr, arith, Contains}
-use Rattle.std.specs.List.{cons_option}
-use Rattle.std.proofs.lemmas.Option.{none-some, same_Some}
-use Rattle.std.proofs.lemmas.List.{length-take-le, take_more, get_or_past}
-use Rattle.std.proofs.lemmas.Bool.{false≢true, cases_lt}
-use Rattle.tx_types.specs.declared.record.Rec.{Rec}
-use Rattle.tx_types.specs.declared.config.Shape.{Shape}
-use Rattle.record_list.specs.declared.found.Found.{Found}
-use Rattle.record_list.specs.Changes.{IsInserted, left}
-use Rattle.record_list.specs.Written.{is_outside}
-use Rattle.version_index.specs.declared.note.Note.{Note}
-use Rattle.version_index.specs.declared.note.Note.TheVariants.{Blank, Damaged, Holds}
-use Rattle.version_index.specs.Notes.{note_at, rec_of, found_at, found_in, with_block_noted}
-use Rattle.version_index.proofs.OfTables.Given.{given, given-push, given-inserted, given-unchanged, given_from, given_in, given_ascending}
+use Rattle.version_index.proofs.Common.{◌≡◌, ℕ, ◌+◌, ◌*◌, ◌<◌, ◌≤◌, true, List, [], ◌∷◌, ◌++◌, length, set, take, AllPairs, Option, Some, None, IsSome, refl, sym, ap, ◌∙◌, subst, inl, inr, arith, Contains, cons_option, none-some, same_Some, length-take-le, take_more, get_or_past, false≢true, cases_lt, Rec, Shape, Found, IsInserted, left, is_outside, Note, Blank, Damaged, Holds, note_at, rec_of, found_at, found_in, with_block_noted}
+use Rattle.std.proofs.Common.{is_some}
+use Rattle.version_index.proofs.OfTables.BaseTables.{given, given-push, given-inserted, given-unchanged, given_from, given_in, given_ascending}
 use Rattle.version_index.proofs.OfTables.Blocks.{given-with_item}
 
 -- a numbered note with its record

@@ -1,16 +1,6 @@
 -- Homes: a present name has one, and it holds the record of the name.
-use Rattle.std.proofs.Common.{◌≡◌, ℕ, Bool, true, false, ◌&&◌, List, [], ◌∷◌, find, Option, Some, None, ◌⊎◌, sym, ap, ◌∙◌, inl, inr, Contains}
-use Rattle.std.specs.Option.{option_map, option_or}
-use Rattle.std.proofs.lemmas.Bool.{false≢true, cases_Bool, cond-true, cond-false, and_parts, or_cases}
-use Rattle.std.proofs.lemmas.Option.{none-some, same_Some}
-use Rattle.list_facts.proofs.Membership.{Contains-first, Contains-rest}
-use Rattle.list_facts.proofs.Options.{cases_Option, option_or_none}
-use Rattle.tx_types.specs.declared.record.Link.{Link}
-use Rattle.tx_types.specs.declared.config.Shape.{Shape}
-use Rattle.record_list.specs.declared.found.Found.{Found}
-use Rattle.record_list.specs.Records.{has_name, is_present}
-use Rattle.record_list.specs.Written.{first_slot, home, is_outside_spare}
-use Rattle.record_list.proofs.OfFacts.Names.{has_name_true, present_as}
+use Rattle.version_index.proofs.Common.{◌≡◌, ℕ, Bool, true, false, ◌&&◌, List, [], ◌∷◌, find, Option, Some, None, ◌⊎◌, sym, ap, ◌∙◌, inl, inr, Contains, option_map, option_or, false≢true, cases_Bool, cond-true, cond-false, and_parts, or_cases, none-some, same_Some, Contains-first, Contains-rest, cases_Option, Link, Shape, Found, has_name, is_present, first_slot, home, is_outside_spare, has_name_true, present_as}
+use Rattle.list_lemmas.proofs.Options.{option_or_none}
 
 -- a record in a slot that passes a test
 pub record StandsAt (test : Found → Bool) (list : List Found) (at : ℕ) : Type 0 where

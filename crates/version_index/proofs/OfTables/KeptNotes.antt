@@ -1,32 +1,16 @@
 -- What tables of slots and records have noted, slot by slot and record by record.
-use Rattle.std.proofs.Common.{◌≡◌, ℕ, ◌<◌, ◌≤◌, arith, length, Contains, List, Any, Option, Some, refl, sym, ap, ◌∙◌, inl, inr}
-use Rattle.std.proofs.Math.ListN.{get_or-map}
-use Rattle.std.proofs.lemmas.List.{length-map}
-use Rattle.std.proofs.lemmas.List.Elements.{All-contains}
-use Rattle.std.specs.Option.{option_map_or}
-use Rattle.list_facts.proofs.Membership.{any_in}
-use Rattle.list_facts.proofs.Options.{cases_Option}
-use Rattle.tx_types.specs.declared.config.Config.{Config}
-use Rattle.tx_types.specs.declared.config.Protocol.{Protocol}
-use Rattle.tx_types.specs.declared.record.Rec.{Rec}
-use Rattle.record_list.specs.declared.found.Found.{Found}
-use Rattle.record_list.specs.Records.{IsScanned}
-use Rattle.slot_tables.specs.declared.slots.SlotUse.{SlotUse}
+use Rattle.version_index.proofs.Common.{◌≡◌, ℕ, ◌<◌, ◌≤◌, arith, length, Contains, List, Any, Option, Some, refl, sym, ap, ◌∙◌, inl, inr, get_or-map, length-map, All-contains, option_map_or, any_in, cases_Option, Config, Protocol, Rec, Found, IsScanned, SlotUse, TablesState, use_at, note_at, rec_of, found_in, rec_at, note_in, notes_in, noted_by, numbered_of, AreHeld, AreIndexed}
 use Rattle.slot_tables.specs.declared.slots.SlotUse.TheVariants as slot
-use Rattle.slot_tables.specs.Kept.{Kept, use_at}
 use Rattle.version_index.specs.declared.note.Note.TheVariants as note
-use Rattle.version_index.specs.Notes.{note_at, rec_of, found_in}
-use Rattle.version_index.specs.Numbered.{rec_at}
-use Rattle.version_index.specs.Tables.{note_in, notes_in, noted_by, numbered_of, AreHeld, AreIndexed}
 use Rattle.version_index.proofs.OfTables.FoundIn.{found, noted_from, noted_in, holds_within}
 use Rattle.version_index.proofs.OfReadings.NumberedReadings.{IsNumbering}
 
 -- what is noted of a slot is by how it is used
-pub note_by : (k : Kept) (at : ℕ) → note_at (notes_in k) at ≡ note_in k.records (use_at k.slots at)
+pub note_by : (k : TablesState) (at : ℕ) → note_at (notes_in k) at ≡ note_in k.records (use_at k.slots at)
 note_by k at = get_or-map (note_in k.records) k.slots at slot.Blank
 
 -- a slot that holds a number with a record has the record noted
-pub note_held : (k : Kept) (at x : ℕ) (r : Rec) → use_at k.slots at ≡ slot.Holds x → rec_at k.records x ≡ Some r →
+pub note_held : (k : TablesState) (at x : ℕ) (r : Rec) → use_at k.slots at ≡ slot.Holds x → rec_at k.records x ≡ Some r →
     note_at (notes_in k) at ≡ note.Holds r
 note_held k at x r holds is =
     note_by k at ∙ ap (note_in k.records) holds ∙ ap (λ o. option_map_or note.Holds o note.Damaged) is
@@ -40,16 +24,16 @@ blank_use records (slot.Holds x) e = elim (cases_Option (rec_at records x)) [
   | inr some ↦ (let other : note.Holds some.0 ≡ note.Blank = sym (ap (λ o. option_map_or note.Holds o note.Damaged) some.1) ∙ e in cc)
 ]
 
-pub blank_slot : (k : Kept) (at : ℕ) → note_at (notes_in k) at ≡ note.Blank → use_at k.slots at ≡ slot.Blank
+pub blank_slot : (k : TablesState) (at : ℕ) → note_at (notes_in k) at ≡ note.Blank → use_at k.slots at ≡ slot.Blank
 blank_slot k at e = blank_use k.records (use_at k.slots at) (sym (note_by k at) ∙ e)
 
 -- the number in a slot with a noted record
-pub record HoldsNumber (k : Kept) (at : ℕ) (r : Rec) : Type 0 where
+pub record HoldsNumber (k : TablesState) (at : ℕ) (r : Rec) : Type 0 where
   pub number : ℕ
   pub holds : use_at k.slots at ≡ slot.Holds number
   pub is : rec_at k.records number ≡ Some r
 
-number_use : (k : Kept) (at : ℕ) (r : Rec) (u : SlotUse) → use_at k.slots at ≡ u → note_in k.records u ≡ note.Holds r → HoldsNumber k at r
+number_use : (k : TablesState) (at : ℕ) (r : Rec) (u : SlotUse) → use_at k.slots at ≡ u → note_in k.records u ≡ note.Holds r → HoldsNumber k at r
 number_use k at r slot.Blank is e = cc
 number_use k at r slot.Damaged is e = cc
 number_use k at r (slot.Holds x) is e = elim (cases_Option (rec_at k.records x)) [
@@ -60,13 +44,13 @@ number_use k at r (slot.Holds x) is e = elim (cases_Option (rec_at k.records x))
       record { number = x; holds = is; is = some.1 ∙ its })
 ]
 
-pub held_number : (k : Kept) (at : ℕ) (r : Rec) → note_at (notes_in k) at ≡ note.Holds r → HoldsNumber k at r
+pub held_number : (k : TablesState) (at : ℕ) (r : Rec) → note_at (notes_in k) at ≡ note.Holds r → HoldsNumber k at r
 held_number k at r e = number_use k at r (use_at k.slots at) refl (sym (note_by k at) ∙ e)
 
-pub length-notes : (k : Kept) → length (notes_in k) ≡ length k.slots
+pub length-notes : (k : TablesState) → length (notes_in k) ≡ length k.slots
 length-notes k = length-map k.slots (note_in k.records)
 
-module _ (k : Kept) (h : AreHeld k) where
+module _ (k : TablesState) (h : AreHeld k) where
   -- the record of a number is noted
   pub kept_found : (x : ℕ) (r : Rec) → rec_at k.records x ≡ Some r → (at : ℕ) × (use_at k.slots at ≡ slot.Holds x) ×
       Contains (found_in (notes_in k)) (found at r)
@@ -90,7 +74,7 @@ module _ (k : Kept) (h : AreHeld k) where
   kept_noted x r is = let f = kept_found x r is in any_in (λ g. g.rec ≡ r) (found_in (notes_in k)) (found f.0 r) f.2 refl
 
 -- the numbers of the tables are those of the noted records
-pub numbering : (protocol : Protocol) (its : Config) (m : List ℕ) (k : Kept) (i : AreIndexed protocol its m k) →
+pub numbering : (protocol : Protocol) (its : Config) (m : List ℕ) (k : TablesState) (i : AreIndexed protocol its m k) →
     IsNumbering (numbered_of k) (noted_by its m k)
 numbering protocol its m k i = record {
   judged = i.judged;

@@ -1,30 +1,14 @@
 -- What was noted: current records are present, and homes hold them.
-use Rattle.std.proofs.Common.{◌≡◌, ℕ, ◌*◌, Bool, true, false, count_by, Option, Some, None, IsNone, IfSome, IsSomeAnd, ◌↔◌, ◌⊎◌, refl, sym, ap, ◌∙◌, subst, inl}
-use Rattle.std.proofs.Common.{inr, arith}
-use Rattle.std.proofs.lemmas.Bool.{false≢true, cases_Bool, cond-true, cond-false, and_parts}
-use Rattle.std.proofs.lemmas.Option.{none-some}
-use Rattle.std.specs.Option.{option_map}
-use Rattle.std.specs.List.{range_with_len}
-use Rattle.tx_types.specs.declared.record.Link.{Link}
-use Rattle.tx_types.specs.declared.record.Rec.{Rec}
+use Rattle.version_index.proofs.Common.{◌≡◌, ℕ, ◌*◌, Bool, true, false, count_by, Option, Some, None, IfSome, IsSomeAnd, ◌↔◌, ◌⊎◌, refl, sym, ap, ◌∙◌, subst, inl, inr, arith, false≢true, cases_Bool, cond-true, cond-false, and_parts, none-some, option_map, range_with_len, Link, Rec, Protocol, shape_of, name_of, has_name, is_present, cur, record_named, is_slot, has_name_true, IsSoundMap, sound_map, Holds, note_at, rec_of, found_in, IndexState, IsNoted, current_of, current_name_of, discarded_of, home_of, slot_off, garbage_of, is_garbage_at, shut_or_part}
+use Rattle.std.proofs.Common.{IsNone}
 use Rattle.tx_types.specs.declared.config.Slot.{Slot}
-use Rattle.tx_types.specs.declared.config.Protocol.{Protocol}
-use Rattle.tx_types.specs.Config.{shape_of}
-use Rattle.record_list.specs.Records.{name_of, has_name, is_present}
-use Rattle.record_list.specs.Current.{cur}
-use Rattle.record_list.specs.Verdict.{record_named}
-use Rattle.record_list.specs.Written.{is_slot}
-use Rattle.record_list.proofs.OfFacts.Names.{has_name_true}
-use Rattle.record_list.proofs.OfFacts.SoundNames.{IsSoundMap, sound_map}
 use Rattle.record_list.proofs.OfFacts.Facts.{cur_present}
-use Rattle.version_index.specs.declared.note.Note.TheVariants.{Holds}
-use Rattle.version_index.specs.Notes.{note_at, rec_of, found_in}
-use Rattle.version_index.specs.Noted.{Noted, IsNoted, IsBlank, current_of, current_name_of, discarded_of, home_of, slot_off, garbage_of, is_garbage_at}
-use Rattle.version_index.specs.Noted.{shut_or_part, HoldsName}
+use Rattle.version_index.specs.IndexState.{IsBlank}
+use Rattle.version_index.specs.IndexState.{HoldsName}
 use Rattle.version_index.proofs.OfTables.FoundIn.{found, holds_within, noted_from, noted_in}
 use Rattle.version_index.proofs.OfTables.HomeFacts.{StandsAt, first_stands, home_stands, home_absent, home_present}
 
-module _ (protocol : Protocol) (n : Noted) (k : IsNoted protocol n) where
+module _ (protocol : Protocol) (n : IndexState) (k : IsNoted protocol n) where
   -- the noted records by names
   pub noted_map : IsSoundMap protocol (found_in n.notes) n.config.logical
   noted_map = sound_map protocol (found_in n.notes) n.config.logical k.sound k.scanned
@@ -106,11 +90,11 @@ module _ (protocol : Protocol) (n : Noted) (k : IsNoted protocol n) where
   off_located block name (Some at) e = off_holds block name at.0 (sym e)
 
 -- the spare has no garbage, and of another block what counts is counted
-pub spare_garbage : (n : Noted) (block : ℕ) (shut : Bool) → is_slot block n.spare ≡ true → garbage_of n block shut ≡ 0
+pub spare_garbage : (n : IndexState) (block : ℕ) (shut : Bool) → is_slot block n.spare ≡ true → garbage_of n block shut ≡ 0
 unfolding garbage_of
 spare_garbage n block shut spare = cond-true (is_slot block n.spare) 0 _ spare
 
-pub other_garbage : (n : Noted) (block : ℕ) (shut : Bool) → is_slot block n.spare ≡ false →
+pub other_garbage : (n : IndexState) (block : ℕ) (shut : Bool) → is_slot block n.spare ≡ false →
     garbage_of n block shut ≡ count_by (is_garbage_at n (shut_or_part shut)) (range_with_len (block * n.config.pages_per_block) n.config.pages_per_block)
 unfolding garbage_of
 other_garbage n block shut other = cond-false (is_slot block n.spare) 0 _ other

@@ -1,31 +1,17 @@
 -- What is kept by numbers as it is changed: that it stays what is judged by names.
-use Rattle.std.proofs.Common.{◌≡◌, ◌≢◌, ℕ, ◌<◌, ◌≤◌, Bool, true, false, not, cond, eqb, ◌&&◌, ◌⊎◌, List, Any, Option, Some, None, refl, sym, ap, ◌∙◌, subst}
-use Rattle.std.proofs.Common.{inl, inr, eq-eqb, ne_eqb}
-use Rattle.std.specs.Option.{option_map}
-use Rattle.std.proofs.lemmas.Bool.{cases_Bool, cases_eq, cases_lt, cond-true, cond-false, and_left, and_right, and_from}
-use Rattle.std.proofs.lemmas.Option.{none-some, same_Some}
-use Rattle.std.proofs.lemmas.List.Elements.{All-contains}
-use Rattle.list_facts.proofs.Membership.{in_any}
-use Rattle.list_facts.proofs.Options.{cases_Option}
-use Rattle.tx_types.specs.declared.record.Link.{Link}
-use Rattle.tx_types.specs.declared.record.Rec.{Rec}
-use Rattle.record_list.specs.Records.{name_of}
-use Rattle.version_index.specs.Notes.{found_in}
-use Rattle.version_index.specs.Noted.{Noted}
-use Rattle.version_index.specs.Judged.{name_at, answerer_of, waits_of}
-use Rattle.version_index.specs.JudgedChanges.{Judged, judged_of, IsJudgedAs, with_current, with_answers}
-use Rattle.version_index.specs.Numbered.{Numbered, rec_at, number_at, named, awaited, AreJudged}
-use Rattle.version_index.proofs.OfTables.Judged.{name_at_some, name_at_is}
+use Rattle.version_index.proofs.Common.{◌≡◌, ◌≢◌, ℕ, ◌<◌, ◌≤◌, Bool, true, false, not, cond, eqb, ◌&&◌, ◌⊎◌, List, Any, Option, Some, None, refl, sym, ap, ◌∙◌, subst, inl, inr, eq-eqb, ne_eqb, option_map, cases_Bool, cases_eq, cases_lt, cond-true, cond-false, and_left, and_right, and_from, none-some, same_Some, All-contains, in_any, cases_Option, Link, Rec, name_of, found_in, IndexState, name_at, answerer_of, waits_of, Derived, derived_of, IsDerivedAs, with_current, with_answers, rec_at, named, awaited, AreDerived}
+use Rattle.version_index.specs.Numbered.{Numbered, number_at}
+use Rattle.version_index.proofs.OfTables.Derived.{name_at_some, name_at_is}
 use Rattle.version_index.proofs.OfTables.CurrentNames.{IsRested}
 
 -- the record of each number is one of those that are noted
-abbrev pub AreNoted : Numbered → Noted → Type 0
+abbrev pub AreNoted : Numbered → IndexState → Type 0
 AreNoted t n = (number : ℕ) (r : Rec) → rec_at t.records number ≡ Some r → Any (λ f. f.rec ≡ r) (found_in n.notes)
 
 -- what is kept is judged as the notes are
-pub judged_as : (t : Numbered) (n : Noted) (j : Judged) → AreJudged t n.config.logical j → IsJudgedAs n j → AreNoted t n →
-    AreJudged t n.config.logical (judged_of n)
-judged_as t n j k same noted = record {
+pub derived_as : (t : Numbered) (n : IndexState) (j : Derived) → AreDerived t n.config.logical j → IsDerivedAs n j → AreNoted t n →
+    AreDerived t n.config.logical (derived_of n)
+derived_as t n j k same noted = record {
   current = λ page below. k.current page below ∙ ap (λ v. option_map Some (name_at page v)) (sym (same.current page below));
   answerers = λ number r at.
       let f = in_any (λ f. f.rec ≡ r) (found_in n.notes) (noted number r at) in
@@ -53,7 +39,7 @@ named_stays records records' None same = refl
 named_stays records records' (Some x) same = ap (λ o. Some (option_map name_of o)) (same x refl)
 
 -- a page's record becomes current: its records above what was current are let go, and others stay
-pub record IsMadeCurrent (t t' : Numbered) (j : Judged) (x : ℕ) (r : Rec) : Type 0 where
+pub record IsMadeCurrent (t t' : Numbered) (j : Derived) (x : ℕ) (r : Rec) : Type 0 where
   pub records : t'.records ≡ t.records
   pub own : rec_at t.records x ≡ Some r
   pub current : number_at t'.current r.page ≡ Some x
@@ -63,8 +49,8 @@ pub record IsMadeCurrent (t t' : Numbered) (j : Judged) (x : ℕ) (r : Rec) : Ty
   pub others : (y : ℕ) (s : Rec) → rec_at t.records y ≡ Some s → (s.page ≢ r.page) ⊎ (s.version ≤ j.current r.page) →
       (number_at t'.answerers y ≡ number_at t.answerers y) × (number_at t'.waits y ≡ number_at t.waits y)
 
-pub made_current : (t t' : Numbered) (logical : ℕ) (j : Judged) (x : ℕ) (r : Rec) → AreJudged t logical j → IsRested j → 0 < r.version →
-    IsMadeCurrent t t' j x r → AreJudged t' logical (with_current (name_of r) j)
+pub made_current : (t t' : Numbered) (logical : ℕ) (j : Derived) (x : ℕ) (r : Rec) → AreDerived t logical j → IsRested j → 0 < r.version →
+    IsMadeCurrent t t' j x r → AreDerived t' logical (with_current (name_of r) j)
 made_current t t' logical j x r k rested positive m = record {
   current = λ page below. elim (cases_eq page r.page) [
     | inl own ↦ (
@@ -130,8 +116,8 @@ pub record IsMadeAnswerer (t t' : Numbered) (x : ℕ) (r : Rec) : Type 0 where
   pub others : (y : ℕ) (s : Rec) → rec_at t.records y ≡ Some s → number_at t.waits y ≢ Some r.page →
       (number_at t'.answerers y ≡ number_at t.answerers y) × (number_at t'.waits y ≡ number_at t.waits y)
 
-pub made_answerer : (t t' : Numbered) (logical : ℕ) (j : Judged) (x : ℕ) (r : Rec) → AreJudged t logical j →
-    IsMadeAnswerer t t' x r → AreJudged t' logical (with_answers (name_of r) j)
+pub made_answerer : (t t' : Numbered) (logical : ℕ) (j : Derived) (x : ℕ) (r : Rec) → AreDerived t logical j →
+    IsMadeAnswerer t t' x r → AreDerived t' logical (with_answers (name_of r) j)
 made_answerer t t' logical j x r k m =
     let to : (y : ℕ) (s : Rec) → rec_at t.records y ≡ Some s → s.next.page ≡ r.page → j.waits s ≡ true → number_at t.waits y ≡ Some r.page =
     λ y s at own waits. k.waits y s at ∙ cond-true (j.waits s) (Some s.next.page) None waits ∙ ap Some own in
@@ -197,9 +183,9 @@ pub record IsAdded (t t' : Numbered) (x : ℕ) (r : Rec) : Type 0 where
   pub its_page : number_at t'.waits x ≡ Some r.next.page
   pub waits : (y : ℕ) → y ≢ x → number_at t'.waits y ≡ number_at t.waits y
 
-pub added_judged : (t t' : Numbered) (logical : ℕ) (j : Judged) (x : ℕ) (r : Rec) → AreJudged t logical j →
-    j.answerer r ≡ None → j.waits r ≡ true → IsAdded t t' x r → AreJudged t' logical j
-added_judged t t' logical j x r k none waits a =
+pub added_derived : (t t' : Numbered) (logical : ℕ) (j : Derived) (x : ℕ) (r : Rec) → AreDerived t logical j →
+    j.answerer r ≡ None → j.waits r ≡ true → IsAdded t t' x r → AreDerived t' logical j
+added_derived t t' logical j x r k none waits a =
     let stays : (number : Option ℕ) (o : Option Link) → named t.records number ≡ option_map Some o → named t'.records number ≡ option_map Some o =
     λ number o e. named_stays t.records t'.records number (λ z is.
     a.others z (λ same. (
@@ -233,10 +219,10 @@ pub record IsGivenUp (t t' : Numbered) (x : ℕ) : Type 0 where
   pub answerers : (y : ℕ) → y ≢ x → number_at t'.answerers y ≡ number_at t.answerers y
   pub waits : (y : ℕ) → y ≢ x → number_at t'.waits y ≡ number_at t.waits y
 
-pub given_up_judged : (t t' : Numbered) (logical : ℕ) (j : Judged) (x : ℕ) (r : Rec) → AreJudged t logical j → rec_at t.records x ≡ Some r →
+pub given_up_derived : (t t' : Numbered) (logical : ℕ) (j : Derived) (x : ℕ) (r : Rec) → AreDerived t logical j → rec_at t.records x ≡ Some r →
     j.current r.page ≢ r.version → ((y : ℕ) (s : Rec) → rec_at t.records y ≡ Some s → j.answerer s ≢ Some (name_of r)) →
-    IsGivenUp t t' x → AreJudged t' logical j
-given_up_judged t t' logical j x r k own stale free a =
+    IsGivenUp t t' x → AreDerived t' logical j
+given_up_derived t t' logical j x r k own stale free a =
     let stays : (number : Option ℕ) (o : Option Link) → (o ≢ Some (name_of r)) → named t.records number ≡ option_map Some o →
     named t'.records number ≡ option_map Some o =
     λ number o other e. named_stays t.records t'.records number (λ z is.

@@ -1,19 +1,15 @@
 -- An image is sound, or breaks one law first, at one slot.
-use Rattle.std.proofs.Common.{◌≡◌, inl, inr, ℕ, zero, suc, ◌<◌, List, [], ◌∷◌, sym, ap₂, refl, subst, ◌∙◌, arith}
+use Rattle.version_index.proofs.Common.{◌≡◌, inl, inr, ℕ, zero, suc, ◌<◌, List, [], ◌∷◌, sym, ap₂, refl, subst, ◌∙◌, arith, Protocol, Shape, Contents, slot_at, Found, Pages, Written, found_of, records_of, SlotReads, written_in}
 use Rattle.std.specs.Prelude.{All, Any}
 use Rattle.std.proofs.lemmas.Bool.{cases_order}
 use Rattle.std.proofs.lemmas.List.Elements.{All-head, All-tail}
-use Rattle.list_facts.proofs.Quantifiers.{all_mapped, all_both}
-use Rattle.tx_types.specs.declared.config.Protocol.{Protocol}
-use Rattle.tx_types.specs.declared.config.Shape.{Shape}
-use Rattle.flash_model.specs.Flash.{Contents, slot_at}
-use Rattle.record_list.specs.declared.found.Found.{Found}
+use Rattle.list_lemmas.proofs.Quantifiers.{all_mapped, all_both}
 use Rattle.record_list.specs.declared.found.Breach.{Breach}
-use Rattle.record_list.specs.SoundList.{Law, Pages, Copies, Links, Present, Counted, Loose, Ending, number, Keeps}
+use Rattle.record_list.specs.SoundList.{Law, Copies, Links, Present, Counted, Loose, Ending, number, Keeps}
 use Rattle.record_list.specs.Counts.{KeepsCount, IsLeastMiscount}
-use Rattle.record_list.specs.Written.{Written, BytesAgree, IsFirstBrokenLaw, IsSoundWritten, KeepsWritten, found_of, records_of}
+use Rattle.record_list.specs.Written.{BytesAgree, IsFirstBrokenLaw, IsSoundWritten, KeepsWritten}
 use Rattle.record_list.proofs.OfFacts.Breaches.{one_law_more}
-use Rattle.version_index.specs.Images.{IsFirstOfRecords, IsFirstUnread, IsLeastImageBreach, IsSoundImage, SlotReads, written_in}
+use Rattle.version_index.specs.Images.{IsFirstOfRecords, IsFirstUnread, IsLeastImageBreach, IsSoundImage}
 
 -- ---- the laws of a sound list, one by one
 

@@ -1,17 +1,8 @@
 -- The one record of a slot, and the first record that passes a test.
-use Rattle.std.proofs.Common.{◌≡◌, ◌≢◌, ℕ, ◌<◌, Bool, false, ◌&&◌, eqb, List, length, get_or, AllPairs, Option, sym, ap, ◌∙◌, inl, inr, arith, eqb-true, eq-eqb}
-use Rattle.std.proofs.Common.{Contains}
-use Rattle.std.specs.List.{list_any}
-use Rattle.std.proofs.lemmas.Bool.{false≢true, cases_Bool, and_parts, and_from}
-use Rattle.std.proofs.lemmas.List.Elements.{Contains-get_or}
-use Rattle.list_facts.proofs.Tests.{any_of, any_from}
-use Rattle.list_facts.proofs.Pairs.{in_order}
-use Rattle.tx_types.specs.declared.record.Link.{Link}
-use Rattle.tx_types.specs.declared.config.Protocol.{Protocol}
-use Rattle.tx_types.specs.declared.config.Shape.{Shape}
-use Rattle.record_list.specs.declared.found.Found.{Found}
-use Rattle.record_list.specs.Records.{nothing, record_at, name_of}
-use Rattle.record_list.specs.Written.{home, is_slot, is_wanted, is_needed}
+use Rattle.version_index.proofs.Common.{◌≡◌, ◌≢◌, ℕ, ◌<◌, Bool, false, ◌&&◌, eqb, List, length, get_or, AllPairs, Option, sym, ap, ◌∙◌, inl, inr, arith, eqb-true, eq-eqb, Contains, list_any, false≢true, cases_Bool, and_parts, and_from, Contains-get_or, any_of, any_from, Link, Protocol, Shape, Found, nothing, name_of, home, is_slot}
+use Rattle.list_lemmas.proofs.Pairs.{in_order}
+use Rattle.record_list.specs.Records.{record_at}
+use Rattle.record_list.specs.Written.{is_wanted, is_needed}
 
 abbrev pub Ascending : List Found → Type 0
 Ascending list = AllPairs (λ f g. f.slot.0 < g.slot.0) list

@@ -1,5 +1,4 @@
-use Rattle.std.proofs.Common.{◌-◌, ◌≤◌}
-use Rattle.collector.specs.Best.{IsBest}
+use Rattle.collector.proofs.Common.{◌-◌, ◌≤◌, IsBest}
 use Rattle.collector.proofs.choosing.best_from.Given as goal
 
 abbrev pub invariant-loop-block : goal.invariant-loop-block

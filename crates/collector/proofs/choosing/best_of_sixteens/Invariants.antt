@@ -1,5 +1,5 @@
-use Rattle.std.proofs.Common.{◌*◌, min}
-use Rattle.collector.specs.Best.{IsBest}
+use Rattle.collector.proofs.Common.{◌*◌, IsBest}
+use Rattle.std.proofs.Common.{min}
 use Rattle.collector.proofs.choosing.best_of_sixteens.Given as goal
 
 abbrev pub invariant-loop-sixteen : goal.invariant-loop-sixteen

@@ -1,6 +1,5 @@
-use Rattle.std.proofs.Common.{◌*◌, min}
-use Rattle.tx_types.specs.Config.{shape_of, blocks_of}
-use Rattle.collector.specs.Best.{IsBest}
+use Rattle.collector.proofs.Common.{◌*◌, shape_of, blocks_of, IsBest}
+use Rattle.std.proofs.Common.{min}
 use Rattle.collector.proofs.choosing.search.Given as goal
 
 abbrev pub invariant-loop-group : goal.invariant-loop-group

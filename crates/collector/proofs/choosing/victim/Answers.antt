@@ -1,7 +1,5 @@
 mod Victims
-use Rattle.std.proofs.Common.{sym, ap, ◌∙◌}
-use Rattle.die_alloc.specs.BlockTable.{block_state}
-use Rattle.collector.specs.Victim.{is_shut}
+use Rattle.collector.proofs.Common.{sym, ap, ◌∙◌, block_state, is_shut}
 use Rattle.collector.proofs.choosing.victim.Answers.Victims.{most_is_victim}
 use Rattle.collector.proofs.choosing.victim.Goals as goal
 

@@ -1,9 +1,4 @@
-use Rattle.std.proofs.Common.{Ok, Err, ◌∙◌, sym, ap, subst}
-use Rattle.flash_model.specs.Calls.{Erases}
-use Rattle.version_index.specs.Noted.{erased}
-use Rattle.collector.specs.Calls.{Cleans}
-use Rattle.collector.specs.Collecting.{is_noted_blank}
-use Rattle.collector.specs.Store.{store_of}
+use Rattle.collector.proofs.Common.{Ok, Err, ◌∙◌, sym, ap, subst, Erases, erased, Cleans, is_noted_blank, store_parts}
 use Rattle.collector.proofs.OfClean.Cleanings.{cleans_blank, cleans_erased, cleans_torn}
 use Rattle.collector.proofs.cleaning.clean_spare.Goals as goal
 
@@ -11,14 +6,14 @@ pub returns-then-is_noted_blank : goal.returns-then-is_noted_blank
 returns-then-is_noted_blank g c =
     let laws = g.met.R.CommitRule in
     cleans_blank g.R.CommitRule.protocol laws.block_loss laws.written_block_loss
-    (store_of (g.F.Flash.state c.args.flash.now) c.args.index.now c.args.blocks.now c.args.unsure.now) c.requires
+    (store_parts (g.F.Flash.state c.args.flash.now) c.args.index.now c.args.blocks.now c.args.unsure.now) c.requires
     (ap (is_noted_blank c.args.index.now) (sym c.spare-spare.ensures.spare) ∙ sym c.is_noted_blank.ensures ∙ c.if-is_noted_blank.true)
 
 pub returns-in-Err : goal.returns-in-Err
 returns-in-Err g c =
     let laws = g.met.R.CommitRule in
     cleans_torn g.R.CommitRule.protocol laws.block_loss laws.written_block_loss
-    (store_of (g.F.Flash.state c.args.flash.now) c.args.index.now c.args.blocks.now c.args.unsure.now) c.requires
+    (store_parts (g.F.Flash.state c.args.flash.now) c.args.index.now c.args.blocks.now c.args.unsure.now) c.requires
     (ap (is_noted_blank c.args.index.now) (sym c.spare-spare.ensures.spare) ∙ sym c.is_noted_blank.ensures ∙ c.if-is_noted_blank.false)
     (g.F.Flash.state c.erase.new.self) c.in-Err.broken
     (subst (λ b. Erases (g.F.Flash.state c.args.flash.now) (g.F.Flash.state c.erase.new.self) b (Err c.in-Err.broken)) c.spare-spare.ensures.spare
@@ -27,9 +22,9 @@ returns-in-Err g c =
 pub returns : goal.returns
 returns g c =
     let laws = g.met.R.CommitRule in
-    let a = store_of (g.F.Flash.state c.args.flash.now) c.args.index.now c.args.blocks.now c.args.unsure.now in
+    let a = store_parts (g.F.Flash.state c.args.flash.now) c.args.index.now c.args.blocks.now c.args.unsure.now in
     let s' = g.F.Flash.state c.erase.new.self in
-    subst (λ n. Cleans g.R.CommitRule.protocol a (store_of s' n c.args.blocks.now c.args.unsure.now) _)
+    subst (λ n. Cleans g.R.CommitRule.protocol a (store_parts s' n c.args.blocks.now c.args.unsure.now) _)
     (sym (c.note_erased.ensures ∙ ap (erased c.args.index.now) c.spare-spare.ensures.spare))
     (cleans_erased g.R.CommitRule.protocol laws.block_loss laws.written_block_loss a c.requires
     (ap (is_noted_blank c.args.index.now) (sym c.spare-spare.ensures.spare) ∙ sym c.is_noted_blank.ensures ∙ c.if-is_noted_blank.false) s' c.in_default.field-0

@@ -1,5 +1,4 @@
-use Rattle.std.proofs.Common.{ap}
-use Rattle.tx_types.specs.declared.config.Config.{Config}
+use Rattle.collector.proofs.Common.{ap, Config}
 use Rattle.collector.proofs.OfClean.BlankNotes.{all_blank}
 use Rattle.collector.proofs.cleaning.is_noted_blank.Goals as goal
 

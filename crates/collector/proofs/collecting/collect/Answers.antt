@@ -1,4 +1,4 @@
-use Rattle.collector.specs.Calls.{Collects}
+use Rattle.collector.proofs.Common.{Collects}
 use Rattle.collector.proofs.OfCollect.CollectCalls.{collects_unclean, collects_cleaned}
 use Rattle.collector.proofs.OfCollect.Collections.{unneeded_cleaned}
 use Rattle.collector.proofs.OfNotes.KeepsLemmas.{by_err, sure_then}

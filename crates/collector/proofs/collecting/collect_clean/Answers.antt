@@ -1,4 +1,4 @@
-use Rattle.std.proofs.Common.{refl}
+use Rattle.collector.proofs.Common.{refl}
 use Rattle.collector.specs.Calls.{stops_copying, comes_to_erase}
 use Rattle.collector.proofs.OfNotes.KeepsLemmas.{sure_then}
 use Rattle.collector.proofs.collecting.collect_clean.Goals as goal

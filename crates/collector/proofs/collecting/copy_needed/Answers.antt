@@ -1,8 +1,5 @@
 mod NeededCopies
-use Rattle.std.proofs.Common.{◌≡◌, ◌+◌, ◌*◌, ◌<◌, refl, sym, ap, ◌∙◌, subst, arith}
-use Rattle.tx_types.specs.declared.config.Config.{Config}
-use Rattle.record_list.specs.Changes.{CopyLaw}
-use Rattle.collector.specs.Calls.{CopiesNeeded}
+use Rattle.collector.proofs.Common.{◌≡◌, ◌+◌, ◌*◌, ◌<◌, refl, sym, ap, ◌∙◌, subst, arith, Config, CopyLaw, CopiesNeeded}
 use Rattle.collector.proofs.OfCopies.CopyingBlocks.{copied_none, copied_passed, copied_taken, at_within, next_of_spare, has_record}
 use Rattle.collector.proofs.OfNotes.KeepsLemmas.{by_err, sure_then}
 use Rattle.collector.proofs.collecting.copy_needed.Answers.NeededCopies.{needed_copied, needed_broke}

@@ -1,9 +1,4 @@
-use Rattle.std.proofs.Common.{◌∙◌, sym, ap, subst}
-use Rattle.flash_model.specs.Calls.{Erases}
-use Rattle.version_index.specs.Noted.{Noted, erased, with_spare}
-use Rattle.die_alloc.specs.BlockTable.{BlockTable, IsBlockTable}
-use Rattle.collector.specs.Calls.{ErasesVictim}
-use Rattle.collector.specs.Store.{store_of}
+use Rattle.collector.proofs.Common.{◌∙◌, sym, ap, subst, Erases, IndexState, erased, with_spare, BlocksState, IsBlocksState, ErasesVictim, store_parts}
 use Rattle.collector.proofs.OfErase.VictimCalls.{victim_done, victim_breaks}
 use Rattle.collector.proofs.erasing.erase_victim.Goals as goal
 
@@ -12,21 +7,21 @@ returns-in-Err g c =
     let laws = g.met.R.CommitRule in
     let s' = g.F.Flash.state c.erase.new.self in
     victim_breaks g.R.CommitRule.protocol laws.block_loss laws.written_block_loss
-    (store_of (g.F.Flash.state c.args.flash.now) c.args.index.now c.args.blocks.now c.args.unsure.now)
+    (store_parts (g.F.Flash.state c.args.flash.now) c.args.index.now c.args.blocks.now c.args.unsure.now)
     c.requires.sure c.args.block c.args.used c.requires.can s' c.in-Err.broken
     (subst (Erases (g.F.Flash.state c.args.flash.now) s' _) c.in-Err.is c.erase.ensures)
 
 pub returns : goal.returns
 returns g c =
     let laws = g.met.R.CommitRule in
-    let a = store_of (g.F.Flash.state c.args.flash.now) c.args.index.now c.args.blocks.now c.args.unsure.now in
+    let a = store_parts (g.F.Flash.state c.args.flash.now) c.args.index.now c.args.blocks.now c.args.unsure.now in
     let s' = g.F.Flash.state c.erase.new.self in
-    subst (λ (n : Noted). ErasesVictim g.R.CommitRule.protocol a (store_of s' n c.exchange.new.blocks c.args.unsure.now) c.args.block c.args.used _)
-    (sym (c.exchange.ensures.noted ∙ ap (λ k. with_spare k c.args.block.0) c.note_erased.ensures))
-    (subst (λ (t : BlockTable). ErasesVictim g.R.CommitRule.protocol a
-    (store_of s' (with_spare (erased c.args.index.now c.args.block.0) c.args.block.0) t c.args.unsure.now) c.args.block c.args.used _)
-    (sym c.exchange.ensures.blocks)
+    subst (λ (n : IndexState). ErasesVictim g.R.CommitRule.protocol a (store_parts s' n c.swap_spare.new.blocks c.args.unsure.now) c.args.block c.args.used _)
+    (sym (c.swap_spare.ensures.noted ∙ ap (λ k. with_spare k c.args.block.0) c.note_erased.ensures))
+    (subst (λ (t : BlocksState). ErasesVictim g.R.CommitRule.protocol a
+    (store_parts s' (with_spare (erased c.args.index.now c.args.block.0) c.args.block.0) t c.args.unsure.now) c.args.block c.args.used _)
+    (sym c.swap_spare.ensures.blocks)
     (victim_done g.R.CommitRule.protocol laws.block_loss laws.written_block_loss a c.requires.sure c.args.block c.args.used c.requires.can s'
     c.in_default.field-0
-    (subst (Erases (g.F.Flash.state c.args.flash.now) s' _) c.in_default.is c.erase.ensures) c.exchange.ensures.between
-    (subst IsBlockTable c.exchange.ensures.blocks c.exchange.ensures.table)))
+    (subst (Erases (g.F.Flash.state c.args.flash.now) s' _) c.in_default.is c.erase.ensures) c.swap_spare.ensures.between
+    (subst IsBlocksState c.swap_spare.ensures.blocks c.swap_spare.ensures.table)))

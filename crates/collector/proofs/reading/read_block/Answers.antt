@@ -1,9 +1,4 @@
-use Rattle.std.proofs.Common.{◌*◌, sym, ap, ◌∙◌, subst, arith}
-use Rattle.tx_types.specs.Config.{slots_of}
-use Rattle.tx_types.specs.declared.config.Config.{Config}
-use Rattle.tx_types.specs.declared.config.Shape.{Shape}
-use Rattle.collector.specs.Looking.{Looks}
-use Rattle.collector.specs.Settling.{reads_alike}
+use Rattle.collector.proofs.Common.{◌*◌, sym, ap, ◌∙◌, subst, arith, slots_of, Config, Shape, Looks, reads_alike}
 use Rattle.collector.proofs.OfSettle.BlockReadings.{read_none, read_broken, read_more, read_all, in_block}
 use Rattle.collector.proofs.reading.read_block.Goals as goal
 

@@ -1,5 +1,5 @@
 mod RetireCalls
-use Rattle.std.proofs.Common.{refl, sym, ◌∙◌}
+use Rattle.collector.proofs.Common.{refl, sym, ◌∙◌}
 use Rattle.collector.specs.Retiring.{RetiresBlock}
 use Rattle.collector.proofs.OfNotes.KeepsLemmas.{by_err}
 use Rattle.collector.proofs.retiring.retire_block.Answers.RetireCalls.{retires_stopped, victim_retired}

@@ -1,8 +1,8 @@
 use Rattle.std.proofs.Common.{◌≡◌, refl, arith, Some}
 use Rattle.tx_types.specs.Config.{checked}
-use Rattle.desk_tasks.specs.Fate.{Fate, Driven}
+use Rattle.desk_tasks.specs.Ending.{Ending, Driven}
 use Rattle.desk_tasks.specs.Steps.{formatting}
-use Rattle.desk_tasks.specs.Asked.{Drive, Format}
+use Rattle.desk_tasks.specs.Request.{Drive, Format}
 use Rattle.desk_tasks.proofs.Works.{found_none, works}
 use Rattle.command_line.proofs.call.work.Goals as goal
 
@@ -13,8 +13,8 @@ returns-in-Some-Format-clause-works g c =
     let its = c.in-Some-Format.config in
     let allowance = c.in-Some-Format.allowance in
     let desk = g.D.Desk.state c.args.desk.now in
-    let done = works (Some (Format image its allowance)) desk desk 0 (λ (fate : Fate). fate ≡ formatting image its allowance (checked its))
-    c.formatted.result refl (omega arith) (found_none desk) (λ fate h. (h, refl)) c.formatted.ensures in
+    let done = works (Some (Format image its allowance)) desk desk 0 (λ (fate : Ending). fate ≡ formatting image its allowance (checked its))
+    c.do_format.result refl (omega arith) (found_none desk) (λ fate h. (h, refl)) c.do_format.ensures in
     rw (← asks) done
 
 pub returns-in-Some-Drive-clause-works : goal.returns-in-Some-Drive-clause-works
@@ -24,6 +24,6 @@ returns-in-Some-Drive-clause-works g c =
     let count = c.in-Some-Drive.count in
     let protocol = c.in-Some-Drive.protocol in
     let desk = g.D.Desk.state c.args.desk.now in
-    let done = works (Some (Drive start count protocol)) desk desk 0 (λ (fate : Fate). fate ≡ Driven start count protocol) c.driven.result
-    refl (omega arith) (found_none desk) (λ fate h. (h, refl)) c.driven.ensures in
+    let done = works (Some (Drive start count protocol)) desk desk 0 (λ (fate : Ending). fate ≡ Driven start count protocol) c.do_drive.result
+    refl (omega arith) (found_none desk) (λ fate h. (h, refl)) c.do_drive.ensures in
     rw (← asks) done

@@ -1,4 +1,4 @@
-use Rattle.std.proofs.Common.{length}
+use Rattle.cut_replay.proofs.Common.{length}
 use Rattle.cut_replay.proofs.Telling.{write_serves, told_opened, told_refused}
 use Rattle.cut_replay.proofs.calls.write.Goals as goal
 
@@ -12,5 +12,5 @@ pub returns-in-Err-clause-serves : goal.returns-in-Err-clause-serves
 returns-in-Err-clause-serves g c =
     write_serves g.F.Flash.state c.args.device.now c.submit-answer.new.self c.args.tag c.args.batch.now c.submit-answer.result _
     c.submit-answer.ensures.submits c.submit-answer.ensures.named c.submit-answer.ensures.keeps
-    (told_refused c.args.tag (length c.args.batch.now.entries) c.in-Err.refusal c.submit-answer.result c.refused.result
-    (c.refused.ensures (length c.args.batch.now.entries)) c.in-Err.is)
+    (told_refused c.args.tag (length c.args.batch.now.entries) c.in-Err.refusal c.submit-answer.result c.submit_reply.result
+    (c.submit_reply.ensures (length c.args.batch.now.entries)) c.in-Err.is)

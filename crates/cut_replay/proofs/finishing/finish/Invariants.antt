@@ -1,8 +1,5 @@
 use Rattle.host_protocol.specs.declared.command.Command.TheVariants.{Finish}
-use Rattle.host_protocol.specs.declared.reply.Reply.{Reply}
-use Rattle.tx_engine.specs.Standing.{Standing}
-use Rattle.tx_engine.specs.Always.{HoldsAlways}
-use Rattle.cut_replay.specs.Mounted.{ServesHere}
+use Rattle.cut_replay.proofs.Common.{Reply, DeviceState, HoldsAlways, ServesHere}
 use Rattle.cut_replay.specs.Run.{pages_left}
 use Rattle.cut_replay.proofs.finishing.finish.Given as goal
 
@@ -10,7 +7,7 @@ use Rattle.cut_replay.proofs.finishing.finish.Given as goal
 abbrev pub invariant-steps : goal.invariant-steps
 invariant-steps g l =
     HoldsAlways g.F.Flash.state g.R.CommitRule.protocol l.device
-    × ((new : Standing _) (r : Reply) → ServesHere g.F.Flash.state (Finish l.tag) l.device new r →
+    × ((new : DeviceState _) (r : Reply) → ServesHere g.F.Flash.state (Finish l.tag) l.device new r →
     ServesHere g.F.Flash.state (Finish l.tag) l.initial.device new r)
 
 abbrev pub decreases-steps : goal.decreases-steps

@@ -1,4 +1,4 @@
-use Rattle.std.proofs.Common.{sym, ◌∙◌}
+use Rattle.cut_replay.proofs.Common.{sym, ◌∙◌}
 use Rattle.cut_replay.proofs.Caching.{look_up, look_up_cached, missed_stays}
 use Rattle.cut_replay.proofs.reading.find.Goals as goal
 

@@ -7,8 +7,8 @@ pub returns-clause-ok : goal.returns-clause-ok
 returns-clause-ok g c =
     let answer = c.read_through-answer.ensures in
     reads_serve g.F.Flash.state g.R.CommitRule.protocol c.args.device.now c.read_through-answer.new.device c.args.page
-    c.read_through-answer.new.room c.read_through-answer.result.0 c.told.result
-    c.held_always.ensures.always answer.reads answer.moment answer.carries answer.stays c.told.ensures.reply
+    c.read_through-answer.new.room c.read_through-answer.result.0 c.read_reply.result
+    c.device_facts.ensures.always answer.reads answer.moment answer.carries answer.stays c.read_reply.ensures.reply
 
 pub returns-clause-once : goal.returns-clause-once
 returns-clause-once g c =

@@ -1,4 +1,4 @@
-use Rattle.std.proofs.Common.{sym, ◌∙◌}
+use Rattle.cut_replay.proofs.Common.{sym, ◌∙◌}
 use Rattle.cut_replay.proofs.Begun.{begin_begins, begin_faults, begun_first, begun_kept, begun_extras, dead_begins, dead_first, none_counted}
 use Rattle.cut_replay.proofs.serving.begin.Goals as goal
 

@@ -1,5 +1,4 @@
-use Rattle.std.proofs.Common.{refl, ◌∙◌}
-use Rattle.cut_replay.specs.Sessions.{flash_in}
+use Rattle.cut_replay.proofs.Common.{refl, ◌∙◌, flash_in}
 use Rattle.cut_replay.proofs.Progress.{moment_stays}
 use Rattle.cut_replay.proofs.Begun.{rooms_ended, begin_ended, begin_refused, begin_shape, begin_extras, same_shape, unsound_unserved, begin_unsound}
 use Rattle.cut_replay.proofs.serving.serve.Goals as goal

@@ -1,13 +1,5 @@
-use Rattle.std.proofs.Common.{◌≡◌, Ok, refl, sym, ap, subst, ◌∙◌, List, [], ◌∷◌, take}
-use Rattle.tx_types.specs.declared.config.Shape.{Shape}
-use Rattle.tx_types.specs.Config.{checked}
-use Rattle.host_protocol.specs.Replies.{text_of}
-use Rattle.host_protocol.specs.declared.command.Command.{Command}
-use Rattle.flash_model.specs.Operations.{moment_of}
-use Rattle.cut_replay.specs.Served.{Watched, ServesUnsound}
+use Rattle.cut_replay.proofs.Common.{◌≡◌, Ok, refl, sym, ap, subst, ◌∙◌, List, [], ◌∷◌, take, Shape, checked, text_of, Command, moment_of, Watched, ServesUnsound, flash_in, IsSoundOrSame, EndsServing, Grew}
 use Rattle.cut_replay.specs.declared.serving.ServeError.TheVariants as failed
-use Rattle.cut_replay.specs.Sessions.{flash_in, IsSoundOrSame, EndsServing}
-use Rattle.cut_replay.specs.Watching.{Grew}
 use Rattle.cut_replay.proofs.Progress.{HasServed, StaysUnmounted, moment_stays, unmounted_none, unmounted_more, unmounted_in, ended_counts}
 use Rattle.cut_replay.proofs.Progress.{unmounted_to_the_end, served_none, served_more, next_of, ended_in, untold_in, served_to_the_end, kept_more, refused_in}
 use Rattle.cut_replay.proofs.Progress.{on_ok, on_err}

@@ -1,9 +1,4 @@
-use Rattle.std.proofs.Common.{◌≡◌, [], take, length}
-use Rattle.flash_model.specs.Flash.{FlashState}
-use Rattle.flash_model.specs.Operations.{moment_of}
-use Rattle.cut_replay.specs.Sessions.{flash_in, Fits, IsSoundFlash, IsSoundOrSame}
-use Rattle.cut_replay.specs.Bounds.{CountsBreaks}
-use Rattle.cut_replay.specs.Beginning.{Begins}
+use Rattle.cut_replay.proofs.Common.{◌≡◌, [], take, length, FlashState, moment_of, flash_in, Fits, IsSoundFlash, IsSoundOrSame, CountsBreaks, Begins}
 use Rattle.cut_replay.proofs.Progress.{HasServed, StaysUnmounted}
 use Rattle.cut_replay.proofs.serving.serve_all.Given as goal
 

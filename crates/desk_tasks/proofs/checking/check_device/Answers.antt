@@ -1,6 +1,5 @@
-use Rattle.std.proofs.Common.{refl}
-use Rattle.desk_tasks.specs.Fate.{Good}
-use Rattle.desk_tasks.specs.Steps.{Judging}
+use Rattle.desk_tasks.proofs.Common.{refl, Judging}
+use Rattle.desk_tasks.specs.Ending.{Good}
 use Rattle.desk_tasks.proofs.Works.{stopped}
 use Rattle.desk_tasks.proofs.checking.check_device.Goals as goal
 

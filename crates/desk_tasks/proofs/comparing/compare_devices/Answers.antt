@@ -1,6 +1,4 @@
-use Rattle.std.proofs.Common.{refl}
-use Rattle.desk_tasks.specs.Fate.{Same}
-use Rattle.desk_tasks.specs.Steps.{Comparing}
+use Rattle.desk_tasks.proofs.Common.{refl, Same, Comparing}
 use Rattle.desk_tasks.proofs.Works.{stopped}
 use Rattle.desk_tasks.proofs.comparing.compare_devices.Goals as goal
 

@@ -1,8 +1,4 @@
-use Rattle.desk_tasks.specs.Checking.{array_of_device}
-use Rattle.desk_tasks.specs.Differences.{ComesTo}
-use Rattle.desk_tasks.specs.Fate.{Same}
-use Rattle.desk_tasks.specs.Steps.{Opening}
-use Rattle.desk_tasks.specs.Stops.{RefusesDevice}
+use Rattle.desk_tasks.proofs.Common.{array_of_device, ComesTo, Same, Opening, RefusesDevice}
 use Rattle.desk_tasks.proofs.Findings.{leads_err, leads_ok, leads_stop, opened_second, second_refused}
 use Rattle.desk_tasks.proofs.comparing.compare_to_flash.Goals as goal
 
@@ -24,7 +20,7 @@ returns-clause-ok g c =
     let two = c.in_ok-two.two.machine in
     leads_ok (ComesTo a pages b two.pages) (Opening b other (ComesTo a pages b (array_of_device b other))) Same
     (opened_second a pages b other c.in_ok-two.ensures.sound two c.in_ok-two.ensures.ok.machine)
-    c.compared_devices-outcome.result c.compared_devices-outcome.ensures.ok
+    c.compare_opened-outcome.result c.compare_opened-outcome.ensures.ok
 
 pub returns-clause-err : goal.returns-clause-err
 returns-clause-err g c =
@@ -35,4 +31,4 @@ returns-clause-err g c =
     let two = c.in_ok-two.two.machine in
     leads_err (ComesTo a pages b two.pages) (Opening b other (ComesTo a pages b (array_of_device b other)))
     (opened_second a pages b other c.in_ok-two.ensures.sound two c.in_ok-two.ensures.ok.machine)
-    c.compared_devices-outcome.result c.compared_devices-outcome.ensures.err
+    c.compare_opened-outcome.result c.compare_opened-outcome.ensures.err

@@ -1,6 +1,5 @@
-use Rattle.std.proofs.Common.{◌≡◌, ◌<◌, ℕ, false, length}
+use Rattle.desk_tasks.proofs.Common.{◌≡◌, ◌<◌, ℕ, false, length, state_of}
 use Rattle.flash_model.specs.Flash.{IsSteady}
-use Rattle.mem_flash.specs.Memory.{state_of}
 use Rattle.array_machine.specs.ArrayState.{page_at}
 use Rattle.desk_tasks.proofs.comparing.search_pages.Given as goal
 

@@ -1,4 +1,4 @@
-use Rattle.std.proofs.Common.{◌≡◌, take}
+use Rattle.desk_tasks.proofs.Common.{◌≡◌, take}
 use Rattle.std.specs.List.{flat_map}
 use Rattle.mem_flash.specs.Slots.{cell_of}
 use Rattle.desk_tasks.proofs.kept.cells.Given as goal

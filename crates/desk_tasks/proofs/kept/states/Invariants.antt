@@ -1,4 +1,5 @@
-use Rattle.std.proofs.Common.{◌≡◌, map, take}
+use Rattle.desk_tasks.proofs.Common.{◌≡◌, take}
+use Rattle.std.proofs.Common.{map}
 use Rattle.flash_model.specs.Calls.{seen_of}
 use Rattle.desk_tasks.proofs.kept.states.Given as goal
 

@@ -1,9 +1,6 @@
-use Rattle.std.proofs.Common.{refl}
-use Rattle.desk_tasks.specs.Fate.{Keyed}
-use Rattle.desk_tasks.specs.KeyWork.{OpensStore}
-use Rattle.desk_tasks.specs.Steps.{Opening}
+use Rattle.desk_tasks.proofs.Common.{refl, Keyed, OpensStore, Opening}
 use Rattle.desk_tasks.specs.Stops.{RefusesStore}
-use Rattle.desk_tasks.proofs.KeyFates.{keys_held, opening_done, opening_store}
+use Rattle.desk_tasks.proofs.KeyEndings.{keys_held, opening_done, opening_store}
 use Rattle.desk_tasks.proofs.Works.{stopped}
 use Rattle.desk_tasks.proofs.keying.run_keys.Goals as goal
 

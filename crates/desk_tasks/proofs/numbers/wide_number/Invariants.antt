@@ -1,4 +1,5 @@
-use Rattle.std.proofs.Common.{◌≡◌, ◌^◌, ◌<◌, drop, ◌+◌, ◌-◌, ◌*◌}
+use Rattle.desk_tasks.proofs.Common.{◌≡◌, ◌<◌, ◌*◌}
+use Rattle.std.proofs.Common.{◌^◌, drop, ◌+◌, ◌-◌}
 use Rattle.std.specs.List.{list_all, fold}
 use Rattle.host_protocol.specs.Numbers.{is_digit, value_of}
 use Rattle.desk_tasks.proofs.numbers.wide_number.Given as goal

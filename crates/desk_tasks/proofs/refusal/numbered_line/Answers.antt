@@ -1,4 +1,4 @@
-use Rattle.std.proofs.Common.{append_assoc}
+use Rattle.desk_tasks.proofs.Common.{append_assoc}
 use Rattle.desk_tasks.proofs.refusal.numbered_line.Goals as goal
 
 pub returns : goal.returns

@@ -1,7 +1,4 @@
-use Rattle.std.proofs.Common.{Ok, Err, refl}
-use Rattle.desk_tasks.specs.Fate.{Ran}
-use Rattle.desk_tasks.specs.Steps.{OpensAndServes}
-use Rattle.desk_tasks.specs.Stops.{RefusesDevice}
+use Rattle.desk_tasks.proofs.Common.{Ok, Err, refl, Ran, OpensAndServes, RefusesDevice}
 use Rattle.desk_tasks.proofs.Works.{stopped}
 use Rattle.desk_tasks.proofs.tasks.run_commands.Goals as goal
 

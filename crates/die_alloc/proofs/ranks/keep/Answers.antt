@@ -1,7 +1,7 @@
 use Rattle.std.proofs.Common.{sym, ◌∙◌, ap}
 use Rattle.std.proofs.lemmas.List.{get_or_read}
 use Rattle.die_alloc.specs.declared.block_use.BlockUse.{BlockUse}
-use Rattle.die_alloc.specs.BlockTable.{no_block}
+use Rattle.die_alloc.specs.BlocksState.{no_block}
 use Rattle.die_alloc.specs.Ranks.{rank_of}
 use Rattle.die_alloc.proofs.RankedBlocks.{kept_ranks, same_ranks, rest_is, spot_lies}
 use Rattle.die_alloc.proofs.ranks.keep.Goals as goal

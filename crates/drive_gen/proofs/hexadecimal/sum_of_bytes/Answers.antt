@@ -1,4 +1,4 @@
-use Rattle.std.proofs.Common.{arith}
+use Rattle.drive_gen.proofs.Common.{arith}
 use Rattle.host_protocol.proofs.PartLemmas.{rest_is}
 use Rattle.drive_gen.proofs.HexLemmas.{sum_more, sum_none, sum_most}
 use Rattle.drive_gen.proofs.hexadecimal.sum_of_bytes.Goals as goal

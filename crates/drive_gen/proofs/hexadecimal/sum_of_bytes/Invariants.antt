@@ -1,5 +1,4 @@
-use Rattle.std.proofs.Common.{◌≡◌, ◌+◌, length}
-use Rattle.drive_gen.specs.Summary.{sum_of_bytes}
+use Rattle.drive_gen.proofs.Common.{◌≡◌, ◌+◌, length, sum_of_bytes}
 use Rattle.drive_gen.proofs.hexadecimal.sum_of_bytes.Given as goal
 
 abbrev pub invariant-loop-rest : goal.invariant-loop-rest

@@ -1,8 +1,7 @@
 mod TextLemmas
-use Rattle.std.proofs.Common.{[], ◌∷◌, length, refl, codes}
+use Rattle.drive_gen.proofs.Common.{[], ◌∷◌, length, refl, codes, lines_of, last_stats}
 use Rattle.std.specs.Fmt.{decimal}
-use Rattle.host_protocol.specs.Lines.{lines_of}
-use Rattle.drive_gen.specs.Summary.{asked_words, count_words, flash_words, last_stats, sum_of_pages, summary_line}
+use Rattle.drive_gen.specs.Summary.{asked_words, count_words, flash_words, sum_of_pages, summary_line}
 use Rattle.drive_gen.proofs.line.summary.Answers.TextLemmas.{line_parts}
 use Rattle.drive_gen.proofs.line.summary.Goals as goal
 

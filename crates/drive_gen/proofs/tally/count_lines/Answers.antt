@@ -1,6 +1,4 @@
-use Rattle.std.proofs.Common.{sym, ◌∙◌, ap, arith}
-use Rattle.host_protocol.specs.Lines.{lines_of}
-use Rattle.drive_gen.specs.Tally.{plus, tally_of}
+use Rattle.drive_gen.proofs.Common.{sym, ◌∙◌, ap, arith, lines_of, plus, tally_of}
 use Rattle.drive_gen.proofs.tally.count_lines.Invariants.TallyLemmas.{last_begin, some_small, tally_begin, tally_small}
 use Rattle.drive_gen.proofs.tally.count_lines.Goals as goal
 

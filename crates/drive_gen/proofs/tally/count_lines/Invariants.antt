@@ -1,9 +1,6 @@
 mod SizeLemmas
 pub mod TallyLemmas
-use Rattle.std.proofs.Common.{◌≡◌, length}
-use Rattle.host_protocol.specs.Lines.{lines_of}
-use Rattle.drive_gen.specs.Summary.{last_stats}
-use Rattle.drive_gen.specs.Tally.{plus, tally_of}
+use Rattle.drive_gen.proofs.Common.{◌≡◌, length, lines_of, last_stats, plus, tally_of}
 use Rattle.drive_gen.proofs.tally.count_lines.Invariants.TallyLemmas.{last_from}
 use Rattle.drive_gen.proofs.tally.count_lines.Given as goal
 

@@ -1,10 +1,10 @@
-use Rattle.std.proofs.Common.{◌≡◌, ℕ, ◌+◌, ap, arith, refl, sym, ◌∙◌, Result, Ok, Err}
+use Rattle.drive_gen.proofs.Common.{◌≡◌, ℕ, ◌+◌, ap, arith, refl, sym, ◌∙◌, next_state, generator_after, page_count}
+use Rattle.std.proofs.Common.{Result, Ok, Err}
 use Rattle.std.specs.Result.{OnOk}
-use Rattle.drive_gen.specs.Generator.{high_bits, next_state, generator_after}
+use Rattle.drive_gen.specs.Generator.{high_bits}
 use Rattle.drive_gen.specs.Kinds.{kind_of}
 use Rattle.drive_gen.specs.declared.kind.Kind.{Kind}
 use Rattle.drive_gen.specs.declared.kind.Kind.TheVariants as kind
-use Rattle.drive_gen.specs.Work.{page_count}
 use Rattle.drive_gen.proofs.DrawLemmas.{kind_abort, kind_cut, kind_finish, state_more}
 use Rattle.drive_gen.proofs.transaction.add_transaction.Goals as goal
 

@@ -1,10 +1,7 @@
-use Rattle.std.proofs.Common.{◌≡◌, ℕ, ◌+◌, map, ap, arith, refl, ◌∙◌}
-use Rattle.std.specs.List.{range_with_len}
+use Rattle.drive_gen.proofs.Common.{◌≡◌, ℕ, ◌+◌, map, ap, arith, refl, ◌∙◌, range_with_len, Config, next_state, generator_after, drawn_batch, drawn_write, page_count}
 use Rattle.std.proofs.lemmas.List.FromFn.{map-range_with_len_more}
 use Rattle.tx_types.specs.Batch.{Writes}
-use Rattle.tx_types.specs.declared.config.Config.{Config}
-use Rattle.drive_gen.specs.Generator.{high_bits, next_state, generator_after}
-use Rattle.drive_gen.specs.Work.{drawn_batch, drawn_write, page_count}
+use Rattle.drive_gen.specs.Generator.{high_bits}
 use Rattle.drive_gen.proofs.DrawLemmas.{state_more, state_first}
 use Rattle.drive_gen.proofs.transaction.draw_batch.Goals as goal
 

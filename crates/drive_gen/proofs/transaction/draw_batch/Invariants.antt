@@ -1,7 +1,4 @@
-use Rattle.std.proofs.Common.{◌≡◌, ◌+◌, map}
-use Rattle.std.specs.List.{range_with_len}
-use Rattle.drive_gen.specs.Generator.{generator_after}
-use Rattle.drive_gen.specs.Work.{drawn_write}
+use Rattle.drive_gen.proofs.Common.{◌≡◌, ◌+◌, map, range_with_len, generator_after, drawn_write}
 use Rattle.drive_gen.proofs.transaction.draw_batch.Given as goal
 
 abbrev pub invariant-loop-k : goal.invariant-loop-k

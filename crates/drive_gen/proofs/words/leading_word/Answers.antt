@@ -1,4 +1,5 @@
-use Rattle.std.proofs.Common.{◌≡◌, [], ℕ, List, ◌++◌, take, drop, codes, refl, sym, subst, ◌∙◌}
+use Rattle.drive_gen.proofs.Common.{◌≡◌, [], ℕ, List, ◌++◌, drop, codes, refl, sym, ◌∙◌}
+use Rattle.std.proofs.Common.{take, subst}
 use Rattle.std.proofs.lemmas.List.{take-append-drop}
 use Rattle.std.specs.Cmp.Lexicographic.{bytes_decides}
 use Rattle.host_protocol.specs.Lines as lines

@@ -1,6 +1,5 @@
-use Rattle.std.proofs.Common.{◌∙◌}
-use Rattle.list_facts.proofs.Lists.{next}
-use Rattle.host_protocol.specs.Lines.{words_of}
+use Rattle.drive_gen.proofs.Common.{◌∙◌, words_of}
+use Rattle.list_lemmas.proofs.Lists.{next}
 use Rattle.drive_gen.proofs.words.word_at.Goals as goal
 
 pub loop-passed-preserved : goal.loop-passed-preserved

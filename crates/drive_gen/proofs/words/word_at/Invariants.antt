@@ -1,5 +1,4 @@
-use Rattle.std.proofs.Common.{◌≡◌, drop}
-use Rattle.host_protocol.specs.Lines.{words_of}
+use Rattle.drive_gen.proofs.Common.{◌≡◌, drop, words_of}
 use Rattle.drive_gen.proofs.words.word_at.Given as goal
 
 abbrev pub invariant-loop-passed : goal.invariant-loop-passed

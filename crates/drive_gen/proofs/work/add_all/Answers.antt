@@ -1,5 +1,4 @@
-use Rattle.std.proofs.Common.{append_assoc}
-use Rattle.drive_gen.specs.Work.{generated}
+use Rattle.drive_gen.proofs.Common.{append_assoc, generated}
 use Rattle.drive_gen.proofs.work.add_all.Goals as goal
 
 pub returns : goal.returns

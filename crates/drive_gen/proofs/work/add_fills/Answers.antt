@@ -1,6 +1,5 @@
-use Rattle.std.proofs.Common.{append_assoc, refl}
-use Rattle.list_facts.proofs.Ranges.{flat_more}
-use Rattle.drive_gen.specs.Work.{fill}
+use Rattle.drive_gen.proofs.Common.{append_assoc, refl, fill}
+use Rattle.list_lemmas.proofs.Ranges.{flat_more}
 use Rattle.drive_gen.proofs.work.add_fills.Goals as goal
 
 pub loop-page-preserved : goal.loop-page-preserved

@@ -1,6 +1,4 @@
-use Rattle.std.proofs.Common.{◌≡◌, ◌++◌, flat_map}
-use Rattle.std.specs.List.{range_with_len}
-use Rattle.drive_gen.specs.Work.{fill}
+use Rattle.drive_gen.proofs.Common.{◌≡◌, ◌++◌, flat_map, range_with_len, fill}
 use Rattle.drive_gen.proofs.work.add_fills.Given as goal
 
 abbrev pub invariant-loop-page : goal.invariant-loop-page

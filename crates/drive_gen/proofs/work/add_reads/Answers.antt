@@ -1,4 +1,4 @@
-use Rattle.std.proofs.Common.{append_assoc, arith, refl}
+use Rattle.drive_gen.proofs.Common.{append_assoc, arith, refl}
 use Rattle.std.proofs.lemmas.List.FromFn.{map-range_with_len_more}
 use Rattle.host_protocol.specs.declared.command.Command.TheVariants as command
 use Rattle.drive_gen.proofs.work.add_reads.Goals as goal

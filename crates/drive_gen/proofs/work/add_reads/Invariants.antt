@@ -1,5 +1,4 @@
-use Rattle.std.proofs.Common.{◌≡◌, ◌++◌, map}
-use Rattle.std.specs.List.{range_with_len}
+use Rattle.drive_gen.proofs.Common.{◌≡◌, ◌++◌, map, range_with_len}
 use Rattle.host_protocol.specs.declared.command.Command.TheVariants as command
 use Rattle.drive_gen.proofs.work.add_reads.Given as goal
 

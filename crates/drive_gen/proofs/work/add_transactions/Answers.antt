@@ -1,6 +1,6 @@
-use Rattle.std.proofs.Common.{append_assoc, append-nil, refl, sym}
-use Rattle.list_facts.proofs.Ranges.{flat_more}
-use Rattle.drive_gen.specs.Work.{numbered}
+use Rattle.drive_gen.proofs.Common.{append_assoc, refl, sym, numbered}
+use Rattle.std.proofs.Common.{append-nil}
+use Rattle.list_lemmas.proofs.Ranges.{flat_more}
 use Rattle.drive_gen.proofs.DrawLemmas.{behind_more, behind_none}
 use Rattle.drive_gen.proofs.work.add_transactions.Goals as goal
 

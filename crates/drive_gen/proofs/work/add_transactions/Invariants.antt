@@ -1,6 +1,5 @@
-use Rattle.std.proofs.Common.{◌≡◌, ◌++◌, flat_map}
-use Rattle.std.specs.List.{range_with_len}
-use Rattle.drive_gen.specs.Work.{numbered, state_behind_all}
+use Rattle.drive_gen.proofs.Common.{◌≡◌, ◌++◌, flat_map, range_with_len, numbered}
+use Rattle.drive_gen.specs.Work.{state_behind_all}
 use Rattle.drive_gen.proofs.work.add_transactions.Given as goal
 
 abbrev pub invariant-loop-i : goal.invariant-loop-i

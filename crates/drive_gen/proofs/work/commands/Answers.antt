@@ -1,8 +1,7 @@
 mod WorkLemmas
-use Rattle.std.proofs.Common.{◌≡◌, ◌∙◌, ap, refl, ◌++◌}
+use Rattle.drive_gen.proofs.Common.{◌≡◌, ◌∙◌, ap, refl, ◌++◌, generated}
 use Rattle.tx_types.specs.Config.{shape_of}
 use Rattle.tx_types.proofs.ConfigLemmas.{checked_config}
-use Rattle.drive_gen.specs.Work.{generated}
 use Rattle.drive_gen.proofs.work.commands.Answers.WorkLemmas.{list_suits}
 use Rattle.drive_gen.proofs.work.commands.Goals as goal
 

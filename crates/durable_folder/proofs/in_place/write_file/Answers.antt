@@ -1,4 +1,4 @@
-use Rattle.std.proofs.Common.{◌∙◌, length}
+use Rattle.durable_folder.proofs.Common.{◌∙◌, length}
 use Rattle.durable_folder.proofs.Overwriting.{head_cleared, not_cleared, rest_put, rest_not_put, head_put}
 use Rattle.durable_folder.proofs.in_place.write_file.Goals as goal
 

@@ -1,4 +1,4 @@
-use Rattle.std.proofs.Common.{length}
+use Rattle.durable_folder.proofs.Common.{length}
 use Rattle.durable_folder.proofs.Heads.{head_not_sought, head_not_written, head_done}
 use Rattle.durable_folder.proofs.in_place.write_head.Goals as goal
 

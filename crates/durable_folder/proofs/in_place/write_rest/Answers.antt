@@ -1,4 +1,4 @@
-use Rattle.std.proofs.Common.{◌∙◌}
+use Rattle.durable_folder.proofs.Common.{◌∙◌}
 use Rattle.durable_folder.proofs.Heads.{rest_not_sought, rest_not_written, rest_and_length, rest_not_sized, rest_done}
 use Rattle.durable_folder.proofs.in_place.write_rest.Goals as goal
 

@@ -1,4 +1,4 @@
-use Rattle.std.proofs.Common.{refl}
+use Rattle.durable_folder.proofs.Common.{refl}
 use Rattle.durable_folder.proofs.Causing.{turn_later, later_then, then_failed, file_sync_failed}
 use Rattle.durable_folder.proofs.Overwriting.{no_file_written, no_file_synced, no_file_over}
 use Rattle.durable_folder.proofs.in_place.write_special.Goals as goal
@@ -17,7 +17,7 @@ returns-clause-writes g c first known =
     let before = g.F.Folder.told c.args.folder.now in
     let after = g.F.Folder.told c.write.new.self in
     let last = g.F.Folder.told c.sync.new.self in
-    no_file_over file c.args.bytes.now c.synced.result first last
+    no_file_over file c.args.bytes.now c.sync_answer.result first last
     (no_file_synced file.file (g.F.Folder.handle c.write.new.file) c.sync.result _ first after last c.write.ensures.same
     (no_file_written file.file file c.args.bytes.now c.write.result _ first before after refl known c.write.ensures.writes) c.sync.ensures)
 
@@ -28,5 +28,5 @@ returns-clause-fault g c =
     let last = g.F.Folder.told c.sync.new.self in
     let written = turn_later _ _ before after c.write.ensures.writes in (
       later_then before after last written (turn_later _ _ after last c.sync.ensures),
-      λ err. then_failed before after last written (file_sync_failed _ c.sync.result after last c.sync.ensures (rw c.synced.ensures at err)),
+      λ err. then_failed before after last written (file_sync_failed _ c.sync.result after last c.sync.ensures (rw c.sync_answer.ensures at err)),
     )

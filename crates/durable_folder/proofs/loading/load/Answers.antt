@@ -1,4 +1,4 @@
-use Rattle.durable_folder.specs.Counting.{quiet, error_answer, is_absence}
+use Rattle.durable_folder.proofs.Common.{quiet, error_answer, is_absence}
 use Rattle.durable_folder.proofs.Reading.{not_opened, not_opened_why, not_read_why, opened_read}
 use Rattle.durable_folder.proofs.loading.load.Goals as goal
 

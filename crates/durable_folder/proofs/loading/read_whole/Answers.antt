@@ -1,5 +1,4 @@
-use Rattle.std.proofs.Common.{refl}
-use Rattle.durable_folder.specs.Counting.{quiet}
+use Rattle.durable_folder.proofs.Common.{refl, quiet}
 use Rattle.durable_folder.proofs.Learning.{finds_rests}
 use Rattle.durable_folder.proofs.Reading.{not_read, found_not_read, read}
 use Rattle.durable_folder.proofs.loading.read_whole.Goals as goal

@@ -1,5 +1,4 @@
-use Rattle.std.proofs.Common.{rules}
-use Rattle.durable_folder.specs.Counting.{quiet, error_answer, never}
+use Rattle.durable_folder.proofs.Common.{rules, quiet, error_answer, never}
 use Rattle.durable_folder.proofs.Causing.{turn_later}
 use Rattle.durable_folder.proofs.Claiming.{cause_held, claim_failed, claimed, holds_rests, none_known, nothing_claimed}
 use Rattle.durable_folder.proofs.Learning.{opens_rests, rests_then}

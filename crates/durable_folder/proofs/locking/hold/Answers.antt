@@ -1,5 +1,4 @@
-use Rattle.std.proofs.Common.{inr, true, false, Ok}
-use Rattle.durable_folder.specs.Counting.{quiet}
+use Rattle.durable_folder.proofs.Common.{inr, true, false, Ok, quiet}
 use Rattle.durable_folder.specs.Locking.{Compares}
 use Rattle.durable_folder.proofs.Causing.{turn_later, later_then}
 use Rattle.durable_folder.proofs.Claiming.{asks_rests, compares_rests, holds_failed, special_held, special_cause, plain_held, plain_stale}

@@ -1,4 +1,4 @@
-use Rattle.durable_folder.specs.Counting.{quiet}
+use Rattle.durable_folder.proofs.Common.{quiet}
 use Rattle.durable_folder.proofs.Claiming.{compared, compares_failed, looked_up}
 use Rattle.durable_folder.proofs.Learning.{finds_rests, opens_rests, rests_then}
 use Rattle.durable_folder.proofs.locking.is_current.Goals as goal

@@ -1,4 +1,4 @@
-use Rattle.std.proofs.Common.{◌∙◌, sym}
+use Rattle.durable_folder.proofs.Common.{◌∙◌, sym}
 use Rattle.durable_folder.proofs.Claiming.{lock_taken, lock_refused}
 use Rattle.durable_folder.proofs.locking.lock.Goals as goal
 

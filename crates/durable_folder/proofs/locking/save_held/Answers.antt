@@ -1,6 +1,4 @@
-use Rattle.std.proofs.Common.{refl, Err}
-use Rattle.durable_folder.specs.Causes.{AtNow}
-use Rattle.durable_folder.specs.Locking.{IsStale}
+use Rattle.durable_folder.proofs.Common.{refl, Err, AtNow, IsStale}
 use Rattle.durable_folder.proofs.Causing.{cause_later}
 use Rattle.durable_folder.proofs.Claiming.{claimed_first, held_cause, taken_back}
 use Rattle.durable_folder.proofs.Leading.{nothing_saved, saves_after, TakenThere}

@@ -1,7 +1,5 @@
-use Rattle.std.proofs.Common.{◌∙◌, ap, refl, arith}
-use Rattle.std.specs.Path.{path_buf_bytes}
+use Rattle.durable_folder.proofs.Common.{◌∙◌, ap, refl, arith, path_buf_bytes, beside_of, handle_of}
 use Rattle.std.specs.Str.{bytes_eq}
-use Rattle.durable_folder.specs.NewFiles.{beside_of, handle_of}
 use Rattle.durable_folder.proofs.Causing.{later_then, try_later, may_pass_over, taken_skipped, taken_tried}
 use Rattle.durable_folder.proofs.Making.{made_tried, failed_tried, still_untaken, not_refused, differ, same}
 use Rattle.durable_folder.proofs.new_file.new_file.Goals as goal

@@ -1,6 +1,5 @@
-use Rattle.std.proofs.Common.{◌≡◌}
-use Rattle.durable_folder.specs.Causes.{AtNow, IsLater, TakenBelow}
-use Rattle.durable_folder.specs.Histories.{Runs}
+use Rattle.durable_folder.proofs.Common.{◌≡◌, AtNow, IsLater, Runs}
+use Rattle.durable_folder.specs.Causes.{TakenBelow}
 use Rattle.durable_folder.proofs.new_file.new_file.Given as goal
 
 -- No file was made so far, and all names so far are taken.

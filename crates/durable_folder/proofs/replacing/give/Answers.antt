@@ -1,4 +1,4 @@
-use Rattle.std.proofs.Common.{◌∙◌, sym, false}
+use Rattle.durable_folder.proofs.Common.{◌∙◌, sym, false}
 use Rattle.durable_folder.proofs.Filling.{not_given, given_last}
 use Rattle.durable_folder.proofs.replacing.give.Goals as goal
 

@@ -1,5 +1,4 @@
-use Rattle.std.proofs.Common.{inl, inr, Ok, ap}
-use Rattle.durable_folder.specs.Counting.{quiet}
+use Rattle.durable_folder.proofs.Common.{inl, inr, Ok, ap, quiet}
 use Rattle.durable_folder.proofs.Causing.{named_found, named_not_found}
 use Rattle.durable_folder.proofs.Filling.{finds_still, both_still}
 use Rattle.durable_folder.proofs.replacing.has_name.Goals as goal

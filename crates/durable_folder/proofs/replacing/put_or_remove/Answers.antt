@@ -1,4 +1,4 @@
-use Rattle.std.proofs.Common.{Ok}
+use Rattle.durable_folder.proofs.Common.{Ok}
 use Rattle.durable_folder.proofs.Learning.{rests_same}
 use Rattle.durable_folder.proofs.Finishing.{put_ends_at, removed_ends, ends_err, is_error, same_refused_at}
 use Rattle.durable_folder.specs.declared.answers.Replaced.TheVariants.{Refused}

@@ -1,14 +1,11 @@
-use Rattle.std.proofs.Common.{◌∙◌, refl}
-use Rattle.durable_folder.specs.Causes.{AtNow, AllTaken}
-use Rattle.durable_folder.specs.Counting.{quiet}
-use Rattle.durable_folder.specs.Answers.{refusal_of}
+use Rattle.durable_folder.proofs.Common.{◌∙◌, refl, AtNow, AllTaken, quiet, refusal_of}
 use Rattle.durable_folder.proofs.Causing.{turn_later, turn_back, cause_later, fault_cause, not_opened_cause}
 use Rattle.durable_folder.proofs.Finishing.{not_opened, opened_replaced, opened_place}
 use Rattle.durable_folder.proofs.replacing.replace.Goals as goal
 
 pub returns-in-Err-clause-replaces : goal.returns-in-Err-clause-replaces
 returns-in-Err-clause-replaces g c =
-    rw c.refused.ensures (not_opened g.F.Folder.place c.folder_of.result.now c.args.name.now c.args.owner c.args.bytes.now c.in-Err.closed _
+    rw c.refusal_of.ensures (not_opened g.F.Folder.place c.folder_of.result.now c.args.name.now c.args.owner c.args.bytes.now c.in-Err.closed _
     (g.F.Folder.told c.args.folder.now)
     (g.F.Folder.told c.open_folder.new.self) refl c.in-Err.ensures)
 
@@ -24,7 +21,7 @@ returns-in-Ok-clause-replaces g c =
 
 pub returns-in-Err-clause-cause : goal.returns-in-Err-clause-cause
 returns-in-Err-clause-cause g c =
-    rw c.refused.ensures (fault_cause _ (refusal_of c.in-Err.closed) (g.F.Folder.told c.args.folder.now) (g.F.Folder.told c.open_folder.new.self)
+    rw c.refusal_of.ensures (fault_cause _ (refusal_of c.in-Err.closed) (g.F.Folder.told c.args.folder.now) (g.F.Folder.told c.open_folder.new.self)
     (not_opened_cause _ c.folder_of.result.now c.in-Err.closed (g.F.Folder.told c.args.folder.now) (g.F.Folder.told c.open_folder.new.self)
     c.in-Err.ensures))
 

@@ -1,6 +1,5 @@
-use Rattle.std.proofs.Common.{inl, inr}
-use Rattle.durable_folder.specs.Causes.{AtNow, IsNamed}
-use Rattle.durable_folder.specs.NewFiles.{beside_of, handle_of}
+use Rattle.durable_folder.proofs.Common.{inl, inr, AtNow, beside_of, handle_of}
+use Rattle.durable_folder.specs.Causes.{IsNamed}
 use Rattle.durable_folder.specs.Saving.{Ends}
 use Rattle.durable_folder.proofs.Causing.{then_failed, failed_then, fills_named}
 use Rattle.durable_folder.proofs.Passing.{told_before}

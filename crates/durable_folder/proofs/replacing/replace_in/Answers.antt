@@ -1,6 +1,4 @@
-use Rattle.std.proofs.Common.{◌∙◌, ap, Ok}
-use Rattle.durable_folder.specs.Causes.{AtNow, AllTaken}
-use Rattle.durable_folder.specs.NewFiles.{beside_of, handle_of}
+use Rattle.durable_folder.proofs.Common.{◌∙◌, ap, Ok, AtNow, AllTaken, beside_of, handle_of}
 use Rattle.durable_folder.proofs.Causing.{later_then, then_failed, now_back, cause_later, fault_cause, refused_cause, made_named}
 use Rattle.durable_folder.proofs.Passing.{told_before}
 use Rattle.durable_folder.proofs.Finishing.{mounted_at, mounted_refused, not_looked, not_made, replaced_in, then_replaced}
@@ -39,9 +37,9 @@ returns-in-Err-clause-replaces g c at =
     let before = g.F.Folder.told c.args.folder.now in
     let looked = g.F.Folder.told c.is_mounted.new.folder in
     let made = g.F.Folder.told c.new_file.new.folder in
-    then_replaced c.args.name.now c.args.owner c.args.bytes.now c.is_mounted.result c.refused.result before looked made
+    then_replaced c.args.name.now c.args.owner c.args.bytes.now c.is_mounted.result c.refusal_of.result before looked made
     (mounted_at (g.F.Folder.place c.args.place.now) c.args.name.now c.args.owner c.is_mounted.result before looked at c.is_mounted.ensures.mounted)
-    (rw c.refused.ensures (not_made c.args.name.now c.args.bytes.now c.in-Err.error looked made c.in-Err.ensures.makes))
+    (rw c.refusal_of.ensures (not_made c.args.name.now c.args.bytes.now c.in-Err.error looked made c.in-Err.ensures.makes))
 
 pub returns-in-Ok-clause-cause : goal.returns-in-Ok-clause-cause
 returns-in-Ok-clause-cause g c =
@@ -62,6 +60,6 @@ returns-in-Err-clause-cause g c =
     let looked = g.F.Folder.told c.is_mounted.new.folder in
     let made = g.F.Folder.told c.new_file.new.folder in
     let taken = AllTaken c.args.name.now in
-    cause_later (AtNow taken looked) (AtNow taken before) c.refused.result before looked made c.is_mounted.ensures.fault.0
+    cause_later (AtNow taken looked) (AtNow taken before) c.refusal_of.result before looked made c.is_mounted.ensures.fault.0
     (λ at. now_back taken before looked c.is_mounted.ensures.mounted at)
-    (rw c.refused.ensures (refused_cause _ c.in-Err.error looked made c.in-Err.ensures.cause))
+    (rw c.refusal_of.ensures (refused_cause _ c.in-Err.error looked made c.in-Err.ensures.cause))

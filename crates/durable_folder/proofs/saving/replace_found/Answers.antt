@@ -1,4 +1,4 @@
-use Rattle.std.proofs.Common.{inl, refl}
+use Rattle.durable_folder.proofs.Common.{inl, refl}
 use Rattle.durable_folder.proofs.saving.replace_found.Goals as goal
 
 pub returns-then-found-le1-clause-replaces : goal.returns-then-found-le1-clause-replaces

@@ -1,6 +1,4 @@
-use Rattle.std.proofs.Common.{None}
-use Rattle.durable_folder.specs.FolderState.{IsFree}
-use Rattle.durable_folder.specs.Ways.{WasFound}
+use Rattle.durable_folder.proofs.Common.{None, IsFree, WasFound}
 use Rattle.durable_folder.proofs.Leading.{saves_less}
 use Rattle.durable_folder.proofs.saving.save_at.Goals as goal
 

@@ -1,13 +1,8 @@
-use Rattle.std.proofs.Common.{refl, Err}
-use Rattle.std.specs.Global.{Global}
-use Rattle.std.specs.Path.{path_buf_bytes}
-use Rattle.durable_folder.specs.Calls.{Opens}
-use Rattle.durable_folder.specs.Causes.{AtNow, AllTaken}
-use Rattle.durable_folder.specs.Counting.{quiet, not_given}
+use Rattle.durable_folder.proofs.Common.{refl, Err, Global, path_buf_bytes, Opens, AtNow, AllTaken, quiet, Ok}
+use Rattle.durable_folder.specs.Counting.{not_given}
 use Rattle.durable_folder.proofs.Causing.{turn_later, cause_later}
 use Rattle.durable_folder.proofs.Leading.{resolved, resolved_only, not_resolved, saved_unresolved, TakenThere, there_taken}
 use Rattle.durable_folder.proofs.saving.save_opened.Goals as goal
-use Rattle.std.proofs.Common.{Ok}
 
 pub returns-in-Ok-clause-saves : goal.returns-in-Ok-clause-saves
 returns-in-Ok-clause-saves g c start first known =

@@ -1,7 +1,4 @@
-use Rattle.std.proofs.Common.{Some, Err}
-use Rattle.durable_folder.specs.Causes.{AtNow, AllTaken}
-use Rattle.durable_folder.specs.Counting.{quiet}
-use Rattle.durable_folder.specs.Ways.{WasFound}
+use Rattle.durable_folder.proofs.Common.{Some, Err, AtNow, AllTaken, quiet, WasFound}
 use Rattle.durable_folder.proofs.Causing.{turn_later, turn_back, cause_later}
 use Rattle.durable_folder.proofs.Tearing.{not_opened, over_done, over_failed, over_refused}
 use Rattle.durable_folder.proofs.saving.save_over.Goals as goal

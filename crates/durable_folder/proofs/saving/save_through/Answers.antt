@@ -1,6 +1,4 @@
-use Rattle.std.proofs.Common.{refl, rules, Err}
-use Rattle.durable_folder.specs.Causes.{AtNow}
-use Rattle.durable_folder.specs.Counting.{quiet, error_answer, never}
+use Rattle.durable_folder.proofs.Common.{refl, rules, Err, AtNow, quiet, error_answer, never}
 use Rattle.durable_folder.proofs.Causing.{turn_later, turn_back, cause_later}
 use Rattle.durable_folder.proofs.Leading.{leads_nowhere, saved_nowhere, not_opened, opened, TakenThere}
 use Rattle.durable_folder.proofs.saving.save_through.Goals as goal

@@ -1,4 +1,4 @@
-use Rattle.durable_folder.specs.Counting.{quiet}
+use Rattle.durable_folder.proofs.Common.{quiet}
 use Rattle.durable_folder.proofs.Bearing.{new_not_opened, new_written}
 use Rattle.durable_folder.proofs.saving.write_new.Goals as goal
 

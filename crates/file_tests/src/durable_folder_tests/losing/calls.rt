@@ -1,6 +1,6 @@
 //! The calls of a folder that loses power.
 use super::mixes::mix;
-use super::{LosingFolder, Opened, Setting};
+use super::{CrashingFolder, Opened, Setting};
 use durable_folder::{Folder, Found, Lock};
 use std::alloc::{AllocError, Global};
 use std::fs::Permissions;
@@ -26,7 +26,7 @@ fn overwritten(
     Ok(written)
 }
 
-impl LosingFolder {
+impl CrashingFolder {
     /// Adds an empty file of this name, which is not durably there. Gives its number.
     fn add_named_file(&mut self, name: &str) -> Result<usize, AllocError> {
         let file = self.add_file(&[])?;
@@ -62,7 +62,7 @@ impl LosingFolder {
     }
 }
 
-impl Folder for LosingFolder {
+impl Folder for CrashingFolder {
     ghost use Rattle.std.specs.Prelude.{[], None, true};
 
     type File = Opened;

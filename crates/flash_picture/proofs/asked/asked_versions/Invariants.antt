@@ -1,4 +1,4 @@
-use Rattle.std.proofs.Common.{take}
+use Rattle.flash_picture.proofs.Common.{take}
 use Rattle.flash_picture.specs.Held.{AreAsked}
 use Rattle.flash_picture.proofs.asked.asked_versions.Given as goal
 

@@ -1,5 +1,4 @@
-use Rattle.std.proofs.Common.{◌≡◌, map, take}
-use Rattle.flash_picture.specs.Cells.{cell_of}
+use Rattle.flash_picture.proofs.Common.{◌≡◌, map, take, cell_of}
 use Rattle.flash_picture.proofs.cells.cells.Given as goal
 
 abbrev pub invariant-loop-note : goal.invariant-loop-note

@@ -1,5 +1,4 @@
-use Rattle.std.proofs.Common.{◌∙◌, ◌++◌, ap}
-use Rattle.std.proofs.lemmas.Result.{on_ok_weaker}
+use Rattle.flash_picture.proofs.Common.{◌∙◌, ◌++◌, ap, on_ok_weaker}
 use Rattle.flash_picture.proofs.Texts.{then}
 use Rattle.flash_picture.proofs.legend.write_head.Goals as goal
 

@@ -1,4 +1,4 @@
-use Rattle.std.proofs.lemmas.Result.{on_ok_weaker}
+use Rattle.flash_picture.proofs.Common.{on_ok_weaker}
 use Rattle.flash_picture.specs.Svg.{link_entry}
 use Rattle.flash_picture.proofs.Texts.{then}
 use Rattle.flash_picture.proofs.legend.write_link_entry.Goals as goal

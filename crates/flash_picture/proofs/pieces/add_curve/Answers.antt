@@ -1,5 +1,4 @@
-use Rattle.std.proofs.Common.{◌≡◌, ◌∙◌, ◌++◌, ℕ, List, ap, append_assoc, codes, refl}
-use Rattle.std.proofs.lemmas.Result.{on_ok_weaker}
+use Rattle.flash_picture.proofs.Common.{◌≡◌, ◌∙◌, ◌++◌, ℕ, List, ap, append_assoc, codes, refl, on_ok_weaker}
 use Rattle.flash_picture.specs.Pieces.{curve, point}
 use Rattle.flash_picture.proofs.Texts.{then}
 use Rattle.flash_picture.proofs.pieces.add_curve.Goals as goal

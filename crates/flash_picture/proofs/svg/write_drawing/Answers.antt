@@ -1,6 +1,4 @@
-use Rattle.std.proofs.Common.{◌∙◌, ◌++◌, ap}
-use Rattle.flash_picture.specs.Grid.{height}
-use Rattle.flash_picture.specs.Svg.{above, lines_svg, walks_svg}
+use Rattle.flash_picture.proofs.Common.{◌∙◌, ◌++◌, ap, height, above, lines_svg, walks_svg}
 use Rattle.flash_picture.proofs.Texts.{then}
 use Rattle.flash_picture.proofs.svg.write_drawing.Goals as goal
 

@@ -1,6 +1,4 @@
-use Rattle.std.proofs.Common.{◌∙◌, ◌++◌, ap}
-use Rattle.std.proofs.lemmas.Result.{on_ok_weaker}
-use Rattle.flash_picture.specs.Svg.{drawing}
+use Rattle.flash_picture.proofs.Common.{◌∙◌, ◌++◌, ap, on_ok_weaker, drawing}
 use Rattle.flash_picture.proofs.svg.write_map.Goals as goal
 
 pub returns : goal.returns

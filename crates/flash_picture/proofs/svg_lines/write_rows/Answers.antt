@@ -1,5 +1,5 @@
-use Rattle.std.proofs.Common.{◌≡◌, ◌∙◌, ◌-◌, ◌++◌, ap, arith, length, length-append}
-use Rattle.flash_picture.specs.Svg.{steps_rows}
+use Rattle.flash_picture.proofs.Common.{◌≡◌, ◌∙◌, ◌-◌, ◌++◌, ap, arith, length, steps_rows}
+use Rattle.std.proofs.Common.{length-append}
 use Rattle.flash_picture.specs.Walks.{start_text}
 use Rattle.flash_picture.proofs.Texts.{then}
 use Rattle.flash_picture.proofs.svg_lines.write_rows.Goals as goal

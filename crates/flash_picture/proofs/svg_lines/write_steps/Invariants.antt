@@ -1,5 +1,6 @@
-use Rattle.std.proofs.Common.{◌≡◌, ◌+◌, ◌≤◌, ◌++◌, drop, length}
-use Rattle.flash_picture.specs.Svg.{steps_begin, steps_rows}
+use Rattle.flash_picture.proofs.Common.{◌≡◌, ◌+◌, ◌≤◌, ◌++◌, length, steps_rows}
+use Rattle.std.proofs.Common.{drop}
+use Rattle.flash_picture.specs.Svg.{steps_begin}
 use Rattle.flash_picture.proofs.svg_lines.write_steps.Given as goal
 
 abbrev pub invariant-loop-step : goal.invariant-loop-step

@@ -1,5 +1,5 @@
-use Rattle.std.proofs.Common.{◌∙◌, ◌+◌, ◌++◌, add-one, ap, ap₂, arith, sym}
-use Rattle.flash_picture.specs.Svg.{walk_rows, walk_svg, walk_takes, walks_take}
+use Rattle.flash_picture.proofs.Common.{◌∙◌, ◌+◌, ◌++◌, ap, ap₂, arith, sym, walk_rows, walk_svg, walk_takes, walks_take}
+use Rattle.std.proofs.Common.{add-one}
 use Rattle.flash_picture.proofs.Texts.{text_more}
 use Rattle.flash_picture.proofs.svg_lines.write_walks.Goals as goal
 

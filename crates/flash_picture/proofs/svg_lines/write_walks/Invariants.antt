@@ -1,6 +1,5 @@
-use Rattle.std.proofs.Common.{◌≡◌, ◌≤◌, ◌*◌, ◌++◌}
-use Rattle.std.specs.List.{flat_map, range_with_len}
-use Rattle.flash_picture.specs.Svg.{walk_svg, walks_take}
+use Rattle.flash_picture.proofs.Common.{◌≡◌, ◌≤◌, ◌++◌, flat_map, range_with_len, walk_svg, walks_take}
+use Rattle.std.proofs.Common.{◌*◌}
 use Rattle.flash_picture.proofs.svg_lines.write_walks.Given as goal
 
 abbrev pub invariant-loop-page : goal.invariant-loop-page

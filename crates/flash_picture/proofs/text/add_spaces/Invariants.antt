@@ -1,4 +1,5 @@
-use Rattle.std.proofs.Common.{◌≡◌, ◌++◌, replicate}
+use Rattle.flash_picture.proofs.Common.{◌≡◌, ◌++◌}
+use Rattle.std.proofs.Common.{replicate}
 use Rattle.flash_picture.proofs.text.add_spaces.Given as goal
 
 abbrev pub invariant-loop-space : goal.invariant-loop-space

@@ -1,5 +1,5 @@
-use Rattle.std.proofs.Common.{◌∙◌, ◌+◌, ◌∷◌, [], sym, ap, arith, length-append}
-use Rattle.flash_picture.specs.declared.walk.Step.TheVariants.{To}
+use Rattle.flash_picture.proofs.Common.{◌∙◌, ◌+◌, ◌∷◌, [], sym, ap, arith, To}
+use Rattle.std.proofs.Common.{length-append}
 use Rattle.flash_picture.proofs.Shown.{shown_all, shown_dots, shown_ended, shown_more}
 use Rattle.flash_picture.proofs.walk.steps_from.Goals as goal
 use Rattle.flash_picture.proofs.walk.steps_from.Goals.{then-logical-ge-MOST_LINKS+in_ok-push_last, else-logical-ge-MOST_LINKS}

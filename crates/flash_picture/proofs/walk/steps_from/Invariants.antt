@@ -1,4 +1,4 @@
-use Rattle.std.proofs.Common.{◌≡◌, ◌≤◌, length}
+use Rattle.flash_picture.proofs.Common.{◌≡◌, ◌≤◌, length}
 use Rattle.flash_picture.proofs.Shown.{IsShowing}
 use Rattle.flash_picture.proofs.walk.steps_from.Given as goal
 

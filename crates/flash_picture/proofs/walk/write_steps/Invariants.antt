@@ -1,6 +1,4 @@
-use Rattle.std.proofs.Common.{◌≡◌, ◌++◌, take}
-use Rattle.std.specs.List.{flat_map}
-use Rattle.flash_picture.specs.Walks.{step_text}
+use Rattle.flash_picture.proofs.Common.{◌≡◌, ◌++◌, take, flat_map, step_text}
 use Rattle.flash_picture.proofs.walk.write_steps.Given as goal
 
 abbrev pub invariant-loop-step : goal.invariant-loop-step

@@ -1,5 +1,5 @@
-use Rattle.std.proofs.Common.{◌∙◌, ◌++◌, ap}
-use Rattle.flash_picture.specs.Walks.{walk_line, walk_text}
+use Rattle.flash_picture.proofs.Common.{◌∙◌, ◌++◌, ap, walk_line}
+use Rattle.flash_picture.specs.Walks.{walk_text}
 use Rattle.flash_picture.proofs.Texts.{text_more}
 use Rattle.flash_picture.proofs.walk.write_walks.Goals as goal
 

@@ -1,5 +1,4 @@
-use Rattle.std.proofs.Common.{◌≡◌, ◌++◌}
-use Rattle.std.specs.List.{flat_map, range_with_len}
+use Rattle.flash_picture.proofs.Common.{◌≡◌, ◌++◌, flat_map, range_with_len}
 use Rattle.flash_picture.specs.Walks.{walk_text}
 use Rattle.flash_picture.proofs.walk.write_walks.Given as goal
 

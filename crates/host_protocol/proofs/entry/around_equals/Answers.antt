@@ -1,4 +1,4 @@
-use Rattle.std.proofs.Common.{sym, ◌+◌}
+use Rattle.host_protocol.proofs.Common.{sym, ◌+◌}
 use Rattle.host_protocol.proofs.EntryLemmas.{parts_none, parts_many, parts_one}
 use Rattle.host_protocol.proofs.PartLemmas.{rest_is}
 use Rattle.host_protocol.proofs.entry.around_equals.Goals as goal

@@ -1,6 +1,4 @@
-use Rattle.std.proofs.Common.{rules, ◌≡◌, false, sym, inl, inr, length, codes, ◌≢◌}
-use Rattle.std.proofs.lemmas.Bool.{eqb-true}
-use Rattle.std.specs.Str.{bytes_eq}
+use Rattle.host_protocol.proofs.Common.{rules, ◌≡◌, false, sym, inl, inr, length, codes, ◌≢◌, eqb-true, bytes_eq}
 use Rattle.host_protocol.proofs.EntryLemmas.{contents_dash, contents_as, contents_out, contents_within}
 use Rattle.host_protocol.proofs.entry.contents.Goals as goal
 use Rattle.host_protocol.proofs.entry.contents.Goals.{then-is_empty-via-then-is_empty, then-is_empty-via-else-is_empty+then-text-page_bytes}
@@ -21,7 +19,7 @@ pub returns-clause-contents : goal.returns-clause-contents
 returns-clause-contents c =
     let other : bytes_eq c.args.text.now (codes "-") ≡ false = rw c.as_slice.ensures at (sym c.if-eq.ensures) in
     let some : length c.args.text.now ≢ 0 = search rules in
-    contents_as (λ v. v.now) c.args.page_bytes c.args.text.now c.decoded.result other some c.if-text-page_bytes.false c.decoded.ensures
+    contents_as (λ v. v.now) c.args.page_bytes c.args.text.now c.decode.result other some c.if-text-page_bytes.false c.decode.ensures
 
 pub returns-clause-within : goal.returns-clause-within
-returns-clause-within c = contents_within (λ v. v.now) c.args.page_bytes c.args.text.now c.decoded.result c.if-text-page_bytes.false c.decoded.ensures
+returns-clause-within c = contents_within (λ v. v.now) c.args.page_bytes c.args.text.now c.decode.result c.if-text-page_bytes.false c.decode.ensures

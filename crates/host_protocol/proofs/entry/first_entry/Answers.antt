@@ -1,4 +1,4 @@
-use Rattle.std.proofs.Common.{◌≡◌, ℕ, Option, Some, None, sym, refl, ap, ◌∙◌, unwrap_or, length}
+use Rattle.host_protocol.proofs.Common.{◌≡◌, ℕ, Option, Some, None, sym, refl, ap, ◌∙◌, unwrap_or, length}
 use Rattle.host_protocol.proofs.LeadingLemmas.{entry_first, other_first}
 use Rattle.host_protocol.proofs.WordLemmas.{word_none}
 use Rattle.host_protocol.proofs.entry.first_entry.Goals as goal

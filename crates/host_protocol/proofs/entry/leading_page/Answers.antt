@@ -1,4 +1,4 @@
-use Rattle.std.proofs.Common.{sym, inl, inr}
+use Rattle.host_protocol.proofs.Common.{sym, inl, inr}
 use Rattle.host_protocol.proofs.LeadingLemmas.{page_none, page_other}
 use Rattle.host_protocol.proofs.entry.leading_page.Goals as goal
 use Rattle.host_protocol.proofs.entry.leading_page.Goals.{then-place-line-via-then-place-line, then-place-line-via-else-place-line+then-line-place-ne61}

@@ -1,7 +1,4 @@
-use Rattle.std.proofs.Common.{◌≡◌, false, sym, ap, ◌∙◌, codes, Some}
-use Rattle.std.specs.Str.{bytes_eq}
-use Rattle.std.specs.Option.{option_map}
-use Rattle.std.proofs.lemmas.Result.{err_from_is_err_and}
+use Rattle.host_protocol.proofs.Common.{◌≡◌, false, sym, ap, ◌∙◌, codes, Some, bytes_eq, option_map, err_from_is_err_and}
 use Rattle.host_protocol.proofs.EntryLemmas.{value_tilde, value_contents, value_fails}
 use Rattle.host_protocol.proofs.entry.value.Goals as goal
 

@@ -1,9 +1,7 @@
-use Rattle.std.proofs.Common.{◌≡◌, ◌+◌, length, ap, ◌∙◌, take, arith, Err}
+use Rattle.host_protocol.proofs.Common.{◌≡◌, ◌+◌, length, ap, ◌∙◌, take, arith, Err, entries_in, lines_of}
 use Rattle.std.specs.Option.{option_to_list}
 use Rattle.std.proofs.lemmas.List.Sums.{sum_by-append}
-use Rattle.host_protocol.specs.Files.{entries_in}
-use Rattle.host_protocol.specs.Lines.{lines_of}
-use Rattle.list_facts.proofs.Lists.{next, take_to_end}
+use Rattle.list_lemmas.proofs.Lists.{next, take_to_end}
 use Rattle.host_protocol.proofs.FileLemmas.{add_line, first_bad, ends}
 use Rattle.host_protocol.proofs.file.add_commands.Goals as goal
 

@@ -1,7 +1,6 @@
-use Rattle.std.proofs.Common.{◌≡◌, ◌+◌, ◌≤◌, length, take, drop}
+use Rattle.host_protocol.proofs.Common.{◌≡◌, ◌+◌, ◌≤◌, length, take, drop, entries_in, lines_of}
 use Rattle.std.specs.Prelude.{sum_by}
-use Rattle.host_protocol.specs.Files.{AreCommands, entries_in}
-use Rattle.host_protocol.specs.Lines.{lines_of}
+use Rattle.host_protocol.specs.Files.{AreCommands}
 use Rattle.host_protocol.specs.declared.file.TheConstants.{MAX_ENTRIES}
 use Rattle.host_protocol.proofs.file.add_commands.Given as goal
 

@@ -1,7 +1,6 @@
-use Rattle.std.proofs.lemmas.Result.{err_from_is_err_and}
+use Rattle.host_protocol.proofs.Common.{err_from_is_err_and, lines_of}
 use Rattle.std.specs.Prelude.{filter}
 use Rattle.host_protocol.specs.Files.{is_command_line}
-use Rattle.host_protocol.specs.Lines.{lines_of}
 use Rattle.host_protocol.proofs.CommandLemmas.{file_suits}
 use Rattle.host_protocol.proofs.FileLemmas.{file_bad, file_same, only_memory, only_first}
 use Rattle.host_protocol.proofs.file.parse.Goals as goal

@@ -1,5 +1,4 @@
-use Rattle.std.proofs.Common.{◌≡◌, ◌+◌, ◌*◌, ◌%◌, ◌<◌, refl, ◌∙◌, length, slice_index, Ok, ap, arith}
-use Rattle.std.proofs.lemmas.Bool.Decides.{nat_tests}
+use Rattle.host_protocol.proofs.Common.{◌≡◌, ◌+◌, ◌*◌, ◌%◌, ◌<◌, refl, ◌∙◌, length, slice_index, Ok, ap, arith, nat_tests}
 use Rattle.hex.proofs.Pairs.{decode_start, decode_step, decode_done}
 use Rattle.host_protocol.proofs.hexadecimal.decode_into.Invariants.HexLemmas.{pair_read, others_more, undecoded}
 use Rattle.host_protocol.proofs.hexadecimal.decode_into.Goals as goal

@@ -1,5 +1,5 @@
 pub mod HexLemmas
-use Rattle.std.proofs.Common.{◌≡◌, ◌*◌, ◌<◌, ◌≤◌, take, drop}
+use Rattle.host_protocol.proofs.Common.{◌≡◌, ◌*◌, ◌<◌, ◌≤◌, take, drop}
 use Rattle.hex.specs.Hex.{decode_pairs}
 use Rattle.hex.proofs.Pairs.{prepend}
 use Rattle.host_protocol.proofs.hexadecimal.decode_into.Invariants.HexLemmas.{HasOther}

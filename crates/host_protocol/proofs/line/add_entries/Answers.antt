@@ -1,9 +1,5 @@
 mod ReadingLemmas
-use Rattle.std.proofs.Common.{◌≡◌, refl, sym, rules, arith, length-append}
-use Rattle.std.proofs.lemmas.Result.{err_from_is_err_and}
-use Rattle.host_protocol.specs.Commands.{page_value, page_write_of}
-use Rattle.host_protocol.specs.Lines.{words_of}
-use Rattle.host_protocol.specs.declared.error.LineError.TheVariants.{Bad}
+use Rattle.host_protocol.proofs.Common.{◌≡◌, refl, sym, rules, arith, length-append, err_from_is_err_and, page_value, page_write_of, words_of, Bad}
 use Rattle.host_protocol.proofs.line.add_entries.Answers.ReadingLemmas.{none_where_bad, other_among, more_than, read_more}
 use Rattle.host_protocol.proofs.line.add_entries.Goals as goal
 

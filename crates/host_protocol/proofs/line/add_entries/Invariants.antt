@@ -1,6 +1,4 @@
-use Rattle.std.proofs.Common.{◌≡◌, ◌≤◌, length, map, ◌++◌, Some}
-use Rattle.host_protocol.specs.Commands.{page_write_of}
-use Rattle.host_protocol.specs.Lines.{words_of}
+use Rattle.host_protocol.proofs.Common.{◌≡◌, ◌≤◌, length, map, ◌++◌, Some, page_write_of, words_of}
 use Rattle.host_protocol.proofs.line.add_entries.Given as goal
 
 abbrev pub invariant-loop-page : goal.invariant-loop-page

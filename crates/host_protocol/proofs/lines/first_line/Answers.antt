@@ -1,7 +1,5 @@
-use Rattle.std.proofs.Common.{rules, sym, ap, ◌∙◌, refl, length, ◌<◌, ◌+◌, ◌≡◌, [], drop}
-use Rattle.std.proofs.lemmas.Bool.{eqb-true}
+use Rattle.host_protocol.proofs.Common.{rules, sym, ap, ◌∙◌, refl, length, ◌<◌, ◌+◌, ◌≡◌, [], drop, eqb-true, lines_of}
 use Rattle.std.proofs.Math.Seq.{drop-length}
-use Rattle.host_protocol.specs.Lines.{lines_of}
 use Rattle.host_protocol.proofs.LineLemmas.{line_first, line_last, lines_none}
 use Rattle.host_protocol.proofs.PartLemmas.{rest_is}
 use Rattle.host_protocol.proofs.lines.first_line.Goals as goal

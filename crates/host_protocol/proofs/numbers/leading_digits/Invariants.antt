@@ -1,6 +1,7 @@
-use Rattle.std.proofs.Common.{◌-◌, ◌≡◌, take, drop, ◌+◌, ◌^◌, ◌<◌, ◌≤◌, min, length}
+use Rattle.host_protocol.proofs.Common.{◌-◌, ◌≡◌, take, drop, ◌+◌, ◌^◌, ◌<◌, ◌≤◌, length, is_digit, digits_in}
+use Rattle.std.proofs.Common.{min}
 use Rattle.std.specs.List.{prefix_len}
-use Rattle.host_protocol.specs.Numbers.{is_digit, digits_in, value_of}
+use Rattle.host_protocol.specs.Numbers.{value_of}
 use Rattle.host_protocol.proofs.numbers.leading_digits.Given as goal
 
 abbrev pub invariant-loop-digits : goal.invariant-loop-digits

@@ -1,4 +1,5 @@
-use Rattle.std.proofs.Common.{◌≡◌, ℕ, ◌≤◌, ◌<◌, Result, Ok, Err, Some, None, inl, inr, arith, sym, ◌∙◌, OkIff}
+use Rattle.host_protocol.proofs.Common.{◌≡◌, ℕ, ◌≤◌, ◌<◌, Result, Ok, Err, Some, None, inl, inr, arith, sym, ◌∙◌}
+use Rattle.std.proofs.Common.{OkIff}
 use Rattle.std.specs.Result.{result_ok}
 use Rattle.host_protocol.proofs.NumberLemmas.{leading_outside, leading_large, leading_some}
 use Rattle.host_protocol.proofs.numbers.leading_number.Goals as goal

@@ -1,6 +1,4 @@
-use Rattle.std.proofs.Common.{◌<◌, ◌≤◌, length, sym, ◌∙◌, arith}
-use Rattle.std.proofs.lemmas.List.Sums.{prefix_len-le-length}
-use Rattle.host_protocol.specs.Numbers.{is_digit, digits_in}
+use Rattle.host_protocol.proofs.Common.{◌<◌, ◌≤◌, length, sym, ◌∙◌, arith, prefix_len-le-length, is_digit, digits_in}
 use Rattle.host_protocol.proofs.NumberLemmas.{number_none, number_other, number_whole}
 use Rattle.host_protocol.proofs.numbers.number.Goals as goal
 

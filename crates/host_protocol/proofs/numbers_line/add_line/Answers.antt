@@ -1,8 +1,5 @@
-use Rattle.std.proofs.Common.{◌≡◌, ℕ, List, [], ◌∷◌, ◌++◌, map, take, sym, ap, ◌∙◌, append_assoc, arith}
-use Rattle.std.specs.List.{flat_map}
-use Rattle.std.specs.Fmt.{decimal}
+use Rattle.host_protocol.proofs.Common.{◌≡◌, ℕ, List, [], ◌∷◌, ◌++◌, map, take, sym, ap, ◌∙◌, append_assoc, arith, flat_map, decimal, line_of}
 use Rattle.std.proofs.lemmas.List.{append-nil, take_all}
-use Rattle.host_protocol.specs.Replies.{line_of}
 use Rattle.host_protocol.proofs.numbers_line.add_line.Goals as goal
 
 abbrev spaced : List ℕ → List ℕ

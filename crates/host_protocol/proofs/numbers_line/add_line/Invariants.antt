@@ -1,6 +1,5 @@
-use Rattle.std.proofs.Common.{◌≡◌, ◌+◌, ◌-◌, ◌*◌, ◌≤◌, ◌++◌, ◌∷◌, length, take, vec_len, vec_capacity}
-use Rattle.std.specs.List.{flat_map}
-use Rattle.std.specs.Fmt.{decimal}
+use Rattle.host_protocol.proofs.Common.{◌≡◌, ◌+◌, ◌-◌, ◌*◌, ◌≤◌, ◌++◌, ◌∷◌, length, take, flat_map, decimal}
+use Rattle.std.proofs.Common.{vec_len, vec_capacity}
 use Rattle.host_protocol.proofs.numbers_line.add_line.Given as goal
 
 abbrev pub invariant-loop-number : goal.invariant-loop-number

@@ -1,6 +1,5 @@
-use Rattle.std.proofs.Common.{◌≡◌, ℕ, false, ◌+◌, ◌<◌, ◌/◌, ◌%◌, [], ◌∷◌, ap, append_assoc, arith}
-use Rattle.std.proofs.lemmas.Bool.Decides.{nat_tests}
-use Rattle.std.specs.Fmt.{decimal, digits, digit_glyph}
+use Rattle.host_protocol.proofs.Common.{◌≡◌, ℕ, false, ◌+◌, ◌<◌, ◌/◌, ◌%◌, [], ◌∷◌, ap, append_assoc, arith, nat_tests, decimal}
+use Rattle.std.specs.Fmt.{digits, digit_glyph}
 use Rattle.host_protocol.proofs.numbers_line.add_number.Goals as goal
 
 -- a number below ten is one digit

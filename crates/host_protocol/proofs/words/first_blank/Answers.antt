@@ -1,7 +1,5 @@
-use Rattle.std.proofs.Common.{sym, ap, ◌∙◌, inl, inr, arith}
-use Rattle.std.specs.Prelude.{position}
-use Rattle.std.proofs.lemmas.List.{length-take, take_all}
-use Rattle.host_protocol.specs.Lines.{is_space_or_tab}
+use Rattle.host_protocol.proofs.Common.{sym, ap, ◌∙◌, inl, inr, arith, position, length-take, is_space_or_tab}
+use Rattle.std.proofs.lemmas.List.{take_all}
 use Rattle.host_protocol.proofs.SearchLemmas.{near_is}
 use Rattle.host_protocol.proofs.words.first_blank.Goals as goal
 

@@ -1,4 +1,4 @@
-use Rattle.std.proofs.Common.{sym}
+use Rattle.host_protocol.proofs.Common.{sym}
 use Rattle.host_protocol.proofs.WordLemmas.{word_first, word_none}
 use Rattle.host_protocol.proofs.words.first_word.Goals as goal
 

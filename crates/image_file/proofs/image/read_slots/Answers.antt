@@ -1,5 +1,5 @@
 mod BehindLemmas
-use Rattle.std.proofs.Common.{sym, ◌∙◌, arith}
+use Rattle.image_file.proofs.Common.{sym, ◌∙◌, arith}
 use Rattle.image_file.proofs.image.read_slots.Answers.BehindLemmas.{IsBehind, cells_fit, rest_is, slots_read}
 use Rattle.image_file.proofs.image.read_slots.Goals as goal
 

@@ -1,10 +1,8 @@
-use Rattle.std.proofs.Common.{refl, ap, ◌∙◌}
+use Rattle.image_file.proofs.Common.{refl, ap, ◌∙◌, shape_of, config_in, image_in, extras_in}
 use Rattle.std.proofs.lemmas.Result.{err_from_is_err_and}
-use Rattle.list_facts.proofs.Bytes.{IsBytes-all}
-use Rattle.tx_types.specs.Config.{shape_of}
-use Rattle.mem_flash.specs.Memory.{MemoryState}
+use Rattle.list_lemmas.proofs.Bytes.{IsBytes-all}
+use Rattle.mem_flash.specs.MemFlashState.{MemFlashState}
 use Rattle.image_file.specs.Header.{extras_of}
-use Rattle.image_file.specs.Rules.{config_in, image_in, extras_in}
 use Rattle.image_file.proofs.HeaderLemmas.{header_holds}
 use Rattle.image_file.proofs.SpellingLemmas.{read_spelled, config_in-spelling, image_in-spelling, extras_in-spelling}
 use Rattle.image_file.proofs.RefusalLemmas.{refused_header, refused_slots, spelled_memory, nothing_broken, reading-read}
@@ -41,8 +39,8 @@ returns-clause-spelled c =
     let bytes = c.args.bytes.items in
     let header = rw c.deref.ensures.value at c.in_ok-header.ensures.answer in
     let fits = rw c.deref.ensures.value at c.in_ok-header.ensures.bytes in
-    let image_is = ap (λ (s : MemoryState). s.image) c.set_extras.ensures ∙ ap (λ (s : MemoryState). s.image) c.in_ok-flash.ensures.ok.1 in
-    let extras_is = ap (λ (s : MemoryState). s.extras) c.set_extras.ensures ∙ header.1.extras in
+    let image_is = ap (λ (s : MemFlashState). s.image) c.set_extras.ensures ∙ ap (λ (s : MemFlashState). s.image) c.in_ok-flash.ensures.ok.1 in
+    let extras_is = ap (λ (s : MemFlashState). s.extras) c.set_extras.ensures ∙ header.1.extras in
     rw (header.1.config, image_is, extras_is)
     (read_spelled bytes (IsBytes-all bytes fits) (nothing_broken bytes header.0 c.in_ok-flash.ensures.ok.0))
 
@@ -50,7 +48,7 @@ pub returns-clause-check : goal.returns-clause-check
 returns-clause-check c =
     let header = rw c.deref.ensures.value at c.in_ok-header.ensures.answer in
     let shape_is =
-    ap (λ (s : MemoryState). s.shape) c.set_extras.ensures ∙ ap (λ (s : MemoryState). s.shape) c.in_ok-flash.ensures.ok.1
+    ap (λ (s : MemFlashState). s.shape) c.set_extras.ensures ∙ ap (λ (s : MemFlashState). s.shape) c.in_ok-flash.ensures.ok.1
     ∙ header.1.shape ∙ ap shape_of header.1.config in
     rw (header.1.config, shape_is) (header_holds c.args.bytes.items header.0).checks
 
@@ -65,7 +63,7 @@ returns-clause-only c = λ config image extras spelled.
       (
         config_is,
         c.set_extras.ensures
-            ∙ ap (λ (s : MemoryState). record s { extras = extras_of c.in_ok-header.header }) c.in_ok-flash.ensures.ok.1
+            ∙ ap (λ (s : MemFlashState). record s { extras = extras_of c.in_ok-header.header }) c.in_ok-flash.ensures.ok.1
             ∙ rw (shape_is, image_is, extras_is) refl,
       ),
     )
@@ -74,6 +72,6 @@ pub returns-clause-found : goal.returns-clause-found
 returns-clause-found c =
     let bytes = c.args.bytes.items in
     let header = rw c.deref.ensures.value at c.in_ok-header.ensures.answer in
-    let image_is = ap (λ (s : MemoryState). s.image) c.set_extras.ensures ∙ ap (λ (s : MemoryState). s.image) c.in_ok-flash.ensures.ok.1 in
-    let extras_is = ap (λ (s : MemoryState). s.extras) c.set_extras.ensures ∙ header.1.extras in
+    let image_is = ap (λ (s : MemFlashState). s.image) c.set_extras.ensures ∙ ap (λ (s : MemFlashState). s.image) c.in_ok-flash.ensures.ok.1 in
+    let extras_is = ap (λ (s : MemFlashState). s.extras) c.set_extras.ensures ∙ header.1.extras in
     rw (header.1.config, image_is, extras_is) (reading-read bytes (nothing_broken bytes header.0 c.in_ok-flash.ensures.ok.0))

@@ -1,9 +1,5 @@
-use Rattle.std.proofs.Common.{◌≡◌, get_or, None, ap, sym, ◌∙◌, arith}
-use Rattle.std.proofs.lemmas.List.{take_all}
-use Rattle.std.specs.Prelude.{is_none}
-use Rattle.std.specs.Option.{option_map}
-use Rattle.list_facts.proofs.Positions.{position-at, position-none}
-use Rattle.image_file.specs.Rules.{seen_from, all_seen}
+use Rattle.image_file.proofs.Common.{◌≡◌, get_or, None, ap, sym, ◌∙◌, arith, take_all, is_none, option_map, seen_from, all_seen}
+use Rattle.list_lemmas.proofs.Positions.{position-at, position-none}
 use Rattle.image_file.specs.declared.error.ImageError.TheVariants as error
 use Rattle.image_file.proofs.slots.read_states.Goals as goal
 

@@ -1,6 +1,4 @@
-use Rattle.std.proofs.Common.{◌≡◌, ℕ, ◌<◌, false, get_or, take}
-use Rattle.std.specs.Prelude.{is_none}
-use Rattle.image_file.specs.Rules.{seen_from, all_seen}
+use Rattle.image_file.proofs.Common.{◌≡◌, ℕ, ◌<◌, false, get_or, take, is_none, seen_from, all_seen}
 use Rattle.image_file.proofs.slots.read_states.Given as goal
 
 abbrev pub invariant-loop-at : goal.invariant-loop-at

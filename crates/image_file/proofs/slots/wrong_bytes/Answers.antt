@@ -1,4 +1,4 @@
-use Rattle.std.proofs.Common.{◌≡◌, ◌+◌, ◌-◌, ◌*◌, sym, ◌∙◌, arith}
+use Rattle.image_file.proofs.Common.{◌≡◌, ◌+◌, ◌-◌, ◌*◌, sym, ◌∙◌, arith}
 use Rattle.image_file.proofs.SlotLemmas.{wrong_bytes-at, wrong_bytes-none}
 use Rattle.image_file.proofs.slots.wrong_bytes.Goals as goal
 

@@ -1,7 +1,5 @@
-use Rattle.std.proofs.Common.{◌≡◌, ℕ, ◌<◌, true, get_or}
+use Rattle.image_file.proofs.Common.{◌≡◌, ℕ, ◌<◌, true, get_or, Blank, is_filled}
 use Rattle.std.specs.Fork.{slice_chunk}
-use Rattle.flash_model.specs.declared.flash.Seen.TheVariants.{Blank}
-use Rattle.image_file.specs.Rules.{is_filled}
 use Rattle.image_file.proofs.slots.wrong_bytes.Given as goal
 
 abbrev pub invariant-loop-at : goal.invariant-loop-at

@@ -1,6 +1,4 @@
-use Rattle.std.proofs.Common.{◌≡◌, ◌++◌, take}
-use Rattle.std.specs.List.{flat_map}
-use Rattle.mem_flash.specs.Slots.{cell_of}
+use Rattle.image_file.proofs.Common.{◌≡◌, ◌++◌, take, flat_map, cell_of}
 use Rattle.image_file.proofs.writing.add_cells.Given as goal
 
 abbrev pub invariant-loop-slot : goal.invariant-loop-slot

@@ -1,6 +1,4 @@
-use Rattle.std.proofs.Common.{◌≡◌, ◌++◌, map, take}
-use Rattle.flash_model.specs.Calls.{seen_of}
-use Rattle.image_file.specs.Spelling.{state_byte}
+use Rattle.image_file.proofs.Common.{◌≡◌, ◌++◌, map, take, seen_of, state_byte}
 use Rattle.image_file.proofs.writing.add_states.Given as goal
 
 abbrev pub invariant-loop-slot : goal.invariant-loop-slot

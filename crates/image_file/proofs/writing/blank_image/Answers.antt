@@ -1,8 +1,6 @@
 mod BlankLemmas
-use Rattle.std.proofs.Common.{length, ap, arith}
+use Rattle.image_file.proofs.Common.{length, ap, arith, Extras, header_of}
 use Rattle.image_file.proofs.writing.blank_image.Answers.BlankLemmas.{blank_parts, checked_shape, IsImage-blank}
-use Rattle.flash_model.specs.Flash.{Extras}
-use Rattle.image_file.specs.Spelling.{header_of}
 use Rattle.image_file.proofs.HeaderLemmas.{length-header_of}
 use Rattle.image_file.proofs.SpellingLemmas.{written}
 use Rattle.image_file.proofs.writing.blank_image.Goals as goal

@@ -1,7 +1,5 @@
-use Rattle.std.proofs.Common.{◌≡◌, ◌++◌, length, ap, ◌∙◌, arith}
-use Rattle.std.specs.List.{flat_map}
+use Rattle.image_file.proofs.Common.{◌≡◌, ◌++◌, length, ap, ◌∙◌, arith, flat_map, cell_of}
 use Rattle.std.proofs.lemmas.List.{with_items_is}
-use Rattle.mem_flash.specs.Slots.{cell_of}
 use Rattle.image_file.proofs.SpellingLemmas.{written}
 use Rattle.image_file.proofs.writing.into_image.Goals as goal
 

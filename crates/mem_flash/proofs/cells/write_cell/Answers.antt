@@ -1,7 +1,6 @@
-use Rattle.std.proofs.Common.{◌≡◌, ℕ, ◌+◌, ◌-◌, ◌≤◌, List, ◌++◌, length, arith, rules}
+use Rattle.mem_flash.proofs.Common.{◌≡◌, ℕ, ◌+◌, ◌-◌, ◌≤◌, List, ◌++◌, length, arith, rules, overwritten}
 use Rattle.std.proofs.lemmas.List.{places, same_lists}
 use borrow.Rule.Slice.PartMut.{put_mid}
-use Rattle.mem_flash.specs.Slots.{overwritten}
 use Rattle.mem_flash.proofs.cells.write_cell.Goals as goal
 
 -- two parts written one behind the other are one part

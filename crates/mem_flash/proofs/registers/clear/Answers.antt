@@ -1,6 +1,5 @@
-use Rattle.std.proofs.Common.{◌≡◌, ◌+◌, ◌++◌, map, take, drop, set, ap, sym, ◌∙◌, subst, arith}
+use Rattle.mem_flash.proofs.Common.{◌≡◌, ◌+◌, ◌++◌, map, take, drop, set, ap, sym, ◌∙◌, subst, arith, load_in, AreRegisters}
 use Rattle.std.proofs.lemmas.List.Edits.{map_over_more}
-use Rattle.mem_flash.specs.Registers.{load_in, AreRegisters}
 use Rattle.mem_flash.proofs.Loaded.{emptied, emptied_all, map-emptied, AreRegisters-emptied}
 use Rattle.mem_flash.proofs.registers.clear.Goals as goal
 

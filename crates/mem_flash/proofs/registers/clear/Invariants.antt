@@ -1,4 +1,4 @@
-use Rattle.std.proofs.Common.{◌≡◌, ◌++◌, map, take, drop}
+use Rattle.mem_flash.proofs.Common.{◌≡◌, ◌++◌, map, take, drop}
 use Rattle.mem_flash.proofs.Loaded.{emptied}
 use Rattle.mem_flash.proofs.registers.clear.Given as goal
 

@@ -1,5 +1,4 @@
-use Rattle.std.proofs.Common.{◌≡◌, ◌+◌, ◌≤◌, length, drop}
-use Rattle.mem_flash.specs.Registers.{loads_of}
+use Rattle.mem_flash.proofs.Common.{◌≡◌, ◌+◌, ◌≤◌, length, drop, loads_of}
 use Rattle.mem_flash.proofs.registers.count_loaded.Given as goal
 
 abbrev pub invariant-loop-register : goal.invariant-loop-register

@@ -1,4 +1,4 @@
-use Rattle.std.proofs.Common.{sym}
+use Rattle.mem_flash.proofs.Common.{sym}
 use Rattle.std.proofs.Math.Nat.{div-div-eq-div-mul}
 use Rattle.mem_flash.proofs.registers.die_of.Goals as goal
 

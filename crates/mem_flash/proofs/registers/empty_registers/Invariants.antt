@@ -1,5 +1,5 @@
-use Rattle.std.proofs.Common.{◌≡◌, All, length, map, replicate, None}
-use Rattle.mem_flash.specs.Registers.{load_in, HasPage}
+use Rattle.mem_flash.proofs.Common.{◌≡◌, All, length, map, replicate, None, load_in}
+use Rattle.mem_flash.specs.Registers.{HasPage}
 use Rattle.mem_flash.proofs.registers.empty_registers.Given as goal
 
 abbrev pub invariant-loop : goal.invariant-loop

@@ -1,9 +1,6 @@
-use Rattle.std.proofs.Common.{◌+◌, ◌<◌, drop, All, sym, ap, ap₂, ◌∙◌, subst, arith}
+use Rattle.mem_flash.proofs.Common.{◌+◌, ◌<◌, drop, All, sym, ap, ap₂, ◌∙◌, subst, arith, slots_of, Load, loads_of, SlotsState}
 use Rattle.std.proofs.lemmas.List.Elements.{All-head, All-tail}
-use Rattle.tx_types.specs.Config.{slots_of}
-use Rattle.flash_model.specs.Operations.{Load, program, image_left}
-use Rattle.mem_flash.specs.Registers.{loads_of}
-use Rattle.mem_flash.specs.Slots.{SlotImage}
+use Rattle.flash_model.specs.Operations.{program, image_left}
 use Rattle.mem_flash.proofs.Loaded.{load_at, loads-none, loads-some, left_from, left_from-more}
 use Rattle.mem_flash.proofs.registers.write_loaded.Goals as goal
 use Rattle.mem_flash.proofs.registers.write_loaded.Goals.{in-Some, in_default}
@@ -31,7 +28,7 @@ loop-register-preserved c =
             exist = All-tail exists _ _ (subst (All exists) more c.loop-register.invariant.exist);
             left =
                 ap₂ (λ image how. left_from image how rest)
-                (ap (λ (s : SlotImage). s.image) (w.slots-is ∙ w.program.ensures)
+                (ap (λ (s : SlotsState). s.image) (w.slots-is ∙ w.program.ensures)
                 ∙ ap (λ bytes. image_left before.shape before.image (program w.in-Some.at.0 bytes r.spare_area) c.loop-register.how) w.deref.ensures.value)
                 (w.how-is ∙ w.outcome_after-how.ensures)
                 ∙ sym (left_from-more before.shape before.image c.loop-register.how (load_at r w.in-Some.at) rest)
@@ -43,7 +40,7 @@ loop-register-preserved c =
             shape = cc;
             exist = subst (All exists) same c.loop-register.invariant.exist;
             left =
-                ap₂ (λ image how. left_from image how rest) (ap (λ (s : SlotImage). s.image) w.slots-is) w.how-is
+                ap₂ (λ image how. left_from image how rest) (ap (λ (s : SlotsState). s.image) w.slots-is) w.how-is
                 ∙ sym (ap (left_from before.image c.loop-register.how) same) ∙ c.loop-register.invariant.left;
           }
     ]

@@ -1,6 +1,4 @@
-use Rattle.std.proofs.Common.{◌≡◌, ◌<◌, All, drop}
-use Rattle.tx_types.specs.Config.{slots_of}
-use Rattle.mem_flash.specs.Registers.{loads_of}
+use Rattle.mem_flash.proofs.Common.{◌≡◌, ◌<◌, All, drop, slots_of, loads_of}
 use Rattle.mem_flash.proofs.Loaded.{left_from}
 use Rattle.mem_flash.proofs.registers.write_loaded.Given as goal
 

@@ -1,6 +1,4 @@
-use Rattle.std.proofs.Common.{◌≡◌, None, refl, string_bytes, rules}
-use Rattle.durable_folder.specs.FolderState.{newest}
-use Rattle.mem_folder.specs.Changes.{IsFresh, named}
+use Rattle.mem_folder.proofs.Common.{◌≡◌, None, refl, string_bytes, rules, newest, IsFresh, named}
 use Rattle.mem_folder.proofs.Steps.{makes}
 use Rattle.mem_folder.proofs.naming.create.Goals as goal
 

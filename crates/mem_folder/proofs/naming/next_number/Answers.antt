@@ -1,5 +1,5 @@
 use Rattle.std.proofs.lemmas.List.{take_all}
-use Rattle.mem_folder.specs.Changes.{AllBelow}
+use Rattle.mem_folder.proofs.Common.{AllBelow}
 use Rattle.mem_folder.proofs.Numbers.{below-more, below-fresh}
 use Rattle.mem_folder.proofs.naming.next_number.Goals as goal
 

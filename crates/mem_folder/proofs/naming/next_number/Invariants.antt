@@ -1,5 +1,4 @@
-use Rattle.std.proofs.Common.{take}
-use Rattle.mem_folder.specs.Changes.{AllBelow}
+use Rattle.mem_folder.proofs.Common.{take, AllBelow}
 use Rattle.mem_folder.proofs.naming.next_number.Given as goal
 
 abbrev pub invariant-loop-change : goal.invariant-loop-change

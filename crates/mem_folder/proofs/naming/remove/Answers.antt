@@ -1,4 +1,4 @@
-use Rattle.std.proofs.Common.{◌≡◌, string_bytes}
+use Rattle.mem_folder.proofs.Common.{◌≡◌, string_bytes}
 use Rattle.mem_folder.proofs.Steps.{removes}
 use Rattle.mem_folder.proofs.naming.remove.Goals as goal
 

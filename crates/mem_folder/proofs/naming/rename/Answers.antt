@@ -1,6 +1,5 @@
-use Rattle.std.proofs.Common.{◌≡◌, ◌≢◌, None, Some, string_bytes, sym, ◌∙◌, rules}
-use Rattle.durable_folder.specs.FolderState.{newest}
-use Rattle.mem_folder.specs.Changes.{named}
+use Rattle.mem_folder.proofs.Common.{◌≡◌, None, Some, string_bytes, sym, ◌∙◌, rules, newest, named}
+use Rattle.std.proofs.Common.{◌≢◌}
 use Rattle.mem_folder.proofs.Steps.{renames}
 use Rattle.mem_folder.proofs.naming.rename.Goals as goal
 

@@ -1,4 +1,4 @@
-use Rattle.std.proofs.Common.{take}
+use Rattle.mem_folder.proofs.Common.{take}
 use Rattle.mem_folder.specs.Changes.{IsSeen, held}
 use Rattle.mem_folder.proofs.reading.bytes_of.Given as goal
 

@@ -1,5 +1,5 @@
-use Rattle.std.proofs.Common.{take}
-use Rattle.mem_folder.specs.Changes.{IsSeen, named}
+use Rattle.mem_folder.proofs.Common.{take, named}
+use Rattle.mem_folder.specs.Changes.{IsSeen}
 use Rattle.mem_folder.proofs.reading.file_of.Given as goal
 
 abbrev pub invariant-loop-change : goal.invariant-loop-change

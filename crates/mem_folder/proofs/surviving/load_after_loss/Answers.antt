@@ -1,7 +1,5 @@
-use Rattle.std.proofs.Common.{◌≤◌, length, rules}
+use Rattle.mem_folder.proofs.Common.{◌≤◌, length, rules, state_of, IsLeft}
 use Rattle.durable_folder.specs.FolderState.{IsDurable}
-use Rattle.mem_folder.specs.Changes.{state_of}
-use Rattle.mem_folder.specs.Losing.{IsLeft}
 use Rattle.mem_folder.proofs.Durable.{durable_left, loaded_left}
 use Rattle.mem_folder.proofs.surviving.load_after_loss.Goals as goal
 

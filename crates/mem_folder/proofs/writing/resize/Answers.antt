@@ -1,6 +1,4 @@
-use Rattle.std.proofs.Common.{◌≡◌, []}
-use Rattle.durable_folder.specs.FolderState.{newest}
-use Rattle.mem_folder.specs.Bytes.{filled}
+use Rattle.mem_folder.proofs.Common.{◌≡◌, [], newest, filled}
 use Rattle.mem_folder.specs.Changes.{held}
 use Rattle.mem_folder.proofs.Holding.{resize_fails, resizes}
 use Rattle.mem_folder.proofs.writing.resize.Goals as goal

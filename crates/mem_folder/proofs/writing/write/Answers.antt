@@ -1,6 +1,4 @@
-use Rattle.std.proofs.Common.{◌≡◌, []}
-use Rattle.durable_folder.specs.FolderState.{newest}
-use Rattle.mem_folder.specs.Bytes.{overlay}
+use Rattle.mem_folder.proofs.Common.{◌≡◌, [], newest, overlay}
 use Rattle.mem_folder.specs.Changes.{held}
 use Rattle.mem_folder.proofs.Holding.{write_fails, writes}
 use Rattle.mem_folder.proofs.writing.write.Goals as goal

@@ -4,7 +4,7 @@ use Rattle.page_keys.proofs.entries.change.Goals as goal
 pub returns-in-Some : goal.returns-in-Some
 returns-in-Some c =
     let found = rw c.deref.ensures.value at c.in-Ok.ensures.found in
-    rw (c.copied.ensures, c.copied-in-Some.ensures, c.in-Some.is, ← c.as_slice-key.ensures.bytes)
+    rw (c.copy.ensures, c.copy-in-Some.ensures, c.in-Some.is, ← c.as_slice-key.ensures.bytes)
     (set_found c.args.entries.now.items c.as_slice-key.result.now c.in-Ok.at c.in-Some.value found)
 
 pub returns-in-None : goal.returns-in-None
@@ -18,8 +18,8 @@ returns-in_ok-insert-in-Err c =
     let gap = rw c.deref.ensures.value at c.in-Err.ensures.gap in
     rw (
       c.in_ok-insert-in-Err.ensures.items,
-      c.copied-in-Some-value.ensures,
-      c.copied-in-Some-value-2.ensures,
+      c.copy-in-Some-value.ensures,
+      c.copy-in-Some-value-2.ensures,
       c.in-Some-value.is,
       ← c.as_slice-key.ensures.bytes,
     )

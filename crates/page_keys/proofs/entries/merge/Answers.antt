@@ -1,5 +1,4 @@
-use Rattle.std.proofs.Common.{ap, sym, ◌∙◌}
-use Rattle.page_keys.specs.Entries.{with_pair}
+use Rattle.page_keys.proofs.Common.{ap, sym, ◌∙◌, with_pair}
 use Rattle.page_keys.proofs.OfBucket.EntryLists.{merged_more, ascending_with_pair}
 use Rattle.page_keys.proofs.entries.merge.Goals as goal
 

@@ -1,7 +1,4 @@
-use Rattle.std.proofs.Common.{◌≡◌, IsTrue, take}
-use Rattle.page_keys.specs.Groups.{changes_of}
-use Rattle.page_keys.specs.KeyMaps.{is_ascending}
-use Rattle.page_keys.specs.Entries.{changed}
+use Rattle.page_keys.proofs.Common.{◌≡◌, IsTrue, take, changes_of, is_ascending, changed}
 use Rattle.page_keys.proofs.entries.merge.Given as goal
 
 abbrev pub invariant-loop-placed : goal.invariant-loop-placed

@@ -1,6 +1,5 @@
-use Rattle.std.proofs.Common.{ap, sym, ◌∙◌}
+use Rattle.page_keys.proofs.Common.{ap, sym, ◌∙◌, Pair}
 use Rattle.page_keys.proofs.OfBucket.EntryLists.{found_here, gap_here, below_more, order_read}
-use Rattle.page_keys.specs.KeyMaps.{Pair}
 use Rattle.page_keys.proofs.entries.place.Goals as goal
 
 pub returns-in-Equal-clause-found : goal.returns-in-Equal-clause-found

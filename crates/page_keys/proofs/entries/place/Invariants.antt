@@ -1,5 +1,4 @@
-use Rattle.std.proofs.Common.{take}
-use Rattle.page_keys.specs.Entries.{AreBelow}
+use Rattle.page_keys.proofs.Common.{take, AreBelow}
 use Rattle.page_keys.proofs.entries.place.Given as goal
 
 abbrev pub invariant-loop-i : goal.invariant-loop-i

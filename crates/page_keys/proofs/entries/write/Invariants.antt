@@ -1,5 +1,4 @@
-use Rattle.std.proofs.Common.{◌≡◌, ◌++◌, take, flat_map}
-use Rattle.page_keys.specs.Buckets.{entry_bytes}
+use Rattle.page_keys.proofs.Common.{◌≡◌, ◌++◌, take, flat_map, entry_bytes}
 use Rattle.page_keys.proofs.entries.write.Given as goal
 
 abbrev pub invariant-loop-key : goal.invariant-loop-key

@@ -1,7 +1,7 @@
-use Rattle.std.proofs.Common.{◌≡◌, rules, ap, ◌∙◌}
+use Rattle.page_keys.proofs.Common.{◌≡◌, ap, ◌∙◌, changes_of}
+use Rattle.std.proofs.Common.{rules}
 use Rattle.std.proofs.lemmas.Fn.{always_returns_same}
 use Rattle.std.proofs.lemmas.List.Sorted.{IsNonDecreasingBy-from_sort_by_key}
-use Rattle.page_keys.specs.Groups.{changes_of}
 use Rattle.page_keys.proofs.OfPut.PlacedChanges.{page_in, same_group}
 use Rattle.page_keys.proofs.grouping.by_page.Goals as goal
 

@@ -1,6 +1,4 @@
-use Rattle.std.proofs.Common.{◌≡◌, ◌≤◌, take}
-use Rattle.std.specs.Prelude.{count_by}
-use Rattle.page_keys.specs.Groups.{changes_of, puts_value}
+use Rattle.page_keys.proofs.Common.{◌≡◌, ◌≤◌, take, count_by, changes_of, puts_value}
 use Rattle.page_keys.proofs.grouping.count_values.Given as goal
 
 abbrev pub invariant-loop-placed : goal.invariant-loop-placed

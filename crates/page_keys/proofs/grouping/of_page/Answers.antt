@@ -1,4 +1,5 @@
-use Rattle.std.proofs.Common.{◌≤◌, sym, rules, leb, nat_lt}
+use Rattle.page_keys.proofs.Common.{◌≤◌, sym, nat_lt}
+use Rattle.std.proofs.Common.{rules, leb}
 use Rattle.std.proofs.lemmas.List.Sorted.{IsPartitionedBy-leb, IsPartitionedBy-ltb, IsPartitionPoint-from_clause}
 use Rattle.page_keys.proofs.OfPut.PlacedChanges.{page_in, group_up, group_range}
 use Rattle.page_keys.proofs.grouping.of_page.Goals as goal

@@ -1,4 +1,4 @@
-use Rattle.std.proofs.Common.{◌≡◌, drop}
+use Rattle.page_keys.proofs.Common.{◌≡◌, drop}
 use Rattle.std.specs.Prelude.{fold}
 use Rattle.page_keys.specs.KeyMaps.{hash_more}
 use Rattle.page_keys.proofs.hashing.bucket.Given as goal

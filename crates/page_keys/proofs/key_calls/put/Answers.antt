@@ -1,6 +1,5 @@
-use Rattle.std.proofs.Common.{List, length, sym, ap, ◌∙◌}
+use Rattle.page_keys.proofs.Common.{List, length, sym, ap, ◌∙◌, Change}
 use Rattle.page_keys.specs.KeySessions.{reply_of}
-use Rattle.page_keys.specs.declared.changes.Change.{Change}
 use Rattle.page_keys.proofs.OfPut.Existing.{shows_some}
 use Rattle.page_keys.proofs.OfServe.KeyCallLemmas.{memory_here, put_here, stored_here}
 use Rattle.page_keys.proofs.key_calls.put.Goals as goal
@@ -17,7 +16,7 @@ returns-in-Some-clause-ok g c m shows =
     c.config.ensures.always c.args.changes.now m shows c.in-Err.refusal c.in-Some.reply
     (c.in-Err.ensures.gives m shows)
     (ap (λ (cs : List Change). reply_of cs c.in-Err.refusal) (sym c.as_slice-in-Err.ensures)
-    ∙ sym c.refused.ensures ∙ c.in-Some.is)
+    ∙ sym c.put_reply.ensures ∙ c.in-Some.is)
 
 pub returns-in-None-clause-err : goal.returns-in-None-clause-err
 returns-in-None-clause-err g c =
@@ -28,4 +27,4 @@ returns-in-None-clause-err g c =
     c.config.ensures.always c.args.changes.now shown.0 shown.1 c.in-Err.refusal
     (c.in-Err.ensures.gives shown.0 shown.1)
     (ap (λ (cs : List Change). reply_of cs c.in-Err.refusal) (sym c.as_slice-in-Err.ensures)
-    ∙ sym c.refused.ensures ∙ c.in-None.is)
+    ∙ sym c.put_reply.ensures ∙ c.in-None.is)

@@ -1,4 +1,4 @@
-use Rattle.std.proofs.Common.{sym, ◌∙◌}
+use Rattle.page_keys.proofs.Common.{sym, ◌∙◌}
 use Rattle.page_keys.proofs.OfServe.KeyBeginLemmas.{begins_all, begins_off, steady_all}
 use Rattle.page_keys.proofs.key_serving.begin.Goals as goal
 

@@ -1,4 +1,4 @@
-use Rattle.std.proofs.Common.{Err, ◌∙◌}
+use Rattle.page_keys.proofs.Common.{Err, ◌∙◌}
 use Rattle.page_keys.proofs.OfServe.KeyBeginLemmas.{begin_ended, on_each, same_shape}
 use Rattle.page_keys.proofs.OfServe.KeyAllLemmas.{script_keeps}
 use Rattle.page_keys.proofs.key_serving.key_serve.Goals as goal

@@ -1,7 +1,4 @@
-use Rattle.std.proofs.Common.{Ok, refl, sym, ap, ◌∙◌}
-use Rattle.tx_types.specs.declared.config.Shape.{Shape}
-use Rattle.flash_model.specs.Operations.{moment_of}
-use Rattle.page_keys.specs.KeySessions.{flash_in}
+use Rattle.page_keys.proofs.Common.{Ok, refl, sym, ap, ◌∙◌, Shape, moment_of, flash_in}
 use Rattle.page_keys.proofs.OfServe.KeyAllLemmas.{ended_in, ended_untold, is_not_ok, is_ok, moment_stays, refuses, served_all, served_next, served_none}
 use Rattle.page_keys.proofs.OfServe.KeyAllLemmas.{shape_here, shape_is}
 use Rattle.page_keys.proofs.key_serving.serve_all.Goals as goal

@@ -1,8 +1,4 @@
-use Rattle.std.proofs.Common.{◌≡◌, take}
-use Rattle.flash_model.specs.Flash.{FlashState}
-use Rattle.flash_model.specs.Operations.{moment_of}
-use Rattle.page_keys.specs.KeyServed.{BeginsKeys}
-use Rattle.page_keys.specs.KeySessions.{flash_in, Fits, IsKeyImage}
+use Rattle.page_keys.proofs.Common.{◌≡◌, take, FlashState, moment_of, BeginsKeys, flash_in, Fits, IsKeyImage}
 use Rattle.page_keys.proofs.OfServe.KeyAllLemmas.{HasServed}
 use Rattle.page_keys.proofs.key_serving.serve_all.Given as goal
 

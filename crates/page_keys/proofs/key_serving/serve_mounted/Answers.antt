@@ -1,6 +1,5 @@
-use Rattle.std.proofs.Common.{sym, ap, subst, ◌∙◌}
-use Rattle.page_keys.specs.KeyRuns.{is_key_fault}
-use Rattle.page_keys.specs.KeySessions.{Fits, FitsMounted, ServesOne, flash_in}
+use Rattle.page_keys.proofs.Common.{sym, ap, subst, ◌∙◌, is_key_fault, Fits, ServesOne, flash_in}
+use Rattle.page_keys.specs.KeySessions.{FitsMounted}
 use Rattle.page_keys.specs.declared.key_session.KeySession.TheVariants as session
 use Rattle.page_keys.proofs.OfServe.KeyServeLemmas.{answered, broken_reply, closed, no_fault}
 use Rattle.page_keys.proofs.key_serving.serve_mounted.Goals as goal
@@ -12,11 +11,11 @@ returns-in_default-reply g c =
     c.requires.fits in
     record {
       served = subst (λ s. ServesOne {R = g.row.R.Denot} g.F.Flash.state c.args.config
-          c.args.command.now s c.in_ok-reply.reply (session.Mounted c.done.new.store))
+          c.args.command.now s c.in_ok-reply.reply (session.Mounted c.execute.new.store))
           (sym c.in-Mounted.is)
           (answered g.F.Flash.state c.args.config c.in-Mounted.store fits
           g.R.CommitRule.protocol c.requires.rule c.args.command.now c.requires.no_arm
-          c.done.new.store c.config.ensures.always c.in_ok-reply.reply c.in_ok-reply.ensures.ok
+          c.execute.new.store c.config.ensures.always c.in_ok-reply.reply c.in_ok-reply.ensures.ok
           (no_fault c.in_ok-reply.reply c.in_default-reply.not-Fault) c.config.ensures.keys
           g.row.R.Denot);
       ended = tt;
@@ -29,14 +28,14 @@ returns-clause-served g c =
     let fits : FitsMounted state its c.in-Mounted.store =
     subst (λ s. Fits {R = g.row.R.Denot} state its s) c.in-Mounted.is c.requires.fits in
     let one = closed state its c.in-Mounted.store fits g.R.CommitRule.protocol c.requires.rule
-    c.args.command.now c.requires.no_arm c.done.new.store c.config.ensures.always
+    c.args.command.now c.requires.no_arm c.execute.new.store c.config.ensures.always
     c.in_ok-reply.reply c.in_ok-reply.ensures.ok (ap is_key_fault c.in-Fault.is) c.in-Fault.is
     g.row.R.Denot c.live.result
     (sym (c.live.ensures ∙ ap (λ s. (state (flash_in s)).live) c.close.ensures)) in
-    subst (λ s. ServesOne {R = g.row.R.Denot} state its c.args.command.now s c.broken.result
+    subst (λ s. ServesOne {R = g.row.R.Denot} state its c.args.command.now s c.break_reply.result
     c.close.new.self) (sym c.in-Mounted.is)
     (subst (λ r. ServesOne {R = g.row.R.Denot} state its c.args.command.now
-    (session.Mounted c.in-Mounted.store) r c.close.new.self) (sym c.broken.ensures)
+    (session.Mounted c.in-Mounted.store) r c.close.new.self) (sym c.break_reply.ensures)
     (subst (λ s. ServesOne {R = g.row.R.Denot} state its c.args.command.now
     (session.Mounted c.in-Mounted.store) (broken_reply c.live.result) s) (sym c.close.ensures)
     one))

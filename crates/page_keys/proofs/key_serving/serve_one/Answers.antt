@@ -1,5 +1,4 @@
-use Rattle.std.proofs.Common.{sym, subst}
-use Rattle.page_keys.specs.KeySessions.{ServesOne}
+use Rattle.page_keys.proofs.Common.{sym, subst, ServesOne}
 use Rattle.page_keys.specs.declared.key_reply.KeyReply.TheVariants as reply
 use Rattle.page_keys.proofs.OfServe.KeyServeLemmas.{armed}
 use Rattle.page_keys.proofs.key_serving.serve_one.Goals as goal

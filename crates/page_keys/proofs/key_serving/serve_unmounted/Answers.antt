@@ -1,5 +1,4 @@
-use Rattle.std.proofs.Common.{sym, subst, ◌∙◌}
-use Rattle.page_keys.specs.KeySessions.{ServesOne}
+use Rattle.page_keys.proofs.Common.{sym, subst, ◌∙◌, ServesOne}
 use Rattle.page_keys.proofs.OfServe.KeyServeLemmas.{serves_not_opened, serves_opened}
 use Rattle.page_keys.proofs.key_serving.serve_unmounted.Goals as goal
 
@@ -14,7 +13,7 @@ returns-then-is_mounted-clause-served g c =
 pub returns-else-is_mounted-clause-served : goal.returns-else-is_mounted-clause-served
 returns-else-is_mounted-clause-served g c =
     subst (λ r. ServesOne {R = g.row.R.Denot} g.F.Flash.state c.args.config c.args.command.now
-    c.args.session.now r c.mount_again.new.session) (sym c.broken.ensures)
+    c.args.session.now r c.mount_again.new.session) (sym c.break_reply.ensures)
     (serves_not_opened g.F.Flash.state c.args.config c.args.command.now c.requires.no_arm
     c.args.session.now c.mount_again.new.session c.live.result c.requires.unmounted
     (sym c.is_mounted.ensures ∙ c.if-is_mounted.false) c.requires.fits

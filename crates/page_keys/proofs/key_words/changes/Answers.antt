@@ -1,7 +1,6 @@
-use Rattle.std.proofs.Common.{sym, ◌∙◌, map}
-use Rattle.list_facts.proofs.Lists.{none_among}
+use Rattle.page_keys.proofs.Common.{sym, ◌∙◌, map, change_of}
+use Rattle.list_lemmas.proofs.Lists.{none_among}
 use Rattle.host_protocol.specs.Lines.{words_of}
-use Rattle.page_keys.specs.Scripts.{change_of}
 use Rattle.page_keys.proofs.key_words.changes.Goals as goal
 
 pub returns-in_err-change-clause-bad : goal.returns-in_err-change-clause-bad

@@ -1,6 +1,5 @@
-use Rattle.std.proofs.Common.{◌≡◌, ◌+◌, ◌≤◌, length, map, ◌++◌, Some}
+use Rattle.page_keys.proofs.Common.{◌≡◌, ◌+◌, ◌≤◌, length, map, ◌++◌, Some, change_of}
 use Rattle.host_protocol.specs.Lines.{words_of}
-use Rattle.page_keys.specs.Scripts.{change_of}
 use Rattle.page_keys.proofs.key_words.changes.Given as goal
 
 abbrev pub invariant-loop-word : goal.invariant-loop-word

@@ -1,4 +1,4 @@
-use Rattle.std.proofs.Common.{sym, inl, inr}
+use Rattle.page_keys.proofs.Common.{sym, inl, inr}
 use Rattle.page_keys.proofs.OfParse.KeyWordLemmas.{key_bad, key_out, key_read}
 use Rattle.page_keys.proofs.key_words.short.Goals as goal
 use Rattle.page_keys.proofs.key_words.short.Goals.{then-len-eq0-via-then-len-eq0, then-len-eq0-via-else-len-eq0+then-len-gt-MAX_SHORT}

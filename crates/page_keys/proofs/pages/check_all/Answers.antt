@@ -1,9 +1,5 @@
-use Rattle.std.proofs.Common.{◌<◌, ◌≡◌, ℕ, Bool, false, inl, inr, ap, subst, ◌∙◌, arith, Result, Ok}
-use Rattle.std.proofs.lemmas.Bool.{cases_lt}
-use Rattle.tx_types.specs.declared.config.Config.{Config}
+use Rattle.page_keys.proofs.Common.{◌<◌, ◌≡◌, ℕ, Bool, false, inl, inr, ap, subst, ◌∙◌, arith, Result, Ok, cases_lt, Config, IsBucket, encodes, page_at}
 use Rattle.tx_types.specs.declared.memory.Memory.{Memory}
-use Rattle.page_keys.specs.Buckets.{IsBucket, shown}
-use Rattle.tx_engine.specs.ArrayState.{page_at}
 use Rattle.page_keys.proofs.OfStore.StoreReads.{reads_then, bucket_read, bucket_back}
 use Rattle.page_keys.proofs.pages.check_all.Goals as goal
 
@@ -12,13 +8,13 @@ okay b d same = ap (λ (x : Bool). let r : Result Bool Memory = Ok x in r) same
 
 pub returns-then-not-branch-clause-err : goal.returns-then-not-branch-clause-err
 returns-then-not-branch-clause-err g c =
-    let config = c.held_always-logical.ensures.config in
+    let config = c.device_facts-logical.ensures.config in
     record {
       exists = subst (λ (x : Config). c.loop-page.page < x.logical) config c.loop-page-test.true;
       bad = λ bucket.
           c.in_ok-read.ensures.no (okay _ _ c.if-not-branch.true)
           (bucket_back c.args.device.now c.loop-page.device c.read_page.new.room
-          c.held_always-logical.result.logical c.loop-page.page c.loop-page.invariant.reads.stays
+          c.device_facts-logical.result.logical c.loop-page.page c.loop-page.invariant.reads.stays
           c.in_ok-read_page.ensures.shown
           (c.read_page.auto.room ∙ c.loop-page.auto.room ∙ c.requires.room)
           (ap (λ (x : Config). x.logical) config) bucket);
@@ -28,10 +24,10 @@ returns-then-not-branch-clause-err g c =
 pub loop-page-preserved : goal.loop-page-preserved
 loop-page-preserved g c =
     let i = c.loop-page.invariant in
-    let config = c.held_always-logical.ensures.config in
+    let config = c.device_facts-logical.ensures.config in
     let s = c.args.device.now in
     let found = bucket_read s c.loop-page.device c.read_page.new.room
-    c.held_always-logical.result.logical c.loop-page.page i.reads.stays
+    c.device_facts-logical.result.logical c.loop-page.page i.reads.stays
     c.in_ok-read_page.ensures.shown
     (c.read_page.auto.room ∙ c.loop-page.auto.room ∙ c.requires.room)
     (ap (λ (x : Config). x.logical) config)
@@ -44,11 +40,11 @@ loop-page-preserved g c =
         | inr over ↦
             let same : c.loop-page.page ≡ page = omega arith in
             subst (λ (p : ℕ). IsBucket s.config.page_bytes s.config.logical p
-            (shown s.config.page_bytes (page_at s.machine.pages p))) same found
+            (encodes s.config.page_bytes (page_at s.machine.pages p))) same found
       ];
     }
 
 pub returns-clause-ok : goal.returns-clause-ok
 returns-clause-ok g c page exists =
-    let most = ap (λ (x : Config). x.logical) c.held_always-logical.ensures.config in
+    let most = ap (λ (x : Config). x.logical) c.device_facts-logical.ensures.config in
     c.loop-page.invariant.buckets page (omega (arith, most, exists, c.loop-page-test.false))

@@ -1,4 +1,4 @@
-use Rattle.std.proofs.Common.{ap, List, set, ◌∙◌, ℕ}
+use Rattle.page_keys.proofs.Common.{ap, List, set, ◌∙◌, ℕ}
 use Rattle.page_keys.proofs.OfStore.StoreReads.{zeros_more}
 use Rattle.page_keys.proofs.pages.clear.Goals as goal
 

@@ -1,4 +1,4 @@
-use Rattle.std.proofs.Common.{◌≡◌, ◌++◌, drop, replicate}
+use Rattle.page_keys.proofs.Common.{◌≡◌, ◌++◌, drop, replicate}
 use Rattle.page_keys.proofs.pages.clear.Given as goal
 
 abbrev pub invariant-loop-i : goal.invariant-loop-i

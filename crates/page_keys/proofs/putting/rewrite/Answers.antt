@@ -1,12 +1,5 @@
 mod Inserts
-use Rattle.std.proofs.Common.{ℕ, List, ◌++◌, length, flat_map, refl, ap, sym, subst, ◌∙◌, arith}
-use Rattle.tx_types.specs.declared.config.Config.{Config}
-use Rattle.std.specs.List.{AllByRecursion}
-use Rattle.page_keys.specs.Puts.{IsKeyChange}
-use Rattle.std.specs.Prelude.{count_by}
-use Rattle.page_keys.specs.Groups.{puts_value}
-use Rattle.page_keys.specs.Buckets.{entry_bytes, IsEntry}
-use Rattle.page_keys.specs.Entries.{changed}
+use Rattle.page_keys.proofs.Common.{ℕ, List, ◌++◌, length, flat_map, refl, ap, sym, subst, ◌∙◌, arith, Config, AllByRecursion, IsKeyChange, count_by, puts_value, entry_bytes, IsEntry, changed}
 use Rattle.page_keys.proofs.OfBucket.BucketChanges.{merged_are, each_after, each_changed}
 use Rattle.page_keys.proofs.putting.rewrite.Answers.Inserts.{puts_most}
 use Rattle.page_keys.proofs.OfPut.EntriesLeft.{length_entries}
@@ -34,7 +27,7 @@ returns-then-count_values-most-clause-refused g c m cs same differ shows =
     let s = c.args.device.now in
     let least = puts_most s.config.logical c.args.page m cs differ in
     let count = c.count_values.ensures ∙ ap (count_by puts_value) (sym same) in
-    let size = ap (λ (x : Config). x.page_bytes) c.held_always-config.ensures.config in (
+    let size = ap (λ (x : Config). x.page_bytes) c.device_facts-config.ensures.config in (
       refl,
       is_over_by _ _ _ _ size c.if-count_values-most.true
           (let most = least in omega (arith, most, count)),
@@ -43,7 +36,7 @@ returns-then-count_values-most-clause-refused g c m cs same differ shows =
 pub returns-then-len-most-clause-refused : goal.returns-then-len-most-clause-refused
 returns-then-len-most-clause-refused g c m cs same differ shows =
     let s = c.args.device.now in
-    let config = c.held_always-config.ensures.config in
+    let config = c.device_facts-config.ensures.config in
     let is = entries_read s c.args.page c.read_page.new.room c.entries_in.new.into.items
     c.requires.keys c.requires.exists c.in_ok-read_page.ensures.shown
     (c.read_page.auto.room ∙ c.requires.room) c.in_ok-entries_in.ensures in
@@ -52,7 +45,7 @@ returns-then-len-most-clause-refused g c m cs same differ shows =
     (shows c.args.page c.requires.exists) c.entries_in.new.into.items c.merge.new.entries.items is
     made in (
       refl,
-      is_more c.held_always-config.result.page_bytes s.config.page_bytes _ c.len.result
+      is_more c.device_facts-config.result.page_bytes s.config.page_bytes _ c.len.result
           (ap (λ (x : Config). x.page_bytes) config) c.if-len-most.true
           (c.len.ensures ∙ c.merge.new.entries.ok.0 ∙ ap length merged),
     )
@@ -60,7 +53,7 @@ returns-then-len-most-clause-refused g c m cs same differ shows =
 pub returns-clause-bytes : goal.returns-clause-bytes
 returns-clause-bytes g c m cs same shows =
     let s = c.args.device.now in
-    let config = c.held_always-config.ensures.config in
+    let config = c.device_facts-config.ensures.config in
     let is = entries_read s c.args.page c.read_page.new.room c.entries_in.new.into.items
     c.requires.keys c.requires.exists c.in_ok-read_page.ensures.shown
     (c.read_page.auto.room ∙ c.requires.room) c.in_ok-entries_in.ensures in
@@ -68,7 +61,7 @@ returns-clause-bytes g c m cs same shows =
     let here = shows c.args.page c.requires.exists in
     let merged = merged_are s.config m cs c.args.page _ here
     c.entries_in.new.into.items c.merge.new.entries.items is made in
-    let few = is_within c.held_always-config.result.page_bytes s.config.page_bytes _ c.len.result
+    let few = is_within c.device_facts-config.result.page_bytes s.config.page_bytes _ c.len.result
     (ap (λ (x : Config). x.page_bytes) config) c.if-len-most.false
     (c.len.ensures ∙ c.merge.new.entries.ok.0 ∙ ap length merged) in
     let bytes = c.in_ok-write.ensures
@@ -86,13 +79,13 @@ returns-clause-bytes g c m cs same shows =
 pub returns-clause-within : goal.returns-clause-within
 returns-clause-within g c =
     let s = c.args.device.now in
-    let config = c.held_always-config.ensures.config in
+    let config = c.device_facts-config.ensures.config in
     let is = entries_read s c.args.page c.read_page.new.room c.entries_in.new.into.items
     c.requires.keys c.requires.exists c.in_ok-read_page.ensures.shown
     (c.read_page.auto.room ∙ c.requires.room) c.in_ok-entries_in.ensures in
     let each = subst (AllByRecursion IsEntry) (sym c.in_ok-merge.ensures)
     (each_changed c.entries_in.new.into.items _ c.requires.valid is.holds.each) in
-    let few = is_within c.held_always-config.result.page_bytes s.config.page_bytes _ c.len.result
+    let few = is_within c.device_facts-config.result.page_bytes s.config.page_bytes _ c.len.result
     (ap (λ (x : Config). x.page_bytes) config) c.if-len-most.false
     (c.len.ensures ∙ c.merge.new.entries.ok.0) in
     let bytes = c.in_ok-write.ensures

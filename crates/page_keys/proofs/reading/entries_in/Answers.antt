@@ -1,6 +1,4 @@
-use Rattle.std.proofs.Common.{◌≡◌, ◌∷◌, ◌++◌, [], List, ap, sym, ◌∙◌, append_assoc}
-use Rattle.std.proofs.lemmas.List.{append-nil}
-use Rattle.page_keys.specs.KeyMaps.{Pair}
+use Rattle.page_keys.proofs.Common.{◌≡◌, ◌∷◌, ◌++◌, [], List, ap, sym, ◌∙◌, append_assoc, append-nil, Pair}
 use Rattle.page_keys.proofs.OfPut.EntriesLeft.{first_entry, none_left, none_short}
 use Rattle.page_keys.proofs.reading.entries_in.Goals as goal
 

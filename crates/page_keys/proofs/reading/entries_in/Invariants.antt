@@ -1,6 +1,4 @@
-use Rattle.std.proofs.Common.{◌≡◌, ◌++◌, ℕ, length, List}
-use Rattle.page_keys.specs.KeyMaps.{Pair}
-use Rattle.page_keys.specs.Buckets.{HoldsEntries}
+use Rattle.page_keys.proofs.Common.{◌≡◌, ◌++◌, ℕ, length, List, Pair, HoldsEntries}
 use Rattle.page_keys.proofs.OfPut.EntriesLeft.{IsLeft}
 use Rattle.page_keys.proofs.reading.entries_in.Given as goal
 

@@ -1,5 +1,4 @@
-use Rattle.std.proofs.Common.{◌∙◌, ap}
-use Rattle.std.specs.Ordering.{is_lt}
+use Rattle.page_keys.proofs.Common.{◌∙◌, ap, is_lt}
 use Rattle.page_keys.proofs.OfPut.EntriesLeft.{follows, less_index}
 use Rattle.page_keys.proofs.reading.is_above.Goals as goal
 

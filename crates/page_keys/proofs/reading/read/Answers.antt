@@ -1,4 +1,4 @@
-use Rattle.std.proofs.Common.{false, inl, inr, true, ◌≡◌, replicate, length, sym, ◌∙◌}
+use Rattle.page_keys.proofs.Common.{false, inl, inr, true, ◌≡◌, replicate, length, sym, ◌∙◌}
 use Rattle.page_keys.proofs.OfBucket.EntryLists.{not_in_page}
 use Rattle.page_keys.proofs.OfPut.EntriesLeft.{unread, astray, no_zeros_left, all_read}
 use Rattle.page_keys.proofs.reading.read.Goals as goal

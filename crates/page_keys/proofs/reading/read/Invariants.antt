@@ -1,6 +1,4 @@
-use Rattle.std.proofs.Common.{◌≡◌, ◌++◌, length, flat_map}
-use Rattle.std.specs.List.{AllByRecursion}
-use Rattle.page_keys.specs.Buckets.{entry_bytes, IsEntry, AreOfPage}
+use Rattle.page_keys.proofs.Common.{◌≡◌, ◌++◌, length, flat_map, AllByRecursion, entry_bytes, IsEntry, AreOfPage}
 use Rattle.page_keys.proofs.reading.read.Given as goal
 
 abbrev pub decreases-entries : goal.decreases-entries

@@ -1,4 +1,4 @@
-use Rattle.std.proofs.Common.{◌∙◌}
+use Rattle.page_keys.proofs.Common.{◌∙◌}
 use Rattle.page_keys.proofs.OfPut.EntriesLeft.{halves}
 use Rattle.page_keys.proofs.reading.read_entry.Goals as goal
 

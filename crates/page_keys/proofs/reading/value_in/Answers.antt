@@ -1,5 +1,4 @@
-use Rattle.std.proofs.Common.{refl, ap, sym, ◌∙◌, ◌≡◌, ◌∷◌, Some}
-use Rattle.page_keys.specs.KeyMaps.{Pair, value_of}
+use Rattle.page_keys.proofs.Common.{refl, ap, sym, ◌∙◌, ◌≡◌, ◌∷◌, Some, Pair, value_of}
 use Rattle.page_keys.proofs.OfBucket.Spelling.{entry_equal}
 use Rattle.page_keys.proofs.OfPut.EntriesLeft.{first_entry, none_left, none_short, found_first, found_later, same_bytes, other_bytes}
 use Rattle.page_keys.proofs.reading.value_in.Goals as goal

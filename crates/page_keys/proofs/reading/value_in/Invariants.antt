@@ -1,6 +1,4 @@
-use Rattle.std.proofs.Common.{◌≡◌, ℕ, length, List}
-use Rattle.page_keys.specs.KeyMaps.{Pair, value_of}
-use Rattle.page_keys.specs.Buckets.{HoldsEntries}
+use Rattle.page_keys.proofs.Common.{◌≡◌, ℕ, length, List, Pair, value_of, HoldsEntries}
 use Rattle.page_keys.proofs.OfPut.EntriesLeft.{IsLeft}
 use Rattle.page_keys.proofs.reading.value_in.Given as goal
 

@@ -1,5 +1,4 @@
-use Rattle.std.proofs.Common.{◌<◌, length, ap, ◌∙◌, arith}
-use Rattle.page_keys.specs.Pages.{with_page}
+use Rattle.page_keys.proofs.Common.{◌<◌, length, ap, ◌∙◌, arith, with_page}
 use Rattle.page_keys.proofs.OfPut.PageLists.{page_past, page_here, page_before, page_last}
 use Rattle.page_keys.proofs.refusals.add_page.Goals as goal
 

@@ -1,5 +1,4 @@
-use Rattle.std.proofs.Common.{◌≡◌, ◌++◌, take, drop}
-use Rattle.page_keys.specs.Pages.{with_page}
+use Rattle.page_keys.proofs.Common.{◌≡◌, ◌++◌, take, drop, with_page}
 use Rattle.page_keys.proofs.refusals.add_page.Given as goal
 
 abbrev pub invariant-loop-i : goal.invariant-loop-i

@@ -1,5 +1,4 @@
-use Rattle.std.proofs.Common.{true, false, sym, ◌∙◌, arith}
-use Rattle.page_keys.specs.KeyMaps.{is_touched}
+use Rattle.page_keys.proofs.Common.{true, false, sym, ◌∙◌, arith, is_touched}
 use Rattle.page_keys.proofs.OfPut.PageLists.{counted_more, few_counted}
 use Rattle.page_keys.proofs.refusals.count_pages.Goals as goal
 use Rattle.page_keys.proofs.refusals.count_pages.Goals.{then-is_touched, else-is_touched}

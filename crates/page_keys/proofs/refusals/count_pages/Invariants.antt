@@ -1,6 +1,4 @@
-use Rattle.std.proofs.Common.{◌≡◌, length, filter}
-use Rattle.std.specs.List.{range_with_len}
-use Rattle.page_keys.specs.KeyMaps.{is_touched}
+use Rattle.page_keys.proofs.Common.{◌≡◌, length, filter, range_with_len, is_touched}
 use Rattle.page_keys.proofs.refusals.count_pages.Given as goal
 
 abbrev pub invariant-loop-page : goal.invariant-loop-page

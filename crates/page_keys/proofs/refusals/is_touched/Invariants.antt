@@ -1,5 +1,4 @@
-use Rattle.std.proofs.Common.{◌≡◌, drop}
-use Rattle.page_keys.specs.KeyMaps.{is_touched}
+use Rattle.page_keys.proofs.Common.{◌≡◌, drop, is_touched}
 use Rattle.page_keys.proofs.refusals.is_touched.Given as goal
 
 abbrev pub invariant-loop-change : goal.invariant-loop-change

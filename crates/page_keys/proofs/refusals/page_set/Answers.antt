@@ -1,5 +1,4 @@
-use Rattle.std.proofs.Common.{sym, ap, ◌∙◌}
-use Rattle.page_keys.specs.Pages.{with_page}
+use Rattle.page_keys.proofs.Common.{sym, ap, ◌∙◌, with_page}
 use Rattle.page_keys.proofs.OfPut.PageLists.{no_pages, inserted_page, pages_more}
 use Rattle.page_keys.proofs.refusals.page_set.Goals as goal
 

@@ -1,5 +1,4 @@
-use Rattle.std.proofs.Common.{◌≡◌, take}
-use Rattle.page_keys.specs.KeyMaps.{pages_of}
+use Rattle.page_keys.proofs.Common.{◌≡◌, take, pages_of}
 use Rattle.page_keys.proofs.refusals.page_set.Given as goal
 
 abbrev pub invariant-loop-change : goal.invariant-loop-change

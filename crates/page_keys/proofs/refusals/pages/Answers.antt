@@ -1,5 +1,4 @@
-use Rattle.std.proofs.Common.{take, sym, ap, ◌∙◌}
-use Rattle.page_keys.specs.Pages.{with_page}
+use Rattle.page_keys.proofs.Common.{take, sym, ap, ◌∙◌, with_page}
 use Rattle.page_keys.proofs.OfPut.PageLists.{no_pages, pages_more, few_pages}
 use Rattle.page_keys.proofs.refusals.pages.Goals as goal
 
@@ -21,4 +20,4 @@ returns-clause-few c =
 
 pub returns-then-changes-gt-FEW-clause-few : goal.returns-then-changes-gt-FEW-clause-few
 returns-then-changes-gt-FEW-clause-few c =
-    rw (c.in_ok-listed.ensures, c.in_ok-page_set.ensures) (few_pages c.args.logical c.args.changes.now)
+    rw (c.in_ok-list_pages.ensures, c.in_ok-page_set.ensures) (few_pages c.args.logical c.args.changes.now)

@@ -1,6 +1,4 @@
-use Rattle.std.proofs.Common.{◌≡◌, drop}
-use Rattle.std.specs.List.{list_any}
-use Rattle.page_keys.specs.Puts.{has_key}
+use Rattle.page_keys.proofs.Common.{◌≡◌, drop, list_any, has_key}
 use Rattle.page_keys.proofs.repeats.stands_in.Given as goal
 
 abbrev pub invariant-loop-change : goal.invariant-loop-change

@@ -1,6 +1,6 @@
-use Rattle.std.proofs.Common.{◌≡◌, ◌+◌, ◌<◌, ◌^◌, length, ap, ◌∙◌, take, arith, Err}
-use Rattle.host_protocol.specs.Lines.{lines_of}
-use Rattle.list_facts.proofs.Lists.{next, take_to_end}
+use Rattle.page_keys.proofs.Common.{◌≡◌, ◌+◌, ◌<◌, length, ap, ◌∙◌, take, arith, Err, lines_of}
+use Rattle.std.proofs.Common.{◌^◌}
+use Rattle.list_lemmas.proofs.Lists.{next, take_to_end}
 use Rattle.page_keys.specs.Scripts.{IsScript}
 use Rattle.page_keys.specs.ScriptReading.{EndsAt}
 use Rattle.page_keys.proofs.OfParse.ScriptLemmas.{add_line, add_suits, first_bad, script_bad, script_same, only_memory, only_first, ends, line_short}

@@ -1,6 +1,5 @@
-use Rattle.std.proofs.Common.{◌≡◌, ◌+◌, ◌≤◌, length, take, drop}
+use Rattle.page_keys.proofs.Common.{◌≡◌, ◌+◌, ◌≤◌, length, take, drop, lines_of}
 use Rattle.std.specs.Prelude.{All}
-use Rattle.host_protocol.specs.Lines.{lines_of}
 use Rattle.page_keys.specs.Scripts.{AreKeyCommands, SuitsKeys}
 use Rattle.page_keys.proofs.script.parse_keys.Given as goal
 

@@ -1,15 +1,9 @@
 mod WriteSteps
 mod Steps
-use Rattle.std.proofs.Common.{◌+◌, Ok, Some, false, ap, subst, ◌∙◌}
-use Rattle.version_index.specs.Noted.{Noted}
-use Rattle.tx_engine.specs.Naming.{is_spent}
-use Rattle.tx_engine.specs.Standing.{limits_of}
-use Rattle.array_machine.specs.declared.answers.SubmitError.{SubmitError}
+use Rattle.page_keys.proofs.Common.{◌+◌, Ok, Some, false, ap, subst, ◌∙◌, IndexState, is_spent, limits_of, SubmitError, ArrayState, StepsAs}
 use Rattle.array_machine.specs.declared.answers.Progress.TheVariants as progress
 use Rattle.tx_engine.specs.Exits.{is_there}
-use Rattle.tx_engine.specs.ArrayState.{ArrayState}
-use Rattle.tx_engine.specs.Step.{StepsAs}
-use Rattle.tx_engine.proofs.OfStanding.Seen.{exits_seen}
+use Rattle.tx_engine.proofs.OfDevice.Seen.{exits_seen}
 use Rattle.page_keys.specs.Writing.{seen_more}
 use Rattle.page_keys.proofs.OfStore.Mentions.{submitted_seen}
 use Rattle.page_keys.proofs.writing.write.Answers.Steps.{wrote, done_writing}
@@ -36,8 +30,8 @@ steps-preserved g c =
             i.moved exits;
         seen = λ seen h. exits_seen g.F.Flash.state g.R.CommitRule.protocol c.steps.device
             c.step.new.self (seen_more seen c.args.batch.now.entries) i.always
-            c.held_always-in-Ok-Wrote.ensures.always exits.tables (i.seen seen h);
-        always = c.held_always-in-Ok-Wrote.ensures.always;
+            c.device_facts-in-Ok-Wrote.ensures.always exits.tables (i.seen seen h);
+        always = c.device_facts-in-Ok-Wrote.ensures.always;
       },
     )
 
@@ -58,7 +52,7 @@ returns-in-Ok-Done-clause-written g c =
           i.moved exits;
       seen = λ seen h. exits_seen g.F.Flash.state g.R.CommitRule.protocol c.steps.device
           c.step.new.self (seen_more seen c.args.batch.now.entries) i.always
-          c.held_always-in-Ok-Done.ensures.always exits.tables (i.seen seen h);
+          c.device_facts-in-Ok-Done.ensures.always exits.tables (i.seen seen h);
     }
 
 pub returns-in-Err-step-clause-not_written : goal.returns-in-Err-step-clause-not_written
@@ -71,11 +65,11 @@ returns-in-Err-step-clause-not_written g c =
     c.in-Err-step.field-0
     (λ seen h. exits_seen g.F.Flash.state g.R.CommitRule.protocol c.steps.device
     c.step.new.self (seen_more seen c.args.batch.now.entries) i.always
-    c.held_always-in-Err-step.ensures.always exits.tables (i.seen seen h)) i.machine i.unspent i.moved
-    steps exits c.held_always-in-Err-step.ensures.always.array
+    c.device_facts-in-Err-step.ensures.always exits.tables (i.seen seen h)) i.machine i.unspent i.moved
+    steps exits c.device_facts-in-Err-step.ensures.always.array
 
-pub spent-requires : goal.spent-requires
-spent-requires g c =
+pub spent_refusal-requires : goal.spent_refusal-requires
+spent_refusal-requires g c =
     (named_spent (limits_of c.args.device.now.config) (is_spent c.args.device.now.noted.mentions)
     c.args.device.now.machine c.submit.new.self.machine c.args.batch.now.entries
     c.requires.closed c.requires.fits c.in-Err.refusal c.in-Err.ensures.submits).0
@@ -87,13 +81,13 @@ returns-in-Err-clause-not_written g c =
     c.submit.new.self.machine c.args.batch.now.entries c.requires.closed c.requires.fits
     c.in-Err.refusal c.in-Err.ensures.submits in
     let keeps = c.in-Err.ensures.keeps in
-    rw (c.spent.ensures named.0.0 named.0.1) (
+    rw (c.spent_refusal.ensures named.0.0 named.0.1) (
       named.1 ∙ ap (λ (e : SubmitError). Some e) named.0.1,
       record {
         config = keeps.config;
         machine = named.2;
         flash = keeps.flash;
-        mentions = ap (λ (n : Noted). n.mentions) keeps.noted;
+        mentions = ap (λ (n : IndexState). n.mentions) keeps.noted;
         namings = c.in-Err.ensures.named;
       },
     )
@@ -115,6 +109,6 @@ steps-init g c =
             keeps.flash;
         seen = λ seen h. submitted_seen c.args.device.now c.submit.new.self seen ws
             c.in_default.field-0 c.in_default.ensures.named keeps h;
-        always = c.held_always.ensures.always;
+        always = c.device_facts.ensures.always;
       },
     )

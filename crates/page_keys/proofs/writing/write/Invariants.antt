@@ -1,9 +1,6 @@
-use Rattle.std.proofs.Common.{◌≡◌, ◌<◌, ℕ, None, false, length}
+use Rattle.page_keys.proofs.Common.{◌≡◌, ◌<◌, ℕ, None, false, length, spent_page, IsSeen, HoldsAlways, is_spent, writing, Moved}
 use Rattle.array_machine.specs.Run.{pages_left}
-use Rattle.tx_engine.specs.Submit.{spent_page}
-use Rattle.tx_engine.specs.Always.{IsSeen, HoldsAlways}
-use Rattle.tx_engine.specs.Naming.{is_spent}
-use Rattle.page_keys.specs.Writing.{writing, Moved, seen_more}
+use Rattle.page_keys.specs.Writing.{seen_more}
 use Rattle.page_keys.proofs.writing.write.Given as goal
 
 abbrev pub decreases-steps : goal.decreases-steps

@@ -1,5 +1,5 @@
 use Rattle.std.proofs.Common.{◌≡◌, refl, None, Some, sym, ap, ◌∙◌}
-use Rattle.list_facts.proofs.Bytes.{IsBytes}
+use Rattle.list_lemmas.proofs.Bytes.{IsBytes}
 use Rattle.page_record.specs.Spelling.{spelling}
 use Rattle.page_record.specs.Rules.{first_broken}
 use Rattle.page_record.proofs.Spellings.{BreaksNone-spelling, fields_of-spelling, breaks_none, none_broken, can_be_spelled, is_spelled, record_of-fields}

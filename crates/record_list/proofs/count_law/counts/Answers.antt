@@ -1,6 +1,5 @@
-use Rattle.std.proofs.Common.{subst}
+use Rattle.record_list.proofs.Common.{subst, KeepsCount}
 use Rattle.record_list.specs.Search.{FindsFirst}
-use Rattle.record_list.specs.Counts.{KeepsCount}
 use Rattle.record_list.proofs.OfFacts.Breaches.{miscount_at}
 use Rattle.record_list.proofs.count_law.counts.Goals as goal
 

@@ -1,6 +1,4 @@
-use Rattle.std.proofs.Common.{◌≡◌, ◌+◌, sym, ap, ◌∙◌, inl, inr, arith}
-use Rattle.std.proofs.lemmas.Bool.{false≢true, cases_lt}
-use Rattle.record_list.specs.SoundList.{follow}
+use Rattle.record_list.proofs.Common.{◌≡◌, ◌+◌, sym, ap, ◌∙◌, inl, inr, arith, false≢true, cases_lt, follow}
 use Rattle.record_list.proofs.OfWalks.Follow.{one_more_link}
 use Rattle.record_list.proofs.OfFacts.Names.{is_same_true, is_same_own}
 use Rattle.record_list.proofs.OfWalks.Returns.{first_here, no_return}

@@ -1,5 +1,4 @@
-use Rattle.std.proofs.Common.{◌≡◌, ◌≢◌, ℕ, ◌≤◌}
-use Rattle.record_list.specs.SoundList.{follow}
+use Rattle.record_list.proofs.Common.{◌≡◌, ◌≢◌, ℕ, ◌≤◌, follow}
 use Rattle.record_list.proofs.count_law.first_return.Given as goal
 
 abbrev pub invariant-loop-links : goal.invariant-loop-links

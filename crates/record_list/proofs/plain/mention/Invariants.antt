@@ -1,4 +1,4 @@
-use Rattle.std.proofs.Common.{◌≡◌, take}
+use Rattle.record_list.proofs.Common.{◌≡◌, take}
 use Rattle.record_list.specs.Records.{mention}
 use Rattle.record_list.proofs.plain.mention.Given as goal
 

@@ -1,5 +1,4 @@
-use Rattle.std.proofs.Common.{◌≡◌, take}
-use Rattle.record_list.specs.Records.{newest}
+use Rattle.record_list.proofs.Common.{◌≡◌, take, newest}
 use Rattle.record_list.proofs.plain.newest.Given as goal
 
 abbrev pub invariant-loop-found : goal.invariant-loop-found

@@ -1,5 +1,4 @@
-use Rattle.std.proofs.Common.{◌≡◌, take}
-use Rattle.record_list.specs.Records.{next_older}
+use Rattle.record_list.proofs.Common.{◌≡◌, take, next_older}
 use Rattle.record_list.proofs.plain.next_older.Given as goal
 
 abbrev pub invariant-loop-found : goal.invariant-loop-found

@@ -1,5 +1,5 @@
-use Rattle.std.proofs.Common.{◌≡◌, drop}
-use Rattle.record_list.specs.Verdict.{back_of}
+use Rattle.record_list.proofs.Common.{◌≡◌, back_of}
+use Rattle.std.proofs.Common.{drop}
 use Rattle.record_list.proofs.walks.back_of.Given as goal
 
 abbrev pub invariant-loop-found : goal.invariant-loop-found

@@ -1,10 +1,6 @@
 -- The loop begins where the walk does, and each turn follows one link.
 pub mod Walk
-use Rattle.std.proofs.Common.{◌≡◌, ◌-◌, false, eqb, refl, sym, ap, ◌∙◌, inl, inr, arith, add-one, ne_eqb}
-use Rattle.std.proofs.lemmas.Bool.{and_left, and_right}
-use Rattle.tx_types.specs.declared.record.Link.{Link}
-use Rattle.record_list.specs.Records.{is_same}
-use Rattle.record_list.specs.Verdict.{walk}
+use Rattle.record_list.proofs.Common.{◌≡◌, ◌-◌, false, eqb, refl, sym, ap, ◌∙◌, inl, inr, arith, add-one, ne_eqb, and_left, and_right, Link, is_same, walk}
 use Rattle.record_list.proofs.walks.reason.Answers.Walk.{walk_goes}
 use Rattle.record_list.proofs.walks.reason.Goals as goal
 

@@ -1,5 +1,4 @@
-use Rattle.std.proofs.Common.{◌≡◌}
-use Rattle.record_list.specs.Verdict.{walk, why}
+use Rattle.record_list.proofs.Common.{◌≡◌, walk, why}
 use Rattle.record_list.proofs.walks.reason.Given as goal
 
 abbrev pub invariant-loop-turns : goal.invariant-loop-turns

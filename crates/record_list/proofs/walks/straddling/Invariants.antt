@@ -1,5 +1,4 @@
-use Rattle.std.proofs.Common.{◌≡◌, take}
-use Rattle.record_list.specs.Verdict.{straddling}
+use Rattle.record_list.proofs.Common.{◌≡◌, take, straddling}
 use Rattle.record_list.proofs.walks.straddling.Given as goal
 
 abbrev pub invariant-loop-found : goal.invariant-loop-found

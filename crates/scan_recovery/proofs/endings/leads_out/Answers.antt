@@ -1,7 +1,5 @@
 mod NameOrbits
-use Rattle.std.proofs.Common.{refl, sym, inl, inr}
-use Rattle.std.proofs.lemmas.Bool.{false≢true}
-use Rattle.record_chart.proofs.OfWalk.WalkOrbits.{absent_at}
+use Rattle.scan_recovery.proofs.Common.{refl, sym, inl, inr, false≢true, absent_at}
 use Rattle.scan_recovery.proofs.endings.leads_out.Answers.NameOrbits.{orbit_at, end_leads_out, round_never, aside_never}
 use Rattle.scan_recovery.proofs.endings.leads_out.Goals as goal
 

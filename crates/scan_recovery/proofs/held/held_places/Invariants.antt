@@ -1,4 +1,4 @@
-use Rattle.std.proofs.Common.{take}
+use Rattle.scan_recovery.proofs.Common.{take}
 use Rattle.scan_recovery.specs.Removable.{AreHeld}
 use Rattle.scan_recovery.proofs.held.held_places.Given as goal
 

@@ -1,5 +1,5 @@
-use Rattle.std.proofs.Common.{◌+◌, sym, ap, ◌∙◌, subst, arith}
-use Rattle.die_alloc.specs.BlockTable.{IsBlockTable}
+use Rattle.scan_recovery.proofs.Common.{◌+◌, sym, ap, ◌∙◌, subst, arith}
+use Rattle.die_alloc.specs.BlocksState.{IsBlocksState}
 use Rattle.die_alloc.specs.Opening.{with_slots}
 use Rattle.scan_recovery.proofs.opening.block_table.Invariants.OpenedTable.{IsOpenedTo, opened_next, opened_all}
 use Rattle.scan_recovery.proofs.opening.block_table.Goals as goal
@@ -9,7 +9,7 @@ loop-block-preserved c =
     let same = c.note_block.ensures.noted ∙ ap (with_slots c.loop-block.blocks c.loop-block.block) c.slots_in.ensures.slots in
     subst (IsOpenedTo c.args.shape c.args.seen.now c.args.spare.0 (c.loop-block.block + 1)) (sym same)
     (opened_next c.args.shape c.args.seen.now c.args.spare.0 c.loop-block.block c.loop-block.blocks (omega arith) c.loop-block.invariant
-    (subst IsBlockTable same c.note_block.ensures.table))
+    (subst IsBlocksState same c.note_block.ensures.table))
 
 pub returns : goal.returns
 returns c = opened_all c.args.shape c.args.seen.now c.args.spare.0 c.loop-block.block c.loop-block.blocks (omega arith) c.loop-block.invariant

@@ -1,4 +1,4 @@
-use Rattle.std.proofs.Common.{refl}
+use Rattle.scan_recovery.proofs.Common.{refl}
 use Rattle.record_list.proofs.OfChanges.Counting.{none_counted}
 use Rattle.scan_recovery.proofs.opening.miscount.Goals as goal
 

@@ -1,8 +1,6 @@
-use Rattle.std.proofs.Common.{◌<◌, sym, ap, ◌∙◌, subst}
-use Rattle.tx_types.specs.Config.{IsShape, shape_of, blocks_of}
+use Rattle.scan_recovery.proofs.Common.{◌<◌, sym, ap, ◌∙◌, subst, IsShape, blocks_of, opening_table, IsChosenFrom}
+use Rattle.tx_types.specs.Config.{shape_of}
 use Rattle.tx_types.proofs.ConfigLemmas.{checked_config}
-use Rattle.die_alloc.specs.Opening.{opening_table}
-use Rattle.version_index.specs.Opening.{IsChosenFrom}
 use Rattle.scan_recovery.proofs.opening.tables_with_spare.Goals as goal
 
 pub block_table-requires-clause-shape : goal.block_table-requires-clause-shape

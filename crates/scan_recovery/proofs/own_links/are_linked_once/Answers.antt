@@ -1,6 +1,4 @@
-use Rattle.std.proofs.Common.{◌<◌, length, get_or, false, refl, position}
-use Rattle.std.proofs.lemmas.List.{length-map}
-use Rattle.record_list.specs.Records.{has_name}
+use Rattle.scan_recovery.proofs.Common.{◌<◌, length, get_or, false, refl, position, length-map, has_name}
 use Rattle.scan_recovery.proofs.OfLinks.OwnLinks.{linked, unlinked, place_within}
 use Rattle.scan_recovery.proofs.own_links.are_linked_once.Goals as goal
 use Rattle.scan_recovery.proofs.own_links.are_linked_once.Goals.{in-Some+else-not-links_there, in_default}

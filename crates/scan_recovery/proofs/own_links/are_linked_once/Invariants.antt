@@ -1,4 +1,4 @@
-use Rattle.std.proofs.Common.{◌≡◌, length}
+use Rattle.scan_recovery.proofs.Common.{◌≡◌, length}
 use Rattle.scan_recovery.specs.Searches.{AreMarked, AreLinkedOnce}
 use Rattle.scan_recovery.proofs.own_links.are_linked_once.Given as goal
 

@@ -1,7 +1,6 @@
 mod OpenedImages
-use Rattle.std.proofs.Common.{◌∙◌}
+use Rattle.scan_recovery.proofs.Common.{◌∙◌, list_of}
 use Rattle.std.proofs.lemmas.Result.{IfOk-weaker}
-use Rattle.record_chart.specs.Charts.{list_of}
 use Rattle.scan_recovery.proofs.recovery.recover.Answers.OpenedImages.{scan_complete, scan_scanned, scan_pages, copies_agree, opened_image, recovered_sound}
 use Rattle.scan_recovery.proofs.recovery.recover.Answers.OpenedImages.{recovered_unsound}
 use Rattle.scan_recovery.proofs.recovery.recover.Answers.OpenedImages.{recovered_reads}

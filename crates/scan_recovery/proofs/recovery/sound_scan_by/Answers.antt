@@ -1,11 +1,6 @@
-use Rattle.std.proofs.Common.{◌≡◌, ℕ, ◌<◌, List, length, All, sym, subst}
-use Rattle.tx_types.specs.declared.config.Protocol.{Protocol}
-use Rattle.tx_types.specs.Config.{slots_of}
-use Rattle.flash_model.specs.declared.flash.Seen.{Seen}
-use Rattle.flash_model.specs.Flash.{FlashState, IsFlash}
-use Rattle.record_list.specs.declared.found.Found.{Found}
-use Rattle.scan_recovery.specs.Reading.{ReadsAll}
-use Rattle.scan_recovery.specs.Scans.{IsScanOf, WasScanned}
+use Rattle.scan_recovery.proofs.Common.{◌≡◌, ℕ, ◌<◌, List, length, All, sym, subst, Protocol, slots_of, Seen, FlashState, Found, ReadsAll, IsScanOf}
+use Rattle.flash_model.specs.Flash.{IsFlash}
+use Rattle.scan_recovery.specs.Scans.{WasScanned}
 use Rattle.scan_recovery.proofs.OfLaws.LawTwo.{records_within}
 use Rattle.scan_recovery.proofs.recovery.sound_scan_by.Goals as goal
 

@@ -1,13 +1,7 @@
 mod SoundScans
 mod Upto
-use Rattle.std.proofs.Common.{◌*◌, true, All, Some, subst}
+use Rattle.scan_recovery.proofs.Common.{◌*◌, true, All, Some, subst, get_or_default, nothing, FindsFirst, list_of, ReadsAll, ReadsSome, AgreesWithLowest, compared, compared_to}
 use Rattle.std.proofs.lemmas.Result.{err_from_is_err_and}
-use Rattle.std.proofs.lemmas.List.{get_or_default}
-use Rattle.record_list.specs.Records.{nothing}
-use Rattle.record_list.specs.Search.{FindsFirst}
-use Rattle.record_chart.specs.Charts.{list_of}
-use Rattle.scan_recovery.specs.Reading.{ReadsAll, ReadsSome}
-use Rattle.scan_recovery.specs.Twins.{AgreesWithLowest, compared, compared_to}
 use Rattle.scan_recovery.proofs.recovery.try_law_two.Answers.SoundScans.{scan_copies, scan_breach, reads_whole, reads_until, reads_fault}
 use Rattle.scan_recovery.proofs.recovery.try_law_two.Goals as goal
 

@@ -1,9 +1,6 @@
 mod Marks
-use Rattle.std.proofs.Common.{◌≡◌, ◌<◌, ◌/◌, List, get_or, length, sym, ap, ◌∙◌, subst, arith}
-use Rattle.std.proofs.lemmas.List.Elements.{Contains-get_or}
-use Rattle.tx_types.specs.Config.{blocks_of}
-use Rattle.record_list.specs.declared.found.Found.{Found}
-use Rattle.record_list.specs.Records.{nothing}
+use Rattle.scan_recovery.proofs.Common.{◌≡◌, ◌<◌, List, get_or, length, sym, ap, ◌∙◌, subst, arith, Contains-get_or, blocks_of, Found, nothing}
+use Rattle.std.proofs.Common.{◌/◌}
 use Rattle.scan_recovery.specs.Removable.{is_fixed}
 use Rattle.scan_recovery.proofs.removable.fixed_blocks.Answers.Marks.{marked_same, marked_more}
 use Rattle.scan_recovery.proofs.OfSpare.RemovableBlocks.{block_exists, fixed_only, fixed_none}
@@ -14,7 +11,7 @@ pub mark-requires : goal.mark-requires
 mark-requires c =
     let list = c.args.standing.now.list in
     let shape = c.args.shape in
-    let e : c.records-records.result.now ≡ list = c.records-records.ensures.records ∙ c.chart.ensures in
+    let e : c.records-records.result.now ≡ list = c.records-records.ensures.records ∙ c.sorted_records.ensures in
     let within : c.loop-at.at < length list = subst (λ (l : List Found). c.loop-at.at < length l) e c.loop-at-test.true in
     let some = c.requires.shape.pages_least in
     let low = block_exists shape (get_or list c.loop-at.at nothing).slot.0 c.requires.shape (omega arith) (c.requires.exists c.loop-at.at nothing within) in
@@ -26,7 +23,7 @@ pub loop-at-preserved : goal.loop-at-preserved
 loop-at-preserved c =
     let s = c.args.standing.now in
     let shape = c.args.shape in
-    let e : c.records-records.result.now ≡ s.list = c.records-records.ensures.records ∙ c.chart.ensures in
+    let e : c.records-records.result.now ≡ s.list = c.records-records.ensures.records ∙ c.sorted_records.ensures in
     let within : c.loop-at.at < length s.list = subst (λ (l : List Found). c.loop-at.at < length l) e c.loop-at-test.true in
     let f = get_or s.list c.loop-at.at nothing in
     let here = Contains-get_or s.list c.loop-at.at nothing within in

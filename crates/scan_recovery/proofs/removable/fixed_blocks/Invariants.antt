@@ -1,4 +1,4 @@
-use Rattle.std.proofs.Common.{take}
+use Rattle.scan_recovery.proofs.Common.{take}
 use Rattle.scan_recovery.specs.Removable.{AreFixed}
 use Rattle.scan_recovery.proofs.removable.fixed_blocks.Given as goal
 

@@ -1,5 +1,4 @@
-use Rattle.std.proofs.Common.{◌≡◌, ℕ, ◌<◌, ◌≤◌, false, get_or}
-use Rattle.tx_types.specs.Config.{blocks_of}
+use Rattle.scan_recovery.proofs.Common.{◌≡◌, ℕ, ◌<◌, ◌≤◌, false, get_or, blocks_of}
 use Rattle.scan_recovery.proofs.removable.highest_unmarked.Given as goal
 
 abbrev pub decreases-loop-block : goal.decreases-loop-block

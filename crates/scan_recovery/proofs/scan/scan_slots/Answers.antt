@@ -1,6 +1,5 @@
-use Rattle.std.proofs.Common.{◌≡◌, ◌<◌, length, vec_capacity, sym, ap, ◌∙◌, subst, arith}
-use Rattle.tx_types.specs.Config.{slots_of}
-use Rattle.flash_model.specs.Flash.{slot_at}
+use Rattle.scan_recovery.proofs.Common.{◌≡◌, ◌<◌, length, sym, ap, ◌∙◌, subst, arith, slots_of, slot_at}
+use Rattle.std.proofs.Common.{vec_capacity}
 use Rattle.scan_recovery.specs.Scans.{IsNote}
 use Rattle.scan_recovery.proofs.OfScan.ReadingSteps.{reads_nothing, reads_all_then}
 use Rattle.scan_recovery.proofs.OfScan.ComparedSteps.{as_before}

@@ -1,7 +1,7 @@
 pub mod ScanSteps
-use Rattle.std.proofs.Common.{◌≡◌, ◌≤◌, vec_len, vec_capacity}
+use Rattle.scan_recovery.proofs.Common.{◌≡◌, ◌≤◌, ReadsAll}
+use Rattle.std.proofs.Common.{vec_len, vec_capacity}
 use Rattle.std.specs.Prelude.{MatchOption}
-use Rattle.scan_recovery.specs.Reading.{ReadsAll}
 use Rattle.scan_recovery.proofs.scan.scan_slots.Invariants.ScanSteps.{IsScanTo, IsUnreadTo}
 use Rattle.scan_recovery.proofs.scan.scan_slots.Given as goal
 

@@ -1,6 +1,5 @@
 use Rattle.std.proofs.Common.{rules}
-use Rattle.list_facts.proofs.Membership.{all_from}
-use Rattle.record_list.specs.SoundList.{LinksDiffer}
+use Rattle.scan_recovery.proofs.Common.{all_from, LinksDiffer}
 use Rattle.scan_recovery.proofs.OfLinks.OwnLinks.{own_links_differ}
 use Rattle.scan_recovery.proofs.OfLinks.SharedLinks.{finds_lowest}
 use Rattle.scan_recovery.proofs.shared_links.lowest_shared_link.Goals as goal

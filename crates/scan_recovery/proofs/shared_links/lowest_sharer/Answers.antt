@@ -1,7 +1,5 @@
 -- The record at hand, beside the one before it.
-use Rattle.std.proofs.Common.{◌≡◌, ◌+◌, ◌-◌, suc, true, sym, ◌∙◌, subst, arith, get_or}
-use Rattle.std.proofs.lemmas.Bool.{false≢true}
-use Rattle.record_list.specs.Records.{nothing}
+use Rattle.scan_recovery.proofs.Common.{◌≡◌, ◌+◌, ◌-◌, suc, true, sym, ◌∙◌, subst, arith, get_or, false≢true, nothing}
 use Rattle.scan_recovery.specs.Searches.{share_link, lower, NextShares, next_slot, IsLowestBelow}
 use Rattle.scan_recovery.proofs.OfLinks.SharedLinks.{lowest_yes, lowest_no}
 use Rattle.scan_recovery.proofs.shared_links.lowest_sharer.Goals as goal

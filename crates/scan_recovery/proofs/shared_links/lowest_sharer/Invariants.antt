@@ -1,4 +1,4 @@
-use Rattle.scan_recovery.specs.Searches.{IsLowestSharer}
+use Rattle.scan_recovery.proofs.Common.{IsLowestSharer}
 use Rattle.scan_recovery.proofs.shared_links.lowest_sharer.Given as goal
 
 abbrev pub invariant-loop-at : goal.invariant-loop-at

@@ -1,8 +1,7 @@
 mod SpareAlike
 mod BlankBlocks
-use Rattle.std.proofs.Common.{arith}
+use Rattle.scan_recovery.proofs.Common.{arith, blocks_of}
 use Rattle.std.proofs.lemmas.Result.{IfOk-weaker}
-use Rattle.tx_types.specs.Config.{blocks_of}
 use Rattle.scan_recovery.proofs.spare.chosen_spare.Answers.BlankBlocks.{chosen_blank, chosen_removable}
 use Rattle.scan_recovery.proofs.spare.chosen_spare.Answers.SpareAlike.{are_copies, slots_exist, highest_alike}
 use Rattle.scan_recovery.proofs.spare.chosen_spare.Goals as goal

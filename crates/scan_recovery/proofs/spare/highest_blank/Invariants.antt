@@ -1,5 +1,4 @@
-use Rattle.std.proofs.Common.{ℕ, ◌<◌, ◌≤◌}
-use Rattle.tx_types.specs.Config.{blocks_of}
+use Rattle.scan_recovery.proofs.Common.{ℕ, ◌<◌, ◌≤◌, blocks_of}
 use Rattle.version_index.specs.Opening.{IsBlankBlock}
 use Rattle.scan_recovery.proofs.spare.highest_blank.Given as goal
 

@@ -1,8 +1,5 @@
-use Rattle.std.proofs.Common.{◌<◌, sym}
-use Rattle.std.proofs.lemmas.List.Elements.{All-contains}
-use Rattle.list_facts.proofs.Tests.{find_stands}
-use Rattle.tx_types.specs.Config.{slots_of}
-use Rattle.record_list.specs.Records.{has_name, name_of}
+use Rattle.scan_recovery.proofs.Common.{◌<◌, sym, All-contains, slots_of, has_name, name_of}
+use Rattle.list_lemmas.proofs.Tests.{find_stands}
 use Rattle.scan_recovery.proofs.twins.agrees.Goals as goal
 
 pub same_bytes-requires-clause-first : goal.same_bytes-requires-clause-first

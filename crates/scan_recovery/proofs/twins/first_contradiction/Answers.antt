@@ -1,14 +1,6 @@
 mod LoneNames
-use Rattle.std.proofs.Common.{ℕ, suc, length, ◌<◌, ◌*◌, ◌∙◌, All, true, get_or, cond, sym, subst, arith}
-use Rattle.std.proofs.lemmas.Bool.{false≢true}
-use Rattle.std.proofs.lemmas.List.{get_or_default}
+use Rattle.scan_recovery.proofs.Common.{ℕ, suc, length, ◌<◌, ◌*◌, ◌∙◌, All, true, get_or, cond, sym, subst, arith, false≢true, get_or_default, slots_of, Found, nothing, ReadsAll, ReadsSome, NextDiffers, AgreesWithLowest}
 use Rattle.std.proofs.lemmas.Result.{err_from_is_err_and}
-use Rattle.tx_types.specs.Config.{slots_of}
-use Rattle.record_list.specs.declared.found.Found.{Found}
-use Rattle.record_list.specs.Records.{nothing}
-use Rattle.scan_recovery.specs.Reading.{ReadsAll, ReadsSome}
-use Rattle.scan_recovery.specs.Searches.{NextDiffers}
-use Rattle.scan_recovery.specs.Twins.{AgreesWithLowest}
 use Rattle.scan_recovery.proofs.twins.first_contradiction.Answers.LoneNames.{all_agree, none_read}
 use Rattle.scan_recovery.proofs.OfScan.ComparedSteps.{first_compared, as_before, agree_more, compared_next, compared_fault, compared_whole}
 use Rattle.scan_recovery.proofs.OfLaws.TwinsAlike.{compared_alike, agrees_alike, all_alike}

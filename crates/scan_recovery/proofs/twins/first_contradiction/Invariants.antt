@@ -1,7 +1,4 @@
-use Rattle.std.proofs.Common.{◌*◌, ℕ, ◌<◌, take, get_or, count_by}
-use Rattle.record_list.specs.declared.found.Found.{Found}
-use Rattle.scan_recovery.specs.Reading.{ReadsAll}
-use Rattle.scan_recovery.specs.Twins.{is_compared, AgreesWithLowest}
+use Rattle.scan_recovery.proofs.Common.{◌*◌, ℕ, ◌<◌, take, get_or, count_by, Found, ReadsAll, is_compared, AgreesWithLowest}
 use Rattle.scan_recovery.proofs.twins.first_contradiction.Given as goal
 
 -- each record so far agrees with the lowest of its name, and the slots that this takes were read

@@ -1,6 +1,5 @@
-use Rattle.std.proofs.Common.{Some, get_or, sym, ap, ◌∙◌}
-use Rattle.list_facts.proofs.Tests.{find-position, find-no_position}
-use Rattle.record_list.specs.Records.{has_name, name_of, nothing}
+use Rattle.scan_recovery.proofs.Common.{Some, get_or, sym, ap, ◌∙◌, has_name, name_of, nothing}
+use Rattle.list_lemmas.proofs.Tests.{find-position, find-no_position}
 use Rattle.scan_recovery.proofs.twins.lowest_of.Goals as goal
 
 pub returns-in_err-place : goal.returns-in_err-place

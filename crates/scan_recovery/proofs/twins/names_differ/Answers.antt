@@ -1,6 +1,4 @@
-use Rattle.std.proofs.Common.{◌≡◌, ◌-◌, suc, true, get_or, sym, ◌∙◌, subst, arith}
-use Rattle.std.proofs.lemmas.Bool.{false≢true}
-use Rattle.record_list.specs.Records.{nothing, name_of, has_name}
+use Rattle.scan_recovery.proofs.Common.{◌≡◌, ◌-◌, suc, true, get_or, sym, ◌∙◌, subst, arith, false≢true, nothing, name_of, has_name}
 use Rattle.scan_recovery.proofs.twins.names_differ.Goals as goal
 
 pub returns-then-has_name_of : goal.returns-then-has_name_of

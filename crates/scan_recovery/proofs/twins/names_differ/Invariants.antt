@@ -1,5 +1,4 @@
-use Rattle.std.proofs.Common.{ℕ, suc, ◌<◌}
-use Rattle.scan_recovery.specs.Searches.{NextDiffers}
+use Rattle.scan_recovery.proofs.Common.{ℕ, suc, ◌<◌, NextDiffers}
 use Rattle.scan_recovery.proofs.twins.names_differ.Given as goal
 
 abbrev pub invariant-loop-at : goal.invariant-loop-at

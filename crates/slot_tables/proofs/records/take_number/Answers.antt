@@ -1,4 +1,4 @@
-use Rattle.std.proofs.Common.{inl, inr, refl, sym}
+use Rattle.slot_tables.proofs.Common.{inl, inr, refl, sym}
 use Rattle.slot_tables.proofs.records.take_number.Goals as goal
 
 pub returns-in-Some : goal.returns-in-Some

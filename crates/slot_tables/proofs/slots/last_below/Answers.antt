@@ -1,5 +1,5 @@
 -- The loop goes through the places below the one that is put in.
-use Rattle.plain_tables.specs.ChainLists.{list_of}
+use Rattle.slot_tables.proofs.Common.{list_of}
 use Rattle.slot_tables.proofs.OfRecords.Rising.{at_first, at_next, stops_above, stops_end}
 use Rattle.slot_tables.proofs.slots.last_below.Goals as goal
 

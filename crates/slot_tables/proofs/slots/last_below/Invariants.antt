@@ -1,7 +1,4 @@
-use Rattle.std.proofs.Common.{length}
-use Rattle.std.specs.List.{Contains}
-use Rattle.std.specs.Option.{IfSome}
-use Rattle.plain_tables.specs.ChainLists.{list_of, rest_from}
+use Rattle.slot_tables.proofs.Common.{length, Contains, IfSome, list_of, rest_from}
 use Rattle.slot_tables.proofs.OfRecords.Rising.{AtPlace}
 use Rattle.slot_tables.proofs.slots.last_below.Given as goal
 

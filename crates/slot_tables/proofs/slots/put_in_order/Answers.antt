@@ -1,9 +1,6 @@
 -- The place stands behind the last one below it, or in front.
-use Rattle.std.proofs.Common.{not, sym, ◌∙◌, refl}
-use Rattle.std.specs.List.{position_or_len}
+use Rattle.slot_tables.proofs.Common.{not, sym, ◌∙◌, refl, position_or_len, list_of, is_above}
 use Rattle.std.proofs.lemmas.List.Sums.{prefix_len-le-length}
-use Rattle.plain_tables.specs.ChainLists.{list_of}
-use Rattle.slot_tables.specs.Copies.{is_above}
 use Rattle.slot_tables.proofs.OfRecords.Rising.{last_place, no_place}
 use Rattle.slot_tables.proofs.slots.put_in_order.Goals as goal
 

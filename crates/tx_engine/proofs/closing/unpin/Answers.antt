@@ -1,19 +1,13 @@
-use Rattle.std.proofs.Common.{◌≡◌, ◌≢◌, ◌+◌, ◌<◌, ℕ, length, ap, sym, ◌∙◌, subst, set, arith}
-use Rattle.std.specs.Prelude.{◌↔◌, Contains}
-use Rattle.std.proofs.lemmas.List.{length-set, get_or_default}
-use Rattle.tx_types.specs.declared.record.Link.{Link}
-use Rattle.version_index.specs.Noted.{pinned_names}
-use Rattle.tx_engine.specs.OpenTable.{opening_at}
-use Rattle.tx_engine.specs.Standing.{name_at, no_name}
-use Rattle.tx_engine.specs.Stored.{Stored}
+use Rattle.tx_engine.proofs.Common.{◌≡◌, ◌≢◌, ◌+◌, ◌<◌, ℕ, length, ap, sym, ◌∙◌, subst, set, arith, ◌↔◌, length-set, get_or_default, Link, pinned_names, transaction_at, name_at, no_name, StoreState}
+use Rattle.std.specs.Prelude.{Contains}
 use Rattle.tx_engine.proofs.OfTables.PinnedNames.{unpin_more}
 use Rattle.tx_engine.proofs.OfAbort.Removal.{pins_then}
 use Rattle.tx_engine.proofs.closing.unpin.Goals as goal
 
 pub loop-place-preserved : goal.loop-place-preserved
 loop-place-preserved g c =
-    let x = (opening_at c.args.openings.now c.args.at).naming in
-    let pins : c.unpin.new.self.noted.pins ≡ set c.loop-place.store.noted.pins c.name.result.page 0 = ap (λ (s : Stored _). s.noted.pins) c.unpin.ensures in
+    let x = (transaction_at c.args.transactions.now c.args.at).naming in
+    let pins : c.unpin.new.self.noted.pins ≡ set c.loop-place.store.noted.pins c.name.result.page 0 = ap (λ (s : StoreState _). s.noted.pins) c.unpin.ensures in
     record {
       pins = pins_then c.args.store.now c.loop-place.store c.unpin.new.self c.name.result.page c.loop-place.invariant.pins c.unpin.ensures;
       pages = ap length pins ∙ length-set c.loop-place.store.noted.pins c.name.result.page 0 ∙ c.loop-place.invariant.pages;
@@ -31,7 +25,7 @@ returns g c = record {
   pages = c.loop-place.invariant.pages;
   gone = λ name.
       let inv = c.loop-place.invariant.gone name in
-      let x = (opening_at c.args.openings.now c.args.at).naming in
+      let x = (transaction_at c.args.transactions.now c.args.at).naming in
       let long : length x.names ≡ c.pages-place-end.result = c.requires.named ∙ sym c.pages-place-end.ensures in
       let past = c.loop-place-test.false in
       let upto = c.loop-place.auto.place-end in (

@@ -1,9 +1,4 @@
-use Rattle.std.proofs.Common.{◌≡◌, ◌≢◌, ◌<◌, ℕ, length, Contains}
-use Rattle.std.specs.Prelude.{◌↔◌}
-use Rattle.tx_types.specs.declared.record.Link.{Link}
-use Rattle.version_index.specs.Noted.{pinned_names}
-use Rattle.tx_engine.specs.OpenTable.{opening_at}
-use Rattle.tx_engine.specs.Standing.{name_at}
+use Rattle.tx_engine.proofs.Common.{◌≡◌, ◌≢◌, ◌<◌, ℕ, length, Contains, ◌↔◌, Link, pinned_names, transaction_at, name_at}
 use Rattle.tx_engine.proofs.closing.unpin.Given as goal
 
 abbrev pub invariant-loop-place : goal.invariant-loop-place
@@ -12,5 +7,5 @@ invariant-loop-place g l = record {
   pages : length l.store.noted.pins ≡ length l.initial.store.noted.pins;
   gone : (name : Link) → Contains (pinned_names l.store.noted.pins) name
       ↔ (Contains (pinned_names l.initial.store.noted.pins) name
-      × ((k : ℕ) → k < l.place → (name_at (opening_at l.openings l.at).naming k).page ≢ name.page));
+      × ((k : ℕ) → k < l.place → (name_at (transaction_at l.transactions l.at).naming k).page ≢ name.page));
 }

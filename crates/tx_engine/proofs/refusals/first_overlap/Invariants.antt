@@ -1,5 +1,5 @@
-use Rattle.std.proofs.Common.{◌≡◌, drop}
-use Rattle.tx_engine.specs.PendingPages.{owned_page}
+use Rattle.tx_engine.proofs.Common.{◌≡◌, drop}
+use Rattle.tx_engine.specs.PendingWrites.{owned_page}
 use Rattle.tx_engine.proofs.refusals.first_overlap.Given as goal
 
 abbrev pub invariant-loop-i : goal.invariant-loop-i

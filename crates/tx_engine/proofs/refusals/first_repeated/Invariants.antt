@@ -1,4 +1,5 @@
-use Rattle.std.proofs.Common.{◌≡◌, [], take, drop}
+use Rattle.tx_engine.proofs.Common.{◌≡◌, [], drop}
+use Rattle.std.proofs.Common.{take}
 use Rattle.tx_engine.specs.Submit.{repeated}
 use Rattle.tx_engine.proofs.refusals.first_repeated.Given as goal
 

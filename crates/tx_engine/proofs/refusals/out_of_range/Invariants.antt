@@ -1,4 +1,4 @@
-use Rattle.std.proofs.Common.{◌≡◌, drop}
+use Rattle.tx_engine.proofs.Common.{◌≡◌, drop}
 use Rattle.tx_engine.specs.Submit.{range}
 use Rattle.tx_engine.proofs.refusals.out_of_range.Given as goal
 

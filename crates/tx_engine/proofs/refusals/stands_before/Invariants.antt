@@ -1,5 +1,5 @@
-use Rattle.std.proofs.Common.{◌≡◌, false, take}
-use Rattle.std.specs.List.{list_any}
+use Rattle.tx_engine.proofs.Common.{◌≡◌, false, list_any}
+use Rattle.std.proofs.Common.{take}
 use Rattle.tx_engine.specs.Submit.{is_of}
 use Rattle.tx_engine.proofs.refusals.stands_before.Given as goal
 

@@ -1,5 +1,4 @@
-use Rattle.std.proofs.Common.{sym, ap, ◌∙◌}
-use Rattle.tx_types.specs.declared.config.Config.{Config}
+use Rattle.tx_engine.proofs.Common.{sym, ap, ◌∙◌, Config}
 use Rattle.tx_engine.proofs.OfStep.NextRecord.{current_back}
 use Rattle.tx_engine.proofs.writing.back_version.Goals as goal
 

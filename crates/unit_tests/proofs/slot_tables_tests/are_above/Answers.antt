@@ -4,7 +4,7 @@ use Rattle.std.proofs.lemmas.Bool.{cases_lt}
 use Rattle.std.proofs.lemmas.List.{get_or_past}
 use Rattle.tx_types.specs.declared.record.Rec.{Rec}
 use Rattle.tx_types.specs.Config.{slots_of}
-use Rattle.slot_tables.specs.Kept.{record_at}
+use Rattle.slot_tables.specs.TablesState.{record_at}
 use Rattle.unit_tests.proofs.slot_tables_tests.are_above.Goals as goal
 
 abbrev Above : Option Rec → Type 0

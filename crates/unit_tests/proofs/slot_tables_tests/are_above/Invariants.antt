@@ -1,6 +1,6 @@
 use Rattle.std.proofs.Common.{◌<◌, ℕ}
 use Rattle.std.specs.Option.{IfSome}
-use Rattle.slot_tables.specs.Kept.{record_at}
+use Rattle.slot_tables.specs.TablesState.{record_at}
 use Rattle.unit_tests.proofs.slot_tables_tests.are_above.Given as goal
 
 abbrev pub invariant-loop-number : goal.invariant-loop-number

@@ -4,7 +4,7 @@ use Rattle.std.proofs.lemmas.Bool.{cases_lt}
 use Rattle.std.proofs.lemmas.List.{get_or_past}
 use Rattle.tx_types.specs.declared.record.Rec.{Rec}
 use Rattle.tx_types.specs.Config.{slots_of}
-use Rattle.slot_tables.specs.Kept.{record_at}
+use Rattle.slot_tables.specs.TablesState.{record_at}
 use Rattle.unit_tests.proofs.slot_tables_tests.is_newest.Goals as goal
 
 older_at : (rec r : Rec) (o : Option Rec) → IfSome o (λ s. s.page ≡ rec.page → s.version < rec.version) → o ≡ Some r → r.page ≡ rec.page →

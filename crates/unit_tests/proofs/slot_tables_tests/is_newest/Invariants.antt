@@ -1,6 +1,6 @@
 use Rattle.std.proofs.Common.{◌≡◌, ◌<◌, ℕ, Some}
 use Rattle.tx_types.specs.declared.record.Rec.{Rec}
-use Rattle.slot_tables.specs.Kept.{record_at}
+use Rattle.slot_tables.specs.TablesState.{record_at}
 use Rattle.unit_tests.proofs.slot_tables_tests.is_newest.Given as goal
 
 abbrev pub invariant-loop-number : goal.invariant-loop-number

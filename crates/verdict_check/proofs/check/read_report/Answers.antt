@@ -1,9 +1,6 @@
-use Rattle.std.proofs.Common.{arith, eqb-true, eq-eqb, refl, sym, ap, ◌∙◌, subst, None, Some, length, ◌+◌}
+use Rattle.verdict_check.proofs.Common.{arith, eqb-true, eq-eqb, refl, sym, ap, ◌∙◌, subst, None, Some, length, ◌+◌, verdict_line, last_line, AreWalkEnds, behind}
 use Rattle.std.proofs.lemmas.List.{nil_from_length}
-use Rattle.verdict_report.specs.Report.{verdict_line, last_line}
 use Rattle.verdict_report.proofs.PageLemmas.{length-pages}
-use Rattle.verdict_check.specs.Courses.{AreCourses}
-use Rattle.verdict_check.specs.Texts.{behind}
 use Rattle.verdict_check.proofs.PlaceLemmas.{nothing_at}
 use Rattle.verdict_check.proofs.ReportLemmas.{AreLinesRead, no_line_read, one_line_read, no_line_here, has_some, has_none, page_is_wrong, end_is_wrong}
 use Rattle.verdict_check.proofs.ReportLemmas.{all_read, more_is_left, piece_missing, piece_there}
@@ -51,7 +48,7 @@ loop-page-preserved c =
                 (ap (λ r. Some r.now) w.rest-is ∙ some ∙ ap (λ n. behind (verdict_line c.args.judge.now.protocol list c.args.judge.now.logical n)
                 c.loop-page.rest.now) w.line-line.ensures.page)
                 w.count-is,
-            subst (AreCourses list c.args.judge.now.logical) (sym w.courses-is) w.line-line.ensures.known,
+            subst (AreWalkEnds list c.args.judge.now.logical) (sym w.courses-is) w.line-line.ensures.known,
             ap length w.courses-is ∙ w.line-line.ensures.size ∙ c.loop-page.invariant.2,
           ))
       | in_default w ↦ (
@@ -62,7 +59,7 @@ loop-page-preserved c =
             (subst (λ n. AreLinesRead (verdict_line c.args.judge.now.protocol list c.args.judge.now.logical) list c.loop-page.page c.args.report.now
             c.loop-page.rest.now n) (sym w.count-is)
             c.loop-page.invariant.0)),
-        subst (AreCourses list c.args.judge.now.logical) (sym w.courses-is) c.loop-page.invariant.1,
+        subst (AreWalkEnds list c.args.judge.now.logical) (sym w.courses-is) c.loop-page.invariant.1,
         ap length w.courses-is ∙ c.loop-page.invariant.2,
       )
     ]

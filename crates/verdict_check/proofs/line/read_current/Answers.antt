@@ -1,5 +1,4 @@
-use Rattle.std.proofs.Common.{codes, decimal}
-use Rattle.verdict_check.specs.Texts.{left}
+use Rattle.verdict_check.proofs.Common.{codes, decimal, left}
 use Rattle.verdict_check.proofs.TextLemmas.{three}
 use Rattle.verdict_check.proofs.line.read_current.Goals as goal
 

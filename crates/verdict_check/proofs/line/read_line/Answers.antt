@@ -1,4 +1,4 @@
-use Rattle.verdict_check.specs.Texts.{left}
+use Rattle.verdict_check.proofs.Common.{left}
 use Rattle.verdict_check.proofs.LineLemmas.{line_of_page}
 use Rattle.verdict_check.proofs.line.read_line.Goals as goal
 

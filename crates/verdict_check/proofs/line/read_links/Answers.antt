@@ -1,5 +1,4 @@
-use Rattle.std.proofs.Common.{arith}
-use Rattle.verdict_check.specs.Texts.{left}
+use Rattle.verdict_check.proofs.Common.{arith, left}
 use Rattle.verdict_check.proofs.LineLemmas.{none_read, one_read, links_read}
 use Rattle.verdict_check.proofs.line.read_links.Goals as goal
 

@@ -1,7 +1,6 @@
-use Rattle.std.proofs.Common.{ap, ◌∙◌, sym, append-nil, ◌++◌, ◌∷◌, [], ◌-◌, codes, decimal, ltb}
-use Rattle.std.proofs.lemmas.Bool.{cond-true, cond-false, lt-ltb, le-ltb}
-use Rattle.verdict_report.specs.Lines.{after_spaces}
-use Rattle.verdict_check.specs.Texts.{left, left_behind}
+use Rattle.verdict_check.proofs.Common.{ap, ◌∙◌, sym, append-nil, ◌++◌, ◌∷◌, [], ◌-◌, codes, decimal, cond-true, cond-false, after_spaces, left, left_behind}
+use Rattle.std.proofs.Common.{ltb}
+use Rattle.std.proofs.lemmas.Bool.{lt-ltb, le-ltb}
 use Rattle.verdict_check.proofs.TextLemmas.{both, no_piece}
 use Rattle.verdict_check.proofs.line.read_more.Goals as goal
 

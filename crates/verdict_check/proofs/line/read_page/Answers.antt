@@ -1,5 +1,4 @@
-use Rattle.std.proofs.Common.{ap, ◌∙◌, sym, append-nil, ◌++◌, codes, decimal}
-use Rattle.verdict_check.specs.Texts.{left, left_behind}
+use Rattle.verdict_check.proofs.Common.{ap, ◌∙◌, sym, append-nil, ◌++◌, codes, decimal, left, left_behind}
 use Rattle.verdict_check.proofs.TextLemmas.{four}
 use Rattle.verdict_check.proofs.line.read_page.Goals as goal
 

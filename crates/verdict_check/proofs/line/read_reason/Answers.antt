@@ -1,7 +1,4 @@
-use Rattle.std.proofs.Common.{ap, ◌∙◌, sym, append-nil, ◌++◌, codes, decimal}
-use Rattle.verdict_report.specs.Report.{reason_words}
-use Rattle.verdict_report.specs.Lines.{after_spaces}
-use Rattle.verdict_check.specs.Texts.{left, left_behind}
+use Rattle.verdict_check.proofs.Common.{ap, ◌∙◌, sym, append-nil, ◌++◌, codes, decimal, reason_words, after_spaces, left, left_behind}
 use Rattle.verdict_check.proofs.TextLemmas.{both}
 use Rattle.verdict_check.proofs.line.read_reason.Goals as goal
 

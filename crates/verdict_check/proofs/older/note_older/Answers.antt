@@ -1,5 +1,4 @@
-use Rattle.std.proofs.Common.{arith, ◌≡◌, length, subst, refl}
-use Rattle.verdict_check.specs.Older.{AreOlder}
+use Rattle.verdict_check.proofs.Common.{arith, ◌≡◌, length, subst, refl, AreOlder}
 use Rattle.verdict_check.proofs.PlaceLemmas.{nothing_at}
 use Rattle.verdict_check.proofs.OlderLemmas.{older_more}
 use Rattle.verdict_check.proofs.older.note_older.Goals as goal

@@ -1,5 +1,4 @@
-use Rattle.std.proofs.Common.{length, ◌≡◌}
-use Rattle.verdict_check.specs.Older.{AreOlder}
+use Rattle.verdict_check.proofs.Common.{length, ◌≡◌, AreOlder}
 use Rattle.verdict_check.proofs.older.note_older.Given as goal
 
 abbrev pub invariant-loop-found : goal.invariant-loop-found

@@ -1,5 +1,4 @@
-use Rattle.std.proofs.Common.{arith, None, ◌≡◌, refl, length, subst}
-use Rattle.verdict_check.specs.Places.{AreNewestOf}
+use Rattle.verdict_check.proofs.Common.{arith, None, ◌≡◌, refl, length, subst, AreNewestOf}
 use Rattle.verdict_check.proofs.PlaceLemmas.{none_noted, nothing_at, are_places}
 use Rattle.verdict_check.proofs.places.note_newest.Goals as goal
 

@@ -1,5 +1,4 @@
-use Rattle.std.proofs.Common.{length, ◌≡◌}
-use Rattle.verdict_check.specs.Places.{AreNewestOf}
+use Rattle.verdict_check.proofs.Common.{length, ◌≡◌, AreNewestOf}
 use Rattle.verdict_check.proofs.places.note_newest.Given as goal
 
 abbrev pub invariant-loop-at : goal.invariant-loop-at

@@ -1,5 +1,5 @@
-use Rattle.std.proofs.Common.{◌<◌, Some, None, length, subst, sym, ap, ◌∙◌, arith, slice_index_or}
-use Rattle.record_list.specs.Records.{newest}
+use Rattle.verdict_check.proofs.Common.{◌<◌, Some, None, length, subst, sym, ap, ◌∙◌, arith, newest}
+use Rattle.std.proofs.Common.{slice_index_or}
 use Rattle.verdict_check.proofs.ChainLemmas.{page_within, leads_behind, before_more}
 use Rattle.verdict_check.proofs.straddlers.note_link.Goals as goal
 

@@ -1,4 +1,4 @@
-use Rattle.std.proofs.Common.{arith, refl, None}
+use Rattle.verdict_check.proofs.Common.{arith, refl, None}
 use Rattle.verdict_check.proofs.PlaceLemmas.{nothing_at}
 use Rattle.verdict_check.proofs.ChainLemmas.{none_last}
 use Rattle.verdict_check.proofs.straddlers.note_links.Goals as goal

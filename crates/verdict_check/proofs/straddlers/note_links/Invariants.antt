@@ -1,4 +1,4 @@
-use Rattle.std.proofs.Common.{◌≡◌, length}
+use Rattle.verdict_check.proofs.Common.{◌≡◌, length}
 use Rattle.verdict_check.specs.Straddlers.{AreLast, AreBefore}
 use Rattle.verdict_check.proofs.straddlers.note_links.Given as goal
 

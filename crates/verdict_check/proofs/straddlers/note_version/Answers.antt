@@ -1,5 +1,4 @@
-use Rattle.std.proofs.Common.{◌<◌, subst, sym, arith}
-use Rattle.verdict_check.specs.Places.{place_at}
+use Rattle.verdict_check.proofs.Common.{◌<◌, subst, sym, arith, place_at}
 use Rattle.verdict_check.proofs.ChainLemmas.{above, above_less}
 use Rattle.verdict_check.proofs.StraddlerLemmas.{goes_on}
 use Rattle.verdict_check.proofs.straddlers.note_version.Goals as goal

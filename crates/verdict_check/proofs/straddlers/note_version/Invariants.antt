@@ -1,4 +1,4 @@
-use Rattle.std.proofs.Common.{◌≡◌, length}
+use Rattle.verdict_check.proofs.Common.{◌≡◌, length}
 use Rattle.verdict_check.specs.Straddlers.{TakesInFrom}
 use Rattle.verdict_check.proofs.ChainLemmas.{above}
 use Rattle.verdict_check.proofs.straddlers.note_version.Given as goal

@@ -1,4 +1,4 @@
-use Rattle.std.proofs.Common.{arith, refl}
+use Rattle.verdict_check.proofs.Common.{arith, refl}
 use Rattle.verdict_check.proofs.PlaceLemmas.{nothing_at}
 use Rattle.verdict_check.proofs.StraddlerLemmas.{known, straddlers_more, all_straddlers}
 use Rattle.verdict_check.proofs.straddlers.note_versions.Goals as goal

@@ -1,5 +1,5 @@
-use Rattle.std.proofs.Common.{arith}
-use Rattle.list_facts.proofs.Values.{digits_64}
+use Rattle.verdict_report.proofs.Common.{arith}
+use Rattle.list_lemmas.proofs.Values.{digits_64}
 use Rattle.verdict_report.proofs.backwards.put_number.Goals as goal
 
 pub write_digits-requires : goal.write_digits-requires

@@ -1,6 +1,5 @@
-use Rattle.std.proofs.Common.{◌≡◌, ◌+◌, ◌*◌, ◌≤◌, ◌++◌, length, map, drop}
-use Rattle.verdict_report.specs.Report.{link_word}
-use Rattle.verdict_report.specs.Lines.{after_spaces}
+use Rattle.verdict_report.proofs.Common.{◌≡◌, ◌+◌, ◌≤◌, ◌++◌, length, map, link_word, after_spaces}
+use Rattle.std.proofs.Common.{◌*◌, drop}
 use Rattle.verdict_report.proofs.line.put_links.Given as goal
 
 -- the links from this one on are put

@@ -1,4 +1,4 @@
-use Rattle.std.proofs.Common.{arith}
+use Rattle.verdict_report.proofs.Common.{arith}
 use Rattle.verdict_report.proofs.NewestLemmas.{keeps_more}
 use Rattle.verdict_report.proofs.records.newest_records.Goals as goal
 

@@ -1,4 +1,4 @@
-use Rattle.std.proofs.Common.{take}
+use Rattle.verdict_report.proofs.Common.{take}
 use Rattle.verdict_report.specs.Newest.{KeepsNewest}
 use Rattle.verdict_report.proofs.records.newest_records.Given as goal
 

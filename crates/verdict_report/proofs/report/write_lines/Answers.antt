@@ -1,5 +1,4 @@
-use Rattle.std.proofs.Common.{arith, ◌∙◌, ◌++◌, ap, length, ◌≡◌}
-use Rattle.verdict_report.specs.Report.{pages}
+use Rattle.verdict_report.proofs.Common.{arith, ◌∙◌, ◌++◌, ap, length, ◌≡◌, pages}
 use Rattle.verdict_report.proofs.PageLemmas.{length-pages, lines_with, lines_without, lines_report}
 use Rattle.verdict_report.proofs.report.write_lines.Goals as goal
 use Rattle.verdict_report.proofs.report.write_lines.Goals.{in-Some+in_ok-line+in_ok-write, in_default}

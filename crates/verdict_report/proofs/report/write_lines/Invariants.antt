@@ -1,4 +1,4 @@
-use Rattle.verdict_report.specs.Report.{verdict_line}
+use Rattle.verdict_report.proofs.Common.{verdict_line}
 use Rattle.verdict_report.proofs.PageLemmas.{HasLines}
 use Rattle.verdict_report.proofs.report.write_lines.Given as goal
 

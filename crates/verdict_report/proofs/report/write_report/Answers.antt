@@ -1,7 +1,6 @@
 mod Alike
-use Rattle.std.proofs.Common.{◌≡◌, ◌∙◌, ◌++◌, ℕ, ap, length}
+use Rattle.verdict_report.proofs.Common.{◌≡◌, ◌∙◌, ◌++◌, ℕ, ap, length, pages}
 use Rattle.std.proofs.lemmas.Result.{IfOk-weaker, on_ok_weaker}
-use Rattle.verdict_report.specs.Report.{pages}
 use Rattle.verdict_report.proofs.report.write_report.Answers.Alike.{pages_alike, report_alike}
 use Rattle.verdict_report.proofs.report.write_report.Goals as goal
 

@@ -1,6 +1,5 @@
-use Rattle.std.proofs.Common.{arith}
+use Rattle.verdict_report.proofs.Common.{arith, links_of}
 use Rattle.std.proofs.lemmas.List.{length-take}
-use Rattle.verdict_report.specs.Walks.{links_of}
 use Rattle.verdict_report.proofs.walk.count_links.Goals as goal
 
 pub returns-then-shown : goal.returns-then-shown

@@ -1,6 +1,4 @@
-use Rattle.std.proofs.Common.{arith, ◌≡◌, suc, take, ap, ◌∙◌}
-use Rattle.record_list.specs.Verdict.{link_of}
-use Rattle.verdict_report.specs.Walks.{walk_links}
+use Rattle.verdict_report.proofs.Common.{arith, ◌≡◌, suc, take, ap, ◌∙◌, link_of, walk_links}
 use Rattle.verdict_report.proofs.WalkLemmas.{taking_first, taking_next, taking_ended, taking_done, link_of_newest}
 use Rattle.verdict_report.proofs.walk.first_links.Goals as goal
 use Rattle.verdict_report.proofs.walk.first_links.Goals.{else-loop-turn-test, then-loop-turn-test+in_default}

@@ -1,4 +1,4 @@
-use Rattle.std.proofs.Common.{min}
+use Rattle.verdict_report.proofs.Common.{min}
 use Rattle.verdict_report.proofs.WalkLemmas.{IsTaking}
 use Rattle.verdict_report.proofs.walk.first_links.Given as goal
 

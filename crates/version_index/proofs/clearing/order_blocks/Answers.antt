@@ -1,10 +1,8 @@
 -- A sort brings those that are the same together.
 mod OrderedBlocks
-use Rattle.std.proofs.Common.{◌↔◌, List, sym, subst}
+use Rattle.version_index.proofs.Common.{◌↔◌, List, sym, subst, Block, AreRising}
 use Rattle.std.specs.List.{Contains}
 use Rattle.std.proofs.lemmas.List.Filters.{dedup_is}
-use Rattle.tx_types.specs.declared.config.Block.{Block}
-use Rattle.version_index.specs.Going.{AreRising}
 use Rattle.version_index.proofs.clearing.order_blocks.Answers.OrderedBlocks.{dropped_rise, dropped_same}
 use Rattle.version_index.proofs.clearing.order_blocks.Goals as goal
 

@@ -1,4 +1,4 @@
-use Rattle.std.proofs.Common.{sym, ◌∙◌}
+use Rattle.version_index.proofs.Common.{sym, ◌∙◌}
 use Rattle.version_index.proofs.committing.completes.Invariants.KeptWalks.{start_walk, walk_stops, walk_comes, walk_more, walk_ends}
 use Rattle.version_index.proofs.committing.completes.Goals as goal
 

@@ -1,15 +1,10 @@
-use Rattle.std.proofs.Common.{◌+◌, ◌<◌, length, IfSome, ap, sym, subst, ◌∙◌, arith}
-use Rattle.tx_types.specs.Config.{slots_of}
-use Rattle.record_list.specs.Current.{cur}
-use Rattle.slot_tables.specs.Kept.{Kept}
-use Rattle.version_index.specs.Filling.{number_by}
-use Rattle.version_index.specs.Judged.{name_at}
+use Rattle.version_index.proofs.Common.{◌+◌, ◌<◌, length, IfSome, ap, sym, subst, ◌∙◌, arith, slots_of, cur, TablesState, number_by, name_at}
 use Rattle.version_index.proofs.OfOpening.ScanDecided.{IsCurrentSo, current_more, name_below}
 use Rattle.version_index.proofs.deciding.decide_current.Goals as goal
 
 pub set_current-requires-clause-page : goal.set_current-requires-clause-page
 set_current-requires-clause-page c =
-    let same = ap (λ (t : Kept). length t.pages) c.loop-page.invariant.rest in
+    let same = ap (λ (t : TablesState). length t.pages) c.loop-page.invariant.rest in
     let all = c.requires.pages in
     let below = c.loop-page-test.true in
     omega arith
@@ -17,7 +12,7 @@ set_current-requires-clause-page c =
 pub set_current-requires-clause-number : goal.set_current-requires-clause-number
 set_current-requires-clause-number c =
     let k = c.args.tables.now in
-    let shape = ap (λ (t : Kept). t.shape) c.loop-page.invariant.rest in
+    let shape = ap (λ (t : TablesState). t.shape) c.loop-page.invariant.rest in
     subst (λ s. IfSome c.number_by.result (λ x. x < slots_of s)) (sym shape)
     (name_below c.args.standing.now.list c.args.numbers.now k c.requires.numbered c.requires.whole c.shape.ensures.kept c.name_at-name.result
     c.number_by.result c.number_by.ensures)

@@ -1,4 +1,4 @@
-use Rattle.version_index.specs.Filling.{AreDecided}
+use Rattle.version_index.proofs.Common.{AreDecided}
 use Rattle.version_index.proofs.deciding.decide_records.Given as goal
 
 abbrev pub invariant-loop-i : goal.invariant-loop-i

@@ -1,23 +1,17 @@
 -- The slots are used by the numbers of their records, and what is decided of these leaves them.
 mod ScanFilled
-use Rattle.std.proofs.Common.{List, [], length, map, ap, sym, subst, ◌∙◌, arith}
-use Rattle.std.proofs.lemmas.List.{length-replicate}
-use Rattle.tx_types.specs.Config.{slots_of}
-use Rattle.slot_tables.specs.declared.slots.SlotUse.{SlotUse}
-use Rattle.slot_tables.specs.Kept.{Kept}
-use Rattle.version_index.specs.Filling.{NamesAgree, AreNumbered, AreBlankBut, AreCurrent, AreDecided}
-use Rattle.version_index.specs.Notes.{seen_as, found_in}
-use Rattle.version_index.specs.Tables.{notes_in}
+use Rattle.version_index.proofs.Common.{List, [], length, map, ap, sym, subst, ◌∙◌, arith, length-replicate, slots_of, SlotUse, TablesState, NamesAgree, AreNumbered, AreBlankBut, AreDecided, seen_as, found_in, notes_in}
+use Rattle.version_index.specs.Filling.{AreCurrent}
 use Rattle.version_index.proofs.filling.fill.Answers.ScanFilled.{filled_from}
 use Rattle.version_index.proofs.OfOpening.ScanSlots.{all_held, all_placed, each_below, put_used, put_within, uses_held}
 use Rattle.version_index.proofs.filling.fill.Goals as goal
 
 pub number_records-requires-clause-agree : goal.number_records-requires-clause-agree
-number_records-requires-clause-agree c = subst NamesAgree (sym (c.records.ensures.records ∙ c.chart-chart.ensures)) c.requires.fills.1.agree
+number_records-requires-clause-agree c = subst NamesAgree (sym (c.records.ensures.records ∙ c.sorted_records-chart.ensures)) c.requires.fills.1.agree
 
-pub used_slots-requires-clause-within : goal.used_slots-requires-clause-within
-used_slots-requires-clause-within c =
-    rw (c.records-2.ensures.records ∙ c.chart-chart.ensures)
+pub slot_uses-requires-clause-within : goal.slot_uses-requires-clause-within
+slot_uses-requires-clause-within c =
+    rw (c.records-2.ensures.records ∙ c.sorted_records-chart.ensures)
     (put_within c.args.standing.now.list c.args.seen.now c.requires.fills.0 c.requires.fills.1.complete c.requires.fills.1.known)
 
 pub hold_uses-requires-clause-below : goal.hold_uses-requires-clause-below
@@ -27,7 +21,7 @@ hold_uses-requires-clause-below c at =
     let scanned = c.requires.fills.0 in
     let seen = c.args.seen.now in
     let t0 = c.number_records.new.tables in
-    let chart = c.chart-chart.ensures in
+    let chart = c.sorted_records-chart.ensures in
     let in_chart = c.records.ensures.records ∙ chart in
     let numbered = subst (λ l. AreNumbered l numbers t0) in_chart c.in_ok-numbers.ensures.numbered in
     let whole = c.in_ok-numbers.ensures.whole ∙ ap length in_chart in
@@ -35,13 +29,13 @@ hold_uses-requires-clause-below c at =
     let put = rw (c.deref.ensures.value, c.records-2.ensures.records ∙ chart) at c.in_ok-uses.ensures in
     let used = put_used list numbers seen scanned uses c.requires.fills.1.complete c.requires.fills.1.listed c.requires.fills.1.known put in
     let blank = c.in_ok-numbers.ensures.blank in
-    let sizes = blank.sizes ∙ sym (ap (λ (k : Kept). slots_of k.shape) blank.rest) in
+    let sizes = blank.sizes ∙ sym (ap (λ (k : TablesState). slots_of k.shape) blank.rest) in
     rw c.deref-2.ensures.value (each_below list numbers t0 seen scanned uses numbered whole c.requires.fills.1.agree sizes used at)
 
 pub hold_uses-requires-clause-size : goal.hold_uses-requires-clause-size
 hold_uses-requires-clause-size c =
     ap length c.deref-2.ensures.value ∙ c.in_ok-uses.ensures.size ∙ c.requires.fills.1.reads ∙
-    sym (ap (λ (k : Kept). slots_of k.shape) c.in_ok-numbers.ensures.blank.rest)
+    sym (ap (λ (k : TablesState). slots_of k.shape) c.in_ok-numbers.ensures.blank.rest)
 
 pub returns-clause-reads : goal.returns-clause-reads
 returns-clause-reads c =
@@ -50,7 +44,7 @@ returns-clause-reads c =
     let scanned = c.requires.fills.0 in
     let seen = c.args.seen.now in
     let t0 = c.number_records.new.tables in
-    let chart = c.chart-chart.ensures in
+    let chart = c.sorted_records-chart.ensures in
     let in_chart = c.records.ensures.records ∙ chart in
     let numbered = subst (λ l. AreNumbered l numbers t0) in_chart c.in_ok-numbers.ensures.numbered in
     let whole = c.in_ok-numbers.ensures.whole ∙ ap length in_chart in
@@ -71,7 +65,7 @@ returns-clause-found c own can =
     let scanned = own in
     let seen = c.args.seen.now in
     let t0 = c.number_records.new.tables in
-    let chart = c.chart-chart.ensures in
+    let chart = c.sorted_records-chart.ensures in
     let in_chart = c.records.ensures.records ∙ chart in
     let numbered = subst (λ l. AreNumbered l numbers t0) in_chart c.in_ok-numbers.ensures.numbered in
     let whole = c.in_ok-numbers.ensures.whole ∙ ap length in_chart in
@@ -92,7 +86,7 @@ returns-clause-filled c =
     let scanned = c.requires.fills.0 in
     let seen = c.args.seen.now in
     let t0 = c.number_records.new.tables in
-    let chart = c.chart-chart.ensures in
+    let chart = c.sorted_records-chart.ensures in
     let in_chart = c.records.ensures.records ∙ chart in
     let numbered = subst (λ l. AreNumbered l numbers t0) in_chart c.in_ok-numbers.ensures.numbered in
     let whole = c.in_ok-numbers.ensures.whole ∙ ap length in_chart in
@@ -107,7 +101,7 @@ returns-clause-filled c =
     let logical = c.args.logical in
     let t2 = c.decide_current.new.tables in
     let t3 = c.decide_records.new.tables in
-    let pages = ap (λ (t : Kept). length t.pages) c.requires.fills.1.blank ∙ length-replicate logical [] in
+    let pages = ap (λ (t : TablesState). length t.pages) c.requires.fills.1.blank ∙ length-replicate logical [] in
     filled_from protocol list k.shape logical numbers t0 t1 t2 t3 (subst (λ n. AreBlankBut k.shape n t0) pages c.in_ok-numbers.ensures.blank)
     whole numbered held.rest (all_placed list numbers t0 used.notes t1 (length used.notes) held (omega arith))
     (subst (λ ns. AreCurrent protocol list ns logical t1 t2) c.deref-3.ensures.value c.decide_current.ensures)

@@ -1,5 +1,5 @@
 -- The last slots come first.
-use Rattle.std.proofs.Common.{◌≡◌, ◌+◌, ◌-◌, ◌<◌, length, refl, sym, subst, ◌∙◌, arith}
+use Rattle.version_index.proofs.Common.{◌≡◌, ◌+◌, ◌-◌, ◌<◌, length, refl, sym, subst, ◌∙◌, arith}
 use Rattle.version_index.proofs.OfOpening.ScanSlots.{AreUsedFrom, one_used, all_used}
 use Rattle.version_index.proofs.holding.hold_uses.Goals as goal
 

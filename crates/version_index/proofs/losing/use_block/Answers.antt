@@ -1,10 +1,5 @@
 mod UsedSlots
-use Rattle.std.proofs.Common.{◌≡◌, ◌<◌, ◌+◌, ◌*◌, ap, subst, sym, ◌∙◌, arith}
-use Rattle.tx_types.specs.declared.config.Shape.{Shape}
-use Rattle.tx_types.specs.Config.{slots_of, blocks_of}
-use Rattle.flash_model.proofs.ImageLemmas.{block_within}
-use Rattle.slot_tables.specs.Kept.{Kept}
-use Rattle.version_index.specs.Losing.{used_so, used_from}
+use Rattle.version_index.proofs.Common.{◌≡◌, ◌<◌, ◌+◌, ◌*◌, ap, subst, sym, ◌∙◌, arith, Shape, slots_of, blocks_of, block_within, TablesState, used_so, used_from}
 use Rattle.version_index.proofs.losing.use_block.Answers.UsedSlots.{used_none, used_next, used_shape}
 use Rattle.version_index.proofs.losing.use_block.Goals as goal
 
@@ -13,7 +8,7 @@ use_slot-requires-clause-slot c =
     let k = c.args.tables.now in
     let first = c.args.block.0 * c.shape-slots.result.pages_per_block in
     let shape : c.loop-i.tables.shape ≡ c.shape-slots.result =
-    ap (λ (t : Kept). t.shape) c.loop-i.invariant ∙ used_shape k first c.args.to c.loop-i.i ∙ sym c.shape-slots.ensures.shape in
+    ap (λ (t : TablesState). t.shape) c.loop-i.invariant ∙ used_shape k first c.args.to c.loop-i.i ∙ sym c.shape-slots.ensures.shape in
     let exists = subst (λ s. c.args.block.0 < blocks_of s) (sym c.shape-slots.ensures.shape) c.requires.block in
     let bound = block_within c.shape-slots.result c.args.block.0 exists in
     subst (λ s. first + c.loop-i.i < slots_of s) (sym shape) (omega arith)

@@ -1,5 +1,4 @@
-use Rattle.std.proofs.Common.{◌≡◌}
-use Rattle.version_index.specs.Losing.{used_from}
+use Rattle.version_index.proofs.Common.{◌≡◌, used_from}
 use Rattle.version_index.proofs.losing.use_block.Given as goal
 
 abbrev pub invariant-loop-i : goal.invariant-loop-i

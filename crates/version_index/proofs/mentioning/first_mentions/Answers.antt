@@ -1,5 +1,4 @@
-use Rattle.std.proofs.Common.{take, arith}
-use Rattle.std.proofs.lemmas.List.{take_all}
+use Rattle.version_index.proofs.Common.{take, arith, take_all}
 use Rattle.version_index.proofs.OfChanges.Mentions.{mentions_more, mentions_are}
 use Rattle.version_index.proofs.mentioning.first_mentions.Goals as goal
 

@@ -1,4 +1,4 @@
-use Rattle.std.proofs.Common.{take}
+use Rattle.version_index.proofs.Common.{take}
 use Rattle.version_index.proofs.OfChanges.Mentions.{AreMentions}
 use Rattle.version_index.proofs.mentioning.first_mentions.Given as goal
 

@@ -1,4 +1,4 @@
-use Rattle.std.proofs.Common.{get_or, ap, ◌∙◌, arith}
+use Rattle.version_index.proofs.Common.{get_or, ap, ◌∙◌, arith}
 use Rattle.version_index.proofs.OfChanges.Mentions.{raised_to_at, unraised_at}
 use Rattle.version_index.proofs.mentioning.raise_existing.Goals as goal
 

@@ -1,8 +1,4 @@
-use Rattle.std.proofs.Common.{ap, sym, ◌∙◌, arith}
-use Rattle.std.proofs.lemmas.Option.{none-some, same_Some}
-use Rattle.tx_types.specs.declared.record.Rec.{Rec}
-use Rattle.record_list.specs.Records.{name_of}
-use Rattle.record_list.proofs.OfFacts.Names.{same_name}
+use Rattle.version_index.proofs.Common.{ap, sym, ◌∙◌, arith, none-some, same_Some, Rec, name_of, same_name}
 use Rattle.version_index.proofs.OfCommit.Newest.{head_number}
 use Rattle.version_index.proofs.numbering.known_number.Goals as goal
 

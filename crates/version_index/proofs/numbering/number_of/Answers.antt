@@ -1,4 +1,4 @@
-use Rattle.std.proofs.Common.{sym, subst, inr}
+use Rattle.version_index.proofs.Common.{sym, subst, inr}
 use Rattle.version_index.specs.Filling.{IsNumbered}
 use Rattle.version_index.proofs.OfOpening.ScanNumbers.{added_numbered}
 use Rattle.version_index.proofs.numbering.number_of.Goals as goal

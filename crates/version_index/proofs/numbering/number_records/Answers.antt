@@ -1,4 +1,4 @@
-use Rattle.std.proofs.Common.{◌+◌, length, subst, sym}
+use Rattle.version_index.proofs.Common.{◌+◌, length, subst, sym}
 use Rattle.version_index.proofs.OfOpening.ScanNumbers.{IsNumberingSo, start_numbering, its_page, its_free, its_order, number_more}
 use Rattle.version_index.proofs.numbering.number_records.Goals as goal
 

@@ -1,4 +1,4 @@
-use Rattle.std.proofs.Common.{length}
+use Rattle.version_index.proofs.Common.{length}
 use Rattle.version_index.proofs.OfOpening.ScanNumbers.{IsNumberingSo}
 use Rattle.version_index.proofs.numbering.number_records.Given as goal
 

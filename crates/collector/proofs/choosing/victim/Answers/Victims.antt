@@ -1,11 +1,10 @@
 -- The search for the block with the most garbage.
-use Rattle.std.proofs.Common.{◌≡◌, true, ℕ, ◌<◌, ◌≤◌, sym, subst}
-use Rattle.version_index.specs.Noted.{Noted, HasMostGarbage, garbage_of}
-use Rattle.die_alloc.specs.BlockTable.{BlockTable, block_state}
-use Rattle.collector.specs.Victim.{garbage_in, is_shut, IsVictim}
+use Rattle.collector.proofs.Common.{◌≡◌, true, ℕ, ◌<◌, ◌≤◌, sym, subst, IndexState, BlocksState, block_state, is_shut, IsVictim}
+use Rattle.version_index.specs.IndexState.{HasMostGarbage, garbage_of}
+use Rattle.collector.specs.Victim.{garbage_in}
 
 -- the block with the most garbage, where it is shut
-pub most_is_victim : (n : Noted) (t : BlockTable) (block : ℕ) → is_shut (block_state t block) ≡ true → HasMostGarbage n block → IsVictim n t block
+pub most_is_victim : (n : IndexState) (t : BlocksState) (block : ℕ) → is_shut (block_state t block) ≡ true → HasMostGarbage n block → IsVictim n t block
 most_is_victim n t block shut h = record {
   exists = h.exists;
   some = subst (λ b. 0 < garbage_of n block b) (sym shut) h.some;

@@ -1,36 +1,16 @@
 -- A copy as two calls: the read of its source, and its program.
-use Rattle.std.proofs.Common.{◌≡◌, ◌≢◌, ℕ, ◌+◌, ◌*◌, ◌/◌, ◌<◌, true, false, if◌then◌else◌, set, List, [], ◌∷◌, Ok, Err, Result, refl, sym, ap, ◌∙◌, subst, inl}
-use Rattle.std.proofs.Common.{inr, arith}
-use Rattle.std.specs.Prelude.{IsSome, is_err}
-use Rattle.tx_types.specs.Config.{shape_of, slots_of, blocks_of}
-use Rattle.tx_types.specs.declared.config.Protocol.{Protocol}
-use Rattle.tx_types.specs.declared.config.Shape.{Shape}
-use Rattle.tx_types.specs.declared.config.Slot.{Slot}
-use Rattle.tx_types.specs.declared.record.Rec.{Rec}
-use Rattle.flash_model.specs.declared.flash.Broken.{Broken}
-use Rattle.flash_model.specs.declared.flash.Seen.{Seen}
-use Rattle.flash_model.specs.Flash.{FlashState, Contents, blank, damaged, complete, slot_at, IsWhole, counted}
-use Rattle.flash_model.specs.Calls.{Reads, Shows, Programs, page_of, spare_area_of}
-use Rattle.flash_model.specs.Operations.{Torn, program, moment_of, after, CanDo, CanProgram}
-use Rattle.flash_model.specs.Moves.{Does, FlashMoves}
-use Rattle.flash_model.proofs.CallLemmas.{Carries-then}
-use Rattle.flash_model.proofs.MoveLemmas.{same_moments, FlashMoves-operates, FlashMoves-reads, FlashMoves-then}
-use Rattle.flash_model.proofs.ImageLemmas.{block_within}
-use Rattle.record_list.specs.Changes.{CopyLaw}
+use Rattle.collector.proofs.Common.{◌≡◌, ◌≢◌, ℕ, ◌+◌, ◌*◌, ◌/◌, ◌<◌, true, false, if◌then◌else◌, set, List, [], ◌∷◌, Ok, Err, Result, refl, sym, ap, ◌∙◌, subst, inl, inr, arith, is_err, shape_of, slots_of, blocks_of, Protocol, Shape, Slot, Rec, Broken, Seen, FlashState, Contents, blank, damaged, complete, slot_at, Reads, Programs, spare_area_of, Torn, program, moment_of, CanDo, Does, Carries-then, same_moments, FlashMoves-operates, block_within, CopyLaw, Note, Blank, Damaged, Holds, note_at, note_of, rec_of, IndexState, IsNoted, copied, inside_block, BlocksState, CopiesRecord, Matches, IsNextOfSpare, KeepsArray, copy_program, StoreParts, store_parts}
+use Rattle.std.specs.Prelude.{IsSome}
+use Rattle.flash_model.specs.Flash.{IsWhole, counted}
+use Rattle.flash_model.specs.Calls.{Shows, page_of}
+use Rattle.flash_model.specs.Operations.{after, CanProgram}
+use Rattle.flash_model.specs.Moves.{FlashMoves}
+use Rattle.flash_model.proofs.MoveLemmas.{FlashMoves-reads, FlashMoves-then}
 use Rattle.record_list.specs.WrittenChanges.{WrittenCopyLaw}
-use Rattle.version_index.specs.declared.note.Note.{Note}
-use Rattle.version_index.specs.declared.note.Note.TheVariants.{Blank, Damaged, Holds}
-use Rattle.version_index.specs.Notes.{note_at, note_of, rec_of}
-use Rattle.version_index.specs.Noted.{Noted, IsNoted, copied}
-use Rattle.version_index.proofs.OfTables.Blocks.{inside_block}
 use Rattle.version_index.proofs.OfChanges.NotedChanges.{copied_noted}
-use Rattle.die_alloc.specs.BlockTable.{BlockTable}
 use Rattle.collector.specs.declared.unsure.Unsure.TheVariants as unsure
-use Rattle.collector.specs.Calls.{CanCopy, CopiesRecord}
-use Rattle.collector.specs.Matches.{Matches, IsNextOfSpare}
-use Rattle.collector.specs.Preserves.{KeepsArray}
-use Rattle.collector.specs.Collecting.{copy_program}
-use Rattle.collector.specs.Store.{Store, store_of, IsSure}
+use Rattle.collector.specs.Calls.{CanCopy}
+use Rattle.collector.specs.StoreParts.{IsSure}
 use Rattle.collector.proofs.OfNotes.Calm.{noted_as_read}
 use Rattle.collector.proofs.OfCollect.Chains.{HasNoNewRecord-nothing}
 use Rattle.collector.proofs.OfCollect.CollectedNotes.{copied_no_new}
@@ -68,16 +48,16 @@ shown size contents how bytes spare c s =
     ∙ ap (λ b. complete b c.spare) (sym (s.its_page ∙ ap (page_of size) c.is))
     ∙ ap (λ x. complete bytes x) (sym (s.its_spare_area ∙ ap spare_area_of c.is))
 
-module _ (p : Protocol) (copy : CopyLaw p) (written_copy : WrittenCopyLaw p) (a : Store) (k : IsSure p a) (from to : Slot)
+module _ (p : Protocol) (copy : CopyLaw p) (written_copy : WrittenCopyLaw p) (a : StoreParts) (k : IsSure p a) (from to : Slot)
     (asked : CanCopy a.noted a.table from.0 to.0)
     (s1 : FlashState) (bytes spare : List ℕ) (how : Seen) (done : Reads a.flash s1 from.0 bytes spare (Ok how)) where
   abbrev s : FlashState
   s = a.flash
 
-  abbrev n : Noted
+  abbrev n : IndexState
   n = a.noted
 
-  abbrev t : BlockTable
+  abbrev t : BlocksState
   t = a.table
 
   abbrev some : IsSome (rec_of (note_at n.notes from.0))
@@ -166,7 +146,7 @@ module _ (p : Protocol) (copy : CopyLaw p) (written_copy : WrittenCopyLaw p) (a 
   noted' = copied_noted n.config.protocol n m.noted law from.0 to.0 some next.within was
 
   pub copy_is_done : (s2 : FlashState) (x : Unit {0}) → Programs s1 s2 to.0 bytes spare (Ok x) →
-      CopiesRecord p a (store_of s2 (copied n from.0 to.0) t a.unsure) from to (Ok tt)
+      CopiesRecord p a (store_parts s2 (copied n from.0 to.0) t a.unsure) from to (Ok tt)
   copy_is_done s2 x e =
       let o = program to.0 bytes spare in
       let can0 : CanDo s.shape s.image o = subst (λ i. CanDo s.shape i o) done.image (subst (λ sh. CanDo sh s1.image o) shape_same can) in
@@ -201,7 +181,7 @@ module _ (p : Protocol) (copy : CopyLaw p) (written_copy : WrittenCopyLaw p) (a 
       }
 
   pub copy_breaks : (s2 : FlashState) (x : Broken) → Programs s1 s2 to.0 bytes spare (Err x) →
-      CopiesRecord p a (store_of s2 n t (unsure.Copy from to)) from to (Err x)
+      CopiesRecord p a (store_parts s2 n t (unsure.Copy from to)) from to (Err x)
   copy_breaks s2 x e = record {
     keeps = record {
       matches = copy_torn s1 s2 n t m1 written_law from to noted.rec bytes spare exists next.within next.in_spare noted.is was source1 can e.carries.shape x e
@@ -231,8 +211,8 @@ module _ (p : Protocol) (copy : CopyLaw p) (written_copy : WrittenCopyLaw p) (a 
   }
 
 -- the read of the source failed
-pub copy_unread : (p : Protocol) (a : Store) → IsSure p a → (from to : Slot) (s1 : FlashState) (bytes spare : List ℕ) (x y : Broken) →
-    Reads a.flash s1 from.0 bytes spare (Err x) → CopiesRecord p a (store_of s1 a.noted a.table a.unsure) from to (Err y)
+pub copy_unread : (p : Protocol) (a : StoreParts) → IsSure p a → (from to : Slot) (s1 : FlashState) (bytes spare : List ℕ) (x y : Broken) →
+    Reads a.flash s1 from.0 bytes spare (Err x) → CopiesRecord p a (store_parts s1 a.noted a.table a.unsure) from to (Err y)
 copy_unread p a k from to s1 bytes spare x y e =
     let still = same_moments (moment_of s1) (moment_of a.flash) e.image e.programs e.erases in
     record {

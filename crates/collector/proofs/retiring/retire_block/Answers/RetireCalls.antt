@@ -1,24 +1,12 @@
 -- Retiring a block, as a call: the spare is replaced at once; else the spare is made blank, what is needed is copied, and the
 -- block is replaced.
-use Rattle.std.proofs.Common.{◌≡◌, ◌≢◌, ℕ, ◌*◌, ◌==◌, true, false, List, [], ◌++◌, length, Ok, Err, Result, refl, sym, ap, ◌∙◌, subst}
-use Rattle.std.proofs.lemmas.Bool.{cond-false, ne_eqb}
-use Rattle.tx_types.specs.declared.config.Block.{Block}
-use Rattle.tx_types.specs.declared.config.Protocol.{Protocol}
-use Rattle.flash_model.specs.declared.flash.Broken.{Broken}
-use Rattle.flash_model.specs.Flash.{FlashState}
-use Rattle.flash_model.specs.Moves.{Does}
-use Rattle.flash_model.specs.Operations.{Operation, moment_of}
+use Rattle.collector.proofs.Common.{◌≡◌, ◌≢◌, ℕ, ◌*◌, true, false, List, [], ◌++◌, length, Ok, Err, Result, refl, sym, ap, ◌∙◌, subst, cond-false, ne_eqb, Block, Protocol, Broken, FlashState, Does, Operation, moment_of, LossLaw, IndexState, Unsure, Cleans, CopiesNeeded, Keeps, cleaning, copies, needed_slots, noted_cleaned, reads_after, RetiresVictim, StoreParts}
+use Rattle.std.proofs.Common.{◌==◌}
 use Rattle.flash_model.proofs.RetireLemmas.{CarriesRetiring-then}
-use Rattle.record_list.specs.Changes.{LossLaw}
-use Rattle.version_index.specs.Noted.{Noted}
-use Rattle.collector.specs.declared.unsure.Unsure.{Unsure}
 use Rattle.collector.specs.declared.unsure.Unsure.TheVariants as unsure
 use Rattle.collector.specs.BreakingOff.{CopiesBreakOff}
-use Rattle.collector.specs.Calls.{Cleans, CopiesNeeded, Keeps}
-use Rattle.collector.specs.Collecting.{cleaning, copies, needed_slots, noted_cleaned}
-use Rattle.collector.specs.Looking.{reads_after}
-use Rattle.collector.specs.Retiring.{RetiresVictim, RetiresBlock, RetiresNone, EndsRetiring, retiring_first}
-use Rattle.collector.specs.Store.{Store, IsSure}
+use Rattle.collector.specs.Retiring.{RetiresBlock, RetiresNone, EndsRetiring, retiring_first}
+use Rattle.collector.specs.StoreParts.{IsSure}
 use Rattle.collector.proofs.OfCollect.BreakingOff.{copies_broke, victim_broke}
 use Rattle.collector.proofs.OfCollect.CollectCalls.{noted_so, table_so, reads_so}
 use Rattle.collector.proofs.OfCollect.Collections.{all_copied}
@@ -26,11 +14,11 @@ use Rattle.collector.proofs.OfErase.Emptying.{retires_torn}
 use Rattle.collector.proofs.OfNotes.KeepsLemmas.{keeps_then, keeps_retiring, tables_of, tables_then}
 
 -- nothing was replaced by a call that broke off before
-none_retired : (p : Protocol) (a b : Store) → Keeps p a b true → RetiresNone a.flash b.flash
+none_retired : (p : Protocol) (a b : StoreParts) → Keeps p a b true → RetiresNone a.flash b.flash
 none_retired p a b k = (k.moves, k.carries.extras)
 
 -- where the copies broke off nothing was replaced
-ends_copying : (n : Noted) (s old new : FlashState) (before : List Operation) (spare block : ℕ) (n' : Noted) (u : Unsure) →
+ends_copying : (n : IndexState) (s old new : FlashState) (before : List Operation) (spare block : ℕ) (n' : IndexState) (u : Unsure) →
     CopiesBreakOff n s new before spare block n' u →
     RetiresNone old new → EndsRetiring old new block u
 ends_copying n s old new before spare block n' unsure.Nothing b none = none
@@ -39,13 +27,13 @@ ends_copying n s old new before spare block n' (unsure.Own at rec) b none = none
 ends_copying n s old new before spare block n' unsure.SpareErase b none = none
 ends_copying n s old new before spare block n' (unsure.VictimErase at) b none = absurd b
 
-module _ (p : Protocol) (loss : LossLaw p) (a m : Store) (k : IsSure p a) (cleaned : Cleans p a m (Ok tt)) (block : Block)
+module _ (p : Protocol) (loss : LossLaw p) (a m : StoreParts) (k : IsSure p a) (cleaned : Cleans p a m (Ok tt)) (block : Block)
     (apart : block.0 ≢ a.table.spare) where
   not_spare : (block.0 == a.table.spare) ≡ false
   not_spare = ne_eqb block.0 a.table.spare apart
 
   -- a copy broke off
-  pub retires_stopped : (b : Store) (x y : Broken) → CopiesNeeded p m b block.0 (Err x) → b.table ≡ m.table → RetiresBlock p a b block.0 (Err y)
+  pub retires_stopped : (b : StoreParts) (x y : Broken) → CopiesNeeded p m b block.0 (Err x) → b.table ≡ m.table → RetiresBlock p a b block.0 (Err y)
   retires_stopped b x y c same =
       let both = keeps_then p a m b true cleaned.keeps c.keeps in
       record {
@@ -64,7 +52,7 @@ module _ (p : Protocol) (loss : LossLaw p) (a m : Store) (k : IsSure p a) (clean
         stays = same ∙ cleaned.blocks;
       }
 
-  module _ (h b : Store) (used : ℕ) (c : CopiesNeeded p m h block.0 (Ok used)) (same : h.table ≡ m.table) where
+  module _ (h b : StoreParts) (used : ℕ) (c : CopiesNeeded p m h block.0 (Ok used)) (same : h.table ≡ m.table) where
     before : Keeps p a h false
     before = keeps_then p a m h false cleaned.keeps c.keeps
 

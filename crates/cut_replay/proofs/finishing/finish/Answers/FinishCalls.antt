@@ -1,30 +1,22 @@
 -- Steps of a device, one after another, up to the end of a transaction.
-use Rattle.std.proofs.Common.{◌≡◌, ◌≢◌, ℕ, ◌<◌, Bool, [], ◌∷◌, Result, refl, sym, ◌∙◌, subst, inl, inr, arith}
-use Rattle.tx_types.specs.declared.config.Config.{Config}
-use Rattle.tx_types.specs.Config.{shape_of}
-use Rattle.flash_model.specs.Flash.{FlashState}
+use Rattle.cut_replay.proofs.Common.{◌≡◌, ℕ, ◌<◌, Bool, [], ◌∷◌, Result, refl, sym, ◌∙◌, subst, inl, inr, arith, Config, shape_of, FlashState, moment_of, array_in, DeviceState, Reply, Point, Tells, is_fault, point_at, ServesHere}
+use Rattle.std.proofs.Common.{◌≢◌}
 use Rattle.flash_model.specs.Moves.{Moves}
-use Rattle.flash_model.specs.Operations.{moment_of}
 use Rattle.flash_model.proofs.CallLemmas.{Carries-then}
 use Rattle.flash_model.proofs.MoveLemmas.{Moves-then}
-use Rattle.version_index.specs.Images.{array_in}
 use Rattle.array_machine.specs.ArrayState.{idle}
 use Rattle.tx_engine.specs.Exits.{VersionsTell}
-use Rattle.tx_engine.specs.Standing.{Standing}
 use Rattle.array_machine.specs.Step.{Steps}
 use Rattle.array_machine.specs.declared.answers.Progress.{Progress}
 use Rattle.array_machine.specs.declared.answers.StepError.{StepError}
 use Rattle.array_machine.proofs.UnbrokenCalls.{again}
 use Rattle.host_protocol.specs.declared.command.Command.TheVariants as command
-use Rattle.host_protocol.specs.declared.reply.Reply.{Reply}
 use Rattle.host_protocol.specs.declared.reply.Reply.TheVariants as reply
 use Rattle.array_machine.specs.Run.{pages_left, step_reply, is_break}
-use Rattle.cut_replay.specs.FlashRun.{Point, Tells, is_fault}
-use Rattle.cut_replay.specs.Mounted.{point_at, ServesHere}
 use Rattle.cut_replay.proofs.Single.{step_tells}
 use Rattle.array_machine.proofs.Finishes.{told_wrote, step_writes, fewer_left, cut_before, at_last, ends}
 
-pub last_serves : {F : Type 0} (state : F → FlashState) (old new : Standing F) (tag : ℕ) (r : Reply) → ((own done all : ℕ) → r ≢ reply.Wrote own done all) →
+pub last_serves : {F : Type 0} (state : F → FlashState) (old new : DeviceState F) (tag : ℕ) (r : Reply) → ((own done all : ℕ) → r ≢ reply.Wrote own done all) →
     ServesHere state (command.Step tag) old new r → ServesHere state (command.Finish tag) old new r
 last_serves state old new tag r last h = record {
   config = h.config;
@@ -44,7 +36,7 @@ last_serves state old new tag r last h = record {
 }
 
 -- One step more before
-versions_then : {F : Type 0} (old mid new : Standing F) → mid.config ≡ old.config → VersionsTell old mid → VersionsTell mid new → VersionsTell old new
+versions_then : {F : Type 0} (old mid new : DeviceState F) → mid.config ≡ old.config → VersionsTell old mid → VersionsTell mid new → VersionsTell old new
 versions_then old mid new same first second page lt = elim (first page lt) [
   | inl rose ↦ elim (second page (subst (λ (c : Config). page < c.logical) (sym same) lt)) [
     | inl more ↦ inl (omega arith)
@@ -60,7 +52,7 @@ finish_tells : (its : Config) (faulted : Bool) (old new : Point) (tag : ℕ) (r 
     Tells its faulted old r new
 finish_tells its faulted old new tag r result told = subst (λ (q : Reply). Tells its faulted old q new) (sym told) (step_tells its faulted old new tag result)
 
-pub wrote_serves : {F : Type 0} (state : F → FlashState) (old mid new : Standing F) (own tag done all : ℕ) (r : Reply) →
+pub wrote_serves : {F : Type 0} (state : F → FlashState) (old mid new : DeviceState F) (own tag done all : ℕ) (r : Reply) →
     ServesHere state (command.Step tag) old mid (reply.Wrote own done all) → ServesHere state (command.Finish tag) mid new r →
     ServesHere state (command.Finish tag) old new r
 wrote_serves state old mid new own tag done all r first rest =
@@ -100,7 +92,7 @@ wrote_serves state old mid new own tag done all r first rest =
     }
 
 -- and a step of it has a page less to write
-pub step_fewer : {F : Type 0} (state : F → FlashState) (old new : Standing F) (own tag done all : ℕ) →
+pub step_fewer : {F : Type 0} (state : F → FlashState) (old new : DeviceState F) (own tag done all : ℕ) →
     ServesHere state (command.Step tag) old new (reply.Wrote own done all) →
     pages_left tag new.machine < pages_left tag old.machine
 step_fewer state old new own tag done all h =

@@ -1,20 +1,10 @@
 -- Mounting a flash on which power was turned on.
-use Rattle.std.proofs.Common.{◌≡◌, ◌≤◌, Bool, true, false, List, sym, ap, ◌∙◌, subst}
-use Rattle.tx_types.specs.declared.config.Config.{Config}
-use Rattle.tx_types.specs.declared.config.Protocol.{Protocol}
-use Rattle.flash_model.specs.Flash.{FlashState, Contents}
+use Rattle.cut_replay.proofs.Common.{◌≡◌, ◌≤◌, Bool, true, false, List, sym, ap, ◌∙◌, subst, Config, Protocol, FlashState, Carries, BothTell, NoMoreToCome, moment_of, array_in, idle, DeviceState, HoldsAlways, MomentStays, MountsIn}
+use Rattle.flash_model.specs.Flash.{Contents}
 use Rattle.flash_model.specs.Arms.{TurnsOn}
-use Rattle.flash_model.specs.Calls.{Carries, BothTell, NoMoreToCome}
-use Rattle.flash_model.specs.Operations.{moment_of}
-use Rattle.version_index.specs.Images.{array_in}
 use Rattle.scan_recovery.specs.Opening.{IsOpened}
 use Rattle.scan_recovery.specs.Reading.{read_more}
-use Rattle.tx_engine.specs.ArrayState.{idle}
-use Rattle.tx_engine.specs.Standing.{Standing}
 use Rattle.tx_engine.specs.Opens.{Mounts, mount_reads}
-use Rattle.tx_engine.specs.Always.{HoldsAlways}
-use Rattle.cut_replay.specs.Mounted.{MomentStays}
-use Rattle.cut_replay.specs.Sessions.{MountsIn}
 
 -- a call on the powered flash that leaves its moment
 pub powered_still : (old on new : FlashState) (broken : Bool) → TurnsOn old on → moment_of new ≡ moment_of on → Carries on new broken → MomentStays old new
@@ -29,7 +19,7 @@ powered_still old on new broken turned moment carries = record {
 pub powered_live : (old on : FlashState) → TurnsOn old on → on.live ≡ true
 powered_live old on turned = ap (λ (s : FlashState). s.live) turned
 
-pub powered_mounts : {F : Type 0} (state : F → FlashState) (its : Config) (protocol : Protocol) (old on : F) (s : Standing F) → its.protocol ≡ protocol →
+pub powered_mounts : {F : Type 0} (state : F → FlashState) (its : Config) (protocol : Protocol) (old on : F) (s : DeviceState F) → its.protocol ≡ protocol →
     TurnsOn (state old) (state on) →
     Mounts state on its s → HoldsAlways state protocol s → MountsIn state its old s
 powered_mounts state its protocol old on s rule turned mounts always =

@@ -1,14 +1,11 @@
 -- How often a read command reads the flash, and what it leaves in the cache.
-use Rattle.std.proofs.Common.{◌≡◌, ℕ, ◌<◌, ◌⊎◌, Bool, true, false, cond, List, Option, Some, None, Result, Ok, Err, refl, sym, ap, ◌∙◌, subst, inl, inr}
-use Rattle.std.specs.Prelude.{◌&&◌, not, nat_lt, is_some, MatchBool, IsSome}
+use Rattle.cut_replay.proofs.Common.{◌≡◌, ℕ, ◌<◌, ◌⊎◌, Bool, true, false, cond, List, Option, Some, None, Result, Ok, Err, refl, sym, ap, ◌∙◌, subst, inl, inr, MatchBool, Memory, FlashState, CachedPage, PageCacheState, page_at, DeviceState}
+use Rattle.std.specs.Prelude.{◌&&◌, not, nat_lt, is_some, IsSome}
 use Rattle.std.proofs.lemmas.Bool.{lt-ltb, le-ltb}
 use Rattle.std.proofs.Math.Bool.{and-true, and-false}
-use Rattle.tx_types.specs.declared.memory.Memory.{Memory}
-use Rattle.flash_model.specs.Flash.{FlashState, counted}
-use Rattle.page_cache.specs.CachedPages.{CachedPage, CachedPages}
-use Rattle.tx_engine.specs.ArrayState.{Pages, page_at}
+use Rattle.flash_model.specs.Flash.{counted}
+use Rattle.tx_engine.specs.ArrayState.{Pages}
 use Rattle.tx_engine.specs.Read.{ReadsPage, ReadsFlash, read_place}
-use Rattle.tx_engine.specs.Standing.{Standing}
 use Rattle.array_machine.specs.declared.answers.ReadAnswer.{ReadAnswer}
 use Rattle.array_machine.specs.declared.answers.ReadAnswer.TheVariants as answer
 use Rattle.array_machine.specs.declared.answers.ReadError.{ReadError}
@@ -51,19 +48,19 @@ device_counts state place old new logical pages page before after (Err unread.Fa
     read_counts (is_written logical pages page) (state old) (state new) (written_page logical pages page reads.0 reads.1) flash.4.reads
 
 -- and one through the cache
-through_counts : {F : Type 0} (state : F → FlashState) (old new : Standing F) (page : ℕ) (before after : List ℕ) (result : Result ReadAnswer ReadError)
+through_counts : {F : Type 0} (state : F → FlashState) (old new : DeviceState F) (page : ℕ) (before after : List ℕ) (result : Result ReadAnswer ReadError)
     (held : Bool) →
     ReadsPage old.config.logical old.machine.pages page after result → MatchBool held ((new ≡ old) ×
     (result ≡ Ok answer.Page)) (ReadsFlash state (read_place old.noted old.unsure page) old.flash new.flash before after result) →
     CountsOne (is_written old.config.logical old.machine.pages page && not held) (state old.flash) (state new.flash)
 through_counts {F = F} state old new page before after result true reads same =
     unread_counts _ (state old.flash) (state new.flash) (and-false (is_written old.config.logical old.machine.pages page))
-    (ap (λ (s : Standing F). state s.flash) same.0)
+    (ap (λ (s : DeviceState F). state s.flash) same.0)
 through_counts state old new page before after result false reads flash =
     subst (λ (b : Bool). CountsOne b (state old.flash) (state new.flash)) (sym (and-true (is_written old.config.logical old.machine.pages page)))
     (device_counts state (read_place old.noted old.unsure page) old.flash new.flash old.config.logical old.machine.pages page before after result reads flash)
 
-pub reads_once : {F : Type 0} (state : F → FlashState) (old new : Standing F) (entries : List CachedPage) (page : ℕ) (before after : List ℕ)
+pub reads_once : {F : Type 0} (state : F → FlashState) (old new : DeviceState F) (entries : List CachedPage) (page : ℕ) (before after : List ℕ)
     (result : Result ReadAnswer ReadError) →
     ReadsPage old.config.logical old.machine.pages page after result → ReadsThrough state old new entries page before after result →
     ReadsOnce state old new entries page
@@ -71,12 +68,12 @@ reads_once state old new entries page before after result reads through = throug
     (is_cached old entries page) reads through
 
 -- What is left in the cache
-abbrev Leaves : {F : Type 0} → Standing F → CachedPages → CachedPages → ℕ → Bool → Type 0
+abbrev Leaves : {F : Type 0} → DeviceState F → PageCacheState → PageCacheState → ℕ → Bool → Type 0
 Leaves s before after page held =
     MatchBool held (after ≡ brought_forward s page before)
     (((bytes : List ℕ) × (page_at s.machine.pages page ≡ Some bytes) × (after ≡ with_page s page bytes before)) ⊎ (after ≡ before))
 
-left_in : {F : Type 0} (s : Standing F) (before after : CachedPages) (page : ℕ) (bytes : List ℕ) (memory : Result (Unit {0}) Memory) (held : Bool) →
+left_in : {F : Type 0} (s : DeviceState F) (before after : PageCacheState) (page : ℕ) (bytes : List ℕ) (memory : Result (Unit {0}) Memory) (held : Bool) →
     page_at s.machine.pages page ≡ Some bytes →
     MatchBool held (after ≡ brought_forward s page before) (KeepsPage s before after page bytes memory) → Leaves s before after page held
 left_in s before after page bytes memory true at h = h
@@ -84,19 +81,19 @@ left_in s before after page bytes (Ok u) false at h = inl (bytes, at, h)
 left_in s before after page bytes (Err e) false at h = inr h
 
 -- where nothing was read that may be kept
-left_alone : {F : Type 0} (s : Standing F) (before after : CachedPages) (page : ℕ) (held : Bool) → held ≡ false → after ≡ before →
+left_alone : {F : Type 0} (s : DeviceState F) (before after : PageCacheState) (page : ℕ) (held : Bool) → held ≡ false → after ≡ before →
     Leaves s before after page held
 left_alone s before after page true unheld same = cc
 left_alone s before after page false unheld same = inr same
 
-not_held : {F : Type 0} (state : F → FlashState) (old new : Standing F) (page : ℕ) (before after : List ℕ) (result : Result ReadAnswer ReadError)
+not_held : {F : Type 0} (state : F → FlashState) (old new : DeviceState F) (page : ℕ) (before after : List ℕ) (result : Result ReadAnswer ReadError)
     (held : Bool) →
     MatchBool held ((new ≡ old) × (result ≡ Ok answer.Page)) (ReadsFlash state (read_place old.noted old.unsure page) old.flash new.flash before after result) →
     (result ≡ Ok answer.Page → ⊥) → held ≡ false
 not_held state old new page before after result true through other = absurd (other through.1)
 not_held state old new page before after result false through other = refl
 
-pub page_left : {F : Type 0} (state : F → FlashState) (old new : Standing F) (cache left : CachedPages) (page : ℕ) (before after : List ℕ)
+pub page_left : {F : Type 0} (state : F → FlashState) (old new : DeviceState F) (cache left : PageCacheState) (page : ℕ) (before after : List ℕ)
     (result : Result ReadAnswer ReadError) (memory : Result (Unit {0}) Memory) →
     ReadsPage old.config.logical old.machine.pages page after result → ReadsThrough state old new cache.entries page before after result →
     CachesRead old cache left page after result memory →
@@ -108,10 +105,10 @@ page_left state old new cache left page before after (Ok answer.Blank) memory re
 page_left state old new cache left page before after (Err e) memory reads through keeps =
     left_alone old cache left page _ (not_held state old new page before after (Err e) _ through (λ is. cc)) keeps
 
-size_in : {F : Type 0} (s : Standing F) (cache left : CachedPages) (page : ℕ) (held : Bool) → Leaves s cache left page held → left.page_bytes ≡ cache.page_bytes
-size_in s cache left page true h = ap (λ (c : CachedPages). c.page_bytes) h
-size_in s cache left page false (inl h) = ap (λ (c : CachedPages). c.page_bytes) h.2
-size_in s cache left page false (inr h) = ap (λ (c : CachedPages). c.page_bytes) h
+size_in : {F : Type 0} (s : DeviceState F) (cache left : PageCacheState) (page : ℕ) (held : Bool) → Leaves s cache left page held → left.page_bytes ≡ cache.page_bytes
+size_in s cache left page true h = ap (λ (c : PageCacheState). c.page_bytes) h
+size_in s cache left page false (inl h) = ap (λ (c : PageCacheState). c.page_bytes) h.2
+size_in s cache left page false (inr h) = ap (λ (c : PageCacheState). c.page_bytes) h
 
-pub size_left : {F : Type 0} (s : Standing F) (cache left : CachedPages) (page : ℕ) → CachesPage s cache left page → left.page_bytes ≡ cache.page_bytes
+pub size_left : {F : Type 0} (s : DeviceState F) (cache left : PageCacheState) (page : ℕ) → CachesPage s cache left page → left.page_bytes ≡ cache.page_bytes
 size_left s cache left page h = size_in s cache left page (is_cached s cache.entries page) h

@@ -7,6 +7,6 @@ pub returns-clause-says : goal.returns-clause-says
 returns-clause-says c =
     let fails = c.fails_next-fails.result in
     let grown : c.extend_from_slice.new.self.items ≡ c.self.inside.said.items ++ kept_of c.args.bytes.now fails =
-    rw c.kept.ensures at c.in-Ok.ensures.items in
+    rw c.kept_part.ensures at c.in-Ok.ensures.items in
     says_kept c.args.self.now c.answer.new.self c.args.bytes.now fails c.answer.result
     (rw (← c.self.view_is) (rw grown at c.answer.ensures.state)) c.answer.ensures.answer

@@ -1,4 +1,4 @@
-use Rattle.std.proofs.Common.{arith}
+use Rattle.desk_tasks.proofs.Common.{arith}
 use Rattle.desk_tasks.proofs.Copies.{slots_kept}
 use Rattle.desk_tasks.proofs.kept.Kept.cell.Goals as goal
 

@@ -1,5 +1,5 @@
 use Rattle.std.proofs.Common.{◌≡◌}
-use Rattle.mem_flash.specs.Memory.{state_of}
+use Rattle.mem_flash.specs.MemFlashState.{state_of}
 use Rattle.collector.specs.Matches.{Matches}
 use Rattle.device_tests.proofs.collecting.rows.are_taken.Given as goal
 

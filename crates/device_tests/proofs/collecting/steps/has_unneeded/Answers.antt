@@ -1,6 +1,6 @@
 use Rattle.std.proofs.Common.{◌+◌, ◌*◌, ap, ◌∙◌, sym, arith}
 use Rattle.std.proofs.lemmas.Bool.{not-true}
-use Rattle.list_facts.proofs.Ranges.{in_range}
+use Rattle.list_lemmas.proofs.Ranges.{in_range}
 use Rattle.tx_types.specs.Config.{shape_of}
 use Rattle.tx_types.specs.declared.config.Config.{Config}
 use Rattle.flash_model.proofs.ImageLemmas.{block_within}

@@ -1,4 +1,4 @@
-use Rattle.mem_flash.specs.Memory.{state_of}
+use Rattle.mem_flash.specs.MemFlashState.{state_of}
 use Rattle.collector.proofs.OfSettle.SettledExits.{matches_still}
 use Rattle.device_tests.proofs.collecting.steps.take.Goals as goal
 

@@ -1,12 +1,13 @@
 -- How long lines and words are, together.
-use Rattle.std.proofs.Common.{◌≡◌, ℕ, suc, ◌+◌, ◌<◌, ◌≤◌, Bool, true, false, cond, List, [], ◌∷◌, length, get_or, take, ◌-◌, ◌==◌, ◌⊎◌, inl, inr, refl, arith}
-use Rattle.std.proofs.Common.{map, slice_index}
+use Rattle.drive_gen.proofs.Common.{◌≡◌, ℕ, suc, ◌+◌, ◌<◌, ◌≤◌, Bool, true, false, cond, List, [], ◌∷◌, length, refl, arith, map, lines_of, words_of}
+use Rattle.std.proofs.Common.{get_or, take, ◌-◌, ◌==◌, ◌⊎◌, inl, inr}
+use Rattle.std.proofs.Common.{slice_index}
 use Rattle.std.specs.List.{slice_split, onto_first, sum_by, filter}
 use Rattle.std.specs.Str.Lines.{strip_carriage_return}
 use Rattle.std.proofs.lemmas.Bool.{cases_lt}
 use Rattle.std.proofs.lemmas.List.{get_or_past, length-take}
 use Rattle.std.proofs.lemmas.List.Sums.{sum_by-cons, get_or-le-sum_by}
-use Rattle.host_protocol.specs.Lines.{lines_of, words_of, ended_parts, has_bytes, is_space_or_tab, is_line_feed}
+use Rattle.host_protocol.specs.Lines.{ended_parts, has_bytes, is_space_or_tab, is_line_feed}
 
 -- the bytes of a part, and the one behind it
 abbrev pub size : List ℕ → ℕ

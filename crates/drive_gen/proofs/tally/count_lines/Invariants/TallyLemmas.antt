@@ -1,11 +1,10 @@
 -- Counting line by line.
-use Rattle.std.proofs.Common.{◌≡◌, ℕ, ◌+◌, ◌*◌, ◌^◌, ◌<◌, ◌≤◌, Bool, true, false, cond, List, [], ◌∷◌, length, refl, arith, zero-add, Some, None, unwrap_or}
-use Rattle.std.proofs.Common.{codes}
+use Rattle.drive_gen.proofs.Common.{◌≡◌, ℕ, ◌+◌, ◌<◌, ◌≤◌, Bool, true, false, cond, List, [], ◌∷◌, length, refl, arith, codes, lines_of, last_stats, sum_of_bytes, plus, tally_of}
+use Rattle.std.proofs.Common.{◌*◌, ◌^◌, zero-add, Some, None, unwrap_or}
 use Rattle.std.specs.List.{sum_by, count_by, filter, last_or}
 use Rattle.std.proofs.lemmas.List.Sums.{sum_by-cons, sum_by-le-sum_by}
-use Rattle.host_protocol.specs.Lines.{lines_of}
-use Rattle.drive_gen.specs.Summary.{begins_with, last_stats, page_sum, sum_of_bytes, word_or}
-use Rattle.drive_gen.specs.Tally.{IsCounted, plus, tally_of}
+use Rattle.drive_gen.specs.Summary.{begins_with, page_sum, word_or}
+use Rattle.drive_gen.specs.Tally.{IsCounted}
 use Rattle.drive_gen.specs.declared.tally.Tally.{Tally}
 use Rattle.drive_gen.proofs.HexLemmas.{sum_most}
 use Rattle.drive_gen.proofs.tally.count_lines.Invariants.SizeLemmas.{size, sizes, sizes-cons, lines_size, word_size}

@@ -1,14 +1,14 @@
 -- The commands of a generated list, piece by piece.
-use Rattle.std.proofs.Common.{◌≡◌, ℕ, ◌+◌, Bool, true, false, cond, nat_le, List, [], ◌∷◌, ◌++◌, refl, arith, flat_map, map}
-use Rattle.std.specs.List.{range_with_len, AllByRecursion, All}
+use Rattle.drive_gen.proofs.Common.{◌≡◌, ℕ, ◌+◌, Bool, true, false, cond, List, [], ◌∷◌, ◌++◌, refl, arith, flat_map, map, range_with_len, Config, fill, generated, numbered, drawn_batch, page_count}
+use Rattle.std.proofs.Common.{nat_le}
+use Rattle.std.specs.List.{AllByRecursion, All}
 use Rattle.std.proofs.lemmas.List.Elements.{All-from_recursion}
-use Rattle.tx_types.specs.declared.config.Config.{Config}
 use Rattle.tx_types.specs.Batch.{Writes}
 use Rattle.host_protocol.specs.Commands.{Suits}
 use Rattle.host_protocol.specs.declared.command.Command.TheVariants as command
 use Rattle.drive_gen.specs.declared.kind.Kind.{Kind}
 use Rattle.drive_gen.specs.declared.kind.Kind.TheVariants as kind
-use Rattle.drive_gen.specs.Work.{of_kind, fill, generated, numbered, transaction, drawn_kind, aborted, drawn_batch, page_count}
+use Rattle.drive_gen.specs.Work.{of_kind, transaction, drawn_kind, aborted}
 
 -- ---- each command suits the device
 

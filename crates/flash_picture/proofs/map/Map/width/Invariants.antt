@@ -1,4 +1,5 @@
-use Rattle.std.proofs.Common.{◌≡◌, ◌<◌, ◌^◌}
+use Rattle.flash_picture.proofs.Common.{◌≡◌, ◌<◌}
+use Rattle.std.proofs.Common.{◌^◌}
 use Rattle.flash_picture.specs.Map.{widest}
 use Rattle.flash_picture.proofs.map.Map.width.Given as goal
 

@@ -1,7 +1,5 @@
-use Rattle.std.proofs.Common.{◌∙◌, ◌++◌, sym, ap, append_assoc, codes}
-use Rattle.std.specs.List.{join_with_byte}
-use Rattle.std.proofs.lemmas.Result.{on_ok_weaker}
-use Rattle.flash_picture.specs.Cells.{after_spaces, cell_at, cell_words, is_named, slot_text, word_if}
+use Rattle.flash_picture.proofs.Common.{◌∙◌, ◌++◌, sym, ap, append_assoc, codes, join_with_byte, on_ok_weaker, cell_at, cell_words, is_named, slot_text, word_if}
+use Rattle.flash_picture.specs.Cells.{after_spaces}
 use Rattle.flash_picture.proofs.Texts.{cell_joined}
 use Rattle.flash_picture.proofs.map.Map.write_slot.Goals as goal
 

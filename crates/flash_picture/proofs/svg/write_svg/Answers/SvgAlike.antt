@@ -1,23 +1,9 @@
 -- The picture in SVG of records in order of their names is that of the list.
-use Rattle.std.proofs.Common.{◌≡◌, ℕ, zero, suc, ◌+◌, List, ◌++◌, map, codes, refl, ap, ap₂, ◌∙◌}
+use Rattle.flash_picture.proofs.Common.{◌≡◌, ℕ, zero, suc, ◌+◌, List, ◌++◌, map, codes, refl, ap, ap₂, ◌∙◌, flat_map, range_with_len, Config, Protocol, shape_of, Found, Sorts, Note, found_in, Cell, Blank, Damaged, Holds, Marks, cell_at, cell_of, slot_text, height, above, drawing, grid_of, lines_svg, walk_rows, walk_takes, walks_svg, walks_take, end_of}
 use mathlib.Core.Path.{fun_ext}
-use Rattle.std.specs.List.{flat_map, range_with_len}
-use Rattle.tx_types.specs.declared.config.Config.{Config}
-use Rattle.tx_types.specs.declared.config.Protocol.{Protocol}
-use Rattle.tx_types.specs.Config.{shape_of, slots_of}
-use Rattle.record_list.specs.declared.found.Found.{Found}
-use Rattle.record_chart.specs.Charts.{Sorts}
-use Rattle.version_index.specs.declared.note.Note.{Note}
-use Rattle.version_index.specs.Notes.{found_in}
-use Rattle.flash_picture.specs.declared.cell.Cell.{Cell}
-use Rattle.flash_picture.specs.declared.cell.Cell.TheVariants.{Blank, Damaged, Holds}
+use Rattle.tx_types.specs.Config.{slots_of}
 use Rattle.flash_picture.specs.declared.grid.Grid.{Grid}
-use Rattle.flash_picture.specs.declared.marks.Marks.{Marks}
-use Rattle.flash_picture.specs.Cells.{cell_at, cell_of, slot_text}
-use Rattle.flash_picture.specs.Grid.{height}
-use Rattle.flash_picture.specs.Svg.{above, arrow_to, arrows_svg, drawing, first_slot, grid_of, lines_svg, map_svg, svg, target, walk_rows, walk_takes}
-use Rattle.flash_picture.specs.Svg.{walks_svg, walks_take}
-use Rattle.flash_picture.specs.Walks.{end_of}
+use Rattle.flash_picture.specs.Svg.{arrow_to, arrows_svg, first_slot, map_svg, svg, target}
 use Rattle.flash_picture.proofs.Alike.{cells_alike}
 use Rattle.flash_picture.proofs.Shown.{end_alike, rows_alike, takes_alike}
 

@@ -1,4 +1,4 @@
-use Rattle.flash_picture.specs.Svg.{arrow_svg}
+use Rattle.flash_picture.proofs.Common.{arrow_svg}
 use Rattle.flash_picture.proofs.Texts.{text_more}
 use Rattle.flash_picture.proofs.svg_map.Plan.write_arrows.Goals as goal
 

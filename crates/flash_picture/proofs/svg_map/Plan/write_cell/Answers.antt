@@ -1,6 +1,5 @@
-use Rattle.std.proofs.Common.{◌∙◌, ◌++◌, ap, ap₂, append_assoc, codes, refl, sym}
-use Rattle.std.proofs.lemmas.Result.{on_ok_weaker}
-use Rattle.flash_picture.specs.Pieces.{beside, rectangle, words_begin}
+use Rattle.flash_picture.proofs.Common.{◌∙◌, ◌++◌, ap, ap₂, append_assoc, codes, refl, sym, on_ok_weaker, words_begin}
+use Rattle.flash_picture.specs.Pieces.{beside, rectangle}
 use Rattle.flash_picture.proofs.Texts.{then}
 use Rattle.flash_picture.proofs.svg_map.Plan.write_cell.Goals as goal
 

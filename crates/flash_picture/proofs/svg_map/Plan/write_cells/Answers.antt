@@ -1,4 +1,4 @@
-use Rattle.flash_picture.specs.Svg.{cell_svg}
+use Rattle.flash_picture.proofs.Common.{cell_svg}
 use Rattle.flash_picture.proofs.Texts.{text_more}
 use Rattle.flash_picture.proofs.svg_map.Plan.write_cells.Goals as goal
 

@@ -1,4 +1,4 @@
-use Rattle.flash_picture.specs.Svg.{die_heading}
+use Rattle.flash_picture.proofs.Common.{die_heading}
 use Rattle.flash_picture.proofs.Texts.{text_more}
 use Rattle.flash_picture.proofs.svg_map.Plan.write_dies.Goals as goal
 

@@ -1,6 +1,4 @@
-use Rattle.std.proofs.Common.{◌≡◌, ◌++◌}
-use Rattle.std.specs.List.{flat_map, range_with_len}
-use Rattle.flash_picture.specs.Svg.{die_heading}
+use Rattle.flash_picture.proofs.Common.{◌≡◌, ◌++◌, flat_map, range_with_len, die_heading}
 use Rattle.flash_picture.proofs.svg_map.Plan.write_dies.Given as goal
 
 abbrev pub invariant-loop-die : goal.invariant-loop-die

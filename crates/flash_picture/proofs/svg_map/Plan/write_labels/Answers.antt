@@ -1,4 +1,4 @@
-use Rattle.flash_picture.specs.Svg.{label_svg}
+use Rattle.flash_picture.proofs.Common.{label_svg}
 use Rattle.flash_picture.proofs.Texts.{text_more}
 use Rattle.flash_picture.proofs.svg_map.Plan.write_labels.Goals as goal
 

@@ -1,6 +1,4 @@
-use Rattle.std.proofs.Common.{◌≡◌, ◌++◌}
-use Rattle.std.specs.List.{flat_map, range_with_len}
-use Rattle.flash_picture.specs.Svg.{label_svg}
+use Rattle.flash_picture.proofs.Common.{◌≡◌, ◌++◌, flat_map, range_with_len, label_svg}
 use Rattle.flash_picture.proofs.svg_map.Plan.write_labels.Given as goal
 
 abbrev pub invariant-loop-block : goal.invariant-loop-block

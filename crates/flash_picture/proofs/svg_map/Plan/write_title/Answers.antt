@@ -1,5 +1,4 @@
-use Rattle.std.proofs.Common.{◌∙◌, ◌++◌, ap, append_assoc, codes, refl, sym}
-use Rattle.std.proofs.lemmas.Result.{on_ok_weaker}
+use Rattle.flash_picture.proofs.Common.{◌∙◌, ◌++◌, ap, append_assoc, codes, refl, sym, on_ok_weaker}
 use Rattle.flash_picture.specs.Svg.{links_text}
 use Rattle.flash_picture.proofs.Texts.{then}
 use Rattle.flash_picture.proofs.svg_map.Plan.write_title.Goals as goal

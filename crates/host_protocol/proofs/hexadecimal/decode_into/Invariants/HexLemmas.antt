@@ -1,9 +1,8 @@
 -- Digits that are read before they are judged.
-use Rattle.std.proofs.Common.{◌≡◌, ◌⊎◌, ℕ, ◌+◌, ◌*◌, ◌<◌, ◌≤◌, false, List, length, slice_index, Option, Some, None, Result, Ok, Err, refl, sym, ap, inl, inr}
-use Rattle.std.proofs.Common.{max, arith}
+use Rattle.host_protocol.proofs.Common.{◌≡◌, ◌⊎◌, ℕ, ◌+◌, ◌*◌, ◌<◌, ◌≤◌, false, List, length, slice_index, Option, Some, None, Result, Ok, Err, refl, sym, ap, inl, inr, arith, cases_lt}
+use Rattle.std.proofs.Common.{max}
 use Rattle.std.specs.Prelude.{IsErr, is_some}
 use Rattle.std.specs.Option.{unwrap_or}
-use Rattle.std.proofs.lemmas.Bool.{cases_lt}
 use Rattle.hex.specs.Hex.{decode_pairs, hex_digit_value, is_hex_digit, digit_or_error, pair_value}
 use Rattle.hex.specs.declared.error.FromHexError.{FromHexError}
 use Rattle.hex.proofs.HexLemmas.{decode_pairs-ok}

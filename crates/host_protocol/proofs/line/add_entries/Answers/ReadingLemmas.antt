@@ -1,11 +1,9 @@
 -- What reading the words of a line gives.
-use Rattle.std.proofs.Common.{◌≡◌, ℕ, ◌<◌, ◌≤◌, List, [], ◌∷◌, ◌++◌, length, map, Option, Some, None, sym, ap, ◌∙◌, append_assoc, length-append, arith}
+use Rattle.host_protocol.proofs.Common.{◌≡◌, ℕ, ◌<◌, ◌≤◌, List, [], ◌∷◌, ◌++◌, length, map, Option, Some, None, sym, ap, ◌∙◌, append_assoc, length-append, arith, LineError, Bad, Memory}
 use Rattle.std.proofs.lemmas.List.{length-map, map-append}
-use Rattle.list_facts.proofs.Lists.{none_among}
+use Rattle.list_lemmas.proofs.Lists.{none_among}
 use Rattle.tx_types.specs.Batch.{PageWrite}
 use Rattle.host_protocol.specs.Reading.{Fails}
-use Rattle.host_protocol.specs.declared.error.LineError.{LineError}
-use Rattle.host_protocol.specs.declared.error.LineError.TheVariants.{Bad, Memory}
 
 -- a bad part is none
 pub none_where_bad : {Y : Type 0} (e : LineError) (found : Option Y) → e ≡ Bad → Fails e found → found ≡ None

@@ -1,11 +1,7 @@
 -- What the code has read behind a header.
-use Rattle.std.proofs.Common.{◌≡◌, ℕ, ◌+◌, ◌-◌, ◌*◌, List, length, take, drop, slice_range, None, sym, ap, subst, ◌∙◌, arith}
-use Rattle.std.proofs.lemmas.List.{length-map, length-take, length-drop, take_all}
-use Rattle.tx_types.specs.Config.{slots_of, image_bytes}
-use Rattle.tx_types.specs.declared.config.Shape.{Shape}
-use Rattle.flash_model.specs.declared.flash.Seen.{Seen}
-use Rattle.mem_flash.specs.Slots.{cell_bytes, image_of, AreFilled}
-use Rattle.image_file.specs.Rules.{shape_in, states_in, cells_in, image_in, all_seen, wrong_state, wrong_bytes, broken_slots}
+use Rattle.image_file.proofs.Common.{◌≡◌, ℕ, ◌+◌, ◌-◌, ◌*◌, List, length, take, drop, slice_range, None, sym, ap, subst, ◌∙◌, arith, length-take, length-drop, take_all, slots_of, image_bytes, Shape, Seen, cell_bytes, shape_in, states_in, cells_in, image_in, all_seen, wrong_state, wrong_bytes, broken_slots}
+use Rattle.std.proofs.lemmas.List.{length-map}
+use Rattle.mem_flash.specs.Slots.{image_of, AreFilled}
 use Rattle.image_file.specs.States.{AreSlotsOf}
 use Rattle.image_file.proofs.SlotLemmas.{AreFilled-tested}
 use Rattle.image_file.proofs.RefusalLemmas.{broken-nothing}

@@ -1,15 +1,8 @@
 -- The parts of the image file of a device whose slots are all blank.
-use Rattle.std.proofs.Common.{◌≡◌, ℕ, zero, suc, ◌+◌, ◌-◌, ◌*◌, List, ◌∷◌, ◌++◌, map, length, take, replicate, refl, sym, ap, subst, ◌∙◌, arith, Ok}
-use Rattle.std.specs.List.{flat_map}
-use Rattle.std.proofs.lemmas.List.{replicate-append-replicate, length-append, length-replicate, get_or-replicate, take_all}
-use Rattle.tx_types.specs.Config.{checked, slots_of, image_bytes, IsShape}
-use Rattle.tx_types.specs.declared.config.Config.{Config}
-use Rattle.tx_types.specs.declared.config.Shape.{Shape}
-use Rattle.tx_types.proofs.ConfigLemmas.{checked_config}
+use Rattle.image_file.proofs.Common.{◌≡◌, ℕ, zero, suc, ◌+◌, ◌-◌, ◌*◌, List, ◌∷◌, ◌++◌, map, length, take, replicate, refl, sym, ap, subst, ◌∙◌, arith, Ok, flat_map, length-append, take_all, checked, slots_of, image_bytes, Config, Shape, checked_config, seen_of, cell_bytes, cell_of, state_byte}
+use Rattle.std.proofs.lemmas.List.{replicate-append-replicate, length-replicate, get_or-replicate}
+use Rattle.tx_types.specs.Config.{IsShape}
 use Rattle.flash_model.specs.Flash.{blank, IsImage}
-use Rattle.flash_model.specs.Calls.{seen_of}
-use Rattle.mem_flash.specs.Slots.{cell_bytes, cell_of}
-use Rattle.image_file.specs.Spelling.{state_byte}
 
 pub states-blank : (count : ℕ) → map (λ slot. state_byte (seen_of slot)) (replicate count blank) ≡ replicate count 0
 states-blank zero = refl

@@ -1,6 +1,4 @@
-use Rattle.std.proofs.Common.{sym, subst, arith}
-use Rattle.std.proofs.lemmas.List.{with_items_is}
-use Rattle.mem_flash.specs.Registers.{AreRegisters}
+use Rattle.mem_flash.proofs.Common.{sym, subst, arith, with_items_is, AreRegisters}
 use Rattle.mem_flash.proofs.firing.MemFlashWide.clear.Goals as goal
 
 pub invariant_of-self : goal.invariant_of-self

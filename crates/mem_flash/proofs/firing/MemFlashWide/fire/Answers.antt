@@ -1,7 +1,5 @@
 mod Fires
-use Rattle.std.proofs.Common.{◌≡◌, length, replicate, map, None, sym, ap, ◌∙◌}
-use Rattle.std.proofs.lemmas.List.{length-map}
-use Rattle.mem_flash.specs.Registers.{load_in, loads_of}
+use Rattle.mem_flash.proofs.Common.{◌≡◌, length, replicate, map, None, sym, ap, ◌∙◌, length-map, load_in, loads_of}
 use Rattle.mem_flash.proofs.firing.MemFlashWide.fire.Answers.Fires.{operates_started}
 use Rattle.mem_flash.proofs.Loaded.{none_in}
 use Rattle.mem_flash.proofs.firing.MemFlashWide.fire.Goals as goal

@@ -1,9 +1,7 @@
-use Rattle.std.proofs.Common.{List, map, set, Option, ap, ap₂, ◌∙◌}
-use Rattle.std.proofs.lemmas.List.{map-set, length-map, length-set}
-use Rattle.tx_types.specs.declared.config.Shape.{Shape}
-use Rattle.flash_model.specs.Operations.{Load, die_of}
-use Rattle.mem_flash.specs.Registers.{load_in}
-use Rattle.mem_flash.specs.Standing.{memory_of}
+use Rattle.mem_flash.proofs.Common.{List, map, set, Option, ap, ap₂, ◌∙◌, length-map, length-set, Shape, Load, load_in}
+use Rattle.std.proofs.lemmas.List.{map-set}
+use Rattle.flash_model.specs.Operations.{die_of}
+use Rattle.mem_flash.specs.MemFlash.{memory_of}
 use Rattle.mem_flash.proofs.firing.MemFlashWide.load.Goals as goal
 
 pub returns : goal.returns

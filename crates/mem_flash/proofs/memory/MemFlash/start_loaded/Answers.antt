@@ -1,10 +1,6 @@
-use Rattle.std.proofs.Common.{◌≡◌, List, length, ap, sym, subst, arith}
+use Rattle.mem_flash.proofs.Common.{◌≡◌, List, length, ap, sym, subst, arith, with_items_is, Shape, AreRegisters, SlotsState}
 use Rattle.std.specs.Prelude.{Vec}
 use Rattle.std.specs.Vec.{with_items}
-use Rattle.std.proofs.lemmas.List.{with_items_is}
-use Rattle.tx_types.specs.declared.config.Shape.{Shape}
-use Rattle.mem_flash.specs.Registers.{AreRegisters}
-use Rattle.mem_flash.specs.Slots.{SlotImage}
 use Rattle.mem_flash.specs.declared.registers.Register.{Register}
 use Rattle.mem_flash.proofs.memory.MemFlash.start_loaded.Goals as goal
 
@@ -18,7 +14,7 @@ pub invariant_of-self : goal.invariant_of-self
 invariant_of-self c = record {
   registers =
       still c.self.inside.registers c.clear.new.registers c.self.inside.slots.shape c.write_loaded.new.slots.shape
-      (ap (λ (s : SlotImage). s.shape) c.write_loaded.ensures) (omega arith)
+      (ap (λ (s : SlotsState). s.shape) c.write_loaded.ensures) (omega arith)
       (c.clear.ensures.room c.self.inside.slots.shape
       (subst (AreRegisters c.self.inside.slots.shape) (sym c.deref_mut.ensures.value) c.self.invariant.registers));
   within = c.self.invariant.within;
@@ -29,7 +25,7 @@ pub invariant_of-self-2 : goal.invariant_of-self-2
 invariant_of-self-2 c = record {
   registers =
       still c.self.inside.registers c.clear.new.registers c.self.inside.slots.shape c.write_loaded.new.slots.shape
-      (ap (λ (s : SlotImage). s.shape) c.write_loaded.ensures) (omega arith)
+      (ap (λ (s : SlotsState). s.shape) c.write_loaded.ensures) (omega arith)
       (c.clear.ensures.room c.self.inside.slots.shape
       (subst (AreRegisters c.self.inside.slots.shape) (sym c.deref_mut.ensures.value) c.self.invariant.registers));
   within = c.self.invariant.within;

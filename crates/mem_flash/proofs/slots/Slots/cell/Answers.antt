@@ -1,4 +1,4 @@
-use Rattle.std.proofs.Common.{arith}
+use Rattle.mem_flash.proofs.Common.{arith}
 use Rattle.mem_flash.proofs.Kept.{cell_within, cell_of-slot}
 use Rattle.mem_flash.proofs.slots.Slots.cell.Goals as goal
 

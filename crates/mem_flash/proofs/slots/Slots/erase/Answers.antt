@@ -1,4 +1,4 @@
-use Rattle.std.proofs.Common.{arith}
+use Rattle.mem_flash.proofs.Common.{arith}
 use Rattle.flash_model.proofs.ImageLemmas.{block_within}
 use Rattle.mem_flash.proofs.slots.Slots.erase.Goals as goal
 

@@ -1,7 +1,4 @@
-use Rattle.std.proofs.Common.{List, ap, refl, arith}
-use Rattle.std.proofs.lemmas.List.{with_items_is}
-use Rattle.flash_model.specs.Flash.{Contents}
-use Rattle.mem_flash.specs.Slots.{SlotImage}
+use Rattle.mem_flash.proofs.Common.{List, ap, refl, arith, with_items_is, Contents, SlotsState}
 use Rattle.mem_flash.proofs.Kept.{IsImage-stored, cells_within, AreStored-filled, image-filled}
 use Rattle.mem_flash.proofs.slots.Slots.fill.Goals as goal
 
@@ -26,6 +23,6 @@ returns-clause-filled c =
     let exist = rw (← c.self.view_is) at c.requires.exist in
     let marked = with_items_is c.self.inside.seen c.mark.new.states (omega arith) in
     let filled = with_items_is c.self.inside.bytes c.fill_cells.new.cells (omega arith) in
-    let slots : List Contents → SlotImage = λ image. record { shape = c.self.inside.shape; image = image } in
+    let slots : List Contents → SlotsState = λ image. record { shape = c.self.inside.shape; image = image } in
     rw (← c.self.view_is)
     (ap slots (image-filled c.self.inside c.self.invariant c.args.first c.args.count c.args.how exist c.requires.bare _ _ (cc) (cc)))

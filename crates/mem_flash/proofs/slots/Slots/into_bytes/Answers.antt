@@ -1,5 +1,5 @@
-use Rattle.std.proofs.Common.{◌≡◌, ◌-◌, length, take, drop, sym, arith}
-use Rattle.std.proofs.lemmas.List.{take_all, length-drop}
+use Rattle.mem_flash.proofs.Common.{◌≡◌, ◌-◌, length, take, drop, sym, arith, length-drop}
+use Rattle.std.proofs.lemmas.List.{take_all}
 use Rattle.mem_flash.proofs.Kept.{flat-cells}
 use Rattle.mem_flash.proofs.slots.Slots.into_bytes.Goals as goal
 

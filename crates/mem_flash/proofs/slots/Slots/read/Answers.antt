@@ -1,4 +1,4 @@
-use Rattle.std.proofs.Common.{arith, rules}
+use Rattle.mem_flash.proofs.Common.{arith, rules}
 use Rattle.mem_flash.proofs.Kept.{cell_within, seen_of-slot, page_of-slot, spare_area_of-slot}
 use Rattle.mem_flash.proofs.slots.Slots.read.Goals as goal
 

@@ -1,7 +1,4 @@
-use Rattle.std.proofs.Common.{List, ap, refl, arith, rules}
-use Rattle.std.proofs.lemmas.List.{with_items_is}
-use Rattle.flash_model.specs.Flash.{Contents}
-use Rattle.mem_flash.specs.Slots.{SlotImage}
+use Rattle.mem_flash.proofs.Common.{List, ap, refl, arith, rules, with_items_is, Contents, SlotsState}
 use Rattle.mem_flash.proofs.Kept.{AreStored-programmed, image-programmed}
 use Rattle.mem_flash.proofs.slots.Slots.write.Goals as goal
 
@@ -18,7 +15,7 @@ returns c =
     let below = rw (← c.self.view_is) at c.requires.exists in
     let page = rw (← c.self.view_is) at c.requires.page in
     let written = with_items_is c.self.inside.bytes c.write_cell.new.cells (omega arith) in
-    let slots : List Contents → SlotImage = λ image. record { shape = c.self.inside.shape; image = image } in
+    let slots : List Contents → SlotsState = λ image. record { shape = c.self.inside.shape; image = image } in
     rw (← c.self.view_is)
     (ap slots (image-programmed c.self.inside c.self.invariant c.args.at c.args.bytes.now c.args.spare_area.now below page (omega arith)
     _ _ (search rules) (cc)))

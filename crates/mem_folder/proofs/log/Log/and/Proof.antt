@@ -1,8 +1,7 @@
 -- `and` makes the empty struct, with the items that its clause names.
-use Rattle.std.proofs.Common.{List, [], ◌∷◌, ◌++◌, refl}
-use seplogic.Ra.Ura.{Ura}
+use Rattle.mem_folder.proofs.Common.{List, [], ◌∷◌, ◌++◌, refl, Ura, Val, Logic, ‵, ◌$◌, move, fjoin, RattleType, nothing}
 use mir.Syntax.{Fn, Args, a_type}
-use mir.Val.{Val, vptr}
+use mir.Val.{vptr}
 use mir.MapTy.{inst_fn}
 use base.Logic.{SProp, ent}
 use prog.Memory.{Memory}
@@ -11,18 +10,17 @@ use prog.Wp.{Calls, Loops, WpFn, Tables}
 use contract.Monad.{Fun}
 use contract.Running.{tables, tables_of}
 use sound.WpLaws.{WpFn-mono}
-use types.Logic.{Logic}
-use types.Kit.{‵, raw, ◌⊛◌, prop, ◌$◌, ◌∵◌, !, qed, move, keep, drop, split, fsplit, fjoin, feq_l, regoal, suffices, done}
+use types.Kit.{raw, ◌⊛◌, prop, ◌∵◌, !, qed, keep, drop, split, fsplit, feq_l, regoal, suffices, done}
 use types.Part.{agg}
 use types.Run.{enter, returns, and_then, no_more}
 use types.ByLocal.{alloc_all, pass_all, free_all, look_at, get, sets}
 use denote.Exit.{yes}
-use denote.RattleType.{RattleType, owns}
+use denote.RattleType.{owns}
 use denote.Builtin.{RefOf}
 use denote.Laws.{Is}
 use denote.Param.{param, layouts}
 use denote.Signature.{plain, types_at}
-use denote.Steps.{nothing, owned}
+use denote.Steps.{owned}
 use denote.Struct.Laws.{makes}
 use denote.Triple.Clauses.{Clauses, Ended, closing}
 use denote.Triple.Entry.{alive}

@@ -1,8 +1,6 @@
 -- `new` makes the empty struct, with the items that its clause names.
-use Rattle.std.proofs.Common.{[], ◌∷◌, refl}
-use seplogic.Ra.Ura.{Ura}
+use Rattle.mem_folder.proofs.Common.{[], ◌∷◌, refl, Ura, Val, Logic, ‵, ◌$◌, move, fjoin, RattleType, nothing}
 use mir.Syntax.{Fn, Args, a_type}
-use mir.Val.{Val}
 use mir.MapTy.{inst_fn}
 use base.Logic.{SProp, ent}
 use prog.Memory.{Memory}
@@ -11,16 +9,15 @@ use prog.Wp.{Calls, Loops, WpFn, Tables}
 use contract.Monad.{Fun}
 use contract.Running.{tables, tables_of}
 use sound.WpLaws.{WpFn-mono}
-use types.Logic.{Logic}
-use types.Kit.{‵, raw, ◌⊛◌, ◌$◌, ◌∵◌, !, qed, move, keep, split, fjoin, suffices, done}
+use types.Kit.{raw, ◌⊛◌, ◌∵◌, !, qed, keep, split, suffices, done}
 use types.Part.{agg}
 use types.Run.{enter, returns, and_then, no_more}
 use types.ByLocal.{alloc_all, pass_all, free_all, look_at, get, sets}
-use denote.RattleType.{RattleType, owns}
+use denote.RattleType.{owns}
 use denote.Laws.{Is}
 use denote.Param.{param, layouts}
 use denote.Signature.{types_at}
-use denote.Steps.{nothing, owned}
+use denote.Steps.{owned}
 use denote.Struct.Laws.{makes}
 use denote.Triple.Clauses.{Clauses, Ended, closing}
 use denote.Triple.Entry.{alive}

@@ -1,25 +1,14 @@
 -- Opening a store over a flash on which power was turned on.
-use Rattle.std.proofs.Common.{◌≡◌, ℕ, ◌≤◌, Bool, true, false, List, Ok, sym, ap, subst, ◌∙◌}
-use Rattle.tx_types.specs.Config.{checked, shape_of}
-use Rattle.tx_types.specs.declared.config.Config.{Config}
-use Rattle.tx_types.specs.declared.config.Protocol.{Protocol}
-use Rattle.tx_types.specs.declared.config.Shape.{Shape}
+use Rattle.page_keys.proofs.Common.{◌≡◌, ℕ, ◌≤◌, Bool, true, false, List, Ok, sym, ap, subst, ◌∙◌, checked, shape_of, Config, Protocol, Shape, BothTell, Carries, NoMoreToCome, Spends, FlashState, Contents, Moment, moment_of, Carries-then, IsSoundImage, array_in, IndexState, HoldsAlways, ArrayState, Pages, idle, DeviceState, Ends, HasKeys, KeyStoreState, OnlyReads}
 use Rattle.flash_model.specs.Arms.{TurnsOn}
-use Rattle.flash_model.specs.Calls.{BothTell, Carries, NoMoreToCome, Rose, Spends}
-use Rattle.flash_model.specs.Flash.{FlashState, Contents}
-use Rattle.flash_model.specs.Operations.{Moment, moment_of}
-use Rattle.flash_model.proofs.CallLemmas.{Carries-then}
+use Rattle.flash_model.specs.Calls.{Rose}
 use Rattle.record_list.specs.Records.{mention}
-use Rattle.version_index.specs.Images.{IsSoundImage, array_in, records_in}
-use Rattle.version_index.specs.Noted.{Noted}
-use Rattle.tx_engine.proofs.OfStanding.Seen.{opened_seen}
-use Rattle.tx_engine.specs.Always.{HoldsAlways}
-use Rattle.tx_engine.specs.ArrayState.{ArrayState, Pages, idle}
+use Rattle.version_index.specs.Images.{records_in}
+use Rattle.tx_engine.proofs.OfDevice.Seen.{opened_seen}
 use Rattle.tx_engine.specs.Opens as engine
-use Rattle.tx_engine.specs.Standing.{Standing}
 use Rattle.tx_engine.specs.declared.mount.MountError.TheVariants as mount
-use Rattle.page_keys.specs.KeySessions.{Ends, MeetsFault, MomentStays, Opens, StaysQuiet}
-use Rattle.page_keys.specs.Stores.{HasKeys, IsFirstBad, Keyed, OnlyReads}
+use Rattle.page_keys.specs.KeySessions.{MeetsFault, MomentStays, Opens, StaysQuiet}
+use Rattle.page_keys.specs.Stores.{IsFirstBad}
 use Rattle.page_keys.specs.declared.key_error.KeyServeError.TheVariants as failed
 
 -- a call on the powered flash that leaves its moment
@@ -53,28 +42,28 @@ module _ {F : Type 0} (state : F → FlashState) (its : Config) (old on : F)
   same_image : (state on).image ≡ (state old).image
   same_image = ap (λ (s : FlashState). s.image) turned
 
-  module _ (s : Standing F) (mounts : engine.Mounts state on its s) where
+  module _ (s : DeviceState F) (mounts : engine.Mounts state on its s) where
     -- the store is not opened
-    read_on : (t : Standing F) (broken : Bool) → OnlyReads state s t broken →
+    read_on : (t : DeviceState F) (broken : Bool) → OnlyReads state s t broken →
         Carries (state on) (state t.flash) broken
     read_on t broken reads = Carries-then _ _ _ broken mounts.carries reads.carries
 
-    pub not_opened_fault : (t : Standing F) → OnlyReads state s t true →
+    pub not_opened_fault : (t : DeviceState F) → OnlyReads state s t true →
         MeetsFault (state old) (state t.flash)
     not_opened_fault t reads =
         fault_of (state old) (state on) (state t.flash) turned (reads.moment ∙ mounts.moment)
         (read_on t true reads)
 
-    read_quiet : (t : Standing F) → OnlyReads state s t false → StaysQuiet (state old) (state t.flash)
+    read_quiet : (t : DeviceState F) → OnlyReads state s t false → StaysQuiet (state old) (state t.flash)
     read_quiet t reads =
         quiet_of (state old) (state on) (state t.flash) turned (reads.moment ∙ mounts.moment)
         (read_on t false reads)
 
-    pub not_opened_memory : (t : Standing F) → OnlyReads state s t false →
+    pub not_opened_memory : (t : DeviceState F) → OnlyReads state s t false →
         Ends its (state old) (state t.flash) failed.Memory
     not_opened_memory t reads = record { cause = tt; still = read_quiet t reads }
 
-    pub not_opened_bucket : (protocol : Protocol) (t : Standing F) (page : ℕ) →
+    pub not_opened_bucket : (protocol : Protocol) (t : DeviceState F) (page : ℕ) →
         HoldsAlways state protocol s → IsFirstBad s.config s.machine.pages page →
         OnlyReads state s t false → Ends its (state old) (state t.flash) (failed.Bucket page)
     not_opened_bucket protocol t page always bad reads =
@@ -96,14 +85,14 @@ module _ {F : Type 0} (state : F → FlashState) (its : Config) (old on : F)
         }
 
     -- the store is opened
-    pub opened : (protocol : Protocol) (k : Keyed F) → its.protocol ≡ protocol →
+    pub opened : (protocol : Protocol) (k : KeyStoreState F) → its.protocol ≡ protocol →
         checked its ≡ Ok (state old).shape → HasKeys k.device × (k.broken ≡ false) →
         OnlyReads state s k.device false → HoldsAlways state protocol k.device →
         Opens state its old k
     opened protocol k rule check keys reads always =
         let quiet = read_quiet k.device reads in
         let config : k.device.config ≡ its =
-        ap (λ (t : Standing F). t.config) reads.stays ∙ mounts.config in
+        ap (λ (t : DeviceState F). t.config) reads.stays ∙ mounts.config in
         record {
           fits = record {
             usable = keys.1;
@@ -113,13 +102,13 @@ module _ {F : Type 0} (state : F → FlashState) (its : Config) (old on : F)
             keys = keys.0;
             always = subst (λ (p : Protocol). HoldsAlways state p k.device) (sym rule) always;
           };
-          machine = ap (λ (t : Standing F). t.machine) reads.stays ∙ mounts.machine
+          machine = ap (λ (t : DeviceState F). t.machine) reads.stays ∙ mounts.machine
               ∙ ap (λ (x : List Contents). idle (array_in its.protocol its.logical x)) same_image;
           seen = λ seen most.
               opened_seen seen (records_in its.protocol (state on).image) its.logical k.device
-              (ap (λ (t : Standing F). t.noted.mentions) reads.stays
-              ∙ ap (λ (n : Noted). n.mentions) mounts.tables.noted_is)
-              (ap (λ (t : Standing F). t.namings) reads.stays ∙ mounts.namings)
+              (ap (λ (t : DeviceState F). t.noted.mentions) reads.stays
+              ∙ ap (λ (n : IndexState). n.mentions) mounts.tables.noted_is)
+              (ap (λ (t : DeviceState F). t.namings) reads.stays ∙ mounts.namings)
               (λ page ge. always.beyond page
               (subst (λ (c : Config). c.logical ≤ page) (sym config) ge))
               (λ page lt. subst (λ (x : List Contents).

@@ -1,23 +1,10 @@
 -- A put whose keys differ: what it puts in a page is all there in the end.
-use Rattle.std.proofs.Common.{◌≡◌, ℕ, ◌+◌, ◌≤◌, Bool, true, false, not, ◌||◌, cond, List, [], ◌∷◌, ◌++◌, length, filter, Option, Some, None, refl, sym, ap}
-use Rattle.std.proofs.Common.{subst, ◌∙◌, arith}
-use Rattle.std.specs.Prelude.{count_by, is_some}
-use Rattle.std.specs.List.{list_any, AllByRecursion}
-use Rattle.std.specs.Ordering.{eq_by_cmp, is_eq}
-use Rattle.std.specs.Str.{bytes_eq}
-use Rattle.std.specs.declared.cmp.Ordering.{Ordering}
-use Rattle.std.specs.declared.cmp.Ordering.TheVariants.{Less, Equal, Greater}
+use Rattle.page_keys.proofs.Common.{◌≡◌, ℕ, ◌+◌, ◌≤◌, Bool, true, false, not, ◌||◌, cond, List, [], ◌∷◌, ◌++◌, length, filter, Option, Some, None, refl, sym, ap, subst, ◌∙◌, arith, count_by, list_any, AllByRecursion, eq_by_cmp, is_eq, bytes_eq, Ordering, Less, Equal, Greater, list_any-append, with_pair, changed, puts_value, KeyMap, Pair, key_order, apply, part, is_in, of_page, has_key, repeated, PutError, Change}
+use Rattle.std.specs.Prelude.{is_some}
 use Rattle.std.specs.FinMap as keys
 use Rattle.std.specs.FinMap.Entries as sorted
-use Rattle.std.proofs.lemmas.List.Folds.{list_any-append}
 use Rattle.std.proofs.lemmas.List.Sums.{length-filter}
 use Rattle.std.proofs.lemmas.Map.Text.{is_eq-slice_cmp}
-use Rattle.page_keys.specs.Entries.{with_pair, changed}
-use Rattle.page_keys.specs.Groups.{puts_value}
-use Rattle.page_keys.specs.KeyMaps.{KeyMap, Pair, key_order, after, part, is_in, of_page}
-use Rattle.page_keys.specs.Puts.{has_key, repeated}
-use Rattle.page_keys.specs.declared.answers.PutError.{PutError}
-use Rattle.page_keys.specs.declared.changes.Change.{Change}
 use Rattle.page_keys.proofs.OfBucket.BucketChanges.{all_filtered}
 use Rattle.page_keys.proofs.OfBucket.EntryLists.{turned}
 use Rattle.page_keys.proofs.OfBucket.Parts.{entries_change, only_equal}
@@ -192,7 +179,7 @@ differ_filtered p (c ∷ cs) differ =
 
 -- a page has at least the values that a put of different keys puts in it
 pub puts_most : (logical page : ℕ) (m : KeyMap) (cs : List Change) → repeated [] cs ≡ None →
-    count_by puts_value (of_page logical page cs) ≤ length (keys.entries (part logical page (after m cs)))
+    count_by puts_value (of_page logical page cs) ≤ length (keys.entries (part logical page (apply m cs)))
 puts_most logical page m cs none =
     let differ = differ_filtered (λ c. is_in logical page c.key) cs (differ_from [] cs none) in
     let least = kept_and_put (of_page logical page cs) differ (keys.entries (part logical page m)) in

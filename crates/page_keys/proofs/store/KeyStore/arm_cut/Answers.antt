@@ -1,5 +1,4 @@
-use Rattle.std.proofs.Common.{ap, sym, ◌∙◌}
-use Rattle.tx_engine.specs.Standing.{Standing}
+use Rattle.page_keys.proofs.Common.{ap, sym, ◌∙◌, DeviceState}
 use Rattle.page_keys.proofs.OfStore.StoreReads.{keeps_keys}
 use Rattle.page_keys.proofs.store.KeyStore.arm_cut.Goals as goal
 
@@ -7,9 +6,9 @@ pub invariant_of-self : goal.invariant_of-self
 invariant_of-self g c =
     let stays = c.arm_cut.ensures.stays in
     record {
-      kept = ap (λ (s : Standing g.row.F.Denot). s.dropped) stays ∙ c.self.invariant.kept;
+      kept = ap (λ (s : DeviceState g.row.F.Denot). s.dropped) stays ∙ c.self.invariant.kept;
       room = c.self.invariant.room
-          ∙ sym (ap (λ (s : Standing g.row.F.Denot). s.config.page_bytes) stays);
+          ∙ sym (ap (λ (s : DeviceState g.row.F.Denot). s.config.page_bytes) stays);
       keys = λ usable. keeps_keys c.self.inside.device c.arm_cut.new.self stays
           (c.self.invariant.keys usable);
     }

@@ -1,13 +1,8 @@
-use Rattle.std.proofs.Common.{◌≡◌, ◌<◌, ℕ, List, length, Option, refl, ap, sym, subst, ◌∙◌}
-use Rattle.tx_types.specs.declared.config.Config.{Config}
-use Rattle.tx_engine.specs.Standing.{Standing}
-use Rattle.page_keys.specs.Buckets.{ShowsMap}
+use Rattle.page_keys.proofs.Common.{◌≡◌, ◌<◌, ℕ, List, length, Option, refl, ap, sym, subst, ◌∙◌, Config, DeviceState, EncodesMap, part, bucket_of, KeyStoreState}
 use Rattle.std.specs.FinMap as keys
-use Rattle.page_keys.specs.KeyMaps.{part, bucket_of}
 use Rattle.page_keys.specs.Entries.{GivesValue}
 use Rattle.page_keys.proofs.OfBucket.EntryLists.{in_page}
 use Rattle.page_keys.proofs.OfBucket.Parts.{get_in_part}
-use Rattle.page_keys.specs.Stores.{Keyed}
 use Rattle.page_keys.proofs.OfStore.StoreReads.{keeps_keys, room_is, holds_read}
 use Rattle.page_keys.proofs.store.KeyStore.get.Goals as goal
 
@@ -17,10 +12,10 @@ invariant_of-self g c =
     let size : length c.read_page.new.room ≡ length c.self.inside.room.items =
     c.read_page.auto.room ∙ ap length c.deref_mut.ensures.value in
     record {
-      kept = ap (λ (s : Standing g.row.F.Denot). s.dropped) reads.stays ∙ c.self.invariant.kept;
+      kept = ap (λ (s : DeviceState g.row.F.Denot). s.dropped) reads.stays ∙ c.self.invariant.kept;
       room = ap length (room_is c.self.inside.room c.read_page.new.room size) ∙ size
           ∙ c.self.invariant.room
-          ∙ sym (ap (λ (s : Standing g.row.F.Denot). s.config.page_bytes) reads.stays);
+          ∙ sym (ap (λ (s : DeviceState g.row.F.Denot). s.config.page_bytes) reads.stays);
       keys = λ usable. keeps_keys c.self.inside.device c.read_page.new.device reads.stays
           (c.self.invariant.keys usable);
     }
@@ -31,8 +26,8 @@ value_in-requires g c =
     let size : length c.read_page.new.room ≡ length room.items =
     c.read_page.auto.room ∙ ap length c.deref_mut.ensures.value in
     let same = c.deref.ensures.value ∙ room_is room c.read_page.new.room size in
-    let usable = ap (λ (k : Keyed g.row.F.Denot). k.broken) c.self.view_is ∙ c.requires in
-    let exists = subst (λ (x : Config). c.bucket-page.result < x.logical) c.held_always.ensures.config
+    let usable = ap (λ (k : KeyStoreState g.row.F.Denot). k.broken) c.self.view_is ∙ c.requires in
+    let exists = subst (λ (x : Config). c.bucket-page.result < x.logical) c.device_facts.ensures.config
     c.bucket-page.ensures.exists in
     let found = (c.self.invariant.keys usable).buckets c.bucket-page.result exists in (
       found.0,
@@ -47,10 +42,10 @@ invariant_of-self-2 g c =
     let size : length c.read_page.new.room ≡ length c.self.inside.room.items =
     c.read_page.auto.room ∙ ap length c.deref_mut.ensures.value in
     record {
-      kept = ap (λ (s : Standing g.row.F.Denot). s.dropped) reads.stays ∙ c.self.invariant.kept;
+      kept = ap (λ (s : DeviceState g.row.F.Denot). s.dropped) reads.stays ∙ c.self.invariant.kept;
       room = ap length (room_is c.self.inside.room c.read_page.new.room size) ∙ size
           ∙ c.self.invariant.room
-          ∙ sym (ap (λ (s : Standing g.row.F.Denot). s.config.page_bytes) reads.stays);
+          ∙ sym (ap (λ (s : DeviceState g.row.F.Denot). s.config.page_bytes) reads.stays);
       keys = λ usable. keeps_keys c.self.inside.device c.read_page.new.device reads.stays
           (c.self.invariant.keys usable);
     }
@@ -63,10 +58,10 @@ returns-clause-gives g c m shows =
     let same = c.deref.ensures.value ∙ room_is room c.read_page.new.room size in
     let s = c.self.inside.device in
     let page = c.bucket-page.result in
-    let config = c.held_always.ensures.config in
+    let config = c.device_facts.ensures.config in
     let exists = subst (λ (x : Config). page < x.logical) config c.bucket-page.ensures.exists in
-    let its = subst (λ (k : Keyed g.row.F.Denot).
-    ShowsMap k.device.config k.device.machine.pages m) (sym c.self.view_is) shows in
+    let its = subst (λ (k : KeyStoreState g.row.F.Denot).
+    EncodesMap k.device.config k.device.machine.pages m) (sym c.self.view_is) shows in
     let pairs = keys.entries (part s.config.logical page m) in
     let hashed = subst (λ (x : Config). page ≡ bucket_of x.logical c.args.key.now) config
     c.bucket-page.ensures.bucket in

@@ -1,6 +1,4 @@
-use Rattle.std.proofs.Common.{◌≡◌, length, refl, ap, sym, ◌∙◌}
-use Rattle.tx_types.specs.declared.config.Config.{Config}
-use Rattle.tx_engine.specs.Standing.{Standing}
+use Rattle.page_keys.proofs.Common.{◌≡◌, length, refl, ap, sym, ◌∙◌, Config, DeviceState}
 use Rattle.page_keys.proofs.OfStore.StoreReads.{keeps_keys, room_is}
 use Rattle.page_keys.proofs.store.KeyStore.over.Goals as goal
 
@@ -10,11 +8,11 @@ invariant_of-result g c =
     let size : length c.check_all.new.room ≡ length c.in-Ok.room.items =
     c.check_all.auto.room ∙ ap length c.deref_mut.ensures.value in
     record {
-      kept = ap (λ (s : Standing g.row.F.Denot). s.dropped) reads.stays ∙ c.requires.kept;
+      kept = ap (λ (s : DeviceState g.row.F.Denot). s.dropped) reads.stays ∙ c.requires.kept;
       room = ap length (room_is c.in-Ok.room c.check_all.new.room size) ∙ size
           ∙ sym c.in-Ok.room.ok.0 ∙ c.in-Ok.ensures.len
-          ∙ ap (λ (x : Config). x.page_bytes) c.held_always-page_bytes.ensures.config
-          ∙ sym (ap (λ (s : Standing g.row.F.Denot). s.config.page_bytes) reads.stays);
+          ∙ ap (λ (x : Config). x.page_bytes) c.device_facts-page_bytes.ensures.config
+          ∙ sym (ap (λ (s : DeviceState g.row.F.Denot). s.config.page_bytes) reads.stays);
       keys = λ usable. keeps_keys c.args.device c.check_all.new.device reads.stays
           (record { closed = c.requires.closed; buckets = c.in-Ok-check_all.ensures.ok });
     }

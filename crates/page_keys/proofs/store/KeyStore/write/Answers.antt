@@ -1,9 +1,5 @@
 mod StoreWrites
-use Rattle.std.proofs.Common.{ap, sym, subst, ◌∙◌}
-use Rattle.tx_engine.specs.ArrayState.{put}
-use Rattle.page_keys.specs.Buckets.{AreBuckets}
-use Rattle.page_keys.specs.Stores.{HasKeys, Keyed}
-use Rattle.tx_types.specs.declared.config.Config.{Config}
+use Rattle.page_keys.proofs.Common.{ap, sym, subst, ◌∙◌, put, AreBuckets, HasKeys, KeyStoreState, Config}
 use Rattle.page_keys.proofs.store.KeyStore.write.Answers.StoreWrites.{has_after, has_not, config_not}
 use Rattle.page_keys.proofs.store.KeyStore.write.Goals as goal
 
@@ -16,7 +12,7 @@ invariant_of-self g c =
       room = c.self.invariant.room ∙ sym (ap (λ (x : Config). x.page_bytes) written.moved.config);
       keys = λ usable. has_after g.F.Flash.state s c.write.new.device c.args.batch.now.entries
           written
-          (subst (λ (k : Keyed g.row.F.Denot).
+          (subst (λ (k : KeyStoreState g.row.F.Denot).
           AreBuckets k.device.config (put k.device.machine.pages c.args.batch.now.entries))
           (sym c.self.view_is) c.requires.keys);
     }
@@ -31,6 +27,6 @@ invariant_of-self-in-Err g c =
           (config_not g.F.Flash.state s c.write.new.device c.args.batch.now.entries c.in-Err.e not));
       keys = λ usable. has_not g.F.Flash.state s c.write.new.device c.args.batch.now.entries
           c.in-Err.e not
-          (subst (λ (k : Keyed g.row.F.Denot). HasKeys k.device) (sym c.self.view_is)
+          (subst (λ (k : KeyStoreState g.row.F.Denot). HasKeys k.device) (sym c.self.view_is)
           c.requires.buckets) (sym c.is_fault-self-inside.ensures ∙ usable);
     }

@@ -1,14 +1,10 @@
 -- The steps of the one transaction that is open.
-use Rattle.std.proofs.Common.{◌≡◌, ◌⊎◌, ℕ, zero, suc, ◌+◌, ◌<◌, get_or, Bool, true, false, List, [], ◌∷◌, length, Ok, Err, refl, sym, ap, subst, ◌∙◌, inl, inr}
-use Rattle.std.proofs.Common.{arith}
-use Rattle.tx_types.specs.Batch.{PageWrite}
-use Rattle.tx_engine.specs.ArrayState.{ArrayState, Entry, Pages, StandsFor, put, idle}
-use Rattle.tx_engine.specs.Step.{StepsAs}
+use Rattle.page_keys.proofs.Common.{◌≡◌, ◌⊎◌, ℕ, zero, suc, ◌+◌, ◌<◌, get_or, Bool, true, false, List, [], ◌∷◌, length, Ok, Err, refl, sym, ap, subst, ◌∙◌, inl, inr, arith, PageWrite, ArrayState, Pages, Represents, put, idle, StepsAs, writing}
+use Rattle.tx_engine.specs.ArrayState.{Entry}
 use Rattle.array_machine.specs.declared.mark.Mark.{Mark}
 use Rattle.array_machine.specs.declared.mark.Mark.TheVariants.{Plain, Doubt, Whole}
 use Rattle.array_machine.specs.declared.answers.Progress.TheVariants as progress
 use Rattle.array_machine.specs.declared.answers.StepError.TheVariants as failed
-use Rattle.page_keys.specs.Writing.{writing}
 
 module _ (array : Pages) (writes : List PageWrite) (done : ℕ) (new : ArrayState) where
   pub wrote : (there : Bool) (k all : ℕ) →
@@ -40,7 +36,7 @@ only_one e x zero within is = is
 only_one e x (suc k) within is = absurd (omega arith)
 
 stands_single : (array arr : Pages) (e : Entry) →
-    StandsFor (record { pages = array; entries = e ∷ [] }) arr →
+    Represents (record { pages = array; entries = e ∷ [] }) arr →
     (arr ≡ array) ⊎ (arr ≡ put array e.writes)
 stands_single array arr e (inl h) = inl h
 stands_single array arr e (inr h) =
@@ -48,13 +44,13 @@ stands_single array arr e (inr h) =
     inr (h.3 ∙ ap (λ (x : Entry). put array x.writes) (sym same))
 
 module _ (array : Pages) (writes : List PageWrite) (done : ℕ) (new : ArrayState) (arr : Pages)
-    (stands : StandsFor new arr) where
+    (stands : Represents new arr) where
   one_left : (mark : Mark) →
       new ≡ record { pages = array; entries = record { tag = 0; writes = writes; done = done; mark = mark } ∷ [] } →
       (arr ≡ array) ⊎ (arr ≡ put array writes)
   one_left mark is =
       stands_single array arr (record { tag = 0; writes = writes; done = done; mark = mark })
-      (subst (λ (s : ArrayState). StandsFor s arr) is stands)
+      (subst (λ (s : ArrayState). Represents s arr) is stands)
 
   -- a fault leaves the array, or that with all writes
   pub fault_leaves : (there : Bool) →

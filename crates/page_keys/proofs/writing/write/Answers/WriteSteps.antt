@@ -1,31 +1,18 @@
 -- What the steps of a put keep of a device.
-use Rattle.std.proofs.Common.{◌≡◌, ℕ, ◌<◌, length, arith, Bool, true, false, List, [], ◌∷◌, ◌++◌, if◌then◌else◌, Option, Some, None, Ok, Err, refl, sym, ap}
-use Rattle.std.proofs.Common.{subst, ◌∙◌}
-use Rattle.tx_types.specs.Batch.{PageWrite}
-use Rattle.flash_model.specs.Flash.{FlashState}
-use Rattle.flash_model.specs.Calls.{Carries}
-use Rattle.flash_model.specs.Operations.{moment_of}
-use Rattle.flash_model.proofs.CallLemmas.{Carries-nothing, Carries-then}
+use Rattle.page_keys.proofs.Common.{◌≡◌, ℕ, ◌<◌, length, arith, Bool, true, false, List, [], ◌∷◌, ◌++◌, if◌then◌else◌, Option, Some, None, Ok, Err, refl, sym, ap, subst, ◌∙◌, PageWrite, FlashState, Carries, moment_of, Carries-nothing, Carries-then, ArrayState, IsSeen, DeviceState, first_refusals, spent_page, SubmitError, array_in, Represents, is_spent, StepsAs, Moved, writing}
 use Rattle.flash_model.proofs.MoveLemmas.{FlashMoves-nothing, FlashMoves-then}
-use Rattle.tx_engine.specs.ArrayState.{ArrayState, Entry, opening}
-use Rattle.tx_engine.specs.Always.{IsSeen}
+use Rattle.tx_engine.specs.ArrayState.{Entry, new_entry}
 use Rattle.tx_engine.specs.Exits.{Exits}
-use Rattle.tx_engine.specs.Standing.{Standing}
-use Rattle.tx_engine.specs.Submit.{Limits, Submits, first_refusals, or_else, spent_page, answer, opened, refusal}
-use Rattle.array_machine.specs.declared.answers.SubmitError.{SubmitError}
+use Rattle.tx_engine.specs.Submit.{Limits, Submits, or_else, answer, opened, refusal}
 use Rattle.array_machine.specs.declared.answers.SubmitError.TheVariants as submit
-use Rattle.version_index.specs.Images.{array_in}
-use Rattle.tx_engine.specs.ArrayState.{StandsFor}
 use Rattle.tx_engine.specs.Exits.{is_step_fault}
-use Rattle.tx_engine.specs.Naming.{is_spent}
-use Rattle.tx_engine.specs.Step.{StepsAs}
 use Rattle.array_machine.specs.declared.answers.StepError.{StepError}
 use Rattle.array_machine.specs.declared.answers.StepError.TheVariants as failed
-use Rattle.page_keys.specs.Writing.{Moved, Breaks, writing, seen_more}
+use Rattle.page_keys.specs.Writing.{Breaks, seen_more}
 use Rattle.page_keys.proofs.writing.write.Answers.Steps.{not_unknown, fault_leaves}
 
 module _ {F : Type 0} (state : F → FlashState) where
-  pub moved_nothing : (s t : Standing F) → t.config ≡ s.config → t.flash ≡ s.flash →
+  pub moved_nothing : (s t : DeviceState F) → t.config ≡ s.config → t.flash ≡ s.flash →
       Moved state s t false
   moved_nothing s t config flash = record {
     config = config;
@@ -34,7 +21,7 @@ module _ {F : Type 0} (state : F → FlashState) where
         (Carries-nothing (state s.flash));
   }
 
-  pub moved_then : (a b c : Standing F) (broken : Bool) → Moved state a b false →
+  pub moved_then : (a b c : DeviceState F) (broken : Bool) → Moved state a b false →
       Exits state b c broken → Moved state a c broken
   moved_then a b c broken first second = record {
     config = second.tables.config ∙ first.config;
@@ -43,14 +30,14 @@ module _ {F : Type 0} (state : F → FlashState) where
   }
 
 -- a fault in a step leaves the array of the image, or that with all writes
-pub breaks_off : {F : Type 0} (state : F → FlashState) (old mid new : Standing F)
+pub breaks_off : {F : Type 0} (state : F → FlashState) (old mid new : DeviceState F)
     (ws : List PageWrite) (k : ℕ) (there : Bool) (e : StepError) →
     ((seen : ℕ → ℕ) → IsSeen seen old → IsSeen (seen_more seen ws) new) →
     mid.machine ≡ writing old.machine.pages ws k →
     spent_page (is_spent old.noted.mentions) ws ≡ None → Moved state old mid false →
     StepsAs there mid.machine new.machine 0 (Err e) →
     Exits state mid new (is_step_fault (Err e)) →
-    StandsFor new.machine
+    Represents new.machine
     (array_in new.config.protocol new.config.logical (state new.flash).image) →
     Breaks state old new ws
 breaks_off state old mid new ws k there failed.Unknown seen machine unspent moved steps exits stands =
@@ -97,12 +84,12 @@ module _ (limits : Limits) (spent : ℕ → Bool) (old new : ArrayState) (ws : L
 
   pub accepted : (u : Unit {0}) → Submits limits spent old new 0 ws (Ok u) →
       (spent_page spent ws ≡ None)
-      × (new ≡ record old { entries = opening 0 ws ∷ [] })
+      × (new ≡ record old { entries = new_entry 0 ws ∷ [] })
   accepted u submits =
       let none = accepted_of _ u submits.answers in (
         sym its_refusal ∙ none,
         submits.opens ∙ ap (λ (o : Option SubmitError). opened o 0 ws old) none
-            ∙ ap (λ (es : List Entry). record old { entries = es ++ opening 0 ws ∷ [] }) closed,
+            ∙ ap (λ (es : List Entry). record old { entries = es ++ new_entry 0 ws ∷ [] }) closed,
       )
 
   pub named_spent : (e : SubmitError) → Submits limits spent old new 0 ws (Err e) →

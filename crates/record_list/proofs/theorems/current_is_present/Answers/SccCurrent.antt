@@ -1,12 +1,5 @@
 -- Under Simple Cyclic Commit no list breaks law 4.
-use Rattle.std.proofs.Common.{◌≡◌, ℕ, ◌<◌, true, ◌⊎◌, List, sym, subst, inl, inr, arith}
-use Rattle.std.proofs.lemmas.Bool.{cases_Bool, cases_lt}
-use Rattle.tx_types.specs.declared.config.Protocol.TheVariants.{Scc}
-use Rattle.record_list.specs.declared.found.Found.{Found}
-use Rattle.record_list.specs.Records.{newest, next_older, is_present}
-use Rattle.record_list.specs.Verdict.{why, is_committed}
-use Rattle.record_list.specs.Current.{cur}
-use Rattle.record_list.specs.SoundList.{CurrentIsPresent, current_name}
+use Rattle.record_list.proofs.Common.{◌≡◌, ℕ, ◌<◌, true, ◌⊎◌, List, sym, subst, inl, inr, arith, cases_Bool, cases_lt, Scc, Found, newest, next_older, is_present, why, is_committed, cur, CurrentIsPresent, current_name}
 use Rattle.record_list.proofs.OfFacts.Names.{named, newest_present, older_name}
 use Rattle.record_list.proofs.OfFacts.Facts.{cur_committed, cur_uncommitted}
 

@@ -1,11 +1,6 @@
 -- The flags of a transaction through the changes of a list: each record afterwards is the new one or equal to an old one.
-use Rattle.std.proofs.Common.{◌≡◌, ◌≢◌, Bool, List, [], ◌∷◌, zip, All, Contains, ap, subst, inl, inr}
-use Rattle.std.proofs.lemmas.List.Elements.{All-contains}
-use Rattle.list_facts.proofs.Membership.{all_from, from_filter, Contains-cases, Contains-here, Contains-nil, Contains-rest}
-use Rattle.tx_types.specs.declared.record.Link.{Link}
-use Rattle.record_list.specs.declared.found.Found.{Found}
-use Rattle.record_list.specs.Records.{name_of}
-use Rattle.record_list.specs.Changes.{left}
+use Rattle.record_list.proofs.Common.{◌≡◌, ◌≢◌, Bool, List, [], ◌∷◌, zip, All, Contains, ap, subst, inl, inr, All-contains, all_from, from_filter, Contains-cases, Contains-nil, Contains-rest, Link, Found, name_of, left}
+use Rattle.list_lemmas.proofs.Membership.{Contains-here}
 use Rattle.record_list.specs.Counts.{HasItsFlag, HasFlags, WriteKeepsFlags, OthersKeepFlags, CopyKeepsFlags, LossKeepsFlags}
 use Rattle.record_list.proofs.OfChanges.OneMore.{inserted_all}
 use Rattle.record_list.proofs.OfLosses.LossAmong.{IsAmong, IsEqual, among_of, copied_among}

@@ -1,19 +1,11 @@
 -- What the definitions say of the lists of a few records, by computation.
-use Rattle.std.proofs.Common.{◌≡◌, ◌≢◌, ◌⊎◌, ℕ, zero, suc, ◌<◌, ◌≤◌, ◌==◌, true, false, not, ◌&&◌, eqb, List, [], ◌∷◌}
-use Rattle.std.proofs.Common.{zip, All, Contains, inl, inr, refl, sym, ap, ◌∙◌, arith}
-use Rattle.std.proofs.lemmas.Bool.{false≢true}
+use Rattle.record_list.proofs.Common.{◌≡◌, ◌≢◌, ◌⊎◌, ℕ, zero, suc, ◌<◌, ◌≤◌, true, false, ◌&&◌, eqb, List, [], ◌∷◌, zip, All, Contains, inl, inr, refl, sym, ap, ◌∙◌, arith, false≢true, Link, Scc, Bpcc, Found, mention_at, name_of, is_present, nothing, IsScanned, IsCurrent, must_go, is_held, follow, next_names, IsAskedAt, IsAsked, InProgress, left, KeepsCounted, is_outside}
+use Rattle.std.proofs.Common.{◌==◌, not}
 use Rattle.std.proofs.lemmas.List.Elements.{All-nil, All-cons, All-from_recursion}
 use Rattle.std.proofs.lemmas.List.Kept.{AllPairs-cons}
 use Rattle.tx_types.specs.Limits.{max_version}
-use Rattle.tx_types.specs.declared.record.Link.{Link}
-use Rattle.tx_types.specs.declared.config.Protocol.TheVariants.{Scc, Bpcc}
-use Rattle.record_list.specs.declared.found.Found.{Found}
-use Rattle.record_list.specs.Records.{mentioned_at, name_of, is_present, nothing, IsScanned}
-use Rattle.record_list.specs.Current.{IsCurrent, must_go, is_held}
-use Rattle.record_list.specs.SoundList.{LooseIsShown, LooseEnds, follow}
-use Rattle.record_list.specs.Transaction.{IsTransaction, next_names, IsAskedAt, IsAsked, InProgress}
-use Rattle.record_list.specs.Changes.{left, KeepsCounted}
-use Rattle.record_list.specs.Written.{is_outside}
+use Rattle.record_list.specs.SoundList.{LooseIsShown, LooseEnds}
+use Rattle.record_list.specs.Transaction.{IsTransaction}
 use Rattle.record_list.proofs.OfLosses.LossCurrent.{left_scanned}
 use Rattle.record_list.specs.Examples.{name, found, shape, StraddledVerdict, StraddledIsHeld, NamesakeIsHeld, CopiedHome, unanswered, UnansweredBreaks, misled}
 use Rattle.record_list.specs.Examples.{MisledBreaks, closed, ClosedBreaks, TwiceMentioned, of_two, begun, first_alone, CopyMayGo, pair, second, without_first}
@@ -122,8 +114,8 @@ module _ (list : List Found) where
       (λ e. absurd (not_second (sym e)), (λ e. (refl, refl, refl), tt))
 
 -- a record of page 0 mentions no page of the transaction
-zero_below : (slot : ℕ) → All (λ a. mentioned_at a.page (found slot 0 1 0 1 0).rec < a.version) pair
-zero_below slot = All-from_recursion (λ a. mentioned_at a.page (found slot 0 1 0 1 0).rec < a.version) pair (let low : 0 < 1 = omega arith in (low, (low, tt)))
+zero_below : (slot : ℕ) → All (λ a. mention_at a.page (found slot 0 1 0 1 0).rec < a.version) pair
+zero_below slot = All-from_recursion (λ a. mention_at a.page (found slot 0 1 0 1 0).rec < a.version) pair (let low : 0 < 1 = omega arith in (low, (low, tt)))
 
 -- it is in progress with its first record, and without
 begun_in_progress : InProgress Scc begun 3 pair
@@ -131,7 +123,7 @@ begun_in_progress = record {
   begun = record {
     transaction = pair_transaction;
     asked = All-from_recursion (λ f. IsAsked Scc begun 3 pair f.rec) begun (asked_zero begun 0, (asked_zero begun 4, (asked_first begun, tt)));
-    others = All-from_recursion (λ f. (Contains pair (name_of f.rec) → ⊥) → All (λ a. mentioned_at a.page f.rec < a.version) pair) begun
+    others = All-from_recursion (λ f. (Contains pair (name_of f.rec) → ⊥) → All (λ a. mention_at a.page f.rec < a.version) pair) begun
         (λ out. zero_below 0, (λ out. zero_below 4, (λ out. absurd (out (0, omega arith, refl)), tt)));
   };
   absent = (1, name 2 1, omega arith, refl, refl);
@@ -144,7 +136,7 @@ lost_in_progress =
       begun = record {
         transaction = pair_transaction;
         asked = All-from_recursion (λ f. IsAsked Scc list 3 pair f.rec) list (asked_zero list 0, (asked_zero list 4, tt));
-        others = All-from_recursion (λ f. (Contains pair (name_of f.rec) → ⊥) → All (λ a. mentioned_at a.page f.rec < a.version) pair) list
+        others = All-from_recursion (λ f. (Contains pair (name_of f.rec) → ⊥) → All (λ a. mention_at a.page f.rec < a.version) pair) list
             (λ out. zero_below 0, (λ out. zero_below 4, tt));
       };
       absent = (1, name 2 1, omega arith, refl, refl);

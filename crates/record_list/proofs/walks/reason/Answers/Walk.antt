@@ -1,16 +1,11 @@
 -- One turn of a walk, as a loop takes it.
-use Rattle.std.proofs.Common.{◌≡◌, ℕ, zero, suc, ◌-◌, ◌<◌, ◌≤◌, List, false, refl, arith, sub-one, le-ltb, if◌then◌else◌}
-use Rattle.tx_types.specs.declared.record.Link.{Link}
-use Rattle.tx_types.specs.declared.config.Protocol.{Protocol}
-use Rattle.record_list.specs.declared.found.Found.{Found}
-use Rattle.record_list.specs.declared.found.Why.TheVariants.{Cycle, Absent}
-use Rattle.record_list.specs.Records.{newest, is_same}
-use Rattle.record_list.specs.Verdict.{walk, passed, is_ahead, is_behind, link_of}
+use Rattle.record_list.proofs.Common.{◌≡◌, ℕ, zero, suc, ◌-◌, ◌<◌, ◌≤◌, List, false, refl, arith, le-ltb, if◌then◌else◌, Link, Protocol, Found, Cycle, Absent, newest, is_same, walk, why_below_newest, is_ahead, is_behind, link_of}
+use Rattle.std.proofs.Common.{sub-one}
 
 pub walk_turn : (protocol : Protocol) (list : List Found) (start : Link) (turns : ℕ) (link : Link) → 0 < turns →
     walk protocol list start turns link ≡
     (if is_ahead list link then Absent
-    else if is_behind list link then passed protocol list link
+    else if is_behind list link then why_below_newest protocol list link
     else if is_same link start then Cycle
     else walk protocol list start (turns - 1) (link_of list link))
 walk_turn protocol list start zero link h = absurd (omega arith)

@@ -1,20 +1,15 @@
 -- Links lead to an absent name where the orbit of their places ends.
-use Rattle.std.proofs.Common.{◌≡◌, ◌≢◌, ℕ, suc, Option, Some, None, List, get_or, position, sym, ap, ◌∙◌, inl, inr, arith}
-use Rattle.std.proofs.lemmas.Bool.{false≢true}
-use Rattle.std.proofs.lemmas.List.{length-map}
-use Rattle.tx_types.specs.declared.record.Link.{Link}
-use Rattle.record_list.specs.declared.found.Found.{Found}
-use Rattle.record_list.specs.Records.{has_name, is_present, record_at}
+use Rattle.scan_recovery.proofs.Common.{◌≡◌, ◌≢◌, ℕ, suc, Option, Some, None, List, get_or, position, sym, ap, ◌∙◌, inl, inr, arith, false≢true, length-map, Link, Found, has_name, is_present, record_at, absent_at}
 use Rattle.record_list.specs.Verdict.{link_of}
 use Rattle.record_list.specs.SoundList.{follow}
 use Rattle.record_list.proofs.OfWalks.Follow.{follow_last}
-use Rattle.record_chart.specs.declared.orbit.Orbit.{Orbit}
-use Rattle.record_chart.specs.declared.orbit.Orbit.TheVariants.{Ends, Round, Aside}
-use Rattle.record_chart.specs.Orbits.{steps, IsOrbit, AreOrbits}
-use Rattle.record_chart.proofs.OfChart.Steps.{some_or_none, round_goes_on}
-use Rattle.record_chart.proofs.OfWalk.WalkOrbits.{link_found, absent_at, present_found}
-use Rattle.record_chart.specs.NameGraph.{name_graph}
-use Rattle.record_chart.proofs.OfWalk.NameReturns.{next_place, place_within, steps_follow}
+use Rattle.sorted_records.specs.declared.orbit.Orbit.{Orbit}
+use Rattle.sorted_records.specs.declared.orbit.Orbit.TheVariants.{Ends, Round, Aside}
+use Rattle.sorted_records.specs.Orbits.{steps, IsOrbit, AreOrbits}
+use Rattle.sorted_records.proofs.OfRecords.Steps.{some_or_none, round_goes_on}
+use Rattle.sorted_records.proofs.OfWalk.WalkOrbits.{link_found, present_found}
+use Rattle.sorted_records.specs.NameGraph.{name_graph}
+use Rattle.sorted_records.proofs.OfWalk.NameReturns.{next_place, place_within, steps_follow}
 use Rattle.scan_recovery.specs.Searches.{LeadsOut}
 
 module _ (l : List Found) where

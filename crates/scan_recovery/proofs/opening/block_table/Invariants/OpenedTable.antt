@@ -1,21 +1,19 @@
 -- The block table of an opening, one block after another.
-use Rattle.std.proofs.Common.{◌≡◌, ℕ, ◌+◌, ◌<◌, ◌≤◌, eqb, true, false, cond, ◌||◌, ◌⊎◌, List, map, length, sym, ap, ◌∙◌, subst, inl, inr, arith, eqb-true}
+use Rattle.scan_recovery.proofs.Common.{◌≡◌, ℕ, ◌+◌, ◌<◌, ◌≤◌, true, false, cond, ◌||◌, ◌⊎◌, List, map, length, sym, ap, ◌∙◌, subst, inl, inr, arith, eqb-true, cases_Bool, cases_lt, false≢true, get_or_default, Shape, blocks_of, Seen, opening_table}
+use Rattle.std.proofs.Common.{eqb}
 use Rattle.std.specs.Prelude.{◌==◌, if◌then◌else◌}
 use Rattle.std.specs.List.{range_with_len}
-use Rattle.std.proofs.lemmas.Bool.{cases_Bool, cases_lt, false≢true, or_parts}
-use Rattle.std.proofs.lemmas.List.{same_lists, get_or_default}
+use Rattle.std.proofs.lemmas.Bool.{or_parts}
+use Rattle.std.proofs.lemmas.List.{same_lists}
 use Rattle.std.proofs.lemmas.List.FromFn.{length-map-range_with_len, get_or-map-range_with_len}
-use Rattle.list_facts.proofs.Values.{or_first}
+use Rattle.list_lemmas.proofs.Values.{or_first}
 use Rattle.tx_types.specs.declared.config.BlockState.{BlockState}
-use Rattle.tx_types.specs.declared.config.Shape.{Shape}
 use Rattle.tx_types.specs.declared.config.BlockState.TheVariants.{Spare, Clean, Shut}
-use Rattle.tx_types.specs.Config.{blocks_of}
-use Rattle.flash_model.specs.declared.flash.Seen.{Seen}
 use Rattle.die_alloc.specs.declared.block_use.BlockUse.{BlockUse}
-use Rattle.die_alloc.specs.BlockTable.{BlockTable, IsBlockTable, no_block, use_of, with_use}
+use Rattle.die_alloc.specs.BlocksState.{BlocksState, IsBlocksState, no_block, use_of, with_use}
 use Rattle.die_alloc.proofs.Changes.{use_of-with_use_same, use_of-with_use_other}
 use Rattle.flash_model.specs.Readings.{seen_in_block, reads_blank_block}
-use Rattle.die_alloc.specs.Opening.{used_in, use_in, opening_table, with_slots}
+use Rattle.die_alloc.specs.Opening.{used_in, use_in, with_slots}
 use Rattle.scan_recovery.proofs.OfOpening.Used.{used_blank, used_some}
 
 -- what is kept of a block, by its parts
@@ -27,8 +25,8 @@ abbrev pub first_use : ℕ → ℕ → BlockUse
 first_use spare block = if block == spare then record { state = Spare; used = 0 } else record { state = Clean; used = 0 }
 
 -- a block table with this spare, in which the blocks so far are as the slots have them, and the others are clean
-pub record IsOpenedTo (shape : Shape) (slots : List Seen) (spare at : ℕ) (t : BlockTable) : Type 0 where
-  pub table : IsBlockTable t
+pub record IsOpenedTo (shape : Shape) (slots : List Seen) (spare at : ℕ) (t : BlocksState) : Type 0 where
+  pub table : IsBlocksState t
   pub its_shape : t.shape ≡ shape
   pub its_spare_area : t.spare ≡ spare
   pub its_cursor : t.cursor ≡ 0
@@ -79,8 +77,8 @@ module _ (shape : Shape) (slots : List Seen) (spare : ℕ) where
     | inr high ↦ (let same : at ≡ k = omega arith in subst P same here)
   ]
 
-  pub opened_next : (at : ℕ) (t : BlockTable) → at < blocks_of shape → IsOpenedTo shape slots spare at t →
-      IsBlockTable (with_slots t at (seen_in_block shape slots at)) → IsOpenedTo shape slots spare (at + 1) (with_slots t at (seen_in_block shape slots at))
+  pub opened_next : (at : ℕ) (t : BlocksState) → at < blocks_of shape → IsOpenedTo shape slots spare at t →
+      IsBlocksState (with_slots t at (seen_in_block shape slots at)) → IsOpenedTo shape slots spare (at + 1) (with_slots t at (seen_in_block shape slots at))
   opened_next at t within h table = elim (cases_Bool (eqb (used_in (seen_in_block shape slots at)) 0 || eqb at t.spare)) [
     | inl left ↦ subst (IsOpenedTo shape slots spare (at + 1)) (sym (ap (λ b. cond b t (with_use t at Shut (used_in (seen_in_block shape slots at)))) left))
         (record {
@@ -97,7 +95,7 @@ module _ (shape : Shape) (slots : List Seen) (spare : ℕ) where
         let same = ap (λ b. cond b t (with_use t at Shut (used_in (seen_in_block shape slots at)))) shut in
         let here : at < blocks_of t.shape = subst (λ s. at < blocks_of s) (sym h.its_shape) within in
         subst (IsOpenedTo shape slots spare (at + 1)) (sym same) (record {
-          table = subst IsBlockTable same table;
+          table = subst IsBlocksState same table;
           its_shape = h.its_shape;
           its_spare_area = h.its_spare_area;
           its_cursor = h.its_cursor;
@@ -110,7 +108,7 @@ module _ (shape : Shape) (slots : List Seen) (spare : ℕ) where
         })
   ]
 
-  table_of_parts : (t : BlockTable) (blocks : List BlockUse) → t.shape ≡ shape → t.blocks ≡ blocks → t.spare ≡ spare → t.cursor ≡ 0 →
+  table_of_parts : (t : BlocksState) (blocks : List BlockUse) → t.shape ≡ shape → t.blocks ≡ blocks → t.spare ≡ spare → t.cursor ≡ 0 →
       t ≡ record { shape = shape; blocks = blocks; spare = spare; cursor = 0 }
   table_of_parts t blocks e f g h =
       ap (λ (s : Shape). record { shape = s; blocks = t.blocks; spare = t.spare; cursor = t.cursor }) e
@@ -118,7 +116,7 @@ module _ (shape : Shape) (slots : List Seen) (spare : ℕ) where
       ∙ ap (λ (n : ℕ). record { shape = shape; blocks = blocks; spare = n; cursor = t.cursor }) g
       ∙ ap (λ (n : ℕ). record { shape = shape; blocks = blocks; spare = spare; cursor = n }) h
 
-  pub opened_all : (at : ℕ) (t : BlockTable) → blocks_of shape ≤ at → IsOpenedTo shape slots spare at t → t ≡ opening_table shape slots spare
+  pub opened_all : (at : ℕ) (t : BlocksState) → blocks_of shape ≤ at → IsOpenedTo shape slots spare at t → t ≡ opening_table shape slots spare
   opened_all at t all h =
       let long : length t.blocks ≡ blocks_of shape = h.table.count ∙ ap blocks_of h.its_shape in
       let uses = map (use_in shape slots spare) (range_with_len 0 (blocks_of shape)) in

@@ -1,48 +1,36 @@
 -- From the records of a scan to the image: what a device is opened with, and the first law that an image breaks.
-use Rattle.std.proofs.Common.{◌≡◌, ℕ, ◌+◌, ◌*◌, ◌<◌, false, List, [], ◌∷◌, map, replicate, length, get_or, All, Any, Option, None, Some, IsSomeAnd, Result, Ok}
-use Rattle.std.proofs.Common.{Err, refl, sym, ap, ◌∙◌, subst, inl, inr, arith, Contains}
+use Rattle.scan_recovery.proofs.Common.{◌≡◌, ℕ, ◌+◌, ◌*◌, ◌<◌, false, List, [], ◌∷◌, map, length, get_or, All, Option, None, Some, refl, sym, ap, ◌∙◌, subst, inl, inr, arith, Contains, false≢true, length-map, get_or-map, get_or_default, All-contains, all_from, Protocol, Shape, Rec, slots_of, Seen, Contents, FlashState, Found, IsScanned, Pages, Copies, Links, Present, Loose, Ending, CopiesAgree, IsSoundList, KeepsWritten, HasRemovable, written_in, records_in, SlotReads, IsLeastImageBreach, complete_slots, records_scanned, ReadsAll, IsScanOf, opening_table, IsChosenFrom, compared}
+use Rattle.std.proofs.Common.{replicate, Any, IsSomeAnd, Result, Ok}
+use Rattle.std.proofs.Common.{Err}
 use Rattle.std.specs.Prelude.{OnOk, IfErr}
 use Rattle.std.specs.List.{cons_option, range_with_len}
 use Rattle.std.specs.Option.{option_map}
-use Rattle.std.proofs.lemmas.Bool.{false≢true}
 use Rattle.std.proofs.lemmas.Result.{on_ok_weaker, IfErr-weaker}
-use Rattle.std.proofs.lemmas.List.{length-map, get_or-map, get_or_default}
-use Rattle.std.proofs.lemmas.List.Elements.{All-map, All-head, All-tail, All-contains}
-use Rattle.list_facts.proofs.Membership.{all_from}
+use Rattle.std.proofs.lemmas.List.Elements.{All-map, All-head, All-tail}
 use Rattle.tx_types.specs.declared.config.Config.{Config}
-use Rattle.tx_types.specs.declared.config.Protocol.{Protocol}
-use Rattle.tx_types.specs.declared.config.Shape.{Shape}
-use Rattle.tx_types.specs.declared.record.Rec.{Rec}
-use Rattle.tx_types.specs.Config.{shape_of, slots_of}
-use Rattle.flash_model.specs.declared.flash.Seen.{Seen}
-use Rattle.flash_model.specs.Flash.{Contents, FlashState, blank, damaged, complete}
+use Rattle.tx_types.specs.Config.{shape_of}
+use Rattle.flash_model.specs.Flash.{blank, damaged, complete}
 use Rattle.flash_model.specs.Calls.{seen_of}
 use Rattle.page_record.specs.Rules.{record_of}
-use Rattle.record_list.specs.declared.found.Found.{Found}
 use Rattle.record_list.specs.declared.found.Breach.{Breach}
-use Rattle.record_list.specs.Records.{mention, IsScanned}
-use Rattle.record_list.specs.SoundList.{Law, Pages, Copies, Links, Present, Counted, Loose, Ending, number, Keeps, PagesExist, CopiesAgree, IsSoundList}
+use Rattle.record_list.specs.Records.{mention}
+use Rattle.record_list.specs.SoundList.{Law, Counted, number, Keeps, PagesExist}
 use Rattle.record_list.specs.SoundList.{IsLeastBreach}
 use Rattle.record_list.specs.Counts.{HasCounts}
-use Rattle.record_list.specs.Written.{Written, found_of, records_of, BytesAgree, KeepsWritten, HasRemovable, IsFirstBrokenLaw}
+use Rattle.record_list.specs.Written.{Written, found_of, records_of, BytesAgree, IsFirstBrokenLaw}
 use Rattle.record_list.proofs.OfChanges.WrittenLists.{in_records}
-use Rattle.die_alloc.specs.BlockTable.{BlockTable}
+use Rattle.die_alloc.specs.BlocksState.{BlocksState}
 use Rattle.version_index.specs.declared.note.Note.{Note}
-use Rattle.version_index.specs.Images.{written_in, records_in, HasPages, SlotReads, IsSoundImage, IsLeastImageBreach}
-use Rattle.version_index.specs.Notes.{complete_slots, notes_of}
-use Rattle.version_index.specs.Noted.{Noted, with_spare}
-use Rattle.version_index.proofs.OfTables.Given.{given}
-use Rattle.version_index.proofs.OfLaws.ImageScans.{read_at, written_in_is, written, records_scanned}
+use Rattle.version_index.specs.Images.{HasPages, IsSoundImage}
+use Rattle.version_index.specs.Notes.{notes_of}
+use Rattle.version_index.specs.IndexState.{IndexState, with_spare}
+use Rattle.version_index.proofs.OfTables.BaseTables.{given}
+use Rattle.version_index.proofs.OfLaws.ImageScans.{read_at, written_in_is, written}
 use Rattle.version_index.proofs.OfLaws.NotedImages.{scanned_notes}
 use Rattle.version_index.proofs.OfOpening.Scans.{numbered_complete}
 use Rattle.scan_recovery.specs.declared.error.RecoverError.{RecoverError}
 use Rattle.scan_recovery.specs.declared.error.RecoverError.TheVariants as error
-use Rattle.scan_recovery.specs.Reading.{ReadsAll}
-use Rattle.scan_recovery.specs.Scans.{IsScanOf}
-use Rattle.die_alloc.specs.Opening.{opening_table}
-use Rattle.version_index.specs.Opening.{IsChosenFrom}
 use Rattle.scan_recovery.specs.Opening.{IsOpenedFrom, IsBroken, IsOpened}
-use Rattle.scan_recovery.specs.Twins.{compared}
 use Rattle.scan_recovery.specs.Recovered.{IfUnsound, is_read_failure, reads_again, ReadsFor}
 use Rattle.scan_recovery.proofs.OfScan.ReadingSteps.{reads_some_all}
 use Rattle.scan_recovery.proofs.OfLaws.LawTwo.{no_written, pages_hold}
@@ -87,7 +75,7 @@ module _ (p : Protocol) (logical : ℕ) (image : List Contents) (slots : List Se
       (λ w i. (All-contains (KeepsWritten p (written_in p image) logical Copies) (written_in p image) w copies i).0)))
 
 -- the tables of the scan are those of the image
-noted_of_parts : (n : Noted) (config : Config) (notes : List Note) (mentions : List ℕ) (spare : ℕ) → n.config ≡ config → n.notes ≡ notes →
+noted_of_parts : (n : IndexState) (config : Config) (notes : List Note) (mentions : List ℕ) (spare : ℕ) → n.config ≡ config → n.notes ≡ notes →
     n.pins ≡ replicate config.logical 0 → n.mentions ≡ mentions →
     with_spare n spare ≡ record { config = config; notes = notes; pins = replicate config.logical 0; spare = Some spare; mentions = mentions }
 noted_of_parts n config notes mentions spare e f g h =
@@ -98,7 +86,7 @@ noted_of_parts n config notes mentions spare e f g h =
 
 pub opened_image : (config : Config) (image : List Contents) (slots : List Seen) (list : List Found) →
     IsScanOf config.protocol config.logical image slots list →
-    (noted : Noted) (table : BlockTable) → IsOpenedFrom config slots list noted table → IsOpened config image noted table
+    (noted : IndexState) (table : BlocksState) → IsOpenedFrom config slots list noted table → IsOpened config image noted table
 opened_image config image slots list scan noted table h =
     let n = h.scanned in
     let notes = scanned_notes config.protocol config.logical image h.scan.notes scan.reads (n.reads ∙ scan.seen) (n.found ∙ scan.records) in

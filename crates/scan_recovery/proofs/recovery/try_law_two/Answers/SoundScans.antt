@@ -1,19 +1,6 @@
 -- A scan that keeps law 1, and what its records say of law 2.
-use Rattle.std.proofs.Common.{◌≡◌, ℕ, ◌+◌, ◌*◌, ◌<◌, true, List, length, get_or, All, Some, refl, sym, ap, ◌∙◌, subst}
-use Rattle.tx_types.specs.declared.config.Protocol.{Protocol}
-use Rattle.tx_types.specs.Config.{slots_of}
-use Rattle.flash_model.specs.declared.flash.Seen.{Seen}
-use Rattle.flash_model.specs.Flash.{FlashState}
-use Rattle.record_list.specs.declared.found.Found.{Found}
-use Rattle.record_list.specs.Records.{nothing, IsScanned}
-use Rattle.record_list.specs.SoundList.{Copies}
-use Rattle.record_list.specs.Search.{FindsFirst}
-use Rattle.record_list.specs.Written.{KeepsWritten}
-use Rattle.version_index.specs.Images.{written_in, records_in, IsLeastImageBreach}
-use Rattle.version_index.proofs.OfLaws.ImageScans.{records_scanned}
-use Rattle.scan_recovery.specs.Reading.{ReadsAll, ReadsSome}
-use Rattle.scan_recovery.specs.Scans.{IsScanOf}
-use Rattle.scan_recovery.specs.Twins.{AgreesWithLowest, compared, compared_upto, compared_to}
+use Rattle.scan_recovery.proofs.Common.{◌≡◌, ℕ, ◌+◌, ◌*◌, ◌<◌, true, List, length, get_or, All, Some, refl, sym, ap, ◌∙◌, subst, Protocol, slots_of, Seen, FlashState, Found, nothing, IsScanned, Copies, FindsFirst, KeepsWritten, written_in, records_in, IsLeastImageBreach, records_scanned, ReadsAll, ReadsSome, IsScanOf, AgreesWithLowest, compared, compared_to}
+use Rattle.scan_recovery.specs.Twins.{compared_upto}
 use Rattle.scan_recovery.proofs.OfScan.ReadingSteps.{reads_all_then, reads_some_then}
 use Rattle.scan_recovery.proofs.OfScan.ComparedSteps.{as_before}
 use Rattle.scan_recovery.proofs.OfLaws.LawTwo.{two_holds, two_broken}

@@ -1,16 +1,10 @@
 -- Counting the records up to one slot of an ascending list.
-use Rattle.std.proofs.Common.{◌≡◌, ℕ, zero, suc, ◌+◌, ◌<◌, ◌≤◌, Bool, false, ◌&&◌, cond, List, [], ◌∷◌, length, get_or, take, count_by, AllPairs, Some, sym, ap}
-use Rattle.std.proofs.Common.{ap₂, ◌∙◌, arith, Contains}
+use Rattle.scan_recovery.proofs.Common.{◌≡◌, ℕ, zero, suc, ◌+◌, ◌<◌, ◌≤◌, Bool, false, ◌&&◌, cond, List, [], ◌∷◌, length, get_or, take, count_by, AllPairs, Some, sym, ap, ap₂, ◌∙◌, arith, Contains, Contains-get_or, all_from, pairs_head, pairs_tail, Found, nothing, is_compared, compared_to}
 use Rattle.std.specs.Prelude.{nat_le}
 use Rattle.std.proofs.lemmas.Bool.{le-leb, lt-leb}
 use Rattle.std.proofs.lemmas.List.Sums.{sum_by-cons}
-use Rattle.std.proofs.lemmas.List.Elements.{Contains-get_or}
-use Rattle.list_facts.proofs.Tests.{none_counted}
-use Rattle.list_facts.proofs.Membership.{all_from}
-use Rattle.list_facts.proofs.Pairs.{pairs_head, pairs_tail}
-use Rattle.record_list.specs.declared.found.Found.{Found}
-use Rattle.record_list.specs.Records.{nothing}
-use Rattle.scan_recovery.specs.Twins.{is_compared, compared_upto, compared_to}
+use Rattle.list_lemmas.proofs.Tests.{none_counted}
+use Rattle.scan_recovery.specs.Twins.{compared_upto}
 
 counted : (p : Found → Bool) (x : Found) (xs : List Found) → count_by p (x ∷ xs) ≡ cond (p x) 1 0 + count_by p xs
 counted p x xs = sum_by-cons (λ f. cond (p f) 1 0) x xs

@@ -1,13 +1,12 @@
 -- Marks that are made record by record.
-use Rattle.std.proofs.Common.{◌≡◌, ℕ, ◌+◌, ◌<◌, Bool, true, false, ◌==◌, ◌||◌, List, length, get_or, take, replicate, sym, ap, ◌∙◌, inl, inr, arith, eq-eqb}
+use Rattle.scan_recovery.proofs.Common.{◌≡◌, ℕ, ◌+◌, ◌<◌, Bool, true, false, ◌==◌, ◌||◌, List, length, get_or, take, sym, ap, ◌∙◌, inl, inr, arith, eq-eqb, list_any, cases_eq, Found, nothing}
+use Rattle.std.proofs.Common.{replicate}
 use Rattle.std.proofs.Common.{ne_eqb}
-use Rattle.std.specs.List.{list_any, slice_set}
-use Rattle.std.proofs.lemmas.Bool.{cases_eq, or_right}
+use Rattle.std.specs.List.{slice_set}
+use Rattle.std.proofs.lemmas.Bool.{or_right}
 use Rattle.std.proofs.lemmas.List.{length-set, get_or-set_same, get_or-set_other, get_or-replicate, length-replicate}
 use Rattle.std.proofs.lemmas.List.Folds.{list_any_more}
 use Rattle.std.proofs.Math.Bool.{or-false}
-use Rattle.record_list.specs.declared.found.Found.{Found}
-use Rattle.record_list.specs.Records.{nothing}
 use Rattle.scan_recovery.specs.Removable.{AreMarked}
 
 module _ (count : ℕ) (test : Found → ℕ → Bool) (list : List Found) where

@@ -1,25 +1,21 @@
 -- A scan of an image, one slot after another.
-use Rattle.std.proofs.Common.{◌≡◌, ℕ, ◌+◌, ◌<◌, List, [], ◌∷◌, ◌++◌, map, length, take, All, Option, Some, None, unwrap_or, sym, ap, ap₂, ◌∙◌, subst, arith}
+use Rattle.scan_recovery.proofs.Common.{◌≡◌, ℕ, ◌+◌, ◌<◌, List, [], ◌∷◌, map, length, take, All, Option, Some, None, sym, ap, ap₂, ◌∙◌, subst, arith, length-map, get_or-map, all_from, Protocol, Slot, Seen, Contents, slot_at, Found, SlotReads, records_in, IsScanOf}
+use Rattle.std.proofs.Common.{◌++◌, unwrap_or}
 use Rattle.std.specs.Prelude.{MatchOption}
 use Rattle.std.specs.List.{cons_option}
-use Rattle.std.proofs.lemmas.List.{length-map, get_or-map, take-map, map-append, take_more, get_or-take, length-take-le}
+use Rattle.std.proofs.lemmas.List.{take-map, map-append, take_more, get_or-take, length-take-le}
 use Rattle.std.proofs.lemmas.List.Elements.{All-append}
-use Rattle.list_facts.proofs.Membership.{all_from, Contains-one}
-use Rattle.tx_types.specs.declared.config.Protocol.{Protocol}
-use Rattle.tx_types.specs.declared.config.Slot.{Slot}
-use Rattle.flash_model.specs.declared.flash.Seen.{Seen}
-use Rattle.flash_model.specs.Flash.{Contents, blank, slot_at}
+use Rattle.list_lemmas.proofs.Membership.{Contains-one}
+use Rattle.flash_model.specs.Flash.{blank}
 use Rattle.flash_model.specs.Calls.{seen_of}
-use Rattle.record_list.specs.declared.found.Found.{Found}
 use Rattle.record_list.specs.Written.{records_of}
 use Rattle.version_index.specs.declared.note.Note.{Note}
 use Rattle.version_index.specs.declared.note.Note.TheVariants.{Blank}
-use Rattle.version_index.specs.Images.{SlotReads, records_in}
 use Rattle.version_index.specs.Notes.{seen_as, found_at, found_in, note_of, notes_of}
 use Rattle.version_index.proofs.OfTables.FoundIn.{found_in_more}
 use Rattle.version_index.proofs.OfLaws.ImageScans.{written_in_is}
 use Rattle.version_index.proofs.OfLaws.NotedImages.{found_in_notes, note_reads}
-use Rattle.scan_recovery.specs.Scans.{IsScanOf, IsNote}
+use Rattle.scan_recovery.specs.Scans.{IsNote}
 
 -- the slots below this one keep law 1, and are noted
 abbrev pub IsScanTo : Protocol → ℕ → List Contents → ℕ → List Seen → List Found → Type 0

@@ -1,30 +1,18 @@
 -- A block that is all blank is removable, and what becomes the spare.
-use Rattle.std.proofs.Common.{◌≡◌, ℕ, ◌+◌, ◌-◌, ◌*◌, ◌<◌, ◌⊎◌, true, List, map, length, get_or, Option, Some, None, refl, sym, ap, ◌∙◌, subst, inl, inr, arith}
-use Rattle.std.proofs.Common.{Contains}
-use Rattle.std.proofs.lemmas.Bool.{false≢true, cases_Bool}
+use Rattle.scan_recovery.proofs.Common.{◌≡◌, ℕ, ◌+◌, ◌-◌, ◌*◌, ◌<◌, ◌⊎◌, true, List, map, length, get_or, Option, Some, None, refl, sym, ap, ◌∙◌, subst, inl, inr, arith, Contains, false≢true, cases_Bool, all_from, Protocol, Shape, Block, blocks_of, Seen, Blank, Found, name_of, is_present, IsCurrent, is_held, left, is_outside, IsRemovable, HasRemovable, complete_slots, reads_blank, IsChosenFrom, FindsHighest}
 use Rattle.std.proofs.lemmas.Option.{none-some, same_Some}
 use Rattle.std.proofs.lemmas.List.Folds.{list_all_at}
-use Rattle.list_facts.proofs.Membership.{map_in, all_from, in_filter}
-use Rattle.list_facts.proofs.Chunks.{chunk_at, length-chunk}
-use Rattle.tx_types.specs.declared.config.Protocol.{Protocol}
-use Rattle.tx_types.specs.declared.config.Shape.{Shape}
-use Rattle.tx_types.specs.declared.config.Block.{Block}
-use Rattle.tx_types.specs.Config.{blocks_of}
-use Rattle.flash_model.specs.declared.flash.Seen.{Seen}
-use Rattle.flash_model.specs.declared.flash.Seen.TheVariants.{Blank, Complete, Damaged}
-use Rattle.record_list.specs.declared.found.Found.{Found}
-use Rattle.record_list.specs.Records.{name_of, is_present}
-use Rattle.record_list.specs.Current.{IsCurrent, is_held}
-use Rattle.record_list.specs.Changes.{left}
-use Rattle.record_list.specs.Written.{is_outside, IsRemovable, HasRemovable}
+use Rattle.list_lemmas.proofs.Membership.{map_in, in_filter}
+use Rattle.list_lemmas.proofs.Chunks.{chunk_at, length-chunk}
+use Rattle.flash_model.specs.declared.flash.Seen.TheVariants.{Complete, Damaged}
 use Rattle.record_list.proofs.OfFacts.Names.{present_in}
-use Rattle.version_index.specs.Notes.{complete_at, complete_slots}
-use Rattle.version_index.proofs.OfTables.Given.{given_from}
+use Rattle.version_index.specs.Notes.{complete_at}
+use Rattle.version_index.proofs.OfTables.BaseTables.{given_from}
 use Rattle.version_index.proofs.OfTables.Blocks.{in_it, inside_block}
 use Rattle.version_index.proofs.OfOpening.Scans.{numbered_complete}
-use Rattle.flash_model.specs.Readings.{reads_blank, seen_in_block}
-use Rattle.version_index.specs.Opening.{IsBlankBlock, HasNoBlankBlock, IsHighest, IsChosenFrom}
-use Rattle.scan_recovery.specs.Opening.{FindsHighest, FindsSpare}
+use Rattle.flash_model.specs.Readings.{seen_in_block}
+use Rattle.version_index.specs.Opening.{IsBlankBlock, HasNoBlankBlock, IsHighest}
+use Rattle.scan_recovery.specs.Opening.{FindsSpare}
 
 -- a slot that reads complete
 record ReadsComplete (slots : List Seen) (slot : ℕ) : Type 0 where

@@ -1,30 +1,11 @@
 -- A list and its records in order of their names have the same removable blocks.
-use Rattle.std.proofs.Common.{◌≡◌, ℕ, ◌<◌, ◌⊎◌, Bool, true, ◌==◌, ◌&&◌, nat_lt, List, length, All, Contains, map, Option, None, Some, refl, sym, ap, ap₂, ◌∙◌}
-use Rattle.std.proofs.Common.{subst}
-use Rattle.std.proofs.lemmas.List.Elements.{All-contains}
-use Rattle.std.proofs.lemmas.List.Sorted.{IsPermutation-sym, Contains-permutation, list_any-IsPermutation}
-use Rattle.list_facts.proofs.Membership.{all_from}
-use Rattle.list_facts.proofs.Pairs.{of_any_two}
-use Rattle.list_facts.proofs.Tests.{any_same}
-use Rattle.tx_types.specs.declared.config.Protocol.{Protocol}
-use Rattle.tx_types.specs.declared.config.Protocol.TheVariants.{Scc, Bpcc}
-use Rattle.tx_types.specs.declared.config.Shape.{Shape}
-use Rattle.tx_types.specs.declared.config.Block.{Block}
-use Rattle.tx_types.specs.declared.record.Link.{Link}
-use Rattle.tx_types.specs.declared.record.Rec.{Rec}
-use Rattle.tx_types.specs.Config.{slots_of}
-use Rattle.flash_model.specs.declared.flash.Seen.{Seen}
-use Rattle.record_list.specs.declared.found.Found.{Found}
-use Rattle.record_list.specs.Records.{IsScanned, name_of, has_name, is_present}
+use Rattle.scan_recovery.proofs.Common.{◌≡◌, ℕ, ◌<◌, ◌⊎◌, Bool, true, ◌==◌, ◌&&◌, nat_lt, List, length, All, Contains, map, Option, None, Some, refl, sym, ap, ap₂, ◌∙◌, subst, All-contains, IsPermutation-sym, Contains-permutation, all_from, Protocol, Scc, Bpcc, Shape, Block, Link, Rec, slots_of, Seen, Found, IsScanned, name_of, has_name, is_present, IsCurrent, is_held, CopiesAgree, left, is_outside, IsRemovable, Sorts, complete_slots, FindsHighest}
+use Rattle.std.proofs.lemmas.List.Sorted.{list_any-IsPermutation}
+use Rattle.list_lemmas.proofs.Pairs.{of_any_two}
+use Rattle.list_lemmas.proofs.Tests.{any_same}
 use Rattle.record_list.specs.Verdict.{straddles}
-use Rattle.record_list.specs.Current.{IsCurrent, answers_for, is_held}
-use Rattle.record_list.specs.SoundList.{CopiesAgree}
-use Rattle.record_list.specs.Changes.{left}
-use Rattle.record_list.specs.Written.{is_outside, IsRemovable}
-use Rattle.record_chart.specs.Charts.{Sorts}
-use Rattle.record_chart.proofs.OfSort.Alike.{cur_alike, responsible_alike}
-use Rattle.version_index.specs.Notes.{complete_slots}
-use Rattle.scan_recovery.specs.Opening.{FindsHighest}
+use Rattle.record_list.specs.Current.{answers_for}
+use Rattle.sorted_records.proofs.OfSort.Alike.{cur_alike, responsible_alike}
 use Rattle.scan_recovery.specs.Removable.{AreCopies}
 use Rattle.scan_recovery.proofs.spare.chosen_spare.Answers.BlankBlocks.{slot_within}
 use Rattle.scan_recovery.proofs.OfLinks.Outside.{present_left}

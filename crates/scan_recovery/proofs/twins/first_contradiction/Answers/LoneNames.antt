@@ -1,23 +1,13 @@
 -- Where no record in order has the name of the one before it, no two have one, and each is the lowest of its own.
-use Rattle.std.proofs.Common.{◌≡◌, ℕ, suc, ◌*◌, ◌<◌, ◌&&◌, not, eqb, Bool, true, false, List, [], ◌∷◌, length, get_or, find, Some, All, AllPairs, Contains}
-use Rattle.std.proofs.Common.{IfSome, refl, sym, ap, ◌∙◌, subst, inl, inr, arith}
+use Rattle.scan_recovery.proofs.Common.{◌≡◌, ℕ, suc, ◌*◌, ◌<◌, ◌&&◌, not, Bool, true, false, List, [], ◌∷◌, length, get_or, find, Some, All, AllPairs, Contains, IfSome, refl, sym, ap, ◌∙◌, subst, inl, inr, arith, false≢true, cases_Bool, cond-true, cond-false, get_or_default, Contains-permutation, all_from, pairs_head, pairs_tail, Link, FlashState, Contents, Found, nothing, name_of, has_name, same_name, has_name_true, has_own_name, Sorts, ReadsAll, NextDiffers, bytes_shown, is_compared, compared, AgreesWithLowest}
+use Rattle.std.proofs.Common.{eqb}
 use Rattle.std.specs.Option.{option_map_or}
-use Rattle.std.proofs.lemmas.Bool.{false≢true, cases_Bool, cond-true, cond-false, eq-eqb}
-use Rattle.std.proofs.lemmas.List.{get_or_default}
-use Rattle.std.proofs.lemmas.List.Sorted.{Contains-permutation}
-use Rattle.list_facts.proofs.Membership.{all_from, Contains-cases, Contains-nil}
-use Rattle.list_facts.proofs.Pairs.{pairs_head, pairs_tail}
-use Rattle.list_facts.proofs.Tests.{none_counted}
-use Rattle.tx_types.specs.declared.record.Link.{Link}
-use Rattle.flash_model.specs.Flash.{FlashState, Contents}
-use Rattle.record_list.specs.declared.found.Found.{Found}
-use Rattle.record_list.specs.Records.{nothing, name_of, has_name}
-use Rattle.record_list.proofs.OfFacts.Names.{same_name, has_name_true, has_own_name}
-use Rattle.record_chart.specs.Charts.{IsInOrder, Sorts}
-use Rattle.record_chart.proofs.OfSort.Order.{IsFrom, later_from}
-use Rattle.scan_recovery.specs.Reading.{ReadsAll}
-use Rattle.scan_recovery.specs.Searches.{NextDiffers}
-use Rattle.scan_recovery.specs.Twins.{is_equal, bytes_shown, is_compared, compared, AgreesWithLowest}
+use Rattle.std.proofs.lemmas.Bool.{eq-eqb}
+use Rattle.list_lemmas.proofs.Membership.{Contains-cases, Contains-nil}
+use Rattle.list_lemmas.proofs.Tests.{none_counted}
+use Rattle.sorted_records.specs.SortedRecords.{IsInOrder}
+use Rattle.sorted_records.proofs.OfSort.Order.{IsFrom, later_from}
+use Rattle.scan_recovery.specs.Twins.{is_equal}
 use Rattle.scan_recovery.proofs.OfScan.ReadingSteps.{reads_nothing}
 use Rattle.scan_recovery.proofs.OfLaws.TwinsAlike.{compared_alike, agrees_alike}
 

@@ -1,6 +1,6 @@
 -- The number had no record.
-use Rattle.std.proofs.Common.{◌<◌, refl, arith}
-use Rattle.slot_tables.specs.Kept.{IsNewest}
+use Rattle.slot_tables.proofs.Common.{◌<◌, refl, arith}
+use Rattle.slot_tables.specs.TablesState.{IsNewest}
 use Rattle.slot_tables.proofs.OfRecords.Numbering.{pages_long}
 use Rattle.slot_tables.proofs.OfRecords.Renumbering.{IsLoose, loose, numbered, numbered_pages}
 use Rattle.slot_tables.proofs.records.Records.add.Goals as goal

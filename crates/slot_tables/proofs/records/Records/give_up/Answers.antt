@@ -1,6 +1,5 @@
 -- The record stood in the list of its page.
-use Rattle.std.proofs.Common.{◌<◌, length, refl}
-use Rattle.slot_tables.specs.Kept.{record_at}
+use Rattle.slot_tables.proofs.Common.{◌<◌, length, refl, record_at}
 use Rattle.slot_tables.proofs.OfRecords.Renumbering.{some_record, unnumbered, unnumbered_pages}
 use Rattle.slot_tables.proofs.records.Records.give_up.Goals as goal
 

@@ -1,5 +1,5 @@
 -- All lists are empty at first.
-use Rattle.std.proofs.Common.{refl}
+use Rattle.slot_tables.proofs.Common.{refl}
 use Rattle.slot_tables.proofs.OfRecords.Renumbering.{none_numbered, none_pages}
 use Rattle.slot_tables.proofs.records.Records.new.Goals as goal
 

@@ -1,6 +1,5 @@
 -- The record that is looked for stands in what is left of the list of its page.
-use Rattle.std.proofs.Common.{◌≡◌, ◌<◌, Some, None, length, sym, ◌∙◌, ap, arith}
-use Rattle.slot_tables.specs.Kept.{record_at}
+use Rattle.slot_tables.proofs.Common.{◌≡◌, ◌<◌, Some, None, length, sym, ◌∙◌, ap, arith, record_at}
 use Rattle.slot_tables.proofs.OfRecords.Numbering.{pages_long, listed_record, same_record, ahead_first, ahead_next, none_behind, one_number}
 use Rattle.slot_tables.proofs.records.Records.number_of.Goals as goal
 

@@ -1,7 +1,4 @@
-use Rattle.std.proofs.Common.{length}
-use Rattle.std.specs.List.{Contains}
-use Rattle.std.specs.Option.{IfSome}
-use Rattle.plain_tables.specs.ChainLists.{list_of, rest_from}
+use Rattle.slot_tables.proofs.Common.{length, Contains, IfSome, list_of, rest_from}
 use Rattle.slot_tables.proofs.OfRecords.Numbering.{IsAhead}
 use Rattle.slot_tables.proofs.records.Records.number_of.Given as goal
 

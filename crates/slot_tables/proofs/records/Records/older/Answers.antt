@@ -1,6 +1,5 @@
 -- The record stands in the list of its page.
-use Rattle.std.proofs.Common.{◌≡◌, ◌<◌, Some, None, length, ◌∙◌}
-use Rattle.slot_tables.specs.Kept.{record_at}
+use Rattle.slot_tables.proofs.Common.{◌≡◌, ◌<◌, Some, None, length, ◌∙◌, record_at}
 use Rattle.slot_tables.proofs.OfRecords.Numbering.{record_listed, page_list}
 use Rattle.slot_tables.proofs.records.Records.older.Goals as goal
 

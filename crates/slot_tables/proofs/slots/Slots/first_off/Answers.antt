@@ -1,6 +1,5 @@
 -- The first slot that passes is the first of the copies that does.
-use Rattle.std.proofs.Common.{◌<◌, length, sym, ◌∙◌}
-use Rattle.plain_tables.specs.ChainLists.{list_of}
+use Rattle.slot_tables.proofs.Common.{◌<◌, length, sym, ◌∙◌, list_of}
 use Rattle.slot_tables.proofs.OfRecords.Rising.{find_first}
 use Rattle.slot_tables.proofs.slots.Slots.first_off.Goals as goal
 

@@ -1,8 +1,4 @@
-use Rattle.std.proofs.Common.{◌≡◌, length}
-use Rattle.std.specs.List.{Contains, find}
-use Rattle.std.specs.Option.{IfSome, option_map}
-use Rattle.record_list.specs.Written.{is_outside_spare}
-use Rattle.plain_tables.specs.ChainLists.{list_of, rest_from}
+use Rattle.slot_tables.proofs.Common.{◌≡◌, length, Contains, find, IfSome, option_map, is_outside_spare, list_of, rest_from}
 use Rattle.slot_tables.proofs.slots.Slots.first_off.Given as goal
 
 abbrev pub invariant-loop-slot : goal.invariant-loop-slot

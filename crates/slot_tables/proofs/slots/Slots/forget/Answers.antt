@@ -1,8 +1,6 @@
 -- The slot was in the list of its record.
-use Rattle.std.proofs.Common.{◌<◌, length, sym, ◌∙◌}
-use Rattle.std.proofs.lemmas.List.{get_or_read}
-use Rattle.slot_tables.specs.declared.slots.SlotUse.TheVariants.{Blank}
-use Rattle.slot_tables.proofs.OfGiven.Held.{list_has, forgot}
+use Rattle.slot_tables.proofs.Common.{◌<◌, length, sym, ◌∙◌, get_or_read, Blank}
+use Rattle.slot_tables.proofs.OfBaseTables.Held.{list_has, forgot}
 use Rattle.slot_tables.proofs.slots.Slots.forget.Goals as goal
 
 pub remove-requires : goal.remove-requires

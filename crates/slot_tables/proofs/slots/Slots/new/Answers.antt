@@ -1,10 +1,7 @@
 -- No slot holds a record.
-use Rattle.std.proofs.Common.{◌≡◌, ℕ, ◌<◌, List, [], length, refl, sym, ◌∙◌}
-use Rattle.std.proofs.lemmas.List.{get_or-replicate, length-replicate}
-use Rattle.slot_tables.specs.declared.slots.SlotUse.{SlotUse}
-use Rattle.slot_tables.specs.declared.slots.SlotUse.TheVariants.{Blank}
-use Rattle.slot_tables.proofs.OfGiven.Held.{none_held}
-use Rattle.slot_tables.proofs.OfGiven.Copying.{copies_none}
+use Rattle.slot_tables.proofs.Common.{◌≡◌, ℕ, ◌<◌, List, [], length, refl, sym, ◌∙◌, get_or-replicate, length-replicate, SlotUse, Blank}
+use Rattle.slot_tables.proofs.OfBaseTables.Held.{none_held}
+use Rattle.slot_tables.proofs.OfBaseTables.Copying.{copies_none}
 use Rattle.slot_tables.proofs.slots.Slots.new.Goals as goal
 
 pub invariant_of-result : goal.invariant_of-result

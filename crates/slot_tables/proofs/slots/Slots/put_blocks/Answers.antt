@@ -1,9 +1,7 @@
 -- The loop goes through the copies, and puts the block of each.
-use Rattle.std.proofs.Common.{◌<◌, ◌+◌, ◌++◌, ◌∷◌, [], List, ℕ, length, map, vec_len, refl, sym, ap, ◌∙◌, append_assoc, arith}
+use Rattle.slot_tables.proofs.Common.{◌<◌, ◌+◌, ◌++◌, ◌∷◌, [], List, ℕ, length, map, vec_len, refl, sym, ap, ◌∙◌, arith, list_of, rest_from, copies_of, block_at}
+use Rattle.std.proofs.Common.{append_assoc}
 use Rattle.std.proofs.lemmas.List.{append-nil}
-use Rattle.plain_tables.specs.ChainLists.{list_of, rest_from}
-use Rattle.slot_tables.specs.Kept.{copies_of}
-use Rattle.slot_tables.specs.Gathered.{block_at}
 use Rattle.slot_tables.proofs.OfRecords.Rising.{rest_starts}
 use Rattle.slot_tables.proofs.slots.Slots.put_blocks.Goals as goal
 

@@ -1,8 +1,5 @@
-use Rattle.std.proofs.Common.{◌≡◌, ◌+◌, ◌++◌, length, map, vec_len, vec_capacity}
-use Rattle.std.specs.List.{Contains}
-use Rattle.std.specs.Option.{IfSome}
-use Rattle.plain_tables.specs.ChainLists.{list_of, rest_from}
-use Rattle.slot_tables.specs.Gathered.{block_at}
+use Rattle.slot_tables.proofs.Common.{◌≡◌, ◌+◌, ◌++◌, length, map, vec_len, Contains, IfSome, list_of, rest_from, block_at}
+use Rattle.std.proofs.Common.{vec_capacity}
 use Rattle.slot_tables.proofs.slots.Slots.put_blocks.Given as goal
 
 abbrev pub invariant-loop-slot : goal.invariant-loop-slot

@@ -1,9 +1,7 @@
 -- What the slot held is forgotten first.
-use Rattle.std.proofs.Common.{inl, inr, length, set, ◌∙◌, ap}
-use Rattle.std.proofs.lemmas.List.{length-set, set-set}
-use Rattle.slot_tables.specs.declared.slots.SlotUse.TheVariants.{Holds}
-use Rattle.slot_tables.specs.Copies.{HoldsNone}
-use Rattle.slot_tables.proofs.OfGiven.Held.{list_rises, not_listed, unheld, placed}
+use Rattle.slot_tables.proofs.Common.{inl, inr, length, set, ◌∙◌, ap, set-set, Holds, HoldsNone}
+use Rattle.std.proofs.lemmas.List.{length-set}
+use Rattle.slot_tables.proofs.OfBaseTables.Held.{list_rises, not_listed, unheld, placed}
 use Rattle.slot_tables.proofs.slots.Slots.set.Goals as goal
 
 pub invariant_of-self : goal.invariant_of-self

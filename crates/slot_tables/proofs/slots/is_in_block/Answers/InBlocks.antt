@@ -1,8 +1,5 @@
 -- A slot lies in a block where it is not before the block's first slot, and less than a block behind it.
-use Rattle.std.proofs.Common.{◌≡◌, ◌≢◌, ℕ, ◌+◌, ◌*◌, ◌-◌, ◌/◌, ◌<◌, ◌≤◌, true, false, ltb, eqb, inl, inr, sym, ◌∙◌, ap, arith}
-use Rattle.std.proofs.Math.Nat.{lt-div-mul-add}
-use Rattle.std.proofs.lemmas.Bool.{cases_lt}
-use Rattle.std.proofs.lemmas.Bool.Decides.{nat_tests}
+use Rattle.slot_tables.proofs.Common.{◌≡◌, ◌≢◌, ℕ, ◌+◌, ◌*◌, ◌-◌, ◌/◌, ◌<◌, ◌≤◌, true, false, ltb, eqb, inl, inr, sym, ◌∙◌, ap, arith, lt-div-mul-add, cases_lt, nat_tests}
 use Rattle.std.proofs.lemmas.Nat.{div-mul-add}
 
 pub in_block : (at block size : ℕ) → 0 < size → block * size ≤ at → ltb (at - block * size) size ≡ eqb (at / size) block

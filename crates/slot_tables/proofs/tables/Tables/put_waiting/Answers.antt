@@ -1,10 +1,7 @@
 -- The loop goes through the records that wait for the page.
-use Rattle.std.proofs.Common.{◌≡◌, ◌++◌, ◌↔◌, List, ℕ, Some, length, map, refl, sym, ap, ◌∙◌, subst, append_assoc, arith}
-use Rattle.std.specs.List.{Contains, flat_map}
-use Rattle.std.proofs.lemmas.List.{append-nil, length-append, length-map, map-append}
-use Rattle.plain_tables.specs.ChainLists.{list_of, rest_from}
-use Rattle.slot_tables.specs.Kept.{Kept, IsKept, number_at}
-use Rattle.slot_tables.specs.Gathered.{block_at, copies_below}
+use Rattle.slot_tables.proofs.Common.{◌≡◌, ◌++◌, ◌↔◌, List, ℕ, Some, length, map, refl, sym, ap, ◌∙◌, subst, arith, Contains, flat_map, length-map, list_of, rest_from, TablesState, IsTablesState, number_at, block_at, copies_below}
+use Rattle.std.proofs.Common.{append_assoc}
+use Rattle.std.proofs.lemmas.List.{append-nil, length-append, map-append}
 use Rattle.slot_tables.proofs.OfSlots.GatheredSlots.{gathered, few_below}
 use Rattle.slot_tables.proofs.OfRecords.Rising.{rest_starts}
 use Rattle.slot_tables.proofs.tables.Tables.put_waiting.Goals as goal
@@ -43,7 +40,7 @@ put_below-requires-clause-room c =
     let order = ap (rest_from xs) c.in-Some.is ∙ rest_starts xs c.in-Some.number has in
     let starts = ap (λ r. length (all r)) order ∙ length-append own _ in
     let few = few_below k c.args.below xs (c.by_page-waiting.ensures.disjoint.once c.args.page) in
-    let kept = subst IsKept c.self.view_is c.self.invariant.sized.kept in
+    let kept = subst IsTablesState c.self.view_is c.self.invariant.sized.kept in
     omega (arith, starts, few, kept.slots, c.requires.room, c.loop-next.invariant.1, c.loop-next.invariant.2)
 
 pub next-next-requires : goal.next-next-requires
@@ -77,7 +74,7 @@ returns-clause-gathered c =
     let is = sym (append-nil c.loop-next.into.items)
     ∙ ap (λ s. c.loop-next.into.items ++ map b (all (rest_from xs s))) (sym c.in_default.is) ∙ c.loop-next.invariant.0 in
     gathered k c.args.page c.args.below xs (c.by_page-waiting.ensures.disjoint.once c.args.page)
-    (λ x. subst (λ (n : Kept). Contains xs x ↔ (number_at n.waits x ≡ Some c.args.page)) c.self.view_is
+    (λ x. subst (λ (n : TablesState). Contains xs x ↔ (number_at n.waits x ≡ Some c.args.page)) c.self.view_is
     (c.by_page-waiting.ensures.waiting c.args.page x)) c.loop-next.into.items is
 
 pub returns-clause-len : goal.returns-clause-len

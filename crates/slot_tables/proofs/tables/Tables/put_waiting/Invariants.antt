@@ -1,8 +1,5 @@
-use Rattle.std.proofs.Common.{◌≡◌, ◌+◌, ◌++◌, length, map, vec_len, vec_capacity}
-use Rattle.std.specs.List.{Contains, flat_map}
-use Rattle.std.specs.Option.{IfSome}
-use Rattle.plain_tables.specs.ChainLists.{list_of, rest_from}
-use Rattle.slot_tables.specs.Gathered.{block_at, copies_below}
+use Rattle.slot_tables.proofs.Common.{◌≡◌, ◌+◌, ◌++◌, length, map, vec_len, Contains, flat_map, IfSome, list_of, rest_from, block_at, copies_below}
+use Rattle.std.proofs.Common.{vec_capacity}
 use Rattle.slot_tables.proofs.tables.Tables.put_waiting.Given as goal
 
 abbrev pub invariant-loop-next : goal.invariant-loop-next

@@ -1,4 +1,4 @@
-use Rattle.slot_tables.proofs.OfGiven.Settling.{waits_set}
+use Rattle.slot_tables.proofs.OfBaseTables.Refreshing.{waits_set}
 use Rattle.slot_tables.proofs.tables.Tables.set_waits.Goals as goal
 
 pub invariant_of-self : goal.invariant_of-self

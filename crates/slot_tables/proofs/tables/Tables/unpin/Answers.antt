@@ -1,13 +1,13 @@
 -- The home of the record that the old pin names is settled, and the new pin names none.
-use Rattle.std.proofs.Common.{◌<◌, None, length, sym, ◌∙◌, arith}
-use Rattle.slot_tables.proofs.OfGiven.Settling.{pin_set, found_lies}
+use Rattle.slot_tables.proofs.Common.{◌<◌, None, length, sym, ◌∙◌, arith}
+use Rattle.slot_tables.proofs.OfBaseTables.Refreshing.{pin_set, found_lies}
 use Rattle.slot_tables.proofs.tables.Tables.unpin.Goals as goal
 
 pub pinned_number-before-requires-clause-above : goal.pinned_number-before-requires-clause-above
 pinned_number-before-requires-clause-above c = rw (← c.self.view_is) at c.requires.above
 
-pub settle_home-requires-clause-number : goal.settle_home-requires-clause-number
-settle_home-requires-clause-number c =
+pub refresh_home-requires-clause-number : goal.refresh_home-requires-clause-number
+refresh_home-requires-clause-number c =
     let kept = c.self.invariant.sized.kept in
     found_lies _ _ _ c.pinned_number-before.result (kept.slots ∙ sym kept.records) c.pinned_number-before.ensures.found
 
@@ -15,9 +15,9 @@ pub invariant_of-self : goal.invariant_of-self
 invariant_of-self c =
     let t = c.self.inside in
     let kept = c.self.invariant.sized.kept in
-    let low : c.args.page < length t.given.pins.items = rw kept.pins (rw (← c.self.view_is) at c.requires.page) in
+    let low : c.args.page < length t.base.pins.items = rw kept.pins (rw (← c.self.view_is) at c.requires.page) in
     let above = rw (← c.self.view_is) at c.requires.above in
-    rw c.settle_home.ensures
+    rw c.refresh_home.ensures
     (pin_set t c.self.invariant c.args.page 0 c.pinned_number-before.result None low
     (λ number r e names. (c.pinned_number-before.ensures.names number r e).0 names)
     (λ number r e names. absurd (omega (arith, above number r e names.0, names.1))))

@@ -1,8 +1,7 @@
 -- The first of the list of the page.
-use Rattle.std.proofs.Common.{subst}
-use Rattle.slot_tables.specs.Kept.{IsKept}
-use Rattle.slot_tables.proofs.OfWaits.Ranges.{waiting_below}
-use Rattle.slot_tables.proofs.OfWaits.WaitingFor.{some_waits, none_waits}
+use Rattle.slot_tables.proofs.Common.{subst, IsTablesState}
+use Rattle.slot_tables.proofs.OfWaitList.Ranges.{waiting_below}
+use Rattle.slot_tables.proofs.OfWaitList.WaitingFor.{some_waits, none_waits}
 use Rattle.slot_tables.proofs.tables.Tables.waiting.Goals as goal
 
 pub returns-clause-some : goal.returns-clause-some
@@ -12,4 +11,4 @@ pub returns-clause-none : goal.returns-clause-none
 returns-clause-none c = rw (← c.self.view_is) (none_waits _ _ c.args.page c.first.result c.by_page.ensures c.first.ensures.order)
 
 pub returns-clause-within : goal.returns-clause-within
-returns-clause-within c = waiting_below c.args.self.now (subst IsKept c.self.view_is c.self.invariant.sized.kept) c.args.page _ (returns-clause-some c)
+returns-clause-within c = waiting_below c.args.self.now (subst IsTablesState c.self.view_is c.self.invariant.sized.kept) c.args.page _ (returns-clause-some c)

@@ -1,25 +1,10 @@
 -- The programs of the chosen transactions are planned die after die: what is left to plan comes to the same.
-use Rattle.std.proofs.Common.{◌≡◌, ◌⊎◌, ℕ, suc, ◌+◌, ◌-◌, ◌<◌, ◌≤◌, true, false, List, [], ◌∷◌, ◌++◌, length, drop, None, Some, sym, ap, ◌∙◌}
-use Rattle.std.proofs.Common.{inl, inr, arith}
-use Rattle.std.specs.List.{range_with_len}
-use Rattle.std.proofs.lemmas.Bool.{cases_lt}
-use Rattle.std.proofs.lemmas.List.{append_assoc, append-nil, drop_all, drop_more, length-append}
-use Rattle.tx_types.specs.declared.config.Slot.{Slot}
-use Rattle.tx_types.specs.declared.record.Link.{Link}
-use Rattle.tx_types.specs.declared.record.Rec.{Rec}
-use Rattle.record_list.specs.Transaction.{back_version}
-use Rattle.version_index.specs.Notes.{found_in}
-use Rattle.version_index.specs.Noted.{Noted}
+use Rattle.tx_engine.proofs.Common.{◌≡◌, ◌⊎◌, ℕ, suc, ◌+◌, ◌-◌, ◌<◌, ◌≤◌, true, false, List, [], ◌∷◌, ◌++◌, length, drop, None, Some, sym, ap, ◌∙◌, inl, inr, arith, range_with_len, cases_lt, append_assoc, append-nil, drop_all, drop_more, length-append, Slot, Link, Rec, back_version, found_in, IndexState, name_at, BlocksState, next_slot_in, chosen_from, is_ready, jobs_of, record_due, OpenTransactionsState, no_transaction, transaction_at, Job}
 use Rattle.tx_engine.specs.Calls.{IsRecordDue}
-use Rattle.tx_engine.specs.Standing.{name_at}
-use Rattle.die_alloc.specs.BlockTable.{BlockTable}
-use Rattle.die_alloc.specs.NextSlot.{next_slot_in}
-use Rattle.tx_engine.specs.Batches.{chosen_from, chosen_in, is_ready, jobs_of, record_due}
-use Rattle.tx_engine.specs.OpenTable.{OpenTable, no_opening, opening_at}
-use Rattle.tx_engine.specs.declared.jobs.Job.{Job}
+use Rattle.tx_engine.specs.Batches.{chosen_in}
 use Rattle.tx_engine.proofs.OfStepAll.Chosen.{chosen_ends, chosen_full, chosen_more, chosen_stops}
 
-module _ (n : Noted) (t : BlockTable) (O : OpenTable) where
+module _ (n : IndexState) (t : BlocksState) (O : OpenTransactionsState) where
   -- the dies from one of them on
   abbrev pub dies_on : ℕ → List ℕ
   dies_on die = range_with_len die (t.shape.dies - die)
@@ -35,14 +20,14 @@ module _ (n : Noted) (t : BlockTable) (O : OpenTable) where
 
   module _ (jobs : List Job) (die : ℕ) (h : PlannedTo jobs die) where
     -- no transaction more is ready, or none is left
-    pub planned_stops : (length jobs ≡ length O.all) ⊎ (is_ready n (opening_at O (length jobs)) ≡ false) → jobs ≡ jobs_of n (chosen_in n t O.all)
+    pub planned_stops : (length jobs ≡ length O.all) ⊎ (is_ready n (transaction_at O (length jobs)) ≡ false) → jobs ≡ jobs_of n (chosen_in n t O.all)
     planned_stops why =
         let none : chosen_from n t (dies_on die) (drop (length jobs) O.all) ≡ [] = elim why [
           | inl all ↦ ap (chosen_from n t (dies_on die)) (drop_all (length jobs) O.all (omega (arith, all))) ∙ chosen_ends n t (dies_on die)
           | inr fails ↦ elim (cases_lt (length jobs) (length O.all)) [
             | inr past ↦ ap (chosen_from n t (dies_on die)) (drop_all (length jobs) O.all past) ∙ chosen_ends n t (dies_on die)
-            | inl less ↦ ap (chosen_from n t (dies_on die)) (drop_more O.all (length jobs) no_opening less)
-                ∙ chosen_stops n t (dies_on die) (opening_at O (length jobs)) (drop (length jobs + 1) O.all) fails
+            | inl less ↦ ap (chosen_from n t (dies_on die)) (drop_more O.all (length jobs) no_transaction less)
+                ∙ chosen_stops n t (dies_on die) (transaction_at O (length jobs)) (drop (length jobs + 1) O.all) fails
           ]
         ] in
         sym (append-nil jobs) ∙ ap (λ chosen. jobs ++ jobs_of n chosen) (sym none) ∙ h.planned
@@ -64,15 +49,15 @@ module _ (n : Noted) (t : BlockTable) (O : OpenTable) where
 
     -- the next transaction has it
     pub planned_more : (at : Slot) (job : Job) → die < t.shape.dies → length jobs < length O.all → next_slot_in t die ≡ Some at →
-        is_ready n (opening_at O (length jobs)) ≡ true → job ≡ record { slot = at; rec = record_due n (opening_at O (length jobs)) } →
+        is_ready n (transaction_at O (length jobs)) ≡ true → job ≡ record { slot = at; rec = record_due n (transaction_at O (length jobs)) } →
         PlannedTo (jobs ++ job ∷ []) (die + 1)
     planned_more at job low less some passes is =
-        let o = opening_at O (length jobs) in
+        let o = transaction_at O (length jobs) in
         let rest = drop (length jobs + 1) O.all in
         let long : length (jobs ++ job ∷ []) ≡ length jobs + 1 = length-append jobs (job ∷ []) in
         let here : chosen_from n t (dies_on die) (drop (length jobs) O.all) ≡ (at, o) ∷ chosen_from n t (dies_on (die + 1)) rest =
         ap (λ dies. chosen_from n t dies (drop (length jobs) O.all)) (next_dies die low)
-        ∙ ap (chosen_from n t (die ∷ dies_on (die + 1))) (drop_more O.all (length jobs) no_opening less)
+        ∙ ap (chosen_from n t (die ∷ dies_on (die + 1))) (drop_more O.all (length jobs) no_transaction less)
         ∙ chosen_more n t die (dies_on (die + 1)) at o rest some passes in
         record {
           planned =
@@ -85,9 +70,9 @@ module _ (n : Noted) (t : BlockTable) (O : OpenTable) where
         }
 
 -- the record that is due, by its parts
-pub record_is : (n : Noted) (O : OpenTable) (at : ℕ) (rec : Rec) → IsRecordDue n O at rec → rec ≡ record_due n (opening_at O at)
+pub record_is : (n : IndexState) (O : OpenTransactionsState) (at : ℕ) (rec : Rec) → IsRecordDue n O at rec → rec ≡ record_due n (transaction_at O at)
 record_is n O at rec h =
-    let o = opening_at O at in
+    let o = transaction_at O at in
     let name = name_at o.naming o.entry.done in
     let page : rec.page ≡ name.page = ap (λ (a : Link). a.page) h.named in
     let version : rec.version ≡ name.version = ap (λ (a : Link). a.version) h.named in

@@ -1,45 +1,22 @@
 -- Programs that were broken, each by itself: the tables that match what they left, by induction over states in which no flash was.
-use Rattle.std.proofs.Common.{◌≡◌, ◌≢◌, ℕ, ◌+◌, ◌<◌, List, [], ◌∷◌, ◌++◌, length, refl, sym, ap, ◌∙◌, subst, inl, inr, arith, eq-eqb}
-use Rattle.std.proofs.Common.{ne_eqb}
-use Rattle.std.specs.Prelude.{slice_index}
-use Rattle.std.proofs.lemmas.Bool.{cases_eq, cond-true, cond-false}
-use Rattle.list_facts.proofs.Membership.{all_from}
-use Rattle.list_facts.proofs.Pairs.{pairs_head, pairs_tail}
-use Rattle.tx_types.specs.declared.config.Config.{Config}
-use Rattle.flash_model.specs.declared.outcome.Outcome.{Outcome}
+use Rattle.tx_engine.proofs.Common.{◌≡◌, ◌≢◌, ℕ, ◌+◌, ◌<◌, List, [], ◌∷◌, ◌++◌, length, refl, sym, ap, ◌∙◌, subst, inl, inr, arith, eq-eqb, ne_eqb, slice_index, cases_eq, cond-true, cond-false, all_from, pairs_head, pairs_tail, Config, Outcome, FlashState, die_of, left_each, load_left, IsSoundImage, array_in, records_in, found_in, IndexState, damaged_at, mention_of, programmed, mention, BlocksState, with_slot, array_known, MayTakeEach, Entry, Pages, page_at, put, AreJobsDue, InOrderOfDies, load_of, loads_for, taken_writes, ExitsTables, MentionsAtMost, OpenTransactionsState, bytes_due, namings_of, transaction_at, with_transaction, is_at_last, with_next, Job}
 use Rattle.flash_model.specs.declared.outcome.Outcome.TheVariants as outcome
-use Rattle.flash_model.specs.Flash.{FlashState}
-use Rattle.flash_model.specs.Operations.{die_of, left_each, load_left}
-use Rattle.version_index.specs.Images.{IsSoundImage, array_in, records_in}
-use Rattle.version_index.specs.Notes.{found_in}
-use Rattle.version_index.specs.Noted.{Noted, damaged_at, mention_of, programmed}
-use Rattle.record_list.specs.Records.{mention}
-use Rattle.die_alloc.specs.BlockTable.{BlockTable, with_slot}
-use Rattle.collector.specs.Known.{array_known}
 use Rattle.collector.specs.declared.unsure.Unsure.TheVariants as unsure
-use Rattle.array_machine.specs.Batches.{MayTakeEach}
 use Rattle.array_machine.specs.Step.{IsAtLast}
-use Rattle.tx_engine.specs.ArrayState.{Entry, Pages, page_at, put}
-use Rattle.tx_engine.specs.BatchCalls.{AreJobsDue, InOrderOfDies, load_of, loads_for}
-use Rattle.tx_engine.specs.Batches.{taken_writes}
-use Rattle.tx_engine.specs.Exits.{ExitsTables, MentionsAtMost}
-use Rattle.tx_engine.specs.OpenTable.{OpenTable, bytes_due, namings_of, opening_at, with_opening}
-use Rattle.tx_engine.specs.Settling.{is_at_last, with_next}
-use Rattle.tx_engine.specs.declared.jobs.Job.{Job}
-use Rattle.tx_engine.proofs.OfStanding.ExitsThen.{before_itself, tables_then}
-use Rattle.tx_engine.proofs.OfStanding.Kept.{IsKept}
+use Rattle.tx_engine.proofs.OfDevice.ExitsThen.{before_itself, tables_then}
+use Rattle.tx_engine.proofs.OfDevice.Kept.{BlocksInvariant}
 use Rattle.tx_engine.proofs.OfStepAll.JobsBeside.{jobs_beside, loads_beside, pages_low, spoilt_off}
 use Rattle.tx_engine.proofs.OfStepAll.LoadLeft.{HasLaws, kept_same, spoilt_kept, spoilt_pages, spoilt_preserves, whole_kept}
-use Rattle.tx_engine.proofs.batches.write_all.Answers.Wholes.{entries_for, standing_with, taken_next, whole_beside, whole_entries, whole_loads, whole_pages}
+use Rattle.tx_engine.proofs.batches.write_all.Answers.Wholes.{entries_for, device_with, taken_next, whole_beside, whole_entries, whole_loads, whole_pages}
 use Rattle.tx_engine.proofs.batches.write_all.Answers.Wholes.{whole_tables}
 
 -- tables that match what was left: each transaction at its last page was taken or not
-pub record SomeLeft {F : Type 0} (f : F) (s s' : FlashState) (n : Noted) (t : BlockTable) (O : OpenTable) (i : ℕ) (jobs : List Job) : Type 0 where
-  pub noted : Noted
-  pub table : BlockTable
-  pub opens : OpenTable
-  pub kept : IsKept s' noted table unsure.Nothing opens
-  pub tables : ExitsTables (standing_with f s.image n t O) (standing_with f s'.image noted table opens)
+pub record SomeLeft {F : Type 0} (f : F) (s s' : FlashState) (n : IndexState) (t : BlocksState) (O : OpenTransactionsState) (i : ℕ) (jobs : List Job) : Type 0 where
+  pub noted : IndexState
+  pub table : BlocksState
+  pub opens : OpenTransactionsState
+  pub kept : BlocksInvariant s' noted table unsure.Nothing opens
+  pub tables : ExitsTables (device_with f s.image n t O) (device_with f s'.image noted table opens)
   pub taken : MayTakeEach (array_known n s.image) IsAtLast (entries_for O i jobs) (array_known noted s'.image)
 
 -- the transaction's program is whole: it is taken where that was its last page
@@ -54,8 +31,8 @@ took old mid new e es fs is same whole more h =
       | inr fewer ↦ inl (subst (λ ws. MayTakeEach (put old ws) IsAtLast es new) (more fewer) its)
     ]
 
-pub some_left : {F : Type 0} (f : F) (jobs : List Job) (hows : List Outcome) (s s' : FlashState) (n : Noted) (t : BlockTable) (O : OpenTable) (i : ℕ) →
-    HasLaws n.config.protocol → IsKept s n t unsure.Nothing O → O.page_bytes ≡ n.config.page_bytes → AreJobsDue n t O i jobs → InOrderOfDies s.shape jobs →
+pub some_left : {F : Type 0} (f : F) (jobs : List Job) (hows : List Outcome) (s s' : FlashState) (n : IndexState) (t : BlocksState) (O : OpenTransactionsState) (i : ℕ) →
+    HasLaws n.config.protocol → BlocksInvariant s n t unsure.Nothing O → O.page_bytes ≡ n.config.page_bytes → AreJobsDue n t O i jobs → InOrderOfDies s.shape jobs →
     length hows ≡ length jobs → s'.shape ≡ s.shape → s'.image ≡ left_each s.image (loads_for n O i jobs) hows → SomeLeft f s s' n t O i jobs
 some_left {F} f [] hows s s' n t O i laws k size due dies long shape image = record {
   noted = n;
@@ -91,8 +68,8 @@ some_left {F} f (job ∷ jobs) (outcome.Bad ∷ hows) s s' n t O i laws k size d
     let rest = some_left f jobs hows mid s' n1 t1 O (i + 1) laws kept size later
     (pairs_tail (λ (a b : Job). die_of s.shape a.slot.0 < die_of s.shape b.slot.0) job jobs dies) (omega arith) shape
     (image ∙ ap (λ ls. left_each mid.image ls hows) (sym loads)) in
-    let a = standing_with f s.image n t O in
-    let b = standing_with f mid.image n1 t1 O in
+    let a = device_with f s.image n t O in
+    let b = device_with f mid.image n1 t1 O in
     let first : ExitsTables a b = record {
       config = refl;
       versions = λ page low. inr (keeps.current page low, ap (λ (ps : Pages). page_at ps page) pages);
@@ -105,15 +82,15 @@ some_left {F} f (job ∷ jobs) (outcome.Bad ∷ hows) s s' n t O i laws k size d
       table = rest.table;
       opens = rest.opens;
       kept = rest.kept;
-      tables = tables_then (λ (x : F). s) a b (standing_with f s'.image rest.noted rest.table rest.opens) refl refl first rest.tables;
+      tables = tables_then (λ (x : F). s) a b (device_with f s'.image rest.noted rest.table rest.opens) refl refl first rest.tables;
       taken = inl (subst (λ ps. MayTakeEach ps IsAtLast (entries_for O (i + 1) jobs) (array_known rest.noted s'.image)) pages rest.taken);
     }
 some_left {F} f (job ∷ jobs) (outcome.All ∷ hows) s s' n t O i laws k size due dies long shape image =
     let mid : FlashState = record s { image = load_left s.image (load_of n job (bytes_due O i)) outcome.All } in
-    let o = opening_at O i in
+    let o = transaction_at O i in
     let n1 = programmed n job.slot.0 job.rec in
     let t1 = with_slot t job.slot.0 in
-    let O1 = with_opening O i (with_next o) in
+    let O1 = with_transaction O i (with_next o) in
     let kept = whole_kept s n t O i job laws k size due.0 mid refl refl in
     let loads = whole_loads f s n t O i job laws k size due.0 mid refl refl jobs in
     let rest = some_left f jobs hows mid s' n1 t1 O1 (i + 1) laws kept size (whole_beside f s n t O i job laws k size due.0 mid refl refl jobs dies due.1)
@@ -125,8 +102,8 @@ some_left {F} f (job ∷ jobs) (outcome.All ∷ hows) s s' n t O i laws k size d
       table = rest.table;
       opens = rest.opens;
       kept = rest.kept;
-      tables = tables_then (λ (x : F). s) (standing_with f s.image n t O) (standing_with f mid.image n1 t1 O1)
-          (standing_with f s'.image rest.noted rest.table rest.opens)
+      tables = tables_then (λ (x : F). s) (device_with f s.image n t O) (device_with f mid.image n1 t1 O1)
+          (device_with f s'.image rest.noted rest.table rest.opens)
           refl refl (whole_tables f s n t O i job laws k size due.0 mid refl refl) rest.tables;
       taken = took (array_known n s.image) (array_known n1 mid.image) (array_known rest.noted s'.image) o.entry (entries_for O (i + 1) jobs)
           (entries_for O1 (i + 1) jobs) (whole_pages f s n t O i job laws k size due.0 mid refl refl)
@@ -142,7 +119,7 @@ take_fewer [] (x ∷ fs) old new Q h = inl (take_fewer [] fs old new Q h)
 take_fewer (e ∷ es) fs old new Q (inl h) = inl (take_fewer es fs old new Q h)
 take_fewer (e ∷ es) fs old new Q (inr h) = inr (h.0, take_fewer es fs (put old e.writes) new Q h.1)
 
-module _ {F : Type 0} (f : F) (s s' : FlashState) (n : Noted) (t : BlockTable) (O : OpenTable) (i : ℕ) (jobs : List Job) (laws : HasLaws n.config.protocol)
+module _ {F : Type 0} (f : F) (s s' : FlashState) (n : IndexState) (t : BlocksState) (O : OpenTransactionsState) (i : ℕ) (jobs : List Job) (laws : HasLaws n.config.protocol)
     (left : SomeLeft f s s' n t O i jobs) where
   its_laws : HasLaws left.noted.config.protocol
   its_laws = subst (λ (c : Config). HasLaws c.protocol) (sym left.tables.config) laws

@@ -1,56 +1,34 @@
 -- The fire of several programs as a call: what it asks for, and what it leaves where it is done and where it is broken.
-use Rattle.std.proofs.Common.{◌≡◌, ◌≢◌, ℕ, suc, ◌+◌, ◌<◌, List, [], ◌∷◌, ◌++◌, length, take, drop, replicate, All, AllPairs, Option}
-use Rattle.std.proofs.Common.{Result, Ok, Err, refl, sym, ap, ap₂, ◌∙◌, subst, arith}
-use Rattle.std.specs.List.{flat_map}
-use Rattle.std.proofs.lemmas.List.{drop_more, get_or-map, length-map, take-append-drop}
-use Rattle.std.proofs.lemmas.List.Elements.{All-nil, All-cons, All-head, All-tail, All-contains}
-use Rattle.list_facts.proofs.Membership.{all_from}
-use Rattle.list_facts.proofs.Pairs.{pairs_cons, pairs_head, pairs_tail}
-use Rattle.tx_types.specs.Config.{slots_of}
-use Rattle.tx_types.specs.declared.config.Protocol.{Protocol}
-use Rattle.tx_types.specs.declared.config.Shape.{Shape}
-use Rattle.flash_model.specs.declared.flash.Broken.{Broken}
+use Rattle.tx_engine.proofs.Common.{◌≡◌, ◌≢◌, ℕ, suc, ◌+◌, ◌<◌, List, [], ◌∷◌, ◌++◌, length, drop, replicate, All, AllPairs, Option, Result, Ok, Err, refl, sym, ap, ap₂, ◌∙◌, subst, arith, flat_map, drop_more, get_or-map, length-map, All-nil, All-cons, All-head, All-tail, All-contains, all_from, pairs_cons, pairs_head, pairs_tail, slots_of, Protocol, Shape, Broken, FlashState, Does, CanDo, Load, die_of, fire, left_each, moment_of, PageWrite, array_in, IndexState, current_of, BlocksState, array_known, ArrayStays, ImageIsSound, NotingKeeps, MayTakeEach, Entry, Pages, AreJobsDue, CanNoteEach, CanWriteAll, DroppedAll, InOrderOfDies, IsJobDue, WrittenAll, loads_for, nexts_noted, noted_each, taken_writes, takes_each, used_each, OpenTransactionsState, TransactionState, entries_of, no_transaction, StoreState, Job}
+use Rattle.std.proofs.Common.{take}
+use Rattle.std.proofs.lemmas.List.{take-append-drop}
 use Rattle.flash_model.specs.declared.outcome.Outcome.TheVariants as outcome
 use Rattle.flash_model.specs.Calls.{Operates}
-use Rattle.flash_model.specs.Flash.{FlashState}
-use Rattle.flash_model.specs.Moves.{Does}
-use Rattle.flash_model.specs.Operations.{CanDo, CanLoad, Load, after, die_of, fire, left_each, moment_of}
+use Rattle.flash_model.specs.Operations.{CanLoad, after}
 use Rattle.flash_model.proofs.FireLemmas.{die_within}
 use Rattle.flash_model.proofs.MoveLemmas.{FlashMoves-fires, same_moments}
-use Rattle.tx_types.specs.Batch.{PageWrite}
-use Rattle.version_index.specs.Images.{array_in}
-use Rattle.version_index.specs.Noted.{Noted, current_of}
-use Rattle.die_alloc.specs.BlockTable.{BlockTable}
 use Rattle.record_list.specs.WrittenChanges.{WrittenPartialWriteLaw, WrittenCompletingWriteLaw}
 use Rattle.version_index.proofs.OfLaws.ImageLaws.{image_completing_law, image_partial_law}
-use Rattle.collector.specs.Known.{array_known}
-use Rattle.collector.specs.Laws.{ArraysStay, ImagesStand, NotedWrites}
 use Rattle.collector.specs.declared.unsure.Unsure.TheVariants as unsure
-use Rattle.array_machine.specs.Batches.{MayTakeEach}
 use Rattle.array_machine.specs.Step.{IsAtLast}
-use Rattle.tx_engine.specs.ArrayState.{Entry, Pages}
-use Rattle.tx_engine.specs.BatchCalls.{AreJobsDue, AreLoadable, CanLoadAll, CanNoteEach, CanWriteAll, DroppedAll, FiresStored, InOrderOfDies, IsJobDue}
-use Rattle.tx_engine.specs.BatchCalls.{LoadsEach, WrittenAll, loads_for, nexts_noted}
-use Rattle.tx_engine.specs.Batches.{noted_each, taken_writes, takes_each, used_each}
-use Rattle.tx_engine.specs.OpenTable.{OpenTable, Opening, entries_of, no_opening}
-use Rattle.tx_engine.specs.Stored.{Stored}
-use Rattle.tx_engine.specs.declared.jobs.Job.{Job}
-use Rattle.tx_engine.proofs.OfStanding.Kept.{IsKept, from_stands, to_stands}
+use Rattle.tx_engine.specs.BatchCalls.{AreLoadable, CanLoadAll, FiresStored}
+use Rattle.tx_engine.specs.BatchCalls.{LoadsEach}
+use Rattle.tx_engine.proofs.OfDevice.Kept.{BlocksInvariant, from_stands, to_stands}
 use Rattle.tx_engine.proofs.batches.write_all.Answers.BatchLeaves.{SomeLeft, left_array, left_mentions, left_sound, some_left, take_fewer}
 use Rattle.tx_engine.proofs.OfStepAll.LoadLeft.{HasLaws, job_can, job_named, job_page, job_spelled}
 use Rattle.tx_engine.proofs.batches.write_all.Answers.Wholes.{AllWhole, all_whole, entries_for}
 
 -- the transactions to which the programs belong are the first ones
-pub entries_first : (O : OpenTable) (jobs : List Job) (i : ℕ) → (n : Noted) (t : BlockTable) → AreJobsDue n t O i jobs →
+pub entries_first : (O : OpenTransactionsState) (jobs : List Job) (i : ℕ) → (n : IndexState) (t : BlocksState) → AreJobsDue n t O i jobs →
     entries_for O i jobs ≡ take (length jobs) (drop i (entries_of O))
 entries_first O [] i n t due = refl
 entries_first O (job ∷ jobs) i n t due =
-    let inside : i < length (entries_of O) = subst (λ len. i < len) (sym (length-map O.all (λ (o : Opening). o.entry))) due.0.due.exists in
-    ap₂ (λ (e : Entry) es. e ∷ es) (sym (get_or-map (λ (o : Opening). o.entry) O.all i no_opening no_opening.entry due.0.due.exists))
+    let inside : i < length (entries_of O) = subst (λ len. i < len) (sym (length-map O.all (λ (o : TransactionState). o.entry))) due.0.due.exists in
+    ap₂ (λ (e : Entry) es. e ∷ es) (sym (get_or-map (λ (o : TransactionState). o.entry) O.all i no_transaction no_transaction.entry due.0.due.exists))
     (entries_first O jobs (i + 1) n t due.1)
-    ∙ ap (take (length (job ∷ jobs))) (sym (drop_more (entries_of O) i no_opening.entry inside))
+    ∙ ap (take (length (job ∷ jobs))) (sym (drop_more (entries_of O) i no_transaction.entry inside))
 
-module _ (s : FlashState) (n : Noted) (t : BlockTable) (O : OpenTable) (laws : HasLaws n.config.protocol) (k : IsKept s n t unsure.Nothing O)
+module _ (s : FlashState) (n : IndexState) (t : BlocksState) (O : OpenTransactionsState) (laws : HasLaws n.config.protocol) (k : BlocksInvariant s n t unsure.Nothing O)
     (size : O.page_bytes ≡ n.config.page_bytes) where
   slot_within : (i : ℕ) (job : Job) → IsJobDue n t O i job → job.slot.0 < slots_of s.shape
   slot_within i job h = omega (arith, h.first.free.within, ap slots_of k.matches.blocks)
@@ -114,12 +92,12 @@ module _ (s : FlashState) (n : Noted) (t : BlockTable) (O : OpenTable) (laws : H
       same_moments (moment_of s') (after s.shape (moment_of s) (fire (loads_for n O 0 jobs))) done.done.image done.done.programs done.done.erases,
     )
 
-loads_some : (n : Noted) (O : OpenTable) (jobs : List Job) → jobs ≢ [] → loads_for n O 0 jobs ≢ []
+loads_some : (n : IndexState) (O : OpenTransactionsState) (jobs : List Job) → jobs ≢ [] → loads_for n O 0 jobs ≢ []
 loads_some n O [] some none = some refl
 loads_some n O (job ∷ jobs) some none = (let long = ap length none in absurd (omega arith))
 
 -- what holds under the rule of a protocol
-pub laws_of : (p : Protocol) → ImagesStand p → NotedWrites p → ArraysStay p → WrittenPartialWriteLaw p → WrittenCompletingWriteLaw p → HasLaws p
+pub laws_of : (p : Protocol) → ImageIsSound p → NotingKeeps p → ArrayStays p → WrittenPartialWriteLaw p → WrittenCompletingWriteLaw p → HasLaws p
 laws_of p images notes arrays partial completing = record {
   images = images;
   notes = notes;
@@ -128,13 +106,13 @@ laws_of p images notes arrays partial completing = record {
   completing = image_completing_law p completing;
 }
 
-module _ {F : Type 0} (state : F → FlashState) (p : Protocol) (S S' : Stored F) (O : OpenTable) (jobs : List Job) (laws : HasLaws p)
+module _ {F : Type 0} (state : F → FlashState) (p : Protocol) (S S' : StoreState F) (O : OpenTransactionsState) (jobs : List Job) (laws : HasLaws p)
     (can : CanWriteAll state p S O jobs) where
   its : HasLaws S.noted.config.protocol
   its = subst HasLaws (sym can.ready.rule) laws
 
-  pub stands_now : IsKept (state S.flash) S.noted S.table unsure.Nothing O
-  stands_now = subst (λ u. IsKept (state S.flash) S.noted S.table u O) can.ready.sure (from_stands state S O can.ready.stands)
+  pub stands_now : BlocksInvariant (state S.flash) S.noted S.table unsure.Nothing O
+  stands_now = subst (λ u. BlocksInvariant (state S.flash) S.noted S.table u O) can.ready.sure (from_stands state S O can.ready.stands)
 
   pub can_load_all : CanLoadAll state S O jobs
   can_load_all = record { each = jobs_loadable (state S.flash) S.noted S.table O its stands_now can.size jobs 0 can.due; dies = can.dies }
@@ -143,7 +121,7 @@ module _ {F : Type 0} (state : F → FlashState) (p : Protocol) (S S' : Stored F
   can_fire_all = can_fire (state S.flash) S.noted S.table O its stands_now can.size jobs can.due can.dies
 
   -- the fire of what was loaded, as the store has it
-  module _ (registers : F → List (Option Load)) (C : Stored F) (load : LoadsEach state registers S C O jobs) (r : Result (Unit {0}) Broken)
+  module _ (registers : F → List (Option Load)) (C : StoreState F) (load : LoadsEach state registers S C O jobs) (r : Result (Unit {0}) Broken)
       (call : FiresStored state registers C S' r) where
     pub fired : (q : Result (Unit {0}) Broken) → r ≡ q → Operates (state S.flash) (state S'.flash) (fire (loads_for S.noted O 0 jobs)) q
     fired q is =
@@ -152,7 +130,7 @@ module _ {F : Type 0} (state : F → FlashState) (p : Protocol) (S S' : Stored F
         (subst (λ loads. Operates (state C.flash) (state S'.flash) (fire loads) r) load.loaded call.fires))
 
     pub same_tables : S' ≡ record S { flash = S'.flash }
-    same_tables = call.stays ∙ ap (λ (T : Stored F). record T { flash = S'.flash }) load.keeps.stays
+    same_tables = call.stays ∙ ap (λ (T : StoreState F). record T { flash = S'.flash }) load.keeps.stays
 
   -- It was done
   module _ (x : Unit {0}) (done : Operates (state S.flash) (state S'.flash) (fire (loads_for S.noted O 0 jobs)) (Ok x)) where
@@ -165,18 +143,18 @@ module _ {F : Type 0} (state : F → FlashState) (p : Protocol) (S S' : Stored F
     first_ones : entries_for O 0 jobs ≡ take (length jobs) (entries_of O)
     first_ones = entries_first O jobs 0 S.noted S.table can.due
 
-    abbrev then : Stored F
+    abbrev then : StoreState F
     then = record { flash = S'.flash; noted = noted_each S.noted jobs; table = used_each S.table jobs; unsure = unsure.Nothing }
 
-    pub then_is : (T : Stored F) → S' ≡ record S { flash = S'.flash } →
+    pub then_is : (T : StoreState F) → S' ≡ record S { flash = S'.flash } →
         T ≡ record S' { noted = noted_each S'.noted jobs; table = used_each S'.table jobs } → T ≡ then
     then_is T same is =
-        is ∙ ap (λ (X : Stored F). record X { noted = noted_each X.noted jobs; table = used_each X.table jobs }) same
+        is ∙ ap (λ (X : StoreState F). record X { noted = noted_each X.noted jobs; table = used_each X.table jobs }) same
         ∙ ap (λ u. record then { unsure = u }) can.ready.sure
 
-    pub written_all : (T : Stored F) (O' : OpenTable) → T ≡ then → O' ≡ nexts_noted 0 jobs O → WrittenAll state S T O O' jobs
+    pub written_all : (T : StoreState F) (O' : OpenTransactionsState) → T ≡ then → O' ≡ nexts_noted 0 jobs O → WrittenAll state S T O O' jobs
     written_all T O' is opens =
-        subst (λ (X : Stored F). WrittenAll state S X O O' jobs) (sym is) (subst (λ (X : OpenTable). WrittenAll state S then O X jobs) (sym opens) (record {
+        subst (λ (X : StoreState F). WrittenAll state S X O O' jobs) (sym is) (subst (λ (X : OpenTransactionsState). WrittenAll state S then O X jobs) (sym opens) (record {
           stands = to_stands state then (nexts_noted 0 jobs O) whole.kept;
           noted = refl;
           table = refl;

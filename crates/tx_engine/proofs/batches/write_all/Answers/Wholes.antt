@@ -1,44 +1,21 @@
 -- Programs that were done together leave a device as one after another would: by induction over states in which no flash was.
-use Rattle.std.proofs.Common.{◌≡◌, ◌≢◌, ℕ, ◌+◌, ◌<◌, false, List, [], ◌∷◌, length, replicate, All, refl, sym, ap, ap₂, ◌∙◌, subst, inl}
-use Rattle.std.proofs.Common.{inr, arith, eq-eqb, ne_eqb}
-use Rattle.std.specs.Prelude.{slice_set, if◌then◌else◌}
-use Rattle.std.specs.List.{flat_map}
-use Rattle.std.proofs.Math.Seq.{map-set_same}
-use Rattle.std.proofs.lemmas.Bool.{cases_eq, cond-true, cond-false, cond_both}
-use Rattle.std.proofs.lemmas.List.{length-set}
-use Rattle.std.proofs.lemmas.List.Elements.{All-nil, All-append}
-use Rattle.list_facts.proofs.Membership.{all_from}
-use Rattle.list_facts.proofs.Pairs.{pairs_head, pairs_tail}
-use Rattle.tx_types.specs.Batch.{PageWrite}
+use Rattle.tx_engine.proofs.Common.{◌≡◌, ◌≢◌, ℕ, ◌+◌, ◌<◌, false, List, [], ◌∷◌, length, replicate, All, refl, sym, ap, ap₂, ◌∙◌, subst, inl, inr, arith, eq-eqb, ne_eqb, slice_set, if◌then◌else◌, flat_map, map-set_same, cases_eq, cond-true, cond-false, cond_both, length-set, All-nil, All-append, all_from, pairs_head, pairs_tail, PageWrite, FlashState, Contents, die_of, left_each, load_left, IndexState, current_of, programmed, BlocksState, with_slot, array_known, Plain, Entry, page_at, put, AreJobsDue, CanNoteEach, InOrderOfDies, IsJobDue, load_of, loads_for, nexts_noted, noted_each, taken_writes, takes_each, used_each, ExitsTables, VersionsRise, is_plain, OpenTransactionsState, TransactionState, bytes_due, entries_of, namings_of, no_transaction, transaction_at, with_transaction, is_at_last, next_writes, with_next, DeviceState, Job}
 use Rattle.flash_model.specs.declared.outcome.Outcome.TheVariants as outcome
-use Rattle.flash_model.specs.Flash.{FlashState, Contents}
-use Rattle.flash_model.specs.Operations.{die_of, left_each, load_left}
-use Rattle.version_index.specs.Noted.{Noted, current_of, programmed}
-use Rattle.die_alloc.specs.BlockTable.{BlockTable, with_slot}
-use Rattle.collector.specs.Known.{array_known}
 use Rattle.collector.specs.declared.unsure.Unsure.TheVariants as unsure
-use Rattle.array_machine.specs.declared.mark.Mark.TheVariants.{Plain}
-use Rattle.tx_engine.specs.ArrayState.{Entry, page_at, put}
-use Rattle.tx_engine.specs.BatchCalls.{AreJobsDue, CanNoteEach, CanNoteJob, InOrderOfDies, IsJobDue, load_of, loads_for, nexts_noted}
-use Rattle.tx_engine.specs.Batches.{noted_each, taken_writes, takes_each, used_each}
-use Rattle.tx_engine.specs.Exits.{ExitsTables, VersionsRise, is_plain}
-use Rattle.tx_engine.specs.OpenTable.{OpenTable, Opening, bytes_due, entries_of, namings_of, no_opening, opening_at, with_opening}
-use Rattle.tx_engine.specs.Settling.{is_at_last, next_writes, with_next}
-use Rattle.tx_engine.specs.Standing.{Standing}
-use Rattle.tx_engine.specs.declared.jobs.Job.{Job}
+use Rattle.tx_engine.specs.BatchCalls.{CanNoteJob}
 use Rattle.tx_engine.proofs.OfCollect.Collecting.{own_writes_low}
 use Rattle.tx_engine.proofs.OfSettle.NextNoted.{IsNextOf, last_array, names_before, next_array, next_mentions, next_parts, next_stays, next_versions}
 use Rattle.tx_engine.proofs.OfSettle.NextNoted.{writes_rise, writes_stay}
-use Rattle.tx_engine.proofs.OfStanding.ExitsThen.{before_itself, rises_then, tables_then}
-use Rattle.tx_engine.proofs.OfStanding.ImageMoves.{KeepsNoted, image_array}
-use Rattle.tx_engine.proofs.OfStanding.Kept.{IsKept}
+use Rattle.tx_engine.proofs.OfDevice.ExitsThen.{before_itself, rises_then, tables_then}
+use Rattle.tx_engine.proofs.OfDevice.ImageMoves.{KeepsNoted, image_array}
+use Rattle.tx_engine.proofs.OfDevice.Kept.{BlocksInvariant}
 use Rattle.tx_engine.proofs.OfStepAll.JobsBeside.{jobs_beside, loads_beside, pages_low, whole_off}
 use Rattle.tx_engine.proofs.OfStepAll.JobsStay.{due_beside}
 use Rattle.tx_engine.proofs.OfStepAll.LoadLeft.{HasLaws, job_named, kept_same, left_stay, whole_kept, whole_next}
 
 -- a device with these tables, over an image
-abbrev pub standing_with : {F : Type 0} → F → List Contents → Noted → BlockTable → OpenTable → Standing F
-standing_with f image n t O = record {
+abbrev pub device_with : {F : Type 0} → F → List Contents → IndexState → BlocksState → OpenTransactionsState → DeviceState F
+device_with f image n t O = record {
   flash = f;
   config = n.config;
   machine = record { pages = array_known n image; entries = entries_of O };
@@ -50,41 +27,41 @@ standing_with f image n t O = record {
 }
 
 -- the transactions to which programs belong
-abbrev pub entries_for : OpenTable → ℕ → List Job → List Entry
+abbrev pub entries_for : OpenTransactionsState → ℕ → List Job → List Entry
 entries_for O i [] = []
-entries_for O i (job ∷ jobs) = (opening_at O i).entry ∷ entries_for O (i + 1) jobs
+entries_for O i (job ∷ jobs) = (transaction_at O i).entry ∷ entries_for O (i + 1) jobs
 
-pub entries_beside : (O O' : OpenTable) (i : ℕ) → ((j : ℕ) → j ≢ i → opening_at O' j ≡ opening_at O j) → (jobs : List Job) (j : ℕ) → i < j →
+pub entries_beside : (O O' : OpenTransactionsState) (i : ℕ) → ((j : ℕ) → j ≢ i → transaction_at O' j ≡ transaction_at O j) → (jobs : List Job) (j : ℕ) → i < j →
     entries_for O' j jobs ≡ entries_for O j jobs
 entries_beside O O' i opens [] j less = refl
 entries_beside O O' i opens (job ∷ jobs) j less =
-    ap₂ (λ (e : Entry) es. e ∷ es) (ap (λ (x : Opening). x.entry) (opens j (λ same. absurd (omega arith))))
+    ap₂ (λ (e : Entry) es. e ∷ es) (ap (λ (x : TransactionState). x.entry) (opens j (λ same. absurd (omega arith))))
     (entries_beside O O' i opens jobs (j + 1) (omega arith))
 
 -- what a plain transaction takes with its next page
 pub taken_next : (e : Entry) → e.mark ≡ Plain → taken_writes e ≡ next_writes e
 taken_next e plain = ap (λ ws. if is_at_last e then ws else []) (ap (λ m. if is_plain m then e.writes else []) plain)
 
-module _ {F : Type 0} (f : F) (s : FlashState) (n : Noted) (t : BlockTable) (O : OpenTable) (i : ℕ) (job : Job) (laws : HasLaws n.config.protocol)
-    (k : IsKept s n t unsure.Nothing O) (size : O.page_bytes ≡ n.config.page_bytes) (h : IsJobDue n t O i job) (s' : FlashState) (shape : s'.shape ≡ s.shape)
+module _ {F : Type 0} (f : F) (s : FlashState) (n : IndexState) (t : BlocksState) (O : OpenTransactionsState) (i : ℕ) (job : Job) (laws : HasLaws n.config.protocol)
+    (k : BlocksInvariant s n t unsure.Nothing O) (size : O.page_bytes ≡ n.config.page_bytes) (h : IsJobDue n t O i job) (s' : FlashState) (shape : s'.shape ≡ s.shape)
     (image : s'.image ≡ load_left s.image (load_of n job (bytes_due O i)) outcome.All) where
-  abbrev o : Opening
-  o = opening_at O i
+  abbrev o : TransactionState
+  o = transaction_at O i
 
-  abbrev n' : Noted
+  abbrev n' : IndexState
   n' = programmed n job.slot.0 job.rec
 
-  abbrev t' : BlockTable
+  abbrev t' : BlocksState
   t' = with_slot t job.slot.0
 
-  abbrev O' : OpenTable
-  O' = with_opening O i (with_next o)
+  abbrev O' : OpenTransactionsState
+  O' = with_transaction O i (with_next o)
 
-  abbrev before : Standing F
-  before = standing_with f s.image n t O
+  abbrev before : DeviceState F
+  before = device_with f s.image n t O
 
-  abbrev after : Standing F
-  after = standing_with f s'.image n' t' O'
+  abbrev after : DeviceState F
+  after = device_with f s'.image n' t' O'
 
   next : IsNextOf n.config.protocol n job.slot.0 job.rec s'.image o
   next = whole_next s n t O i job laws k size h s' shape image
@@ -98,7 +75,7 @@ module _ {F : Type 0} (f : F) (s : FlashState) (n : Noted) (t : BlockTable) (O :
     versions = next_versions n.config.protocol laws.notes n job.slot.0 job.rec s.image s'.image o next stay;
     mentions = next_mentions n.config.protocol laws.notes n job.slot.0 job.rec s.image s'.image o next O.all i h.due.exists refl;
     names = names_before O.all (slice_set O.all i (with_next o))
-        (map-set_same (λ (x : Opening). x.naming.names) O.all i (with_next o) no_opening (next_parts o).names);
+        (map-set_same (λ (x : TransactionState). x.naming.names) O.all i (with_next o) no_transaction (next_parts o).names);
     kept = refl;
   }
 
@@ -145,7 +122,7 @@ module _ {F : Type 0} (f : F) (s : FlashState) (n : Noted) (t : BlockTable) (O :
       (cond_both (is_at_last o.entry) o.entry.writes [] (All (λ (w : PageWrite). w.page < n.config.logical)) (λ is. low)
       (λ is. All-nil (λ (w : PageWrite). w.page < n.config.logical)))
 
-  abbrev others_stay : (j : ℕ) → j ≢ i → opening_at O' j ≡ opening_at O j
+  abbrev others_stay : (j : ℕ) → j ≢ i → transaction_at O' j ≡ transaction_at O j
   others_stay j other = due_beside O i j (with_next o) other
 
   pub whole_beside : (jobs : List Job) → InOrderOfDies s.shape (job ∷ jobs) → AreJobsDue n t O (i + 1) jobs → AreJobsDue n' t' O' (i + 1) jobs
@@ -162,18 +139,18 @@ module _ {F : Type 0} (f : F) (s : FlashState) (n : Noted) (t : BlockTable) (O :
   whole_entries jobs = entries_beside O O' i others_stay jobs (i + 1) (omega arith)
 
 -- what programs leave that were all done
-pub record AllWhole {F : Type 0} (f : F) (s s' : FlashState) (n : Noted) (t : BlockTable) (O : OpenTable) (i : ℕ) (jobs : List Job) : Type 0 where
-  pub kept : IsKept s' (noted_each n jobs) (used_each t jobs) unsure.Nothing (nexts_noted i jobs O)
+pub record AllWhole {F : Type 0} (f : F) (s s' : FlashState) (n : IndexState) (t : BlocksState) (O : OpenTransactionsState) (i : ℕ) (jobs : List Job) : Type 0 where
+  pub kept : BlocksInvariant s' (noted_each n jobs) (used_each t jobs) unsure.Nothing (nexts_noted i jobs O)
   pub can : CanNoteEach n t O i jobs
-  pub tables : ExitsTables (standing_with f s.image n t O)
-      (standing_with f s'.image (noted_each n jobs) (used_each t jobs) (nexts_noted i jobs O))
+  pub tables : ExitsTables (device_with f s.image n t O)
+      (device_with f s'.image (noted_each n jobs) (used_each t jobs) (nexts_noted i jobs O))
   pub pages : array_known (noted_each n jobs) s'.image ≡ takes_each (array_known n s.image) (entries_for O i jobs)
-  pub rises : VersionsRise (standing_with f s.image n t O)
-      (standing_with f s'.image (noted_each n jobs) (used_each t jobs) (nexts_noted i jobs O)) (flat_map taken_writes (entries_for O i jobs))
+  pub rises : VersionsRise (device_with f s.image n t O)
+      (device_with f s'.image (noted_each n jobs) (used_each t jobs) (nexts_noted i jobs O)) (flat_map taken_writes (entries_for O i jobs))
   pub low : All (λ w. w.page < n.config.logical) (flat_map taken_writes (entries_for O i jobs))
 
-pub all_whole : {F : Type 0} (f : F) (jobs : List Job) (s s' : FlashState) (n : Noted) (t : BlockTable) (O : OpenTable) (i : ℕ) → HasLaws n.config.protocol →
-    IsKept s n t unsure.Nothing O → O.page_bytes ≡ n.config.page_bytes → AreJobsDue n t O i jobs → InOrderOfDies s.shape jobs → s'.shape ≡ s.shape →
+pub all_whole : {F : Type 0} (f : F) (jobs : List Job) (s s' : FlashState) (n : IndexState) (t : BlocksState) (O : OpenTransactionsState) (i : ℕ) → HasLaws n.config.protocol →
+    BlocksInvariant s n t unsure.Nothing O → O.page_bytes ≡ n.config.page_bytes → AreJobsDue n t O i jobs → InOrderOfDies s.shape jobs → s'.shape ≡ s.shape →
     s'.image ≡ left_each s.image (loads_for n O i jobs) (replicate (length jobs) outcome.All) → AllWhole f s s' n t O i jobs
 all_whole {F} f [] s s' n t O i laws k size due dies shape image = record {
   kept = kept_same s s' n t unsure.Nothing O shape image k;
@@ -191,10 +168,10 @@ all_whole {F} f [] s s' n t O i laws k size due dies shape image = record {
 }
 all_whole {F} f (job ∷ jobs) s s' n t O i laws k size due dies shape image =
     let mid : FlashState = record s { image = load_left s.image (load_of n job (bytes_due O i)) outcome.All } in
-    let o = opening_at O i in
+    let o = transaction_at O i in
     let n1 = programmed n job.slot.0 job.rec in
     let t1 = with_slot t job.slot.0 in
-    let O1 = with_opening O i (with_next o) in
+    let O1 = with_transaction O i (with_next o) in
     let kept = whole_kept s n t O i job laws k size due.0 mid refl refl in
     let loads = whole_loads f s n t O i job laws k size due.0 mid refl refl jobs in
     let entries = whole_entries f s n t O i job laws k size due.0 mid refl refl jobs in
@@ -202,9 +179,9 @@ all_whole {F} f (job ∷ jobs) s s' n t O i laws k size due dies shape image =
     (whole_beside f s n t O i job laws k size due.0 mid refl refl jobs dies due.1)
     (pairs_tail (λ (a b : Job). die_of s.shape a.slot.0 < die_of s.shape b.slot.0) job jobs dies) shape
     (image ∙ ap (λ ls. left_each mid.image ls (replicate (length jobs) outcome.All)) (sym loads)) in
-    let a = standing_with f s.image n t O in
-    let b = standing_with f mid.image n1 t1 O1 in
-    let c = standing_with f s'.image (noted_each n1 jobs) (used_each t1 jobs) (nexts_noted (i + 1) jobs O1) in
+    let a = device_with f s.image n t O in
+    let b = device_with f mid.image n1 t1 O1 in
+    let c = device_with f s'.image (noted_each n1 jobs) (used_each t1 jobs) (nexts_noted (i + 1) jobs O1) in
     let first = whole_tables f s n t O i job laws k size due.0 mid refl refl in
     let low = taken_low f s n t O i job laws k size due.0 mid refl refl in
     let later : All (λ w. w.page < n.config.logical) (flat_map taken_writes (entries_for O (i + 1) jobs)) =

@@ -1,22 +1,14 @@
-use Rattle.std.proofs.Common.{◌≡◌, ap, ◌∙◌, subst, refl, inl, inr, Ok, Err}
+use Rattle.tx_engine.proofs.Common.{◌≡◌, ap, ◌∙◌, subst, refl, inl, inr, Ok, Err, Config, IndexState, Preserves, Nothing, is_there, settled_writes, entries_of, settlement_of, DeviceState, device_in}
 use Rattle.std.specs.Prelude.{false, true}
-use Rattle.tx_types.specs.declared.config.Config.{Config}
-use Rattle.version_index.specs.Noted.{Noted}
 use Rattle.collector.specs.BreakingOff.{RoomBreaksOff}
-use Rattle.collector.specs.Preserves.{Preserves}
-use Rattle.array_machine.specs.declared.answers.Collected.TheVariants.{Nothing}
 use Rattle.tx_engine.specs.Collections.{HasNothingToCollect}
 use Rattle.tx_engine.specs.DeviceCalls.{CollectsDevice}
-use Rattle.tx_engine.specs.Exits.{is_there, settled_writes}
-use Rattle.tx_engine.specs.OpenTable.{entries_of}
-use Rattle.tx_engine.specs.Settling.{StaysUnread, settlement_of}
-use Rattle.tx_engine.specs.Standing.{Standing}
-use Rattle.tx_engine.specs.Tables.{standing_in}
+use Rattle.tx_engine.specs.Settling.{StaysUnread}
 use Rattle.tx_engine.proofs.OfWrite.Breaking.{broke_then}
 use Rattle.tx_engine.proofs.OfSettle.SettleExits.{failed_machine, failed_stays, not_settled}
-use Rattle.tx_engine.proofs.OfStanding.ExitsThen.{exits_then}
+use Rattle.tx_engine.proofs.OfDevice.ExitsThen.{exits_then}
 use Rattle.tx_engine.proofs.OfCollect.Collecting.{settled_low, rises_stay, collects_from}
-use Rattle.tx_engine.proofs.OfStanding.KeptDevices.{by_kept, kept_is, kept_stands}
+use Rattle.tx_engine.proofs.OfDevice.KeptDevices.{by_kept, kept_is, kept_stands}
 use Rattle.tx_engine.proofs.device.Device.collect.Goals as goal
 
 pub settle-requires-clause-stands : goal.settle-requires-clause-stands
@@ -25,32 +17,32 @@ settle-requires-clause-stands g c =
 
 pub invariant_of-self : goal.invariant_of-self
 invariant_of-self g c =
-    kept_is g.F.Flash.state g.R.CommitRule.protocol c.self.inside c.settle.new.store c.settle.new.openings c.self.invariant
+    kept_is g.F.Flash.state g.R.CommitRule.protocol c.self.inside c.settle.new.store c.settle.new.transactions c.self.invariant
     c.settle.ensures.stands c.settle.ensures.exits.tables.config c.settle.ensures.limits
 
 pub invariant_of-self-in_default-collect_settled : goal.invariant_of-self-in_default-collect_settled
 invariant_of-self-in_default-collect_settled g c =
-    kept_is g.F.Flash.state g.R.CommitRule.protocol c.self.inside c.collect_settled.new.store c.settle.new.openings c.self.invariant
+    kept_is g.F.Flash.state g.R.CommitRule.protocol c.self.inside c.collect_settled.new.store c.settle.new.transactions c.self.invariant
     c.collect_settled.ensures.left.stands (c.collect_settled.ensures.left.exits.tables.config ∙ c.settle.ensures.exits.tables.config) c.settle.ensures.limits
 
 pub invariant_of-self-2 : goal.invariant_of-self-2
 invariant_of-self-2 g c =
-    kept_is g.F.Flash.state g.R.CommitRule.protocol c.self.inside c.collect_settled.new.store c.settle.new.openings c.self.invariant
+    kept_is g.F.Flash.state g.R.CommitRule.protocol c.self.inside c.collect_settled.new.store c.settle.new.transactions c.self.invariant
     c.collect_settled.ensures.left.stands (c.collect_settled.ensures.left.exits.tables.config ∙ c.settle.ensures.exits.tables.config) c.settle.ensures.limits
 
 pub returns-in_default : goal.returns-in_default
 returns-in_default g c =
     let state = g.F.Flash.state in
-    let S = c.self.inside.store in let O = c.self.inside.openings in
-    let old = standing_in state S O in
-    let new = standing_in state c.settle.new.store c.settle.new.openings in
+    let S = c.self.inside.store in let O = c.self.inside.transactions in
+    let old = device_in state S O in
+    let new = device_in state c.settle.new.store c.settle.new.transactions in
     let its = c.in_default.ensures in
-    let stays = failed_stays state S c.settle.new.store O c.settle.new.openings its.failed.0 its.failed.1 c.settle.ensures.moment in
+    let stays = failed_stays state S c.settle.new.store O c.settle.new.transactions its.failed.0 its.failed.1 c.settle.ensures.moment in
     let unread : StaysUnread state old new = record { stays = stays; moment = c.settle.ensures.moment; reads = its.first_failed } in
-    by_kept state c.self.inside _ c.self.view_is c.requires.kept c.settle.new.store c.settle.new.openings
-    (λ (s t : Standing _). CollectsDevice state s t (Err (record {})))
+    by_kept state c.self.inside _ c.self.view_is c.requires.kept c.settle.new.store c.settle.new.transactions
+    (λ (s t : DeviceState _). CollectsDevice state s t (Err (record {})))
     (record {
-      collects = inl (failed_machine state S c.settle.new.store O c.settle.new.openings its.failed.0 its.failed.1 c.settle.ensures.moment);
+      collects = inl (failed_machine state S c.settle.new.store O c.settle.new.transactions its.failed.0 its.failed.1 c.settle.ensures.moment);
       exits = its.exits;
       rises = not_settled (is_there state old) old new stays;
       sure = tt;
@@ -63,15 +55,15 @@ returns-in_default g c =
 pub returns-in_default-collect_settled : goal.returns-in_default-collect_settled
 returns-in_default-collect_settled g c =
     let state = g.F.Flash.state in
-    let S = c.self.inside.store in let O = c.self.inside.openings in
-    let old = standing_in state S O in
-    let mid = standing_in state c.settle.new.store c.settle.new.openings in
-    let new = standing_in state c.collect_settled.new.store c.settle.new.openings in
+    let S = c.self.inside.store in let O = c.self.inside.transactions in
+    let old = device_in state S O in
+    let mid = device_in state c.settle.new.store c.settle.new.transactions in
+    let new = device_in state c.collect_settled.new.store c.settle.new.transactions in
     let there = is_there state old in
     let settles = c.in-Ok.ensures in let its = c.in_default-collect_settled.ensures in
     let stands = kept_stands state c.self.inside _ c.self.view_is c.requires.kept g.R.CommitRule.protocol c.self.invariant in
-    by_kept state c.self.inside _ c.self.view_is c.requires.kept c.collect_settled.new.store c.settle.new.openings
-    (λ (s t : Standing _). CollectsDevice state s t (Err (record {})))
+    by_kept state c.self.inside _ c.self.view_is c.requires.kept c.collect_settled.new.store c.settle.new.transactions
+    (λ (s t : DeviceState _). CollectsDevice state s t (Err (record {})))
     (record {
       collects = inr (its.left.machine ∙ settles.settles.machine);
       exits = exits_then state old mid new true refl refl settles.exits its.left.exits;
@@ -82,7 +74,7 @@ returns-in_default-collect_settled g c =
       );
       sure = tt;
       tables = tt;
-      failed = inr (its.stays ∙ settles.tables.1, subst (λ (n : Noted). Preserves n new.noted) settles.tables.0 its.left.kept);
+      failed = inr (its.stays ∙ settles.tables.1, subst (λ (n : IndexState). Preserves n new.noted) settles.tables.0 its.left.kept);
       breaks = inr (broke_then state S c.settle.new.store O settles.exits.carries.shape c.settle.ensures.moment settles.reads settles.tables.0
           settles.tables.1 (λ between n t. RoomBreaksOff n t between (state new.flash) new.noted new.unsure) its.broken);
       nothing = λ is. cc;
@@ -91,18 +83,18 @@ returns-in_default-collect_settled g c =
 pub returns : goal.returns
 returns g c =
     let state = g.F.Flash.state in
-    let S = c.self.inside.store in let O = c.self.inside.openings in
-    let S1 = c.settle.new.store in let O1 = c.settle.new.openings in
+    let S = c.self.inside.store in let O = c.self.inside.transactions in
+    let S1 = c.settle.new.store in let O1 = c.settle.new.transactions in
     let collected = c.in-Ok-collect_settled.collected in
-    let old = standing_in state S O in
-    let mid = standing_in state S1 O1 in
-    let new = standing_in state c.collect_settled.new.store O1 in
+    let old = device_in state S O in
+    let mid = device_in state S1 O1 in
+    let new = device_in state c.collect_settled.new.store O1 in
     let there = is_there state old in
     let settles = c.in-Ok.ensures in let its = c.in-Ok-collect_settled.ensures in
     let config : new.noted.config ≡ S.noted.config = its.left.exits.tables.config ∙ settles.exits.tables.config in
     let stands = kept_stands state c.self.inside _ c.self.view_is c.requires.kept g.R.CommitRule.protocol c.self.invariant in
     by_kept state c.self.inside _ c.self.view_is c.requires.kept c.collect_settled.new.store O1
-    (λ (s t : Standing _). CollectsDevice state s t (Ok collected))
+    (λ (s t : DeviceState _). CollectsDevice state s t (Ok collected))
     (record {
       collects = its.left.machine ∙ settles.settles.machine;
       exits = exits_then state old mid new false refl refl settles.exits its.left.exits;

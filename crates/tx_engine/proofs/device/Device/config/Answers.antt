@@ -1,6 +1,5 @@
-use Rattle.std.proofs.Common.{subst}
-use Rattle.tx_engine.specs.Standing.{Stands}
-use Rattle.tx_engine.proofs.OfStanding.KeptDevices.{as_kept, kept_stands}
+use Rattle.tx_engine.proofs.Common.{subst, Stands}
+use Rattle.tx_engine.proofs.OfDevice.KeptDevices.{as_kept, kept_stands}
 use Rattle.tx_engine.proofs.device.Device.config.Goals as goal
 
 pub returns-clause-stands : goal.returns-clause-stands

@@ -1,35 +1,30 @@
-use Rattle.std.proofs.Common.{false, ◌≡◌, ◌+◌, ◌≤◌, sym, ap, ◌∙◌, subst}
-use Rattle.flash_model.specs.Calls.{Carries}
-use Rattle.flash_model.specs.Operations.{moment_of}
-use Rattle.tx_engine.specs.OpenTable.{OpenTable}
+use Rattle.tx_engine.proofs.Common.{false, ◌≡◌, ◌+◌, ◌≤◌, sym, ap, ◌∙◌, subst, Carries, moment_of, OpenTransactionsState, Stands, device_in}
 use Rattle.scan_recovery.proofs.OfScan.ReadingSteps.{read_more-most}
 use Rattle.tx_engine.specs.Opens.{Mounts, mount_reads}
-use Rattle.tx_engine.specs.Standing.{Stands}
-use Rattle.tx_engine.specs.Tables.{standing_in}
 use Rattle.tx_engine.proofs.OfMount.Mounted.{empty_table, opened_stands, opened_mounts}
 use Rattle.tx_engine.proofs.device.Device.mount.Goals as goal
 
 pub invariant_of-result : goal.invariant_of-result
 invariant_of-result g c =
     let store = c.in_ok-store.store in
-    let is : c.in-Ok.openings ≡ empty_table store.noted.config = c.in-Ok.ensures ∙ ap empty_table c.config.ensures.config in
+    let is : c.in-Ok.transactions ≡ empty_table store.noted.config = c.in-Ok.ensures ∙ ap empty_table c.config.ensures.config in
     record {
-      stands = λ kept. subst (λ (t : OpenTable). Stands g.F.Flash.state (standing_in g.F.Flash.state store t)) (sym is)
+      stands = λ kept. subst (λ (t : OpenTransactionsState). Stands g.F.Flash.state (device_in g.F.Flash.state store t)) (sym is)
           (opened_stands g.F.Flash.state g.R.CommitRule.protocol c.args.flash c.args.config store c.in_ok-store.ensures.opened c.in_ok-store.ensures.stored);
       rule = c.in_ok-store.ensures.stored.rule;
-      page_bytes = ap (λ (t : OpenTable). t.page_bytes) is;
-      logical = ap (λ (t : OpenTable). t.logical) is;
-      pending = ap (λ (t : OpenTable). t.pending) is;
+      page_bytes = ap (λ (t : OpenTransactionsState). t.page_bytes) is;
+      logical = ap (λ (t : OpenTransactionsState). t.logical) is;
+      pending = ap (λ (t : OpenTransactionsState). t.pending) is;
     }
 
 pub returns-in-Ok : goal.returns-in-Ok
 returns-in-Ok g c =
     let store = c.in_ok-store.store in
-    let is : c.in-Ok.openings ≡ empty_table store.noted.config = c.in-Ok.ensures ∙ ap empty_table c.config.ensures.config in
+    let is : c.in-Ok.transactions ≡ empty_table store.noted.config = c.in-Ok.ensures ∙ ap empty_table c.config.ensures.config in
     record {
-      mounted = subst (λ (t : OpenTable). Mounts g.F.Flash.state c.args.flash c.args.config (standing_in g.F.Flash.state store t)) (sym is)
+      mounted = subst (λ (t : OpenTransactionsState). Mounts g.F.Flash.state c.args.flash c.args.config (device_in g.F.Flash.state store t)) (sym is)
           (opened_mounts g.F.Flash.state g.R.CommitRule.protocol c.args.flash c.args.config store c.in_ok-store.ensures.opened
-          c.in_ok-store.ensures.stored c.images_stand.ensures);
+          c.in_ok-store.ensures.stored c.image_is_sound.ensures);
       failed = tt;
       reads = tt;
     }

@@ -1,34 +1,27 @@
 mod Retirements
-use Rattle.std.proofs.Common.{◌≡◌, ◌<◌, true, false, Option, Ok, Err, sym, ap, ◌∙◌, subst, refl, inl, inr, arith}
+use Rattle.tx_engine.proofs.Common.{◌≡◌, ◌<◌, true, false, Option, Ok, Err, sym, ap, ◌∙◌, subst, refl, inl, inr, arith, option_map, shape_of, blocks_of, Config, Shape, is_there, settled_writes, DeviceState, device_in}
 use Rattle.std.specs.Prelude.{IsSomeAnd}
-use Rattle.std.specs.Option.{option_map}
-use Rattle.tx_types.specs.Config.{shape_of, blocks_of}
-use Rattle.tx_types.specs.declared.config.Config.{Config}
-use Rattle.tx_types.specs.declared.config.Shape.{Shape}
 use Rattle.flash_model.specs.Flash.{Extras}
 use Rattle.flash_model.specs.Retiring.{one_more}
 use Rattle.flash_model.proofs.RetireLemmas.{CarriesRetiring-carries, CarriesRetiring-then}
 use Rattle.tx_engine.specs.DeviceCalls.{RetiresDevice}
-use Rattle.tx_engine.specs.Exits.{is_there, settled_writes}
 use Rattle.tx_engine.specs.Retire.{AnswersRetire}
-use Rattle.tx_engine.specs.Standing.{Standing}
-use Rattle.tx_engine.specs.Tables.{standing_in}
 use Rattle.tx_engine.specs.declared.retire.RetireError.{RetireError}
 use Rattle.tx_engine.specs.declared.retire.RetireError.TheVariants.{Fault}
 use Rattle.tx_engine.proofs.OfCollect.Collecting.{settled_low, rises_stay}
-use Rattle.tx_engine.proofs.OfStanding.ExitsThen.{tables_then}
+use Rattle.tx_engine.proofs.OfDevice.ExitsThen.{tables_then}
 use Rattle.tx_engine.proofs.device.Device.retire.Answers.Retirements.{broke_after, refused, retired_after, retired_blank, retired_known, retiring_broke}
 use Rattle.tx_engine.proofs.device.Device.retire.Answers.Retirements.{retiring_fails}
 use Rattle.tx_engine.proofs.OfSettle.SettleExits.{failed_machine, failed_stays, not_settled}
-use Rattle.tx_engine.proofs.OfStanding.KeptDevices.{as_kept, by_kept, kept_is, kept_stands}
+use Rattle.tx_engine.proofs.OfDevice.KeptDevices.{as_kept, by_kept, kept_is, kept_stands}
 use Rattle.tx_engine.proofs.device.Device.retire.Goals as goal
 
 pub returns-in-Some : goal.returns-in-Some
 returns-in-Some g c =
     let state = g.F.Flash.state in
-    subst (λ (s : Standing _). RetiresDevice state s s c.args.block.0 (Err c.in-Some.refusal))
+    subst (λ (s : DeviceState _). RetiresDevice state s s c.args.block.0 (Err c.in-Some.refusal))
     (as_kept state c.self.inside _ c.self.view_is c.requires.kept)
-    (refused state (standing_in state c.self.inside.store c.self.inside.openings) c.args.block.0 c.in-Some.refusal refl (sym c.in-Some.ensures.refusal))
+    (refused state (device_in state c.self.inside.store c.self.inside.transactions) c.args.block.0 c.in-Some.refusal refl (sym c.in-Some.ensures.refusal))
 
 pub settle-requires-clause-stands : goal.settle-requires-clause-stands
 settle-requires-clause-stands g c =
@@ -36,17 +29,17 @@ settle-requires-clause-stands g c =
 
 pub invariant_of-self : goal.invariant_of-self
 invariant_of-self g c =
-    kept_is g.F.Flash.state g.R.CommitRule.protocol c.self.inside c.settle.new.store c.settle.new.openings c.self.invariant
+    kept_is g.F.Flash.state g.R.CommitRule.protocol c.self.inside c.settle.new.store c.settle.new.transactions c.self.invariant
     c.settle.ensures.stands c.settle.ensures.exits.tables.config c.settle.ensures.limits
 
 pub invariant_of-self-in_default-retire_settled : goal.invariant_of-self-in_default-retire_settled
 invariant_of-self-in_default-retire_settled g c =
-    kept_is g.F.Flash.state g.R.CommitRule.protocol c.self.inside c.retire_settled.new.store c.settle.new.openings c.self.invariant
+    kept_is g.F.Flash.state g.R.CommitRule.protocol c.self.inside c.retire_settled.new.store c.settle.new.transactions c.self.invariant
     c.retire_settled.ensures.left.stands (c.retire_settled.ensures.left.tables.config ∙ c.settle.ensures.exits.tables.config) c.settle.ensures.limits
 
 pub invariant_of-self-2 : goal.invariant_of-self-2
 invariant_of-self-2 g c =
-    kept_is g.F.Flash.state g.R.CommitRule.protocol c.self.inside c.retire_settled.new.store c.settle.new.openings c.self.invariant
+    kept_is g.F.Flash.state g.R.CommitRule.protocol c.self.inside c.retire_settled.new.store c.settle.new.transactions c.self.invariant
     c.retire_settled.ensures.left.stands (c.retire_settled.ensures.left.tables.config ∙ c.settle.ensures.exits.tables.config) c.settle.ensures.limits
 
 pub retire_settled-requires : goal.retire_settled-requires
@@ -67,16 +60,16 @@ retire_settled-requires g c =
 pub returns-in_default-settle : goal.returns-in_default-settle
 returns-in_default-settle g c =
     let state = g.F.Flash.state in
-    let S = c.self.inside.store in let O = c.self.inside.openings in
-    let old = standing_in state S O in
-    let new = standing_in state c.settle.new.store c.settle.new.openings in
+    let S = c.self.inside.store in let O = c.self.inside.transactions in
+    let old = device_in state S O in
+    let new = device_in state c.settle.new.store c.settle.new.transactions in
     let its = c.in_default-settle.ensures in
-    let stays = failed_stays state S c.settle.new.store O c.settle.new.openings its.failed.0 its.failed.1 c.settle.ensures.moment in
-    by_kept state c.self.inside _ c.self.view_is c.requires.kept c.settle.new.store c.settle.new.openings
-    (λ (s t : Standing _). RetiresDevice state s t c.args.block.0 (Err Fault))
+    let stays = failed_stays state S c.settle.new.store O c.settle.new.transactions its.failed.0 its.failed.1 c.settle.ensures.moment in
+    by_kept state c.self.inside _ c.self.view_is c.requires.kept c.settle.new.store c.settle.new.transactions
+    (λ (s t : DeviceState _). RetiresDevice state s t c.args.block.0 (Err Fault))
     (record {
       refusal = subst (λ (r : Option RetireError). AnswersRetire r old new (Err Fault)) c.in_default.ensures.refusal tt;
-      retires = inl (failed_machine state S c.settle.new.store O c.settle.new.openings its.failed.0 its.failed.1 c.settle.ensures.moment);
+      retires = inl (failed_machine state S c.settle.new.store O c.settle.new.transactions its.failed.0 its.failed.1 c.settle.ensures.moment);
       exits = record {
         tables = its.exits.tables;
         ends = inl (its.exits.moves, its.exits.carries.extras);
@@ -92,16 +85,16 @@ returns-in_default-settle g c =
 pub returns-in_default-retire_settled : goal.returns-in_default-retire_settled
 returns-in_default-retire_settled g c =
     let state = g.F.Flash.state in
-    let S = c.self.inside.store in let O = c.self.inside.openings in
-    let S1 = c.settle.new.store in let O1 = c.settle.new.openings in let S2 = c.retire_settled.new.store in
-    let old = standing_in state S O in
-    let mid = standing_in state S1 O1 in
-    let new = standing_in state S2 O1 in
+    let S = c.self.inside.store in let O = c.self.inside.transactions in
+    let S1 = c.settle.new.store in let O1 = c.settle.new.transactions in let S2 = c.retire_settled.new.store in
+    let old = device_in state S O in
+    let mid = device_in state S1 O1 in
+    let new = device_in state S2 O1 in
     let there = is_there state old in
     let settles = c.in-Ok.ensures in let its = c.in_default-retire_settled.ensures in
     let stands = kept_stands state c.self.inside _ c.self.view_is c.requires.kept g.R.CommitRule.protocol c.self.invariant in
     by_kept state c.self.inside _ c.self.view_is c.requires.kept S2 O1
-    (λ (s t : Standing _). RetiresDevice state s t c.args.block.0 (Err Fault))
+    (λ (s t : DeviceState _). RetiresDevice state s t c.args.block.0 (Err Fault))
     (record {
       refusal = subst (λ (r : Option RetireError). AnswersRetire r old new (Err Fault)) c.in_default.ensures.refusal tt;
       retires = inr (its.left.machine ∙ settles.settles.machine);
@@ -126,17 +119,17 @@ returns-in_default-retire_settled g c =
 pub returns : goal.returns
 returns g c =
     let state = g.F.Flash.state in
-    let S = c.self.inside.store in let O = c.self.inside.openings in
-    let S1 = c.settle.new.store in let O1 = c.settle.new.openings in let S2 = c.retire_settled.new.store in
-    let old = standing_in state S O in
-    let mid = standing_in state S1 O1 in
-    let new = standing_in state S2 O1 in
+    let S = c.self.inside.store in let O = c.self.inside.transactions in
+    let S1 = c.settle.new.store in let O1 = c.settle.new.transactions in let S2 = c.retire_settled.new.store in
+    let old = device_in state S O in
+    let mid = device_in state S1 O1 in
+    let new = device_in state S2 O1 in
     let there = is_there state old in
     let settles = c.in-Ok.ensures in let its = c.in-Ok-retire_settled.ensures in let done = its.retires.done in
     let config : new.noted.config ≡ mid.noted.config = its.left.tables.config in
     let stands = kept_stands state c.self.inside _ c.self.view_is c.requires.kept g.R.CommitRule.protocol c.self.invariant in
     by_kept state c.self.inside _ c.self.view_is c.requires.kept S2 O1
-    (λ (s t : Standing _). RetiresDevice state s t c.args.block.0 (Ok tt))
+    (λ (s t : DeviceState _). RetiresDevice state s t c.args.block.0 (Ok tt))
     (record {
       refusal = subst (λ (r : Option RetireError). AnswersRetire r old new (Ok tt)) c.in_default.ensures.refusal tt;
       retires = its.left.machine ∙ settles.settles.machine;

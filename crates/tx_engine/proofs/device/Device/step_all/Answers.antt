@@ -5,12 +5,8 @@ mod FirstSteps
 mod AllMoved
 mod Dropping
 mod KnownChoice
-use Rattle.std.proofs.Common.{◌≡◌, true, sym, ap, ◌∙◌, subst}
-use Rattle.tx_types.specs.declared.config.Config.{Config}
-use Rattle.tx_engine.specs.Batches.{DropsDevice, MovesDevice}
-use Rattle.tx_engine.specs.Standing.{Standing}
-use Rattle.tx_engine.specs.Tables.{standing_in}
-use Rattle.tx_engine.proofs.OfStanding.KeptDevices.{as_kept, by_kept, kept_is, kept_stands, limits_then}
+use Rattle.tx_engine.proofs.Common.{◌≡◌, true, sym, ap, ◌∙◌, subst, Config, DropsDevice, MovesDevice, DeviceState, device_in}
+use Rattle.tx_engine.proofs.OfDevice.KeptDevices.{as_kept, by_kept, kept_is, kept_stands, limits_then}
 use Rattle.tx_engine.proofs.device.Device.step_all.Answers.DeviceMoves.{all_dropped, all_moved}
 use Rattle.tx_engine.proofs.device.Device.step_all.Answers.Dropping.{drops_unsettled}
 use Rattle.tx_engine.proofs.device.Device.step_all.Goals as goal
@@ -18,21 +14,21 @@ use Rattle.tx_engine.proofs.device.Device.step_all.Goals as goal
 pub returns-in_default : goal.returns-in_default
 returns-in_default g c =
     let state = g.F.Flash.state in let p = g.R.CommitRule.protocol in
-    let S = c.self.inside.store in let O = c.self.inside.openings in
-    let S1 = c.settle.new.store in let O1 = c.settle.new.openings in
+    let S = c.self.inside.store in let O = c.self.inside.transactions in
+    let S1 = c.settle.new.store in let O1 = c.settle.new.transactions in
     record {
       moves = tt;
-      dropped = subst (λ (s : Standing _). DropsDevice state s (record (standing_in state S1 O1) { dropped = true }))
+      dropped = subst (λ (s : DeviceState _). DropsDevice state s (record (device_in state S1 O1) { dropped = true }))
           (as_kept state c.self.inside _ c.self.view_is c.requires.kept)
-          (drops_unsettled state p S S1 O O1 _ c.devices_stand.ensures c.cuts_leave.ensures c.self.invariant.rule c.in_default.ensures);
+          (drops_unsettled state p S S1 O O1 _ c.device_invariant.ensures c.crash_states.ensures c.self.invariant.rule c.in_default.ensures);
     }
 
 pub invariant_of-self-in-Ok-move_all : goal.invariant_of-self-in-Ok-move_all
 invariant_of-self-in-Ok-move_all g c =
     let state = g.F.Flash.state in let p = g.R.CommitRule.protocol in
-    let S = c.self.inside.store in let O = c.self.inside.openings in
-    let S1 = c.settle.new.store in let O1 = c.settle.new.openings in
-    let S2 = c.move_all.new.store in let O2 = c.move_all.new.openings in
+    let S = c.self.inside.store in let O = c.self.inside.transactions in
+    let S1 = c.settle.new.store in let O1 = c.settle.new.transactions in
+    let S2 = c.move_all.new.store in let O2 = c.move_all.new.transactions in
     let stands = kept_stands state c.self.inside _ c.self.view_is c.requires.kept p c.self.invariant in
     let st = c.in-Ok.ensures in
     let size = st.limits.page_bytes ∙ c.self.invariant.page_bytes ∙ ap (λ (k : Config). k.page_bytes) (sym st.exits.tables.config) in
@@ -43,13 +39,13 @@ invariant_of-self-in-Ok-move_all g c =
 pub invariant_of-self-in_default-move_all : goal.invariant_of-self-in_default-move_all
 invariant_of-self-in_default-move_all g c =
     let state = g.F.Flash.state in let p = g.R.CommitRule.protocol in
-    let S = c.self.inside.store in let O = c.self.inside.openings in
-    let S1 = c.settle.new.store in let O1 = c.settle.new.openings in
-    let S2 = c.move_all.new.store in let O2 = c.move_all.new.openings in
+    let S = c.self.inside.store in let O = c.self.inside.transactions in
+    let S1 = c.settle.new.store in let O1 = c.settle.new.transactions in
+    let S2 = c.move_all.new.store in let O2 = c.move_all.new.transactions in
     let stands = kept_stands state c.self.inside _ c.self.view_is c.requires.kept p c.self.invariant in
     let st = c.in-Ok.ensures in
     let size = st.limits.page_bytes ∙ c.self.invariant.page_bytes ∙ ap (λ (k : Config). k.page_bytes) (sym st.exits.tables.config) in
-    let its = all_dropped state p S S1 S2 O O1 O2 _ stands c.self.invariant.rule st size _ c.devices_stand.ensures c.cuts_leave.ensures
+    let its = all_dropped state p S S1 S2 O O1 O2 _ stands c.self.invariant.rule st size _ c.device_invariant.ensures c.crash_states.ensures
     c.in_default-move_all.ensures.moves in
     let limits = limits_then O O1 O2 st.limits its.limits in
     let config = its.drops.config in
@@ -64,32 +60,32 @@ invariant_of-self-in_default-move_all g c =
 pub returns-in_default-move_all : goal.returns-in_default-move_all
 returns-in_default-move_all g c =
     let state = g.F.Flash.state in let p = g.R.CommitRule.protocol in
-    let S = c.self.inside.store in let O = c.self.inside.openings in
-    let S1 = c.settle.new.store in let O1 = c.settle.new.openings in
-    let S2 = c.move_all.new.store in let O2 = c.move_all.new.openings in
+    let S = c.self.inside.store in let O = c.self.inside.transactions in
+    let S1 = c.settle.new.store in let O1 = c.settle.new.transactions in
+    let S2 = c.move_all.new.store in let O2 = c.move_all.new.transactions in
     let stands = kept_stands state c.self.inside _ c.self.view_is c.requires.kept p c.self.invariant in
     let st = c.in-Ok.ensures in
     let size = st.limits.page_bytes ∙ c.self.invariant.page_bytes ∙ ap (λ (k : Config). k.page_bytes) (sym st.exits.tables.config) in
-    let its = all_dropped state p S S1 S2 O O1 O2 _ stands c.self.invariant.rule st size _ c.devices_stand.ensures c.cuts_leave.ensures
+    let its = all_dropped state p S S1 S2 O O1 O2 _ stands c.self.invariant.rule st size _ c.device_invariant.ensures c.crash_states.ensures
     c.in_default-move_all.ensures.moves in
     record {
       moves = tt;
-      dropped = subst (λ (s : Standing _). DropsDevice state s (record (standing_in state S2 O2) { dropped = true }))
+      dropped = subst (λ (s : DeviceState _). DropsDevice state s (record (device_in state S2 O2) { dropped = true }))
           (as_kept state c.self.inside _ c.self.view_is c.requires.kept) its.drops;
     }
 
 pub returns : goal.returns
 returns g c =
     let state = g.F.Flash.state in let p = g.R.CommitRule.protocol in
-    let S = c.self.inside.store in let O = c.self.inside.openings in
-    let S1 = c.settle.new.store in let O1 = c.settle.new.openings in
-    let S2 = c.move_all.new.store in let O2 = c.move_all.new.openings in
+    let S = c.self.inside.store in let O = c.self.inside.transactions in
+    let S1 = c.settle.new.store in let O1 = c.settle.new.transactions in
+    let S2 = c.move_all.new.store in let O2 = c.move_all.new.transactions in
     let stands = kept_stands state c.self.inside _ c.self.view_is c.requires.kept p c.self.invariant in
     let st = c.in-Ok.ensures in
     let size = st.limits.page_bytes ∙ c.self.invariant.page_bytes ∙ ap (λ (k : Config). k.page_bytes) (sym st.exits.tables.config) in
     let its = all_moved state p S S1 S2 O O1 O2 _ stands c.self.invariant.rule st size c.in-Ok-move_all.moved c.in-Ok-move_all.ensures.moves in
     record {
       moves = by_kept state c.self.inside _ c.self.view_is c.requires.kept S2 O2
-          (λ (s t : Standing _). MovesDevice state s t c.in-Ok-move_all.moved) its.moves;
+          (λ (s t : DeviceState _). MovesDevice state s t c.in-Ok-move_all.moved) its.moves;
       dropped = tt;
     }

@@ -1,48 +1,33 @@
 -- The program of a record as a call: what it leaves where it is done, and where it is broken.
-use Rattle.std.proofs.Common.{◌≡◌, ℕ, eqb-true, List, [], ◌∷◌, length, Ok, Err, refl, sym, ap, ◌∙◌, subst, arith}
-use Rattle.std.proofs.lemmas.List.{get_or-set_same}
-use Rattle.tx_types.specs.Config.{slots_of}
-use Rattle.tx_types.specs.declared.config.Protocol.{Protocol}
-use Rattle.tx_types.specs.declared.config.Shape.{Shape}
-use Rattle.tx_types.specs.declared.config.Slot.{Slot}
-use Rattle.tx_types.specs.declared.record.Rec.{Rec}
-use Rattle.flash_model.specs.declared.flash.Broken.{Broken}
+use Rattle.tx_engine.proofs.Common.{◌≡◌, ℕ, eqb-true, List, [], ◌∷◌, length, Ok, Err, refl, sym, ap, ◌∙◌, subst, arith, get_or-set_same, slots_of, Protocol, Shape, Slot, Rec, Broken, FlashState, IsImage, blank, complete, slot_at, Does, CanDo, moment_of, program, image_left, CanBeSpelled, spelling, TextsStay, ImagePartialLaw, ImageCompletingLaw, IndexState, programmed, BlocksState, IsBlocksState, IsFree, with_slot, Matches, CanTakeOwn, StoreParts, CanWrite, WritesOwn}
 use Rattle.flash_model.specs.declared.outcome.Outcome.TheVariants as outcome
-use Rattle.flash_model.specs.Flash.{FlashState, IsImage, blank, complete, slot_at}
 use Rattle.flash_model.specs.Calls.{Programs}
-use Rattle.flash_model.specs.Moves.{Does}
-use Rattle.flash_model.specs.Operations.{CanDo, after, moment_of, program, image_left}
+use Rattle.flash_model.specs.Operations.{after}
 use Rattle.flash_model.proofs.ImageLemmas.{IsImage-left}
 use Rattle.flash_model.proofs.MoveLemmas.{FlashMoves-operates, same_moments}
-use Rattle.page_record.specs.Spelling.{CanBeSpelled, spelling}
 use Rattle.page_record.proofs.Spellings.{length-spelling}
 use Rattle.record_list.specs.Changes.{PartialWriteLaw, CompletingWriteLaw}
 use Rattle.record_list.specs.WrittenChanges.{WrittenPartialWriteLaw, WrittenCompletingWriteLaw}
-use Rattle.version_index.specs.ImageChanges.{image_with, TextsStay, TextsCome}
-use Rattle.version_index.specs.ImageLaws.{ImagePartialLaw, ImageCompletingLaw}
-use Rattle.version_index.specs.Noted.{Noted, programmed}
+use Rattle.version_index.specs.ImageChanges.{image_with, TextsCome}
 use Rattle.version_index.proofs.OfLaws.ImageLaws.{image_partial_law, image_completing_law}
 use Rattle.version_index.proofs.OfChanges.NotedChanges.{programmed_noted}
-use Rattle.die_alloc.specs.BlockTable.{BlockTable, IsBlockTable, IsFree, with_slot}
 use Rattle.collector.specs.declared.unsure.Unsure.TheVariants as unsure
-use Rattle.collector.specs.Matches.{Matches, CanTakeOwn}
 use Rattle.collector.proofs.OfSettle.OwnExits.{own_there}
-use Rattle.collector.specs.Store.{Store, store_of, IsSure}
-use Rattle.tx_engine.specs.Stored.{CanWrite, WritesOwn}
+use Rattle.collector.specs.StoreParts.{store_parts, IsSure}
 use Rattle.tx_engine.proofs.OfWrite.Programs.{free_program, IsWritten, is_written, IsLeft, is_left, left_unsure}
 
 module _ (q : Protocol) (partial : PartialWriteLaw q) (completing : CompletingWriteLaw q) (written_partial : WrittenPartialWriteLaw q)
     (written_completing : WrittenCompletingWriteLaw q)
-    (a : Store) (k : IsSure q a) (at : Slot) (rec : Rec) (bytes : List ℕ) (asks : CanWrite a at rec bytes) (spare : List ℕ)
+    (a : StoreParts) (k : IsSure q a) (at : Slot) (rec : Rec) (bytes : List ℕ) (asks : CanWrite a at rec bytes) (spare : List ℕ)
     (spells : spare ≡ spelling a.noted.config.protocol rec)
     (s' : FlashState) where
   abbrev s : FlashState
   s = a.flash
 
-  abbrev n : Noted
+  abbrev n : IndexState
   n = a.noted
 
-  abbrev t : BlockTable
+  abbrev t : BlocksState
   t = a.table
 
   abbrev free : IsFree t at.0
@@ -79,7 +64,7 @@ module _ (q : Protocol) (partial : PartialWriteLaw q) (completing : CompletingWr
         (is_left s n t m at rec free take spelled bytes image_partial image_completing broken.torn.left.0)
 
     -- it is not known what the slot holds
-    pub write_torn : WritesOwn a (store_of s' n t (unsure.Own at rec)) at rec bytes (Err x)
+    pub write_torn : WritesOwn a (store_parts s' n t (unsure.Own at rec)) at rec bytes (Err x)
     write_torn = record {
       matches = left_unsure s n t m at rec free take spelled bytes s' broken.carries.shape
           (subst (IsImage s.shape) (sym broken.torn.left.1) (IsImage-left s.shape s.image (program at.0 bytes spare) broken.torn.left.0 m.flash can)) torn_left;
@@ -124,7 +109,7 @@ module _ (q : Protocol) (partial : PartialWriteLaw q) (completing : CompletingWr
         (is_left s n t m at rec free take spelled bytes image_partial image_completing outcome.All))
 
     -- the tables have the record
-    pub write_done : IsBlockTable (with_slot t at.0) → WritesOwn a (store_of s' (programmed n at.0 rec) (with_slot t at.0) a.unsure) at rec bytes (Ok tt)
+    pub write_done : IsBlocksState (with_slot t at.0) → WritesOwn a (store_parts s' (programmed n at.0 rec) (with_slot t at.0) a.unsure) at rec bytes (Ok tt)
     write_done good = record {
       matches = subst (Matches s' (programmed n at.0 rec) (with_slot t at.0)) (sym k.nothing)
           (own_there s' n t (unsure.Own at rec) as_unsure at.0 free (m.free at.0 free) (λ slot e. eqb-true slot at.0 e) good

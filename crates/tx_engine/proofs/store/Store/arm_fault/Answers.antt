@@ -1,4 +1,4 @@
-use Rattle.std.proofs.Common.{refl}
+use Rattle.tx_engine.proofs.Common.{refl}
 use Rattle.tx_engine.proofs.store.Store.arm_fault.Goals as goal
 
 pub returns : goal.returns

@@ -1,5 +1,5 @@
-use Rattle.std.proofs.Common.{arith}
-use Rattle.list_facts.proofs.Ranges.{sum_next}
+use Rattle.tx_engine.proofs.Common.{arith}
+use Rattle.list_lemmas.proofs.Ranges.{sum_next}
 use Rattle.collector.specs.Victim.{garbage_in}
 use Rattle.tx_engine.proofs.store.Store.garbage.Goals as goal
 

@@ -1,5 +1,5 @@
-use Rattle.std.proofs.Common.{◌≡◌, ◌*◌, ◌≤◌, sum_by}
-use Rattle.std.specs.List.{range_with_len}
+use Rattle.tx_engine.proofs.Common.{◌≡◌, ◌*◌, ◌≤◌, range_with_len}
+use Rattle.std.proofs.Common.{sum_by}
 use Rattle.collector.specs.Victim.{garbage_in}
 use Rattle.tx_engine.proofs.store.Store.garbage.Given as goal
 

@@ -1,5 +1,5 @@
 mod GarbageSums
-use Rattle.std.proofs.Common.{arith}
+use Rattle.tx_engine.proofs.Common.{arith}
 use Rattle.tx_engine.proofs.store.Store.garbage_in.Answers.GarbageSums.{garbage_few}
 use Rattle.tx_engine.proofs.store.Store.garbage_in.Goals as goal
 

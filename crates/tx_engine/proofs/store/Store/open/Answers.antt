@@ -1,7 +1,4 @@
-use Rattle.std.proofs.Common.{sym, ap, ◌∙◌, rules, subst}
-use Rattle.tx_types.specs.declared.config.Shape.{Shape}
-use Rattle.version_index.specs.Images.{IsSoundImage}
-use Rattle.version_index.specs.Noted.{Noted}
+use Rattle.tx_engine.proofs.Common.{sym, ap, ◌∙◌, rules, subst, Shape, IsSoundImage, IndexState}
 use Rattle.tx_engine.proofs.OfMount.Mounted.{opened_matches}
 use Rattle.tx_engine.proofs.store.Store.open.Goals as goal
 
@@ -26,7 +23,7 @@ returns-in-Ok-recover_tables g c =
             (subst (λ q. IsSoundImage q c.args.config.logical (g.F.Flash.state c.args.flash).shape (g.F.Flash.state c.args.flash).image)
             (sym c.requires.rule) opened.sound)
             opened.tables opened.reads.carries.shape opened.moment;
-        rule = ap (λ (n : Noted). n.config.protocol) opened.tables.noted_is ∙ c.requires.rule;
+        rule = ap (λ (n : IndexState). n.config.protocol) opened.tables.noted_is ∙ c.requires.rule;
       };
       failed = tt;
       reads = tt;

@@ -1,7 +1,6 @@
-use Rattle.std.proofs.Common.{◌≡◌, map, take}
-use Rattle.tx_engine.specs.Naming.{with_pins}
-use Rattle.tx_engine.specs.OpenTable.{next_name}
-use Rattle.tx_engine.specs.Stored.{IsStored}
+use Rattle.tx_engine.proofs.Common.{◌≡◌, map, with_pins, IsStoreState}
+use Rattle.std.proofs.Common.{take}
+use Rattle.tx_engine.specs.OpenTransactionsState.{next_name}
 use Rattle.tx_engine.proofs.store.Store.pin_all.Given as goal
 
 abbrev pub invariant-loop-at : goal.invariant-loop-at
@@ -9,5 +8,5 @@ invariant-loop-at g l =
     let n = l.initial.self.noted in
     record {
       pinned : l.self ≡ record l.initial.self { noted = record n { pins = with_pins n.pins (map (next_name n) (take l.at l.batch.entries)) } };
-      stored : IsStored g.F.Flash.state g.R.CommitRule.protocol l.self;
+      stored : IsStoreState g.F.Flash.state g.R.CommitRule.protocol l.self;
     }

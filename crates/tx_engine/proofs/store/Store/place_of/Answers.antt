@@ -1,8 +1,5 @@
 mod Locating
-use Rattle.std.proofs.Common.{◌≡◌, true, false, subst, sym}
-use Rattle.std.specs.Option.{option_map}
-use Rattle.collector.specs.Matches.{Matches}
-use Rattle.version_index.specs.Noted.{discarded_of}
+use Rattle.tx_engine.proofs.Common.{◌≡◌, true, false, subst, sym, option_map, Matches, discarded_of}
 use Rattle.tx_engine.specs.Read.{current_place}
 use Rattle.tx_engine.proofs.store.Store.place_of.Answers.Locating.{home_place, located, located_off, not_victim, nowhere, off_place, place_home}
 use Rattle.tx_engine.proofs.OfTables.WrittenPages.{discard_known}
@@ -14,8 +11,8 @@ returns-then-discards g c =
     let d = c.self.inside in
     let stored = rw (← c.self.view_is) at c.requires.stored in
     let within = rw (← c.self.view_is) at c.requires.page in
-    let notes = c.known_images_stand.ensures.notes s d.index d.blocks d.unsure stored.matches stored.rule in
-    let array = c.known_images_stand.ensures.array s d.index d.blocks d.unsure stored.matches stored.rule in
+    let notes = c.known_image_is_sound.ensures.notes s d.index d.blocks d.unsure stored.matches stored.rule in
+    let array = c.known_image_is_sound.ensures.array s d.index d.blocks d.unsure stored.matches stored.rule in
     let discards : discarded_of d.index c.args.page ≡ true = sym c.if-discards.ensures in
     rw (← c.self.view_is) (record {
       none = discard_known g.R.CommitRule.protocol s d.index d.blocks d.unsure stored.matches stored.rule notes array c.args.page within discards;

@@ -1,5 +1,4 @@
-use Rattle.std.proofs.Common.{ap, ◌∙◌, sym, rules}
-use Rattle.tx_types.specs.declared.config.Config.{Config}
+use Rattle.tx_engine.proofs.Common.{ap, ◌∙◌, sym, rules, Config}
 use Rattle.tx_engine.proofs.OfTables.StoreCalls.{same_config, as_long}
 use Rattle.tx_engine.proofs.store.Store.settle.Goals as goal
 

@@ -1,5 +1,4 @@
-use Rattle.std.proofs.Common.{ap, ◌∙◌, sym}
-use Rattle.tx_types.specs.declared.config.Config.{Config}
+use Rattle.tx_engine.proofs.Common.{ap, ◌∙◌, sym, Config}
 use Rattle.tx_engine.proofs.store.Store.write.Goals as goal
 
 pub write_record-requires-clause-sure : goal.write_record-requires-clause-sure

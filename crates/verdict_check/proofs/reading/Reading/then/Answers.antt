@@ -1,8 +1,6 @@
 use Rattle.std.proofs.lemmas.Slice.Eq.{strip_prefix_is}
 use Rattle.std.proofs.lemmas.Bool.Decides.{Decides-eqb}
-use Rattle.std.proofs.Common.{ap, ◌∙◌, sym}
-use Rattle.std.specs.Option.{option_map}
-use Rattle.verdict_check.specs.Texts.{left_behind}
+use Rattle.verdict_check.proofs.Common.{ap, ◌∙◌, sym, option_map, left_behind}
 use Rattle.verdict_check.proofs.TextLemmas.{behind_is}
 use Rattle.verdict_check.proofs.reading.Reading.then.Goals as goal
 

@@ -1,5 +1,4 @@
-use Rattle.std.proofs.Common.{◌≡◌, subst}
-use Rattle.record_list.specs.Records.{record_at}
+use Rattle.verdict_check.proofs.Common.{◌≡◌, subst, record_at}
 use Rattle.verdict_check.proofs.PlaceLemmas.{leads, leads_nowhere}
 use Rattle.verdict_check.proofs.records.Records.place_of.Goals as goal
 

@@ -1,28 +1,21 @@
 -- The line of a page tells what it says.
-use Rattle.std.proofs.Common.{◌≡◌, ℕ, zero, suc, ◌-◌, ◌^◌, ◌<◌, ◌≤◌, ◌==◌, Bool, true, false, List, [], ◌∷◌, ◌++◌, length, get_or, drop, map, All, Contains}
-use Rattle.std.proofs.Common.{refl, sym, ap, ◌∙◌, subst, inl, inr, arith, append-nil, codes, decimal, if◌then◌else◌}
-use Rattle.std.specs.List.{list_all, join_with_byte, concat, slice_split}
-use Rattle.std.proofs.lemmas.Bool.{cases_Bool, and_parts}
+use Rattle.verdict_check.proofs.Common.{◌≡◌, ℕ, zero, suc, ◌-◌, ◌<◌, ◌≤◌, ◌==◌, Bool, true, false, List, [], ◌∷◌, ◌++◌, length, get_or, map, refl, sym, ap, ◌∙◌, subst, inl, inr, arith, append-nil, codes, decimal, if◌then◌else◌, list_all, concat, cases_Bool, and_parts, Link, Rec, Protocol, Scc, Found, Why, Cycle, Absent, version_of, newest, has_name, newest_name, link_of, is_ahead, is_behind, why, verdict_of, cur, links_of, reason_words, verdict_word, verdict_line, walk_words, last_line}
+use Rattle.std.proofs.Common.{◌^◌, drop, All, Contains}
+use Rattle.std.specs.List.{join_with_byte, slice_split}
 use Rattle.std.proofs.lemmas.Fmt.{decimal_injective}
 use Rattle.std.proofs.lemmas.List.{append_cancel_right}
 use Rattle.std.proofs.lemmas.List.Elements.{Contains-append_cases, Contains-append_left, All-contains}
 use Rattle.std.proofs.lemmas.List.Splits.{slice_split_none, slice_split_at}
-use Rattle.list_facts.proofs.Membership.{Contains-one, in_map, map_in}
-use Rattle.tx_types.specs.declared.record.Link.{Link}
-use Rattle.tx_types.specs.declared.record.Rec.{Rec}
-use Rattle.tx_types.specs.declared.config.Protocol.{Protocol}
-use Rattle.tx_types.specs.declared.config.Protocol.TheVariants.{Scc, Bpcc}
-use Rattle.record_list.specs.declared.found.Found.{Found}
-use Rattle.record_list.specs.declared.found.Why.{Why}
-use Rattle.record_list.specs.declared.found.Why.TheVariants.{Cycle, Passed, Absent, Straddled}
-use Rattle.record_list.specs.Records.{greatest, version_of, version_below, newest, next_older, has_name}
-use Rattle.record_list.specs.Verdict.{newest_name, link_of, back_of, passed, is_ahead, is_behind, straddling, straddling_version, walk, why, verdict_of}
+use Rattle.list_lemmas.proofs.Membership.{Contains-one, in_map, map_in}
+use Rattle.tx_types.specs.declared.config.Protocol.TheVariants.{Bpcc}
+use Rattle.record_list.specs.declared.found.Why.TheVariants.{Passed, Straddled}
+use Rattle.record_list.specs.Records.{greatest, version_below, next_older}
+use Rattle.record_list.specs.Verdict.{back_of, why_below_newest, straddling, straddling_version, walk}
 use Rattle.record_list.specs.Verdict.{is_committed}
 use Rattle.record_list.specs.Records.{is_same}
-use Rattle.record_list.specs.Current.{cur, fallback}
+use Rattle.record_list.specs.Current.{fallback}
 use Rattle.record_list.proofs.OfFacts.Names.{greatest_least}
-use Rattle.verdict_report.specs.Walks.{links_of}
-use Rattle.verdict_report.specs.Report.{line_of, reason_words, verdict_word, has_record, pages, page_line, verdict_line, walk_words, last_line, report_lines}
+use Rattle.verdict_report.specs.Report.{line_of, has_record, pages, page_line, report_lines}
 use Rattle.verdict_report.specs.Report.{report}
 use Rattle.verdict_report.specs.Lines.{IsReason}
 use Rattle.verdict_report.proofs.PageLemmas.{pages_each}
@@ -139,11 +132,11 @@ walk_fits : (protocol : Protocol) (list : List Found) → HaveVersions list → 
     IsReason (walk protocol list start turns link)
 walk_fits protocol list fit start zero link = tt
 walk_fits protocol list fit start (suc turns) link =
-    reason_if (is_ahead list link) Absent _ tt (reason_if (is_behind list link) (passed protocol list link) _ (passed_fits protocol)
+    reason_if (is_ahead list link) Absent _ tt (reason_if (is_behind list link) (why_below_newest protocol list link) _ (passed_fits protocol)
     (reason_if (is_same link start) Cycle (walk protocol list start turns (link_of list link)) tt
     (walk_fits protocol list fit start turns (link_of list link))))
   where
-    passed_fits : (p : Protocol) → IsReason (passed p list link)
+    passed_fits : (p : Protocol) → IsReason (why_below_newest p list link)
     passed_fits Scc = tt
     passed_fits Bpcc = reason_if (straddling list link == 0) Passed (Straddled (straddling list link)) tt (straddling_fits list fit link)
 

@@ -1,7 +1,6 @@
-use Rattle.std.proofs.Common.{◌≡◌, ◌∙◌, ◌++◌, [], ◌∷◌, ap, map, drop, arith}
+use Rattle.verdict_report.proofs.Common.{◌≡◌, ◌∙◌, ◌++◌, [], ◌∷◌, ap, map, arith, verdict_word, link_word, after_spaces}
+use Rattle.std.proofs.Common.{drop}
 use Rattle.std.proofs.lemmas.List.{length-drop, nil_from_length}
-use Rattle.verdict_report.specs.Report.{verdict_word, link_word}
-use Rattle.verdict_report.specs.Lines.{after_spaces}
 use Rattle.verdict_report.proofs.LineLemmas.{line_put}
 use Rattle.verdict_report.proofs.line.Line.put.Goals as goal
 

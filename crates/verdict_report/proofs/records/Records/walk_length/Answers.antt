@@ -1,7 +1,7 @@
-use Rattle.std.proofs.Common.{arith, length, suc, ◌≡◌, ◌+◌, ◌∙◌, sym, ap}
+use Rattle.verdict_report.proofs.Common.{arith, length, suc, ◌≡◌, ◌+◌, ◌∙◌, sym, ap}
 use Rattle.record_list.specs.Records.{record_at}
-use Rattle.record_chart.specs.declared.orbit.Orbit.TheVariants.{Ends, Round, Aside}
-use Rattle.record_chart.proofs.OfWalk.WalkOrbits.{ends_below}
+use Rattle.sorted_records.specs.declared.orbit.Orbit.TheVariants.{Ends, Round, Aside}
+use Rattle.sorted_records.proofs.OfWalk.WalkOrbits.{ends_below}
 use Rattle.verdict_report.specs.Walks.{stays_at}
 use Rattle.verdict_report.proofs.WalkLengths.{orbit_is, walk_length, walk_alone, walk_stays, walk_stops, counted_most, counted_least}
 use Rattle.verdict_report.proofs.records.Records.walk_length.Goals as goal

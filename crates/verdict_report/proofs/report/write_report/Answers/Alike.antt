@@ -1,18 +1,15 @@
 -- The report on records in order of their names is that on the list.
-use Rattle.std.proofs.Common.{◌≡◌, ℕ, zero, suc, ◌==◌, ◌||◌, nat_lt, cond, List, [], ◌∷◌, ◌++◌, length, map, filter, ap, ap₂, sym, ◌∙◌, refl}
+use Rattle.verdict_report.proofs.Common.{◌≡◌, ℕ, zero, suc, ◌||◌, cond, List, [], ◌∷◌, ◌++◌, length, map, ap, ap₂, sym, ◌∙◌, refl, Link, Protocol, Found, newest, is_same, newest_name, link_of, walk_links, links_of, has_record, pages, page_line, walk_words, verdict_line, report}
+use Rattle.std.proofs.Common.{◌==◌, nat_lt, filter}
 use mathlib.Core.Path.{fun_ext}
 use Rattle.std.specs.List.{range_with_len, concat}
 use Rattle.std.proofs.lemmas.List.Sorted.{list_any-IsPermutation}
-use Rattle.tx_types.specs.declared.record.Link.{Link}
-use Rattle.tx_types.specs.declared.config.Protocol.{Protocol}
-use Rattle.record_list.specs.declared.found.Found.{Found}
-use Rattle.record_list.specs.Records.{newest, is_same}
-use Rattle.record_list.specs.Verdict.{newest_name, link_of, why}
+use Rattle.record_list.specs.Verdict.{why}
 use Rattle.record_list.specs.Current.{cur}
-use Rattle.record_chart.specs.Charts.{Sorts}
-use Rattle.record_chart.proofs.OfSort.Alike.{newest_alike, link_alike, why_alike, cur_alike}
-use Rattle.verdict_report.specs.Walks.{is_end, walk_links, links_of}
-use Rattle.verdict_report.specs.Report.{has_record, pages, page_line, walk_words, verdict_line, last_line, report}
+use Rattle.sorted_records.specs.SortedRecords.{Sorts}
+use Rattle.sorted_records.proofs.OfSort.Alike.{newest_alike, link_alike, why_alike, cur_alike}
+use Rattle.verdict_report.specs.Walks.{is_end}
+use Rattle.verdict_report.specs.Report.{last_line}
 
 module _ (list sorted : List Found) (is : Sorts list sorted) where
   record_alike : (page : ℕ) → has_record sorted page ≡ has_record list page

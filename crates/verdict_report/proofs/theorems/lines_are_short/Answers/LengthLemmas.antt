@@ -1,18 +1,18 @@
 -- The line of a page is short.
-use Rattle.std.proofs.Common.{ℕ, zero, suc, ◌*◌, ◌-◌, ◌^◌, ◌<◌, ◌≤◌, Bool, true, false, cond, List, [], ◌∷◌, ◌++◌, length, map, take, sym, subst, arith}
+use Rattle.verdict_report.proofs.Common.{ℕ, zero, suc, ◌<◌, ◌≤◌, Bool, true, false, cond, List, [], ◌∷◌, ◌++◌, length, map, take, sym, subst, arith, Link, after_spaces, verdict_word, link_word, walk_words, page_line}
+use Rattle.std.proofs.Common.{◌*◌, ◌-◌, ◌^◌}
 use Rattle.std.proofs.Common.{length-append, codes}
 use Rattle.std.specs.Prelude.{nat_lt}
 use Rattle.std.specs.List.{AllByRecursion}
 use Rattle.std.specs.Fmt.{decimal}
-use Rattle.list_facts.proofs.Values.{digits_64, digits_32}
-use Rattle.tx_types.specs.declared.record.Link.{Link}
+use Rattle.list_lemmas.proofs.Values.{digits_64, digits_32}
 use Rattle.record_list.specs.declared.found.Verdict.{Verdict}
 use Rattle.record_list.specs.declared.found.Verdict.TheVariants.{Committed, Uncommitted}
 use Rattle.record_list.specs.declared.found.Why.{Why}
 use Rattle.record_list.specs.declared.found.Why.TheVariants.{Cycle, Passed, Absent, Straddled}
 use Rattle.record_list.specs.Verdict.{verdict_of}
-use Rattle.verdict_report.specs.Lines.{after_spaces, FitTypes, IsReason, max_report_line_bytes}
-use Rattle.verdict_report.specs.Report.{verdict_word, reason_words, link_word, more_words, most_links, walk_words, page_line}
+use Rattle.verdict_report.specs.Lines.{FitTypes, IsReason, max_report_line_bytes}
+use Rattle.verdict_report.specs.Report.{reason_words, more_words, most_links}
 use Rattle.verdict_report.proofs.LineLemmas.{line_parts}
 
 page_short : (page version : ℕ) → page < 2 ^ 32 → version < 2 ^ 64 →

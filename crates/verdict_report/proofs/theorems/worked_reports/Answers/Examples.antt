@@ -1,7 +1,6 @@
 -- The reports of a few records, by computation.
-use Rattle.std.proofs.Common.{refl}
+use Rattle.verdict_report.proofs.Common.{refl, report}
 use Rattle.std.specs.Fmt.{digits}
-use Rattle.verdict_report.specs.Report.{report}
 use Rattle.verdict_report.specs.Examples.{EmptyReport, StraddledReport, TwiceStraddledReport, EndlessReport}
 
 pub empty_report : EmptyReport

@@ -1,5 +1,6 @@
 -- Blocks in the order of their numbers.
-use Rattle.std.proofs.Common.{◌≡◌, ℕ, ◌<◌, ◌↔◌, Bool, ◌==◌, get_or, List, ap, subst, eqb-true}
+use Rattle.version_index.proofs.Common.{◌≡◌, ℕ, ◌<◌, ◌↔◌, Bool, get_or, List, ap, subst, eqb-true, Contains-permutation, IsPermutation-sym, Block, AreRising}
+use Rattle.std.proofs.Common.{◌==◌}
 use Rattle.std.specs.Cmp.{IsEquivalence, IsTotalOrder, ranks, unsigned_ties}
 use Rattle.std.specs.List.{Contains, dedup}
 use Rattle.std.specs.List.Sorted.{IsPermutation, IsSorted}
@@ -8,10 +9,7 @@ use Rattle.std.specs.declared.cmp.Ordering.{Ordering}
 use Rattle.std.specs.Ordering.{MatchOrdering}
 use Rattle.std.proofs.lemmas.Cmp.{nat_cmp_total, nat_eq_equiv}
 use Rattle.std.proofs.lemmas.List.Kept.{Contains-dedup, Contains-from_dedup, IsStrictlySortedBy-dedup}
-use Rattle.std.proofs.lemmas.List.Sorted.{Contains-permutation, IsPermutation-sym}
 use Rattle.std.proofs.lemmas.Map.Keys.{Less-from_sorted}
-use Rattle.tx_types.specs.declared.config.Block.{Block}
-use Rattle.version_index.specs.Going.{AreRising}
 
 abbrev by_number : Block → Block → Ordering
 by_number x y = nat_cmp x.0 y.0

@@ -1,21 +1,7 @@
 -- The walk over the numbers that finds whether a record completes its cycle.
-use Rattle.std.proofs.Common.{◌≡◌, ℕ, suc, ◌+◌, ◌-◌, ◌<◌, ◌≤◌, true, false, eqb, List, length, option_and_then, Option, Some, None, sym, ap, ◌∙◌, inl, inr}
-use Rattle.std.proofs.Common.{arith, eq-eqb}
-use Rattle.std.proofs.lemmas.Bool.{false≢true, cond-true, and_from}
-use Rattle.std.proofs.lemmas.List.Elements.{All-contains}
-use Rattle.std.proofs.lemmas.Option.{none-some, same_Some}
-use Rattle.list_facts.proofs.Options.{cases_Option}
-use Rattle.tx_types.specs.declared.config.Config.{Config}
-use Rattle.tx_types.specs.declared.config.Protocol.{Protocol}
-use Rattle.tx_types.specs.declared.record.Link.{Link}
-use Rattle.tx_types.specs.declared.record.Rec.{Rec}
-use Rattle.record_list.specs.Records.{name_of, has_name}
-use Rattle.record_list.proofs.OfFacts.Names.{has_name_true}
-use Rattle.slot_tables.specs.Kept.{Kept, IsKept, record_at}
-use Rattle.version_index.specs.Committing.{LinksExist, newest_at, newest_named, with_version, MayComplete}
-use Rattle.version_index.specs.JudgedChanges.{comes_back, completes}
-use Rattle.version_index.specs.Notes.{found_in}
-use Rattle.version_index.specs.Tables.{notes_in, noted_by}
+use Rattle.version_index.proofs.Common.{◌≡◌, ℕ, suc, ◌+◌, ◌-◌, ◌<◌, ◌≤◌, true, false, eqb, List, length, Option, Some, None, sym, ap, ◌∙◌, inl, inr, arith, eq-eqb, false≢true, cond-true, and_from, All-contains, none-some, same_Some, cases_Option, Config, Protocol, Link, Rec, name_of, has_name, has_name_true, TablesState, IsTablesState, record_at, LinksExist, newest_at, newest_with_name, comes_back, completes, found_in, notes_in, noted_by}
+use Rattle.std.proofs.Common.{option_and_then}
+use Rattle.version_index.specs.Committing.{with_version, MayComplete}
 use Rattle.version_index.proofs.OfCommit.Closing.{back_stops}
 use Rattle.version_index.proofs.OfTables.FoundIn.{found}
 use Rattle.version_index.proofs.OfTables.KeptNotes.{kept_found, kept_noted}
@@ -24,7 +10,7 @@ use Rattle.version_index.proofs.OfCommit.Newest.{newest_number, no_newest}
 use Rattle.version_index.proofs.committing.completes.Invariants.WalkSteps.{LeadsTo, walk_closes, walk_goes}
 
 -- what is still to be looked at says whether the record completes its cycle
-pub record IsWalking (k : Kept) (r : Rec) (logical n : ℕ) (link : Link) : Type 0 where
+pub record IsWalking (k : TablesState) (r : Rec) (logical n : ℕ) (link : Link) : Type 0 where
   pub page : link.page < length k.pages
   pub rest :
       (protocol : Protocol) (its : Config) (m : List ℕ) → MayComplete protocol its m k r → its.logical ≡ logical →
@@ -32,13 +18,13 @@ pub record IsWalking (k : Kept) (r : Rec) (logical n : ℕ) (link : Link) : Type
       × (comes_back (found_in (notes_in k)) (name_of r) (logical - n) link ≡ completes (noted_by its m k) r)
 
 -- the link of a record of the tables has a version
-link_some : (protocol : Protocol) (its : Config) (m : List ℕ) (k : Kept) (r s : Rec) (x : ℕ) → MayComplete protocol its m k r →
+link_some : (protocol : Protocol) (its : Config) (m : List ℕ) (k : TablesState) (r s : Rec) (x : ℕ) → MayComplete protocol its m k r →
     record_at k.records x ≡ Some s → 1 ≤ s.next.version
 link_some protocol its m k r s x may is =
     let f = kept_found k may.held x s is in
     (All-contains (λ g. (1 ≤ g.rec.version) × (1 ≤ g.rec.next.version)) (found_in (notes_in k)) (found f.0 s) may.noted.scanned.versions f.2).1
 
-pub start_walk : (k : Kept) (r : Rec) (logical : ℕ) → r.next.page < length k.pages → IsWalking k r logical 0 r.next
+pub start_walk : (k : TablesState) (r : Rec) (logical : ℕ) → r.next.page < length k.pages → IsWalking k r logical 0 r.next
 unfolding completes
 start_walk k r logical page = record {
   page = page;
@@ -48,14 +34,14 @@ start_walk k r logical page = record {
   );
 }
 
-module _ (k : Kept) (sizes : IsKept k) (r : Rec) (logical n : ℕ) (link : Link) (h : IsWalking k r logical n link) (below : n < logical)
+module _ (k : TablesState) (sizes : IsTablesState k) (r : Rec) (logical n : ℕ) (link : Link) (h : IsWalking k r logical n link) (below : n < logical)
     (protocol : Protocol) (its : Config) (m : List ℕ) (may : MayComplete protocol its m k r) (same : its.logical ≡ logical) where
   one_turn : comes_back (found_in (notes_in k)) (name_of r) (suc (logical - (n + 1))) link ≡ completes (noted_by its m k) r
   one_turn =
       ap (λ turns. comes_back (found_in (notes_in k)) (name_of r) turns link) (let more : suc (logical - (n + 1)) ≡ logical - n = omega arith in more)
       ∙ (h.rest protocol its m may same).1
 
-  pub walk_stops : newest_named k link ≡ None → false ≡ completes (noted_by its m k) r
+  pub walk_stops : newest_with_name k link ≡ None → false ≡ completes (noted_by its m k) r
   walk_stops none =
       let l = found_in (notes_in k) in
       let some = (h.rest protocol its m may same).0 in
@@ -70,7 +56,7 @@ module _ (k : Kept) (sizes : IsKept k) (r : Rec) (logical n : ℕ) (link : Link)
             absurd (none-some head.rec (sym none ∙ is)))
       ])) ∙ one_turn
 
-  module _ (s : Rec) (is : newest_named k link ≡ Some s) where
+  module _ (s : Rec) (is : newest_with_name k link ≡ Some s) where
     its_step : ((name_of s ≡ name_of r) → comes_back (found_in (notes_in k)) (name_of r) (suc (logical - (n + 1))) link ≡ true)
         × ((name_of s ≡ name_of r → ⊥) → comes_back (found_in (notes_in k)) (name_of r) (suc (logical - (n + 1))) link
         ≡ comes_back (found_in (notes_in k)) (name_of r) (logical - (n + 1)) s.next)
@@ -101,15 +87,15 @@ module _ (k : Kept) (sizes : IsKept k) (r : Rec) (logical n : ℕ) (link : Link)
               (eq-eqb s.page r.page (ap (λ u. u.page) e)) (eq-eqb s.version r.version (ap (λ u. u.version) e))))) ∙ one_turn,
         )
 
-pub walk_more : (k : Kept) → IsKept k → LinksExist k → (r : Rec) (logical n : ℕ) (link : Link) → IsWalking k r logical n link → n < logical →
-    (s : Rec) → newest_named k link ≡ Some s → has_name (name_of r) s ≡ false → IsWalking k r logical (n + 1) s.next
+pub walk_more : (k : TablesState) → IsTablesState k → LinksExist k → (r : Rec) (logical n : ℕ) (link : Link) → IsWalking k r logical n link → n < logical →
+    (s : Rec) → newest_with_name k link ≡ Some s → has_name (name_of r) s ≡ false → IsWalking k r logical (n + 1) s.next
 walk_more k sizes links r logical n link h below s is other = record {
   page = (let x = named_rec k link s is in links x.number s x.is);
   rest = λ protocol its m may same. walk_on k sizes r logical n link h below protocol its m may same s is other;
 }
 
 -- with no turn left it does not
-pub walk_ends : (k : Kept) (r : Rec) (logical n : ℕ) (link : Link) → IsWalking k r logical n link → logical ≤ n →
+pub walk_ends : (k : TablesState) (r : Rec) (logical n : ℕ) (link : Link) → IsWalking k r logical n link → logical ≤ n →
     (protocol : Protocol) (its : Config) (m : List ℕ) → MayComplete protocol its m k r → its.logical ≡ logical →
     false ≡ completes (noted_by its m k) r
 walk_ends k r logical n link h past protocol its m may same =

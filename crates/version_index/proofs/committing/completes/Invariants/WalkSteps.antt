@@ -1,28 +1,18 @@
 -- The steps of the walk that finds whether a record completes its cycle, from newest record to newest record.
-use Rattle.std.proofs.Common.{◌≡◌, ℕ, suc, true, false, eqb, Any, sym, ap, ◌∙◌, subst, inl, inr, eq-eqb, eqb-true}
-use Rattle.std.proofs.lemmas.Bool.{cases_Bool, and_parts, and_from}
-use Rattle.list_facts.proofs.Membership.{in_any}
-use Rattle.tx_types.specs.declared.record.Link.{Link}
-use Rattle.tx_types.specs.declared.record.Rec.{Rec}
-use Rattle.tx_types.specs.declared.config.Protocol.{Protocol}
-use Rattle.record_list.specs.Records.{newest, name_of, is_same}
-use Rattle.record_list.specs.Verdict.{link_of}
-use Rattle.record_list.proofs.OfFacts.Names.{same_name}
+use Rattle.version_index.proofs.Common.{◌≡◌, ℕ, suc, true, false, eqb, Any, sym, ap, ◌∙◌, subst, inl, inr, eq-eqb, eqb-true, cases_Bool, and_parts, and_from, in_any, Link, Rec, Protocol, newest, name_of, link_of, same_name, found_in, IndexState, IsNoted, comes_back}
+use Rattle.record_list.specs.Records.{is_same}
 use Rattle.record_list.proofs.OfFacts.SoundNames.{map_link}
-use Rattle.version_index.specs.Notes.{found_in}
-use Rattle.version_index.specs.Noted.{Noted, IsNoted}
-use Rattle.version_index.specs.JudgedChanges.{comes_back}
 use Rattle.version_index.proofs.OfCommit.Closing.{back_closes, back_goes}
 use Rattle.version_index.proofs.OfTables.NotedFacts.{noted_map}
 
 -- the link that is followed names the newest record of its page
-pub record LeadsTo (m : Noted) (q : Link) (s : Rec) : Type 0 where
+pub record LeadsTo (m : IndexState) (q : Link) (s : Rec) : Type 0 where
   pub noted : Any (λ f. f.rec ≡ s) (found_in m.notes)
   pub page : s.page ≡ q.page
   pub version : s.version ≡ q.version
   pub top : newest (found_in m.notes) q.page ≡ s.version
 
-module _ (protocol : Protocol) (m : Noted) (k : IsNoted protocol m) (r s : Rec) (q : Link) (turns : ℕ) (to : LeadsTo m q s) where
+module _ (protocol : Protocol) (m : IndexState) (k : IsNoted protocol m) (r s : Rec) (q : Link) (turns : ℕ) (to : LeadsTo m q s) where
   its_name : name_of s ≡ q
   its_name = same_name (name_of s) q to.page to.version
 

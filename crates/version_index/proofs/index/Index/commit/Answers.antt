@@ -1,5 +1,4 @@
-use Rattle.std.proofs.Common.{subst}
-use Rattle.version_index.specs.Noted.{IsNoted}
+use Rattle.version_index.proofs.Common.{subst, IsNoted}
 use Rattle.version_index.proofs.OfCommit.Cycles.{cycle_current}
 use Rattle.version_index.proofs.index.Index.commit.Goals as goal
 

@@ -1,5 +1,4 @@
-use Rattle.std.proofs.Common.{ap, subst, sym, ◌∙◌, ◌<◌}
-use Rattle.version_index.specs.Noted.{current_of}
+use Rattle.version_index.proofs.Common.{ap, subst, sym, ◌∙◌, ◌<◌, current_of}
 use Rattle.version_index.proofs.OfReadings.KeptReadings.{read_current}
 use Rattle.version_index.proofs.index.Index.current.Goals as goal
 

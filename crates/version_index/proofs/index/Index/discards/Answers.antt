@@ -1,5 +1,4 @@
-use Rattle.std.proofs.Common.{ap, subst, sym, ◌∙◌, ◌<◌}
-use Rattle.version_index.specs.Noted.{discarded_of}
+use Rattle.version_index.proofs.Common.{ap, subst, sym, ◌∙◌, ◌<◌, discarded_of}
 use Rattle.version_index.proofs.OfReadings.KeptReadings.{read_discard}
 use Rattle.version_index.proofs.index.Index.discards.Goals as goal
 

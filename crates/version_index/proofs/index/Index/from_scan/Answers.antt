@@ -1,7 +1,7 @@
 use Rattle.version_index.proofs.index.Index.from_scan.Goals as goal
 
-pub from_standing-requires-clause-scan : goal.from_standing-requires-clause-scan
-from_standing-requires-clause-scan g c = (
+pub from_current_versions-requires-clause-scan : goal.from_current_versions-requires-clause-scan
+from_current_versions-requires-clause-scan g c = (
   c.args.list.now,
   record {
     reads = c.requires.seen;
@@ -13,7 +13,7 @@ from_standing-requires-clause-scan g c = (
 )
 
 pub returns : goal.returns
-returns g c = c.from_standing.ensures c.args.list.now (record {
+returns g c = c.from_current_versions.ensures c.args.list.now (record {
   reads = c.requires.seen;
   complete = c.requires.complete;
   slots = c.requires.scanned;

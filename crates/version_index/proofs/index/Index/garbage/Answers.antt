@@ -1,5 +1,4 @@
-use Rattle.std.proofs.Common.{ap, ◌∙◌}
-use Rattle.version_index.specs.Noted.{garbage_of}
+use Rattle.version_index.proofs.Common.{ap, ◌∙◌, garbage_of}
 use Rattle.version_index.proofs.OfReadings.KeptReadings.{read_garbage}
 use Rattle.version_index.proofs.index.Index.garbage.Goals as goal
 

@@ -1,6 +1,4 @@
-use Rattle.std.proofs.Common.{◌≡◌, false, true, None, refl, ap, subst, sym, inr, ◌∙◌, ◌<◌}
-use Rattle.std.proofs.lemmas.Bool.{cond-true, cond-false}
-use Rattle.version_index.specs.Noted.{IsNoted, current_name_of, discarded_of, home_of}
+use Rattle.version_index.proofs.Common.{◌≡◌, false, true, None, refl, ap, subst, sym, inr, ◌∙◌, ◌<◌, cond-true, cond-false, IsNoted, current_name_of, discarded_of, home_of}
 use Rattle.version_index.proofs.OfReadings.KeptReadings.{read_home}
 use Rattle.version_index.proofs.OfTables.NotedFacts.{located_none, located_holds}
 use Rattle.version_index.proofs.index.Index.locate.Goals as goal

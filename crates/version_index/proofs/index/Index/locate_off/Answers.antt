@@ -1,5 +1,4 @@
-use Rattle.std.proofs.Common.{ap, subst, sym, ◌∙◌, ◌<◌}
-use Rattle.version_index.specs.Noted.{IsNoted, current_name_of, slot_off}
+use Rattle.version_index.proofs.Common.{ap, subst, sym, ◌∙◌, ◌<◌, IsNoted, current_name_of, slot_off}
 use Rattle.version_index.proofs.OfReadings.KeptReadings.{read_off}
 use Rattle.version_index.proofs.OfTables.NotedFacts.{off_located}
 use Rattle.version_index.proofs.index.Index.locate_off.Goals as goal

@@ -1,8 +1,5 @@
-use Rattle.std.proofs.Common.{◌/◌, Some, None, refl, ap, ◌∙◌}
-use Rattle.std.specs.Option.{option_map}
-use Rattle.tx_types.specs.declared.config.Shape.{Shape}
+use Rattle.version_index.proofs.Common.{◌/◌, Some, None, refl, ap, ◌∙◌, option_map, Shape, block_to_go}
 use Rattle.tx_types.specs.declared.config.Slot.{Slot}
-use Rattle.version_index.specs.Noted.{block_to_go}
 use Rattle.version_index.proofs.OfGoing.KeptGoing.{read_going}
 use Rattle.version_index.proofs.index.Index.must_go.Goals as goal
 

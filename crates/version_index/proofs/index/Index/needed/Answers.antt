@@ -1,5 +1,4 @@
-use Rattle.std.proofs.Common.{ap, ◌∙◌}
-use Rattle.version_index.specs.Noted.{needed_of}
+use Rattle.version_index.proofs.Common.{ap, ◌∙◌, needed_of}
 use Rattle.version_index.proofs.OfReadings.KeptReadings.{read_needed}
 use Rattle.version_index.proofs.index.Index.needed.Goals as goal
 

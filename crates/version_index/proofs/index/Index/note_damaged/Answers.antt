@@ -1,9 +1,5 @@
-use Rattle.std.proofs.Common.{◌≡◌, ◌<◌, ap, subst, sym, ◌∙◌}
-use Rattle.tx_types.specs.Config.{shape_of, slots_of}
+use Rattle.version_index.proofs.Common.{◌≡◌, ◌<◌, ap, subst, sym, ◌∙◌, shape_of, slots_of, note_at, damaged_at, noted_by, AreIndexed}
 use Rattle.version_index.specs.declared.note.Note.TheVariants as note
-use Rattle.version_index.specs.Notes.{note_at}
-use Rattle.version_index.specs.Noted.{damaged_at}
-use Rattle.version_index.specs.Tables.{noted_by, AreIndexed}
 use Rattle.version_index.proofs.OfChanges.KeptChanges.{damaged_is, damaged_indexed}
 use Rattle.version_index.proofs.index.Index.note_damaged.Goals as goal
 

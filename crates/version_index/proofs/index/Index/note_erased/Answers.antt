@@ -1,12 +1,7 @@
-use Rattle.std.proofs.Common.{◌<◌, ◌*◌, refl, ap, subst, sym, ◌∙◌}
-use Rattle.tx_types.specs.declared.config.Shape.{Shape}
-use Rattle.tx_types.specs.Config.{shape_of, blocks_of}
+use Rattle.version_index.proofs.Common.{◌<◌, ◌*◌, refl, ap, subst, sym, ◌∙◌, Shape, shape_of, blocks_of, TablesState, used_from, CanLose, noted_by, AreIndexed}
 use Rattle.slot_tables.specs.declared.slots.SlotUse.TheVariants as slot
-use Rattle.slot_tables.specs.Kept.{Kept}
 use Rattle.version_index.specs.declared.note.Note.TheVariants as note
-use Rattle.version_index.specs.Losing.{used_from}
-use Rattle.version_index.specs.Noted.{CanLose, erased}
-use Rattle.version_index.specs.Tables.{noted_by, AreIndexed}
+use Rattle.version_index.specs.IndexState.{erased}
 use Rattle.version_index.proofs.OfLosses.KeptLosses.{lost_is, lost_indexed}
 use Rattle.version_index.proofs.index.Index.note_erased.Goals as goal
 
@@ -18,7 +13,7 @@ use_block-requires-clause-block g c =
 pub invariant_of-self : goal.invariant_of-self
 invariant_of-self g c =
     let d = c.self.inside in
-    let k : Kept = d.tables in
+    let k : TablesState = d.tables in
     let block = c.args.block.0 in
     let exists = subst (λ n. block < blocks_of (shape_of n.config)) (sym c.self.view_is) c.requires.exists in
     let lose = subst (λ n. CanLose n block) (sym c.self.view_is) c.requires.outside in
@@ -31,7 +26,7 @@ invariant_of-self g c =
 pub returns : goal.returns
 returns g c =
     let d = c.self.inside in
-    let k : Kept = d.tables in
+    let k : TablesState = d.tables in
     let block = c.args.block.0 in
     let exists = subst (λ n. block < blocks_of (shape_of n.config)) (sym c.self.view_is) c.requires.exists in
     let lose = subst (λ n. CanLose n block) (sym c.self.view_is) c.requires.outside in

@@ -1,16 +1,10 @@
 mod KeptPrograms
-use Rattle.std.proofs.Common.{◌≡◌, ◌<◌, length, set, Some, ap, subst, sym, ◌∙◌, arith}
-use Rattle.std.proofs.lemmas.List.{length-set}
-use Rattle.tx_types.specs.Config.{shape_of, slots_of}
+use Rattle.version_index.proofs.Common.{◌≡◌, ◌<◌, length, set, Some, ap, subst, sym, ◌∙◌, arith, length-set, shape_of, slots_of, TablesState, IsTablesState, LinksExist, OnlyDerives, note_at, IsNextRecord, programmed, noted_by, AreIndexed}
 use Rattle.slot_tables.specs.declared.slots.SlotUse.TheVariants as slot
-use Rattle.slot_tables.specs.Kept.{Kept, IsKept}
 use Rattle.version_index.specs.declared.note.Note.TheVariants as note
-use Rattle.version_index.specs.Committing.{LinksExist, OnlyJudges, IsSettledSo}
-use Rattle.version_index.specs.Notes.{note_at}
-use Rattle.version_index.specs.Noted.{IsNextRecord, programmed}
-use Rattle.version_index.specs.Tables.{noted_by, AreIndexed}
+use Rattle.version_index.specs.Committing.{CommitsIfComplete}
 use Rattle.version_index.proofs.OfChanges.NotedChanges.{next_spelled}
-use Rattle.version_index.proofs.index.Index.note_program.Answers.KeptPrograms.{its_free, its_newest, with_links, whole_is, settled_indexed}
+use Rattle.version_index.proofs.index.Index.note_program.Answers.KeptPrograms.{its_free, its_newest, with_links, whole_is, decided_indexed}
 use Rattle.version_index.proofs.index.Index.note_program.Goals as goal
 
 pub add-number-requires-clause-free : goal.add-number-requires-clause-free
@@ -32,13 +26,13 @@ add-number-requires-clause-newest g c =
 pub set_waits-requires-clause-page : goal.set_waits-requires-clause-page
 set_waits-requires-clause-page g c =
     let d = c.self.inside in
-    let k : Kept = d.tables in
+    let k : TablesState = d.tables in
     let rec = c.args.rec in
     let next = subst (λ n. IsNextRecord n rec) (sym c.self.view_is) c.requires.asked in
     let spelled = next_spelled (noted_by d.config d.mentions.items k) rec next in
     let own = spelled.page in
     let link = spelled.next_page in
-    let long = ap (λ (t : Kept). length t.pages) (c.set_slot.ensures ∙ ap (λ (t : Kept). record t {
+    let long = ap (λ (t : TablesState). length t.pages) (c.set_slot.ensures ∙ ap (λ (t : TablesState). record t {
       slots =
           set t.slots c.args.at.0 (slot.Holds c.add-number.result);
     }) c.add-number.ensures.added)
@@ -48,7 +42,7 @@ set_waits-requires-clause-page g c =
 pub raise-requires-clause-next : goal.raise-requires-clause-next
 raise-requires-clause-next g c =
     let d = c.self.inside in
-    let k : Kept = d.tables in
+    let k : TablesState = d.tables in
     let rec = c.args.rec in
     let next = subst (λ n. IsNextRecord n rec) (sym c.self.view_is) c.requires.asked in
     let spelled = next_spelled (noted_by d.config d.mentions.items k) rec next in
@@ -57,10 +51,10 @@ raise-requires-clause-next g c =
     let mentions = c.self.invariant.noted.mentions in
     omega arith
 
-pub settle_cycle-requires-clause-links : goal.settle_cycle-requires-clause-links
-settle_cycle-requires-clause-links g c =
+pub commit_if_complete-requires-clause-links : goal.commit_if_complete-requires-clause-links
+commit_if_complete-requires-clause-links g c =
     let d = c.self.inside in
-    let k : Kept = d.tables in
+    let k : TablesState = d.tables in
     let rec = c.args.rec in
     let at = c.args.at.0 in
     let x = c.add-number.result in
@@ -69,46 +63,46 @@ settle_cycle-requires-clause-links g c =
     let next = subst (λ n. IsNextRecord n rec) (sym c.self.view_is) c.requires.asked in
     let sizes = c.shape.ensures.kept in
     let is = c.set_waits.ensures
-    ∙ ap (λ (t : Kept). record t { waits = set t.waits x (Some rec.next.page) })
-    (c.set_slot.ensures ∙ ap (λ (t : Kept). record t { slots = set t.slots c.args.at.0 (slot.Holds x) }) c.add-number.ensures.added) in
+    ∙ ap (λ (t : TablesState). record t { waits = set t.waits x (Some rec.next.page) })
+    (c.set_slot.ensures ∙ ap (λ (t : TablesState). record t { slots = set t.slots c.args.at.0 (slot.Holds x) }) c.add-number.ensures.added) in
     subst LinksExist (sym is)
     (with_links _ d.config d.mentions.items k c.self.invariant sizes at rec exists was next x c.add-number.ensures.free c.add-number.ensures.within
     g.met.R.CommitRule.partial_write g.met.R.CommitRule.completing_write)
 
-pub settle_cycle-requires-clause-page : goal.settle_cycle-requires-clause-page
-settle_cycle-requires-clause-page g c =
+pub commit_if_complete-requires-clause-page : goal.commit_if_complete-requires-clause-page
+commit_if_complete-requires-clause-page g c =
     let d = c.self.inside in
-    let k : Kept = d.tables in
+    let k : TablesState = d.tables in
     let rec = c.args.rec in
     let next = subst (λ n. IsNextRecord n rec) (sym c.self.view_is) c.requires.asked in
     let spelled = next_spelled (noted_by d.config d.mentions.items k) rec next in
     let own = spelled.page in
     let link = spelled.next_page in
     let is = c.set_waits.ensures
-    ∙ ap (λ (t : Kept). record t { waits = set t.waits c.add-number.result (Some rec.next.page) })
-    (c.set_slot.ensures ∙ ap (λ (t : Kept). record t { slots = set t.slots c.args.at.0 (slot.Holds c.add-number.result) }) c.add-number.ensures.added) in
-    let long = ap (λ (t : Kept). length t.pages) is ∙ length-set k.pages rec.page _ ∙ c.self.invariant.pages in
+    ∙ ap (λ (t : TablesState). record t { waits = set t.waits c.add-number.result (Some rec.next.page) })
+    (c.set_slot.ensures ∙ ap (λ (t : TablesState). record t { slots = set t.slots c.args.at.0 (slot.Holds c.add-number.result) }) c.add-number.ensures.added) in
+    let long = ap (λ (t : TablesState). length t.pages) is ∙ length-set k.pages rec.page _ ∙ c.self.invariant.pages in
     omega arith
 
-pub settle_cycle-requires-clause-next : goal.settle_cycle-requires-clause-next
-settle_cycle-requires-clause-next g c =
+pub commit_if_complete-requires-clause-next : goal.commit_if_complete-requires-clause-next
+commit_if_complete-requires-clause-next g c =
     let d = c.self.inside in
-    let k : Kept = d.tables in
+    let k : TablesState = d.tables in
     let rec = c.args.rec in
     let next = subst (λ n. IsNextRecord n rec) (sym c.self.view_is) c.requires.asked in
     let spelled = next_spelled (noted_by d.config d.mentions.items k) rec next in
     let own = spelled.page in
     let link = spelled.next_page in
     let is = c.set_waits.ensures
-    ∙ ap (λ (t : Kept). record t { waits = set t.waits c.add-number.result (Some rec.next.page) })
-    (c.set_slot.ensures ∙ ap (λ (t : Kept). record t { slots = set t.slots c.args.at.0 (slot.Holds c.add-number.result) }) c.add-number.ensures.added) in
-    let long = ap (λ (t : Kept). length t.pages) is ∙ length-set k.pages rec.page _ ∙ c.self.invariant.pages in
+    ∙ ap (λ (t : TablesState). record t { waits = set t.waits c.add-number.result (Some rec.next.page) })
+    (c.set_slot.ensures ∙ ap (λ (t : TablesState). record t { slots = set t.slots c.args.at.0 (slot.Holds c.add-number.result) }) c.add-number.ensures.added) in
+    let long = ap (λ (t : TablesState). length t.pages) is ∙ length-set k.pages rec.page _ ∙ c.self.invariant.pages in
     omega arith
 
 pub invariant_of-self : goal.invariant_of-self
 invariant_of-self g c =
     let d = c.self.inside in
-    let k : Kept = d.tables in
+    let k : TablesState = d.tables in
     let rec = c.args.rec in
     let at = c.args.at.0 in
     let x = c.add-number.result in
@@ -117,18 +111,18 @@ invariant_of-self g c =
     let next = subst (λ n. IsNextRecord n rec) (sym c.self.view_is) c.requires.asked in
     let sizes = c.shape.ensures.kept in
     let is = c.set_waits.ensures
-    ∙ ap (λ (t : Kept). record t { waits = set t.waits x (Some rec.next.page) })
-    (c.set_slot.ensures ∙ ap (λ (t : Kept). record t { slots = set t.slots at (slot.Holds x) }) c.add-number.ensures.added) in
-    subst (λ m. AreIndexed _ d.config m c.settle_cycle.new.tables) (sym c.raise.ensures)
-    (settled_indexed _ d.config d.mentions.items k c.self.invariant sizes at rec exists was next x c.add-number.ensures.free c.add-number.ensures.within
-    g.met.R.CommitRule.partial_write g.met.R.CommitRule.completing_write (subst IsKept is c.settle_cycle.ensures.kept) c.settle_cycle.new.tables
-    (subst (λ t. OnlyJudges t c.settle_cycle.new.tables) is c.settle_cycle.ensures.judges)
-    (subst (λ t. IsSettledSo d.config.protocol t c.settle_cycle.new.tables rec d.config.logical) is c.settle_cycle.ensures.settled))
+    ∙ ap (λ (t : TablesState). record t { waits = set t.waits x (Some rec.next.page) })
+    (c.set_slot.ensures ∙ ap (λ (t : TablesState). record t { slots = set t.slots at (slot.Holds x) }) c.add-number.ensures.added) in
+    subst (λ m. AreIndexed _ d.config m c.commit_if_complete.new.tables) (sym c.raise.ensures)
+    (decided_indexed _ d.config d.mentions.items k c.self.invariant sizes at rec exists was next x c.add-number.ensures.free c.add-number.ensures.within
+    g.met.R.CommitRule.partial_write g.met.R.CommitRule.completing_write (subst IsTablesState is c.commit_if_complete.ensures.kept) c.commit_if_complete.new.tables
+    (subst (λ t. OnlyDerives t c.commit_if_complete.new.tables) is c.commit_if_complete.ensures.judges)
+    (subst (λ t. CommitsIfComplete d.config.protocol t c.commit_if_complete.new.tables rec d.config.logical) is c.commit_if_complete.ensures.settled))
 
 pub returns : goal.returns
 returns g c =
     let d = c.self.inside in
-    let k : Kept = d.tables in
+    let k : TablesState = d.tables in
     let rec = c.args.rec in
     let at = c.args.at.0 in
     let x = c.add-number.result in
@@ -137,10 +131,10 @@ returns g c =
     let next = subst (λ n. IsNextRecord n rec) (sym c.self.view_is) c.requires.asked in
     let sizes = c.shape.ensures.kept in
     let is = c.set_waits.ensures
-    ∙ ap (λ (t : Kept). record t { waits = set t.waits x (Some rec.next.page) })
-    (c.set_slot.ensures ∙ ap (λ (t : Kept). record t { slots = set t.slots c.args.at.0 (slot.Holds x) }) c.add-number.ensures.added) in
-    ap (λ m. noted_by d.config m c.settle_cycle.new.tables) c.raise.ensures
+    ∙ ap (λ (t : TablesState). record t { waits = set t.waits x (Some rec.next.page) })
+    (c.set_slot.ensures ∙ ap (λ (t : TablesState). record t { slots = set t.slots c.args.at.0 (slot.Holds x) }) c.add-number.ensures.added) in
+    ap (λ m. noted_by d.config m c.commit_if_complete.new.tables) c.raise.ensures
     ∙ whole_is _ d.config d.mentions.items k c.self.invariant sizes at rec exists was next x c.add-number.ensures.free c.add-number.ensures.within
-    g.met.R.CommitRule.partial_write g.met.R.CommitRule.completing_write c.settle_cycle.new.tables
-    (subst (λ t. OnlyJudges t c.settle_cycle.new.tables) is c.settle_cycle.ensures.judges)
+    g.met.R.CommitRule.partial_write g.met.R.CommitRule.completing_write c.commit_if_complete.new.tables
+    (subst (λ t. OnlyDerives t c.commit_if_complete.new.tables) is c.commit_if_complete.ensures.judges)
     ∙ ap (λ n. programmed n at rec) c.self.view_is

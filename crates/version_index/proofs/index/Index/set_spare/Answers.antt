@@ -1,6 +1,4 @@
-use Rattle.std.proofs.Common.{◌<◌, subst, sym}
-use Rattle.tx_types.specs.Config.{shape_of, blocks_of}
-use Rattle.version_index.specs.Tables.{AreIndexed}
+use Rattle.version_index.proofs.Common.{◌<◌, subst, sym, shape_of, blocks_of, AreIndexed}
 use Rattle.version_index.proofs.OfChanges.KeptChanges.{spared_indexed}
 use Rattle.version_index.proofs.index.Index.set_spare.Goals as goal
 

@@ -1,5 +1,4 @@
-use Rattle.std.proofs.Common.{subst, sym}
-use Rattle.version_index.specs.Tables.{AreIndexed}
+use Rattle.version_index.proofs.Common.{subst, sym, AreIndexed}
 use Rattle.version_index.proofs.OfChanges.KeptChanges.{pinned_indexed}
 use Rattle.version_index.proofs.OfTables.KeptNotes.{kept_above}
 use Rattle.version_index.proofs.index.Index.unpin.Goals as goal

@@ -1,22 +1,18 @@
 -- Slots that are used otherwise, step by step.
-use Rattle.std.proofs.Common.{◌≡◌, ℕ, zero, suc, ◌+◌, Option, Some, None, refl, ap, ◌∙◌, arith}
+use Rattle.version_index.proofs.Common.{◌≡◌, ℕ, zero, suc, ◌+◌, Option, Some, None, refl, ap, ◌∙◌, arith, slice_get, Rec, SlotUse, TablesState, use_at, record_at, copies_of, number_in, used_so, used_from}
 use Rattle.std.specs.Prelude.{slice_set}
-use Rattle.std.specs.List.{slice_get}
-use Rattle.tx_types.specs.declared.record.Rec.{Rec}
-use Rattle.slot_tables.specs.declared.slots.SlotUse.{SlotUse}
-use Rattle.slot_tables.specs.Kept.{Kept, use_at, record_at, copies_of, number_in}
-use Rattle.version_index.specs.Losing.{bared_as, without, used_so, used_from}
+use Rattle.version_index.specs.Losing.{bared_as, without}
 
-bared_as_shape : (k : Kept) (x : ℕ) (r : Option Rec) (at : Option ℕ) → (bared_as k x r at).shape ≡ k.shape
+bared_as_shape : (k : TablesState) (x : ℕ) (r : Option Rec) (at : Option ℕ) → (bared_as k x r at).shape ≡ k.shape
 bared_as_shape k x None at = refl
 bared_as_shape k x (Some r) None = refl
 bared_as_shape k x (Some r) (Some at) = refl
 
-without_shape : (k : Kept) (o : Option ℕ) → (without k o).shape ≡ k.shape
+without_shape : (k : TablesState) (o : Option ℕ) → (without k o).shape ≡ k.shape
 without_shape k None = refl
 without_shape k (Some x) = bared_as_shape k x (record_at k.records x) (slice_get (copies_of k.slots x) 0)
 
-module _ (k : Kept) (first : ℕ) (to : SlotUse) where
+module _ (k : TablesState) (first : ℕ) (to : SlotUse) where
   pub used_none : used_from k first to 0 ≡ k
   unfolding used_from
   used_none = refl

@@ -1,22 +1,13 @@
 -- What the definitions say of a few slots, and of images of a few slots.
-use Rattle.std.proofs.Common.{◌≡◌, ◌⊎◌, ℕ, zero, suc, ◌<◌, true, false, ◌&&◌, IsSomeAnd, List, [], ◌∷◌, refl, sym, subst, inl, inr, arith, eqb-true}
-use Rattle.std.proofs.lemmas.Bool.{false≢true}
+use Rattle.version_index.proofs.Common.{◌≡◌, ◌⊎◌, ℕ, zero, suc, ◌<◌, true, false, ◌&&◌, IsSomeAnd, List, [], ◌∷◌, refl, sym, subst, inl, inr, arith, eqb-true, false≢true, shape_of, Scc, blank, damaged, complete, slot_at, record_of, Found, name_of, is_present, is_held, left, is_outside, written_in, records_in, SlotReads, found_in, current_of, home_of, slot_off, needed_of, block_to_go, garbage_of}
 use Rattle.std.proofs.lemmas.List.Elements.{All-from_recursion}
-use Rattle.tx_types.specs.Config.{shape_of}
-use Rattle.tx_types.specs.declared.config.Protocol.TheVariants.{Scc}
-use Rattle.flash_model.specs.Flash.{blank, damaged, complete, slot_at}
 use Rattle.page_record.specs.Spelling.{spelling, CanBeSpelled}
-use Rattle.page_record.specs.Rules.{number_at, first_broken, record_of}
+use Rattle.page_record.specs.Rules.{number_at, first_broken}
 use Rattle.page_record.proofs.Spellings.{record_of-spelling}
-use Rattle.record_list.specs.declared.found.Found.{Found}
-use Rattle.record_list.specs.Records.{name_of, is_present}
-use Rattle.record_list.specs.Current.{IsCurrent, is_held}
-use Rattle.record_list.specs.Changes.{left, KeepsCounted}
-use Rattle.record_list.specs.Written.{is_outside}
+use Rattle.record_list.specs.Current.{IsCurrent}
+use Rattle.record_list.specs.Changes.{KeepsCounted}
 use Rattle.record_list.specs.Losses.{IsSpared}
-use Rattle.version_index.specs.Images.{written_in, records_in, array_in, SlotReads}
-use Rattle.version_index.specs.Notes.{found_in}
-use Rattle.version_index.specs.Noted.{current_of, home_of, slot_off, needed_of, block_to_go, garbage_of}
+use Rattle.version_index.specs.Images.{array_in}
 use Rattle.version_index.specs.SlotLosses.{LosesSlots}
 use Rattle.version_index.specs.Examples.{DoubledHomes, DoubledGoes, DoubledGarbage, DoubledPinned, MentionsRaised, rec, unread, LeastSlots, WrittenArray}
 use Rattle.version_index.specs.Examples.{config, written, without_aborted, page_0_stays, AbortedMayGo}

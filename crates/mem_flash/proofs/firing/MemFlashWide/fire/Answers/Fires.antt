@@ -1,13 +1,14 @@
 -- A fire of a flash in memory is one of any flash.
-use Rattle.std.proofs.Common.{◌≡◌, ℕ, Bool, true, false, List, length, Option, None, Some, refl, ap, sym, ◌∙◌, subst}
+use Rattle.mem_flash.proofs.Common.{◌≡◌, ℕ, List, length, Option, None, refl, ap, sym, ◌∙◌, subst, Contents, Load}
+use Rattle.std.proofs.Common.{Bool, true, false, Some}
 use Rattle.std.specs.Prelude.{is_some, unwrap_or, if◌then◌else◌}
 use Rattle.flash_model.specs.declared.outcome.Outcome.{Outcome}
 use Rattle.flash_model.specs.declared.outcome.Outcome.TheVariants as outcome
-use Rattle.flash_model.specs.Flash.{FlashState, Contents, counted_by}
-use Rattle.flash_model.specs.Operations.{Load, fire, left_each}
+use Rattle.flash_model.specs.Flash.{FlashState, counted_by}
+use Rattle.flash_model.specs.Operations.{fire, left_each}
 use Rattle.flash_model.specs.Calls.{Carries, Operates}
 use Rattle.flash_model.specs.Firing.{no_loads, loads_in}
-use Rattle.mem_flash.specs.Memory.{MemoryState, state_of}
+use Rattle.mem_flash.specs.MemFlashState.{MemFlashState, state_of}
 use Rattle.mem_flash.specs.Registers.{outcomes_from}
 use Rattle.mem_flash.specs.Breaking.{broken_by, answered, met, started}
 use Rattle.mem_flash.proofs.Loaded.{length-outcomes_from, outcomes_from-all, left_from-none}
@@ -32,7 +33,7 @@ with_image old mid broken image programs carries stays = record {
 }
 
 -- a call that is not broken has power
-powered : (s : MemoryState) → broken_by s ≡ None → s.live ≡ true
+powered : (s : MemFlashState) → broken_by s ≡ None → s.live ≡ true
 powered s none = by_live s.live refl
   where
     by_live : (live : Bool) → s.live ≡ live → s.live ≡ true
@@ -40,14 +41,14 @@ powered s none = by_live s.live refl
     by_live false is = cc
 
 -- without power all stays
-without_power : (s : MemoryState) (how : Outcome) → broken_by s ≡ Some how → s.live ≡ false → how ≡ outcome.None
+without_power : (s : MemFlashState) (how : Outcome) → broken_by s ≡ Some how → s.live ≡ false → how ≡ outcome.None
 without_power s how some off = cc
 
-module _ (s : MemoryState) where
+module _ (s : MemFlashState) where
   abbrev loads : List Load
   loads = loads_in s.registers
 
-  abbrev started_so : Option Outcome → MemoryState
+  abbrev started_so : Option Outcome → MemFlashState
   started_so o = record (met s) {
     image = left_each s.image loads (outcomes_from (unwrap_or o outcome.All) (length loads));
     programs = if is_some o then s.programs else counted_by (length loads) s.programs;

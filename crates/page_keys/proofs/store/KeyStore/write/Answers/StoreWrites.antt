@@ -1,18 +1,9 @@
 -- What the write of a put leaves of a store.
-use Rattle.std.proofs.Common.{◌≡◌, false, List, sym, ap, subst, ◌∙◌}
-use Rattle.tx_types.specs.Batch.{PageWrite}
-use Rattle.tx_types.specs.declared.config.Config.{Config}
-use Rattle.flash_model.specs.Flash.{FlashState}
-use Rattle.tx_engine.specs.ArrayState.{ArrayState, put}
-use Rattle.tx_engine.specs.Standing.{Standing}
-use Rattle.page_keys.specs.Buckets.{AreBuckets}
-use Rattle.page_keys.specs.Putting.{is_put_fault}
-use Rattle.page_keys.specs.Stores.{HasKeys}
+use Rattle.page_keys.proofs.Common.{◌≡◌, false, List, sym, ap, subst, ◌∙◌, PageWrite, Config, FlashState, ArrayState, put, DeviceState, AreBuckets, is_put_fault, HasKeys, PutError}
 use Rattle.page_keys.specs.Writing.{Writes, WritesNot, Refuses}
-use Rattle.page_keys.specs.declared.answers.PutError.{PutError}
 use Rattle.page_keys.specs.declared.answers.PutError.TheVariants as refused
 
-module _ {F : Type 0} (state : F → FlashState) (old new : Standing F) (ws : List PageWrite) where
+module _ {F : Type 0} (state : F → FlashState) (old new : DeviceState F) (ws : List PageWrite) where
   pub has_after : Writes state old new ws → AreBuckets old.config (put old.machine.pages ws) →
       HasKeys new
   has_after writes buckets = record {

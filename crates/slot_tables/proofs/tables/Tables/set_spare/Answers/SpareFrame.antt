@@ -1,28 +1,16 @@
 -- The tables after another spare is chosen.
-use Rattle.std.proofs.Common.{◌≡◌, ◌≢◌, ℕ, ◌+◌, ◌*◌, ◌/◌, ◌<◌, ◌≤◌, ◌⊎◌, Bool, true, false, not, ◌&&◌, eqb, inl, inr, Option, Some, None, List, [], ◌∷◌, length}
-use Rattle.std.proofs.Common.{refl, sym, ◌∙◌, ap, ap₂, subst, cond, arith}
-use Rattle.std.specs.List.{Contains, find, slice_get}
+use Rattle.slot_tables.proofs.Common.{◌≡◌, ◌≢◌, ℕ, ◌+◌, ◌*◌, ◌/◌, ◌<◌, ◌≤◌, ◌⊎◌, Bool, true, false, not, ◌&&◌, eqb, inl, inr, Option, Some, None, List, [], ◌∷◌, length, refl, sym, ◌∙◌, ap, ap₂, subst, cond, arith, Contains, find, slice_get, lt-div-mul-add, cases_eq, nat_tests, Contains-first, Contains-rest, cases_Option, Block, blocks_of, is_outside_spare, is_slot, Inside, BaseTables, TablesState, use_at, number_in, home, copies_of, is_wanted, is_needed, LiveSlotsState, is_marked, tables_state, IsSized, IsRefreshedFrom, TablesInvariant}
 use Rattle.std.specs.Option.{option_or}
-use Rattle.std.proofs.Math.Nat.{div-mul-le_self, lt-div-mul-add}
-use Rattle.std.proofs.lemmas.Bool.{cases_eq}
-use Rattle.std.proofs.lemmas.Bool.Decides.{nat_tests}
-use Rattle.list_facts.proofs.Membership.{Contains-first, Contains-rest}
-use Rattle.list_facts.proofs.Options.{cases_Option}
-use Rattle.list_facts.proofs.Ranges.{in_range}
-use Rattle.list_facts.proofs.Tests.{find_stands, none_found}
-use Rattle.tx_types.specs.declared.config.Block.{Block}
+use Rattle.std.proofs.Math.Nat.{div-mul-le_self}
+use Rattle.list_lemmas.proofs.Ranges.{in_range}
+use Rattle.list_lemmas.proofs.Tests.{find_stands, none_found}
 use Rattle.tx_types.specs.declared.config.Shape.{Shape}
-use Rattle.tx_types.specs.Config.{blocks_of}
-use Rattle.record_list.specs.Written.{is_outside, is_outside_spare, is_slot}
-use Rattle.slot_tables.specs.declared.tables.Tables.TheInside.{Inside}
-use Rattle.slot_tables.specs.declared.given.Given.{Given}
-use Rattle.slot_tables.specs.Kept.{Kept, use_at, number_in, home, copies_of, slots_in, is_wanted, is_needed}
-use Rattle.slot_tables.specs.Counts.{Needed, is_marked}
-use Rattle.slot_tables.specs.Given.{kept_of, is_same_slot, IsSized, IsHomeFrom, IsSettledFrom}
-use Rattle.slot_tables.specs.Tables.{AreTables}
-use Rattle.slot_tables.proofs.OfGiven.Copying.{copies_have}
-use Rattle.slot_tables.proofs.OfGiven.Held.{holds_number}
-use Rattle.slot_tables.proofs.OfNeeds.Needing.{needed_some, needed_none, not_slot, same_slot, other_slot}
+use Rattle.record_list.specs.Written.{is_outside}
+use Rattle.slot_tables.specs.TablesState.{slots_in}
+use Rattle.slot_tables.specs.BaseTables.{is_same_slot, IsHomeFrom}
+use Rattle.slot_tables.proofs.OfBaseTables.Copying.{copies_have}
+use Rattle.slot_tables.proofs.OfBaseTables.Held.{holds_number}
+use Rattle.slot_tables.proofs.OfLiveSlots.Needing.{needed_some, needed_none, not_slot, same_slot, other_slot}
 
 -- tests that agree on a list find the same
 find_same : {X : Type 0} (p q : X → Bool) (xs : List X) → ((x : X) → Contains xs x → p x ≡ q x) → find p xs ≡ find q xs
@@ -46,7 +34,7 @@ block_slot shape block slot some off =
     ]
 
 -- a record has a slot in a block, or all of its slots lie outside
-near : (k : Kept) (block z : ℕ)
+near : (k : TablesState) (block z : ℕ)
     → ((slot : ℕ) × Contains (copies_of k.slots z) slot × (is_outside k.shape block slot ≡ false)) ⊎ ((slot : ℕ)
     → Contains (copies_of k.slots z) slot → is_outside k.shape block slot ≡ true)
 near k block z = elim (cases_Option (find (λ slot. not (is_outside k.shape block slot)) (copies_of k.slots z))) [
@@ -66,16 +54,16 @@ near k block z = elim (cases_Option (find (λ slot. not (is_outside k.shape bloc
     inside true e = sym e
 
 -- what the first settling leaves: the homes of the records in the old spare are right, if there is one
-pub record IsMiddle (k : Kept) (older : Option ℕ) (old new : Needed) : Type 0 where
+pub record IsMiddle (k : TablesState) (older : Option ℕ) (old new : LiveSlotsState) : Type 0 where
   pub size : new ≡ record old { needed = new.needed }
   pub slots : length new.needed ≡ length old.needed
   pub homes : (block s : ℕ) → older ≡ Some block → IsHomeFrom k older block s → is_marked new.needed s ≡ is_needed k s
   pub others : (s : ℕ) → (is_marked new.needed s ≡ is_marked old.needed s) ⊎ (is_marked new.needed s ≡ is_needed k s)
 
-pub no_middle : (k : Kept) (n : Needed) → IsMiddle k None n n
+pub no_middle : (k : TablesState) (n : LiveSlotsState) → IsMiddle k None n n
 no_middle k n = record { size = refl; slots = refl; homes = λ block s e is. absurd (cc); others = λ s. inl refl }
 
-pub middle : (k : Kept) (block : ℕ) (old new : Needed) → IsSettledFrom k (Some block) block old new → IsMiddle k (Some block) old new
+pub middle : (k : TablesState) (block : ℕ) (old new : LiveSlotsState) → IsRefreshedFrom k (Some block) block old new → IsMiddle k (Some block) old new
 middle k block old new h = record {
   size = h.size;
   slots = h.slots;
@@ -83,15 +71,15 @@ middle k block old new h = record {
   others = h.others;
 }
 
-module _ (t : Inside) (h : AreTables t) (block : Block) (low : block.0 < blocks_of t.given.shape) (n1 n2 : Needed) where
-  abbrev k : Kept
-  k = kept_of t.given
+module _ (t : Inside) (h : TablesInvariant t) (block : Block) (low : block.0 < blocks_of t.base.shape) (n1 n2 : LiveSlotsState) where
+  abbrev k : TablesState
+  k = tables_state t.base
 
-  abbrev g' : Given
-  g' = record t.given { spare = Some block }
+  abbrev g' : BaseTables
+  g' = record t.base { spare = Some block }
 
-  abbrev k' : Kept
-  k' = kept_of g'
+  abbrev k' : TablesState
+  k' = tables_state g'
 
   pub spare_sized : IsSized g'
   spare_sized = record {
@@ -111,10 +99,10 @@ module _ (t : Inside) (h : AreTables t) (block : Block) (low : block.0 < blocks_
     waits_pages = h.sized.waits_pages;
   }
 
-  abbrev n0 : Needed
-  n0 = record t.needs { spare = Some block.0 }
+  abbrev n0 : LiveSlotsState
+  n0 = record t.live { spare = Some block.0 }
 
-  module _ (first : IsMiddle k' k.spare n0 n1) (then : IsSettledFrom k' k.spare block.0 n1 n2) where
+  module _ (first : IsMiddle k' k.spare n0 n1) (then : IsRefreshedFrom k' k.spare block.0 n1 n2) where
     some : 0 < k.shape.pages_per_block
     some = (let least = h.sized.kept.shape.pages_least in omega arith)
 
@@ -143,7 +131,7 @@ module _ (t : Inside) (h : AreTables t) (block : Block) (low : block.0 < blocks_
     -- where the slot is needed as before
     still : (s : ℕ) → is_needed k' s ≡ is_needed k s → is_marked n2.needed s ≡ is_needed k' s
     still s same = elim (first.others s) [
-      | inl as_before ↦ first_right s (as_before ∙ h.needs.needed s ∙ sym same)
+      | inl as_before ↦ first_right s (as_before ∙ h.live.needed s ∙ sym same)
       | inr right ↦ first_right s right
     ]
 
@@ -194,14 +182,14 @@ module _ (t : Inside) (h : AreTables t) (block : Block) (low : block.0 < blocks_
       ]
     ]
 
-    pub spare_set : AreTables (record t { given = g'; needs = n2 })
+    pub spare_set : TablesInvariant (record t { base = g'; live = n2 })
     spare_set = record {
       sized = spare_sized;
       blanks = record { marks = h.blanks.marks; size = h.blanks.size };
-      needs = record {
-        slots = then.slots ∙ first.slots ∙ h.needs.slots;
-        size = ap (λ n. n.size) then.size ∙ ap (λ n. n.size) first.size ∙ h.needs.size;
-        blocks = ap (λ n. n.blocks) then.size ∙ ap (λ n. n.blocks) first.size ∙ h.needs.blocks;
+      live = record {
+        slots = then.slots ∙ first.slots ∙ h.live.slots;
+        size = ap (λ n. n.size) then.size ∙ ap (λ n. n.size) first.size ∙ h.live.size;
+        blocks = ap (λ n. n.blocks) then.size ∙ ap (λ n. n.blocks) first.size ∙ h.live.blocks;
         spare = ap (λ n. n.spare) then.size ∙ ap (λ n. n.spare) first.size;
         needed = spare_right;
       };

@@ -1,53 +1,32 @@
 -- A block that was retired once a device had settled: what the whole did to the flash.
-use Rattle.std.proofs.Common.{◌≡◌, ◌⊎◌, ℕ, ◌/◌, ◌<◌, ◌==◌, Bool, false, true, if◌then◌else◌, List, length, Option, Some, None, Ok, Err, refl, sym, ap, ◌∙◌}
-use Rattle.std.proofs.Common.{subst, inl, inr, arith}
-use Rattle.std.specs.Prelude.{nat_lt}
-use Rattle.std.proofs.lemmas.Bool.{cases_eq}
-use Rattle.tx_types.specs.Config.{shape_of, blocks_of}
-use Rattle.tx_types.specs.declared.config.Protocol.{Protocol}
-use Rattle.tx_types.specs.declared.config.Shape.{Shape}
-use Rattle.flash_model.specs.declared.flash.Broken.{Broken}
-use Rattle.flash_model.specs.Flash.{FlashState, Extras, IsFlash, IsImage, blank, slot_at}
-use Rattle.flash_model.specs.Calls.{Carries}
-use Rattle.flash_model.specs.Moves.{Does, FlashMoves}
-use Rattle.flash_model.specs.Operations.{Moment, Operation, moment_of}
+use Rattle.tx_engine.proofs.Common.{◌≡◌, ◌⊎◌, ℕ, ◌/◌, ◌<◌, ◌==◌, Bool, false, true, List, length, Option, Some, None, Ok, Err, refl, sym, ap, ◌∙◌, subst, inl, inr, arith, nat_lt, cases_eq, shape_of, blocks_of, Protocol, Shape, Broken, FlashState, IsImage, blank, slot_at, Carries, Does, FlashMoves, Moment, moment_of, Carries-nothing, Carries-then, FlashMoves-nothing, FlashMoves-then, IndexState, BlocksState, Unsure, reads_after, Preserves, Settlement, slots_read, OpenTransactionsState, settlement_of, DeviceState, StoreState, store_in, device_in}
+use Rattle.std.proofs.Common.{if◌then◌else◌}
+use Rattle.flash_model.specs.Flash.{Extras, IsFlash}
+use Rattle.flash_model.specs.Operations.{Operation}
 use Rattle.flash_model.specs.Retiring.{CarriesRetiring, IsNotReplaced, IsReplaced, RetiresAfter, RetiresTorn}
-use Rattle.flash_model.proofs.CallLemmas.{Carries-nothing, Carries-then}
 use Rattle.flash_model.proofs.ImageLemmas.{IsImage-does, slot_at-with_block_in}
-use Rattle.flash_model.proofs.MoveLemmas.{FlashMoves-nothing, FlashMoves-then}
 use Rattle.flash_model.proofs.RetireLemmas.{CarriesRetiring-carries}
-use Rattle.version_index.specs.Noted.{Noted}
 use Rattle.version_index.proofs.OfTables.Blocks.{inside_block}
-use Rattle.die_alloc.specs.BlockTable.{BlockTable}
-use Rattle.collector.specs.declared.unsure.Unsure.{Unsure}
 use Rattle.collector.specs.declared.unsure.Unsure.TheVariants as unsure
 use Rattle.collector.specs.Matches.{AllOfBlock}
-use Rattle.collector.specs.Going.{IsTreated}
-use Rattle.collector.specs.Looking.{reads_after}
-use Rattle.collector.specs.Preserves.{Preserves}
+use Rattle.collector.specs.Going.{IsEvicted}
 use Rattle.collector.specs.Retiring.{RetiresBlock, RetiresNone, RetiringBreaks, EndsRetiring, moved_slots, retiring_first}
-use Rattle.collector.specs.Settling.{Settlement, slots_read}
-use Rattle.tx_engine.specs.OpenTable.{OpenTable}
 use Rattle.tx_engine.specs.DeviceCalls.{RetiresDevice}
 use Rattle.tx_engine.specs.Retire.{AnswersRetire, RetireEnds, RetireExits, RetiresKnown, RetiringFails, is_retire_fault, retire_refusal, worn}
-use Rattle.tx_engine.specs.Settling.{settlement_of}
-use Rattle.tx_engine.specs.Standing.{Standing}
-use Rattle.tx_engine.specs.Stored.{Stored, store_in}
-use Rattle.tx_engine.specs.Tables.{standing_in}
 use Rattle.tx_engine.specs.declared.retire.RetireError.{RetireError}
 use Rattle.tx_engine.specs.declared.retire.RetireError.TheVariants as failed
 use Rattle.tx_engine.proofs.OfWrite.Breaking.{broke_then}
-use Rattle.tx_engine.proofs.OfStanding.ExitsThen.{before_itself}
+use Rattle.tx_engine.proofs.OfDevice.ExitsThen.{before_itself}
 use Rattle.tx_engine.proofs.OfSettle.SettleExits.{rises_unread}
 
 -- the flash was only read before
 module _ (a b c : FlashState) (carries : Carries a b false) (moves : FlashMoves a b false) (block : ℕ) where
-  pub retired_after : moment_of b ≡ moment_of a → (n m : Noted) (t v : BlockTable) → m ≡ n → v ≡ t →
+  pub retired_after : moment_of b ≡ moment_of a → (n m : IndexState) (t v : BlocksState) → m ≡ n → v ≡ t →
       RetiresAfter b c (retiring_first m b.image v.spare block) block → RetiresAfter a c (retiring_first n a.image t.spare block) block
   retired_after moment n m t v noted table r = record {
     between = r.between;
-    does = subst (λ (k : Noted). Does a.shape (moment_of a) (retiring_first k a.image t.spare block) (moment_of r.between)) noted
-        (subst (λ (k : BlockTable). Does a.shape (moment_of a) (retiring_first m a.image k.spare block) (moment_of r.between)) table
+    does = subst (λ (k : IndexState). Does a.shape (moment_of a) (retiring_first k a.image t.spare block) (moment_of r.between)) noted
+        (subst (λ (k : BlocksState). Does a.shape (moment_of a) (retiring_first m a.image k.spare block) (moment_of r.between)) table
         (subst (λ (q : Moment). Does a.shape q (retiring_first m q.image v.spare block) (moment_of r.between)) moment
         (subst (λ (sh : Shape). Does sh (moment_of b) (retiring_first m b.image v.spare block) (moment_of r.between)) carries.shape r.does)));
     carries = Carries-then a b r.between false carries r.carries;
@@ -65,7 +44,7 @@ module _ (a b c : FlashState) (carries : Carries a b false) (moves : FlashMoves 
   })
 
 -- how retiring a block breaks off, as it is told of the flash
-pub retiring_broke : (n : Noted) (old new : FlashState) (spare block : ℕ) (n' : Noted) (u : Unsure) → RetiringBreaks n old new spare block n' u →
+pub retiring_broke : (n : IndexState) (old new : FlashState) (spare block : ℕ) (n' : IndexState) (u : Unsure) → RetiringBreaks n old new spare block n' u →
     RetiresNone old new ⊎ RetiresTorn old new block
 retiring_broke n old new spare block n' u breaks = elim (cases_eq block spare) [
   | inl same ↦ inr (record {
@@ -85,7 +64,7 @@ retiring_broke n old new spare block n' u breaks = elim (cases_eq block spare) [
     ends (unsure.VictimErase b) e = inr e
 
 -- the block is all blank then
-pub retired_blank : (old new : FlashState) (n : Noted) (first : List Operation) (block : ℕ) → IsFlash old → old.shape ≡ shape_of n.config →
+pub retired_blank : (old new : FlashState) (n : IndexState) (first : List Operation) (block : ℕ) → IsFlash old → old.shape ≡ shape_of n.config →
     block < blocks_of old.shape → RetiresAfter old new first block → AllOfBlock n block (λ slot. slot_at new.image slot ≡ blank)
 retired_blank old new n first block flash shape below r slot within here =
     let mid = r.between in
@@ -116,7 +95,7 @@ module _ (shape : Shape) (extras : Option Extras) (block : ℕ) where
       by false e = cc
 
 -- so a refusal leaves all as it was
-pub refused_exits : {F : Type 0} (state : F → FlashState) (s : Standing F) (shape : Shape) (extras : Option Extras) (block : ℕ) (e : RetireError) →
+pub refused_exits : {F : Type 0} (state : F → FlashState) (s : DeviceState F) (shape : Shape) (extras : Option Extras) (block : ℕ) (e : RetireError) →
     s.dropped ≡ false → retire_refusal shape extras block ≡ Some e → RetireExits state s s block (Err e)
 refused_exits state s shape extras block e kept is = record {
   tables = record {
@@ -141,7 +120,7 @@ refused_exits state s shape extras block e kept is = record {
     no_cause (failed.Worn allowance) is = refl
     no_cause failed.Fault is = absurd (no_fault shape extras block is)
 
-pub refused : {F : Type 0} (state : F → FlashState) (s : Standing F) (block : ℕ) (e : RetireError) → s.dropped ≡ false →
+pub refused : {F : Type 0} (state : F → FlashState) (s : DeviceState F) (block : ℕ) (e : RetireError) → s.dropped ≡ false →
     retire_refusal (state s.flash).shape (state s.flash).extras block ≡ Some e → RetiresDevice state s s block (Err e)
 refused state s block failed.Range kept is = record {
   refusal = subst (λ (r : Option RetireError). AnswersRetire r s s (Err failed.Range)) (sym is) (refl, refl);
@@ -166,30 +145,30 @@ refused state s block (failed.Worn allowance) kept is = record {
 refused state s block failed.Fault kept is = absurd (no_fault (state s.flash).shape (state s.flash).extras block is)
 
 -- The tables are those that were known once the place was read.
-module _ {F : Type 0} (state : F → FlashState) (S T U : Stored F) (O P : OpenTable) (p : Protocol) (block : ℕ)
+module _ {F : Type 0} (state : F → FlashState) (S T U : StoreState F) (O P : OpenTransactionsState) (p : Protocol) (block : ℕ)
     (shape : (state T.flash).shape ≡ (state S.flash).shape) (moment : moment_of (state T.flash) ≡ moment_of (state S.flash))
     (reads : (state T.flash).reads ≡ reads_after (slots_read S.noted S.unsure) (state S.flash).reads)
-    (noted : T.noted ≡ (settlement_of state (standing_in state S O)).noted) (table : T.table ≡ (settlement_of state (standing_in state S O)).table) where
+    (noted : T.noted ≡ (settlement_of state (device_in state S O)).noted) (table : T.table ≡ (settlement_of state (device_in state S O)).table) where
   abbrev found : Settlement
-  found = settlement_of state (standing_in state S O)
+  found = settlement_of state (device_in state S O)
 
   pub retired_known : RetiresBlock p (store_in state T) (store_in state U) block (Ok tt) →
-      RetiresKnown state (standing_in state S O) (standing_in state U P) block
+      RetiresKnown state (device_in state S O) (device_in state U P) block
   retired_known r = record {
-    treated = subst (λ (n : Noted). IsTreated n found.table block U.noted U.table) noted
-        (subst (λ (t : BlockTable). IsTreated T.noted t block U.noted U.table) table r.noted);
-    reads = subst (λ (n : Noted). (state U.flash).reads ≡ reads_after (length (moved_slots n found.table.spare block))
+    treated = subst (λ (n : IndexState). IsEvicted n found.table block U.noted U.table) noted
+        (subst (λ (t : BlocksState). IsEvicted T.noted t block U.noted U.table) table r.noted);
+    reads = subst (λ (n : IndexState). (state U.flash).reads ≡ reads_after (length (moved_slots n found.table.spare block))
         (reads_after (slots_read S.noted S.unsure) (state S.flash).reads)) noted
-        (subst (λ (t : BlockTable). (state U.flash).reads ≡ reads_after (length (moved_slots T.noted t.spare block))
+        (subst (λ (t : BlocksState). (state U.flash).reads ≡ reads_after (length (moved_slots T.noted t.spare block))
         (reads_after (slots_read S.noted S.unsure) (state S.flash).reads)) table
         (r.reads ∙ ap (reads_after (length (moved_slots T.noted T.table.spare block))) reads));
   }
 
   pub retiring_fails : (x : Broken) → RetiresBlock p (store_in state T) (store_in state U) block (Err x) → Preserves T.noted U.noted →
-      RetiringFails state (standing_in state S O) (standing_in state U P) block
+      RetiringFails state (device_in state S O) (device_in state U P) block
   retiring_fails x r kept = record {
     breaks = broke_then state S T O shape moment reads noted table
         (λ between n t. RetiringBreaks n between (state U.flash) t.spare block U.noted U.unsure) r.broken;
     table = r.stays ∙ table;
-    kept = subst (λ (n : Noted). Preserves n U.noted) noted kept;
+    kept = subst (λ (n : IndexState). Preserves n U.noted) noted kept;
   }

@@ -1,47 +1,25 @@
 -- Several open transactions that went on together, as a call of the device: where some were chosen, and where none is open.
-use Rattle.std.proofs.Common.{◌≡◌, ◌≢◌, ℕ, ◌<◌, ◌≤◌, List, [], ◌∷◌, ◌++◌, length, take, All, Ok, sym, ap, ap₂, ◌∙◌, subst, inl}
-use Rattle.std.proofs.Common.{inr, arith}
-use Rattle.std.specs.List.{flat_map}
-use Rattle.std.proofs.lemmas.Bool.{cases_eq}
-use Rattle.std.proofs.lemmas.List.{length-map, nil_from_length}
-use Rattle.tx_types.specs.Batch.{PageWrite}
-use Rattle.tx_types.specs.declared.config.Config.{Config}
-use Rattle.tx_types.specs.declared.config.Shape.{Shape}
-use Rattle.flash_model.specs.Flash.{FlashState}
-use Rattle.flash_model.specs.Moves.{Does}
-use Rattle.flash_model.specs.Operations.{Load, Moment, fire, moment_of}
-use Rattle.version_index.specs.Noted.{Noted}
-use Rattle.die_alloc.specs.BlockTable.{BlockTable}
-use Rattle.array_machine.specs.declared.answers.Moved.{Moved}
-use Rattle.tx_engine.specs.ArrayState.{ArrayState, Entry}
-use Rattle.tx_engine.specs.BatchCalls.{CountsAll, WrittenAll, chosen_now, loads_for}
-use Rattle.tx_engine.specs.Batches.{MovesDevice, WritesAtOnce, chosen_of, jobs_of, noted_each, taken_writes, used_each}
-use Rattle.tx_engine.specs.Calls.{SettlesDevice}
-use Rattle.tx_engine.specs.Exits.{VersionsRise, is_there, settled_writes}
-use Rattle.tx_engine.specs.OpenTable.{OpenTable, Opening, entries_of}
-use Rattle.tx_engine.specs.Settling.{settlement_of}
-use Rattle.tx_engine.specs.Standing.{Standing, Stands}
-use Rattle.tx_engine.specs.Step.{settled, settled_entry}
-use Rattle.tx_engine.specs.Stored.{Stored}
-use Rattle.tx_engine.specs.Tables.{standing_in}
-use Rattle.tx_engine.specs.declared.jobs.Job.{Job}
+use Rattle.tx_engine.proofs.Common.{◌≡◌, ◌≢◌, ℕ, ◌<◌, ◌≤◌, List, [], ◌∷◌, ◌++◌, length, All, Ok, sym, ap, ap₂, ◌∙◌, subst, inl, inr, arith, flat_map, cases_eq, length-map, PageWrite, Config, Shape, FlashState, Does, Load, Moment, fire, moment_of, IndexState, BlocksState, Moved, ArrayState, Entry, CountsAll, WrittenAll, chosen_now, loads_for, MovesDevice, chosen_of, jobs_of, noted_each, taken_writes, used_each, SettlesDevice, VersionsRise, is_there, settled_writes, OpenTransactionsState, TransactionState, entries_of, settlement_of, DeviceState, Stands, settled, settled_entry, StoreState, device_in, Job}
+use Rattle.std.proofs.Common.{take}
+use Rattle.std.proofs.lemmas.List.{nil_from_length}
+use Rattle.tx_engine.specs.Batches.{WritesAtOnce}
 use Rattle.tx_engine.proofs.device.Device.step_all.Answers.AllMoved.{chosen_exits, chosen_rises, its_turns, then_exits, then_rises, then_steps}
 use Rattle.tx_engine.proofs.device.Device.step_all.Answers.Dropping.{known_jobs, known_loads}
 use Rattle.tx_engine.proofs.OfStepAll.Nexts.{AreDue}
 
-module _ {F : Type 0} (state : F → FlashState) (S S1 W S2 : Stored F) (O O1 OW O2 : OpenTable) (u : Unit {0}) (answer : Moved) (moved : ℕ)
-    (stands : Stands state (standing_in state S O)) (st : SettlesDevice state S S1 O O1 (Ok u)) (size : O1.page_bytes ≡ S1.noted.config.page_bytes)
+module _ {F : Type 0} (state : F → FlashState) (S S1 W S2 : StoreState F) (O O1 OW O2 : OpenTransactionsState) (u : Unit {0}) (answer : Moved) (moved : ℕ)
+    (stands : Stands state (device_in state S O)) (st : SettlesDevice state S S1 O O1 (Ok u)) (size : O1.page_bytes ≡ S1.noted.config.page_bytes)
     (some : jobs_of S1.noted (chosen_now S1 O1) ≢ []) (due : AreDue O1 (length (jobs_of S1.noted (chosen_now S1 O1))))
     (w : WrittenAll state S1 W O1 OW (jobs_of S1.noted (chosen_now S1 O1))) (k : CountsAll state W S2 OW O2 moved answer)
     (as_many : moved ≡ length (jobs_of S1.noted (chosen_now S1 O1))) where
   abbrev jobs : List Job
   jobs = jobs_of S1.noted (chosen_now S1 O1)
 
-  abbrev old : Standing F
-  old = standing_in state S O
+  abbrev old : DeviceState F
+  old = device_in state S O
 
-  abbrev new : Standing F
-  new = standing_in state S2 O2
+  abbrev new : DeviceState F
+  new = device_in state S2 O2
 
   abbrev known : ArrayState
   known = settled (is_there state old) old.machine
@@ -53,7 +31,7 @@ module _ {F : Type 0} (state : F → FlashState) (S S1 W S2 : Stored F) (O O1 OW
   entries = ap (λ (s : ArrayState). s.entries) (sym st.settles.machine)
 
   few : length jobs ≤ length (entries_of O1)
-  few = let within = due.within in let same = length-map O1.all (λ (o : Opening). o.entry) in omega (arith, within, same)
+  few = let within = due.within in let same = length-map O1.all (λ (o : TransactionState). o.entry) in omega (arith, within, same)
 
   any : 0 < length jobs
   any = elim (cases_eq (length jobs) 0) [ inl none ↦ absurd (some (nil_from_length jobs none)) | inr more ↦ omega (arith, more) ]
@@ -64,7 +42,7 @@ module _ {F : Type 0} (state : F → FlashState) (S S1 W S2 : Stored F) (O O1 OW
   at_once : WritesAtOnce state old new (chosen_of state old)
   at_once = record {
     does =
-        let moment : moment_of (state S2.flash) ≡ moment_of (state W.flash) = ap (λ (T : Stored F). moment_of (state T.flash)) k.stays in
+        let moment : moment_of (state S2.flash) ≡ moment_of (state W.flash) = ap (λ (T : StoreState F). moment_of (state T.flash)) k.stays in
         subst (λ (loads : List Load). Does (state S.flash).shape (moment_of (state S.flash)) (fire loads ∷ []) (moment_of (state S2.flash)))
         (sym (known_loads state S S1 O O1 u st size))
         (subst (λ (x : Moment). Does (state S.flash).shape (moment_of (state S.flash)) (fire (loads_for S1.noted O1 0 jobs) ∷ []) x) (sym moment)
@@ -72,10 +50,10 @@ module _ {F : Type 0} (state : F → FlashState) (S S1 W S2 : Stored F) (O O1 OW
         st.exits.carries.shape
         (subst (λ (x : Moment). Does (state S1.flash).shape x (fire (loads_for S1.noted O1 0 jobs) ∷ []) (moment_of (state W.flash))) st.moment w.does)));
     noted =
-        ap (λ (T : Stored F). T.noted) k.stays
-        ∙ ap (λ (n : Noted). record n { pins = S2.noted.pins }) (w.noted ∙ ap₂ (λ (n : Noted) js. noted_each n js) st.tables.0 (sym its_jobs));
-    table = ap (λ (T : Stored F). T.table) k.stays ∙ w.table ∙ ap₂ (λ (t : BlockTable) js. used_each t js) st.tables.1 (sym its_jobs);
-    reads = ap (λ (T : Stored F). (state T.flash).reads) k.stays ∙ w.reads ∙ st.reads;
+        ap (λ (T : StoreState F). T.noted) k.stays
+        ∙ ap (λ (n : IndexState). record n { pins = S2.noted.pins }) (w.noted ∙ ap₂ (λ (n : IndexState) js. noted_each n js) st.tables.0 (sym its_jobs));
+    table = ap (λ (T : StoreState F). T.table) k.stays ∙ w.table ∙ ap₂ (λ (t : BlocksState) js. used_each t js) st.tables.1 (sym its_jobs);
+    reads = ap (λ (T : StoreState F). (state T.flash).reads) k.stays ∙ w.reads ∙ st.reads;
   }
 
   pub moves_chosen : MovesDevice state old new answer

@@ -1,36 +1,17 @@
 -- What several open transactions that went on together make of the array machine, the versions and the flash.
-use Rattle.std.proofs.Common.{◌≡◌, ◌≢◌, ℕ, ◌<◌, ◌≤◌, Bool, false, List, [], ◌++◌, length, map, take, drop, get_or, All, Ok, refl}
-use Rattle.std.proofs.Common.{sym, ap, ap₂, ◌∙◌, subst, arith}
+use Rattle.tx_engine.proofs.Common.{◌≡◌, ◌≢◌, ℕ, ◌<◌, ◌≤◌, Bool, false, List, [], ◌++◌, length, map, drop, get_or, All, Ok, refl, sym, ap, ap₂, ◌∙◌, subst, arith, flat_map, get_or-map, length-map, All-nil, PageWrite, FlashState, current_of, GoInTurn, Moved, Progress, Plain, ArrayState, Entry, Pages, CountInTurn, CountsAll, WrittenAll, taken_writes, takes_each, SettlesDevice, Exits, VersionsRise, is_there, settled_writes, OpenTransactionsState, TransactionState, entries_of, no_transaction, transaction_at, DeviceState, Stands, settled, settled_entry, StoreState, device_in, Job}
+use Rattle.std.proofs.Common.{take}
 use Rattle.std.specs.Prelude.{count_by}
-use Rattle.std.specs.List.{flat_map}
-use Rattle.std.proofs.lemmas.List.{get_or-map, get_or-take, length-map, length-take-le, take-append-le, take_all, take-append-drop}
-use Rattle.std.proofs.lemmas.List.Elements.{All-nil}
-use Rattle.tx_types.specs.Batch.{PageWrite}
-use Rattle.flash_model.specs.Flash.{FlashState}
-use Rattle.version_index.specs.Noted.{current_of}
-use Rattle.array_machine.specs.Batches.{GoInTurn, StepsAllAs, is_done}
-use Rattle.array_machine.specs.declared.answers.Moved.{Moved}
-use Rattle.array_machine.specs.declared.answers.Progress.{Progress}
-use Rattle.array_machine.specs.declared.mark.Mark.TheVariants.{Plain}
-use Rattle.tx_engine.specs.ArrayState.{ArrayState, Entry, Pages}
-use Rattle.tx_engine.specs.BatchCalls.{CountInTurn, CountsAll, WrittenAll}
-use Rattle.tx_engine.specs.Batches.{taken_writes, takes_each}
-use Rattle.tx_engine.specs.Calls.{SettlesDevice}
-use Rattle.tx_engine.specs.Exits.{Exits, VersionsRise, is_there, settled_writes}
-use Rattle.tx_engine.specs.OpenTable.{OpenTable, Opening, entries_of, no_opening, opening_at}
-use Rattle.tx_engine.specs.Standing.{Standing, Stands}
-use Rattle.tx_engine.specs.Step.{settled, settled_entry}
-use Rattle.tx_engine.specs.Stored.{Stored}
-use Rattle.tx_engine.specs.Tables.{standing_in}
-use Rattle.tx_engine.specs.declared.jobs.Job.{Job}
+use Rattle.std.proofs.lemmas.List.{get_or-take, length-take-le, take-append-le, take_all, take-append-drop}
+use Rattle.array_machine.specs.Batches.{StepsAllAs, is_done}
 use Rattle.tx_engine.proofs.OfCollect.Collecting.{settled_low}
-use Rattle.tx_engine.proofs.OfStanding.ExitsThen.{exits_then, rises_then}
+use Rattle.tx_engine.proofs.OfDevice.ExitsThen.{exits_then, rises_then}
 use Rattle.tx_engine.proofs.OfStepAll.BatchSteps.{go_in_turn, marked, state_in}
 use Rattle.tx_engine.proofs.OfStepAll.Nexts.{AreDue, nexts_entries}
 
 -- The first transactions of a settled device were written at once, and then counted.
-module _ {F : Type 0} (state : F → FlashState) (S1 W S2 : Stored F) (O1 OW O2 : OpenTable) (jobs : List Job) (moved : ℕ) (answer : Moved)
-    (stands : Stands state (standing_in state S1 O1)) (due : AreDue O1 (length jobs)) (w : WrittenAll state S1 W O1 OW jobs)
+module _ {F : Type 0} (state : F → FlashState) (S1 W S2 : StoreState F) (O1 OW O2 : OpenTransactionsState) (jobs : List Job) (moved : ℕ) (answer : Moved)
+    (stands : Stands state (device_in state S1 O1)) (due : AreDue O1 (length jobs)) (w : WrittenAll state S1 W O1 OW jobs)
     (k : CountsAll state W S2 OW O2 moved answer) (as_many : moved ≡ length jobs) where
   abbrev es : List Entry
   es = entries_of O1
@@ -38,19 +19,19 @@ module _ {F : Type 0} (state : F → FlashState) (S1 W S2 : Stored F) (O1 OW O2 
   abbrev m : ℕ
   m = length jobs
 
-  abbrev mid : Standing F
-  mid = standing_in state S1 O1
+  abbrev mid : DeviceState F
+  mid = device_in state S1 O1
 
-  abbrev new : Standing F
-  new = standing_in state S2 O2
+  abbrev new : DeviceState F
+  new = device_in state S2 O2
 
   es_long : m ≤ length es
-  es_long = let within = due.within in let same = length-map O1.all (λ (o : Opening). o.entry) in omega (arith, within, same)
+  es_long = let within = due.within in let same = length-map O1.all (λ (o : TransactionState). o.entry) in omega (arith, within, same)
 
-  entry_taken : (i : ℕ) (d : Entry) → i < m → get_or (take m es) i d ≡ (opening_at O1 i).entry
+  entry_taken : (i : ℕ) (d : Entry) → i < m → get_or (take m es) i d ≡ (transaction_at O1 i).entry
   entry_taken i d less =
       let within = due.within in
-      get_or-take m es i d less ∙ get_or-map (λ (o : Opening). o.entry) O1.all i no_opening d (omega arith)
+      get_or-take m es i d less ∙ get_or-map (λ (o : TransactionState). o.entry) O1.all i no_transaction d (omega arith)
 
   taken_long : length (take m es) ≡ m
   taken_long = length-take-le m es es_long
@@ -63,10 +44,10 @@ module _ {F : Type 0} (state : F → FlashState) (S1 W S2 : Stored F) (O1 OW O2 
       let first : take moved (entries_of OW) ≡ map marked (take m es) =
       ap₂ (λ c l. take c l) as_many now ∙ take-append-le m (map marked (take m es)) (drop m es) (omega (arith, long))
       ∙ take_all m (map marked (take m es)) (omega (arith, long)) in
-      let machine : (standing_in state W OW).machine ≡ state_in (takes_each mid.machine.pages (take m es)) (map marked (take m es) ++ drop m es) =
+      let machine : (device_in state W OW).machine ≡ state_in (takes_each mid.machine.pages (take m es)) (map marked (take m es) ++ drop m es) =
       ap₂ (λ (ps : Pages) l. state_in ps l) w.pages now in
       subst (λ (s : ArrayState). CountInTurn s (map marked (take m es)) k.each new.machine) machine
-      (subst (λ l. CountInTurn (standing_in state W OW).machine l k.each new.machine) first k.counts)
+      (subst (λ l. CountInTurn (device_in state W OW).machine l k.each new.machine) first k.counts)
 
   pub its_turns : GoInTurn mid.machine (take m es) k.each new.machine
   its_turns =
@@ -84,12 +65,12 @@ module _ {F : Type 0} (state : F → FlashState) (S1 W S2 : Stored F) (O1 OW O2 
       refl its_counts)
 
   pub chosen_exits : Exits state mid new false
-  chosen_exits = exits_then state mid (standing_in state W OW) new false refl refl w.exits k.exits
+  chosen_exits = exits_then state mid (device_in state W OW) new false refl refl w.exits k.exits
 
   pub chosen_rises : VersionsRise mid new (flat_map taken_writes (take m es))
   unfolding current_of
   chosen_rises =
-      let same : (page : ℕ) → current_of S2.noted page ≡ current_of W.noted page = λ page. ap (λ (T : Stored F). current_of T.noted page) k.stays in
+      let same : (page : ℕ) → current_of S2.noted page ≡ current_of W.noted page = λ page. ap (λ (T : StoreState F). current_of T.noted page) k.stays in
       record {
         rises = λ i d inside. let up = w.rises.rises i d inside in
             subst (λ v. current_of S1.noted (get_or (flat_map taken_writes (take m es)) i d).page < v)
@@ -98,10 +79,10 @@ module _ {F : Type 0} (state : F → FlashState) (S1 W S2 : Stored F) (O1 OW O2 
       }
 
 -- The state settled first, and then these went on.
-module _ {F : Type 0} (state : F → FlashState) (S S1 S2 : Stored F) (O O1 O2 : OpenTable) (u : Unit {0}) (answer : Moved)
-    (stands : Stands state (standing_in state S O)) (st : SettlesDevice state S S1 O O1 (Ok u)) where
-  abbrev old : Standing F
-  old = standing_in state S O
+module _ {F : Type 0} (state : F → FlashState) (S S1 S2 : StoreState F) (O O1 O2 : OpenTransactionsState) (u : Unit {0}) (answer : Moved)
+    (stands : Stands state (device_in state S O)) (st : SettlesDevice state S S1 O O1 (Ok u)) where
+  abbrev old : DeviceState F
+  old = device_in state S O
 
   abbrev there : Bool
   there = is_there state old
@@ -109,27 +90,27 @@ module _ {F : Type 0} (state : F → FlashState) (S S1 S2 : Stored F) (O O1 O2 :
   abbrev known : ArrayState
   known = settled there old.machine
 
-  pub then_exits : Exits state (standing_in state S1 O1) (standing_in state S2 O2) false → Exits state old (standing_in state S2 O2) false
-  then_exits later = exits_then state old (standing_in state S1 O1) (standing_in state S2 O2) false refl refl st.exits later
+  pub then_exits : Exits state (device_in state S1 O1) (device_in state S2 O2) false → Exits state old (device_in state S2 O2) false
+  then_exits later = exits_then state old (device_in state S1 O1) (device_in state S2 O2) false refl refl st.exits later
 
   pub then_rises : (ws : List PageWrite) → All (λ w. w.page < S.noted.config.logical) ws →
-      Exits state (standing_in state S1 O1) (standing_in state S2 O2) false → VersionsRise (standing_in state S1 O1) (standing_in state S2 O2) ws →
-      VersionsRise old (standing_in state S2 O2) (settled_writes there old.machine ++ ws)
+      Exits state (device_in state S1 O1) (device_in state S2 O2) false → VersionsRise (device_in state S1 O1) (device_in state S2 O2) ws →
+      VersionsRise old (device_in state S2 O2) (settled_writes there old.machine ++ ws)
   then_rises ws low later rises =
-      rises_then state old (standing_in state S1 O1) (standing_in state S2 O2) (settled_writes there old.machine) ws st.exits.tables.config
+      rises_then state old (device_in state S1 O1) (device_in state S2 O2) (settled_writes there old.machine) ws st.exits.tables.config
       (settled_low state S O there stands) low st.exits.tables.versions later.tables.versions st.settles.rises rises
 
   -- the chosen ones went on by a step each
   pub then_steps : (count : ℕ) (each : List Progress) → answer.moved ≡ count → count ≤ length (entries_of O1) → 0 < count →
-      GoInTurn (standing_in state S1 O1).machine (take count (entries_of O1)) each (standing_in state S2 O2).machine →
-      answer.finished ≡ count_by is_done each → StepsAllAs there old.machine (standing_in state S2 O2).machine answer
+      GoInTurn (device_in state S1 O1).machine (take count (entries_of O1)) each (device_in state S2 O2).machine →
+      answer.finished ≡ count_by is_done each → StepsAllAs there old.machine (device_in state S2 O2).machine answer
   then_steps count each moved few some turns finished =
       let entries : known.entries ≡ entries_of O1 = ap (λ (s : ArrayState). s.entries) (sym st.settles.machine) in
       let long : length (entries_of O1) ≡ length (entries_of O) = ap length (sym entries) ∙ length-map (entries_of O) (settled_entry there) in
       record {
         each = each;
-        go = subst (λ (s : ArrayState). GoInTurn s (take answer.moved s.entries) each (standing_in state S2 O2).machine) st.settles.machine
-            (subst (λ c. GoInTurn (standing_in state S1 O1).machine (take c (entries_of O1)) each (standing_in state S2 O2).machine) (sym moved) turns);
+        go = subst (λ (s : ArrayState). GoInTurn s (take answer.moved s.entries) each (device_in state S2 O2).machine) st.settles.machine
+            (subst (λ c. GoInTurn (device_in state S1 O1).machine (take c (entries_of O1)) each (device_in state S2 O2).machine) (sym moved) turns);
         within = omega (arith, moved, few, long);
         finished = finished;
         none = (λ is. absurd (omega (arith, is, moved, some)), λ is. absurd (let none = ap length is in omega (arith, none, long, few, some)));

@@ -1,21 +1,8 @@
 -- A call of the device that settled and then moved its open transactions: what it says, whichever way it went.
-use Rattle.std.proofs.Common.{◌≡◌, ◌≢◌, ◌⊎◌, ◌<◌, true, List, [], ◌∷◌, length, Result, Ok, Err, refl, sym, ap, ◌∙◌, subst, inl, inr, arith}
-use Rattle.std.proofs.lemmas.List.{length-map}
-use Rattle.tx_types.specs.declared.config.Config.{Config}
-use Rattle.tx_types.specs.declared.config.Protocol.{Protocol}
-use Rattle.flash_model.specs.declared.flash.Broken.{Broken}
-use Rattle.flash_model.specs.Flash.{FlashState}
-use Rattle.array_machine.specs.declared.answers.Moved.{Moved}
-use Rattle.array_machine.specs.declared.answers.Progress.{Progress}
+use Rattle.tx_engine.proofs.Common.{◌≡◌, ◌≢◌, ◌⊎◌, ◌<◌, true, List, [], ◌∷◌, length, Result, Ok, Err, refl, sym, ap, ◌∙◌, subst, inl, inr, arith, length-map, Config, Protocol, Broken, FlashState, Moved, Progress, CanWriteAll, MovesAll, chosen_now, DropsDevice, MovesDevice, jobs_of, AdvancesTo, IsReady, SettlesDevice, OpenTransactionsState, HasLimitsOf, DeviceState, Stands, StoreState, device_in}
 use Rattle.tx_engine.specs.Always.{CutsLeave, DevicesStand}
-use Rattle.tx_engine.specs.BatchCalls.{CanWriteAll, MovesAll, chosen_now, first_moved, moved_by, no_moves}
-use Rattle.tx_engine.specs.Batches.{DropsDevice, MovesDevice, jobs_of}
-use Rattle.tx_engine.specs.Calls.{AdvancesTo, IsReady, SettlesDevice}
-use Rattle.tx_engine.specs.OpenTable.{OpenTable, HasLimitsOf}
-use Rattle.tx_engine.specs.Standing.{Standing, Stands}
-use Rattle.tx_engine.specs.Stored.{Stored}
-use Rattle.tx_engine.specs.Tables.{standing_in}
-use Rattle.tx_engine.proofs.OfStanding.KeptDevices.{limits_then}
+use Rattle.tx_engine.specs.BatchCalls.{first_moved, moved_by, no_moves}
+use Rattle.tx_engine.proofs.OfDevice.KeptDevices.{limits_then}
 use Rattle.tx_engine.proofs.device.Device.step_all.Answers.AllDone.{moves_chosen}
 use Rattle.tx_engine.proofs.OfStepAll.Chosen.{chosen_can}
 use Rattle.tx_engine.proofs.device.Device.step_all.Answers.Dropping.{drops_fired, drops_first}
@@ -37,19 +24,19 @@ err_of b = Err b
 same_answer : (a b : Moved) → ok_of a ≡ ok_of b → a ≡ b
 same_answer a b is = cc
 
-module _ {F : Type 0} (state : F → FlashState) (p : Protocol) (S S1 S2 : Stored F) (O O1 O2 : OpenTable) (u : Unit {0})
-    (stands : Stands state (standing_in state S O)) (rule : S.noted.config.protocol ≡ p) (st : SettlesDevice state S S1 O O1 (Ok u))
+module _ {F : Type 0} (state : F → FlashState) (p : Protocol) (S S1 S2 : StoreState F) (O O1 O2 : OpenTransactionsState) (u : Unit {0})
+    (stands : Stands state (device_in state S O)) (rule : S.noted.config.protocol ≡ p) (st : SettlesDevice state S S1 O O1 (Ok u))
     (size : O1.page_bytes ≡ S1.noted.config.page_bytes) where
-  abbrev old : Standing F
-  old = standing_in state S O
+  abbrev old : DeviceState F
+  old = device_in state S O
 
   ready : IsReady state p S1 O1
   ready = record { stands = st.stands; rule = ap (λ (c : Config). c.protocol) st.exits.tables.config ∙ rule; sure = st.settles.sure }
 
   -- what is known of it where it went on
   pub record Moves (answer : Moved) : Type 0 where
-    pub moves : MovesDevice state old (standing_in state S2 O2) answer
-    pub still : Stands state (standing_in state S2 O2)
+    pub moves : MovesDevice state old (device_in state S2 O2) answer
+    pub still : Stands state (device_in state S2 O2)
     pub limits : HasLimitsOf O1 O2
 
   by_first : (answer : Moved) (its : Result Progress Broken) → ok_of answer ≡ moved_by its → AdvancesTo state S1 S2 O1 O2 0 its → 0 < length O1.all →
@@ -67,11 +54,11 @@ module _ {F : Type 0} (state : F → FlashState) (p : Protocol) (S S1 S2 : Store
     | inl none ↦ (
         let its = h.none none in
         subst Moves (sym (same_answer answer no_moves its.0)) (record {
-          moves = subst (λ (T : Stored F). MovesDevice state old (standing_in state T O2) no_moves) (sym its.1)
-              (subst (λ (o : OpenTable). MovesDevice state old (standing_in state S1 o) no_moves) (sym its.2)
+          moves = subst (λ (T : StoreState F). MovesDevice state old (device_in state T O2) no_moves) (sym its.1)
+              (subst (λ (o : OpenTransactionsState). MovesDevice state old (device_in state S1 o) no_moves) (sym its.2)
               (moves_none state S S1 S2 O O1 O2 u stands st none));
-          still = subst (λ (T : Stored F). Stands state (standing_in state T O2)) (sym its.1)
-              (subst (λ (o : OpenTable). Stands state (standing_in state S1 o)) (sym its.2) st.stands);
+          still = subst (λ (T : StoreState F). Stands state (device_in state T O2)) (sym its.1)
+              (subst (λ (o : OpenTransactionsState). Stands state (device_in state S1 o)) (sym its.2) st.stands);
           limits = subst (HasLimitsOf O1) (sym its.2) (record { page_bytes = refl; logical = refl; pending = refl });
         }))
     | inr some ↦ elim (cases_nil (chosen_now S1 O1)) [
@@ -93,7 +80,7 @@ module _ {F : Type 0} (state : F → FlashState) (p : Protocol) (S S1 S2 : Store
 
   -- and where it met a fault
   pub record Drops : Type 0 where
-    pub drops : DropsDevice state old (record (standing_in state S2 O2) { dropped = true })
+    pub drops : DropsDevice state old (record (device_in state S2 O2) { dropped = true })
     pub limits : HasLimitsOf O1 O2
 
   drop_first : (b : Broken) (its : Result Progress Broken) → err_of b ≡ moved_by its → AdvancesTo state S1 S2 O1 O2 0 its → 0 < length O1.all →

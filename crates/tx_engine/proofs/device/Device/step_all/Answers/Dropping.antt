@@ -1,84 +1,60 @@
 -- A device that met a fault where several transactions went on: what its flash is left with.
-use Rattle.std.proofs.Common.{◌≡◌, ℕ, ◌<◌, true, false, List, [], length, map, Ok, Err, refl, sym, ap, ap₂, ◌∙◌, subst, inl, inr}
-use Rattle.std.proofs.Common.{arith}
-use Rattle.std.specs.List.{range_with_len}
-use Rattle.tx_types.specs.declared.config.Config.{Config}
-use Rattle.tx_types.specs.declared.config.Protocol.{Protocol}
-use Rattle.tx_types.specs.declared.config.Shape.{Shape}
-use Rattle.flash_model.specs.declared.flash.Broken.{Broken}
-use Rattle.flash_model.specs.Flash.{Contents, FlashState}
-use Rattle.flash_model.specs.Operations.{CanDo, Load, Moment, Torn, fire, moment_of}
-use Rattle.flash_model.proofs.CallLemmas.{Carries-then}
-use Rattle.flash_model.proofs.MoveLemmas.{FlashMoves-then}
-use Rattle.record_list.specs.Records.{mention}
-use Rattle.version_index.specs.Images.{IsSoundImage, array_in, records_in}
-use Rattle.version_index.specs.Noted.{Noted, mention_of}
-use Rattle.die_alloc.specs.BlockTable.{BlockTable}
-use Rattle.array_machine.specs.Batches.{CutLeavesEach, MayTakeEach}
+use Rattle.tx_engine.proofs.Common.{◌≡◌, ℕ, ◌<◌, true, false, List, [], length, map, Ok, Err, refl, sym, ap, ap₂, ◌∙◌, subst, inl, inr, arith, range_with_len, Config, Protocol, Shape, Broken, Contents, FlashState, CanDo, Load, Moment, fire, moment_of, Carries-then, FlashMoves-then, mention, IsSoundImage, array_in, records_in, IndexState, mention_of, BlocksState, MayTakeEach, ArrayState, Entry, idle, DroppedAll, chosen_now, loads_for, DropsDevice, chosen_from, chosen_of, jobs_of, AdvancesTo, SettlesDevice, ExitsTables, MentionsAtMost, is_there, OpenTransactionsState, TransactionState, entries_of, namings_of, transaction_at, settlement_of, with_settlement, DeviceState, Stands, StepsAs, settled, settled_entry, StoreState, device_in, length-map}
+use Rattle.flash_model.specs.Operations.{Torn}
+use Rattle.array_machine.specs.Batches.{CutLeavesEach}
 use Rattle.array_machine.specs.Step.{IsAtLast}
 use Rattle.tx_engine.specs.Always.{CutsLeave, DevicesStand}
-use Rattle.tx_engine.specs.ArrayState.{ArrayState, Entry, idle}
-use Rattle.tx_engine.specs.BatchCalls.{DroppedAll, chosen_now, loads_for}
-use Rattle.tx_engine.specs.Batches.{DropsDevice, chosen_from, chosen_of, jobs_of, loads_of, openings_of}
-use Rattle.tx_engine.specs.Calls.{AdvancesTo, SettlesDevice}
-use Rattle.tx_engine.specs.Exits.{ExitsTables, MentionsAtMost, is_there}
-use Rattle.tx_engine.specs.OpenTable.{OpenTable, Opening, entries_of, namings_of, opening_at}
-use Rattle.tx_engine.specs.Settling.{settlement_of, with_settlement}
-use Rattle.tx_engine.specs.Standing.{Standing, Stands}
-use Rattle.tx_engine.specs.Step.{StepsAs, settled, settled_entry}
-use Rattle.tx_engine.specs.Stored.{Stored}
-use Rattle.tx_engine.specs.Tables.{standing_in}
+use Rattle.tx_engine.specs.Batches.{loads_of, transactions_of}
 use Rattle.tx_engine.proofs.OfSettle.SettleExits.{failed_machine}
 use Rattle.array_machine.specs.declared.answers.StepError.TheVariants as failed
-use Rattle.std.proofs.lemmas.List.{length-map}
 use Rattle.tx_engine.proofs.OfAbort.Aborting.{entry_settled}
-use Rattle.tx_engine.proofs.OfOpenings.OpenList.{entry_first, first_of_own}
-use Rattle.tx_engine.proofs.OfStanding.ExitsThen.{named_before}
-use Rattle.tx_engine.proofs.OfStanding.Kept.{from_stands}
+use Rattle.tx_engine.proofs.OfTransactions.OpenList.{entry_first, first_of_own}
+use Rattle.tx_engine.proofs.OfDevice.ExitsThen.{named_before}
+use Rattle.tx_engine.proofs.OfDevice.Kept.{from_stands}
 use Rattle.tx_engine.proofs.OfStep.StepExits.{step_settled}
 use Rattle.tx_engine.proofs.OfStepAll.Moving.{none_chosen}
-use Rattle.tx_engine.proofs.device.Device.step_all.Answers.KnownChoice.{bare, jobs_alike, leaves_each, loads_alike, loads_chosen, openings_alike, take_settled}
+use Rattle.tx_engine.proofs.device.Device.step_all.Answers.KnownChoice.{bare, jobs_alike, leaves_each, loads_alike, loads_chosen, transactions_alike, take_settled}
 
 -- the tables of a settled device are those that were known
-module _ {F : Type 0} (state : F → FlashState) (S S1 : Stored F) (O O1 : OpenTable) (u : Unit {0}) (st : SettlesDevice state S S1 O O1 (Ok u)) where
-  abbrev old : Standing F
-  old = standing_in state S O
+module _ {F : Type 0} (state : F → FlashState) (S S1 : StoreState F) (O O1 : OpenTransactionsState) (u : Unit {0}) (st : SettlesDevice state S S1 O O1 (Ok u)) where
+  abbrev old : DeviceState F
+  old = device_in state S O
 
   abbrev known : ArrayState
   known = settled (is_there state old) old.machine
 
-  abbrev opened : List Opening
-  opened = openings_of (record (with_settlement state old) { machine = known })
+  abbrev opened : List TransactionState
+  opened = transactions_of (record (with_settlement state old) { machine = known })
 
   alike : map bare opened ≡ map bare O1.all
   alike =
-      ap (λ (s : ArrayState). map bare (openings_of (record (with_settlement state old) { machine = s }))) (sym st.settles.machine)
-      ∙ openings_alike O1.all O.all st.names
+      ap (λ (s : ArrayState). map bare (transactions_of (record (with_settlement state old) { machine = s }))) (sym st.settles.machine)
+      ∙ transactions_alike O1.all O.all st.names
 
-  abbrev dies_of : BlockTable → List ℕ
+  abbrev dies_of : BlocksState → List ℕ
   dies_of t = range_with_len 0 t.shape.dies
 
   pub known_jobs : jobs_of (settlement_of state old).noted (chosen_of state old) ≡ jobs_of S1.noted (chosen_now S1 O1)
   known_jobs =
-      ap₂ (λ (n : Noted) (t : BlockTable). jobs_of n (chosen_from n t (dies_of t) opened)) (sym st.tables.0) (sym st.tables.1)
+      ap₂ (λ (n : IndexState) (t : BlocksState). jobs_of n (chosen_from n t (dies_of t) opened)) (sym st.tables.0) (sym st.tables.1)
       ∙ jobs_alike S1.noted S1.table (dies_of S1.table) opened O1.all alike
 
   pub known_loads : O1.page_bytes ≡ S1.noted.config.page_bytes →
       loads_of (settlement_of state old).noted (chosen_of state old) ≡ loads_for S1.noted O1 0 (jobs_of S1.noted (chosen_now S1 O1))
   known_loads size =
-      ap₂ (λ (n : Noted) (t : BlockTable). loads_of n (chosen_from n t (dies_of t) opened)) (sym st.tables.0) (sym st.tables.1)
+      ap₂ (λ (n : IndexState) (t : BlocksState). loads_of n (chosen_from n t (dies_of t) opened)) (sym st.tables.0) (sym st.tables.1)
       ∙ loads_alike S1.noted S1.table (dies_of S1.table) opened O1.all alike
       ∙ sym (loads_chosen S1.noted S1.table O1 size (dies_of S1.table) 0)
 
 -- The place could not be read
-pub drops_unsettled : {F : Type 0} (state : F → FlashState) (p : Protocol) (S S1 : Stored F) (O O1 : OpenTable) (b : Broken) → DevicesStand state p →
+pub drops_unsettled : {F : Type 0} (state : F → FlashState) (p : Protocol) (S S1 : StoreState F) (O O1 : OpenTransactionsState) (b : Broken) → DevicesStand state p →
     CutsLeave state p → S.noted.config.protocol ≡ p → SettlesDevice state S S1 O O1 (Err b) →
-    DropsDevice state (standing_in state S O) (record (standing_in state S1 O1) { dropped = true })
+    DropsDevice state (device_in state S O) (record (device_in state S1 O1) { dropped = true })
 drops_unsettled {F} state p S S1 O O1 b devices cuts rule st =
-    let config : S1.noted.config ≡ S.noted.config = ap (λ (T : Stored F). T.noted.config) st.failed.0 in
+    let config : S1.noted.config ≡ S.noted.config = ap (λ (T : StoreState F). T.noted.config) st.failed.0 in
     let rule1 : S1.noted.config.protocol ≡ p = ap (λ (c : Config). c.protocol) config ∙ rule in
-    let old = standing_in state S O in
-    let mid = standing_in state S1 O1 in
+    let old = device_in state S O in
+    let mid = device_in state S1 O1 in
     let image = (state S1.flash).image in
     record {
       dropped = refl;
@@ -89,7 +65,7 @@ drops_unsettled {F} state p S S1 O O1 b devices cuts rule st =
           (subst (λ q. CutLeavesEach old.machine (idle (array_in q S1.noted.config.logical image))) (sym rule1)
           (leaves_each (λ e. ⊥) old.machine (idle (array_in p S1.noted.config.logical image)) (λ e none. absurd none)
           (cuts.settled old mid false st.stands rule1 (inl (failed_machine state S S1 O O1 st.failed.0 st.failed.1 st.moment)))));
-      mentions = subst (λ (n : Noted). MentionsAtMost n (namings_of O) image) (ap (λ (T : Stored F). T.noted) st.failed.0)
+      mentions = subst (λ (n : IndexState). MentionsAtMost n (namings_of O) image) (ap (λ (T : StoreState F). T.noted) st.failed.0)
           (subst (λ xs. MentionsAtMost S1.noted xs image) (ap namings_of st.failed.1) (devices.mentions mid st.stands rule1));
       moves = inl st.exits.moves;
       carries = st.exits.carries;
@@ -97,7 +73,7 @@ drops_unsettled {F} state p S S1 O O1 b devices cuts rule st =
     }
 
 -- what is mentioned at most afterwards was mentioned at most, or named, before
-pub mentions_back : {F : Type 0} (a b : Standing F) (image : List Contents) → a.config ≡ a.noted.config → b.noted.config ≡ a.noted.config → ExitsTables a b →
+pub mentions_back : {F : Type 0} (a b : DeviceState F) (image : List Contents) → a.config ≡ a.noted.config → b.noted.config ≡ a.noted.config → ExitsTables a b →
     MentionsAtMost b.noted b.namings image → MentionsAtMost a.noted a.namings image
 mentions_back a b image own config tables most page low =
     let there : page < b.noted.config.logical = subst (λ (c : Config). page < c.logical) (sym config) low in
@@ -111,17 +87,17 @@ mentions_back a b image own config tables most page low =
     ]
 
 -- The fire was broken
-pub drops_fired : {F : Type 0} (state : F → FlashState) (S S1 S2 : Stored F) (O O1 O2 : OpenTable) (u : Unit {0}) (st : SettlesDevice state S S1 O O1 (Ok u)) →
+pub drops_fired : {F : Type 0} (state : F → FlashState) (S S1 S2 : StoreState F) (O O1 O2 : OpenTransactionsState) (u : Unit {0}) (st : SettlesDevice state S S1 O O1 (Ok u)) →
     O1.page_bytes ≡ S1.noted.config.page_bytes → DroppedAll state S1 S2 O1 (jobs_of S1.noted (chosen_now S1 O1)) →
-    DropsDevice state (standing_in state S O) (record (standing_in state S2 O2) { dropped = true })
+    DropsDevice state (device_in state S O) (record (device_in state S2 O2) { dropped = true })
 drops_fired {F} state S S1 S2 O O1 O2 u st size d =
     let config : S1.noted.config ≡ S.noted.config = st.exits.tables.config in
-    let old = standing_in state S O in
+    let old = device_in state S O in
     let there = is_there state old in
     let image = (state S2.flash).image in
     record {
       dropped = refl;
-      config = ap (λ (T : Stored F). T.noted.config) d.stays ∙ config;
+      config = ap (λ (T : StoreState F). T.noted.config) d.stays ∙ config;
       sound = subst (λ (c : Config). IsSoundImage c.protocol c.logical (state S2.flash).shape image) config d.sound;
       array = (
         there,
@@ -132,7 +108,7 @@ drops_fired {F} state S S1 S2 O O1 O2 u st size d =
             st.settles.machine d.array)),
         refl,
       );
-      mentions = mentions_back old (standing_in state S1 O1) image refl config st.exits.tables d.mentions;
+      mentions = mentions_back old (device_in state S1 O1) image refl config st.exits.tables d.mentions;
       moves = inr (
         refl,
         record {
@@ -156,14 +132,14 @@ drops_fired {F} state S S1 S2 O O1 O2 u st size d =
     }
 
 -- The step of the first transaction met a fault
-pub drops_first : {F : Type 0} (state : F → FlashState) (p : Protocol) (S S1 S2 : Stored F) (O O1 O2 : OpenTable) (u : Unit {0}) (b : Broken) →
-    DevicesStand state p → CutsLeave state p → S.noted.config.protocol ≡ p → Stands state (standing_in state S O) →
+pub drops_first : {F : Type 0} (state : F → FlashState) (p : Protocol) (S S1 S2 : StoreState F) (O O1 O2 : OpenTransactionsState) (u : Unit {0}) (b : Broken) →
+    DevicesStand state p → CutsLeave state p → S.noted.config.protocol ≡ p → Stands state (device_in state S O) →
     (st : SettlesDevice state S S1 O O1 (Ok u)) → AdvancesTo state S1 S2 O1 O2 0 (Err b) → 0 < length O1.all → chosen_now S1 O1 ≡ [] →
-    DropsDevice state (standing_in state S O) (record (standing_in state S2 O2) { dropped = true })
+    DropsDevice state (device_in state S O) (record (device_in state S2 O2) { dropped = true })
 drops_first {F} state p S S1 S2 O O1 O2 u b devices cuts rule stands st adv any none =
-    let old = standing_in state S O in
-    let mid = standing_in state S1 O1 in
-    let new = standing_in state S2 O2 in
+    let old = device_in state S O in
+    let mid = device_in state S1 O1 in
+    let new = device_in state S2 O2 in
     let there = is_there state old in
     let image = (state S2.flash).image in
     let config : S2.noted.config ≡ S.noted.config = adv.exits.tables.config ∙ st.exits.tables.config in
@@ -171,14 +147,14 @@ drops_first {F} state p S S1 S2 O O1 O2 u b devices cuts rule stands st adv any 
     let was = from_stands state S O stands in
     let entries : (settled there old.machine).entries ≡ entries_of O1 = ap (λ (s : ArrayState). s.entries) (sym st.settles.machine) in
     let long : length (entries_of O1) ≡ length (entries_of O) = ap length (sym entries) ∙ length-map (entries_of O) (settled_entry there) in
-    let mapped = length-map O1.all (λ (o : Opening). o.entry) in
-    let mapped_old = length-map O.all (λ (o : Opening). o.entry) in
+    let mapped = length-map O1.all (λ (o : TransactionState). o.entry) in
+    let mapped_old = length-map O.all (λ (o : TransactionState). o.entry) in
     let within : 0 < length O.all = omega (arith, long, mapped, mapped_old, any) in
-    let tag = (opening_at O 0).entry.tag in
+    let tag = (transaction_at O 0).entry.tag in
     let found = entry_first tag O.all 0 (first_of_own O.all 0 was.tags within) in
     let at = entry_settled there O O1 0 (ap (λ (m : ArrayState). m.entries) st.settles.machine) within in
     let steps : StepsAs there old.machine new.machine tag (Err failed.Fault) =
-    step_settled there old.machine mid.machine new.machine tag (opening_at O 0).entry (opening_at O1 0).entry (Err b) (Err failed.Fault) found
+    step_settled there old.machine mid.machine new.machine tag (transaction_at O 0).entry (transaction_at O1 0).entry (Err b) (Err failed.Fault) found
     st.settles.machine at.1 (ap (λ (e : Entry). e.tag) at.1) adv.advances (λ q is. cc) (λ is. refl) in
     record {
       dropped = refl;

@@ -1,32 +1,12 @@
 -- Where no transaction is chosen the first one takes a step, which is a step of the device.
-use Rattle.std.proofs.Common.{◌≡◌, ℕ, ◌+◌, ◌<◌, Bool, false, [], ◌++◌, length, All, Some, Ok, refl, sym, ap}
-use Rattle.std.proofs.Common.{◌∙◌, subst, inl, inr, arith, eq-eqb, ne_eqb}
-use Rattle.std.specs.Prelude.{if◌then◌else◌}
-use Rattle.std.proofs.lemmas.Bool.{cond-true, cond-false, cond_both}
-use Rattle.tx_types.specs.declared.config.Config.{Config}
-use Rattle.flash_model.specs.Flash.{FlashState}
-use Rattle.flash_model.specs.Operations.{moment_of}
-use Rattle.collector.specs.Preserves.{IsThere}
-use Rattle.array_machine.specs.declared.answers.Progress.{Progress}
+use Rattle.tx_engine.proofs.Common.{◌≡◌, ℕ, ◌+◌, ◌<◌, Bool, false, [], ◌++◌, length, All, Some, Ok, refl, sym, ap, ◌∙◌, subst, inl, inr, arith, eq-eqb, ne_eqb, if◌then◌else◌, cond-true, cond-false, cond_both, Config, FlashState, moment_of, IsThere, Progress, ArrayState, Entry, entry_of, taken_writes, AdvancesTo, SettlesDevice, StepCosts, StepsDevice, VersionsRise, done_writes, is_plain, is_there, settled_writes, OpenTransactionsState, entries_of, transaction_at, AddsOnly, is_at_last, settlement_of, with_settlement, DeviceState, Stands, GoesOn, settled, StoreState, device_in, BringsPage}
 use Rattle.array_machine.specs.declared.answers.Progress.TheVariants as progress
-use Rattle.tx_engine.specs.ArrayState.{ArrayState, Entry, entry_of}
-use Rattle.tx_engine.specs.Batches.{taken_writes}
-use Rattle.tx_engine.specs.Calls.{AdvancesTo, SettlesDevice}
-use Rattle.tx_engine.specs.Costs.{StepCosts}
-use Rattle.tx_engine.specs.DeviceCalls.{StepsDevice}
-use Rattle.tx_engine.specs.Exits.{VersionsRise, done_writes, is_plain, is_there, plain_writes, settled_writes}
-use Rattle.tx_engine.specs.OpenTable.{OpenTable, entries_of, opening_at}
-use Rattle.tx_engine.specs.Settling.{AddsOnly, is_at_last, settlement_of, with_settlement}
-use Rattle.tx_engine.specs.Standing.{Standing, Stands}
-use Rattle.tx_engine.specs.Step.{GoesOn, settled}
-use Rattle.tx_engine.specs.Stored.{Stored}
-use Rattle.tx_engine.specs.Tables.{standing_in}
-use Rattle.tx_engine.specs.Writing.{BringsPage}
+use Rattle.tx_engine.specs.Exits.{plain_writes}
 use Rattle.tx_engine.proofs.OfAbort.Aborting.{entry_settled}
 use Rattle.tx_engine.proofs.OfCollect.Collecting.{own_writes_low, settled_low}
-use Rattle.tx_engine.proofs.OfOpenings.OpenList.{entry_first, first_of_own}
-use Rattle.tx_engine.proofs.OfStanding.ExitsThen.{exits_then, rises_then}
-use Rattle.tx_engine.proofs.OfStanding.Kept.{from_stands}
+use Rattle.tx_engine.proofs.OfTransactions.OpenList.{entry_first, first_of_own}
+use Rattle.tx_engine.proofs.OfDevice.ExitsThen.{exits_then, rises_then}
+use Rattle.tx_engine.proofs.OfDevice.Kept.{from_stands}
 use Rattle.tx_engine.proofs.OfStep.StepExits.{done_low, for_next, for_open, ok_as, step_settled}
 use Rattle.tx_engine.proofs.OfStep.StepWrites.{brings_then, costs_then, found_then, notes_then}
 
@@ -39,23 +19,23 @@ taken_done s tag e progress.Done new (inl whole) =
     ap (λ ws. if is_at_last e then ws else []) none ∙ cond_both (is_at_last e) [] [] (λ ws. ws ≡ []) (λ is. refl) (λ is. refl) ∙ sym none
 taken_done s tag e progress.Done new (inr last) = cond-true (is_at_last e) (plain_writes e) [] (eq-eqb (e.done + 1) (length e.writes) last.1)
 
-module _ {F : Type 0} (state : F → FlashState) (S S1 S2 : Stored F) (O O1 O2 : OpenTable) (u : Unit {0}) (p : Progress)
-    (stands : Stands state (standing_in state S O)) (st : SettlesDevice state S S1 O O1 (Ok u)) (adv : AdvancesTo state S1 S2 O1 O2 0 (Ok p))
+module _ {F : Type 0} (state : F → FlashState) (S S1 S2 : StoreState F) (O O1 O2 : OpenTransactionsState) (u : Unit {0}) (p : Progress)
+    (stands : Stands state (device_in state S O)) (st : SettlesDevice state S S1 O O1 (Ok u)) (adv : AdvancesTo state S1 S2 O1 O2 0 (Ok p))
     (within : 0 < length O.all) where
-  abbrev old : Standing F
-  old = standing_in state S O
+  abbrev old : DeviceState F
+  old = device_in state S O
 
-  abbrev mid : Standing F
-  mid = standing_in state S1 O1
+  abbrev mid : DeviceState F
+  mid = device_in state S1 O1
 
-  abbrev new : Standing F
-  new = standing_in state S2 O2
+  abbrev new : DeviceState F
+  new = device_in state S2 O2
 
   abbrev there : Bool
   there = is_there state old
 
   abbrev tag : ℕ
-  tag = (opening_at O 0).entry.tag
+  tag = (transaction_at O 0).entry.tag
 
   pub stepped : StepsDevice state old new tag (Ok p)
   stepped =
@@ -64,20 +44,20 @@ module _ {F : Type 0} (state : F → FlashState) (S S1 S2 : Stored F) (O O1 O2 :
       let first = first_of_own O.all 0 was.tags within in
       let found = entry_first tag O.all 0 first in
       let at = entry_settled there O O1 0 (ap (λ (m : ArrayState). m.entries) st.settles.machine) within in
-      let tags : (opening_at O1 0).entry.tag ≡ tag = ap (λ (e : Entry). e.tag) at.1 in
-      let mine : entry_of tag (settled there old.machine).entries ≡ Some (opening_at O1 0).entry =
+      let tags : (transaction_at O1 0).entry.tag ≡ tag = ap (λ (e : Entry). e.tag) at.1 in
+      let mine : entry_of tag (settled there old.machine).entries ≡ Some (transaction_at O1 0).entry =
       ap (λ (m : ArrayState). entry_of tag m.entries) (sym st.settles.machine)
       ∙ ap (λ t. entry_of t (entries_of O1)) (sym tags)
-      ∙ entry_first (opening_at O1 0).entry.tag O1.all 0 (first_of_own O1.all 0 kept.tags at.0) in
+      ∙ entry_first (transaction_at O1 0).entry.tag O1.all 0 (first_of_own O1.all 0 kept.tags at.0) in
       record {
-        steps = step_settled there old.machine mid.machine new.machine tag (opening_at O 0).entry (opening_at O1 0).entry (Ok p) (Ok p) found
+        steps = step_settled there old.machine mid.machine new.machine tag (transaction_at O 0).entry (transaction_at O1 0).entry (Ok p) (Ok p) found
             st.settles.machine at.1 tags adv.advances (λ q is. ok_as p q (Ok p) refl is) (λ is. cc);
         exits = exits_then state old mid new false refl refl st.exits adv.exits;
         rises = subst (λ o. VersionsRise old new (settled_writes there old.machine ++ done_writes o (Ok p))) (sym mine)
-            (rises_then state old mid new (settled_writes there old.machine) (done_writes (Some (opening_at O1 0).entry) (Ok p))
+            (rises_then state old mid new (settled_writes there old.machine) (done_writes (Some (transaction_at O1 0).entry) (Ok p))
             st.exits.tables.config (settled_low state S O there stands)
-            (subst (λ (k : Config). All (λ w. w.page < k.logical) (done_writes (Some (opening_at O1 0).entry) (Ok p))) st.exits.tables.config
-            (done_low S1.noted.config.logical (opening_at O1 0).entry p
+            (subst (λ (k : Config). All (λ w. w.page < k.logical) (done_writes (Some (transaction_at O1 0).entry) (Ok p))) st.exits.tables.config
+            (done_low S1.noted.config.logical (transaction_at O1 0).entry p
             (own_writes_low (state S1.flash) S1.noted O1 S1.table S1.unsure kept 0 at.0)))
             st.exits.tables.versions adv.exits.tables.versions st.settles.rises adv.rises);
         sure = adv.sure;

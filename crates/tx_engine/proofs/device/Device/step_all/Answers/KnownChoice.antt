@@ -1,38 +1,20 @@
 -- Which transactions are chosen hangs on their entries and names alone, so that it is known of a device before it settled; and
 -- what a cut leaves of one that settled.
-use Rattle.std.proofs.Common.{◌≡◌, ℕ, ◌+◌, Bool, List, [], ◌∷◌, length, map, drop, get_or, Contains}
-use Rattle.std.proofs.Common.{refl, sym, ap, ap₂, ◌∙◌, subst, inl, inr, arith}
+use Rattle.tx_engine.proofs.Common.{◌≡◌, ℕ, ◌+◌, Bool, List, [], ◌∷◌, length, map, drop, get_or, Contains, refl, sym, ap, ap₂, ◌∙◌, subst, inl, inr, arith, zip, cases_Bool, cases_lt, drop_all, drop_more, Contains-cases, Contains-nil, bytes_in, Link, Slot, Load, spelling, IndexState, BlocksState, next_slot_in, MayTakeEach, ArrayState, Entry, Pages, put, loads_for, chosen_from, is_ready, jobs_of, record_due, OpenTransactionsState, TransactionState, no_transaction, transaction_at, Naming, write_at, CutLeaves, IsAtLast, settled, settled_entry}
 use Rattle.std.specs.Prelude.{take_while}
-use Rattle.std.specs.List.{zip}
-use Rattle.std.proofs.lemmas.Bool.{cases_Bool, cases_lt}
-use Rattle.std.proofs.lemmas.List.{drop_all, drop_more}
-use Rattle.list_facts.proofs.Membership.{Contains-cases, Contains-nil}
-use Rattle.list_facts.proofs.Options.{cases_Option}
-use Rattle.tx_types.specs.Batch.{bytes_in}
-use Rattle.tx_types.specs.declared.record.Link.{Link}
-use Rattle.tx_types.specs.declared.config.Slot.{Slot}
-use Rattle.flash_model.specs.Operations.{Load}
-use Rattle.page_record.specs.Spelling.{spelling}
-use Rattle.version_index.specs.Noted.{Noted}
-use Rattle.die_alloc.specs.BlockTable.{BlockTable}
-use Rattle.die_alloc.specs.NextSlot.{next_slot_in}
-use Rattle.array_machine.specs.Batches.{CutLeavesEach, MayTakeEach}
-use Rattle.tx_engine.specs.ArrayState.{ArrayState, Entry, Pages, put}
-use Rattle.tx_engine.specs.BatchCalls.{loads_for}
-use Rattle.tx_engine.specs.Batches.{chosen_from, is_ready, jobs_of, load_due, loads_of, record_due, slots_next}
-use Rattle.tx_engine.specs.OpenTable.{OpenTable, Opening, no_opening, opening_at}
-use Rattle.tx_engine.specs.Standing.{Naming, write_at}
-use Rattle.tx_engine.specs.Step.{CutLeaves, IsAtLast, settled, settled_entry}
+use Rattle.list_lemmas.proofs.Options.{cases_Option}
+use Rattle.array_machine.specs.Batches.{CutLeavesEach}
+use Rattle.tx_engine.specs.Batches.{load_due, loads_of, slots_next}
 use Rattle.tx_engine.proofs.OfStepAll.Chosen.{chosen_ends, chosen_full, chosen_more, chosen_stops, take_fails, take_passes}
 
 -- an open transaction without how many of its records are noted
-abbrev pub bare : Opening → Opening
+abbrev pub bare : TransactionState → TransactionState
 bare o = record { entry = o.entry; naming = record { names = o.naming.names; noted_count = 0 } }
 
-abbrev bare_pair : Slot × Opening → Slot × Opening
+abbrev bare_pair : Slot × TransactionState → Slot × TransactionState
 bare_pair (at, o) = (at, bare o)
 
-take_bare : (n : Noted) (os : List Opening) → take_while (is_ready n) (map bare os) ≡ map bare (take_while (is_ready n) os)
+take_bare : (n : IndexState) (os : List TransactionState) → take_while (is_ready n) (map bare os) ≡ map bare (take_while (is_ready n) os)
 take_bare n [] = refl
 take_bare n (o ∷ os) = elim (cases_Bool (is_ready n o)) [
   | inl passes ↦ take_passes (is_ready n) (bare o) (map bare os) passes ∙ ap (λ l. bare o ∷ l) (take_bare n os)
@@ -40,25 +22,25 @@ take_bare n (o ∷ os) = elim (cases_Bool (is_ready n o)) [
   | inr fails ↦ take_fails (is_ready n) (bare o) (map bare os) fails ∙ ap (map bare) (sym (take_fails (is_ready n) o os fails))
 ]
 
-zip_bare : (slots : List Slot) (os : List Opening) → zip slots (map bare os) ≡ map bare_pair (zip slots os)
+zip_bare : (slots : List Slot) (os : List TransactionState) → zip slots (map bare os) ≡ map bare_pair (zip slots os)
 zip_bare [] os = refl
 zip_bare (at ∷ slots) [] = refl
 zip_bare (at ∷ slots) (o ∷ os) = ap (λ l. (at, bare o) ∷ l) (zip_bare slots os)
 
-jobs_pairs : (n : Noted) (chosen : List (Slot × Opening)) → jobs_of n (map bare_pair chosen) ≡ jobs_of n chosen
+jobs_pairs : (n : IndexState) (chosen : List (Slot × TransactionState)) → jobs_of n (map bare_pair chosen) ≡ jobs_of n chosen
 jobs_pairs n [] = refl
 jobs_pairs n (x ∷ chosen) = ap (λ l. record { slot = x.0; rec = record_due n x.1 } ∷ l) (jobs_pairs n chosen)
 
-loads_pairs : (n : Noted) (chosen : List (Slot × Opening)) → loads_of n (map bare_pair chosen) ≡ loads_of n chosen
+loads_pairs : (n : IndexState) (chosen : List (Slot × TransactionState)) → loads_of n (map bare_pair chosen) ≡ loads_of n chosen
 loads_pairs n [] = refl
 loads_pairs n (x ∷ chosen) = ap (λ l. load_due n x.0 x.1 ∷ l) (loads_pairs n chosen)
 
-chosen_bare : (n : Noted) (t : BlockTable) (dies : List ℕ) (os : List Opening) →
+chosen_bare : (n : IndexState) (t : BlocksState) (dies : List ℕ) (os : List TransactionState) →
     chosen_from n t dies (map bare os) ≡ map bare_pair (chosen_from n t dies os)
 chosen_bare n t dies os = ap (zip (slots_next t dies)) (take_bare n os) ∙ zip_bare (slots_next t dies) (take_while (is_ready n) os)
 
 -- the same transactions, whatever is kept of their records
-module _ (n : Noted) (t : BlockTable) (dies : List ℕ) (os os' : List Opening) (same : map bare os ≡ map bare os') where
+module _ (n : IndexState) (t : BlocksState) (dies : List ℕ) (os os' : List TransactionState) (same : map bare os ≡ map bare os') where
   both : map bare_pair (chosen_from n t dies os) ≡ map bare_pair (chosen_from n t dies os')
   both = sym (chosen_bare n t dies os) ∙ ap (chosen_from n t dies) same ∙ chosen_bare n t dies os'
 
@@ -68,7 +50,7 @@ module _ (n : Noted) (t : BlockTable) (dies : List ℕ) (os os' : List Opening) 
   pub loads_alike : loads_of n (chosen_from n t dies os) ≡ loads_of n (chosen_from n t dies os')
   loads_alike = sym (loads_pairs n (chosen_from n t dies os)) ∙ ap (loads_of n) both ∙ loads_pairs n (chosen_from n t dies os')
 
-abbrev opened_as : Entry × Naming → Opening
+abbrev opened_as : Entry × Naming → TransactionState
 opened_as (e, x) = record { entry = e; naming = x }
 
 first_names : (a b : List Link) (xs ys : List (List Link)) → a ∷ xs ≡ b ∷ ys → a ≡ b
@@ -78,30 +60,30 @@ rest_names : (a b : List Link) (xs ys : List (List Link)) → a ∷ xs ≡ b ∷
 rest_names a b xs ys same = ap (drop 1) same
 
 -- the entries of one list with the names of another, where the names are the same
-pub openings_alike : (os before : List Opening) → map (λ (o : Opening). o.naming.names) os ≡ map (λ (o : Opening). o.naming.names) before →
-    map bare (map opened_as (zip (map (λ (o : Opening). o.entry) os) (map (λ (o : Opening). o.naming) before))) ≡ map bare os
-openings_alike [] before same = refl
-openings_alike (o ∷ os) [] same = absurd (let long = ap length same in omega (arith, long))
-openings_alike (o ∷ os) (b ∷ before) same =
-    let names = map (λ (x : Opening). x.naming.names) in
+pub transactions_alike : (os before : List TransactionState) → map (λ (o : TransactionState). o.naming.names) os ≡ map (λ (o : TransactionState). o.naming.names) before →
+    map bare (map opened_as (zip (map (λ (o : TransactionState). o.entry) os) (map (λ (o : TransactionState). o.naming) before))) ≡ map bare os
+transactions_alike [] before same = refl
+transactions_alike (o ∷ os) [] same = absurd (let long = ap length same in omega (arith, long))
+transactions_alike (o ∷ os) (b ∷ before) same =
+    let names = map (λ (x : TransactionState). x.naming.names) in
     ap₂ (λ (ns : List Link) l. record { entry = o.entry; naming = record { names = ns; noted_count = 0 } } ∷ l)
     (sym (first_names o.naming.names b.naming.names (names os) (names before) same))
-    (openings_alike os before (rest_names o.naming.names b.naming.names (names os) (names before) same))
+    (transactions_alike os before (rest_names o.naming.names b.naming.names (names os) (names before) same))
 
 -- what is loaded for the chosen ones
-pub loads_chosen : (n : Noted) (t : BlockTable) (O : OpenTable) → O.page_bytes ≡ n.config.page_bytes → (dies : List ℕ) (i : ℕ) →
+pub loads_chosen : (n : IndexState) (t : BlocksState) (O : OpenTransactionsState) → O.page_bytes ≡ n.config.page_bytes → (dies : List ℕ) (i : ℕ) →
     loads_for n O i (jobs_of n (chosen_from n t dies (drop i O.all))) ≡ loads_of n (chosen_from n t dies (drop i O.all))
 loads_chosen n t O size [] i = refl
 loads_chosen n t O size (die ∷ dies) i =
-    let Good : List (Slot × Opening) → Type 0 = λ chosen. loads_for n O i (jobs_of n chosen) ≡ loads_of n chosen in
+    let Good : List (Slot × TransactionState) → Type 0 = λ chosen. loads_for n O i (jobs_of n chosen) ≡ loads_of n chosen in
     elim (cases_Option (next_slot_in t die)) [
       | inl none ↦ subst Good (sym (chosen_full n t die dies (drop i O.all) none)) (loads_chosen n t O size dies i)
       | inr some ↦ elim (cases_lt i (length O.all)) [
         | inr past ↦ subst Good (sym (ap (chosen_from n t (die ∷ dies)) (drop_all i O.all past) ∙ chosen_ends n t (die ∷ dies))) refl
         | inl within ↦ (
-            let o = opening_at O i in
+            let o = transaction_at O i in
             let rest = drop (i + 1) O.all in
-            let is : drop i O.all ≡ o ∷ rest = drop_more O.all i no_opening within in
+            let is : drop i O.all ≡ o ∷ rest = drop_more O.all i no_transaction within in
             elim (cases_Bool (is_ready n o)) [
               | inr fails ↦ subst Good (sym (ap (chosen_from n t (die ∷ dies)) is ∙ chosen_stops n t (die ∷ dies) o rest fails)) refl
               | inl passes ↦ subst Good (sym (ap (chosen_from n t (die ∷ dies)) is ∙ chosen_more n t die dies some.0 o rest some.1 passes))

@@ -1,30 +1,12 @@
 -- What a call of the device says of several transactions that went on, where the first one took a step or none is open.
-use Rattle.std.proofs.Common.{◌≡◌, ℕ, ◌<◌, Bool, List, [], ◌∷◌, ◌++◌, length, map, take, get_or, All, Some, Ok, refl, sym, ap, ◌∙◌}
-use Rattle.std.proofs.Common.{subst, arith}
-use Rattle.std.specs.List.{flat_map, range_with_len}
-use Rattle.std.proofs.lemmas.List.{append-nil, length-map, nil_from_length}
-use Rattle.tx_types.specs.Batch.{PageWrite}
-use Rattle.tx_types.specs.declared.config.Config.{Config}
-use Rattle.flash_model.specs.Flash.{FlashState}
-use Rattle.version_index.specs.Noted.{Noted}
-use Rattle.array_machine.specs.Batches.{GoInTurn}
-use Rattle.array_machine.specs.declared.answers.Moved.{Moved}
-use Rattle.array_machine.specs.declared.answers.Progress.{Progress}
-use Rattle.tx_engine.specs.ArrayState.{ArrayState}
-use Rattle.tx_engine.specs.BatchCalls.{chosen_now, first_moved, no_moves}
-use Rattle.tx_engine.specs.Batches.{MovesDevice, StepsFirst, chosen_from, chosen_of, jobs_of, taken_writes}
-use Rattle.tx_engine.specs.Calls.{AdvancesTo, SettlesDevice}
-use Rattle.tx_engine.specs.DeviceCalls.{StepsDevice}
-use Rattle.tx_engine.specs.Exits.{VersionsRise, done_writes, is_there, settled_writes}
-use Rattle.tx_engine.specs.OpenTable.{OpenTable, Opening, entries_of, no_opening, opening_at}
-use Rattle.tx_engine.specs.Settling.{settlement_of}
-use Rattle.tx_engine.specs.Standing.{Standing, Stands}
-use Rattle.tx_engine.specs.Step.{settled, settled_entry}
-use Rattle.tx_engine.specs.Stored.{Stored}
-use Rattle.tx_engine.specs.Tables.{standing_in}
+use Rattle.tx_engine.proofs.Common.{◌≡◌, ℕ, ◌<◌, Bool, List, [], ◌∷◌, ◌++◌, length, map, get_or, All, Some, Ok, refl, sym, ap, ◌∙◌, subst, arith, flat_map, range_with_len, append-nil, length-map, PageWrite, Config, FlashState, IndexState, GoInTurn, Moved, Progress, ArrayState, chosen_now, MovesDevice, chosen_from, chosen_of, jobs_of, taken_writes, AdvancesTo, SettlesDevice, StepsDevice, VersionsRise, done_writes, is_there, settled_writes, OpenTransactionsState, TransactionState, entries_of, no_transaction, transaction_at, settlement_of, DeviceState, Stands, settled, settled_entry, StoreState, device_in}
+use Rattle.std.proofs.Common.{take}
+use Rattle.std.proofs.lemmas.List.{nil_from_length}
+use Rattle.tx_engine.specs.BatchCalls.{first_moved, no_moves}
+use Rattle.tx_engine.specs.Batches.{StepsFirst}
 use Rattle.tx_engine.proofs.OfCollect.Collecting.{own_writes_low}
-use Rattle.tx_engine.proofs.OfOpenings.OpenList.{entry_first, first_of_own}
-use Rattle.tx_engine.proofs.OfStanding.Kept.{from_stands}
+use Rattle.tx_engine.proofs.OfTransactions.OpenList.{entry_first, first_of_own}
+use Rattle.tx_engine.proofs.OfDevice.Kept.{from_stands}
 use Rattle.tx_engine.proofs.OfStep.StepExits.{done_low}
 use Rattle.tx_engine.proofs.device.Device.step_all.Answers.AllMoved.{then_exits, then_rises, then_steps}
 use Rattle.tx_engine.proofs.OfStepAll.Chosen.{chosen_ends}
@@ -33,19 +15,19 @@ use Rattle.tx_engine.proofs.device.Device.step_all.Answers.Dropping.{known_jobs}
 use Rattle.tx_engine.proofs.device.Device.step_all.Answers.FirstSteps.{stepped, taken_done}
 use Rattle.tx_engine.proofs.OfStepAll.Moving.{none_chosen}
 
-take_first : (os : List Opening) → 0 < length os → take 1 (map (λ (o : Opening). o.entry) os) ≡ (get_or os 0 no_opening).entry ∷ []
+take_first : (os : List TransactionState) → 0 < length os → take 1 (map (λ (o : TransactionState). o.entry) os) ≡ (get_or os 0 no_transaction).entry ∷ []
 take_first [] any = absurd (omega arith)
 take_first (o ∷ os) any = refl
 
-first_steps : {F : Type 0} (state : F → FlashState) (old new : Standing F) (answer : Moved) (p : Progress) (os : List Opening) → answer.moved ≡ 1 →
-    StepsDevice state old new (get_or os 0 no_opening).entry.tag (Ok p) → StepsFirst state old new answer (map (λ (o : Opening). o.entry) os)
+first_steps : {F : Type 0} (state : F → FlashState) (old new : DeviceState F) (answer : Moved) (p : Progress) (os : List TransactionState) → answer.moved ≡ 1 →
+    StepsDevice state old new (get_or os 0 no_transaction).entry.tag (Ok p) → StepsFirst state old new answer (map (λ (o : TransactionState). o.entry) os)
 first_steps state old new answer p [] one h = tt
 first_steps state old new answer p (o ∷ os) one h = (one, (p, h))
 
-module _ {F : Type 0} (state : F → FlashState) (S S1 S2 : Stored F) (O O1 O2 : OpenTable) (u : Unit {0})
-    (stands : Stands state (standing_in state S O)) (st : SettlesDevice state S S1 O O1 (Ok u)) where
-  abbrev old : Standing F
-  old = standing_in state S O
+module _ {F : Type 0} (state : F → FlashState) (S S1 S2 : StoreState F) (O O1 O2 : OpenTransactionsState) (u : Unit {0})
+    (stands : Stands state (device_in state S O)) (st : SettlesDevice state S S1 O O1 (Ok u)) where
+  abbrev old : DeviceState F
+  old = device_in state S O
 
   abbrev there : Bool
   there = is_there state old
@@ -61,15 +43,15 @@ module _ {F : Type 0} (state : F → FlashState) (S S1 S2 : Stored F) (O O1 O2 :
       (known_jobs state S S1 O O1 u st ∙ ap (jobs_of S1.noted) none)
 
   pub moves_first : (p : Progress) → AdvancesTo state S1 S2 O1 O2 0 (Ok p) → 0 < length O1.all → chosen_now S1 O1 ≡ [] →
-      MovesDevice state old (standing_in state S2 O2) (first_moved p)
+      MovesDevice state old (device_in state S2 O2) (first_moved p)
   moves_first p adv any none =
-      let new = standing_in state S2 O2 in
-      let mid = standing_in state S1 O1 in
-      let e = (opening_at O1 0).entry in
+      let new = device_in state S2 O2 in
+      let mid = device_in state S1 O1 in
+      let e = (transaction_at O1 0).entry in
       let kept = from_stands state S1 O1 st.stands in
       let long : length (entries_of O1) ≡ length (entries_of O) = ap length (sym entries) ∙ length-map (entries_of O) (settled_entry there) in
-      let mapped = length-map O1.all (λ (o : Opening). o.entry) in
-      let mapped_old = length-map O.all (λ (o : Opening). o.entry) in
+      let mapped = length-map O1.all (λ (o : TransactionState). o.entry) in
+      let mapped_old = length-map O.all (λ (o : TransactionState). o.entry) in
       let within : 0 < length O.all = omega (arith, long, mapped, mapped_old, any) in
       let one : take 1 (entries_of O1) ≡ e ∷ [] = take_first O1.all any in
       let turns : GoInTurn mid.machine (take 1 (entries_of O1)) (p ∷ []) new.machine =
@@ -93,9 +75,9 @@ module _ {F : Type 0} (state : F → FlashState) (S S1 S2 : Stored F) (O O1 O2 :
         nothing = λ is. absurd (let gone = ap length is in omega (arith, gone, mapped_old, within));
       }
 
-  pub moves_none : O1.all ≡ [] → MovesDevice state old (standing_in state S1 O1) no_moves
+  pub moves_none : O1.all ≡ [] → MovesDevice state old (device_in state S1 O1) no_moves
   moves_none none =
-      let mapped = length-map O1.all (λ (o : Opening). o.entry) in
+      let mapped = length-map O1.all (λ (o : TransactionState). o.entry) in
       let mapped_settled = length-map (entries_of O) (settled_entry there) in
       let gone : entries_of O ≡ [] = nil_from_length (entries_of O)
       (let long = ap length entries in let zero = ap length none in omega (arith, long, zero, mapped, mapped_settled)) in
@@ -109,15 +91,15 @@ module _ {F : Type 0} (state : F → FlashState) (S S1 S2 : Stored F) (O O1 O2 :
         };
         exits = st.exits;
         sure = st.settles.sure;
-        rises = subst (VersionsRise old (standing_in state S1 O1)) (sym (append-nil (settled_writes there old.machine))) st.settles.rises;
+        rises = subst (VersionsRise old (device_in state S1 O1)) (sym (append-nil (settled_writes there old.machine))) st.settles.rises;
         together = λ some. absurd (some (none_of (ap (chosen_from S1.noted S1.table (range_with_len 0 S1.table.shape.dies)) none
             ∙ chosen_ends S1.noted S1.table (range_with_len 0 S1.table.shape.dies))));
-        alone = λ is. subst (StepsFirst state old (standing_in state S1 O1) no_moves) (sym gone) tt;
+        alone = λ is. subst (StepsFirst state old (device_in state S1 O1) no_moves) (sym gone) tt;
         nothing = λ is. (
           st.moment,
           record {
             tables = record {
-              noted = st.tables.0 ∙ ap (λ (q : List ℕ). record (settlement_of state old).noted { pins = q }) (sym (ap (λ (n : Noted). n.pins) st.tables.0));
+              noted = st.tables.0 ∙ ap (λ (q : List ℕ). record (settlement_of state old).noted { pins = q }) (sym (ap (λ (n : IndexState). n.pins) st.tables.0));
               table = st.tables.1;
             };
             reads = st.reads;

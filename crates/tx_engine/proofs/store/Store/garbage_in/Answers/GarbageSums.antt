@@ -1,15 +1,13 @@
 -- The garbage of a device, one block more at a time.
-use Rattle.std.proofs.Common.{ℕ, ◌*◌, ◌≤◌, Bool, inl, inr, arith}
-use Rattle.std.specs.List.{range_with_len}
-use Rattle.std.proofs.lemmas.Bool.{cases_Bool}
+use Rattle.tx_engine.proofs.Common.{ℕ, ◌*◌, ◌≤◌, Bool, inl, inr, arith, range_with_len, cases_Bool, IndexState}
 use Rattle.std.proofs.lemmas.List.FromFn.{length-range_with_len}
 use Rattle.std.proofs.lemmas.List.Sums.{count_by-le-length}
 use Rattle.record_list.specs.Written.{is_slot}
-use Rattle.version_index.specs.Noted.{Noted, garbage_of, is_garbage_at, shut_or_part}
+use Rattle.version_index.specs.IndexState.{garbage_of, is_garbage_at, shut_or_part}
 use Rattle.version_index.proofs.OfTables.NotedFacts.{spare_garbage, other_garbage}
 
 -- a block has at most as many garbage slots as slots
-pub garbage_few : (n : Noted) (block : ℕ) (shut : Bool) → garbage_of n block shut ≤ n.config.pages_per_block
+pub garbage_few : (n : IndexState) (block : ℕ) (shut : Bool) → garbage_of n block shut ≤ n.config.pages_per_block
 garbage_few n block shut =
     let slots = range_with_len (block * n.config.pages_per_block) n.config.pages_per_block in
     let most = count_by-le-length (is_garbage_at n (shut_or_part shut)) slots in

@@ -1,28 +1,17 @@
 -- What is pinned once a page is pinned at another version, and that the tables match still.
-use Rattle.std.proofs.Common.{◌≡◌, ◌⊎◌, ℕ, ◌<◌, true, false, List, length, get_or, set, Contains, Some, None, sym, ap, ◌∙◌, subst, inl, inr, arith, eqb}
+use Rattle.tx_engine.proofs.Common.{◌≡◌, ◌⊎◌, ℕ, ◌<◌, true, false, List, length, get_or, set, Contains, Some, None, sym, ap, ◌∙◌, subst, inl, inr, arith, eqb, cases_Bool, cases_eq, cond-true, cond-false, none-some, length-set, get_or-set_same, get_or-set_other, All-contains, all_from, shape_of, Link, FlashState, Contents, Found, name_of, is_present, is_outside, counted_wanted, found_in, IndexState, IsNoted, pinned_at, pinned_names, BlocksState, Unsure, Matches, CanSpare}
 use Rattle.std.proofs.Common.{zero-add}
-use Rattle.std.proofs.lemmas.Bool.{cases_Bool, cases_eq, false≢true, cond-true, cond-false}
-use Rattle.std.proofs.lemmas.Option.{none-some, same_Some}
-use Rattle.std.proofs.lemmas.List.{length-set, get_or-set_same, get_or-set_other}
-use Rattle.std.proofs.lemmas.List.Elements.{All-contains}
-use Rattle.list_facts.proofs.Membership.{all_from}
-use Rattle.tx_types.specs.Config.{shape_of}
-use Rattle.tx_types.specs.declared.record.Link.{Link}
-use Rattle.flash_model.specs.Flash.{FlashState, Contents}
-use Rattle.record_list.specs.declared.found.Found.{Found}
-use Rattle.record_list.specs.Records.{name_of, is_present}
+use Rattle.std.proofs.lemmas.Bool.{false≢true}
+use Rattle.std.proofs.lemmas.Option.{same_Some}
 use Rattle.record_list.specs.Changes.{left}
-use Rattle.record_list.specs.Written.{is_outside, is_wanted}
+use Rattle.record_list.specs.Written.{is_wanted}
 use Rattle.record_list.proofs.OfFacts.Names.{present_in}
-use Rattle.record_list.proofs.OfFacts.Wanted.{wanted_cases, counted_wanted, pinned_wanted}
-use Rattle.version_index.specs.Notes.{found_in}
-use Rattle.version_index.specs.Noted.{Noted, IsNoted, pinned, pinned_at, pinned_names}
-use Rattle.version_index.proofs.OfTables.Given.{given_from, given_in}
+use Rattle.record_list.proofs.OfFacts.Wanted.{wanted_cases, pinned_wanted}
+use Rattle.version_index.specs.IndexState.{pinned}
+use Rattle.version_index.proofs.OfTables.BaseTables.{given_from, given_in}
 use Rattle.version_index.proofs.OfChanges.Pins.{numbered_pin}
-use Rattle.die_alloc.specs.BlockTable.{BlockTable}
-use Rattle.collector.specs.declared.unsure.Unsure.{Unsure}
 use Rattle.collector.specs.declared.unsure.Unsure.TheVariants as unsure
-use Rattle.collector.specs.Matches.{Matches, IsPlace, IsFilledBy, CanSpare, VictimIsSpared}
+use Rattle.collector.specs.Matches.{IsPlace, IsFilledBy, VictimIsSpared}
 
 -- the name that a pin gives
 pinned_name : (page version : ℕ) (name : Link) → pinned_at page version ≡ Some name → name ≡ record { page = page; version = version }
@@ -49,7 +38,7 @@ pinned_before pins page version name pin =
           (ap (pinned_at h.at) (sym (get_or-set_other pins page h.at version 0 other)) ∙ gives)))
     ]
 
-module _ (n : Noted) (page version : ℕ) where
+module _ (n : IndexState) (page version : ℕ) where
   -- no record has the name of the new pin, so what can be spared can be spared still
   pub pinned_spared : is_present (found_in n.notes) (record { page = page; version = version }) ≡ false → (block : ℕ) → CanSpare n block →
       CanSpare (pinned n page version) block
@@ -94,7 +83,7 @@ module _ (n : Noted) (page version : ℕ) where
     mentioned = k.mentioned;
   }
 
-  pinned_place : (image : List Contents) (t : BlockTable) (u : Unsure) → IsPlace image n t u → IsPlace image (pinned n page version) t u
+  pinned_place : (image : List Contents) (t : BlocksState) (u : Unsure) → IsPlace image n t u → IsPlace image (pinned n page version) t u
   pinned_place image t unsure.Nothing place = tt
   pinned_place image t (unsure.Own at rec) place = place
   pinned_place image t (unsure.Copy from to) place = place
@@ -105,7 +94,7 @@ module _ (n : Noted) (page version : ℕ) where
       filled f = record { within = f.within; records = f.records; tail = f.tail }
 
   -- the tables match still
-  pub pinned_matches : is_present (found_in n.notes) (record { page = page; version = version }) ≡ false → (s : FlashState) (t : BlockTable) (u : Unsure) →
+  pub pinned_matches : is_present (found_in n.notes) (record { page = page; version = version }) ≡ false → (s : FlashState) (t : BlocksState) (u : Unsure) →
       Matches s n t u → Matches s (pinned n page version) t u
   pinned_matches absent s t u m = record {
     shape = m.shape;

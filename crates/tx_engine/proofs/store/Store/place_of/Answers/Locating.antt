@@ -1,43 +1,29 @@
 -- The slot from which the current record of a page is read has the bytes that are known of the page.
-use Rattle.std.proofs.Common.{◌≡◌, ◌⊎◌, ℕ, ◌<◌, ◌≤◌, Bool, true, false, ◌&&◌, eqb, eqb-true, List, [], ◌∷◌, find, Option, Some, None, IsNone, IfSome, IfNone}
-use Rattle.std.proofs.Common.{IsSomeAnd, ◌↔◌, refl, sym, ap, ◌∙◌, subst, inl, inr, arith, Contains}
-use Rattle.std.specs.Prelude.{option_and_then, if◌then◌else◌}
-use Rattle.std.specs.Option.{option_map, option_or}
-use Rattle.std.proofs.lemmas.Bool.{false≢true, cases_Bool, cond-true, cond-false, and_parts, and_from, not_from_true}
-use Rattle.std.proofs.lemmas.Option.{none-some}
-use Rattle.std.proofs.lemmas.List.Elements.{All-contains}
-use Rattle.list_facts.proofs.Membership.{from_filter, Contains-cases, Contains-nil}
+use Rattle.tx_engine.proofs.Common.{◌≡◌, ◌⊎◌, ℕ, ◌<◌, ◌≤◌, Bool, true, false, ◌&&◌, eqb, eqb-true, List, [], ◌∷◌, Option, Some, None, refl, sym, ap, ◌∙◌, subst, inl, inr, arith, Contains, option_and_then, if◌then◌else◌, option_map, cases_Bool, cond-true, cond-false, and_from, none-some, All-contains, Contains-cases, Contains-nil, Protocol, Slot, Link, Rec, shape_of, slots_of, FlashState, slot_at, Found, name_of, is_present, cur, is_outside, value_at, value_of, found_named, counted_wanted, Blank, written_in, note_at, found_in, IndexState, current_of, current_name_of, discarded_of, pinned_names, written, noted_present, BlocksState, Unsure, page_known, Matches, CanSpare}
+use Rattle.std.proofs.Common.{find, IsNone, IfSome, IfNone}
+use Rattle.std.proofs.Common.{IsSomeAnd, ◌↔◌}
+use Rattle.std.specs.Option.{option_or}
+use Rattle.std.proofs.lemmas.Bool.{false≢true, and_parts, not_from_true}
+use Rattle.list_lemmas.proofs.Membership.{from_filter}
 use Rattle.tx_types.specs.declared.config.Block.{Block}
-use Rattle.tx_types.specs.declared.config.Protocol.{Protocol}
-use Rattle.tx_types.specs.declared.config.Slot.{Slot}
-use Rattle.tx_types.specs.declared.record.Link.{Link}
-use Rattle.tx_types.specs.declared.record.Rec.{Rec}
-use Rattle.tx_types.specs.Config.{shape_of, slots_of}
-use Rattle.flash_model.specs.Flash.{FlashState, slot_at}
 use Rattle.flash_model.specs.Calls.{page_of}
-use Rattle.record_list.specs.declared.found.Found.{Found}
-use Rattle.record_list.specs.Records.{name_of, has_name, is_present}
+use Rattle.record_list.specs.Records.{has_name}
 use Rattle.record_list.specs.Changes.{left}
-use Rattle.record_list.specs.Current.{cur, IsCurrent}
-use Rattle.record_list.specs.Written.{is_outside, is_wanted, first_slot, home, records_of, value_at, value_of}
-use Rattle.record_list.proofs.OfFacts.Names.{found_named, has_own_name, present_as}
-use Rattle.record_list.proofs.OfFacts.Wanted.{counted_wanted}
+use Rattle.record_list.specs.Current.{IsCurrent}
+use Rattle.record_list.specs.Written.{is_wanted, first_slot, home, records_of}
+use Rattle.record_list.proofs.OfFacts.Names.{has_own_name, present_as}
 use Rattle.record_list.proofs.OfChanges.WrittenLists.{one_text}
 use Rattle.record_list.proofs.OfChanges.Arrays.{text_named, text_absent}
 use Rattle.version_index.specs.declared.note.Note.{Note}
-use Rattle.version_index.specs.declared.note.Note.TheVariants.{Blank, Damaged, Holds}
-use Rattle.version_index.specs.Images.{written_in}
-use Rattle.version_index.specs.Notes.{note_at, rec_of, found_in}
-use Rattle.version_index.specs.Noted.{Noted, current_of, current_name_of, IsBlank, discarded_of, home_of, place_of, slot_off, HoldsName, pinned_names}
+use Rattle.version_index.specs.declared.note.Note.TheVariants.{Damaged, Holds}
+use Rattle.version_index.specs.Notes.{rec_of}
+use Rattle.version_index.specs.IndexState.{IsBlank, home_of, place_of, slot_off, HoldsName}
 use Rattle.version_index.proofs.OfTables.FoundIn.{found, noted_in}
 use Rattle.version_index.proofs.OfTables.HomeFacts.{first_stands}
-use Rattle.version_index.proofs.OfLaws.ImageScans.{written, records_scanned, read_slot}
-use Rattle.version_index.proofs.OfTables.NotedFacts.{noted_discard, noted_present}
-use Rattle.die_alloc.specs.BlockTable.{BlockTable}
-use Rattle.collector.specs.declared.unsure.Unsure.{Unsure}
+use Rattle.version_index.proofs.OfLaws.ImageScans.{records_scanned, read_slot}
+use Rattle.version_index.proofs.OfTables.NotedFacts.{noted_discard}
 use Rattle.collector.specs.declared.unsure.Unsure.TheVariants as unsure
-use Rattle.collector.specs.Known.{is_unsure, page_known}
-use Rattle.collector.specs.Matches.{Matches, CanSpare}
+use Rattle.collector.specs.Known.{is_unsure}
 use Rattle.collector.proofs.OfNotes.SpelledNotes.{noted_record}
 use Rattle.tx_engine.specs.Read.{ShowsKnown, current_place, read_place}
 
@@ -73,7 +59,7 @@ first_choice : (a b : Option ℕ) (at : ℕ) → (a ≡ None → ⊥) → option
 first_choice None b at some e = absurd (some refl)
 first_choice (Some x) b at some e = e
 
-module _ (s : FlashState) (n : Noted) (t : BlockTable) (u : Unsure) (m : Matches s n t u) (page : ℕ) where
+module _ (s : FlashState) (n : IndexState) (t : BlocksState) (u : Unsure) (m : Matches s n t u) (page : ℕ) where
   p : Protocol
   p = n.config.protocol
 
@@ -178,7 +164,7 @@ module _ (s : FlashState) (n : Noted) (t : BlockTable) (u : Unsure) (m : Matches
       (and_parts (has_name name h.found.rec) (is_outside (shape_of n.config) block h.found.slot.0) h.passes).1)
 
 -- where no collected block is being erased, the home of a page lies outside the place whose contents are not known
-home_sure : (s : FlashState) (n : Noted) (t : BlockTable) (u : Unsure) (m : Matches s n t u) (page at : ℕ) → HoldsName n at (current_name_of n page) →
+home_sure : (s : FlashState) (n : IndexState) (t : BlocksState) (u : Unsure) (m : Matches s n t u) (page at : ℕ) → HoldsName n at (current_name_of n page) →
     home_of n (current_name_of n page) ≡ Some at → ((block : Block) → u ≡ unsure.VictimErase block → ⊥) → is_unsure s.shape t.spare u at ≡ false
 home_sure s n t unsure.Nothing m page at holds home other = refl
 home_sure s n t (unsure.Own place rec) m page at holds home other = not_blank s n t (unsure.Own place rec) m page at place.0 holds m.place.1
@@ -188,7 +174,7 @@ home_sure s n t unsure.SpareErase m page at holds home other =
 home_sure s n t (unsure.VictimErase block) m page at holds home other = absurd (other block refl)
 
 -- what an answer is that names the home of a page
-pub located : (s : FlashState) (n : Noted) (t : BlockTable) (u : Unsure) (m : Matches s n t u) (page : ℕ) (r : Option Slot) →
+pub located : (s : FlashState) (n : IndexState) (t : BlocksState) (u : Unsure) (m : Matches s n t u) (page : ℕ) (r : Option Slot) →
     ((block : Block) → u ≡ unsure.VictimErase block → ⊥) → option_map (λ at. at.0) r ≡ home_of n (current_name_of n page) →
     discarded_of n page ≡ false → IsNone r ↔ IsBlank n page → IfSome r (λ at. HoldsName n at.0 (current_name_of n page)) →
     IfNone r (page_known n s.image page ≡ None) × IfSome r (λ at. ShowsKnown s n page at.0)
@@ -203,7 +189,7 @@ located s n t u m page (Some at) other home held none holds =
     (tt, shows_known s n t u m page at.0 holds (home_sure s n t u m page at.0 holds (sym home) other) held)
 
 -- and one that names a slot outside a block that is being erased
-pub located_off : (s : FlashState) (n : Noted) (t : BlockTable) (block : Block) (m : Matches s n t (unsure.VictimErase block)) (page : ℕ) (r : Option Slot) →
+pub located_off : (s : FlashState) (n : IndexState) (t : BlocksState) (block : Block) (m : Matches s n t (unsure.VictimErase block)) (page : ℕ) (r : Option Slot) →
     option_map (λ at. at.0) r ≡ slot_off n block.0 (current_name_of n page) → discarded_of n page ≡ false →
     IfSome r (λ at. HoldsName n at.0 (current_name_of n page)) →
     IfNone r (page_known n s.image page ≡ None) × IfSome r (λ at. ShowsKnown s n page at.0)
@@ -230,7 +216,7 @@ not_victim (unsure.VictimErase b) (inr (inr (inl (from, to, e)))) block is = cc
 not_victim (unsure.VictimErase b) (inr (inr (inr e))) block is = cc
 
 -- where none of them is, the current record is read from its home
-home_current : (n : Noted) (u : Unsure) (page : ℕ) → ((block : Block) → u ≡ unsure.VictimErase block → ⊥) →
+home_current : (n : IndexState) (u : Unsure) (page : ℕ) → ((block : Block) → u ≡ unsure.VictimErase block → ⊥) →
     home_of n (current_name_of n page) ≡ current_place n u page
 home_current n unsure.Nothing page other = refl
 home_current n (unsure.Own at rec) page other = refl
@@ -239,18 +225,18 @@ home_current n unsure.SpareErase page other = refl
 home_current n (unsure.VictimErase block) page other = absurd (other block refl)
 
 -- and so is a page that its record does not discard, as an answer says that names the home
-pub home_place : (n : Noted) (u : Unsure) (page : ℕ) (r : Option ℕ) → ((block : Block) → u ≡ unsure.VictimErase block → ⊥) →
+pub home_place : (n : IndexState) (u : Unsure) (page : ℕ) (r : Option ℕ) → ((block : Block) → u ≡ unsure.VictimErase block → ⊥) →
     r ≡ place_of n page → r ≡ read_place n u page
 home_place n u page r other is = is ∙ ap (λ home. if discarded_of n page then None else home) (home_current n u page other)
 
 -- while a block is being erased, from its lowest slot outside that block
-pub off_place : (n : Noted) (u : Unsure) (page : ℕ) (r : Option ℕ) → discarded_of n page ≡ false → r ≡ current_place n u page → r ≡ read_place n u page
+pub off_place : (n : IndexState) (u : Unsure) (page : ℕ) (r : Option ℕ) → discarded_of n page ≡ false → r ≡ current_place n u page → r ≡ read_place n u page
 off_place n u page r held is = is ∙ sym (cond-false (discarded_of n page) None (current_place n u page) held)
 
 -- the home of a page that its record does not discard
-pub place_home : (n : Noted) (page : ℕ) (r : Option ℕ) → discarded_of n page ≡ false → r ≡ place_of n page → r ≡ home_of n (current_name_of n page)
+pub place_home : (n : IndexState) (page : ℕ) (r : Option ℕ) → discarded_of n page ≡ false → r ≡ place_of n page → r ≡ home_of n (current_name_of n page)
 place_home n page r held is = is ∙ cond-false (discarded_of n page) None (home_of n (current_name_of n page)) held
 
 -- a page that its record discards is read nowhere
-pub nowhere : (n : Noted) (u : Unsure) (page : ℕ) → discarded_of n page ≡ true → None ≡ read_place n u page
+pub nowhere : (n : IndexState) (u : Unsure) (page : ℕ) → discarded_of n page ≡ true → None ≡ read_place n u page
 nowhere n u page discards = sym (cond-true (discarded_of n page) None (current_place n u page) discards)

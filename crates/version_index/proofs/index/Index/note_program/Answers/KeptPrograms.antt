@@ -1,52 +1,29 @@
 -- A programmed record leaves tables that have what was noted.
-use Rattle.std.proofs.Common.{◌≡◌, ◌≢◌, ℕ, suc, ◌+◌, ◌<◌, ◌≤◌, true, false, List, ◌∷◌, length, map, set, get_or, Contains, Some, None, refl, sym, ap, ◌∙◌}
-use Rattle.std.proofs.Common.{subst, inl, inr, arith}
-use Rattle.std.specs.Option.{option_map_or}
-use Rattle.std.proofs.Math.ListN.{get_or-map}
-use Rattle.std.proofs.lemmas.Bool.{cases_eq, cases_Bool}
-use Rattle.std.proofs.lemmas.List.{length-set, length-map, get_or-set_same, get_or-set_other, ext_get_or}
-use Rattle.std.proofs.lemmas.List.Elements.{All-contains}
-use Rattle.std.proofs.lemmas.Option.{none-some, same_Some}
-use Rattle.list_facts.proofs.Options.{cases_Option}
-use Rattle.tx_types.specs.declared.config.Config.{Config}
-use Rattle.tx_types.specs.declared.config.Protocol.{Protocol}
-use Rattle.tx_types.specs.declared.record.Link.{Link}
-use Rattle.tx_types.specs.declared.record.Rec.{Rec}
-use Rattle.tx_types.specs.Config.{shape_of, slots_of}
-use Rattle.record_list.specs.Records.{name_of, is_present, newest}
-use Rattle.record_list.specs.SoundList.{Pages, PagesExist}
-use Rattle.record_list.specs.Changes.{PartialWriteLaw, CompletingWriteLaw}
-use Rattle.record_list.proofs.OfFacts.Names.{same_name, newest_bound, present_in, found_named}
-use Rattle.slot_tables.specs.declared.slots.SlotUse.{SlotUse}
+use Rattle.version_index.proofs.Common.{◌≡◌, ◌≢◌, ℕ, suc, ◌+◌, ◌<◌, ◌≤◌, true, false, List, ◌∷◌, length, map, set, get_or, Contains, Some, None, refl, sym, ap, ◌∙◌, subst, inl, inr, arith, option_map_or, get_or-map, cases_eq, cases_Bool, length-set, length-map, get_or-set_same, get_or-set_other, ext_get_or, All-contains, none-some, same_Some, cases_Option, Config, Protocol, Link, Rec, shape_of, slots_of, name_of, is_present, newest, Pages, PagesExist, PartialWriteLaw, CompletingWriteLaw, same_name, newest_bound, present_in, found_named, SlotUse, TablesState, IsTablesState, use_at, record_at, numbers_at, number_in, HasFree, LinksExist, newest_at, OnlyDerives, IsRoundIn, link_of, derived_of, IsDerivedAs, completes, note_at, found_in, IndexState, IsNoted, IsNextRecord, programmed, AreDerived, note_in, notes_in, noted_by, numbered_of, AreHeld, AreIndexed}
 use Rattle.slot_tables.specs.declared.slots.SlotUse.TheVariants as slot
-use Rattle.slot_tables.specs.Kept.{Kept, IsKept, use_at, record_at, numbers_at, number_in, added, IsNewest}
-use Rattle.slot_tables.specs.Versions.{HasFree}
+use Rattle.slot_tables.specs.TablesState.{added, IsNewest}
 use Rattle.version_index.specs.declared.note.Note.TheVariants as note
-use Rattle.version_index.specs.Committing.{LinksExist, newest_at, OnlyJudges, IsTop, IsRoundIn, Rests, MayComplete, JudgesWhole, IsSettledSo}
-use Rattle.record_list.specs.Verdict.{link_of}
-use Rattle.version_index.specs.JudgedLaws.{IsCompleted}
-use Rattle.version_index.specs.JudgedChanges.{judged_of, IsJudgedAs, completes, once_whole}
-use Rattle.version_index.specs.Notes.{note_at, found_in}
-use Rattle.version_index.specs.Noted.{Noted, IsNoted, IsNextRecord, programmed, raised}
-use Rattle.version_index.specs.Numbered.{AreJudged}
-use Rattle.version_index.specs.Tables.{note_in, notes_in, noted_by, numbered_of, AreHeld, AreIndexed}
+use Rattle.version_index.specs.Committing.{IsTop, Rests, MayComplete, DerivesWhole, CommitsIfComplete}
+use Rattle.version_index.specs.DerivedLaws.{IsCompleted}
+use Rattle.version_index.specs.DerivedChanges.{once_whole}
+use Rattle.version_index.specs.IndexState.{raised}
 use Rattle.version_index.proofs.OfTables.CurrentNames.{rested}
 use Rattle.version_index.proofs.OfTables.FoundIn.{found}
 use Rattle.version_index.proofs.OfProgram.FreeNumbers.{has_free}
-use Rattle.version_index.proofs.OfLaws.JudgedLaws.{open_write_law, whole_write_law}
+use Rattle.version_index.proofs.OfLaws.DerivedLaws.{open_write_law, whole_write_law}
 use Rattle.version_index.proofs.OfChanges.KeptChanges.{notes_set}
 use Rattle.version_index.proofs.OfTables.KeptNotes.{kept_found, kept_noted, found_number, blank_slot, length-notes}
 use Rattle.version_index.proofs.OfCommit.Newest.{newest_number, no_number}
 use Rattle.version_index.proofs.OfChanges.NotedChanges.{next_spelled, programmed_noted}
-use Rattle.version_index.proofs.OfTables.Numbered.{added_judged, judged_as}
+use Rattle.version_index.proofs.OfTables.Numbered.{added_derived, derived_as}
 use Rattle.version_index.proofs.OfProgram.PartialWrites.{next_newest, next_newly_loose}
 use Rattle.version_index.proofs.OfCommit.RoundSteps.{round_by_index}
-use Rattle.version_index.proofs.OfChanges.WholeJudged.{judged_still}
+use Rattle.version_index.proofs.OfChanges.WholeDerived.{derived_still}
 
-module _ (protocol : Protocol) (its : Config) (m : List ℕ) (k : Kept) (i : AreIndexed protocol its m k) (sizes : IsKept k)
+module _ (protocol : Protocol) (its : Config) (m : List ℕ) (k : TablesState) (i : AreIndexed protocol its m k) (sizes : IsTablesState k)
     (at : ℕ) (rec : Rec) (exists : at < slots_of (shape_of its)) (was : note_at (notes_in k) at ≡ note.Blank)
     (next : IsNextRecord (noted_by its m k) rec) where
-  abbrev n : Noted
+  abbrev n : IndexState
   n = noted_by its m k
 
   within : at < length k.slots
@@ -73,7 +50,7 @@ module _ (protocol : Protocol) (its : Config) (m : List ℕ) (k : Kept) (i : Are
 
   module _ (x : ℕ) (free : record_at k.records x ≡ None) (low : x < slots_of k.shape) where
     -- the tables with the record
-    abbrev pub with_record : Kept
+    abbrev pub with_record : TablesState
     with_record = record (added k x rec) { slots = set k.slots at (slot.Holds x); waits = set k.waits x (Some rec.next.page) }
 
     in_records : x < length k.records
@@ -155,12 +132,12 @@ module _ (protocol : Protocol) (its : Config) (m : List ℕ) (k : Kept) (i : Are
             let same = ap (λ (l : Link). l.version) e in
             omega arith
 
-    programmed_judged : AreJudged (numbered_of with_record) its.logical (judged_of n)
-    programmed_judged =
+    programmed_derived : AreDerived (numbered_of with_record) its.logical (derived_of n)
+    programmed_derived =
         let loose = next_newly_loose protocol n i.noted rec next in
         let unused = i.held.unused x free in
         let w = sizes.waits in
-        added_judged (numbered_of k) (numbered_of with_record) its.logical (judged_of n) x rec i.judged loose.answerer loose.waits (record {
+        added_derived (numbered_of k) (numbered_of with_record) its.logical (derived_of n) x rec i.judged loose.answerer loose.waits (record {
           free = free;
           own = its_own;
           others = others;
@@ -194,17 +171,17 @@ module _ (protocol : Protocol) (its : Config) (m : List ℕ) (k : Kept) (i : Are
         shape = i.shape;
         pages = length-set k.pages rec.page (x ∷ numbers_at k.pages rec.page) ∙ i.pages;
         held = programmed_held;
-        judged = judged_as (numbered_of with_record) (noted_by its (raised rec m) with_record) (judged_of n) programmed_judged
-            (subst (λ v. IsJudgedAs v (judged_of n)) (sym programmed_is) (judged_still n (programmed n at rec) refl
+        judged = derived_as (numbered_of with_record) (noted_by its (raised rec m) with_record) (derived_of n) programmed_derived
+            (subst (λ v. IsDerivedAs v (derived_of n)) (sym programmed_is) (derived_still n (programmed n at rec) refl
             (open_write_law protocol partial n at rec next i.noted exists was (sym (ap (λ v. completes v rec) programmed_is) ∙ left)).nothing_moves))
             (kept_noted with_record programmed_held);
       }
 
-      pub whole_is : (new : Kept) → OnlyJudges with_record new → noted_by its (raised rec m) new ≡ programmed n at rec
+      pub whole_is : (new : TablesState) → OnlyDerives with_record new → noted_by its (raised rec m) new ≡ programmed n at rec
       whole_is new judges = ap (noted_by its (raised rec m)) judges.rest ∙ programmed_is
 
       -- where the cycle is whole
-      module _ (sizes' : IsKept with_record) (closed : completes (noted_by its (raised rec m) with_record) rec ≡ true) where
+      module _ (sizes' : IsTablesState with_record) (closed : completes (noted_by its (raised rec m) with_record) rec ≡ true) where
         comp : IsCompleted n (programmed n at rec) next.names rec
         comp = whole_write_law protocol completing n at rec next i.noted exists was (sym (ap (λ v. completes v rec) programmed_is) ∙ closed)
 
@@ -213,7 +190,7 @@ module _ (protocol : Protocol) (its : Config) (m : List ℕ) (k : Kept) (i : Are
             IsTop with_record a b
         top_at a b present top link =
             let l = found_in (notes_in with_record) in
-            let same : l ≡ found_in (programmed n at rec).notes = ap (λ (v : Noted). found_in v.notes) programmed_is in
+            let same : l ≡ found_in (programmed n at rec).notes = ap (λ (v : IndexState). found_in v.notes) programmed_is in
             let f = found_named (found_in (programmed n at rec).notes) a present in
             let f_in = subst (λ q. Contains q f.0) (sym same) f.1 in
             let y = found_number with_record programmed_held f.0 f_in in
@@ -251,16 +228,16 @@ module _ (protocol : Protocol) (its : Config) (m : List ℕ) (k : Kept) (i : Are
                   top_at (get_or comp.round j (name_of rec)) (get_or comp.round (j + 1) (name_of rec)) top.0 top.1 (by.link j low'));
             }
 
-        pub whole_indexed : (new : Kept) → OnlyJudges with_record new → JudgesWhole its.protocol with_record new (name_of rec) its.logical →
+        pub whole_indexed : (new : TablesState) → OnlyDerives with_record new → DerivesWhole its.protocol with_record new (name_of rec) its.logical →
             AreIndexed protocol its (raised rec m) new
         whole_indexed new judges whole =
             let noted = noted_by its (raised rec m) in
             let same = ap noted judges.rest in
             let logical : its.logical ≡ length with_record.pages =
             sym (length-set k.pages rec.page (x ∷ numbers_at k.pages rec.page) ∙ i.pages) in
-            let j = once_whole its.protocol comp.round (judged_of n) in
-            let rests : Rests (judged_of n) = λ r low'. (let both = rested n r low' in (both.answerer, both.waits)) in
-            let judged = whole its.logical (judged_of n) comp.round round_in comp.is_round.short logical rests programmed_judged in
+            let j = once_whole its.protocol comp.round (derived_of n) in
+            let rests : Rests (derived_of n) = λ r low'. (let both = rested n r low' in (both.answerer, both.waits)) in
+            let judged = whole its.logical (derived_of n) comp.round round_in comp.is_round.short logical rests programmed_derived in
             let h = programmed_held in
             let held : AreHeld new = subst AreHeld (sym judges.rest) (record {
               held = h.held;
@@ -273,16 +250,16 @@ module _ (protocol : Protocol) (its : Config) (m : List ℕ) (k : Kept) (i : Are
             }) in
             record {
               noted = subst (IsNoted protocol) (sym same) its_noted;
-              shape = ap (λ (t : Kept). t.shape) judges.rest ∙ i.shape;
-              pages = ap (λ (t : Kept). length t.pages) judges.rest ∙ sym logical;
+              shape = ap (λ (t : TablesState). t.shape) judges.rest ∙ i.shape;
+              pages = ap (λ (t : TablesState). length t.pages) judges.rest ∙ sym logical;
               held = held;
-              judged = judged_as (numbered_of new) (noted new) j judged (subst (λ v. IsJudgedAs v j) (sym (same ∙ programmed_is)) comp.judged)
+              judged = derived_as (numbered_of new) (noted new) j judged (subst (λ v. IsDerivedAs v j) (sym (same ∙ programmed_is)) comp.judged)
                   (kept_noted new held);
             }
 
-      pub settled_indexed : IsKept with_record → (new : Kept) → OnlyJudges with_record new →
-          IsSettledSo its.protocol with_record new rec its.logical → AreIndexed protocol its (raised rec m) new
-      settled_indexed sizes' new judges settled = elim (cases_Bool (completes (noted_by its (raised rec m) with_record) rec)) [
+      pub decided_indexed : IsTablesState with_record → (new : TablesState) → OnlyDerives with_record new →
+          CommitsIfComplete its.protocol with_record new rec its.logical → AreIndexed protocol its (raised rec m) new
+      decided_indexed sizes' new judges settled = elim (cases_Bool (completes (noted_by its (raised rec m) with_record) rec)) [
         | inl closed ↦ whole_indexed sizes' closed new judges (settled.whole_cycle protocol its (raised rec m) may_complete refl closed)
         | inr left ↦ subst (AreIndexed protocol its (raised rec m)) (sym (settled.open_cycle protocol its (raised rec m) may_complete refl left))
             (open_indexed left)

@@ -1,5 +1,0 @@
-use Rattle.command_line.proofs.ArrayRuns.{unarmed}
-use Rattle.command_line.proofs.laws.unarmed_runs.Goals as goal
-
-pub returns : goal.returns
-returns c = unarmed

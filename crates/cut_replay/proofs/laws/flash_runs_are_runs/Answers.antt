@@ -1,7 +1,0 @@
-use Rattle.std.proofs.Common.{false}
-use Rattle.cut_replay.specs.FlashRun.{mentions_in, opening_point}
-use Rattle.cut_replay.proofs.Quiet.{flash_run_is_run}
-use Rattle.cut_replay.proofs.laws.flash_runs_are_runs.Goals as goal
-
-pub returns : goal.returns
-returns c = λ its from cs rs ps run. flash_run_is_run its (mentions_in its from) false (opening_point its run.up from) cs rs ps run.runs

@@ -1,0 +1,32 @@
+use Rattle.desk_tasks.proofs.Common.{Err, ◌∙◌, ap, MemFlashState}
+use Rattle.page_keys.specs.declared.key_error.KeyServeError.{KeyServeError}
+use Rattle.desk_tasks.proofs.RunLemmas.{is_steady}
+use Rattle.desk_tasks.proofs.KeyEndings.{is_keys_run, refuses_bucket, refuses_store}
+use Rattle.desk_tasks.proofs.keying.serve_keys_by.Goals as goal
+
+pub returns-in-Ok-clause-run : goal.returns-in-Ok-clause-run
+returns-in-Ok-clause-run g c =
+    let done = c.in-Ok.is in
+    let image = rw done at (c.key_serve-flash.ensures.steady (is_steady c.args.config c.args.flash c.requires.ready)) in
+    let served = rw done at (c.key_serve-flash.ensures.serves image) in
+    is_keys_run c.args.config c.args.flash c.key_serve-flash.result.0 c.args.list.now
+    c.new-replies.result.items c.key_serve-flash.new.out.items c.requires.ready
+    c.new-replies.ensures.items served
+
+pub returns-in-Ok-clause-shape : goal.returns-in-Ok-clause-shape
+returns-in-Ok-clause-shape g c =
+    c.key_serve-flash.ensures.shape ∙ ap (λ (s : MemFlashState). s.shape) c.requires.ready
+
+pub returns-in-Unsound-clause-err : goal.returns-in-Unsound-clause-err
+returns-in-Unsound-clause-err g c =
+    let done = c.in-Err.is ∙ ap (λ (e : KeyServeError). Err e) c.in-Unsound.is in
+    refuses_store c.args.config c.args.flash c.in-Unsound.law c.in-Unsound.slot
+    (rw done at (c.key_serve-flash.ensures.refuses (λ image.
+    rw done at (c.key_serve-flash.ensures.serves image))))
+
+pub returns-in-Bucket-clause-err : goal.returns-in-Bucket-clause-err
+returns-in-Bucket-clause-err g c =
+    let done = c.in-Err.is ∙ ap (λ (e : KeyServeError). Err e) c.in-Bucket.is in
+    refuses_bucket c.args.config c.args.flash c.in-Bucket.page
+    (rw done at (c.key_serve-flash.ensures.refuses (λ image.
+    rw done at (c.key_serve-flash.ensures.serves image))))

@@ -1,8 +1,0 @@
-use Rattle.flash_model.proofs.MoveLemmas.{FlashMoves-operates, FlashMoves-fires}
-use Rattle.flash_model.proofs.laws.operations_move.Goals as goal
-
-pub returns-clause-lone : goal.returns-clause-lone
-returns-clause-lone c = FlashMoves-operates
-
-pub returns-clause-fired : goal.returns-clause-fired
-returns-clause-fired c = λ old new loads. FlashMoves-fires old new loads tt

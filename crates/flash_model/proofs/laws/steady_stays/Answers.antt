@@ -1,5 +1,0 @@
-use Rattle.flash_model.proofs.CallLemmas.{IsSteady-stays}
-use Rattle.flash_model.proofs.laws.steady_stays.Goals as goal
-
-pub returns : goal.returns
-returns c = IsSteady-stays

@@ -1,5 +1,0 @@
-use Rattle.page_record.proofs.Spellings.{first_broken-some}
-use Rattle.page_record.proofs.laws.first_rule.Goals as goal
-
-pub returns : goal.returns
-returns c = first_broken-some

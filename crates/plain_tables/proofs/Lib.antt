@@ -1,7 +1,0 @@
-pub mod Linked
-pub mod Chained
-pub mod ChainCalls
-pub mod Membership
-pub mod GreatestNumbers
-pub mod Tree
-pub mod Descent

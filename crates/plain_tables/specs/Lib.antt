@@ -1,5 +1,0 @@
-pub mod ChainLists
-pub mod Links
-pub mod Greatest
-pub mod Levels
-pub mod Reciprocals

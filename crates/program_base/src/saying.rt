@@ -1,0 +1,49 @@
+ghost use Rattle.durable_folder.specs.Histories.{Rests};
+ghost use Rattle.program_base.specs.Saying.{FaultTold, MemoryTold, Refuses, Speaks};
+
+use desk_io::{Desk, SinkError};
+use std::alloc::AllocError;
+
+/// Says a text, if there is one, and answers the status.
+pub fn say<D: Desk>(desk: &mut D, text: &[u8], status: u8) -> u8
+    ensures speaks { Speaks (D.state desk.old) (D.state desk.new) text.now status result }
+    ensures disk { Rests (D.disk desk.old) (D.disk desk.new) }
+{
+    if text.is_empty() {
+        return status;
+    }
+    match desk.say(text) {
+        Ok(()) => status,
+        Err(SinkError::Failed) => desk_fault(desk),
+        Err(SinkError::Memory) => no_memory(desk),
+    }
+}
+
+/// Says the line of a refusal, where there was memory for it, and answers the status.
+pub fn refuse<D: Desk>(desk: &mut D, line: Result<String, AllocError>, status: u8) -> u8
+    ensures refuses { Refuses (D.state desk.old) (D.state desk.new) line status result }
+    ensures disk { Rests (D.disk desk.old) (D.disk desk.new) }
+{
+    match line {
+        Ok(line) => say(desk, line.as_bytes(), status),
+        Err(_) => no_memory(desk),
+    }
+}
+
+/// Attempts to say that the desk met a fault.
+pub fn desk_fault<D: Desk>(desk: &mut D) -> u8
+    ensures told { FaultTold (D.state desk.old) (D.state desk.new) result }
+    ensures disk { Rests (D.disk desk.old) (D.disk desk.new) }
+{
+    let _ = desk.say(b"desk fault\n");
+    5
+}
+
+/// Attempts to say that there was no memory.
+pub fn no_memory<D: Desk>(desk: &mut D) -> u8
+    ensures told { MemoryTold (D.state desk.old) (D.state desk.new) result }
+    ensures disk { Rests (D.disk desk.old) (D.disk desk.new) }
+{
+    let _ = desk.say(b"no memory\n");
+    6
+}

@@ -1,6 +1,0 @@
-use Rattle.std.proofs.Common.{◌≡◌, drop}
-use Rattle.record_chart.specs.Seen.{noted}
-use Rattle.record_chart.proofs.follow.note.Given as goal
-
-abbrev pub invariant-loop-node : goal.invariant-loop-node
-invariant-loop-node l = noted l.orbit (drop l.node-index l.nodes) l.seen ≡ noted l.orbit l.nodes l.fn.seen

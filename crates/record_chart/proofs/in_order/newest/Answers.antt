@@ -1,8 +1,0 @@
-use Rattle.std.proofs.Common.{◌∙◌}
-use Rattle.record_chart.proofs.OfGroup.Readings.{newest_is}
-use Rattle.record_chart.proofs.in_order.newest.Goals as goal
-
-pub returns : goal.returns
-returns c =
-    c.last_version.ensures
-    ∙ newest_is c.args.records.now c.requires.order c.args.page c.pages_up_to.result c.pages_up_to.ensures.within c.pages_up_to.ensures.first

@@ -1,8 +1,0 @@
-use Rattle.record_chart.proofs.OfWalk.OneOrbit.{some_orbit, one_orbit}
-use Rattle.record_chart.proofs.theorems.one_orbit.Goals as goal
-
-pub returns : goal.returns
-returns c = record {
-  some = λ graph i is within. some_orbit graph i is within;
-  one = λ graph i orbit other is that. one_orbit graph i orbit other is that;
-}

@@ -1,6 +1,0 @@
-use Rattle.std.proofs.Common.{arith}
-use Rattle.record_chart.proofs.OfGroup.OneVersion.{one_version}
-use Rattle.record_chart.proofs.walks.have_one_version.Goals as goal
-
-pub returns : goal.returns
-returns c = λ _. one_version c.args.records.now c.requires (λ k low. let end = c.loop-at-test.false in c.loop-at.invariant k (omega arith))

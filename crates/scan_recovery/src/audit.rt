@@ -1,0 +1,228 @@
+//! Laws 3 to 7 of a list that keeps laws 1 and 2, by its records in order of their names. Laws 4 to 7 are tried
+//! of the records in that order, in which what is looked up for one lies near that for the next, and only where
+//! one is broken of them in the order of their slots.
+ghost use Rattle.std.specs.Prelude.{◌≡◌, ◌↔◌, true, IsTrue, All, IfOk, length};
+ghost use Rattle.tx_types.specs.declared.config.Protocol.TheVariants.{Bpcc};
+ghost use Rattle.record_list.specs.Records.{IsScanned};
+ghost use Rattle.record_list.specs.SoundList.{PagesExist, CopiesAgree, LinksDiffer, CurrentIsPresent, LinkHasCounted, LooseIsShown, IsFirstBreach};
+ghost use Rattle.record_list.specs.Search.{FindsFirst};
+ghost use Rattle.sorted_records.specs.SortedRecords.{Sorts};
+ghost use Rattle.scan_recovery.specs.Searches.{KnowsOrbits, KeepsLaws, KeepLaws};
+
+use crate::endings::{endless, is_ending};
+use crate::shared_links::lowest_shared_link;
+use record_list::{Breach, Found, breach_at};
+use sorted_records::{CurrentVersions, Orbits};
+use std::alloc::{AllocError, Global};
+use tx_types::{Link, Protocol};
+
+/// Where the last searches ended: for the place that a link names, and for the record that is responsible for those
+/// which link to a name.
+#[derive(Drop)]
+struct Near {
+    link: usize,
+    responsible: usize,
+}
+
+/// The first of laws 3 to 7 that is broken, and the slot that it names. The list keeps laws 1 and 2.
+pub fn first_breach(
+    alloc: Global,
+    standing: &CurrentVersions,
+    orbits: &Option<Orbits>,
+    list: &[Found],
+) -> Result<Option<Breach>, AllocError>
+    requires scanned { IsScanned list.now }
+    requires sorts { Sorts list.now standing.now.list }
+    requires pages { All (PagesExist standing.now.logical) list.now }
+    requires copies { All (CopiesAgree list.now) list.now }
+    requires orbits { KnowsOrbits standing.now orbits.now }
+    ensures { let s = standing.now in
+        IfOk result (IsFirstBreach s.protocol list.now s.logical) }
+{
+    if let Some(slot) = lowest_shared_link(alloc, standing.sorted_records(), list)? {
+        return Ok(Some(Breach { law: 3, slot }));
+    }
+    if keep_laws(standing, orbits, standing.sorted_records().records()) {
+        return Ok(None);
+    }
+    Ok(first_of_slots(standing, orbits, list))
+}
+
+/// The first of laws 4 to 7 that is broken, and the slot that it names. The list keeps laws 1 to 3.
+fn first_of_slots(
+    standing: &CurrentVersions,
+    orbits: &Option<Orbits>,
+    list: &[Found],
+) -> Option<Breach>
+    requires scanned { IsScanned list.now }
+    requires sorts { Sorts list.now standing.now.list }
+    requires pages { All (PagesExist standing.now.logical) list.now }
+    requires copies { All (CopiesAgree list.now) list.now }
+    requires links { All (LinksDiffer list.now) list.now }
+    requires orbits { KnowsOrbits standing.now orbits.now }
+    ensures { let s = standing.now in IsFirstBreach s.protocol list.now s.logical result }
+{
+    if let Some(at) = without_current(standing, list) {
+        return Some(breach_at(list, 4, at));
+    }
+    if let Some(at) = early_link(standing, list) {
+        return Some(breach_at(list, 5, at));
+    }
+    if let Some(at) = unshown(standing, list) {
+        return Some(breach_at(list, 6, at));
+    }
+    if let Some(at) = endless(standing, orbits, list) {
+        return Some(breach_at(list, 7, at));
+    }
+    None
+}
+
+/// Whether each of these records keeps laws 4 to 7.
+fn keep_laws(standing: &CurrentVersions, orbits: &Option<Orbits>, records: &[Found]) -> bool
+    requires { KnowsOrbits standing.now orbits.now }
+    ensures { result ≡ true → KeepLaws standing.now records.now }
+{
+    let mut near = Near {
+        link: 0,
+        responsible: 0,
+    };
+    for found in records {
+        if !keeps_laws(standing, orbits, found, &mut near) {
+            return false;
+        }
+    }
+    true
+}
+
+/// Whether a record keeps laws 4 to 7. What is searched for may well be near what was found for the one before.
+#[inline(always)]
+fn keeps_laws(
+    standing: &CurrentVersions,
+    orbits: &Option<Orbits>,
+    found: &Found,
+    near: &mut Near,
+) -> bool
+    requires { KnowsOrbits standing.now orbits.now }
+    ensures { result ≡ true → KeepsLaws standing.now found.now }
+{
+    if found.rec.version == standing.current(found.rec.page) {
+        return has_current(standing, found) && has_counted(standing, found);
+    }
+    keeps_laws_aside(standing, orbits, found, near)
+}
+
+/// Whether a record keeps laws 4 to 7 that is not current.
+fn keeps_laws_aside(
+    standing: &CurrentVersions,
+    orbits: &Option<Orbits>,
+    found: &Found,
+    near: &mut Near,
+) -> bool
+    requires { KnowsOrbits standing.now orbits.now }
+    ensures { result ≡ true → KeepsLaws standing.now found.now }
+{
+    has_current(standing, found)
+        && has_counted(standing, found)
+        && is_shown(standing, found, &mut near.responsible)
+        && is_ending(standing, orbits, found, &mut near.link)
+}
+
+/// The index of the first of these records that breaks law 4: where it is the newest of its page, the
+/// current version of its page is 0 or present.
+fn without_current(standing: &CurrentVersions, records: &[Found]) -> Option<usize>
+    ensures { let s = standing.now in
+        FindsFirst (CurrentIsPresent s.protocol s.list s.logical) records.now result }
+{
+    records
+        .iter()
+        .position(|found| !has_current(standing, found))
+}
+
+#[inline(always)]
+fn has_current(standing: &CurrentVersions, found: &Found) -> bool
+    ensures { let s = standing.now in
+        IsTrue result ↔ CurrentIsPresent s.protocol s.list s.logical found.now }
+{
+    found.rec.version == standing.current(found.rec.page) || has_other_current(standing, found)
+}
+
+/// Whether the current version of its page is 0 or present, where a record is the newest of that.
+fn has_other_current(standing: &CurrentVersions, found: &Found) -> bool
+    ensures { let s = standing.now in
+        IsTrue result ↔ CurrentIsPresent s.protocol s.list s.logical found.now }
+{
+    let page = found.rec.page;
+    let version = standing.current(page);
+    let chart = standing.sorted_records();
+    version == 0
+        || found.rec.version != chart.newest(page)
+        || chart.is_present(Link { page, version })
+}
+
+/// The index of the first of these records that breaks law 5: the link of a current record is not above
+/// the current version there, and under Back Pointer Cyclic Commit is not straddled.
+fn early_link(standing: &CurrentVersions, records: &[Found]) -> Option<usize>
+    ensures { let s = standing.now in
+        FindsFirst (LinkHasCounted s.protocol s.list s.logical) records.now result }
+{
+    records
+        .iter()
+        .position(|found| !has_counted(standing, found))
+}
+
+#[inline(always)]
+#[tactic(auto, unfolding(record_list::specs::SoundList::LinkHasCounted))]
+fn has_counted(standing: &CurrentVersions, found: &Found) -> bool
+    ensures { let s = standing.now in
+        IsTrue result ↔ LinkHasCounted s.protocol s.list s.logical found.now }
+{
+    let rec = found.rec;
+    let is_current = rec.version == standing.current(rec.page);
+    let is_counted = rec.next.version <= standing.current(rec.next.page);
+    match standing.protocol() {
+        Protocol::Scc => !is_current || is_counted,
+        Protocol::Bpcc => {
+            !is_current || is_counted && standing.sorted_records().straddling(rec.next) == 0
+        }
+    }
+}
+
+/// The index of the first of these records that breaks law 6, which speaks of Back Pointer Cyclic Commit
+/// alone: where it is loose, its back version is the current one of its page, its link is not to a current
+/// record, and where its link is below the current version there, a record is responsible for it.
+fn unshown(standing: &CurrentVersions, records: &[Found]) -> Option<usize>
+    ensures { let s = standing.now in
+        FindsFirst (LooseIsShown s.protocol s.list s.logical) records.now result }
+{
+    records
+        .iter()
+        .position(|found| !is_shown(standing, found, &mut 0))
+}
+
+#[inline(always)]
+#[tactic(auto, unfolding(record_list::specs::SoundList::LooseIsShown))]
+fn is_shown(standing: &CurrentVersions, found: &Found, near: &mut usize) -> bool
+    ensures { let s = standing.now in
+        IsTrue result ↔ LooseIsShown s.protocol s.list s.logical found.now }
+{
+    match standing.protocol() {
+        Protocol::Scc => true,
+        Protocol::Bpcc => is_shown_by_back(standing, found, near),
+    }
+}
+
+#[tactic(auto, unfolding(record_list::specs::SoundList::LooseIsShown))]
+fn is_shown_by_back(standing: &CurrentVersions, found: &Found, near: &mut usize) -> bool
+    requires { standing.now.protocol ≡ Bpcc }
+    ensures { IsTrue result ↔ LooseIsShown Bpcc standing.now.list standing.now.logical found.now }
+{
+    let rec = found.rec;
+    let current = standing.current(rec.page);
+    if rec.version <= current {
+        return true;
+    }
+    let linked = standing.current(rec.next.page);
+    rec.back == current
+        && rec.next.version != linked
+        && (rec.next.version > linked || standing.responsible_near(rec.next, near) != 0)
+}

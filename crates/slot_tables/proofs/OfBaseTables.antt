@@ -1,0 +1,4 @@
+pub mod Copying
+pub mod Held
+pub mod RefreshedAll
+pub mod Refreshing

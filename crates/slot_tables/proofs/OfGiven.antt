@@ -1,4 +1,0 @@
-pub mod Copying
-pub mod Held
-pub mod SettledAll
-pub mod Settling

@@ -1,9 +1,0 @@
-use Rattle.slot_tables.proofs.OfGiven.Settling.{waits_set}
-use Rattle.slot_tables.proofs.OfGiven.SettledAll.{as_tables, are_tables}
-use Rattle.slot_tables.proofs.filling.Filling.set_waits.Goals as goal
-
-pub invariant_of-self : goal.invariant_of-self
-invariant_of-self c =
-    let f = c.self.inside in
-    let after = waits_set (as_tables f) (are_tables f c.self.invariant) c.args.number c.args.to in
-    rw c.set.ensures (record { sized = after.sized; blanks = after.blanks; spare = c.self.invariant.spare })

@@ -1,8 +1,0 @@
-use Rattle.std.proofs.Common.{◌≡◌, ℕ, ◌<◌, ◌-◌, length, get_or}
-use Rattle.slot_tables.specs.Counts.{marked_in}
-use Rattle.slot_tables.proofs.needs.Needs.new.Given as goal
-
-abbrev pub invariant-loop-block : goal.invariant-loop-block
-invariant-loop-block l =
-    (length l.unneeded ≡ l.blocks)
-    × ((k : ℕ) → k < l.block → get_or l.unneeded k 0 ≡ l.needed.size - marked_in l.needed.marks l.needed.size k)

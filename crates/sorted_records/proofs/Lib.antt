@@ -1,0 +1,6 @@
+mod Common
+pub mod OfSort
+pub mod OfWalk
+pub mod OfGroup
+pub mod OfRecords
+pub mod OfCount

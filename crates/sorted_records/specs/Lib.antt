@@ -1,0 +1,10 @@
+pub mod Arrangement
+pub mod SortedRecords
+pub mod Inside
+pub mod InsideCurrentVersions
+pub mod Minima
+pub mod NameGraph
+pub mod Orbits
+pub mod Seen
+pub mod CurrentVersions
+pub mod Starts

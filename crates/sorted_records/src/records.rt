@@ -1,0 +1,398 @@
+ghost use Rattle.std.specs.Prelude.{◌≡◌, ◌<◌, ◌^◌, [], Some, position, filter, IfOk, IfSome, length, slice_index_or};
+ghost use Rattle.tx_types.specs.declared.config.Protocol.TheVariants.{Bpcc};
+ghost use Rattle.record_list.specs.Records.{greatest, name_of, record_at, has_name, is_present, newest, next_older};
+ghost use Rattle.record_list.specs.Verdict.{link_of, back_of, straddling, why};
+ghost use Rattle.record_list.specs.Current.{cur, responsible, straddling_upto};
+ghost use Rattle.sorted_records.specs.SortedRecords.{IsInOrder, Sorts, list_of, link_graph, IsOrbitOfNewest};
+ghost use Rattle.sorted_records.specs.Minima.{AreMinima};
+ghost use Rattle.sorted_records.specs.NameGraph.{name_graph};
+ghost use Rattle.sorted_records.specs.Orbits.{IsGraph, AreOrbits};
+ghost use Rattle.sorted_records.specs.Starts.{AreStarts};
+
+use crate::arrange::{is_in_order, sort_by_name};
+use crate::group::{straddling, straddling_up_to, straddling_up_to_bound};
+use crate::in_order::{
+    back_of, find, find_near, first_namesake, link_of, newest, next_older, with_name,
+};
+use crate::minima::minima_of_many;
+use crate::search::page_starts;
+use crate::walks::{orbits_of_newest, targets, why_from_orbit};
+use crate::{Orbit, Orbits};
+use record_list::{Found, Verdict, Why};
+use std::alloc::{AllocError, Global};
+use std::marker::Model;
+use tx_types::{Link, Protocol};
+
+/// Records in order of their names, by page and then by version, and where their links lead.
+#[derive(Drop)]
+pub struct SortedRecords {
+    records: Vec<Found>,
+    starts: Vec<u32>,
+    least: Option<Vec<u64>>,
+    targets: Vec<Option<u32>>,
+    orbits: Orbits,
+}
+
+/// A chart of a list, and the list where it is not in order: where it is, the chart has it.
+#[derive(Drop)]
+pub struct SortedWithList {
+    pub chart: SortedRecords,
+    pub list: Option<Vec<Found>>,
+}
+
+impl Model for SortedRecords {
+    ghost use Rattle.std.specs.Prelude.{List};
+    ghost use Rattle.record_list.specs.declared.found.Found.{Found};
+
+    ghost Value = { List Found };
+
+    ghost use Rattle.sorted_records.specs.Inside.{SortedRecordsInvariant};
+
+    ghost view = { λ c. c.records.items };
+
+    ghost invariant = { SortedRecordsInvariant };
+}
+
+/// Where the pages of records begin that are in order, and, under Back Pointer Cyclic Commit alone, the least back
+/// versions of many.
+fn starts_and_minima(
+    alloc: Global,
+    records: &[Found],
+    protocol: Protocol,
+) -> Result<(Vec<u32>, Option<Vec<u64>>), AllocError>
+    requires order { IsInOrder records.now }
+    requires few { length records.now < 2 ^ 32 }
+    ensures starts { IfOk result (λ r. AreStarts records.now r.0.items) }
+    ensures minima { IfOk result (λ r.
+        IfSome r.1 (λ least. AreMinima records.now [] least.items)) }
+{
+    let starts = page_starts(alloc, records)?;
+    let least = match protocol {
+        Protocol::Scc => None,
+        Protocol::Bpcc => minima_of_many(alloc, records, &starts, &[])?,
+    };
+    Ok((starts, least))
+}
+
+/// The places that the links of records name, and where the links lead.
+fn targets_and_orbits(
+    alloc: Global,
+    records: &[Found],
+    starts: &[u32],
+) -> Result<(Vec<Option<u32>>, Orbits), AllocError>
+    requires order { IsInOrder records.now }
+    requires starts { AreStarts records.now starts.now }
+    requires few { length records.now < 2 ^ 32 }
+    ensures targets { IfOk result (λ r. r.0.items ≡ name_graph records.now) }
+    ensures orbits { IfOk result (λ r. AreOrbits (link_graph records.now) r.1) }
+{
+    let targets = targets(alloc, records, starts)?;
+    let orbits = orbits_of_newest(alloc, records, starts, &targets)?;
+    Ok((targets, orbits))
+}
+
+impl SortedRecords {
+    /// Puts the records of a list in order, and finds where their links lead. Records of one name stay in
+    /// the order that they have. For more than `u32::MAX` of them there is no room.
+    pub fn of(alloc: Global, list: &[Found]) -> Result<SortedRecords, AllocError>
+        ensures { IfOk result (λ chart. Sorts list.now chart) }
+    {
+        SortedRecords::of_lent(alloc, list, Protocol::Bpcc)
+    }
+
+    /// The same of a list that is handed over: the chart keeps it where it is in order, and else it is given back.
+    /// Straddlers are quick to find under Back Pointer Cyclic Commit alone, which asks for them.
+    pub fn of_own(
+        alloc: Global,
+        list: Vec<Found>,
+        protocol: Protocol,
+    ) -> Result<SortedWithList, AllocError>
+        ensures sorts { IfOk result (λ charted. Sorts list.items charted.chart) }
+        ensures list { IfOk result (λ charted. list_of charted.list charted.chart ≡ list.items) }
+    {
+        if list.len() <= u32::MAX as usize && is_in_order(&list) {
+            return Ok(SortedWithList {
+                chart: SortedRecords::of_ordered(alloc, list, protocol)?,
+                list: None,
+            });
+        }
+        Ok(SortedWithList {
+            chart: SortedRecords::of_lent(alloc, &list, protocol)?,
+            list: Some(list),
+        })
+    }
+
+    /// Puts the records of a list in order, and finds where their links lead, and what this protocol asks for.
+    fn of_lent(
+        alloc: Global,
+        list: &[Found],
+        protocol: Protocol,
+    ) -> Result<SortedRecords, AllocError>
+        ensures { IfOk result (λ chart. Sorts list.now chart) }
+    {
+        if list.len() > u32::MAX as usize {
+            return Err(AllocError);
+        }
+        let records = sort_by_name(alloc, list)?;
+        SortedRecords::of_ordered(alloc, records, protocol)
+    }
+
+    /// Finds where the links of records lead that are in order, and, under Back Pointer Cyclic Commit alone,
+    /// which asks for straddlers, the least back versions of many.
+    fn of_ordered(
+        alloc: Global,
+        records: Vec<Found>,
+        protocol: Protocol,
+    ) -> Result<SortedRecords, AllocError>
+        requires order { IsInOrder records.items }
+        requires few { length records.items < 2 ^ 32 }
+        ensures { IfOk result (λ chart. chart ≡ records.items) }
+    {
+        let (starts, least) = starts_and_minima(alloc, &records, protocol)?;
+        let (targets, orbits) = targets_and_orbits(alloc, &records, &starts)?;
+        Ok(SortedRecords {
+            records,
+            starts,
+            least,
+            targets,
+            orbits,
+        })
+    }
+
+    /// The list of which the chart was made: that which was given back, if one was.
+    pub fn list_of<'a>(&'a self, list: &'a Option<Vec<Found>>) -> &'a [Found]
+        ensures { result.now ≡ list_of list.now self.now }
+    {
+        match list {
+            Some(list) => list.as_slice(),
+            None => self.records(),
+        }
+    }
+
+    /// The records, in order.
+    #[inline]
+    pub fn records(&self) -> &[Found]
+        ensures records { result.now ≡ self.now }
+        ensures order { IsInOrder result.now }
+        ensures few { length result.now < 2 ^ 32 }
+    {
+        self.records.as_slice()
+    }
+
+    /// For each record the place of the first record that its link names.
+    #[inline]
+    pub fn targets(&self) -> &[Option<u32>]
+        ensures targets { result.now ≡ name_graph self.now }
+        ensures graph { IsGraph result.now }
+        ensures few { length result.now < 2 ^ 32 }
+    {
+        self.targets.as_slice()
+    }
+
+    /// The place of the first record with this name.
+    #[inline]
+    pub fn find(&self, name: Link) -> Option<u32>
+        ensures { result ≡ position (λ f. has_name name f.rec) self.now }
+    {
+        find(&self.records, &self.starts, name)
+    }
+
+    /// The same, where a search may well end beside the place at which the last one ended.
+    #[inline]
+    pub fn find_near(&self, name: Link, near: &mut usize) -> Option<u32>
+        ensures { result ≡ position (λ f. has_name name f.rec) self.now }
+    {
+        find_near(&self.records, &self.starts, name, near)
+    }
+
+    /// The place of the first record that has the name of the one at this place.
+    #[inline]
+    pub fn first_namesake(&self, at: u32) -> u32
+        requires { at < length self.now }
+        ensures { position (λ f. has_name (name_of (record_at self.now at)) f.rec) self.now
+            ≡ Some result }
+    {
+        first_namesake(&self.records, &self.starts, at)
+    }
+
+    /// The records with this name.
+    pub fn with_name(&self, name: Link) -> &[Found]
+        ensures { result.now ≡ filter (λ f. has_name name f.rec) self.now }
+    {
+        with_name(&self.records, &self.starts, name)
+    }
+
+    /// Whether some record has this name.
+    #[inline]
+    pub fn is_present(&self, name: Link) -> bool
+        ensures { result ≡ is_present self.now name }
+    {
+        self.find(name).is_some()
+    }
+
+    /// The greatest version of a page, 0 for none.
+    #[inline]
+    pub fn newest(&self, page: u32) -> u64
+        ensures { result ≡ newest self.now page }
+    {
+        newest(&self.records, &self.starts, page)
+    }
+
+    /// The greatest version of a page below a version, 0 for none.
+    pub fn next_older(&self, page: u32, below: u64) -> u64
+        ensures { result ≡ next_older self.now page below }
+    {
+        next_older(&self.records, &self.starts, page, below)
+    }
+
+    /// The greatest version of a record that straddles this name, 0 for none.
+    #[inline(always)]
+    pub fn straddling(&self, name: Link) -> u64
+        ensures { result ≡ straddling self.now name }
+    {
+        straddling(&self.records, &self.starts, &self.least, name, &mut 0)
+    }
+
+    /// The link of the first record with this name, and the name itself where no record has it.
+    pub fn link_of(&self, name: Link) -> Link
+        ensures { result ≡ link_of self.now name }
+    {
+        link_of(&self.records, &self.starts, name)
+    }
+
+    /// The back version of the first record with this name, 0 where no record has it.
+    pub fn back_of(&self, name: Link) -> u64
+        ensures { result ≡ back_of self.now name }
+    {
+        back_of(&self.records, &self.starts, name)
+    }
+
+    /// Where the links of newest records lead from that of a page; nothing where the page has no record.
+    pub fn orbit(&self, page: u32) -> Option<Orbit>
+        ensures { IsOrbitOfNewest self.now page result }
+    {
+        self.orbit_of_newest(page, self.newest(page))
+    }
+
+    /// Where the links of newest records lead from that of a page, of which this is the newest version.
+    #[inline(always)]
+    fn orbit_of_newest(&self, page: u32, version: u64) -> Option<Orbit>
+        requires { version ≡ newest self.now page }
+        ensures { IsOrbitOfNewest self.now page result }
+    {
+        let place = self.find(Link { page, version })?;
+        Some(self.orbits.orbit(place))
+    }
+
+    /// What decides the verdict on the newest record of a page: where the walk from it ends.
+    pub fn why(&self, protocol: Protocol, logical: u32, page: u32) -> Why
+        ensures { result ≡ why protocol self.now logical page }
+    {
+        self.why_of_newest(protocol, logical, page, self.newest(page), &mut 0)
+    }
+
+    /// What decides the verdict on the newest record of a page, of which this is the version.
+    #[inline(always)]
+    fn why_of_newest(
+        &self,
+        protocol: Protocol,
+        logical: u32,
+        page: u32,
+        version: u64,
+        near: &mut usize,
+    ) -> Why
+        requires { version ≡ newest self.now page }
+        ensures { result ≡ why protocol self.now logical page }
+    {
+        match self.orbit_of_newest(page, version) {
+            Some(orbit) => why_from_orbit(
+                protocol,
+                &self.records,
+                &self.starts,
+                &self.least,
+                logical,
+                orbit,
+                near,
+            ),
+            None => Why::Cycle,
+        }
+    }
+
+    /// The current version of a page, 0 for none.
+    #[inline(always)]
+    pub fn current(&self, protocol: Protocol, logical: u32, page: u32) -> u64
+        ensures { result ≡ cur protocol self.now logical page }
+    {
+        self.current_near(protocol, logical, page, &mut 0)
+    }
+
+    /// The same, where the search for a straddler may well end beside the place at which the last one ended.
+    #[inline(always)]
+    pub(crate) fn current_near(
+        &self,
+        protocol: Protocol,
+        logical: u32,
+        page: u32,
+        near: &mut usize,
+    ) -> u64
+        ensures { result ≡ cur protocol self.now logical page }
+    {
+        let version = self.newest(page);
+        match self
+            .why_of_newest(protocol, logical, page, version, near)
+            .verdict()
+        {
+            Verdict::Committed => version,
+            Verdict::Uncommitted => match protocol {
+                Protocol::Scc => self.next_older(page, version),
+                Protocol::Bpcc => self.back_of(Link { page, version }),
+            },
+        }
+    }
+
+    /// The greatest version, up to `top`, of a record that straddles this name, 0 for none.
+    pub fn straddling_up_to(&self, name: Link, top: u64) -> u64
+        ensures { result ≡ greatest (straddling_upto top name) self.now }
+    {
+        straddling_up_to(&self.records, &self.starts, name, top)
+    }
+
+    /// The least back versions of the records up to these versions of their pages, if some page has many
+    /// records.
+    pub(crate) fn minima_up_to(
+        &self,
+        alloc: Global,
+        tops: &[u64],
+    ) -> Result<Option<Vec<u64>>, AllocError>
+        ensures { IfOk result (λ r. IfSome r (λ least. AreMinima self.now tops.now least.items)) }
+    {
+        minima_of_many(alloc, &self.records, &self.starts, tops)
+    }
+
+    /// The greatest version, up to the bound of its page, of a record that straddles this name, 0 for none,
+    /// by the least back versions of the records up to their bounds, where they are noted. The search may
+    /// well end beside the place at which the last one ended.
+    pub(crate) fn straddling_up_to_bound(
+        &self,
+        tops: &[u64],
+        least: &Option<Vec<u64>>,
+        name: Link,
+        near: &mut usize,
+    ) -> u64
+        requires minima { IfSome least.now (λ m. AreMinima self.now tops.now m.items) }
+        requires bound { name.page < length tops.now }
+        ensures { result
+            ≡ greatest (straddling_upto (slice_index_or tops.now name.page 0) name) self.now }
+    {
+        straddling_up_to_bound(&self.records, &self.starts, tops, least, name, near)
+    }
+
+    /// Under Back Pointer Cyclic Commit the version of the record that is responsible for the loose
+    /// records which link to this name, 0 for none.
+    pub fn responsible(&self, logical: u32, name: Link) -> u64
+        ensures { result ≡ responsible Bpcc self.now logical name }
+    {
+        let top = self.current(Protocol::Bpcc, logical, name.page);
+        self.straddling_up_to(name, top)
+    }
+}

@@ -1,7 +1,0 @@
-use Rattle.std.proofs.Common.{◌≡◌, length, drop}
-use Rattle.tx_engine.specs.PendingPages.{with_owner}
-use Rattle.tx_engine.proofs.pending.set_owner.Given as goal
-
-abbrev pub invariant-loop-p : goal.invariant-loop-p
-invariant-loop-p l =
-    (with_owner l.owners l.owner (drop l.p-index l.pages) ≡ with_owner l.initial.owners l.owner l.pages) × (length l.owners ≡ length l.initial.owners)

@@ -1,7 +1,0 @@
-use Rattle.std.proofs.Common.{◌≡◌, drop}
-use Rattle.tx_engine.specs.Naming.{is_spent}
-use Rattle.tx_engine.specs.Submit.{spent_page}
-use Rattle.tx_engine.proofs.store.Store.spent.Given as goal
-
-abbrev pub invariant-loop-at : goal.invariant-loop-at
-invariant-loop-at g l = spent_page (is_spent l.self.noted.mentions) l.batch.entries ≡ spent_page (is_spent l.self.noted.mentions) (drop l.at l.batch.entries)

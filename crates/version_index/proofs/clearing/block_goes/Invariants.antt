@@ -1,7 +1,0 @@
--- No slot of the block before this one holds a record that goes.
-use Rattle.std.proofs.Common.{ℕ, ◌<◌, ◌≤◌}
-use Rattle.version_index.specs.Going.{SlotGoes}
-use Rattle.version_index.proofs.clearing.block_goes.Given as goal
-
-abbrev pub invariant-loop-at : goal.invariant-loop-at
-invariant-loop-at l = (s : ℕ) → l.first ≤ s → s < l.at → SlotGoes l.tables l.page l.below s → ⊥

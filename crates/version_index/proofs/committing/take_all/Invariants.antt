@@ -1,5 +1,0 @@
-use Rattle.version_index.proofs.OfCommit.KeptRounds.{IsTakingRound}
-use Rattle.version_index.proofs.committing.take_all.Given as goal
-
-abbrev pub invariant-loop : goal.invariant-loop
-invariant-loop l = IsTakingRound l.initial.tables l.tables l.start l.link l.counter

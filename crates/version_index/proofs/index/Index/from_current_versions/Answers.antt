@@ -1,0 +1,100 @@
+mod ScanDerived
+mod ScanFills
+mod ScanSizes
+use Rattle.version_index.proofs.Common.{◌≡◌, ◌≤◌, ◌-◌, ◌*◌, length, ap, sym, subst, refl, ◌∙◌, arith, length-map, shape_of, slots_of, blocks_of, Sorts, TablesState, AreFilled, noted_by, AreIndexed, range_with_len}
+use Rattle.std.specs.Result.{result_unwrap_or}
+use Rattle.std.proofs.Math.Nat.{mul-le-mul_right}
+use Rattle.std.proofs.lemmas.List.Sorted.{length_permutation}
+use Rattle.tx_types.specs.Config.{IsShape}
+use Rattle.version_index.specs.IndexState.{IsNotedFrom}
+use Rattle.version_index.proofs.OfChanges.Mentions.{mentions_sorted}
+use Rattle.version_index.proofs.OfChanges.NotedChanges.{fresh_noted}
+use Rattle.version_index.proofs.index.Index.from_current_versions.Answers.ScanFills.{can_fill}
+use Rattle.version_index.proofs.index.Index.from_current_versions.Answers.ScanDerived.{filled_indexed}
+use Rattle.version_index.proofs.index.Index.from_current_versions.Answers.ScanSizes.{complete_length, sorted_exist}
+use Rattle.version_index.proofs.index.Index.from_current_versions.Goals as goal
+
+pub build_tables-requires-clause-few : goal.build_tables-requires-clause-few
+build_tables-requires-clause-few g c =
+    let same : c.in-Ok.shape ≡ shape_of c.args.config =
+    ap (λ r. result_unwrap_or r (shape_of c.args.config)) (sym c.in-Ok.is ∙ c.check.ensures.exact ∙ c.requires.check) in
+    let slots = ap slots_of same in
+    let long = length_permutation c.requires.scan.0 c.args.standing.now.list c.requires.scan.1.sorts.records in
+    let some = sym (length-map c.requires.scan.0 (λ f. f.slot.0)) ∙ ap length c.requires.scan.1.complete in
+    let few = complete_length c.args.seen.now in
+    let seen = c.requires.scan.1.reads in
+    omega arith
+
+pub invariant_of-result : goal.invariant_of-result
+invariant_of-result g c =
+    let t : TablesState = c.in_ok-filling.filling in
+    let its = c.args.config in
+    let m = c.in_ok-mentions.mentions.items in
+    let same : c.in-Ok.shape ≡ shape_of its =
+    ap (λ r. result_unwrap_or r (shape_of its)) (sym c.in-Ok.is ∙ c.check.ensures.exact ∙ c.requires.check) in
+    let can = can_fill g.R.CommitRule.protocol its c.in-Ok.shape c.args.seen.now c.requires.scan.0 c.args.standing.now same c.requires.scan.1 in
+    let found = c.in_ok-filling.ensures.found c.requires.scan.0 can in
+    let filled = subst (λ p. AreFilled p c.args.standing.now.list (shape_of its) its.logical t) c.requires.protocol
+    (subst (λ s. AreFilled c.args.standing.now.protocol c.args.standing.now.list s its.logical t) same c.in_ok-filling.ensures.filled) in
+    let noted = fresh_noted _ its c.args.seen.now c.requires.scan.0 (noted_by its m t) c.requires.check c.in-Ok.ensures.bounds c.requires.rule
+    c.requires.scan.1.reads c.requires.scan.1.slots c.requires.scan.1.sound (record {
+      config = refl;
+      reads = c.in_ok-filling.ensures.reads;
+      found = found;
+      pins = filled.pins;
+      spare = filled.spare;
+      mentions = c.in_ok-mentions.ensures
+          ∙ mentions_sorted c.requires.scan.0 c.args.standing.now.list c.records.result.now c.requires.scan.1.sorts (c.records.ensures.records ∙
+          c.sorted_records.ensures) (range_with_len 0 its.logical);
+    }) in
+    subst (λ (k : TablesState). AreIndexed g.R.CommitRule.protocol its m k) (sym c.in_ok-tables.ensures)
+    (filled_indexed _ its m t c.args.standing.now.list noted (subst (λ l. Sorts l c.args.standing.now.list) (sym found) c.requires.scan.1.sorts) filled)
+
+pub returns : goal.returns
+returns g c own scan =
+    let its = c.args.config in
+    let m = c.in_ok-mentions.mentions.items in
+    let same : c.in-Ok.shape ≡ shape_of its =
+    ap (λ r. result_unwrap_or r (shape_of its)) (sym c.in-Ok.is ∙ c.check.ensures.exact ∙ c.requires.check) in
+    let can = can_fill g.R.CommitRule.protocol its c.in-Ok.shape c.args.seen.now own c.args.standing.now same scan in
+    let filled = c.in_ok-filling.ensures.filled in
+    subst (λ (k : TablesState). IsNotedFrom its c.args.seen.now own (noted_by its m k)) (sym c.in_ok-tables.ensures) (record {
+      config = refl;
+      reads = c.in_ok-filling.ensures.reads;
+      found = c.in_ok-filling.ensures.found own can;
+      pins = filled.pins;
+      spare = filled.spare;
+      mentions = c.in_ok-mentions.ensures
+          ∙ mentions_sorted own c.args.standing.now.list c.records.result.now scan.sorts (c.records.ensures.records ∙
+          c.sorted_records.ensures) (range_with_len 0 its.logical);
+    })
+
+pub build_tables-requires-clause-pages : goal.build_tables-requires-clause-pages
+build_tables-requires-clause-pages g c =
+    let its = c.args.config in
+    let same : c.in-Ok.shape ≡ shape_of its =
+    ap (λ r. result_unwrap_or r (shape_of its)) (sym c.in-Ok.is ∙ c.check.ensures.exact ∙ c.requires.check) in
+    let blocks = blocks_of (shape_of its) in
+    let less : blocks - 1 ≤ blocks = omega arith in
+    let most : (blocks - 1) * its.pages_per_block ≤ blocks * its.pages_per_block = mul-le-mul_right its.pages_per_block less in
+    let space = c.in-Ok.ensures.bounds.space in
+    subst (λ s. its.logical ≤ slots_of s) (sym same) (omega arith)
+
+pub build_tables-requires-clause-exist : goal.build_tables-requires-clause-exist
+build_tables-requires-clause-exist g c =
+    sorted_exist _ c.requires.scan.0 c.args.standing.now.list c.args.config.logical c.requires.scan.1.sound c.requires.scan.1.slots c.requires.scan.1.sorts
+
+pub build_tables-requires-clause-shape : goal.build_tables-requires-clause-shape
+build_tables-requires-clause-shape g c =
+    let same : c.in-Ok.shape ≡ shape_of c.args.config =
+    ap (λ r. result_unwrap_or r (shape_of c.args.config)) (sym c.in-Ok.is ∙ c.check.ensures.exact ∙ c.requires.check) in
+    subst IsShape (sym same) c.in-Ok.ensures.bounds.shape
+
+pub build_tables-requires-clause-fills : goal.build_tables-requires-clause-fills
+build_tables-requires-clause-fills g c =
+    let its = c.args.config in
+    let same : c.in-Ok.shape ≡ shape_of its =
+    ap (λ r. result_unwrap_or r (shape_of its)) (sym c.in-Ok.is ∙ c.check.ensures.exact ∙ c.requires.check) in (
+      c.requires.scan.0,
+      can_fill g.R.CommitRule.protocol its c.in-Ok.shape c.args.seen.now c.requires.scan.0 c.args.standing.now same c.requires.scan.1,
+    )

@@ -1,0 +1,36 @@
+mod Pictures
+use Rattle.std.proofs.Common.{◌++◌, ap}
+use Rattle.tx_types.specs.Config.{shape_of}
+use Rattle.version_index.specs.Images.{records_in}
+use Rattle.version_index.specs.Notes.{notes_of}
+use Rattle.version_index.proofs.OfLaws.NotedImages.{found_in_notes}
+use Rattle.flash_picture.specs.Map.{map_text}
+use Rattle.flash_picture.specs.Picture.{breach_line, cells_of, heading, picture}
+use Rattle.flash_picture.specs.Walks.{walks_text}
+use Rattle.flash_picture.proofs.WalkTells.{walk_says, walk_tells}
+use Rattle.view_command_line.proofs.theorems.pictures_tell.Answers.Pictures.{bare_tells, breach_tells, rows_tell, slots_tell}
+use Rattle.view_command_line.proofs.theorems.pictures_tell.Goals as goal
+
+pub returns-clause-rows : goal.returns-clause-rows
+returns-clause-rows c = rows_tell
+
+pub returns-clause-unsound : goal.returns-clause-unsound
+returns-clause-unsound c = breach_tells
+
+pub returns-clause-cells : goal.returns-clause-cells
+returns-clause-cells c = slots_tell
+
+pub returns-clause-bare : goal.returns-clause-bare
+returns-clause-bare c = bare_tells
+
+pub returns-clause-walks : goal.returns-clause-walks
+returns-clause-walks c = λ its image page. walk_tells its.protocol (records_in its.protocol image) its.logical page
+
+pub returns-clause-lines : goal.returns-clause-lines
+returns-clause-lines c = λ its image page. walk_says its.protocol (records_in its.protocol image) its.logical page
+
+pub returns-clause-text : goal.returns-clause-text
+unfolding picture
+returns-clause-text c = λ its image marks.
+    ap (λ list. heading its ++ map_text (shape_of its) (cells_of its (notes_of its.protocol image)) marks ++ walks_text its.protocol list its.logical
+    ++ breach_line marks.breach) (found_in_notes its.protocol image)

@@ -1,0 +1,73 @@
+//! What holds of all pictures that the program says. The functions do nothing: each is there for what
+//! it ensures.
+ghost use Rattle.std.specs.Prelude.{◌≡◌, ◌++◌, ◌<◌, ℕ, List, Option};
+ghost use Rattle.tx_types.specs.Config.{blocks_of, shape_of, slots_of};
+ghost use Rattle.tx_types.specs.declared.config.Config.{Config};
+ghost use Rattle.tx_types.specs.declared.record.Rec.{Rec};
+ghost use Rattle.flash_model.specs.Flash.{Contents};
+ghost use Rattle.record_list.specs.declared.found.Breach.{Breach};
+ghost use Rattle.version_index.specs.Images.{IsLeastImageBreach, IsSoundImage, records_in};
+ghost use Rattle.version_index.specs.Notes.{notes_of};
+ghost use Rattle.desk_io.specs.Desk.{DeskState};
+ghost use Rattle.flash_picture.specs.declared.marks.Marks.{Marks};
+ghost use Rattle.flash_picture.specs.Map.{map_text};
+ghost use Rattle.flash_picture.specs.Laws.{ArrowTells, SvgCellTells, SvgLabelTells, SvgWalkTells, WalkSays, WalkTells};
+ghost use Rattle.flash_picture.specs.Picture.{breach_line, cells_of, heading};
+ghost use Rattle.flash_picture.specs.Svg.{svg};
+ghost use Rattle.flash_picture.specs.Walks.{walks_text};
+ghost use Rattle.view_command_line.specs.Request.{Request};
+ghost use Rattle.view_command_line.specs.Ending.{Drawn, IsEnding, said};
+ghost use Rattle.view_command_line.specs.Laws.{BareSlotTells, BreachTells, HoldsRecord, RowsTell, SlotTells};
+ghost use Rattle.view_command_line.specs.declared.words.Form.{Form};
+ghost use Rattle.view_command_line.specs.declared.words.Form.TheVariants.{Text, Svg};
+
+/// Where a sound image is drawn, the row of a block begins with `spare` exactly where an opening makes the block
+/// the spare, which is so of one block, and no slot has a `!`. Where one is drawn that is not sound, no row begins
+/// with `spare`, and the one slot with a `!` is that which the first broken law names. The cell of a slot with a
+/// record says what the record is among those of the image, and that of any other slot `blank` or `damaged`. A walk
+/// is drawn for each page whose newest version does not count, over the links of the walk that decides this, and it
+/// ends in the words for what its last link shows. What is said as text is the map of these rows and cells, behind a
+/// heading, then the walks, and the law that is broken.
+pub fn pictures_tell()
+    ensures rows { (task : Option Request) (desk : DeskState)
+        (form : Form) (its : Config) (image : List Contents) (marks : Marks) →
+        IsEnding task desk (Drawn form its image marks) →
+        IsSoundImage its.protocol its.logical (shape_of its) image →
+        RowsTell its image marks }
+    ensures unsound { (task : Option Request) (desk : DeskState)
+        (form : Form) (its : Config) (image : List Contents) (marks : Marks) (breach : Breach) →
+        IsEnding task desk (Drawn form its image marks) →
+        IsLeastImageBreach its.protocol its.logical (shape_of its) image breach →
+        BreachTells its image marks breach }
+    ensures cells { (its : Config) (image : List Contents) (slot : ℕ) (r : Rec) →
+        HoldsRecord its image slot r → SlotTells its image slot r }
+    ensures bare { (its : Config) (image : List Contents) (slot : ℕ) →
+        BareSlotTells its image slot }
+    ensures walks { (its : Config) (image : List Contents) (page : ℕ) →
+        WalkTells its.protocol (records_in its.protocol image) its.logical page }
+    ensures lines { (its : Config) (image : List Contents) (page : ℕ) →
+        WalkSays its.protocol (records_in its.protocol image) its.logical page }
+    ensures text { (its : Config) (image : List Contents) (marks : Marks) →
+        let cells = cells_of its (notes_of its.protocol image) in
+        said (Drawn Text its image marks) ≡ heading its ++ map_text (shape_of its) cells marks
+        ++ walks_text its.protocol (records_in its.protocol image) its.logical ++ breach_line marks.breach }
+{}
+
+/// What is said in SVG has a cell for each slot, a label for each block and lines for each walk. Their words are those
+/// of the cells, rows and walks of which `pictures_tell` speaks. An arrow leads from the cell of a record to that of
+/// the lowest slot which holds the record of its link, and there is no other arrow.
+pub fn svgs_tell()
+    ensures text { (its : Config) (image : List Contents) (marks : Marks) →
+        said (Drawn Svg its image marks) ≡ svg its (notes_of its.protocol image) marks }
+    ensures cells { (its : Config) (image : List Contents) (marks : Marks) (slot : ℕ) →
+        slot < slots_of (shape_of its) →
+        SvgCellTells its (notes_of its.protocol image) marks slot }
+    ensures labels { (its : Config) (image : List Contents) (marks : Marks) (block : ℕ) →
+        block < blocks_of (shape_of its) →
+        SvgLabelTells its (notes_of its.protocol image) marks block }
+    ensures walks { (its : Config) (image : List Contents) (marks : Marks) (page : ℕ) →
+        page < its.logical → SvgWalkTells its (notes_of its.protocol image) marks page }
+    ensures arrows { (its : Config) (image : List Contents) (marks : Marks) (slot : ℕ) →
+        slot < slots_of (shape_of its) →
+        ArrowTells its (notes_of its.protocol image) marks slot }
+{}
