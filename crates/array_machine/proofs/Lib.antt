@@ -1,15 +1,3 @@
 mod Common
 pub mod Accepting
 pub mod UnbrokenCalls
-pub mod Finishes
-pub mod Cases
-pub mod Taking
-pub mod Apart
-pub mod Each
-pub mod Changes
-pub mod Atomic
-pub mod Closed
-pub mod Unbroken
-pub mod Quiet
-pub mod Clinging
-pub mod AbortLaws

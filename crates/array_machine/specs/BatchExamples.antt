@@ -1,5 +1,5 @@
 -- A few transactions that go on at once, and what the definitions say of them.
-use Rattle.std.specs.Prelude.{◌≡◌, ℕ, false, List, [], ◌∷◌, None, Some}
+use Rattle.std.specs.Prelude.{◌≡◌, ℕ, false, [], ◌∷◌, None, Some}
 use Rattle.tx_types.specs.Batch.{PageWrite}
 use Rattle.array_machine.specs.ArrayState.{ArrayState, Entry, Pages, idle, new_entry, put}
 use Rattle.array_machine.specs.Batches.{MayTakeEach, StepsAllAs}

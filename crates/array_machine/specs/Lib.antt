@@ -6,7 +6,3 @@ pub mod Batches
 pub mod BatchExamples
 pub mod Collect
 pub mod UnbrokenCalls
-pub mod Run
-pub mod Promises
-pub mod Breaks
-pub mod Unbroken

@@ -1,5 +1,6 @@
 //! The array machine: pages, and transactions that change all their pages at once. It is what the product promises to a
-//! host, and knows nothing of a flash. Its definitions stand in `specs/`, and what holds of all its runs in `laws`.
+//! host, and knows nothing of a flash or of the texts of commands. Its definitions stand in `specs/`, and what holds of
+//! its calls in `theorems`.
 #![tactic(auto)]
 
 mod answers;

@@ -7,19 +7,19 @@ use Rattle.tx_types.specs.Config.{shape_of}
 use Rattle.flash_model.specs.Flash.{Contents}
 use Rattle.flash_model.specs.Operations.{Moment}
 use Rattle.version_index.specs.Images.{IsSoundImage, array_in}
-use Rattle.tx_engine.specs.ArrayState.{ArrayState, Entry, Pages, idle}
+use Rattle.array_machine.specs.ArrayState.{ArrayState, Entry, Pages, idle, Represents}
 use Rattle.array_machine.specs.declared.mark.Mark.TheVariants.{Plain}
-use Rattle.tx_engine.specs.Exits.{Represents}
 use Rattle.tx_engine.specs.DeviceState.{limits_of}
-use Rattle.tx_engine.specs.Unbroken.{AllPlain}
+use Rattle.array_machine.specs.UnbrokenCalls.{AllPlain}
 use Rattle.host_protocol.specs.declared.command.Command.{Command}
 use Rattle.host_protocol.specs.declared.reply.Reply.{Reply}
-use Rattle.cut_replay.specs.Bounds.{AreFew}
-use Rattle.cut_replay.specs.FlashRun.{Point, FlashRun, IsFlashRun, IsPoint, is_fault, mentions_in, last_moment, last_state, first_point, first_state}
-use Rattle.cut_replay.specs.Run.{is_arm, seen_after}
-use Rattle.cut_replay.specs.Unbroken.{Handed, UnbrokenRun, AreMaybeSpent, FinishesAreDone}
-use Rattle.cut_replay.proofs.Quiet.{flash_run_is_run, none_broken, finishes_done}
-use Rattle.cut_replay.proofs.Unbroken.{run_fine}
+use Rattle.array_runs.specs.Breaks.{AreFew, is_fault}
+use Rattle.cut_replay.specs.FlashRun.{Point, FlashRun, IsFlashRun, IsPoint, mentions_in, last_moment, last_state, first_point, first_state}
+use Rattle.array_runs.specs.Run.{is_arm, seen_after}
+use Rattle.array_runs.specs.Unbroken.{Handed, UnbrokenRun, AreMaybeSpent, FinishesAreDone}
+use Rattle.cut_replay.proofs.Quiet.{flash_run_is_run}
+use Rattle.array_runs.proofs.Quiet.{none_broken, finishes_done}
+use Rattle.array_runs.proofs.Unbroken.{run_fine}
 use Rattle.desk_tasks.specs.Runs.{IsRun, first_moment, machine_left}
 
 -- ---- runs in which nothing is armed

@@ -2,12 +2,14 @@
 pub use Rattle.std.proofs.Common.{◌≡◌, ◌⊎◌, ℕ, ◌≤◌, Bool, true, false, ◌||◌, List, Option, Some, None, Ok, refl, sym, ap, ◌∙◌, subst, inr, arith, inl, [], Result, Err, ◌<◌, cond, ◌∷◌, ◌+◌, ◌++◌, length, take}
 pub use Rattle.std.proofs.lemmas.Bool.{cases_Bool}
 pub use Rattle.std.specs.Prelude.{MatchBool, IfSome, IfOk, OnOk, count_by}
+pub use Rattle.array_machine.specs.ArrayState.{ArrayState, page_at, idle}
+pub use Rattle.array_runs.specs.Breaks.{is_lost, is_fault}
+pub use Rattle.array_runs.specs.Run.{is_arm, seen_after, DoesCommand, is_break, CutLeavesOf, LosesOpen, MayLose, NotDone}
 pub use Rattle.cut_replay.specs.Beginning.{Begins}
-pub use Rattle.cut_replay.specs.Bounds.{IsSet, CountsBreaks, is_lost, CountsBreak}
-pub use Rattle.cut_replay.specs.FlashRun.{Point, IsPoint, ServesFlash, first_point, mentions_in, Tells, is_fault, MovesBy, IsDone, last_state, FlashRun}
+pub use Rattle.cut_replay.specs.Bounds.{IsSet, CountsBreaks, CountsBreak}
+pub use Rattle.cut_replay.specs.FlashRun.{Point, IsPoint, ServesFlash, first_point, mentions_in, Tells, MovesBy, IsDone, last_state, FlashRun}
 pub use Rattle.cut_replay.specs.Mounted.{point_at, IsCachedAs, IsCached, ServesHere, MomentStays}
 pub use Rattle.cut_replay.specs.MountedAgain.{MountsAfter}
-pub use Rattle.cut_replay.specs.Run.{is_arm, seen_after, DoesCommand, is_break, CutLeavesOf, LosesOpen, MayLose, NotDone}
 pub use Rattle.cut_replay.specs.Served.{Watched, ServesUnsound}
 pub use Rattle.cut_replay.specs.Sessions.{flash_in, point_of, Fits, StandsAt, StandsMounted, IsSpentBy, ServesSession, CachesSession, Serves, IsSoundFlash, IsSoundOrSame, Mounted, Unmounted, ServesIn, EndsServing, MountsIn}
 pub use Rattle.cut_replay.specs.Watching.{Grew}
@@ -22,7 +24,6 @@ pub use Rattle.host_protocol.specs.declared.reply.Reply.{Reply}
 pub use Rattle.page_cache.specs.PageCacheState.{CachedPage, PageCacheState}
 pub use Rattle.record_list.specs.Records.{mention}
 pub use Rattle.tx_engine.specs.Always.{HoldsAlways, IsSeen}
-pub use Rattle.tx_engine.specs.ArrayState.{ArrayState, page_at, idle}
 pub use Rattle.tx_engine.specs.DeviceState.{DeviceState, limits_of}
 pub use Rattle.tx_engine.specs.Naming.{is_spent}
 pub use Rattle.tx_types.specs.Config.{shape_of, checked}

@@ -4,10 +4,10 @@ use Rattle.std.proofs.lemmas.List.Elements.{All-weaker}
 use Rattle.flash_model.specs.Moves.{Moves}
 use Rattle.flash_model.proofs.MoveLemmas.{together_of}
 use Rattle.tx_engine.specs.Exits.{Exits, VersionsTell}
-use Rattle.tx_engine.specs.Submit.{is_of}
+use Rattle.array_machine.specs.Submit.{is_of}
 use Rattle.tx_engine.proofs.OfDevice.Seen.{exits_seen}
 use Rattle.collector.specs.declared.unsure.Unsure.TheVariants as unsure
-use Rattle.cut_replay.specs.Run.{is_opened, writes_in}
+use Rattle.array_runs.specs.Run.{is_opened, writes_in}
 use Rattle.cut_replay.specs.FlashRun.{is_still, is_together}
 use Rattle.cut_replay.specs.Mounted.{MayHaveCut}
 

@@ -6,7 +6,7 @@ use Rattle.std.proofs.lemmas.Bool.Decides.{nat_tests}
 use Rattle.version_index.specs.IndexState.{mention_of}
 use Rattle.tx_engine.proofs.OfDevice.Seen.{image_seen}
 use Rattle.host_protocol.specs.declared.reply.Reply.TheVariants as reply
-use Rattle.cut_replay.specs.Run.{MayBeSpent}
+use Rattle.array_runs.specs.Run.{MayBeSpent}
 use Rattle.cut_replay.specs.Mounted.{CachesCommand}
 use Rattle.cut_replay.specs.Sessions.{FitsMounted}
 use Rattle.cut_replay.specs.Sessions.{Follows, left}

@@ -1,5 +1,4 @@
 mod Common
-pub use Rattle.array_machine.proofs.Unbroken
 pub mod Devices
 pub mod Single
 pub mod Telling

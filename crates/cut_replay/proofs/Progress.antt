@@ -11,7 +11,7 @@ use Rattle.list_lemmas.proofs.Lists.{take_whole, take_before_last}
 use Rattle.tx_types.specs.declared.config.Slot.{Slot}
 use Rattle.flash_model.specs.Flash.{IsSteady}
 use Rattle.version_index.specs.Images.{IsLeastImageBreach}
-use Rattle.cut_replay.specs.Run.{RunState}
+use Rattle.array_runs.specs.Run.{RunState}
 use Rattle.cut_replay.specs.FlashRun.{first_state, last_moment}
 use Rattle.cut_replay.specs.Watching.{ToldReply, text_of_all, replies_told}
 use Rattle.cut_replay.specs.Bounds.{SpendsTold, LastIsSet}

@@ -1,8 +1,7 @@
 -- Runs on a flash as runs of the array machine.
 use Rattle.cut_replay.proofs.Common.{◌≡◌, ◌⊎◌, ℕ, Bool, true, false, ◌||◌, List, [], ◌∷◌, refl, ap, inl, inr, MatchBool, Config, limits_of, Command, Reply, DoesCommand, NotDone, LosesOpen, is_arm, seen_after, Point, FlashRun, ServesFlash, IsDone, MovesBy, is_fault, last_state}
 use Rattle.host_protocol.specs.declared.reply.Reply.TheVariants as reply
-use Rattle.cut_replay.specs.Run.{Run, Serves}
-pub use Rattle.array_machine.proofs.Quiet.{none_broken, finishes_done}
+use Rattle.array_runs.specs.Run.{Run, Serves}
 
 -- a command on a flash is one on the array machine
 match_weaker : (b : Bool) (P P' Q Q' : Type 0) → (P → P') → (Q → Q') → MatchBool b P Q → MatchBool b P' Q'

@@ -9,10 +9,11 @@ use Rattle.std.proofs.lemmas.Bool.{cases_lt}
 use Rattle.std.proofs.lemmas.List.{take_all, take-append-le}
 use Rattle.std.proofs.lemmas.List.Sums.{sum_by_push}
 use Rattle.list_lemmas.proofs.Quantifiers.{all_left, all_right}
-use Rattle.cut_replay.specs.Run.{MayBeSpent}
+use Rattle.array_runs.specs.Run.{MayBeSpent}
 use Rattle.cut_replay.specs.FlashRun.{last_moment}
 use Rattle.cut_replay.specs.Watching.{text_of_all, replies_told}
-use Rattle.cut_replay.specs.Bounds.{AreSpent, SpendsTold, is_cut, arms_cut, arms_fault, LastIsSet}
+use Rattle.cut_replay.specs.Bounds.{AreSpent, SpendsTold, LastIsSet}
+use Rattle.array_runs.specs.Breaks.{is_cut, arms_cut, arms_fault}
 use Rattle.cut_replay.proofs.Spending.{both_tell}
 use Rattle.cut_replay.proofs.Arming.{weaker_told}
 

@@ -8,14 +8,14 @@ use Rattle.flash_model.specs.Operations.{Operation, erase}
 use Rattle.die_alloc.specs.BlocksState.{BlocksState}
 use Rattle.collector.specs.Collecting.{cleaning}
 use Rattle.collector.specs.declared.unsure.Unsure.TheVariants as unsure
-use Rattle.tx_engine.specs.ArrayState.{Entry, entry_of}
+use Rattle.array_machine.specs.ArrayState.{Entry, entry_of}
 use Rattle.tx_engine.specs.Exits.{Exits, is_step_fault, is_abort_fault}
-use Rattle.tx_engine.specs.Collect.{CollectsAs}
+use Rattle.array_machine.specs.Collect.{CollectsAs}
 use Rattle.tx_engine.specs.Collections.{CollectsTables, HasNothingToCollect}
 use Rattle.array_machine.specs.declared.answers.Collected.{Collected}
 use Rattle.array_machine.specs.declared.answers.Collected.TheVariants as collected
 use Rattle.array_machine.specs.declared.answers.Fault.{Fault}
-use Rattle.tx_engine.specs.Step.{StepsAs, AbortsAs, AbortGives, CutLeaves, settled, settled_entry}
+use Rattle.array_machine.specs.Step.{StepsAs, AbortsAs, AbortGives, CutLeaves, settled, settled_entry}
 use Rattle.array_machine.specs.declared.answers.Progress.{Progress}
 use Rattle.array_machine.specs.declared.answers.Progress.TheVariants as progress
 use Rattle.array_machine.specs.declared.answers.StepError.{StepError}
@@ -23,7 +23,7 @@ use Rattle.array_machine.specs.declared.answers.StepError.TheVariants as failed
 use Rattle.array_machine.specs.declared.answers.Aborted.{Aborted}
 use Rattle.array_machine.specs.declared.answers.Aborted.TheVariants as aborted
 use Rattle.host_protocol.specs.declared.command.Command.TheVariants as command
-use Rattle.cut_replay.specs.Run.{step_reply, abort_reply, collect_reply}
+use Rattle.array_runs.specs.Run.{step_reply, abort_reply, collect_reply}
 use Rattle.cut_replay.specs.FlashRun.{HasErased, IsErase}
 use Rattle.cut_replay.specs.Mounted.{MayHaveCut}
 use Rattle.cut_replay.proofs.Devices.{exits_serve}

@@ -2,7 +2,7 @@
 use Rattle.cut_replay.proofs.Common.{◌≡◌, true, false, Option, Some, None, refl, arith, IfSome, Told, BothTell, NoMoreToCome, Spends, Command, Reply, is_arm, is_fault, is_lost, IsSet, IsSpentBy}
 use Rattle.host_protocol.specs.declared.command.Command.TheVariants as command
 use Rattle.host_protocol.specs.declared.reply.Reply.TheVariants as reply
-use Rattle.cut_replay.specs.Bounds.{is_cut}
+use Rattle.array_runs.specs.Breaks.{is_cut}
 
 -- a reply that is a fault, and after which something may be open
 pub is_its_fault : (r : Reply) → is_fault r ≡ true → is_lost r ≡ false → r ≡ reply.Fault

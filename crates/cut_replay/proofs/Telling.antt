@@ -14,14 +14,15 @@ use Rattle.flash_model.proofs.CallLemmas.{Carries-nothing}
 use Rattle.flash_model.proofs.MoveLemmas.{Moves-nothing, together_of}
 use Rattle.version_index.specs.IndexState.{current_of, mention_of}
 use Rattle.collector.specs.declared.unsure.Unsure.TheVariants as unsure
-use Rattle.tx_engine.specs.ArrayState.{Pages}
-use Rattle.tx_engine.specs.Collect.{TellsStats}
+use Rattle.array_machine.specs.ArrayState.{Pages}
+use Rattle.array_machine.specs.Collect.{TellsStats}
 use Rattle.tx_engine.specs.Exits.{IsNamedAt}
 use Rattle.tx_engine.specs.Naming.{named_after, KeepsTables}
 use Rattle.tx_engine.specs.OpenTransactionsState.{next_name}
-use Rattle.tx_engine.specs.Read.{ReadsPage, is_read_fault}
+use Rattle.tx_engine.specs.Read.{is_read_fault}
+use Rattle.array_machine.specs.Read.{ReadsPage}
 use Rattle.tx_engine.specs.DeviceState.{Naming}
-use Rattle.tx_engine.specs.Submit.{Submits, is_of, opened, refusal}
+use Rattle.array_machine.specs.Submit.{Submits, is_of, opened, refusal}
 use Rattle.array_machine.specs.declared.answers.ReadAnswer.{ReadAnswer}
 use Rattle.array_machine.specs.declared.answers.ReadAnswer.TheVariants as read
 use Rattle.array_machine.specs.declared.answers.ReadError.{ReadError}
@@ -30,7 +31,7 @@ use Rattle.array_machine.specs.declared.answers.SubmitError.{SubmitError}
 use Rattle.array_machine.specs.declared.answers.SubmitError.TheVariants as refused
 use Rattle.host_protocol.specs.declared.command.Command.TheVariants as command
 use Rattle.host_protocol.specs.declared.reply.Reply.TheVariants as reply
-use Rattle.cut_replay.specs.Run.{read_reply, submit_reply}
+use Rattle.array_runs.specs.Run.{read_reply, submit_reply}
 use Rattle.cut_replay.specs.FlashRun.{is_together}
 use Rattle.cut_replay.proofs.Devices.{seen_at, seen_later}
 

@@ -6,9 +6,8 @@ use Rattle.flash_model.specs.Calls.{BothTell, Rose}
 use Rattle.host_protocol.specs.declared.command.Command.{Command}
 use Rattle.host_protocol.specs.declared.command.Command.TheVariants as command
 use Rattle.host_protocol.specs.declared.reply.Reply.{Reply}
-use Rattle.cut_replay.specs.Run.{is_break}
-use Rattle.cut_replay.specs.FlashRun.{is_fault}
-pub use Rattle.array_machine.specs.Breaks.{is_cut, is_lost, arms_cut, arms_fault, AreFew}
+use Rattle.array_runs.specs.Run.{is_break}
+use Rattle.array_runs.specs.Breaks.{is_cut, is_fault, arms_cut, arms_fault, AreFew}
 
 -- and with what is to come still, of all commands
 pub record AreSpent (cs : List Command) (rs : List Reply) (old new : Told) : Type 0 where

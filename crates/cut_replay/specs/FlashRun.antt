@@ -13,12 +13,11 @@ use Rattle.host_protocol.specs.declared.command.Command.{Command}
 use Rattle.host_protocol.specs.declared.command.Command.TheVariants as command
 use Rattle.host_protocol.specs.declared.reply.Reply.{Reply}
 use Rattle.host_protocol.specs.declared.reply.Reply.TheVariants as reply
-use Rattle.tx_engine.specs.ArrayState.{idle}
+use Rattle.array_machine.specs.ArrayState.{idle, Represents}
 use Rattle.tx_engine.specs.Collections.{HasNothingToCollect}
-use Rattle.tx_engine.specs.Exits.{Represents}
 use Rattle.tx_engine.specs.DeviceState.{limits_of}
-pub use Rattle.array_machine.specs.Breaks.{is_fault}
-use Rattle.cut_replay.specs.Run.{RunState, DoesCommand, NotDone, LosesOpen, MayBeSpent, is_arm, is_break, seen_after}
+use Rattle.array_runs.specs.Breaks.{is_fault}
+use Rattle.array_runs.specs.Run.{RunState, DoesCommand, NotDone, LosesOpen, MayBeSpent, is_arm, is_break, seen_after}
 
 -- where a run stands: its state, and what the flash holds and has counted
 pub record Point : Type 0 where

@@ -1,5 +1,3 @@
-pub use Rattle.array_machine.specs.Run
-pub use Rattle.array_machine.specs.Unbroken
 pub mod FlashRun
 pub mod Watching
 pub mod Bounds

@@ -10,7 +10,7 @@ use Rattle.version_index.specs.IndexState.{current_of}
 use Rattle.collector.specs.declared.unsure.Unsure.TheVariants as unsure
 use Rattle.page_cache.specs.PageCacheState.{CachedPage, PageCacheState, cached_page, promoted, kept}
 use Rattle.tx_engine.specs.Always.{IsSeen}
-use Rattle.tx_engine.specs.ArrayState.{page_at, idle}
+use Rattle.array_machine.specs.ArrayState.{page_at, idle}
 use Rattle.tx_engine.specs.Exits.{VersionsTell}
 use Rattle.tx_engine.specs.Naming.{is_spent}
 use Rattle.tx_engine.specs.Read.{ReadsFlash, read_place}
@@ -21,9 +21,9 @@ use Rattle.array_machine.specs.declared.answers.ReadError.{ReadError}
 use Rattle.host_protocol.specs.declared.command.Command.{Command}
 use Rattle.host_protocol.specs.declared.command.Command.TheVariants as command
 use Rattle.host_protocol.specs.declared.reply.Reply.{Reply}
-use Rattle.cut_replay.specs.Run.{DoesCommand, MayBeCut, CutLeavesOf, seen_after}
-use Rattle.cut_replay.specs.FlashRun.{Point, MovesBy, Tells, is_fault}
-use Rattle.cut_replay.specs.Bounds.{is_lost}
+use Rattle.array_runs.specs.Run.{DoesCommand, MayBeCut, CutLeavesOf, seen_after}
+use Rattle.cut_replay.specs.FlashRun.{Point, MovesBy, Tells}
+use Rattle.array_runs.specs.Breaks.{is_fault, is_lost}
 
 -- several transactions go on at once
 abbrev pub is_step_all : Command → Bool

@@ -4,9 +4,9 @@ use Rattle.tx_types.specs.declared.config.Config.{Config}
 use Rattle.flash_model.specs.Flash.{FlashState, counted_by}
 use Rattle.flash_model.specs.Operations.{moment_of}
 use Rattle.host_protocol.specs.declared.reply.Reply.{Reply}
-use Rattle.cut_replay.specs.Run.{NotDone, is_break}
+use Rattle.array_runs.specs.Run.{NotDone, is_break}
 use Rattle.cut_replay.specs.FlashRun.{Point, first_point}
-use Rattle.cut_replay.specs.Bounds.{is_lost}
+use Rattle.array_runs.specs.Breaks.{is_lost}
 
 -- after a reply `cut` or `dropped` the device is mounted, unless the command was not done
 abbrev pub IsMountedAgain : Point → Reply → Point → Type 0

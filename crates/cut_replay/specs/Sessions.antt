@@ -15,15 +15,16 @@ use Rattle.scan_recovery.specs.Opening.{IsOpened}
 use Rattle.scan_recovery.specs.Reading.{read_more}
 use Rattle.collector.specs.declared.unsure.Unsure.TheVariants as unsure
 use Rattle.page_cache.specs.PageCacheState.{PageCacheState, CachedPage}
-use Rattle.tx_engine.specs.ArrayState.{idle}
+use Rattle.array_machine.specs.ArrayState.{idle}
 use Rattle.tx_engine.specs.Opens.{mount_reads}
 use Rattle.tx_engine.specs.DeviceState.{DeviceState}
 use Rattle.host_protocol.specs.declared.command.Command.{Command}
 use Rattle.host_protocol.specs.declared.reply.Reply.{Reply}
 use Rattle.host_protocol.specs.declared.reply.Reply.TheVariants as reply
-use Rattle.cut_replay.specs.Run.{MayBeSpent, is_arm, seen_after}
-use Rattle.cut_replay.specs.FlashRun.{Point, IsPoint, ServesFlash, is_fault, first_point}
-use Rattle.cut_replay.specs.Bounds.{is_cut, is_lost, arms_cut, arms_fault, IsSet, CountsBreak}
+use Rattle.array_runs.specs.Run.{MayBeSpent, is_arm, seen_after}
+use Rattle.cut_replay.specs.FlashRun.{Point, IsPoint, ServesFlash, first_point}
+use Rattle.array_runs.specs.Breaks.{is_fault, is_cut, is_lost, arms_cut, arms_fault}
+use Rattle.cut_replay.specs.Bounds.{IsSet, CountsBreak}
 use Rattle.cut_replay.specs.MountedAgain.{MountsAfter}
 use Rattle.tx_engine.specs.Always.{IsSeen, HoldsAlways}
 use Rattle.cut_replay.specs.Mounted.{point_at, IsCached, CachesCommand, MomentStays, StaysQuiet}

@@ -1,7 +1,7 @@
 ghost use Rattle.std.specs.Prelude.{◌≡◌, ℕ, false, Err, IfOk};
 ghost use Rattle.tx_engine.specs.Always.{HoldsAlways};
 ghost use Rattle.cut_replay.specs.Mounted.{ServesHere};
-ghost use Rattle.cut_replay.specs.Run.{submit_reply, step_reply, abort_reply, collect_reply};
+ghost use Rattle.array_runs.specs.Run.{submit_reply, step_reply, abort_reply, collect_reply};
 
 use flash_model::Flash;
 use host_protocol::{Command, Reply};

@@ -3,7 +3,7 @@ ghost use Rattle.host_protocol.specs.Commands.{Suits};
 ghost use Rattle.tx_engine.specs.Always.{HoldsAlways};
 ghost use Rattle.cut_replay.specs.Mounted.{IsCached, StaysQuiet, ServesHere};
 ghost use Rattle.cut_replay.specs.Mounted.{CachesCommand, is_step_all};
-ghost use Rattle.cut_replay.specs.Run.{is_arm};
+ghost use Rattle.array_runs.specs.Run.{is_arm};
 
 use crate::calls::{abort, collect, report, stats, step, write};
 use crate::finishing::finish;

@@ -5,7 +5,7 @@ ghost use Rattle.flash_model.specs.Operations.{Moment};
 ghost use Rattle.tx_engine.specs.DeviceState.{limits_of};
 ghost use Rattle.host_protocol.specs.declared.command.Command.{Command};
 ghost use Rattle.host_protocol.specs.declared.reply.Reply.{Reply};
-ghost use Rattle.cut_replay.specs.Run.{Run, IsClosedUnmounted};
+ghost use Rattle.array_runs.specs.Run.{Run, IsClosedUnmounted};
 ghost use Rattle.cut_replay.specs.FlashRun.{Point, IsFlashRun, mentions_in};
 ghost use Rattle.cut_replay.specs.FlashRun.{first_state, last_state};
 

@@ -11,7 +11,7 @@ use Rattle.host_protocol.specs.declared.command.Command.{Command}
 use Rattle.cut_replay.specs.FlashRun.{IsFlashRun, last_moment, first_point, mentions_in}
 use Rattle.cut_replay.specs.Served.{ServesRun}
 use Rattle.cut_replay.specs.Watching.{text_of_all}
-use Rattle.cut_replay.specs.Bounds.{AreFew}
+use Rattle.array_runs.specs.Breaks.{AreFew}
 use Rattle.cut_replay.proofs.Runs.{run_lengths}
 use Rattle.desk_tasks.specs.Runs.{IsRun, first_moment}
 

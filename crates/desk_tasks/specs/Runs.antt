@@ -7,12 +7,12 @@ use Rattle.tx_types.specs.Config.{shape_of, slots_of}
 use Rattle.flash_model.specs.Flash.{Contents, blank}
 use Rattle.flash_model.specs.Operations.{Moment}
 use Rattle.version_index.specs.Images.{IsSoundImage}
-use Rattle.tx_engine.specs.ArrayState.{ArrayState}
+use Rattle.array_machine.specs.ArrayState.{ArrayState}
 use Rattle.host_protocol.specs.declared.command.Command.{Command}
 use Rattle.host_protocol.specs.declared.reply.Reply.{Reply}
 use Rattle.cut_replay.specs.FlashRun.{Point, IsFlashRun, last_moment, last_state, first_state}
 use Rattle.cut_replay.specs.Watching.{text_of_all}
-use Rattle.cut_replay.specs.Bounds.{AreFew}
+use Rattle.array_runs.specs.Breaks.{AreFew}
 
 -- the device of `try` and `drive`
 abbrev pub default_config : Protocol → Config

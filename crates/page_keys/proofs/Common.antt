@@ -14,6 +14,9 @@ pub use Rattle.std.specs.Result.{IsErrAnd}
 pub use Rattle.std.specs.Str.{bytes_eq}
 pub use Rattle.std.specs.declared.cmp.Ordering.{Ordering}
 pub use Rattle.std.specs.declared.cmp.Ordering.TheVariants.{Less, Equal, Greater}
+pub use Rattle.array_machine.specs.ArrayState.{Pages, page_at, ArrayState, Represents, put, idle}
+pub use Rattle.array_machine.specs.Step.{StepsAs}
+pub use Rattle.array_machine.specs.Submit.{spent_page, first_refusals}
 pub use Rattle.array_machine.specs.declared.answers.SubmitError.{SubmitError}
 pub use Rattle.flash_model.proofs.CallLemmas.{Carries-nothing, Carries-then}
 pub use Rattle.flash_model.specs.Calls.{Carries, BothTell, NoMoreToCome, Spends}
@@ -42,11 +45,8 @@ pub use Rattle.page_keys.specs.declared.key_reply.KeyReply.{KeyReply}
 pub use Rattle.page_keys.specs.declared.key_session.KeySession.{KeySession}
 pub use Rattle.tx_engine.proofs.OfDevice.Seen.{seen_flash}
 pub use Rattle.tx_engine.specs.Always.{IsSeen, HoldsAlways}
-pub use Rattle.tx_engine.specs.ArrayState.{Pages, page_at, ArrayState, Represents, put, idle}
 pub use Rattle.tx_engine.specs.DeviceState.{DeviceState, limits_of}
 pub use Rattle.tx_engine.specs.Naming.{is_spent}
-pub use Rattle.tx_engine.specs.Step.{StepsAs}
-pub use Rattle.tx_engine.specs.Submit.{spent_page, first_refusals}
 pub use Rattle.tx_types.specs.Batch.{PageWrite}
 pub use Rattle.tx_types.specs.Config.{checked, shape_of}
 pub use Rattle.tx_types.specs.declared.config.Config.{Config}

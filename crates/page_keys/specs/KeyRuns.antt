@@ -12,7 +12,7 @@ use Rattle.flash_model.specs.Operations.{Moment, moment_of}
 use Rattle.flash_model.specs.declared.outcome.Outcome.{Outcome}
 use Rattle.record_list.specs.Records.{mention}
 use Rattle.version_index.specs.Images.{IsSoundImage, array_in, records_in}
-use Rattle.array_machine.specs.Run.{MayBeSpent}
+use Rattle.array_runs.specs.Run.{MayBeSpent}
 use Rattle.page_keys.specs.Buckets.{EncodesMap}
 use Rattle.page_keys.specs.KeyMaps.{KeyMap, apply, seen_by}
 use Rattle.page_keys.specs.Puts.{put_refusal}

@@ -9,9 +9,9 @@ use Rattle.flash_model.specs.Calls.{BothTell, NoMoreToCome, Carries, Rose, Spend
 use Rattle.flash_model.specs.Flash.{FlashState}
 use Rattle.flash_model.specs.Operations.{moment_of}
 use Rattle.version_index.specs.Images.{IsSoundImage, IsLeastImageBreach, array_in}
-use Rattle.array_machine.specs.Run.{MayBeSpent}
+use Rattle.array_runs.specs.Run.{MayBeSpent}
 use Rattle.tx_engine.specs.Always.{IsSeen, HoldsAlways}
-use Rattle.tx_engine.specs.ArrayState.{idle}
+use Rattle.array_machine.specs.ArrayState.{idle}
 use Rattle.tx_engine.specs.Naming.{is_spent}
 use Rattle.page_keys.specs.Buckets.{AreBuckets, EncodesMap}
 use Rattle.page_keys.specs.KeyMaps.{KeyMap}

@@ -4,7 +4,7 @@ use Rattle.flash_model.specs.Flash.{FlashState}
 use Rattle.flash_model.specs.Calls.{Carries}
 use Rattle.flash_model.specs.Operations.{moment_of}
 use Rattle.tx_types.specs.declared.config.Config.{Config}
-use Rattle.tx_engine.specs.ArrayState.{Pages, page_at}
+use Rattle.array_machine.specs.ArrayState.{Pages, page_at}
 use Rattle.tx_engine.specs.DeviceState.{DeviceState}
 use Rattle.page_keys.specs.Buckets.{AreBuckets, IsBucket, encodes}
 use Rattle.page_keys.specs.declared.answers.KeyError.{KeyError}

@@ -6,9 +6,9 @@ use Rattle.flash_model.specs.Flash.{FlashState}
 use Rattle.flash_model.specs.Calls.{Carries}
 use Rattle.flash_model.specs.Moves.{FlashMoves}
 use Rattle.version_index.specs.Images.{array_in}
-use Rattle.tx_engine.specs.ArrayState.{ArrayState, Pages, put, idle}
+use Rattle.array_machine.specs.ArrayState.{ArrayState, Pages, put, idle}
 use Rattle.tx_engine.specs.Always.{IsSeen}
-use Rattle.tx_engine.specs.Submit.{spent_page, is_of}
+use Rattle.array_machine.specs.Submit.{spent_page, is_of}
 use Rattle.tx_engine.specs.Naming.{is_spent}
 use Rattle.tx_engine.specs.DeviceState.{DeviceState}
 use Rattle.array_machine.specs.declared.mark.Mark.TheVariants.{Plain}

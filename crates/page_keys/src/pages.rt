@@ -1,6 +1,6 @@
 ghost use Rattle.std.specs.Prelude.{◌≡◌, ◌<◌, ◌≤◌, ◌+◌, ◌⊎◌, ℕ, [], false, length, replicate, OnOk, OnErr, IfErr};
 ghost use Rattle.std.specs.Result.{is_err};
-ghost use Rattle.tx_engine.specs.ArrayState.{page_at};
+ghost use Rattle.array_machine.specs.ArrayState.{page_at};
 ghost use Rattle.page_keys.specs.Buckets.{encodes, AreBuckets};
 ghost use Rattle.page_keys.specs.Stores.{OnlyReads, OpensNot, is_key_fault};
 

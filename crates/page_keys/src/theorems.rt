@@ -2,7 +2,7 @@
 //! it ensures.
 ghost use Rattle.std.specs.Prelude.{◌≡◌, ◌<◌, ℕ, List, Some};
 ghost use Rattle.tx_types.specs.declared.config.Config.{Config};
-ghost use Rattle.tx_engine.specs.ArrayState.{Pages};
+ghost use Rattle.array_machine.specs.ArrayState.{Pages};
 ghost use Rattle.flash_model.specs.Flash.{Told};
 ghost use Rattle.page_keys.specs.Buckets.{AreBuckets, EncodesMap};
 ghost use Rattle.page_keys.specs.KeyMaps.{KeyMap};

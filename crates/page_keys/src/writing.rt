@@ -1,6 +1,6 @@
 ghost use Rattle.std.specs.Prelude.{◌≡◌, ℕ, false, [], None, OnOk, IfErr};
 ghost use Rattle.tx_engine.specs.DeviceState.{limits_of};
-ghost use Rattle.tx_engine.specs.Submit.{first_refusals};
+ghost use Rattle.array_machine.specs.Submit.{first_refusals};
 ghost use Rattle.page_keys.specs.Writing.{Writes, WritesNot};
 
 use crate::answers::PutError;

@@ -12,7 +12,10 @@ pub use Rattle.std.specs.Option.{option_map}
 pub use Rattle.std.specs.Prelude.{position, remove, Any, ◌↔◌, option_and_then, is_none, slice_set, nat_lt, slice_index, if◌then◌else◌, find}
 pub use Rattle.std.specs.Result.{is_err}
 pub use Rattle.std.specs.Vec.{with_items}
+pub use Rattle.array_machine.specs.ArrayState.{ArrayState, Entry, entry_of, has_tag, without, page_at, pending_pages, is_doubted, put, Pages, idle, with_entry, Represents}
 pub use Rattle.array_machine.specs.Batches.{GoInTurn, MayTakeEach}
+pub use Rattle.array_machine.specs.Step.{settled, settled_entry, settled_mark, GoesOn, StepsAs, CutLeaves, IsAtLast}
+pub use Rattle.array_machine.specs.Submit.{spent_page, or_else}
 pub use Rattle.array_machine.specs.declared.answers.Collected.TheVariants.{Nothing}
 pub use Rattle.array_machine.specs.declared.answers.Moved.{Moved}
 pub use Rattle.array_machine.specs.declared.answers.Progress.{Progress}
@@ -53,7 +56,6 @@ pub use Rattle.record_list.specs.Records.{name_of, is_present, version_of, menti
 pub use Rattle.record_list.specs.Transaction.{ShareNoPage, InProgress, back_version}
 pub use Rattle.record_list.specs.Written.{text_at, value_of, value_at, is_outside}
 pub use Rattle.record_list.specs.declared.found.Found.{Found}
-pub use Rattle.tx_engine.specs.ArrayState.{ArrayState, Entry, entry_of, has_tag, without, page_at, pending_pages, is_doubted, put, Pages, idle, with_entry}
 pub use Rattle.tx_engine.specs.BatchCalls.{CountInTurn, AreJobsDue, CanWriteAll, InOrderOfDies, IsJobDue, CanCountAll, load_of, loads_for, CanNoteEach, nexts_noted, CountsAll, DroppedAll, MovesAll, WrittenAll, chosen_now}
 pub use Rattle.tx_engine.specs.Batches.{taken_writes, takes_each, chosen_from, is_ready, jobs_of, record_due, noted_each, used_each, DropsDevice, MovesDevice, chosen_of}
 pub use Rattle.tx_engine.specs.Breaking.{WritingBreaks}
@@ -61,15 +63,13 @@ pub use Rattle.tx_engine.specs.Calls.{IsReady, SettlesDevice, WritesPage, Advanc
 pub use Rattle.tx_engine.specs.Costs.{StepCosts}
 pub use Rattle.tx_engine.specs.DeviceCalls.{ArmsDevice, StepsDevice}
 pub use Rattle.tx_engine.specs.DeviceState.{DeviceState, Naming, Stands, no_name, IsUnderWay, IsAsMarked, name_at, IsNamed, write_at, text_in, text_with, IsOpenAs, DoubtsAs, IsOwn, limits_of}
-pub use Rattle.tx_engine.specs.Exits.{Exits, VersionsRise, settled_writes, ExitsTables, IsNamedAt, Represents, is_there, is_plain, done_writes, MentionsAtMost}
+pub use Rattle.tx_engine.specs.Exits.{Exits, VersionsRise, settled_writes, ExitsTables, IsNamedAt, is_there, is_plain, done_writes, MentionsAtMost}
 pub use Rattle.tx_engine.specs.Naming.{with_pins, is_spent}
 pub use Rattle.tx_engine.specs.OpenTransactionsState.{OpenTransactionsState, TransactionState, no_transaction, transaction_at, entries_of, namings_of, with_transaction, HasLimitsOf, with_noted_count, with_mark, with_done, HasPlace, bytes_due, name_due, IsDueAt, begun}
 pub use Rattle.tx_engine.specs.PendingWrites.{transaction_of, write_held, IsWhole}
 unfoldable pub use Rattle.tx_engine.specs.PendingWrites.{with_owner}
 pub use Rattle.tx_engine.specs.Settling.{with_next, is_writing, is_at_last, next_writes, must_program, CountsOn, Counts, Advances, AdvanceRises, WriteFails, AddsOnly, settlement_of, with_settlement}
-pub use Rattle.tx_engine.specs.Step.{settled, settled_entry, settled_mark, GoesOn, StepsAs, CutLeaves, IsAtLast}
 pub use Rattle.tx_engine.specs.StoreState.{StoreState, IsStoreState, store_in, CanWrite, WritesOwn, WritesStored}
-pub use Rattle.tx_engine.specs.Submit.{spent_page, or_else}
 pub use Rattle.tx_engine.specs.Tables.{device_in, DeviceInvariant, device_of}
 pub use Rattle.tx_engine.specs.Writing.{BringsPage, due_record}
 pub use Rattle.tx_engine.specs.declared.device.Device.TheInside.{Inside}

@@ -9,10 +9,10 @@ use Rattle.version_index.specs.Notes.{found_in}
 use Rattle.version_index.specs.IndexState.{current_of, mention_of}
 use Rattle.collector.specs.Known.{known_image}
 use Rattle.collector.specs.declared.unsure.Unsure.TheVariants as unsure
-use Rattle.tx_engine.specs.ArrayState.{ArrayState, idle}
-use Rattle.tx_engine.specs.Exits.{Represents, MentionsAtMost, IsNamedAt}
+use Rattle.array_machine.specs.ArrayState.{ArrayState, idle, Represents}
+use Rattle.tx_engine.specs.Exits.{MentionsAtMost, IsNamedAt}
 use Rattle.tx_engine.specs.DeviceState.{DeviceState, Stands}
-use Rattle.tx_engine.specs.Step.{StepsAs, CutLeaves, IsAtLast, settled}
+use Rattle.array_machine.specs.Step.{StepsAs, CutLeaves, IsAtLast, settled}
 use Rattle.array_machine.specs.declared.answers.StepError.TheVariants as failed
 
 -- What holds of a device that is not dropped at every moment: of its flash, and of what a power cut leaves that was met in a

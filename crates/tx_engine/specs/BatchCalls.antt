@@ -25,7 +25,7 @@ use Rattle.array_machine.specs.Step.{IsAtLast}
 use Rattle.array_machine.specs.declared.answers.Moved.{Moved}
 use Rattle.array_machine.specs.declared.answers.Progress.{Progress}
 use Rattle.array_machine.specs.declared.answers.Progress.TheVariants as progress
-use Rattle.tx_engine.specs.ArrayState.{ArrayState, Entry}
+use Rattle.array_machine.specs.ArrayState.{ArrayState, Entry}
 use Rattle.tx_engine.specs.Batches.{jobs_of, chosen_in, noted_each, record_due, taken_writes, takes_each, used_each}
 use Rattle.tx_engine.specs.Calls.{IsReady, AdvancesTo}
 use Rattle.tx_engine.specs.Exits.{Exits, MentionsAtMost, VersionsRise}

@@ -24,13 +24,13 @@ use Rattle.array_machine.specs.Batches.{StepsAllAs, CutLeavesEach}
 use Rattle.array_machine.specs.declared.answers.Fault.{Fault}
 use Rattle.array_machine.specs.declared.answers.Moved.{Moved}
 use Rattle.array_machine.specs.declared.answers.Progress.{Progress}
-use Rattle.tx_engine.specs.ArrayState.{Entry, Pages, idle, put}
+use Rattle.array_machine.specs.ArrayState.{Entry, Pages, idle, put}
 use Rattle.tx_engine.specs.DeviceCalls.{StepsDevice}
 use Rattle.tx_engine.specs.Exits.{Exits, MentionsAtMost, VersionsRise, is_there, plain_writes, settled_writes}
 use Rattle.tx_engine.specs.OpenTransactionsState.{TransactionState}
 use Rattle.tx_engine.specs.Settling.{is_at_last, is_whole, link_place, with_settlement}
 use Rattle.tx_engine.specs.DeviceState.{DeviceState, name_at, write_at}
-use Rattle.tx_engine.specs.Step.{settled}
+use Rattle.array_machine.specs.Step.{settled}
 use Rattle.tx_engine.specs.Writing.{WritesNothing}
 use Rattle.tx_engine.specs.declared.jobs.Job.{Job}
 

@@ -28,18 +28,19 @@ use Rattle.array_machine.specs.declared.answers.StepError.{StepError}
 use Rattle.array_machine.specs.declared.answers.StepError.TheVariants as error
 use Rattle.array_machine.specs.declared.answers.SubmitError.{SubmitError}
 use Rattle.tx_engine.specs.Breaking.{CollectBreaks, StepBreaks}
-use Rattle.tx_engine.specs.Collect.{CollectsAs, TellsStats}
+use Rattle.array_machine.specs.Collect.{CollectsAs, TellsStats}
 use Rattle.tx_engine.specs.Collections.{CollectsTables, HasNothingToCollect}
 use Rattle.tx_engine.specs.Costs.{CostsStep}
 use Rattle.tx_engine.specs.Exits.{AbortRises, CollectRises, Exits, StepRises, is_abort_fault, is_step_fault, is_there}
 use Rattle.tx_engine.specs.Naming.{KeepsTables, is_spent, named_after}
 use Rattle.tx_engine.specs.Opens.{FailsToMount, Mounts, ReadsUnmounted}
-use Rattle.tx_engine.specs.Read.{ReadsFlash, ReadsPage, is_read_fault, read_place}
+use Rattle.tx_engine.specs.Read.{ReadsFlash, is_read_fault, read_place}
+use Rattle.array_machine.specs.Read.{ReadsPage}
 use Rattle.tx_engine.specs.Retire.{AnswersRetire, RetireExits, RetireRises, RetireTables, RetiresAs, retire_refusal}
 use Rattle.tx_engine.specs.Settling.{CollectFails, HasTables, settlement_of}
 use Rattle.tx_engine.specs.DeviceState.{DeviceState, limits_of}
-use Rattle.tx_engine.specs.Step.{AbortsAs, StepsAs}
-use Rattle.tx_engine.specs.Submit.{Submits}
+use Rattle.array_machine.specs.Step.{AbortsAs, StepsAs}
+use Rattle.array_machine.specs.Submit.{Submits}
 use Rattle.tx_engine.specs.Writing.{BringsPage, StepNotes, next_of, open_of}
 use Rattle.tx_engine.specs.declared.mount.MountError.{MountError}
 use Rattle.tx_engine.specs.declared.retire.RetireError.{RetireError}

@@ -20,10 +20,10 @@ use Rattle.collector.specs.declared.unsure.Unsure.{Unsure}
 use Rattle.collector.specs.declared.unsure.Unsure.TheVariants as unsure
 use Rattle.collector.specs.Known.{array_known}
 use Rattle.collector.specs.Matches.{Matches}
-use Rattle.tx_engine.specs.ArrayState.{ArrayState, Entry, is_doubted, pending_pages}
+use Rattle.array_machine.specs.ArrayState.{ArrayState, Entry, is_doubted, pending_pages}
 use Rattle.array_machine.specs.declared.mark.Mark.{Mark}
 use Rattle.array_machine.specs.declared.mark.Mark.TheVariants.{Plain, Doubt, Whole}
-use Rattle.tx_engine.specs.Submit.{Limits}
+use Rattle.array_machine.specs.Submit.{Limits}
 
 -- the names that an open transaction writes, one for each page, and how many of them, the first ones, are noted
 pub record Naming : Type 0 where

@@ -10,11 +10,10 @@ use Rattle.flash_model.specs.Moves.{FlashMoves}
 use Rattle.record_list.specs.Records.{mention}
 use Rattle.version_index.specs.Images.{records_in, current_in}
 use Rattle.version_index.specs.IndexState.{IndexState, current_of, mention_of}
-use Rattle.tx_engine.specs.ArrayState.{ArrayState, Entry, is_doubted, page_at, entry_of}
-pub use Rattle.array_machine.specs.ArrayState.{Represents}
+use Rattle.array_machine.specs.ArrayState.{ArrayState, Entry, is_doubted, page_at, entry_of}
 use Rattle.array_machine.specs.declared.mark.Mark.{Mark}
 use Rattle.array_machine.specs.declared.mark.Mark.TheVariants.{Plain, Doubt, Whole}
-use Rattle.tx_engine.specs.Step.{settled, doubted}
+use Rattle.array_machine.specs.Step.{settled, doubted}
 use Rattle.tx_engine.specs.DeviceState.{DeviceState, Naming}
 use Rattle.array_machine.specs.declared.answers.Progress.{Progress}
 use Rattle.array_machine.specs.declared.answers.Progress.TheVariants as progress

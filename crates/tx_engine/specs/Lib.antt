@@ -1,8 +1,3 @@
-pub use Rattle.array_machine.specs.ArrayState
-pub use Rattle.array_machine.specs.Submit
-pub use Rattle.array_machine.specs.Step
-pub use Rattle.array_machine.specs.Collect
-pub use Rattle.array_machine.specs.UnbrokenCalls as Unbroken
 pub mod Always
 pub mod BatchCalls
 pub mod Batches

@@ -3,7 +3,7 @@ use Rattle.std.specs.Prelude.{◌≡◌, ◌+◌, ◌<◌, ◌≤◌, ℕ, List,
 use Rattle.tx_types.specs.Limits.{max_pending}
 use Rattle.tx_engine.specs.OpenTransactionsState.{OpenTransactionsState}
 use Rattle.tx_engine.specs.PendingWrites.{transaction_of, pages_of, IsWhole, HasRoom}
-use Rattle.tx_engine.specs.Submit.{is_owner}
+use Rattle.array_machine.specs.Submit.{is_owner}
 use Rattle.tx_engine.specs.declared.open_transactions.OpenTransactions.TheInside.{Inside}
 use Rattle.tx_engine.specs.declared.pending_writes.Transaction.{Transaction}
 

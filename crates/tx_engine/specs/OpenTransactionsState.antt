@@ -4,7 +4,7 @@ use Rattle.tx_types.specs.Batch.{PageWrite, Writes, bytes_in}
 use Rattle.tx_types.specs.Limits.{max_version}
 use Rattle.tx_types.specs.declared.record.Link.{Link}
 use Rattle.version_index.specs.IndexState.{IndexState, mention_of}
-use Rattle.tx_engine.specs.ArrayState.{Entry, new_entry, pending_pages}
+use Rattle.array_machine.specs.ArrayState.{Entry, new_entry, pending_pages}
 use Rattle.array_machine.specs.declared.mark.Mark.{Mark}
 use Rattle.array_machine.specs.declared.mark.Mark.TheVariants.{Plain}
 use Rattle.tx_engine.specs.DeviceState.{Naming, name_at, write_at}

@@ -11,7 +11,7 @@ use Rattle.scan_recovery.specs.Reading.{read_more}
 use Rattle.scan_recovery.specs.Recovered.{reads_again}
 use Rattle.scan_recovery.specs.Twins.{compared}
 use Rattle.collector.specs.declared.unsure.Unsure.TheVariants as unsure
-use Rattle.tx_engine.specs.ArrayState.{idle}
+use Rattle.array_machine.specs.ArrayState.{idle}
 use Rattle.tx_engine.specs.DeviceState.{DeviceState}
 use Rattle.tx_engine.specs.StoreState.{StoreState}
 use Rattle.tx_engine.specs.declared.mount.MountError.{MountError}

@@ -8,7 +8,7 @@ use Rattle.tx_types.specs.Limits.{max_version}
 use Rattle.tx_types.specs.declared.config.Config.{Config}
 use Rattle.version_index.specs.IndexState.{IndexState, mention_of}
 use Rattle.tx_engine.specs.OpenTransactionsState.{TransactionState, next_name}
-use Rattle.tx_engine.specs.Submit.{first_refusal}
+use Rattle.array_machine.specs.Submit.{first_refusal}
 use Rattle.array_machine.specs.declared.answers.SubmitError.{SubmitError}
 use Rattle.array_machine.specs.declared.answers.SubmitError.TheVariants as refused
 use Rattle.tx_engine.specs.declared.pending_writes.Transaction.{Transaction}

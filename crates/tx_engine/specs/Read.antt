@@ -9,7 +9,6 @@ use Rattle.flash_model.specs.declared.flash.Seen.{Seen}
 use Rattle.collector.specs.declared.unsure.Unsure.{Unsure}
 use Rattle.collector.specs.declared.unsure.Unsure.TheVariants as unsure
 use Rattle.collector.specs.Known.{page_known}
-pub use Rattle.array_machine.specs.Read.{ReadsPage}
 use Rattle.tx_engine.specs.StoreState.{StoreState}
 use Rattle.array_machine.specs.declared.answers.ReadAnswer.{ReadAnswer}
 use Rattle.array_machine.specs.declared.answers.ReadAnswer.TheVariants as answer

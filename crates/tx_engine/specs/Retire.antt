@@ -13,14 +13,14 @@ use Rattle.collector.specs.Preserves.{Preserves}
 use Rattle.collector.specs.Retiring.{RetiresBlock, RetiresNone, RetiringBreaks, moved_slots, retiring_first}
 use Rattle.collector.specs.Settling.{slots_read}
 use Rattle.collector.specs.StoreParts.{IsSure}
-use Rattle.tx_engine.specs.ArrayState.{ArrayState}
+use Rattle.array_machine.specs.ArrayState.{ArrayState}
 use Rattle.tx_engine.specs.Breaking.{BreaksThen}
 use Rattle.tx_engine.specs.Calls.{IsReady}
 use Rattle.tx_engine.specs.Exits.{ExitsTables, VersionsRise, SettlesOrNot, settled_writes}
 use Rattle.tx_engine.specs.OpenTransactionsState.{OpenTransactionsState}
 use Rattle.tx_engine.specs.Settling.{StaysUnread, settlement_of}
 use Rattle.tx_engine.specs.DeviceState.{DeviceState, Stands}
-use Rattle.tx_engine.specs.Step.{settled}
+use Rattle.array_machine.specs.Step.{settled}
 use Rattle.tx_engine.specs.StoreState.{StoreState, store_in}
 use Rattle.tx_engine.specs.Tables.{device_in}
 use Rattle.tx_engine.specs.declared.retire.RetireError.{RetireError}

@@ -9,7 +9,7 @@ use Rattle.collector.specs.Looking.{ReadsAtMost}
 use Rattle.collector.specs.Preserves.{IsThere, Preserves}
 use Rattle.collector.specs.Settling.{Settlement, settlement, slots_read}
 use Rattle.collector.specs.declared.unsure.Unsure.TheVariants as unsure
-use Rattle.tx_engine.specs.ArrayState.{ArrayState, Entry, put, with_entry, without}
+use Rattle.array_machine.specs.ArrayState.{ArrayState, Entry, put, with_entry, without}
 use Rattle.array_machine.specs.declared.mark.Mark.TheVariants.{Plain, Doubt, Whole}
 use Rattle.array_machine.specs.declared.mark.Mark.{Mark}
 use Rattle.array_machine.specs.declared.answers.Progress.{Progress}
@@ -18,7 +18,7 @@ use Rattle.tx_engine.specs.OpenTransactionsState.{OpenTransactionsState, Transac
 use Rattle.version_index.specs.IndexState.{IndexState, current_of}
 use Rattle.tx_engine.specs.Exits.{Exits, VersionsRise, settled_writes, done_writes}
 use Rattle.tx_engine.specs.DeviceState.{DeviceState, Stands, name_at}
-use Rattle.tx_engine.specs.Step.{settled, IsAtLast, GoesOn}
+use Rattle.array_machine.specs.Step.{settled, IsAtLast, GoesOn}
 
 -- what is known of a device once the place was read whose contents are not known
 abbrev pub settlement_of : {F : Type 0} → (F → FlashState) → DeviceState F → Settlement

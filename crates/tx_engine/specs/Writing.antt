@@ -21,7 +21,7 @@ use Rattle.collector.specs.Going.{blocks_to_go, EvictsAll}
 use Rattle.collector.specs.Looking.{reads_after}
 use Rattle.collector.specs.Preserves.{IsThere, Preserves}
 use Rattle.collector.specs.Settling.{slots_read}
-use Rattle.tx_engine.specs.ArrayState.{Entry, has_tag}
+use Rattle.array_machine.specs.ArrayState.{Entry, has_tag}
 use Rattle.tx_engine.specs.Settling.{AddsOnly, HasTables, StaysUnread, link_place, settlement_of, with_settlement}
 use Rattle.tx_engine.specs.DeviceState.{DeviceState, Naming, name_at, text_in, write_at}
 use Rattle.array_machine.specs.declared.answers.Progress.{Progress}

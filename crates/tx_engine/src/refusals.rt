@@ -1,7 +1,7 @@
 ghost use Rattle.std.specs.Prelude.{◌≡◌, ◌≤◌, ◌==◌, ◌<◌, [], length, take, All};
 ghost use Rattle.std.specs.List.{list_any};
 ghost use Rattle.tx_engine.specs.PendingWrites.{owned_page};
-ghost use Rattle.tx_engine.specs.Submit.{is_of, or_else, empty, range, repeated, full};
+ghost use Rattle.array_machine.specs.Submit.{is_of, or_else, empty, range, repeated, full};
 
 use crate::SubmitError;
 use crate::pending_writes::Transaction;

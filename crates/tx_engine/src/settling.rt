@@ -1,5 +1,5 @@
 ghost use Rattle.std.specs.Prelude.{◌≡◌, ◌<◌, ◌+◌, All, length, position};
-ghost use Rattle.tx_engine.specs.ArrayState.{is_doubted};
+ghost use Rattle.array_machine.specs.ArrayState.{is_doubted};
 ghost use Rattle.tx_engine.specs.OpenTransactionsState.{transaction_at, with_transaction};
 ghost use Rattle.tx_engine.specs.Settling.{with_next, is_writing};
 ghost use Rattle.tx_engine.specs.DeviceState.{Stands};

@@ -5,7 +5,7 @@ ghost use Rattle.tx_engine.specs.DeviceCalls.{SubmitsDevice};
 ghost use Rattle.tx_engine.specs.Naming.{is_spent, with_pins};
 ghost use Rattle.tx_engine.specs.OpenTransactionsState.{next_name};
 ghost use Rattle.tx_engine.specs.StoreState.{IsStoreState};
-ghost use Rattle.tx_engine.specs.Submit.{spent_page};
+ghost use Rattle.array_machine.specs.Submit.{spent_page};
 
 use crate::Device;
 use crate::store::Store;

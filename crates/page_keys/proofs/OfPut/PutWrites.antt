@@ -6,7 +6,7 @@ use Rattle.std.specs.FinMap as keys
 use Rattle.std.proofs.lemmas.Bool.Decides.{eqb_tells}
 use Rattle.std.proofs.lemmas.List.{get_or-set_other, length-set}
 use Rattle.std.proofs.lemmas.Grind.{get_or-set_at}
-use Rattle.tx_engine.specs.Submit.{first_refusal, or_else, empty, repeated, full, is_of}
+use Rattle.array_machine.specs.Submit.{first_refusal, or_else, empty, repeated, full, is_of}
 use Rattle.array_machine.specs.declared.answers.SubmitError.TheVariants as submit
 use Rattle.page_keys.specs.Puts as puts
 use Rattle.page_keys.specs.Puts.{wide}

@@ -1,7 +1,7 @@
 -- How runs of the map machine grow, and how many breaks they have.
 use Rattle.page_keys.proofs.Common.{◌≡◌, ◌⊎◌, inl, inr, ℕ, zero, suc, ◌+◌, ◌≤◌, Bool, true, cond, List, [], ◌∷◌, ◌++◌, length, take, Option, Some, None, refl, ap, subst, arith, count_by, IfSome, Config, BothTell, NoMoreToCome, Told, KeyPoint, IsKeyPoint, ServesKeys, is_key_cut, is_key_fault, seen_after, KeyCommand, apply, KeyReply}
 use Rattle.std.proofs.lemmas.List.Sums.{sum_by-cons}
-use Rattle.array_machine.specs.Run.{MayBeSpent}
+use Rattle.array_runs.specs.Run.{MayBeSpent}
 use Rattle.page_keys.specs.KeyRuns.{KeyRun, DoesKeys, IsKeySpent, AreFewBreaks, ChangesAtOnce, arms_key_cut, changes_in}
 use Rattle.page_keys.specs.KeyRuns.{is_stored, last_point}
 use Rattle.page_keys.specs.declared.command.KeyCommand.TheVariants as command

@@ -8,7 +8,7 @@ use Rattle.flash_model.specs.Moves.{Moves}
 use Rattle.flash_model.specs.declared.outcome.Outcome.{Outcome}
 use Rattle.flash_model.proofs.MoveLemmas.{Moves-nothing}
 use Rattle.version_index.specs.IndexState.{mention_of}
-use Rattle.array_machine.specs.Run.{MayBeSpent}
+use Rattle.array_runs.specs.Run.{MayBeSpent}
 use Rattle.tx_engine.proofs.OfDevice.Seen.{image_seen}
 use Rattle.page_keys.specs.KeyRuns.{BreaksPut, DoesGet, DoesKeys, DoesPut, TakesPut, changes_in, is_tried, IsKeySpent, Stays}
 use Rattle.page_keys.specs.KeyRuns.{arms_key_cut, is_key_break}

@@ -10,7 +10,7 @@ use Rattle.tx_engine.specs.Exits.{IsNamedAt}
 use Rattle.tx_engine.specs.Naming.{named_after, KeepsTables}
 use Rattle.tx_engine.specs.OpenTransactionsState.{next_name}
 use Rattle.tx_engine.specs.DeviceState.{Naming}
-use Rattle.tx_engine.specs.Submit.{is_of}
+use Rattle.array_machine.specs.Submit.{is_of}
 use Rattle.page_keys.specs.KeyMaps.{seen_by}
 use Rattle.page_keys.specs.Writing.{seen_more}
 

@@ -2,7 +2,7 @@
 use Rattle.tx_engine.proofs.Common.{◌≡◌, ◌≢◌, ◌⊎◌, ℕ, ◌<◌, Bool, false, List, length, map, get_or, Option, Some, None, Result, Ok, Err, refl, sym, ap, ap₂, ◌∙◌, subst, inl, inr, arith, eqb-true, position, remove, Any, length-map, get_or-map, All-from_get_or, All-map, all_remove, PageWrite, FlashState, Carries-nothing, FlashMoves-nothing, current_of, ArrayState, Entry, entry_of, has_tag, without, page_at, Mark, Plain, Doubt, Whole, Exits, VersionsRise, DeviceState, Naming, Stands, settled, settled_entry, StepError, OpenTransactionsState, TransactionState, no_transaction, transaction_at, entries_of, namings_of, StoreState, device_in}
 use Rattle.std.specs.Prelude.{MatchOption}
 use Rattle.list_lemmas.proofs.Positions.{position-all}
-use Rattle.tx_engine.specs.Step.{AbortsAs, AbortGives}
+use Rattle.array_machine.specs.Step.{AbortsAs, AbortGives}
 use Rattle.array_machine.specs.declared.answers.Aborted.{Aborted}
 use Rattle.array_machine.specs.declared.answers.Aborted.TheVariants as aborted
 use Rattle.array_machine.specs.declared.answers.StepError.TheVariants as failed

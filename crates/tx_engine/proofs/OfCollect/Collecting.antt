@@ -5,7 +5,7 @@ use Rattle.collector.specs.Calls.{CollectsIfAny}
 use Rattle.tx_engine.specs.Collections.{CollectsTables, answer_of}
 use Rattle.array_machine.specs.declared.answers.Collected.{Collected}
 use Rattle.array_machine.specs.declared.answers.Collected.TheVariants.{One}
-use Rattle.tx_engine.specs.Step.{doubted}
+use Rattle.array_machine.specs.Step.{doubted}
 use Rattle.tx_engine.proofs.OfDevice.Arrays.{page_of_name, as_many_names}
 use Rattle.tx_engine.proofs.OfDevice.Kept.{BlocksInvariant, from_stands}
 

@@ -1,7 +1,8 @@
 -- A device stands as before where its flash has the shape and the image that it had.
 use Rattle.tx_engine.proofs.Common.{◌≡◌, ℕ, ◌<◌, Bool, true, false, List, None, Result, Ok, Err, refl, sym, ap, ◌∙◌, subst, AllZip, Protocol, Broken, Carries, moment_of, Carries-nothing, FlashState, Contents, IndexState, page_known, array_known, matches_still, page_at, IsOpenAs, DoubtsAs, StoreState, entries_of, namings_of, DeviceInvariant, Inside}
 use Rattle.std.proofs.Common.{IsSome}
-use Rattle.tx_engine.specs.Read.{ReadsKnown, ReadsPage, ReadsFlash, is_read_fault, read_place}
+use Rattle.tx_engine.specs.Read.{ReadsKnown, ReadsFlash, is_read_fault, read_place}
+use Rattle.array_machine.specs.Read.{ReadsPage}
 use Rattle.array_machine.specs.declared.answers.ReadAnswer.{ReadAnswer}
 use Rattle.array_machine.specs.declared.answers.ReadAnswer.TheVariants as answer
 use Rattle.array_machine.specs.declared.answers.ReadError.{ReadError}

@@ -1,7 +1,7 @@
 -- How the open transactions settle, at most one of which is in doubt.
 use Rattle.tx_engine.proofs.Common.{◌≡◌, ◌≢◌, ℕ, zero, suc, ◌<◌, Bool, true, false, not, ◌&&◌, List, [], ◌∷◌, ◌++◌, length, map, get_or, All, refl, sym, ap, ap₂, ◌∙◌, arith, slice_set, list_any, zip, cond-true, cond-false, and_from, append-nil, All-head, All-tail, All-cons, All-nil, Link, Contents, current_in, IndexState, current_of, Entry, is_doubted, Mark, Plain, Doubt, Whole, settled_mark, settled_entry, Naming, TransactionState, no_transaction}
 use Rattle.std.proofs.lemmas.Bool.{and_left, and_right, or_left, or_right, or_from, ne_eqb, eq-eqb}
-use Rattle.tx_engine.specs.Step.{doubted}
+use Rattle.array_machine.specs.Step.{doubted}
 use Rattle.tx_engine.specs.Exits.{has_moved}
 use Rattle.tx_engine.proofs.OfDevice.Kept.{IsCalm}
 

@@ -7,7 +7,7 @@ use Rattle.collector.specs.declared.unsure.Unsure.TheVariants as unsure
 use Rattle.collector.specs.declared.unsure.Settled.TheVariants as found
 use Rattle.collector.specs.Settling.{own_settled}
 use Rattle.tx_engine.specs.Exits.{MentionsRise}
-use Rattle.tx_engine.specs.Step.{doubted}
+use Rattle.array_machine.specs.Step.{doubted}
 use Rattle.tx_engine.proofs.OfDevice.Arrays.{as_many_names}
 use Rattle.tx_engine.proofs.OfLaws.DevicesStand.{settles_there, text_there, spare_other, doubt_is}
 use Rattle.tx_engine.proofs.OfDevice.OpenOnes.{under_way, take_unsure}

@@ -4,7 +4,7 @@ use Rattle.std.specs.Prelude.{MatchOption, IfSome, option_map}
 use Rattle.array_machine.specs.declared.answers.Progress.TheVariants as progress
 use Rattle.array_machine.specs.declared.answers.StepError.TheVariants as failed
 use Rattle.tx_engine.specs.Exits.{StepRises}
-use Rattle.tx_engine.specs.Step.{StepGives}
+use Rattle.array_machine.specs.Step.{StepGives}
 use Rattle.tx_engine.specs.Writing.{next_of, open_of}
 use Rattle.tx_engine.proofs.OfCollect.Collecting.{rises_stay}
 use Rattle.tx_engine.proofs.OfTransactions.OpenList.{IsFirstTagged}

@@ -16,7 +16,7 @@ use Rattle.record_list.specs.Transaction.{IsTransaction}
 use Rattle.record_list.proofs.OfFacts.Names.{greatest_bound}
 use Rattle.record_list.proofs.OfFacts.Asking.{begins}
 use Rattle.collector.specs.declared.unsure.Unsure.TheVariants as unsure
-use Rattle.tx_engine.specs.ArrayState.{new_entry}
+use Rattle.array_machine.specs.ArrayState.{new_entry}
 use Rattle.tx_engine.specs.OpenTransactionsState.{IsOpenTransactionsState, next_name}
 use Rattle.array_machine.proofs.Accepting.{IsAccepted}
 use Rattle.tx_engine.proofs.OfDevice.KeptDevices.{kept_is}

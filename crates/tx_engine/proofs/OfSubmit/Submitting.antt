@@ -2,9 +2,9 @@
 use Rattle.tx_engine.proofs.Common.{◌≡◌, ℕ, ◌+◌, ◌^◌, ◌<◌, Bool, false, List, [], ◌∷◌, ◌++◌, length, map, get_or, set, All, Option, None, Ok, refl, sym, ap, ap₂, ◌∙◌, arith, AllZip, take_more, map_push, All-cons, All-nil, All-contains, all_from, PageWrite, Writes, no_write, Config, Link, Contents, IndexState, mention_of, ArrayState, Entry, with_pins, is_spent, OpenTransactionsState, TransactionState, entries_of, IsOpenAs, limits_of, spent_page, or_else}
 use Rattle.std.proofs.Common.{take}
 use Rattle.std.proofs.Common.{leb-false}
-use Rattle.tx_engine.specs.ArrayState.{new_entry}
+use Rattle.array_machine.specs.ArrayState.{new_entry}
 use Rattle.tx_engine.specs.OpenTransactionsState.{CanOpen, next_name}
-use Rattle.tx_engine.specs.Submit.{Limits, Submits, first_refusals, refusal, answer, opened}
+use Rattle.array_machine.specs.Submit.{Limits, Submits, first_refusals, refusal, answer, opened}
 use Rattle.array_machine.specs.declared.answers.SubmitError.{SubmitError}
 use Rattle.array_machine.proofs.Accepting.{IsAccepted, unspent}
 

@@ -10,7 +10,7 @@ use Rattle.list_lemmas.proofs.Tests.{any_of}
 use Rattle.list_lemmas.proofs.Values.{or_first}
 use Rattle.tx_engine.specs.OpenTransactions.{owner_in}
 use Rattle.tx_engine.specs.PendingWrites.{owned_page}
-use Rattle.tx_engine.specs.Submit.{is_of, is_owner, overlap}
+use Rattle.array_machine.specs.Submit.{is_of, is_owner, overlap}
 use Rattle.array_machine.specs.declared.answers.SubmitError.TheVariants as refused
 
 -- each page has its owner

@@ -1,6 +1,6 @@
 use Rattle.host_protocol.specs.declared.command.Command.TheVariants.{Finish}
 use Rattle.cut_replay.proofs.Common.{Reply, DeviceState, HoldsAlways, ServesHere}
-use Rattle.cut_replay.specs.Run.{pages_left}
+use Rattle.array_runs.specs.Run.{pages_left}
 use Rattle.cut_replay.proofs.finishing.finish.Given as goal
 
 -- what is done from here on is done from the beginning on

@@ -1,5 +1,5 @@
 use Rattle.page_keys.proofs.Common.{◌≡◌, ◌<◌, ℕ, None, false, length, spent_page, IsSeen, HoldsAlways, is_spent, writing, Moved}
-use Rattle.array_machine.specs.Run.{pages_left}
+use Rattle.array_runs.specs.Run.{pages_left}
 use Rattle.page_keys.specs.Writing.{seen_more}
 use Rattle.page_keys.proofs.writing.write.Given as goal
 

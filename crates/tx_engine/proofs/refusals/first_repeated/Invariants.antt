@@ -1,6 +1,6 @@
 use Rattle.tx_engine.proofs.Common.{◌≡◌, [], drop}
 use Rattle.std.proofs.Common.{take}
-use Rattle.tx_engine.specs.Submit.{repeated}
+use Rattle.array_machine.specs.Submit.{repeated}
 use Rattle.tx_engine.proofs.refusals.first_repeated.Given as goal
 
 abbrev pub invariant-loop-i : goal.invariant-loop-i

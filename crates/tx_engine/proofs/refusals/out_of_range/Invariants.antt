@@ -1,5 +1,5 @@
 use Rattle.tx_engine.proofs.Common.{◌≡◌, drop}
-use Rattle.tx_engine.specs.Submit.{range}
+use Rattle.array_machine.specs.Submit.{range}
 use Rattle.tx_engine.proofs.refusals.out_of_range.Given as goal
 
 abbrev pub invariant-loop-i : goal.invariant-loop-i

@@ -1,6 +1,6 @@
 use Rattle.tx_engine.proofs.Common.{◌≡◌, false, list_any}
 use Rattle.std.proofs.Common.{take}
-use Rattle.tx_engine.specs.Submit.{is_of}
+use Rattle.array_machine.specs.Submit.{is_of}
 use Rattle.tx_engine.proofs.refusals.stands_before.Given as goal
 
 abbrev pub invariant-loop-k : goal.invariant-loop-k

@@ -1,9 +1,9 @@
 -- Several transactions that go on at once: one by itself, none, and worked examples.
-use Rattle.array_machine.proofs.Common.{◌≡◌, ◌≢◌, ℕ, ◌+◌, ◌<◌, Bool, List, [], ◌∷◌, map, take, Some, Ok, refl, sym, ap, ◌∙◌, subst, inl, inr, arith, count_by, MatchOption, ArrayState, Entry, entry_of, has_tag, GoInTurn, GoesOn, StepGives, settled, settled_entry, Moved, Progress}
+use Rattle.array_machine.proofs.Common.{◌≡◌, ◌+◌, Bool, List, [], ◌∷◌, map, take, Some, Ok, refl, sym, ap, ◌∙◌, subst, inl, inr, arith, count_by, MatchOption, ArrayState, Entry, entry_of, has_tag, GoInTurn, GoesOn, StepGives, settled, settled_entry, Moved, Progress}
 use Rattle.std.specs.Prelude.{Err}
 use Rattle.std.proofs.lemmas.Bool.{cond-true, eq-eqb}
 use Rattle.array_machine.specs.Batches.{StepsAllAs, is_done}
-use Rattle.array_machine.specs.BatchExamples.{FirstTwoMove, SecondMoves, NoneMoves, SecondIsTaken, UnfinishedStays, first, second, second_open}
+use Rattle.array_machine.specs.BatchExamples.{FirstTwoMove, SecondMoves, NoneMoves, SecondIsTaken, UnfinishedStays, second, second_open}
 use Rattle.array_machine.specs.BatchExamples.{all_done}
 use Rattle.array_machine.specs.Step.{StepsAs}
 use Rattle.array_machine.specs.declared.answers.Progress.TheVariants as progress

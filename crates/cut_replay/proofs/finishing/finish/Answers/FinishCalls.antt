@@ -12,9 +12,9 @@ use Rattle.array_machine.specs.declared.answers.StepError.{StepError}
 use Rattle.array_machine.proofs.UnbrokenCalls.{again}
 use Rattle.host_protocol.specs.declared.command.Command.TheVariants as command
 use Rattle.host_protocol.specs.declared.reply.Reply.TheVariants as reply
-use Rattle.array_machine.specs.Run.{pages_left, step_reply, is_break}
+use Rattle.array_runs.specs.Run.{pages_left, step_reply, is_break}
 use Rattle.cut_replay.proofs.Single.{step_tells}
-use Rattle.array_machine.proofs.Finishes.{told_wrote, step_writes, fewer_left, cut_before, at_last, ends}
+use Rattle.array_runs.proofs.Finishes.{told_wrote, step_writes, fewer_left, cut_before, at_last, ends}
 
 pub last_serves : {F : Type 0} (state : F → FlashState) (old new : DeviceState F) (tag : ℕ) (r : Reply) → ((own done all : ℕ) → r ≢ reply.Wrote own done all) →
     ServesHere state (command.Step tag) old new r → ServesHere state (command.Finish tag) old new r

@@ -4,8 +4,9 @@ use Rattle.std.specs.Prelude.{◌&&◌, not, nat_lt, is_some, IsSome}
 use Rattle.std.proofs.lemmas.Bool.{lt-ltb, le-ltb}
 use Rattle.std.proofs.Math.Bool.{and-true, and-false}
 use Rattle.flash_model.specs.Flash.{counted}
-use Rattle.tx_engine.specs.ArrayState.{Pages}
-use Rattle.tx_engine.specs.Read.{ReadsPage, ReadsFlash, read_place}
+use Rattle.array_machine.specs.ArrayState.{Pages}
+use Rattle.tx_engine.specs.Read.{ReadsFlash, read_place}
+use Rattle.array_machine.specs.Read.{ReadsPage}
 use Rattle.array_machine.specs.declared.answers.ReadAnswer.{ReadAnswer}
 use Rattle.array_machine.specs.declared.answers.ReadAnswer.TheVariants as answer
 use Rattle.array_machine.specs.declared.answers.ReadError.{ReadError}

@@ -5,7 +5,7 @@ use Rattle.array_machine.specs.declared.answers.Moved.{Moved}
 use Rattle.tx_engine.specs.Batches.{MovesDevice, DropsDevice}
 use Rattle.tx_engine.specs.Exits.{is_there}
 use Rattle.host_protocol.specs.declared.command.Command.TheVariants as command
-use Rattle.cut_replay.specs.Run.{moved_reply}
+use Rattle.array_runs.specs.Run.{moved_reply}
 use Rattle.cut_replay.specs.Sessions.{lost_reply, left, FitsMounted, FollowsLoss, Follows}
 use Rattle.cut_replay.specs.declared.session.Session.TheVariants as session
 use Rattle.cut_replay.proofs.Devices.{cached_stays, exits_serve}

@@ -3,7 +3,7 @@ use Rattle.cut_replay.proofs.Common.{◌≡◌, Bool, length, refl, Config, Mome
 use Rattle.std.proofs.lemmas.List.FromFn.{length-map-range_with_len}
 use Rattle.record_list.specs.Written.{page_at as page_of}
 use Rattle.version_index.specs.Images.{written_in}
-use Rattle.cut_replay.specs.Run.{IsClosedUnmounted}
+use Rattle.array_runs.specs.Run.{IsClosedUnmounted}
 use Rattle.cut_replay.specs.FlashRun.{first_state}
 
 pub opening_length : (its : Config) (up : Bool) (from : Moment) → length (first_state its up from).machine.pages ≡ (limits_of its).logical

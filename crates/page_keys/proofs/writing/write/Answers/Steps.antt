@@ -1,6 +1,6 @@
 -- The steps of the one transaction that is open.
 use Rattle.page_keys.proofs.Common.{◌≡◌, ◌⊎◌, ℕ, zero, suc, ◌+◌, ◌<◌, get_or, Bool, true, false, List, [], ◌∷◌, length, Ok, Err, refl, sym, ap, subst, ◌∙◌, inl, inr, arith, PageWrite, ArrayState, Pages, Represents, put, idle, StepsAs, writing}
-use Rattle.tx_engine.specs.ArrayState.{Entry}
+use Rattle.array_machine.specs.ArrayState.{Entry}
 use Rattle.array_machine.specs.declared.mark.Mark.{Mark}
 use Rattle.array_machine.specs.declared.mark.Mark.TheVariants.{Plain, Doubt, Whole}
 use Rattle.array_machine.specs.declared.answers.Progress.TheVariants as progress

@@ -1,9 +1,9 @@
 -- What the steps of a put keep of a device.
 use Rattle.page_keys.proofs.Common.{◌≡◌, ℕ, ◌<◌, length, arith, Bool, true, false, List, [], ◌∷◌, ◌++◌, if◌then◌else◌, Option, Some, None, Ok, Err, refl, sym, ap, subst, ◌∙◌, PageWrite, FlashState, Carries, moment_of, Carries-nothing, Carries-then, ArrayState, IsSeen, DeviceState, first_refusals, spent_page, SubmitError, array_in, Represents, is_spent, StepsAs, Moved, writing}
 use Rattle.flash_model.proofs.MoveLemmas.{FlashMoves-nothing, FlashMoves-then}
-use Rattle.tx_engine.specs.ArrayState.{Entry, new_entry}
+use Rattle.array_machine.specs.ArrayState.{Entry, new_entry}
 use Rattle.tx_engine.specs.Exits.{Exits}
-use Rattle.tx_engine.specs.Submit.{Limits, Submits, or_else, answer, opened, refusal}
+use Rattle.array_machine.specs.Submit.{Limits, Submits, or_else, answer, opened, refusal}
 use Rattle.array_machine.specs.declared.answers.SubmitError.TheVariants as submit
 use Rattle.tx_engine.specs.Exits.{is_step_fault}
 use Rattle.array_machine.specs.declared.answers.StepError.{StepError}

@@ -2,7 +2,7 @@ use Rattle.tx_engine.proofs.Common.{ap, sym, ◌∙◌, subst, refl, inl, inr, O
 use Rattle.std.specs.Prelude.{false}
 use Rattle.array_machine.specs.declared.answers.StepError.TheVariants as failed
 use Rattle.tx_engine.specs.DeviceCalls.{AbortsDevice}
-use Rattle.tx_engine.specs.Step.{AbortsAs}
+use Rattle.array_machine.specs.Step.{AbortsAs}
 use Rattle.tx_engine.proofs.OfDevice.ExitsThen.{exits_still, exits_then}
 use Rattle.tx_engine.proofs.OfAbort.Aborting.{entry_found, entry_missing, entry_settled, closed_machine, closed_exits, closed_current, rises_on, abort_missing}
 use Rattle.tx_engine.proofs.OfAbort.Aborting.{abort_failed, abort_done, not_whole}

@@ -1,6 +1,6 @@
 mod RefusalSteps
 use Rattle.tx_engine.proofs.Common.{◌≡◌, None, length, sym, ap, ◌∙◌, arith, or_else}
-use Rattle.tx_engine.specs.Submit.{full, free_of}
+use Rattle.array_machine.specs.Submit.{full, free_of}
 use Rattle.tx_engine.proofs.OfTransactions.OpenPages.{pages_of_transactions, tag_among}
 use Rattle.tx_engine.proofs.OfTransactions.Owners.{entries_in, owned_refusal}
 use Rattle.tx_engine.proofs.open_transactions.OpenTransactions.refusal.Answers.RefusalSteps.{refused_by_tag, refused_behind, batch_refused, pages_exist}

@@ -7,7 +7,7 @@ use Rattle.list_lemmas.proofs.Tests.{find_stands}
 use Rattle.list_lemmas.proofs.Membership.{Contains-here, in_map}
 use Rattle.collector.specs.declared.unsure.Unsure.TheVariants as unsure
 use Rattle.array_machine.specs.declared.answers.StepError.TheVariants as failed
-use Rattle.tx_engine.specs.Step.{doubted, FaultLeaves}
+use Rattle.array_machine.specs.Step.{doubted, FaultLeaves}
 
 -- nothing is in doubt once it settled
 settled_sure : (there : Bool) (m : Mark) → settled_mark there m ≡ Doubt → ⊥

@@ -1,7 +1,7 @@
 -- The refusals of a batch: the later ones where the earlier ones are none.
 use Rattle.tx_engine.proofs.Common.{◌≡◌, ℕ, ◌<◌, Bool, true, false, cond, Option, Some, None, List, [], ◌∷◌, All, refl, ◌∙◌, list_any, All-cons, All-nil, PageWrite, Entry, has_tag, or_else}
 use Rattle.std.proofs.Common.{if◌then◌else◌, nat_lt, ltb-true}
-use Rattle.tx_engine.specs.Submit.{first_refusals, empty, tag_used, full, free_of, range, repeated, overlap}
+use Rattle.array_machine.specs.Submit.{first_refusals, empty, tag_used, full, free_of, range, repeated, overlap}
 use Rattle.array_machine.specs.declared.answers.SubmitError.{SubmitError}
 use Rattle.array_machine.specs.declared.answers.SubmitError.TheVariants as refused
 

@@ -1,5 +1,0 @@
-use Rattle.array_machine.proofs.Atomic.{transaction_atomic}
-use Rattle.array_machine.proofs.theorems.transactions_are_atomic.Goals as goal
-
-pub returns : goal.returns
-returns c = transaction_atomic

@@ -1,5 +1,0 @@
-use Rattle.array_machine.proofs.Closed.{run_closed}
-use Rattle.array_machine.proofs.theorems.unmounted_runs.Goals as goal
-
-pub returns : goal.returns
-returns c = run_closed

@@ -1,0 +1,4 @@
+pub mod Run
+pub mod Promises
+pub mod Breaks
+pub mod Unbroken
