@@ -5,12 +5,9 @@
 
 mod base_tables;
 mod block_counts;
-mod changing;
 mod current;
-mod gathering;
 mod lazy_table;
 mod live_slots;
-mod reading;
 mod records;
 mod responsibilities;
 mod slots;

@@ -2,6 +2,10 @@ ghost use Rattle.std.specs.Prelude.{◌≡◌, ◌≤◌, IfOk};
 ghost use Rattle.tx_types.specs.Config.{IsShape, slots_of};
 ghost use Rattle.slot_tables.specs.TablesState.{blank_tables};
 
+mod changing;
+mod gathering;
+mod reading;
+
 use crate::base_tables::BaseTables;
 use crate::block_counts::BlockCounts;
 use crate::live_slots::LiveSlots;

@@ -42,8 +42,8 @@ use Rattle.tx_engine.specs.DeviceState.{DeviceState, limits_of}
 use Rattle.array_machine.specs.Step.{AbortsAs, StepsAs}
 use Rattle.array_machine.specs.Submit.{Submits}
 use Rattle.tx_engine.specs.Writing.{BringsPage, StepNotes, next_of, open_of}
-use Rattle.tx_engine.specs.declared.mount.MountError.{MountError}
-use Rattle.tx_engine.specs.declared.retire.RetireError.{RetireError}
+use Rattle.tx_engine.specs.declared.device.MountError.{MountError}
+use Rattle.tx_engine.specs.declared.device.retire.RetireError.{RetireError}
 
 -- A transaction was opened, or refused. All stays but the array machine, the names, and the pins of what is opened.
 pub record SubmitsDevice {F : Type 0} (old new : DeviceState F) (tag : ℕ) (writes : List PageWrite)

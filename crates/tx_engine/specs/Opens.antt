@@ -14,8 +14,8 @@ use Rattle.collector.specs.declared.unsure.Unsure.TheVariants as unsure
 use Rattle.array_machine.specs.ArrayState.{idle}
 use Rattle.tx_engine.specs.DeviceState.{DeviceState}
 use Rattle.tx_engine.specs.StoreState.{StoreState}
-use Rattle.tx_engine.specs.declared.mount.MountError.{MountError}
-use Rattle.tx_engine.specs.declared.mount.MountError.TheVariants as mount
+use Rattle.tx_engine.specs.declared.device.MountError.{MountError}
+use Rattle.tx_engine.specs.declared.device.MountError.TheVariants as mount
 
 -- how many slots a mount reads of which no read fails: each one once, and two for each record that is compared with another
 -- one of its name

@@ -23,8 +23,8 @@ use Rattle.tx_engine.specs.DeviceState.{DeviceState, Stands}
 use Rattle.array_machine.specs.Step.{settled}
 use Rattle.tx_engine.specs.StoreState.{StoreState, store_in}
 use Rattle.tx_engine.specs.Tables.{device_in}
-use Rattle.tx_engine.specs.declared.retire.RetireError.{RetireError}
-use Rattle.tx_engine.specs.declared.retire.RetireError.TheVariants as failed
+use Rattle.tx_engine.specs.declared.device.retire.RetireError.{RetireError}
+use Rattle.tx_engine.specs.declared.device.retire.RetireError.TheVariants as failed
 
 -- no block is left: as many were retired as the flash allows
 abbrev pub worn : Option Extras → Option RetireError

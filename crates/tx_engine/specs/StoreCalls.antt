@@ -22,7 +22,7 @@ use Rattle.collector.specs.StoreParts.{IsSure}
 use Rattle.tx_engine.specs.Opens.{StoresOpened, FailsToMount, ReadsUnmounted}
 use Rattle.tx_engine.specs.Read.{ShowsKnown, read_place}
 use Rattle.tx_engine.specs.StoreState.{StoreState, IsStoreState, store_in}
-use Rattle.tx_engine.specs.declared.mount.MountError.{MountError}
+use Rattle.tx_engine.specs.declared.device.MountError.{MountError}
 
 -- A flash was opened, or it comes back.
 pub record OpensStore {F : Type 0} (state : F → FlashState) (p : Protocol) (flash : F) (its : Config)

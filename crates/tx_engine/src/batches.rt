@@ -1,55 +1,24 @@
 ghost use Rattle.std.specs.Prelude.{◌≡◌, ◌<◌, ◌≤◌, false, length, vec_capacity};
-ghost use Rattle.die_alloc.specs.BlocksState.{with_slot};
-ghost use Rattle.die_alloc.specs.NextSlot.{next_slot_in};
-ghost use Rattle.flash_model.specs.Firing.{loads_in};
-ghost use Rattle.flash_model.specs.Operations.{CanDo, fire};
-ghost use Rattle.version_index.specs.IndexState.{programmed};
-ghost use Rattle.tx_engine.specs.BatchCalls.{CanCountAll, CanLoadAll, CanLoadJob, CanMove, CanNoteEach, CanNoteJob, CanWriteAll, ClearsRegisters, CountsAll, FiresStored, LoadsEach, LoadsJob, MovesAll, MovesFirst, NotesEach, WritesAll, finished_by, is_due_clear};
-ghost use Rattle.tx_engine.specs.Batches.{StepsAllDevice, chosen_in, jobs_of};
+ghost use Rattle.flash_model.specs.Operations.{fire};
+ghost use Rattle.tx_engine.specs.BatchCalls.{CanCountAll, CanLoadAll, CanMove, CanNoteEach, CanWriteAll, CountsAll, LoadsEach, MovesAll, MovesFirst, NotesEach, WritesAll, finished_by, is_due_clear};
+ghost use Rattle.tx_engine.specs.Batches.{chosen_in, jobs_of};
 ghost use Rattle.tx_engine.specs.Calls.{CanAdvance, IsReady};
 ghost use Rattle.tx_engine.specs.OpenTransactionsState.{transaction_at};
 ghost use Rattle.tx_engine.specs.declared.jobs.TheConstants.{MOST_DIES};
 
-use crate::Device;
+use crate::advancing::{acknowledge_page, advance, must_program};
 use crate::jobs::Job;
 use crate::open_transactions::OpenTransactions;
-use crate::settling::{note_next, settle};
-use crate::step::{acknowledge_page, advance, must_program};
+use crate::settling::note_next;
 use crate::store::Store;
-use crate::theorems::{crash_states, device_invariant};
 use crate::writing::next_record;
-use array_machine::{Fault, Moved, Progress};
+use array_machine::{Moved, Progress};
 use collector::theorems;
-use flash_model::{Broken, Flash, Wide, loads_come_in_order};
-use page_record::write_spare;
+use flash_model::{Broken, Wide, loads_come_in_order};
 use record_list::CommitRule;
-use tx_types::Slot;
-
-impl<F: Wide, R: CommitRule> Device<F, R> {
-    /// Open transactions go on together, the first ones in the order of their opening. First it becomes known what a broken
-    /// operation left. As many as are ready, and as there are dies with room, are written at once, each in a die of its own.
-    /// Where the first one is not ready, it takes a step by itself. After a fault only its flash may be used.
-    pub fn step_all(&mut self) -> Result<Moved, Fault>
-        requires kept { self.old.dropped ≡ false }
-        ensures { StepsAllDevice F.state self.old self.new result }
-    {
-        device_invariant::<F, R>();
-        crash_states::<F, R>();
-        let Ok(()) = settle(&mut self.store, &mut self.transactions) else {
-            self.dropped = true;
-            return Err(Fault);
-        };
-        let Ok(moved) = move_all(&mut self.store, &mut self.transactions, &mut self.room.jobs)
-        else {
-            self.dropped = true;
-            return Err(Fault);
-        };
-        Ok(moved)
-    }
-}
 
 /// Open transactions of a settled device go on together.
-fn move_all<F: Wide, R: CommitRule>(
+pub(crate) fn move_all<F: Wide, R: CommitRule>(
     store: &mut Store<F, R>,
     transactions: &mut OpenTransactions,
     jobs: &mut Vec<Job>,
@@ -211,61 +180,5 @@ fn count_all<F: Wide, R: CommitRule>(
     Moved {
         moved,
         finished: gone,
-    }
-}
-
-impl<F: Wide, R: CommitRule> Store<F, R> {
-    /// The number of dies.
-    fn dies(&self) -> u32
-        ensures { result ≡ (F.state self.now.flash).shape.dies }
-    {
-        self.flash.shape().dies
-    }
-
-    /// The slot of a die that is programmed next, if the die has room.
-    fn slot_in(&mut self, die: u32) -> Option<Slot>
-        requires { die < self.old.table.shape.dies }
-        ensures slot { result ≡ next_slot_in self.old.table die }
-        ensures stays { self.new ≡ self.old }
-    {
-        self.blocks.next_slot_in(die)
-    }
-
-    /// Empties all registers of the flash.
-    fn clear_registers(&mut self)
-        ensures { ClearsRegisters F.state F.registers self.old self.new }
-    {
-        self.flash.clear();
-    }
-
-    /// Loads the program of a record with its page's bytes.
-    fn load(&mut self, job: Job, bytes: &[u8])
-        requires { CanLoadJob F.state F.registers self.old job bytes.now }
-        ensures { LoadsJob F.state F.registers self.old self.new job bytes.now }
-    {
-        let mut spare_area = [0; 64];
-        write_spare(job.rec, self.index.config().protocol, &mut spare_area);
-        self.flash.load(job.slot, bytes, &spare_area);
-    }
-
-    /// Does all programs that are loaded.
-    fn fire(&mut self) -> Result<(), Broken>
-        requires { CanDo (F.state self.old.flash).shape (F.state self.old.flash).image
-            (fire (loads_in (F.registers self.old.flash))) }
-        ensures { FiresStored F.state F.registers self.old self.new result }
-    {
-        self.flash.fire()
-    }
-
-    /// Notes the record of a program that was done.
-    fn note(&mut self, job: Job)
-        requires { CanNoteJob self.old.noted self.old.table job }
-        ensures { self.new ≡ record self.old {
-          noted = programmed self.old.noted job.slot.0 job.rec;
-          table = with_slot self.old.table job.slot.0;
-        } }
-    {
-        self.index.note_program(job.slot, job.rec);
-        self.blocks.note_used(job.slot);
     }
 }

@@ -1,5 +1,5 @@
-ghost use Rattle.tx_engine.specs.OpenTransactionsState.{transaction_at};
 ghost use Rattle.tx_engine.specs.Calls.{CanClose, CanUnpin, Closes, Unpins};
+ghost use Rattle.tx_engine.specs.OpenTransactionsState.{transaction_at};
 
 use crate::open_transactions::OpenTransactions;
 use crate::store::Store;

@@ -2,26 +2,20 @@
 //! faults of its flash.
 #![tactic(auto)]
 
-mod abort;
+mod advancing;
 mod always;
-mod arms;
 mod batches;
 mod closing;
-mod collect;
+mod collecting;
 mod device;
 mod jobs;
-mod mount;
 mod open_transactions;
 mod pending_writes;
 mod programming;
-mod read;
 mod refusals;
-mod retire;
+mod retiring;
 mod settling;
-mod stats;
-mod step;
 mod store;
-mod submit;
 pub mod theorems;
 mod writing;
 
@@ -29,6 +23,4 @@ pub use always::device_facts;
 pub use array_machine::{
     Aborted, Collected, Fault, Mark, Moved, Progress, ReadAnswer, ReadError, StepError, SubmitError,
 };
-pub use device::Device;
-pub use mount::MountError;
-pub use retire::RetireError;
+pub use device::{Device, MountError, RetireError};

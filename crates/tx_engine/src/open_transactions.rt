@@ -3,8 +3,8 @@ ghost use Rattle.tx_types.specs.Batch.{bytes_in};
 ghost use Rattle.tx_types.specs.Config.{IsConfig};
 ghost use Rattle.record_list.specs.Transaction.{ShareNoPage};
 ghost use Rattle.array_machine.specs.ArrayState.{pending_pages, has_tag, is_doubted};
-ghost use Rattle.tx_engine.specs.OpenTransactionsState.{CanOpen, HasPlace, IsOpenTransactionsState, transaction_at, entries_of, namings_of, begun, with_transaction, with_done, with_mark, with_noted_count};
 ghost use Rattle.tx_engine.specs.DeviceState.{name_at, write_at};
+ghost use Rattle.tx_engine.specs.OpenTransactionsState.{CanOpen, HasPlace, IsOpenTransactionsState, transaction_at, entries_of, namings_of, begun, with_transaction, with_done, with_mark, with_noted_count};
 ghost use Rattle.array_machine.specs.Submit.{first_refusals};
 
 use crate::pending_writes::{

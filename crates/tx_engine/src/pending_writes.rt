@@ -1,8 +1,8 @@
 ghost use Rattle.std.specs.Prelude.{◌≡◌, ◌+◌, ◌<◌, ◌≤◌, ◌==◌, List, length, position, All, IfOk, vec_capacity};
 ghost use Rattle.tx_types.specs.Config.{IsConfig};
 ghost use Rattle.array_machine.specs.ArrayState.{is_doubted};
-ghost use Rattle.tx_engine.specs.declared.pending_writes.PendingWrite.{PendingWrite};
 ghost use Rattle.tx_engine.specs.PendingWrites.{CanStore, HasLists, HasRooms, StoresPages, FreesPages, with_owner};
+ghost use Rattle.tx_engine.specs.declared.pending_writes.PendingWrite.{PendingWrite};
 
 use crate::Mark;
 use record_list::CommitRule;

@@ -1,5 +1,5 @@
-ghost use Rattle.std.specs.Prelude.{◌≡◌, ◌≤◌, ◌==◌, ◌<◌, [], length, take, All};
 ghost use Rattle.std.specs.List.{list_any};
+ghost use Rattle.std.specs.Prelude.{◌≡◌, ◌≤◌, ◌==◌, ◌<◌, [], length, take, All};
 ghost use Rattle.tx_engine.specs.PendingWrites.{owned_page};
 ghost use Rattle.array_machine.specs.Submit.{is_of, or_else, empty, range, repeated, full};
 

@@ -1,10 +1,10 @@
 ghost use Rattle.std.specs.Prelude.{◌≡◌, ◌<◌, ◌+◌, All, length, position};
 ghost use Rattle.array_machine.specs.ArrayState.{is_doubted};
+ghost use Rattle.tx_engine.specs.Calls.{SettlesDevice};
+ghost use Rattle.tx_engine.specs.DeviceState.{Stands};
 ghost use Rattle.tx_engine.specs.OpenTransactionsState.{transaction_at, with_transaction};
 ghost use Rattle.tx_engine.specs.Settling.{with_next, is_writing};
-ghost use Rattle.tx_engine.specs.DeviceState.{Stands};
 ghost use Rattle.tx_engine.specs.Tables.{device_in};
-ghost use Rattle.tx_engine.specs.Calls.{SettlesDevice};
 
 use crate::Mark;
 use crate::open_transactions::OpenTransactions;

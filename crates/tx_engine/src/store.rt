@@ -1,32 +1,34 @@
-ghost use Rattle.std.specs.Prelude.{◌≡◌, ◌<◌, ◌≤◌, Ok, length, IfErr, IfOk, OnOk, sum_by};
-ghost use Rattle.std.specs.List.{range_with_len};
-ghost use Rattle.tx_types.specs.Config.{checked, shape_of, blocks_of};
+ghost use Rattle.std.specs.Prelude.{◌≡◌, ◌<◌, Ok, length, IfErr, IfOk, OnOk};
+ghost use Rattle.tx_types.specs.Config.{checked};
 ghost use Rattle.flash_model.specs.Operations.{moment_of};
 ghost use Rattle.version_index.specs.Images.{IsSoundImage};
-ghost use Rattle.version_index.specs.Notes.{found_in};
-ghost use Rattle.version_index.specs.IndexState.{current_of, pinned, unpinned};
-ghost use Rattle.scan_recovery.specs.Opening.{IsOpened};
-ghost use Rattle.scan_recovery.specs.Reading.{ReadsAll};
 ghost use Rattle.collector.specs.Calls.{CollectsVictim};
 ghost use Rattle.collector.specs.Matches.{CanTake};
 ghost use Rattle.collector.specs.StoreParts.{IsSure};
-ghost use Rattle.collector.specs.Victim.{garbage_in};
+ghost use Rattle.scan_recovery.specs.Opening.{IsOpened};
+ghost use Rattle.scan_recovery.specs.Reading.{ReadsAll};
 ghost use Rattle.tx_engine.specs.Opens.{mount_reads, FailsToMount, ReadsUnmounted};
 ghost use Rattle.tx_engine.specs.Read.{ReadsKnown};
 ghost use Rattle.tx_engine.specs.StoreCalls.{CanClear, CanFind, ClearsStored, FindsStored, OpensStore, PlacesPage, SettlesStored};
 ghost use Rattle.tx_engine.specs.StoreState.{CanWrite, IsStoreState, WritesOwn, store_in};
+
+mod arms;
+mod counts;
+mod pins;
+mod registers;
+mod retire;
 
 use crate::MountError;
 use crate::programming::write_record;
 use collector::{BlockBuffer, Settled, Unsure, collect_victim, theorems};
 use die_alloc::Blocks;
 use flash_model::{Broken, Flash};
-use record_list::{CommitRule, Found};
+use record_list::CommitRule;
 use scan_recovery::{RecoverError, recover};
 use std::alloc::Global;
 use std::marker::Model;
 use std::mem::drop;
-use tx_types::{Block, BlockState, Config, Memory, Rec, Shape, Slot};
+use tx_types::{Config, Memory, Rec, Shape, Slot};
 use version_index::Index;
 
 /// A flash with its tables. Where they match it they do so still after each call here, whatever breaks.
@@ -87,14 +89,6 @@ impl<F: Flash, R: CommitRule> Store<F, R> {
         self.index.config()
     }
 
-    /// The current version of a page, 0 for none.
-    pub fn version(&self, page: u32) -> u64
-        requires { page < self.now.noted.config.logical }
-        ensures { result ≡ current_of self.now.noted page }
-    {
-        self.index.current(page)
-    }
-
     /// The tables.
     pub fn index(&self) -> &Index<R>
         ensures { result.now ≡ self.now.noted }
@@ -114,46 +108,6 @@ impl<F: Flash, R: CommitRule> Store<F, R> {
         ensures { result ≡ self.now.unsure }
     {
         self.unsure
-    }
-
-    /// The number of garbage slots outside the spare.
-    pub fn garbage(&self) -> u32
-        requires stored { IsStoreState F.state R.protocol self.now }
-        ensures { result ≡ sum_by (garbage_in self.now.noted self.now.table)
-            (range_with_len 0 (blocks_of (shape_of self.now.noted.config))) }
-    {
-        let mut count = 0;
-        for block in 0..self.flash.shape().blocks() {
-            count += self.garbage_in(Block(block));
-        }
-        count
-    }
-
-    /// The number of garbage slots of a block, none in the spare.
-    fn garbage_in(&self, block: Block) -> u32
-        requires stored { IsStoreState F.state R.protocol self.now }
-        requires exists { block.0 < blocks_of (shape_of self.now.noted.config) }
-        ensures garbage { result ≡ garbage_in self.now.noted self.now.table block.0 }
-        ensures few { result ≤ self.now.noted.config.pages_per_block }
-    {
-        let shut = self.blocks.state(block) == BlockState::Shut;
-        self.index.garbage(block, shut)
-    }
-
-    /// The noted records, in the order of their slots.
-    pub fn noted_records(&self) -> Result<Vec<Found>, Memory>
-        requires stored { IsStoreState F.state R.protocol self.now }
-        ensures { IfOk result (λ list. list.items ≡ found_in self.now.noted.notes) }
-    {
-        let slots = self.flash.shape().slots();
-        let mut list = Vec::with_capacity(self.alloc, slots as usize)?;
-        for at in 0..slots {
-            let at = Slot(at);
-            if let Some(rec) = self.index.rec(at) {
-                list.push_reserved(Found { slot: at, rec });
-            }
-        }
-        Ok(list)
     }
 
     /// Reads a page that is not blank into room for a page of bytes: whether it is not. A blank one is
@@ -277,22 +231,6 @@ impl<F: Flash, R: CommitRule> Store<F, R> {
             rec,
             bytes,
         )
-    }
-
-    /// Pins a page at a version.
-    pub fn pin(&mut self, page: u32, version: u64)
-        requires { page < self.old.noted.config.logical }
-        ensures { self.new ≡ record self.old { noted = pinned self.old.noted page version } }
-    {
-        self.index.pin(page, version);
-    }
-
-    /// Takes the pin of a page away.
-    pub fn unpin(&mut self, page: u32)
-        requires { page < self.old.noted.config.logical }
-        ensures { self.new ≡ record self.old { noted = unpinned self.old.noted page } }
-    {
-        self.index.unpin(page);
     }
 
     /// The flash, as it stands.

@@ -7,6 +7,9 @@ ghost use Rattle.version_index.specs.Notes.{complete_slots};
 ghost use Rattle.version_index.specs.IndexState.{IsNoted, IsNotedFrom};
 ghost use Rattle.version_index.specs.Scanned.{AreScanned};
 
+mod changing;
+mod reading;
+
 use crate::filling::{build_tables, current_versions_of};
 use crate::mentioning::first_mentions;
 use flash_model::Seen;

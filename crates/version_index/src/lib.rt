@@ -1,7 +1,6 @@
 //! The tables that a device keeps of its flash, and what an image of a flash stands for.
 #![tactic(auto)]
 
-mod changing;
 mod clearing;
 mod committing;
 mod deciding;
@@ -14,7 +13,6 @@ mod losing;
 mod mentioning;
 mod note;
 mod numbering;
-mod reading;
 mod theorems;
 
 pub use index::Index;

@@ -6,7 +6,7 @@ use Rattle.record_list.specs.Records.{mention}
 use Rattle.version_index.specs.Images.{records_in}
 use Rattle.tx_engine.proofs.OfDevice.Seen.{opened_seen}
 use Rattle.tx_engine.specs.Opens as engine
-use Rattle.tx_engine.specs.declared.mount.MountError.TheVariants as mount
+use Rattle.tx_engine.specs.declared.device.MountError.TheVariants as mount
 use Rattle.page_keys.specs.KeySessions.{MeetsFault, MomentStays, Opens, StaysQuiet}
 use Rattle.page_keys.specs.Stores.{IsFirstBad}
 use Rattle.page_keys.specs.declared.key_error.KeyServeError.TheVariants as failed

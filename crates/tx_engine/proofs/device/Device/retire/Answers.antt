@@ -6,8 +6,8 @@ use Rattle.flash_model.specs.Retiring.{one_more}
 use Rattle.flash_model.proofs.RetireLemmas.{CarriesRetiring-carries, CarriesRetiring-then}
 use Rattle.tx_engine.specs.DeviceCalls.{RetiresDevice}
 use Rattle.tx_engine.specs.Retire.{AnswersRetire}
-use Rattle.tx_engine.specs.declared.retire.RetireError.{RetireError}
-use Rattle.tx_engine.specs.declared.retire.RetireError.TheVariants.{Fault}
+use Rattle.tx_engine.specs.declared.device.retire.RetireError.{RetireError}
+use Rattle.tx_engine.specs.declared.device.retire.RetireError.TheVariants.{Fault}
 use Rattle.tx_engine.proofs.OfCollect.Collecting.{settled_low, rises_stay}
 use Rattle.tx_engine.proofs.OfDevice.ExitsThen.{tables_then}
 use Rattle.tx_engine.proofs.device.Device.retire.Answers.Retirements.{broke_after, refused, retired_after, retired_blank, retired_known, retiring_broke}

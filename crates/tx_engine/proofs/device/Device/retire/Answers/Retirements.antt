@@ -13,8 +13,8 @@ use Rattle.collector.specs.Going.{IsEvicted}
 use Rattle.collector.specs.Retiring.{RetiresBlock, RetiresNone, RetiringBreaks, EndsRetiring, moved_slots, retiring_first}
 use Rattle.tx_engine.specs.DeviceCalls.{RetiresDevice}
 use Rattle.tx_engine.specs.Retire.{AnswersRetire, RetireEnds, RetireExits, RetiresKnown, RetiringFails, is_retire_fault, retire_refusal, worn}
-use Rattle.tx_engine.specs.declared.retire.RetireError.{RetireError}
-use Rattle.tx_engine.specs.declared.retire.RetireError.TheVariants as failed
+use Rattle.tx_engine.specs.declared.device.retire.RetireError.{RetireError}
+use Rattle.tx_engine.specs.declared.device.retire.RetireError.TheVariants as failed
 use Rattle.tx_engine.proofs.OfWrite.Breaking.{broke_then}
 use Rattle.tx_engine.proofs.OfDevice.ExitsThen.{before_itself}
 use Rattle.tx_engine.proofs.OfSettle.SettleExits.{rises_unread}

@@ -1,13 +1,11 @@
-ghost use Rattle.std.specs.Prelude.{◌≡◌, ◌<◌, false, map, All};
+ghost use Rattle.std.specs.Prelude.{◌≡◌, ◌<◌, map, All};
 ghost use Rattle.tx_types.specs.Limits.{max_version};
-ghost use Rattle.version_index.specs.IndexState.{mention_of};
-ghost use Rattle.tx_engine.specs.DeviceCalls.{SubmitsDevice};
+ghost use Rattle.version_index.specs.IndexState.{pinned, unpinned, mention_of};
 ghost use Rattle.tx_engine.specs.Naming.{is_spent, with_pins};
 ghost use Rattle.tx_engine.specs.OpenTransactionsState.{next_name};
 ghost use Rattle.tx_engine.specs.StoreState.{IsStoreState};
 ghost use Rattle.array_machine.specs.Submit.{spent_page};
 
-use crate::Device;
 use crate::store::Store;
 use array_machine::SubmitError;
 use flash_model::Flash;
@@ -15,8 +13,24 @@ use record_list::CommitRule;
 use tx_types::{Batch, MAX_VERSION};
 
 impl<F: Flash, R: CommitRule> Store<F, R> {
+    /// Pins a page at a version.
+    pub fn pin(&mut self, page: u32, version: u64)
+        requires { page < self.old.noted.config.logical }
+        ensures { self.new ≡ record self.old { noted = pinned self.old.noted page version } }
+    {
+        self.index.pin(page, version);
+    }
+
+    /// Takes the pin of a page away.
+    pub fn unpin(&mut self, page: u32)
+        requires { page < self.old.noted.config.logical }
+        ensures { self.new ≡ record self.old { noted = unpinned self.old.noted page } }
+    {
+        self.index.unpin(page);
+    }
+
     /// The refusal of the first page of a batch that has no version left.
-    fn spent_refusal(&self, batch: &Batch) -> Option<SubmitError>
+    pub(crate) fn spent_refusal(&self, batch: &Batch) -> Option<SubmitError>
         requires { All (λ w. w.page < self.now.noted.config.logical) batch.now.entries }
         ensures { result ≡ spent_page (is_spent self.now.noted.mentions) batch.now.entries }
     {
@@ -31,7 +45,7 @@ impl<F: Flash, R: CommitRule> Store<F, R> {
     }
 
     /// Pins each page of a batch one version above its greatest mention.
-    fn pin_all(&mut self, batch: &Batch)
+    pub(crate) fn pin_all(&mut self, batch: &Batch)
         requires stored { IsStoreState F.state R.protocol self.old }
         requires range { All (λ w. w.page < self.old.noted.config.logical) batch.now.entries }
         requires unspent { All (λ w. mention_of self.old.noted w.page < max_version)
@@ -48,27 +62,5 @@ impl<F: Flash, R: CommitRule> Store<F, R> {
             let version = self.index().mention(page) + 1;
             self.pin(page, version);
         }
-    }
-}
-
-impl<F: Flash, R: CommitRule> Device<F, R> {
-    /// Opens a transaction, with no page written. Each page is named one version above its greatest mention. The flash is
-    /// not touched.
-    pub fn submit(&mut self, tag: u32, batch: &Batch) -> Result<(), SubmitError>
-        requires kept { self.old.dropped ≡ false }
-        requires pages { batch.now.page_bytes ≡ self.old.config.page_bytes }
-        ensures { SubmitsDevice self.old self.new tag batch.now.entries result }
-    {
-        if let Some(refusal) = self.transactions.refusal(tag, batch) {
-            return Err(refusal);
-        }
-        if let Some(spent) = self.store.spent_refusal(batch) {
-            return Err(spent);
-        }
-        self.transactions.open(tag, batch, self.store.index());
-        self.store.pin_all(batch);
-        // What holds of the open transactions.
-        let _open = self.transactions.count();
-        Ok(())
     }
 }

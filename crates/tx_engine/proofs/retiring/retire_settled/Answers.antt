@@ -1,6 +1,6 @@
 use Rattle.tx_engine.proofs.OfWrite.Leaving.{tables_left}
 use Rattle.tx_engine.proofs.OfDevice.KeptDevices.{ready_sure}
-use Rattle.tx_engine.proofs.retire.retire_settled.Goals as goal
+use Rattle.tx_engine.proofs.retiring.retire_settled.Goals as goal
 
 pub retire-requires : goal.retire-requires
 retire-requires g c = record {

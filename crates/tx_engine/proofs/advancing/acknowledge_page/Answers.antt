@@ -1,9 +1,9 @@
 mod CountExits
 use Rattle.tx_engine.proofs.Common.{◌≡◌, ◌+◌, ap, sym, ◌∙◌, refl, arith, OpenTransactionsState, no_transaction, transaction_at, with_transaction, with_done, StoreState}
 use Rattle.tx_engine.proofs.OfAbort.Aborting.{closed_machine, closed_exits, closed_current, ready_plain, either_mark}
-use Rattle.tx_engine.proofs.step.acknowledge_page.Answers.CountExits.{counted_stands, counted_machine, counted_exits}
+use Rattle.tx_engine.proofs.advancing.acknowledge_page.Answers.CountExits.{counted_stands, counted_machine, counted_exits}
 use Rattle.tx_engine.proofs.OfDevice.Kept.{from_stands}
-use Rattle.tx_engine.proofs.step.acknowledge_page.Goals as goal
+use Rattle.tx_engine.proofs.advancing.acknowledge_page.Goals as goal
 
 pub overflow_add-done : goal.overflow_add-done
 overflow_add-done g c =

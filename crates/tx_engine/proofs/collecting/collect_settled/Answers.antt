@@ -3,8 +3,8 @@ use Rattle.tx_engine.proofs.Common.{true, false, sym, ap, ◌∙◌, subst, refl
 use Rattle.tx_engine.specs.Calls.{CollectsSettled}
 use Rattle.tx_engine.proofs.OfCollect.Collecting.{collects_tables}
 use Rattle.tx_engine.proofs.OfWrite.Leaving.{left_by}
-use Rattle.tx_engine.proofs.collect.collect_settled.Answers.NothingLeft.{nothing_left, nothing_of}
-use Rattle.tx_engine.proofs.collect.collect_settled.Goals as goal
+use Rattle.tx_engine.proofs.collecting.collect_settled.Answers.NothingLeft.{nothing_left, nothing_of}
+use Rattle.tx_engine.proofs.collecting.collect_settled.Goals as goal
 
 pub returns-in_err-any : goal.returns-in_err-any
 returns-in_err-any g c =
