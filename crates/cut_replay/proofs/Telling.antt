@@ -18,10 +18,9 @@ use Rattle.array_machine.specs.ArrayState.{Pages}
 use Rattle.array_machine.specs.Collect.{TellsStats}
 use Rattle.tx_engine.specs.Exits.{IsNamedAt}
 use Rattle.tx_engine.specs.Naming.{named_after, KeepsTables}
-use Rattle.tx_engine.specs.OpenTransactionsState.{next_name}
+use Rattle.open_table.specs.OpenTransactionsState.{next_name, Naming}
 use Rattle.tx_engine.specs.Read.{is_read_fault}
 use Rattle.array_machine.specs.Read.{ReadsPage}
-use Rattle.tx_engine.specs.DeviceState.{Naming}
 use Rattle.array_machine.specs.Submit.{Submits, is_of, opened, refusal}
 use Rattle.array_machine.specs.declared.answers.ReadAnswer.{ReadAnswer}
 use Rattle.array_machine.specs.declared.answers.ReadAnswer.TheVariants as read

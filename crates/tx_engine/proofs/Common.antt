@@ -62,20 +62,20 @@ pub use Rattle.tx_engine.specs.Breaking.{WritingBreaks}
 pub use Rattle.tx_engine.specs.Calls.{IsReady, SettlesDevice, WritesPage, AdvancesTo}
 pub use Rattle.tx_engine.specs.Costs.{StepCosts}
 pub use Rattle.tx_engine.specs.DeviceCalls.{ArmsDevice, StepsDevice}
-pub use Rattle.tx_engine.specs.DeviceState.{DeviceState, Naming, Stands, no_name, IsUnderWay, IsAsMarked, name_at, IsNamed, write_at, text_in, text_with, IsOpenAs, DoubtsAs, IsOwn, limits_of}
+pub use Rattle.tx_engine.specs.DeviceState.{DeviceState, Stands, IsUnderWay, IsAsMarked, IsNamed, text_in, text_with, IsOpenAs, DoubtsAs, IsOwn, limits_of}
+pub use Rattle.open_table.specs.OpenTransactionsState.{Naming, no_name, name_at, write_at, OpenTransactionsState, TransactionState, no_transaction, transaction_at, entries_of, namings_of, with_transaction, HasLimitsOf, with_noted_count, with_mark, with_done, HasPlace, bytes_due, name_due, IsDueAt, begun}
 pub use Rattle.tx_engine.specs.Exits.{Exits, VersionsRise, settled_writes, ExitsTables, IsNamedAt, is_there, is_plain, done_writes, MentionsAtMost}
 pub use Rattle.tx_engine.specs.Naming.{with_pins, is_spent}
-pub use Rattle.tx_engine.specs.OpenTransactionsState.{OpenTransactionsState, TransactionState, no_transaction, transaction_at, entries_of, namings_of, with_transaction, HasLimitsOf, with_noted_count, with_mark, with_done, HasPlace, bytes_due, name_due, IsDueAt, begun}
-pub use Rattle.tx_engine.specs.PendingWrites.{transaction_of, write_held, IsWhole}
-unfoldable pub use Rattle.tx_engine.specs.PendingWrites.{with_owner}
+pub use Rattle.open_table.specs.PendingWrites.{transaction_of, write_held, IsWhole}
+unfoldable pub use Rattle.open_table.specs.PendingWrites.{with_owner}
 pub use Rattle.tx_engine.specs.Settling.{with_next, is_writing, is_at_last, next_writes, must_program, CountsOn, Counts, Advances, AdvanceRises, WriteFails, AddsOnly, settlement_of, with_settlement}
 pub use Rattle.tx_engine.specs.StoreState.{StoreState, IsStoreState, store_in, CanWrite, WritesOwn, WritesStored}
 pub use Rattle.tx_engine.specs.Tables.{device_in, DeviceInvariant, device_of}
 pub use Rattle.tx_engine.specs.Writing.{BringsPage, due_record}
 pub use Rattle.tx_engine.specs.declared.device.Device.TheInside.{Inside}
 pub use Rattle.tx_engine.specs.declared.jobs.Job.{Job}
-pub use Rattle.tx_engine.specs.declared.pending_writes.PendingWrite.{PendingWrite}
-pub use Rattle.tx_engine.specs.declared.pending_writes.Transaction.{Transaction}
+pub use Rattle.open_table.specs.declared.pending_writes.PendingWrite.{PendingWrite}
+pub use Rattle.open_table.specs.declared.pending_writes.Transaction.{Transaction}
 pub use Rattle.tx_types.specs.Batch.{PageWrite, no_write, bytes_in, Writes}
 pub use Rattle.tx_types.specs.Config.{shape_of, slots_of, blocks_of}
 pub use Rattle.tx_types.specs.declared.config.Config.{Config}

@@ -8,6 +8,5 @@ pub mod OfAbort
 pub mod OfCollect
 pub mod OfMount
 pub mod OfTables
-pub mod OfTransactions
 pub mod OfLaws
 pub mod OfStepAll

@@ -8,3 +8,4 @@ pub mod Seen
 pub mod InDoubt
 pub mod ImageMoves
 pub mod ExitsThen
+pub mod OpenNames

@@ -29,9 +29,9 @@ use Rattle.array_machine.specs.ArrayState.{ArrayState, Entry}
 use Rattle.tx_engine.specs.Batches.{jobs_of, chosen_in, noted_each, record_due, taken_writes, takes_each, used_each}
 use Rattle.tx_engine.specs.Calls.{IsReady, AdvancesTo}
 use Rattle.tx_engine.specs.Exits.{Exits, MentionsAtMost, VersionsRise}
-use Rattle.tx_engine.specs.OpenTransactionsState.{OpenTransactionsState, TransactionState, HasLimitsOf, HasPlace, IsDueAt, bytes_due, entries_of, name_due, namings_of, transaction_at, with_transaction}
+use Rattle.open_table.specs.OpenTransactionsState.{OpenTransactionsState, TransactionState, HasLimitsOf, HasPlace, IsDueAt, bytes_due, entries_of, name_due, namings_of, transaction_at, with_transaction, name_at}
 use Rattle.tx_engine.specs.Settling.{Counts, CountsOn, must_program, with_next}
-use Rattle.tx_engine.specs.DeviceState.{Stands, name_at}
+use Rattle.tx_engine.specs.DeviceState.{Stands}
 use Rattle.tx_engine.specs.StoreState.{StoreState}
 use Rattle.tx_engine.specs.Tables.{device_in}
 use Rattle.tx_engine.specs.declared.jobs.Job.{Job}

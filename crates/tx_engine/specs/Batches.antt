@@ -27,9 +27,9 @@ use Rattle.array_machine.specs.declared.answers.Progress.{Progress}
 use Rattle.array_machine.specs.ArrayState.{Entry, Pages, idle, put}
 use Rattle.tx_engine.specs.DeviceCalls.{StepsDevice}
 use Rattle.tx_engine.specs.Exits.{Exits, MentionsAtMost, VersionsRise, is_there, plain_writes, settled_writes}
-use Rattle.tx_engine.specs.OpenTransactionsState.{TransactionState}
+use Rattle.open_table.specs.OpenTransactionsState.{TransactionState, name_at, write_at}
 use Rattle.tx_engine.specs.Settling.{is_at_last, is_whole, link_place, with_settlement}
-use Rattle.tx_engine.specs.DeviceState.{DeviceState, name_at, write_at}
+use Rattle.tx_engine.specs.DeviceState.{DeviceState}
 use Rattle.array_machine.specs.Step.{settled}
 use Rattle.tx_engine.specs.Writing.{WritesNothing}
 use Rattle.tx_engine.specs.declared.jobs.Job.{Job}

@@ -28,9 +28,9 @@ use Rattle.tx_engine.specs.Breaking.{WritingBreaks}
 use Rattle.tx_engine.specs.Collections.{CollectsTables, HasNothingToCollect}
 use Rattle.tx_engine.specs.Costs.{StepCosts}
 use Rattle.tx_engine.specs.Exits.{Exits, is_there}
-use Rattle.tx_engine.specs.OpenTransactionsState.{OpenTransactionsState, HasLimitsOf, HasPlace, IsDueAt, bytes_due, entries_of, name_due, transaction_at, with_done, with_transaction}
+use Rattle.open_table.specs.OpenTransactionsState.{OpenTransactionsState, HasLimitsOf, HasPlace, IsDueAt, bytes_due, entries_of, name_due, transaction_at, with_done, with_transaction, name_at, write_at}
 use Rattle.tx_engine.specs.Settling.{AddsOnly, Advances, AdvanceRises, Counts, CountsOn, IsLeft, IsSettled, WriteFails, WritesNext, link_place, with_next}
-use Rattle.tx_engine.specs.DeviceState.{Stands, name_at, write_at}
+use Rattle.tx_engine.specs.DeviceState.{Stands}
 use Rattle.tx_engine.specs.StoreState.{StoreState, CanWrite, store_in}
 use Rattle.tx_engine.specs.Tables.{device_in}
 use Rattle.tx_engine.specs.Writing.{TakesSlot, WritesRecord, due_record}

@@ -25,11 +25,6 @@ use Rattle.array_machine.specs.declared.mark.Mark.{Mark}
 use Rattle.array_machine.specs.declared.mark.Mark.TheVariants.{Plain, Doubt, Whole}
 use Rattle.array_machine.specs.Submit.{Limits}
 
--- the names that an open transaction writes, one for each page, and how many of them, the first ones, are noted
-pub record Naming : Type 0 where
-  pub names : List Link
-  pub noted_count : ℕ
-
 -- A device: its flash, its configuration, the array machine that it stands for, the names of each open transaction in the
 -- order of their opening, what is noted of its slots, what is kept of its blocks, and the place whose contents are not known.
 -- One that is dropped met a fault that left more of its slots unknown: of its flash and tables nothing more is said.
@@ -45,18 +40,6 @@ pub record DeviceState (F : Type 0) : Type 0 where
 
 abbrev pub limits_of : Config → Limits
 limits_of c = record { logical = c.logical; pending = c.pending }
-
--- what stands for a name where there is none
-abbrev pub no_name : Link
-no_name = record { page = 0; version = 0 }
-
--- the name that a transaction writes at this place, from 0
-abbrev pub name_at : Naming → ℕ → Link
-name_at x k = slice_index_or x.names k no_name
-
--- what it writes there
-abbrev pub write_at : Entry → ℕ → PageWrite
-write_at e k = slice_index_or e.writes k no_write
 
 -- what the record of a write says of its page, which has so many bytes
 abbrev pub text_in : ℕ → PageWrite → PageText

@@ -14,7 +14,8 @@ use Rattle.array_machine.specs.ArrayState.{ArrayState, Entry, is_doubted, page_a
 use Rattle.array_machine.specs.declared.mark.Mark.{Mark}
 use Rattle.array_machine.specs.declared.mark.Mark.TheVariants.{Plain, Doubt, Whole}
 use Rattle.array_machine.specs.Step.{settled, doubted}
-use Rattle.tx_engine.specs.DeviceState.{DeviceState, Naming}
+use Rattle.tx_engine.specs.DeviceState.{DeviceState}
+use Rattle.open_table.specs.OpenTransactionsState.{Naming}
 use Rattle.array_machine.specs.declared.answers.Progress.{Progress}
 use Rattle.array_machine.specs.declared.answers.Progress.TheVariants as progress
 use Rattle.array_machine.specs.declared.answers.StepError.{StepError}

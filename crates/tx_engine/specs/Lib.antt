@@ -8,9 +8,6 @@ pub mod Costs
 pub mod DeviceCalls
 pub mod Exits
 pub mod Naming
-pub mod OpenTransactionsState
-pub mod OpenTransactions
-pub mod PendingWrites
 pub mod Opens
 pub mod Read
 pub mod Retire

@@ -4,8 +4,8 @@ use Rattle.tx_types.specs.Batch.{PageWrite}
 use Rattle.tx_types.specs.Limits.{max_version}
 use Rattle.tx_types.specs.declared.record.Link.{Link}
 use Rattle.version_index.specs.IndexState.{IndexState}
-use Rattle.tx_engine.specs.OpenTransactionsState.{next_name}
-use Rattle.tx_engine.specs.DeviceState.{DeviceState, Naming}
+use Rattle.open_table.specs.OpenTransactionsState.{next_name, Naming}
+use Rattle.tx_engine.specs.DeviceState.{DeviceState}
 use Rattle.array_machine.specs.declared.answers.SubmitError.{SubmitError}
 
 -- the page has no version left

@@ -17,7 +17,7 @@ use Rattle.array_machine.specs.ArrayState.{ArrayState}
 use Rattle.tx_engine.specs.Breaking.{BreaksThen}
 use Rattle.tx_engine.specs.Calls.{IsReady}
 use Rattle.tx_engine.specs.Exits.{ExitsTables, VersionsRise, SettlesOrNot, settled_writes}
-use Rattle.tx_engine.specs.OpenTransactionsState.{OpenTransactionsState}
+use Rattle.open_table.specs.OpenTransactionsState.{OpenTransactionsState}
 use Rattle.tx_engine.specs.Settling.{StaysUnread, settlement_of}
 use Rattle.tx_engine.specs.DeviceState.{DeviceState, Stands}
 use Rattle.array_machine.specs.Step.{settled}

@@ -14,10 +14,10 @@ use Rattle.array_machine.specs.declared.mark.Mark.TheVariants.{Plain, Doubt, Who
 use Rattle.array_machine.specs.declared.mark.Mark.{Mark}
 use Rattle.array_machine.specs.declared.answers.Progress.{Progress}
 use Rattle.array_machine.specs.declared.answers.Progress.TheVariants as progress
-use Rattle.tx_engine.specs.OpenTransactionsState.{OpenTransactionsState, TransactionState, transaction_at, with_transaction, with_mark, with_noted_count}
+use Rattle.open_table.specs.OpenTransactionsState.{OpenTransactionsState, TransactionState, transaction_at, with_transaction, with_mark, with_noted_count, name_at}
 use Rattle.version_index.specs.IndexState.{IndexState, current_of}
 use Rattle.tx_engine.specs.Exits.{Exits, VersionsRise, settled_writes, done_writes}
-use Rattle.tx_engine.specs.DeviceState.{DeviceState, Stands, name_at}
+use Rattle.tx_engine.specs.DeviceState.{DeviceState, Stands}
 use Rattle.array_machine.specs.Step.{settled, IsAtLast, GoesOn}
 
 -- what is known of a device once the place was read whose contents are not known

@@ -3,7 +3,7 @@ use Rattle.std.specs.Prelude.{◌≡◌, false}
 use Rattle.tx_types.specs.declared.config.Protocol.{Protocol}
 use Rattle.flash_model.specs.Flash.{FlashState}
 use Rattle.collector.specs.Known.{array_known}
-use Rattle.tx_engine.specs.OpenTransactionsState.{OpenTransactionsState, entries_of, namings_of}
+use Rattle.open_table.specs.OpenTransactionsState.{OpenTransactionsState, entries_of, namings_of}
 use Rattle.tx_engine.specs.DeviceState.{DeviceState, Stands}
 use Rattle.tx_engine.specs.StoreState.{StoreState}
 use Rattle.tx_engine.specs.declared.device.Device.TheInside.{Inside}

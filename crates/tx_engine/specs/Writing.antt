@@ -23,7 +23,8 @@ use Rattle.collector.specs.Preserves.{IsThere, Preserves}
 use Rattle.collector.specs.Settling.{slots_read}
 use Rattle.array_machine.specs.ArrayState.{Entry, has_tag}
 use Rattle.tx_engine.specs.Settling.{AddsOnly, HasTables, StaysUnread, link_place, settlement_of, with_settlement}
-use Rattle.tx_engine.specs.DeviceState.{DeviceState, Naming, name_at, text_in, write_at}
+use Rattle.tx_engine.specs.DeviceState.{DeviceState, text_in}
+use Rattle.open_table.specs.OpenTransactionsState.{Naming, name_at, write_at}
 use Rattle.array_machine.specs.declared.answers.Progress.{Progress}
 use Rattle.array_machine.specs.declared.answers.StepError.{StepError}
 

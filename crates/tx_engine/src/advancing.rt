@@ -1,10 +1,10 @@
 ghost use Rattle.std.specs.Prelude.{◌≡◌, ◌<◌, false, length};
 ghost use Rattle.tx_engine.specs.Calls.{AdvancesTo, CanAdvance, CanCount, CountsNext};
-ghost use Rattle.tx_engine.specs.OpenTransactionsState.{transaction_at};
+ghost use Rattle.open_table.specs.OpenTransactionsState.{transaction_at};
 ghost use Rattle.tx_engine.specs.Settling.{must_program};
 
 use crate::closing::close;
-use crate::open_transactions::OpenTransactions;
+use open_table::OpenTransactions;
 use crate::store::Store;
 use crate::writing::write_next;
 use array_machine::{Mark, Progress};

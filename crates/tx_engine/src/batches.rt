@@ -3,12 +3,12 @@ ghost use Rattle.flash_model.specs.Operations.{fire};
 ghost use Rattle.tx_engine.specs.BatchCalls.{CanCountAll, CanLoadAll, CanMove, CanNoteEach, CanWriteAll, CountsAll, LoadsEach, MovesAll, MovesFirst, NotesEach, WritesAll, finished_by, is_due_clear};
 ghost use Rattle.tx_engine.specs.Batches.{chosen_in, jobs_of};
 ghost use Rattle.tx_engine.specs.Calls.{CanAdvance, IsReady};
-ghost use Rattle.tx_engine.specs.OpenTransactionsState.{transaction_at};
+ghost use Rattle.open_table.specs.OpenTransactionsState.{transaction_at};
 ghost use Rattle.tx_engine.specs.declared.jobs.TheConstants.{MOST_DIES};
 
 use crate::advancing::{acknowledge_page, advance, must_program};
 use crate::jobs::Job;
-use crate::open_transactions::OpenTransactions;
+use open_table::OpenTransactions;
 use crate::settling::note_next;
 use crate::store::Store;
 use crate::writing::next_record;

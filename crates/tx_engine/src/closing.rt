@@ -1,7 +1,7 @@
 ghost use Rattle.tx_engine.specs.Calls.{CanClose, CanUnpin, Closes, Unpins};
-ghost use Rattle.tx_engine.specs.OpenTransactionsState.{transaction_at};
+ghost use Rattle.open_table.specs.OpenTransactionsState.{transaction_at};
 
-use crate::open_transactions::OpenTransactions;
+use open_table::OpenTransactions;
 use crate::store::Store;
 use flash_model::Flash;
 use record_list::CommitRule;

@@ -2,7 +2,7 @@ ghost use Rattle.std.specs.Prelude.{◌≡◌};
 ghost use Rattle.tx_engine.specs.Calls.{CollectsSettled, IsReady};
 ghost use Rattle.tx_engine.specs.Collections.{answer_of};
 
-use crate::open_transactions::OpenTransactions;
+use open_table::OpenTransactions;
 use crate::store::Store;
 use array_machine::Collected;
 use collector::theorems;

@@ -13,7 +13,7 @@ use crate::advancing::advance;
 use crate::closing::close;
 use crate::collecting::collect_settled;
 use crate::jobs::JobBuffer;
-use crate::open_transactions::OpenTransactions;
+use open_table::OpenTransactions;
 use crate::settling::settle;
 use crate::store::Store;
 use array_machine::{

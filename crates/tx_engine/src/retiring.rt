@@ -1,6 +1,6 @@
 ghost use Rattle.tx_engine.specs.Retire.{CanRetireSettled, RetiresSettled};
 
-use crate::open_transactions::OpenTransactions;
+use open_table::OpenTransactions;
 use crate::store::Store;
 use collector::theorems;
 use flash_model::{Broken, Retire};

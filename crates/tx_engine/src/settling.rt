@@ -2,12 +2,12 @@ ghost use Rattle.std.specs.Prelude.{◌≡◌, ◌<◌, ◌+◌, All, length, po
 ghost use Rattle.array_machine.specs.ArrayState.{is_doubted};
 ghost use Rattle.tx_engine.specs.Calls.{SettlesDevice};
 ghost use Rattle.tx_engine.specs.DeviceState.{Stands};
-ghost use Rattle.tx_engine.specs.OpenTransactionsState.{transaction_at, with_transaction};
+ghost use Rattle.open_table.specs.OpenTransactionsState.{transaction_at, with_transaction};
 ghost use Rattle.tx_engine.specs.Settling.{with_next, is_writing};
 ghost use Rattle.tx_engine.specs.Tables.{device_in};
 
 use crate::Mark;
-use crate::open_transactions::OpenTransactions;
+use open_table::OpenTransactions;
 use crate::store::Store;
 use collector::{Settled, Unsure, theorems};
 use flash_model::{Broken, Flash};

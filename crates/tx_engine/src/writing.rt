@@ -2,12 +2,12 @@ ghost use Rattle.std.specs.Prelude.{◌≡◌, ◌<◌, if◌then◌else◌};
 ghost use Rattle.record_list.specs.Transaction.{back_version};
 ghost use Rattle.version_index.specs.Notes.{found_in};
 ghost use Rattle.tx_engine.specs.Calls.{CanProgram, CanWriteNext, ClearsFor, FindsFor, IsClearFor, IsReadyFor, IsRecordDue, WritesPage};
-ghost use Rattle.tx_engine.specs.OpenTransactionsState.{HasPlace, bytes_due, name_due, transaction_at, with_transaction, with_mark};
+ghost use Rattle.open_table.specs.OpenTransactionsState.{HasPlace, bytes_due, name_due, transaction_at, with_transaction, with_mark};
 ghost use Rattle.tx_engine.specs.Settling.{is_at_last};
 ghost use Rattle.tx_engine.specs.StoreState.{WritesOwn, store_in};
 
 use crate::Mark;
-use crate::open_transactions::OpenTransactions;
+use open_table::OpenTransactions;
 use crate::settling::note_next;
 use crate::store::Store;
 use collector::theorems;

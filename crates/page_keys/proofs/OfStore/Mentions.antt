@@ -8,8 +8,7 @@ use Rattle.tx_types.specs.declared.record.Link.{Link}
 use Rattle.version_index.specs.IndexState.{mention_of}
 use Rattle.tx_engine.specs.Exits.{IsNamedAt}
 use Rattle.tx_engine.specs.Naming.{named_after, KeepsTables}
-use Rattle.tx_engine.specs.OpenTransactionsState.{next_name}
-use Rattle.tx_engine.specs.DeviceState.{Naming}
+use Rattle.open_table.specs.OpenTransactionsState.{next_name, Naming}
 use Rattle.array_machine.specs.Submit.{is_of}
 use Rattle.page_keys.specs.KeyMaps.{seen_by}
 use Rattle.page_keys.specs.Writing.{seen_more}

@@ -7,7 +7,7 @@ use Rattle.array_machine.specs.declared.answers.Aborted.{Aborted}
 use Rattle.array_machine.specs.declared.answers.Aborted.TheVariants as aborted
 use Rattle.array_machine.specs.declared.answers.StepError.TheVariants as failed
 use Rattle.tx_engine.proofs.OfDevice.Kept.{from_stands}
-use Rattle.tx_engine.proofs.OfTransactions.OpenList.{first_position, first_of_own, entry_first, entry_none, without_first}
+use Rattle.open_table.proofs.OfTransactions.OpenList.{first_position, first_of_own, entry_first, entry_none, without_first}
 use Rattle.tx_engine.proofs.OfDevice.ExitsThen.{NamedBefore}
 use Rattle.tx_engine.proofs.OfAbort.Removal.{current_pins}
 use Rattle.tx_engine.proofs.OfSubmit.Submitted.{repinned, array_aside}

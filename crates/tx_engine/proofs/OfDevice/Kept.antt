@@ -4,7 +4,7 @@ use Rattle.list_lemmas.proofs.Quantifiers.{any_from_map, any_to_map}
 use Rattle.list_lemmas.proofs.Pairs.{pairs_from, pairs_to}
 use Rattle.list_lemmas.proofs.Lists.{map_map}
 use Rattle.collector.specs.declared.unsure.Unsure.TheVariants as unsure
-use Rattle.tx_engine.proofs.OfTransactions.OpenList.{each_from, each_to}
+use Rattle.open_table.proofs.OfTransactions.OpenList.{each_from, each_to}
 
 abbrev pub IsTransaction : List Contents → IndexState → TransactionState → Type 0
 IsTransaction image n o = IsOpenAs image n o.entry o.naming

@@ -5,7 +5,7 @@ use Rattle.array_machine.specs.declared.answers.Progress.TheVariants as progress
 use Rattle.tx_engine.specs.Settling.{is_whole}
 use Rattle.tx_engine.proofs.OfAbort.Aborting.{rises_on}
 use Rattle.tx_engine.proofs.OfDevice.Kept.{from_stands}
-use Rattle.tx_engine.proofs.OfTransactions.OpenList.{IsFirstTagged, first_of_own, with_first}
+use Rattle.open_table.proofs.OfTransactions.OpenList.{IsFirstTagged, first_of_own, with_first}
 use Rattle.tx_engine.proofs.OfSettle.SettledLists.{calm_at}
 use Rattle.array_machine.proofs.UnbrokenCalls.{goes_again}
 use Rattle.tx_engine.proofs.OfWrite.WriteAfter.{settled_kept}

@@ -7,7 +7,7 @@ use Rattle.tx_engine.specs.Exits.{StepRises}
 use Rattle.array_machine.specs.Step.{StepGives}
 use Rattle.tx_engine.specs.Writing.{next_of, open_of}
 use Rattle.tx_engine.proofs.OfCollect.Collecting.{rises_stay}
-use Rattle.tx_engine.proofs.OfTransactions.OpenList.{IsFirstTagged}
+use Rattle.open_table.proofs.OfTransactions.OpenList.{IsFirstTagged}
 
 -- a step of the transaction that was found, if there is one
 abbrev pub StepsFor : Bool → ArrayState → ArrayState → ℕ → Option Entry → Result Progress StepError → Type 0

@@ -5,7 +5,7 @@ use Rattle.tx_engine.specs.Settling.{HasTables}
 use Rattle.tx_engine.specs.Writing.{WritesRecord}
 use Rattle.tx_engine.proofs.OfWrite.Breaking.{breaks_from}
 use Rattle.tx_engine.proofs.OfStep.CostFacts.{costs_from}
-use Rattle.tx_engine.proofs.OfTransactions.OpenNames.{all_names, names_at}
+use Rattle.tx_engine.proofs.OfDevice.OpenNames.{all_names, names_at}
 use Rattle.tx_engine.proofs.OfWrite.RecordWrites.{writes_from}
 
 -- only the pins of a store changed

@@ -17,7 +17,7 @@ use Rattle.record_list.proofs.OfFacts.Names.{greatest_bound}
 use Rattle.record_list.proofs.OfFacts.Asking.{begins}
 use Rattle.collector.specs.declared.unsure.Unsure.TheVariants as unsure
 use Rattle.array_machine.specs.ArrayState.{new_entry}
-use Rattle.tx_engine.specs.OpenTransactionsState.{IsOpenTransactionsState, next_name}
+use Rattle.open_table.specs.OpenTransactionsState.{IsOpenTransactionsState, next_name}
 use Rattle.array_machine.proofs.Accepting.{IsAccepted}
 use Rattle.tx_engine.proofs.OfDevice.KeptDevices.{kept_is}
 use Rattle.tx_engine.proofs.OfTables.PinnedNames.{pinned_then}

@@ -3,7 +3,7 @@ use Rattle.tx_engine.proofs.Common.{◌≡◌, ℕ, ◌+◌, ◌^◌, ◌<◌, B
 use Rattle.std.proofs.Common.{take}
 use Rattle.std.proofs.Common.{leb-false}
 use Rattle.array_machine.specs.ArrayState.{new_entry}
-use Rattle.tx_engine.specs.OpenTransactionsState.{CanOpen, next_name}
+use Rattle.open_table.specs.OpenTransactionsState.{CanOpen, next_name}
 use Rattle.array_machine.specs.Submit.{Limits, Submits, first_refusals, refusal, answer, opened}
 use Rattle.array_machine.specs.declared.answers.SubmitError.{SubmitError}
 use Rattle.array_machine.proofs.Accepting.{IsAccepted, unspent}

@@ -2,7 +2,7 @@ ghost use Rattle.std.specs.Prelude.{◌≡◌, ◌<◌, map, All};
 ghost use Rattle.tx_types.specs.Limits.{max_version};
 ghost use Rattle.version_index.specs.IndexState.{pinned, unpinned, mention_of};
 ghost use Rattle.tx_engine.specs.Naming.{is_spent, with_pins};
-ghost use Rattle.tx_engine.specs.OpenTransactionsState.{next_name};
+ghost use Rattle.open_table.specs.OpenTransactionsState.{next_name};
 ghost use Rattle.tx_engine.specs.StoreState.{IsStoreState};
 ghost use Rattle.array_machine.specs.Submit.{spent_page};
 

@@ -1,6 +1,6 @@
 use Rattle.tx_engine.proofs.Common.{sym, ap, refl, ◌∙◌, position-Some, by_err, Plain, is_doubted, SettlesDevice, OpenTransactionsState, TransactionState, no_transaction, device_in}
 use Rattle.tx_engine.proofs.OfDevice.Kept.{from_stands}
-use Rattle.tx_engine.proofs.OfTransactions.OpenNames.{marked_names, noted_names}
+use Rattle.tx_engine.proofs.OfDevice.OpenNames.{marked_names, noted_names}
 use Rattle.tx_engine.proofs.OfDevice.OpenOnes.{can_take}
 use Rattle.tx_engine.proofs.OfSettle.SettleExits.{settle_failed, settle_done, own_settled, own_within, own_short, own_none, doubt_gone, none_gone, none_doubted}
 use Rattle.tx_engine.proofs.OfSettle.SettleExits.{not_present}

@@ -5,7 +5,7 @@ use Rattle.array_machine.specs.declared.answers.Progress.TheVariants as progress
 use Rattle.tx_engine.proofs.OfDevice.Arrays.{as_many_names}
 use Rattle.tx_engine.proofs.OfDevice.Kept.{BlocksInvariant, IsTransaction, IsCalm, HasSameParts, kept_with, to_stands}
 use Rattle.tx_engine.proofs.OfSettle.NextNoted.{names_before}
-use Rattle.tx_engine.proofs.OfTransactions.OpenList.{first_of_own, with_first}
+use Rattle.open_table.proofs.OfTransactions.OpenList.{first_of_own, with_first}
 use Rattle.tx_engine.proofs.OfSettle.SettledLists.{calm_all, calm_at}
 use Rattle.tx_engine.proofs.OfWrite.WriteAfter.{settled_kept}
 

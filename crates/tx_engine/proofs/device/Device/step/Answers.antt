@@ -7,7 +7,7 @@ use Rattle.tx_engine.proofs.OfAbort.Aborting.{entry_found, entry_missing, entry_
 use Rattle.tx_engine.proofs.OfCollect.Collecting.{settled_low, own_writes_low}
 use Rattle.tx_engine.proofs.OfDevice.ExitsThen.{exits_still, exits_then, rises_then}
 use Rattle.tx_engine.proofs.OfDevice.Kept.{from_stands}
-use Rattle.tx_engine.proofs.OfTransactions.OpenList.{first_position, first_of_own, entry_first}
+use Rattle.open_table.proofs.OfTransactions.OpenList.{first_position, first_of_own, entry_first}
 use Rattle.tx_engine.proofs.OfSettle.SettleExits.{failed_machine, failed_stays, not_settled, rises_unread}
 use Rattle.tx_engine.proofs.OfStep.CostFacts.{costs_still}
 use Rattle.tx_engine.proofs.OfStep.StepExits.{step_missing, step_unsettled, step_settled, done_low, fault_rises, for_next, for_open, of_each, ok_as}

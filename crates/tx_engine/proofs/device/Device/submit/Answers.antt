@@ -1,5 +1,5 @@
 use Rattle.tx_engine.proofs.Common.{◌≡◌, None, Ok, ◌++◌, ◌∷◌, [], refl, sym, ap, ◌∙◌, subst, map-append, IndexState, ArrayState, is_spent, OpenTransactionsState, TransactionState, entries_of, namings_of, begun, DeviceState, limits_of, spent_page, StoreState, device_in}
-use Rattle.tx_engine.specs.OpenTransactionsState.{CanOpen}
+use Rattle.open_table.specs.OpenTransactionsState.{CanOpen}
 use Rattle.tx_engine.specs.DeviceCalls.{SubmitsDevice}
 use Rattle.array_machine.proofs.Accepting.{accepted}
 use Rattle.tx_engine.proofs.OfDevice.KeptDevices.{by_kept, kept_stands, kept_stored}

@@ -1,6 +1,6 @@
 use Rattle.tx_engine.proofs.Common.{◌≡◌, map, with_pins, IsStoreState}
 use Rattle.std.proofs.Common.{take}
-use Rattle.tx_engine.specs.OpenTransactionsState.{next_name}
+use Rattle.open_table.specs.OpenTransactionsState.{next_name}
 use Rattle.tx_engine.proofs.store.Store.pin_all.Given as goal
 
 abbrev pub invariant-loop-at : goal.invariant-loop-at

@@ -8,7 +8,7 @@ use Rattle.tx_engine.specs.Batches.{loads_of, transactions_of}
 use Rattle.tx_engine.proofs.OfSettle.SettleExits.{failed_machine}
 use Rattle.array_machine.specs.declared.answers.StepError.TheVariants as failed
 use Rattle.tx_engine.proofs.OfAbort.Aborting.{entry_settled}
-use Rattle.tx_engine.proofs.OfTransactions.OpenList.{entry_first, first_of_own}
+use Rattle.open_table.proofs.OfTransactions.OpenList.{entry_first, first_of_own}
 use Rattle.tx_engine.proofs.OfDevice.ExitsThen.{named_before}
 use Rattle.tx_engine.proofs.OfDevice.Kept.{from_stands}
 use Rattle.tx_engine.proofs.OfStep.StepExits.{step_settled}

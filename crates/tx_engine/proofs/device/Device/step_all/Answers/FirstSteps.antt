@@ -4,7 +4,7 @@ use Rattle.array_machine.specs.declared.answers.Progress.TheVariants as progress
 use Rattle.tx_engine.specs.Exits.{plain_writes}
 use Rattle.tx_engine.proofs.OfAbort.Aborting.{entry_settled}
 use Rattle.tx_engine.proofs.OfCollect.Collecting.{own_writes_low, settled_low}
-use Rattle.tx_engine.proofs.OfTransactions.OpenList.{entry_first, first_of_own}
+use Rattle.open_table.proofs.OfTransactions.OpenList.{entry_first, first_of_own}
 use Rattle.tx_engine.proofs.OfDevice.ExitsThen.{exits_then, rises_then}
 use Rattle.tx_engine.proofs.OfDevice.Kept.{from_stands}
 use Rattle.tx_engine.proofs.OfStep.StepExits.{done_low, for_next, for_open, ok_as, step_settled}

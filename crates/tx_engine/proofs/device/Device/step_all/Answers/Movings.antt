@@ -5,7 +5,7 @@ use Rattle.std.proofs.lemmas.List.{nil_from_length}
 use Rattle.tx_engine.specs.BatchCalls.{first_moved, no_moves}
 use Rattle.tx_engine.specs.Batches.{StepsFirst}
 use Rattle.tx_engine.proofs.OfCollect.Collecting.{own_writes_low}
-use Rattle.tx_engine.proofs.OfTransactions.OpenList.{entry_first, first_of_own}
+use Rattle.open_table.proofs.OfTransactions.OpenList.{entry_first, first_of_own}
 use Rattle.tx_engine.proofs.OfDevice.Kept.{from_stands}
 use Rattle.tx_engine.proofs.OfStep.StepExits.{done_low}
 use Rattle.tx_engine.proofs.device.Device.step_all.Answers.AllMoved.{then_exits, then_rises, then_steps}

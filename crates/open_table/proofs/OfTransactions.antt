@@ -1,0 +1,5 @@
+pub mod OpenChanges
+pub mod OpenList
+pub mod OpenPages
+pub mod Owners
+pub mod PageMoves

@@ -1,0 +1,3 @@
+pub mod OpenTransactionsState
+pub mod OpenTransactions
+pub mod PendingWrites

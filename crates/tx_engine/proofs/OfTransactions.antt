@@ -1,6 +1,0 @@
-pub mod OpenChanges
-pub mod OpenList
-pub mod OpenNames
-pub mod OpenPages
-pub mod Owners
-pub mod PageMoves

@@ -1,5 +1,0 @@
-use Rattle.tx_engine.proofs.OfTransactions.PageMoves.{FreesFirst}
-use Rattle.tx_engine.proofs.pending_writes.free_pages.Given as goal
-
-abbrev pub invariant-loop : goal.invariant-loop
-invariant-loop l = FreesFirst l.initial.pages l.pages l.initial.rooms l.rooms l.counter

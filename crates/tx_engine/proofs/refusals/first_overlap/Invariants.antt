@@ -1,6 +1,0 @@
-use Rattle.tx_engine.proofs.Common.{◌≡◌, drop}
-use Rattle.tx_engine.specs.PendingWrites.{owned_page}
-use Rattle.tx_engine.proofs.refusals.first_overlap.Given as goal
-
-abbrev pub invariant-loop-i : goal.invariant-loop-i
-invariant-loop-i l = owned_page l.owners (drop l.i l.batch.entries) ≡ owned_page l.owners l.batch.entries

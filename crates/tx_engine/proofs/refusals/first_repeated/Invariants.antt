@@ -1,7 +1,0 @@
-use Rattle.tx_engine.proofs.Common.{◌≡◌, [], drop}
-use Rattle.std.proofs.Common.{take}
-use Rattle.array_machine.specs.Submit.{repeated}
-use Rattle.tx_engine.proofs.refusals.first_repeated.Given as goal
-
-abbrev pub invariant-loop-i : goal.invariant-loop-i
-invariant-loop-i l = repeated (take l.i l.batch.entries) (drop l.i l.batch.entries) ≡ repeated [] l.batch.entries

@@ -1,6 +1,0 @@
-use Rattle.tx_engine.proofs.Common.{◌≡◌, drop}
-use Rattle.array_machine.specs.Submit.{range}
-use Rattle.tx_engine.proofs.refusals.out_of_range.Given as goal
-
-abbrev pub invariant-loop-i : goal.invariant-loop-i
-invariant-loop-i l = range l.logical (drop l.i l.batch.entries) ≡ range l.logical l.batch.entries
