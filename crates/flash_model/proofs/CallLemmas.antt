@@ -3,6 +3,7 @@ use Rattle.std.proofs.Common.{◌≡◌, ℕ, ◌+◌, Bool, true, false, Option
 use Rattle.std.specs.Prelude.{IsSomeAnd}
 use Rattle.flash_model.specs.Flash.{FlashState, Told, counted_by, IsSteady}
 use Rattle.flash_model.specs.Calls.{BothTell, NoMoreToCome, Spends, Carries}
+use Rattle.flash_model.proofs.ComingLemmas.{Starts-nothing, Starts-then}
 
 -- a count that goes up twice
 pub counted_by-twice : (more most n : ℕ) → counted_by most (counted_by more n) ≡ counted_by (more + most) n
@@ -43,6 +44,7 @@ Carries-nothing s = record {
   no_more = no_more_same s.told;
   extras = refl;
   spends = tt;
+  starts = λ on. Starts-nothing s;
 }
 
 dead_then : (a b c : FlashState) → Carries a b false → Carries b c true → a.live ≡ false → c ≡ record a { faults = c.faults }
@@ -61,6 +63,7 @@ Carries-then a b c true ab bc = record {
   no_more = no_more_then a.told b.told c.told ab.no_more bc.no_more;
   extras = bc.extras ∙ ab.extras;
   spends = λ on. spends_then c.live a.told b.told c.told ab.no_more (bc.spends (ab.lives ∙ on));
+  starts = λ on. Starts-then a b c true (ab.starts on) (bc.starts (ab.lives ∙ on));
 }
 Carries-then a b c false ab bc = record {
   shape = bc.shape ∙ ab.shape;
@@ -73,6 +76,7 @@ Carries-then a b c false ab bc = record {
   no_more = no_more_then a.told b.told c.told ab.no_more bc.no_more;
   extras = bc.extras ∙ ab.extras;
   spends = tt;
+  starts = λ on. Starts-then a b c false (ab.starts on) (bc.starts (ab.lives ∙ on));
 }
 
 abbrev NoneComes : Option Told → Type 0

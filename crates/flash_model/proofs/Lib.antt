@@ -1,4 +1,6 @@
 pub mod CallLemmas
+pub mod ComingLaws
+pub mod ComingLemmas
 pub mod FireLemmas
 pub mod ImageLemmas
 pub mod MoveLemmas

@@ -18,6 +18,7 @@ Carries-with_extras a b extras broken ab = record {
   no_more = ab.no_more;
   extras = refl;
   spends = ab.spends;
+  starts = ab.starts;
 }
 
 -- a call that retires no block keeps what one keeps that may

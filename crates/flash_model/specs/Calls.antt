@@ -1,13 +1,14 @@
 -- What the calls of a flash do, and what is left where one is broken.
-use Rattle.std.specs.Prelude.{◌≡◌, ℕ, ◌<◌, ◌≤◌, Bool, true, false, List, replicate, Option, None, Some, Result, IfOk, OnOk, OnErr, if◌then◌else◌}
+use Rattle.std.specs.Prelude.{◌≡◌, ℕ, ◌<◌, ◌≤◌, Bool, true, false, ◌&&◌, List, replicate, Option, None, Some, Result, IfOk, OnOk, OnErr, if◌then◌else◌}
 use Rattle.std.specs.Bool.{OnTrue, OnFalse}
 use Rattle.std.specs.Result.{is_err}
 use Rattle.tx_types.specs.Limits.{spare_bytes}
 use Rattle.flash_model.specs.declared.flash.Broken.{Broken}
 use Rattle.flash_model.specs.declared.flash.Seen.{Seen}
 use Rattle.flash_model.specs.declared.flash.Seen.TheVariants as seen
-use Rattle.flash_model.specs.Flash.{FlashState, Told, Contents, blank, damaged, complete, slot_at, counted}
-use Rattle.flash_model.specs.Operations.{Operation, program, erase, moment_of, Done, Torn}
+use Rattle.flash_model.specs.Flash.{FlashState, Told, Contents, blank, damaged, complete, slot_at, counted, counted_times}
+use Rattle.flash_model.specs.Coming.{ComesTo}
+use Rattle.flash_model.specs.Operations.{Operation, program, erase, starts, moment_of, Done, Torn}
 
 -- a count of faults rose, or already stood at the end of its type
 abbrev pub Rose : ℕ → ℕ → Type 0
@@ -29,9 +30,17 @@ abbrev pub Spends : Bool → Told → Told → Type 0
 Spends true old new = new.breaks < old.breaks
 Spends false old new = new.cuts < old.cuts
 
+-- so many are started, and so many reads: each is counted, and the arms come by them
+abbrev pub Starts : FlashState → FlashState → Bool → Type 0
+Starts old new broken =
+    (started : ℕ) × (reads : ℕ) × (new.started ≡ counted_times started old.started)
+    × (new.reads ≡ counted_times reads old.reads)
+    × BothTell (ComesTo broken new.live started reads) old.told new.told
+
 -- What each call of a flash keeps, and each call of what stands on one, which was broken or not: the shape, the count
--- of faults, which does not fall, what is to come, and what is told of retired blocks. The count of faults rises where a call is broken, and no other
--- call changes it. Only a broken call may end being live. On a flash without power nothing but that count changes.
+-- of faults, which does not fall, what is to come, and what is told of retired blocks. The count of faults rises where
+-- a call is broken, and no other call changes it. Only a broken call may end being live. On a flash without power
+-- nothing but that count changes. With power each arm comes at its number.
 pub record Carries (old new : FlashState) (broken : Bool) : Type 0 where
   pub shape : new.shape ≡ old.shape
   pub later : old.faults ≤ new.faults
@@ -43,6 +52,7 @@ pub record Carries (old new : FlashState) (broken : Bool) : Type 0 where
   pub no_more : BothTell NoMoreToCome old.told new.told
   pub extras : new.extras ≡ old.extras
   pub spends : OnTrue broken (old.live ≡ true → BothTell (Spends new.live) old.told new.told)
+  pub starts : old.live ≡ true → Starts old new broken
 
 -- how a slot with these contents reads
 abbrev pub seen_of : Contents → Seen
@@ -68,7 +78,7 @@ pub record Shows (page_bytes : ℕ) (contents : Contents) (how : Seen)
   pub its_page : bytes ≡ page_of page_bytes contents
   pub its_spare_area : spare_area ≡ spare_area_of contents
 
--- a read changes no slot and no count of what was done, and counts itself where power is on
+-- a read changes no slot and no count of what was done or started, and counts itself where power is on
 pub record Reads (old new : FlashState) (at : ℕ) (bytes spare_area : List ℕ)
     (result : Result Seen Broken) : Type 0 where
   pub carries : Carries old new (is_err result)
@@ -78,12 +88,14 @@ pub record Reads (old new : FlashState) (at : ℕ) (bytes spare_area : List ℕ)
   pub programs : new.programs ≡ old.programs
   pub erases : new.erases ≡ old.erases
   pub reads : new.reads ≡ (if old.live then counted old.reads else old.reads)
+  pub started : new.started ≡ old.started
 
 -- the spare area of a slot is read as with the slot's contents, of which nothing is said
 abbrev pub ReadsSpareArea : FlashState → FlashState → ℕ → List ℕ → Result Seen Broken → Type 0
 ReadsSpareArea old new at spare_area result = (bytes : List ℕ) × Reads old new at bytes spare_area result
 
--- an operation is done, which needs power, or broken, and counts no read
+-- An operation is done, which needs power, or broken. It counts no read, and where power is on it counts as started, if
+-- it has something to do.
 pub record Operates (old new : FlashState) (o : Operation)
     (result : Result (Unit {0}) Broken) : Type 0 where
   pub carries : Carries old new (is_err result)
@@ -91,6 +103,7 @@ pub record Operates (old new : FlashState) (o : Operation)
   pub done : OnOk result (Done old.shape (moment_of old) o (moment_of new))
   pub torn : OnErr result (Torn old.shape (moment_of old) o (moment_of new))
   pub reads : new.reads ≡ old.reads
+  pub started : new.started ≡ (if old.live && starts o then counted old.started else old.started)
 
 abbrev pub Programs : FlashState → FlashState → ℕ → List ℕ → List ℕ → Result (Unit {0}) Broken →
     Type 0

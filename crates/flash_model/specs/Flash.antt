@@ -1,5 +1,5 @@
 -- What a flash is.
-use Rattle.std.specs.Prelude.{◌≡◌, ℕ, ◌+◌, ◌-◌, ◌^◌, min, Bool, true, List, length, slice_index_or, All, Option, IsSomeAnd}
+use Rattle.std.specs.Prelude.{◌≡◌, ℕ, zero, suc, ◌+◌, ◌-◌, ◌^◌, min, Bool, true, List, length, slice_index_or, All, Option, IsSomeAnd}
 use Rattle.tx_types.specs.Config.{IsShape, slots_of}
 use Rattle.tx_types.specs.Limits.{spare_bytes}
 use Rattle.tx_types.specs.declared.config.Shape.{Shape}
@@ -29,8 +29,9 @@ pub record Extras : Type 0 where
 abbrev pub no_extras : Extras
 no_extras = record { allowance = 0; retired = 0 }
 
--- A flash: its shape, its slots in order, whether power is on, its count of faults, its counts of the programs and
--- the erases that were done, and of the reads that were asked for while power was on. It may tell what is to come, and of its
+-- A flash: its shape, its slots in order, whether power is on, its count of faults, and its counts of the programs and
+-- the erases that were done, of the reads that were asked for while power was on, and of what was started then: the
+-- programs, the erases, the retirements, and the fires with something loaded. It may tell what is to come, and of its
 -- retired blocks.
 pub record FlashState : Type 0 where
   pub shape : Shape
@@ -40,6 +41,7 @@ pub record FlashState : Type 0 where
   pub programs : ℕ
   pub erases : ℕ
   pub reads : ℕ
+  pub started : ℕ
   pub told : Option Told
   pub extras : Option Extras
 
@@ -50,6 +52,11 @@ counted_by more n = min (n + more) (2 ^ 64 - 1)
 -- a count goes up by one
 abbrev pub counted : ℕ → ℕ
 counted n = counted_by 1 n
+
+-- a count goes up by one, so many times
+abbrev pub counted_times : ℕ → ℕ → ℕ
+counted_times zero n = n
+counted_times (suc times) n = counted_by (suc times) n
 
 -- what a slot of an image holds
 abbrev pub slot_at : List Contents → ℕ → Contents

@@ -1,5 +1,6 @@
 pub mod Arms
 pub mod Calls
+pub mod Coming
 pub mod Firing
 pub mod Flash
 pub mod Moves

@@ -1,5 +1,5 @@
 -- The operations that change a flash: what each needs, does, and leaves where it is broken.
-use Rattle.std.specs.Prelude.{◌≡◌, ◌≢◌, ℕ, ◌+◌, ◌*◌, ◌/◌, ◌<◌, ◌≤◌, List, [], ◌∷◌, ◌++◌, length, take, drop, replicate, slice_set, All, AllPairs, Any}
+use Rattle.std.specs.Prelude.{◌≡◌, ◌≢◌, ℕ, ◌+◌, ◌*◌, ◌/◌, ◌<◌, ◌≤◌, ◌==◌, Bool, true, not, List, [], ◌∷◌, ◌++◌, length, take, drop, replicate, slice_set, All, AllPairs, Any}
 use Rattle.tx_types.specs.Config.{slots_of, blocks_of}
 use Rattle.tx_types.specs.Limits.{spare_bytes}
 use Rattle.tx_types.specs.declared.config.Shape.{Shape}
@@ -31,6 +31,12 @@ pub record Moment : Type 0 where
 
 abbrev pub moment_of : FlashState → Moment
 moment_of s = record { image = s.image; programs = s.programs; erases = s.erases }
+
+-- an operation has something to do: each has but a fire of nothing
+abbrev pub starts : Operation → Bool
+starts (program at bytes spare_area) = true
+starts (erase block) = true
+starts (fire loads) = not (length loads == 0)
 
 -- the first slot after the block that a slot lies in
 abbrev pub block_end : Shape → ℕ → ℕ

@@ -1,10 +1,10 @@
 -- Retired blocks: a flash can replace a block by a fresh one, as often as it allows. What that does, and what is left
 -- where it is broken.
-use Rattle.std.specs.Prelude.{◌≡◌, ◌⊎◌, ℕ, ◌+◌, ◌<◌, Bool, true, false, List, Option, IsSomeAnd, Result, OnOk, OnErr}
+use Rattle.std.specs.Prelude.{◌≡◌, ◌⊎◌, ℕ, ◌+◌, ◌<◌, Bool, true, false, List, Option, IsSomeAnd, Result, OnOk, OnErr, if◌then◌else◌}
 use Rattle.std.specs.Option.{option_map}
 use Rattle.std.specs.Result.{is_err}
 use Rattle.flash_model.specs.declared.flash.Broken.{Broken}
-use Rattle.flash_model.specs.Flash.{FlashState, Extras, blank}
+use Rattle.flash_model.specs.Flash.{FlashState, Extras, blank, counted}
 use Rattle.flash_model.specs.Operations.{Operation, moment_of, with_block}
 use Rattle.flash_model.specs.Moves.{Does, FlashMoves}
 use Rattle.flash_model.specs.Calls.{Carries}
@@ -37,19 +37,21 @@ pub record IsNotReplaced (old new : FlashState) : Type 0 where
   pub moment : moment_of new ≡ moment_of old
   pub extras : new.extras ≡ old.extras
 
--- What a call keeps that may retire a block: all that each call keeps, but for what is told of retired blocks. That stays
--- too where power is off.
+-- What a call keeps that may retire a block: all that each call keeps, but for what is told of retired blocks. That
+-- stays too where power is off.
 pub record CarriesRetiring (old new : FlashState) (broken : Bool) : Type 0 where
   pub carries : Carries (with_extras old new.extras) new broken
   pub dead : old.live ≡ false → new.extras ≡ old.extras
 
--- A block is replaced, which needs power, or the call is broken, and the block is then replaced or not. No read is counted.
+-- A block is replaced, which needs power, or the call is broken, and the block is then replaced or not. No read is
+-- counted, and where power is on the call is counted as started.
 pub record Retires (old new : FlashState) (block : ℕ) (result : Result (Unit {0}) Broken) : Type 0 where
   pub carries : CarriesRetiring old new (is_err result)
   pub powered : OnOk result (old.live ≡ true)
   pub done : OnOk result (IsReplaced old new block)
   pub torn : OnErr result (IsNotReplaced old new ⊎ IsReplaced old new block)
   pub reads : new.reads ≡ old.reads
+  pub started : new.started ≡ (if old.live then counted old.started else old.started)
 
 -- a call that does these operations, none of them broken, and then replaces the block
 pub record RetiresAfter (old new : FlashState) (first : List Operation) (block : ℕ) : Type 0 where

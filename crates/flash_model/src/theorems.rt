@@ -1,11 +1,12 @@
 //! What holds of the calls of each flash. The functions do nothing: each is there for what it ensures.
-ghost use Rattle.std.specs.Prelude.{◌≡◌, ◌≢◌, ◌<◌, ◌/◌, ℕ, suc, Bool, false, List, [], ◌∷◌, ◌++◌, length, map, Option, Result, Ok};
+ghost use Rattle.std.specs.Prelude.{◌≡◌, ◌≢◌, ◌<◌, ◌≤◌, ◌+◌, ◌-◌, ◌/◌, ◌^◌, ℕ, suc, Bool, true, false, List, [], ◌∷◌, ◌++◌, length, map, Option, Some, IsSomeAnd, Result, Ok};
 ghost use Rattle.std.specs.Result.{is_err};
 ghost use Rattle.tx_types.specs.Config.{IsShape, slots_of};
 ghost use Rattle.tx_types.specs.declared.config.Shape.{Shape};
 ghost use Rattle.flash_model.specs.declared.flash.Broken.{Broken};
+ghost use Rattle.flash_model.specs.declared.outcome.Arm.{Arm};
 ghost use Rattle.flash_model.specs.declared.outcome.Outcome.{Outcome};
-ghost use Rattle.flash_model.specs.Flash.{FlashState, Contents, slot_at, IsImage, IsSteady};
+ghost use Rattle.flash_model.specs.Flash.{FlashState, Told, Contents, slot_at, IsImage, IsSteady};
 ghost use Rattle.flash_model.specs.Operations.{Operation, Load, fire, program_of, Moment, CanDo, WorksIn, die_of, image_left, left_each, after, Torn};
 ghost use Rattle.flash_model.specs.Moves.{Does, IsLone, Moves, FiresTorn, FlashMoves, StayOff};
 ghost use Rattle.flash_model.specs.Calls.{Carries, Operates};
@@ -18,6 +19,18 @@ pub fn calls_compose()
         Carries a b false → Carries b c broken → Carries a c broken }
     ensures moves { (a b c : FlashState) (broken : Bool) → Carries a b false →
         FlashMoves a b false → FlashMoves b c broken → FlashMoves a c broken }
+{}
+
+/// A cut comes at the one of its number, of all that are started, and not before.
+pub fn cuts_come_due()
+    ensures comes { (old new : FlashState) (before : Told) (arm : Arm) → old.told ≡ Some before →
+        before.cut ≡ Some arm → 1 ≤ arm.count → old.started + arm.count < 2 ^ 64 → old.live ≡ true →
+        Carries old new true → new.live ≡ false → new.started ≡ old.started + arm.count }
+    ensures waits { (old new : FlashState) (before : Told) (arm : Arm) → old.told ≡ Some before →
+        before.cut ≡ Some arm → 1 ≤ arm.count → old.started + arm.count < 2 ^ 64 → old.live ≡ true →
+        Carries old new false → (new.started < old.started + arm.count)
+        × IsSomeAnd new.told (λ after. after.cut
+            ≡ Some (record arm { count = arm.count - (new.started - old.started) })) }
 {}
 
 /// A program or an erase moves the flash by one operation, done or broken, and so does a fire that is done, by its

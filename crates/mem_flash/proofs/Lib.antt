@@ -5,3 +5,4 @@ pub mod Programmed
 pub mod Filled
 mod Kept
 mod Loaded
+mod Meeting

@@ -43,8 +43,8 @@ abbrev pub operation_down : Armed → Armed
 operation_down armed =
     record armed { cut = counted_down armed.cut; fault = counted_down armed.fault }
 
--- The outcome with which the next program, erase, retirement or fire is broken, none where it will be done. Where a cut and
--- a fault come due the cut decides, and without power all stays as before.
+-- The outcome with which the next program, erase, retirement or fire is broken, none where it will be done. Where a cut
+-- and a fault come due the cut decides, and without power all stays as before.
 abbrev pub broken_by : MemFlashState → Option Outcome
 broken_by s = if s.live then option_or (due s.armed.cut) (due s.armed.fault) else Some outcome.None
 
@@ -52,11 +52,13 @@ abbrev pub answered : Option Outcome → Result (Unit {0}) Broken
 answered None = Ok tt
 answered (Some how) = Err (record {})
 
--- the flash once a program, an erase, a retirement or a fire has met the arms, which count while power is on
+-- the flash once a program, an erase, a retirement or a fire has met the arms, which count it while power is on, as the
+-- flash does
 abbrev pub met : MemFlashState → MemFlashState
 met s = record s {
   live = s.live && is_none (due s.armed.cut);
   faults = if is_some (broken_by s) then counted s.faults else s.faults;
+  started = if s.live then counted s.started else s.started;
   armed = if s.live then operation_down s.armed else s.armed;
 }
 

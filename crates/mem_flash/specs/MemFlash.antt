@@ -14,6 +14,7 @@ memory_of f = record {
   programs = f.programs;
   erases = f.erases;
   reads = f.reads;
+  started = f.started;
   armed = f.armed;
   extras = record { allowance = f.allowance; retired = f.retired };
   registers = map load_in f.registers.items;

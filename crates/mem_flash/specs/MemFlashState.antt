@@ -16,6 +16,7 @@ pub record MemFlashState : Type 0 where
   pub programs : ℕ
   pub erases : ℕ
   pub reads : ℕ
+  pub started : ℕ
   pub armed : Armed
   pub extras : Extras
   pub registers : List (Option Load)
@@ -44,6 +45,7 @@ state_of s = record {
   programs = s.programs;
   erases = s.erases;
   reads = s.reads;
+  started = s.started;
   told = Some (told_of s.armed);
   extras = Some s.extras;
 }
@@ -58,6 +60,7 @@ loaded shape image extras = record {
   programs = 0;
   erases = 0;
   reads = 0;
+  started = 0;
   armed = record { cut = None; fault = None; bad_read = None };
   extras = extras;
   registers = no_loads shape;

@@ -31,6 +31,8 @@ pub struct MemFlash {
     erases: u64,
     /// Reads that were asked for while power was on.
     reads: u64,
+    /// Programs, erases, retirements and fires of something that were asked for while power was on.
+    started: u64,
     /// Calls that were broken.
     faults: u64,
     /// A register for each die, taken beforehand: no call of a flash takes memory.
@@ -111,6 +113,7 @@ impl MemFlash {
             programs: 0,
             erases: 0,
             reads: 0,
+            started: 0,
             faults: 0,
             registers: empty_registers(alloc, shape)?,
             allowance: 0,
@@ -166,6 +169,14 @@ impl MemFlash {
         self.reads
     }
 
+    /// The number of programs, erases, retirements and fires of something that were asked for while power was on. It
+    /// stands still at its type's end.
+    pub fn started(&self) -> u64
+        ensures { result ≡ self.now.started }
+    {
+        self.started
+    }
+
     /// The number of calls that were broken. It stands still at its type's end.
     pub fn faults(&self) -> u64
         ensures { result ≡ self.now.faults }
@@ -200,6 +211,7 @@ impl MemFlash {
             self.faults = self.faults.saturating_add(1);
             return Some(Outcome::None);
         }
+        self.started = self.started.saturating_add(1);
         let cut = count_down(&mut self.armed.cut);
         let fault = count_down(&mut self.armed.fault);
         self.live = cut.is_none();

@@ -14,65 +14,67 @@ use tx_types::{Block, Slot};
 
 /// Steps on a flash of which two blocks may be retired and whose slots 0, 2 and 3 were programmed. Then for each call
 /// whether it was answered (`+`) or broken (`-`), each slot (`.` blank, `C` complete, `X` damaged), whether power is
-/// on, the counts of programs, erases, reads and faults, and the blocks retired. `fire` starts nothing together, or
-/// slot 4 alone, or the slots 1 and 4, which lie in the two dies.
+/// on, the counts of programs, erases, reads and faults, the blocks retired, and all that was started, with the three
+/// from before. `fire` starts nothing together, or slot 4 alone, or the slots 1 and 4, which lie in the two dies.
 const ROWS: &str = "\
-    => none C.CC.... on 3 0 0 0 0\n\
-    program 1 => + CCCC.... on 4 0 0 0 0\n\
-    erase 1 => + C....... on 3 1 0 0 0\n\
-    read 0 => + C.CC.... on 3 0 1 0 0\n\
-    cut 1 none, program 1 => - C.CC.... off 3 0 0 1 0 -- each outcome of each operation\n\
-    cut 1 all, program 1 => - CCCC.... off 3 0 0 1 0\n\
-    cut 1 bad, program 1 => - CXCC.... off 3 0 0 1 0\n\
-    cut 1 none, erase 1 => - C.CC.... off 3 0 0 1 0\n\
-    cut 1 all, erase 1 => - C....... off 3 0 0 1 0\n\
-    cut 1 bad, erase 1 => - C.XX.... off 3 0 0 1 0\n\
-    fault 1 none, program 1 => - C.CC.... on 3 0 0 1 0\n\
-    fault 1 all, program 1 => - CCCC.... on 3 0 0 1 0\n\
-    fault 1 bad, program 1 => - CXCC.... on 3 0 0 1 0\n\
-    fault 1 none, erase 1 => - C.CC.... on 3 0 0 1 0\n\
-    fault 1 all, erase 1 => - C....... on 3 0 0 1 0\n\
-    fault 1 bad, erase 1 => - C.XX.... on 3 0 0 1 0\n\
-    badread 2, read 0, program 1, read 0, read 0 => ++-+ CCCC.... on 4 0 3 1 0 \
+    => none C.CC.... on 3 0 0 0 0 3\n\
+    program 1 => + CCCC.... on 4 0 0 0 0 4\n\
+    erase 1 => + C....... on 3 1 0 0 0 4\n\
+    read 0 => + C.CC.... on 3 0 1 0 0 3\n\
+    cut 1 none, program 1 => - C.CC.... off 3 0 0 1 0 4 -- each outcome of each operation\n\
+    cut 1 all, program 1 => - CCCC.... off 3 0 0 1 0 4\n\
+    cut 1 bad, program 1 => - CXCC.... off 3 0 0 1 0 4\n\
+    cut 1 none, erase 1 => - C.CC.... off 3 0 0 1 0 4\n\
+    cut 1 all, erase 1 => - C....... off 3 0 0 1 0 4\n\
+    cut 1 bad, erase 1 => - C.XX.... off 3 0 0 1 0 4\n\
+    fault 1 none, program 1 => - C.CC.... on 3 0 0 1 0 4\n\
+    fault 1 all, program 1 => - CCCC.... on 3 0 0 1 0 4\n\
+    fault 1 bad, program 1 => - CXCC.... on 3 0 0 1 0 4\n\
+    fault 1 none, erase 1 => - C.CC.... on 3 0 0 1 0 4\n\
+    fault 1 all, erase 1 => - C....... on 3 0 0 1 0 4\n\
+    fault 1 bad, erase 1 => - C.XX.... on 3 0 0 1 0 4\n\
+    badread 2, read 0, program 1, read 0, read 0 => ++-+ CCCC.... on 4 0 3 1 0 4 \
     -- reads, and what each arm counts\n\
-    fault 2 bad, program 1, read 0, program 4, program 5 => ++-+ CCCCXC.. on 5 0 1 1 0\n\
-    fault 1 bad, fault 2 none, program 1, program 4 => +- CCCC.... on 4 0 0 1 0 \
+    fault 2 bad, program 1, read 0, program 4, program 5 => ++-+ CCCCXC.. on 5 0 1 1 0 6\n\
+    fault 1 bad, fault 2 none, program 1, program 4 => +- CCCC.... on 4 0 0 1 0 5 \
     -- a newer arm replaces an older one\n\
-    cut 1 none, fault 1 bad, program 1, on, program 1 => -+ CCCC.... on 4 0 0 1 0 \
+    cut 1 none, fault 1 bad, program 1, on, program 1 => -+ CCCC.... on 4 0 0 1 0 5 \
     -- where both come due the cut decides, and both are spent\n\
-    fault 1 none, cut 2 bad, program 1, program 1, on, program 4 => --+ CXCCC... on 4 0 0 2 0 \
+    fault 1 none, cut 2 bad, program 1, program 1, on, program 4 => --+ CXCCC... on 4 0 0 2 0 6 \
     -- the cut counts the call in which the fault comes due,\n\
-    cut 1 none, fault 2 all, program 1, erase 0, read 0, on, program 1 => ---- CCCC.... on 3 0 0 4 0 \
+    cut 1 none, fault 2 all, program 1, erase 0, read 0, on, program 1 => ---- CCCC.... on 3 0 0 4 0 5 \
     -- and the fault that of the cut. It counts no call without power, and is armed still when power is on \
     again\n\
-    badread 1, cut 1 none, program 1, read 0, on, read 0, read 0 => ---+ C.CC.... on 3 0 2 3 0\n\
-    cut 3 all, erase 0, program 0, erase 1, read 2 => ++-- C....... off 4 1 0 2 0\n\
-    retire 1 => + C....... on 3 0 0 0 1 \
+    badread 1, cut 1 none, program 1, read 0, on, read 0, read 0 => ---+ C.CC.... on 3 0 2 3 0 4\n\
+    cut 3 all, erase 0, program 0, erase 1, read 2 => ++-- C....... off 4 1 0 2 0 6\n\
+    cut 3 bad, program 1, read 0, program 4, program 5 => +++- CCCCCX.. off 5 0 1 1 0 6 \
+    -- the third of these operations is cut\n\
+    retire 1 => + C....... on 3 0 0 0 1 4 \
     -- a block is retired whole or not at all, and is counted for the arms alone\n\
-    cut 1 none, retire 1 => - C.CC.... off 3 0 0 1 0\n\
-    cut 1 all, retire 1 => - C....... off 3 0 0 1 1\n\
-    cut 1 bad, retire 1 => - C....... off 3 0 0 1 1\n\
-    fault 1 none, retire 1 => - C.CC.... on 3 0 0 1 0\n\
-    fault 1 all, retire 1 => - C....... on 3 0 0 1 1\n\
-    fault 1 bad, retire 1 => - C....... on 3 0 0 1 1\n\
-    fault 2 bad, retire 1, retire 0 => +- ........ on 3 0 0 1 2\n\
-    cut 1 none, program 1, retire 1, on, retire 0, erase 1 => --++ ........ on 3 1 0 2 1\n\
-    fire both => + CCCCC... on 5 0 0 0 0 \
+    cut 1 none, retire 1 => - C.CC.... off 3 0 0 1 0 4\n\
+    cut 1 all, retire 1 => - C....... off 3 0 0 1 1 4\n\
+    cut 1 bad, retire 1 => - C....... off 3 0 0 1 1 4\n\
+    fault 1 none, retire 1 => - C.CC.... on 3 0 0 1 0 4\n\
+    fault 1 all, retire 1 => - C....... on 3 0 0 1 1 4\n\
+    fault 1 bad, retire 1 => - C....... on 3 0 0 1 1 4\n\
+    fault 2 bad, retire 1, retire 0 => +- ........ on 3 0 0 1 2 5\n\
+    cut 1 none, program 1, retire 1, on, retire 0, erase 1 => --++ ........ on 3 1 0 2 1 6\n\
+    fire both => + CCCCC... on 5 0 0 0 0 4 \
     -- programs that are started together are one call for the arms, and each is counted. The one of the \
     lowest die is damaged\n\
-    fire one => + C.CCC... on 4 0 0 0 0\n\
-    cut 1 none, fire both => - C.CC.... off 3 0 0 1 0\n\
-    cut 1 all, fire both => - CCCCC... off 3 0 0 1 0\n\
-    cut 1 bad, fire both => - CXCCC... off 3 0 0 1 0\n\
-    fault 1 none, fire both => - C.CC.... on 3 0 0 1 0\n\
-    fault 1 all, fire both => - CCCCC... on 3 0 0 1 0\n\
-    fault 1 bad, fire both => - CXCCC... on 3 0 0 1 0\n\
-    fault 1 bad, fire one => - C.CCX... on 3 0 0 1 0\n\
-    fault 2 bad, fire both, program 5 => +- CCCCCX.. on 5 0 0 1 0\n\
-    fault 1 bad, fire none, program 1 => +- CXCC.... on 3 0 0 1 0 \
+    fire one => + C.CCC... on 4 0 0 0 0 4\n\
+    cut 1 none, fire both => - C.CC.... off 3 0 0 1 0 4\n\
+    cut 1 all, fire both => - CCCCC... off 3 0 0 1 0 4\n\
+    cut 1 bad, fire both => - CXCCC... off 3 0 0 1 0 4\n\
+    fault 1 none, fire both => - C.CC.... on 3 0 0 1 0 4\n\
+    fault 1 all, fire both => - CCCCC... on 3 0 0 1 0 4\n\
+    fault 1 bad, fire both => - CXCCC... on 3 0 0 1 0 4\n\
+    fault 1 bad, fire one => - C.CCX... on 3 0 0 1 0 4\n\
+    fault 2 bad, fire both, program 5 => +- CCCCCX.. on 5 0 0 1 0 5\n\
+    fault 1 bad, fire none, program 1 => +- CXCC.... on 3 0 0 1 0 4 \
     -- where nothing is loaded no arm counts the call, and after a broken one nothing is loaded\n\
-    fault 1 none, fire both, fire none => -+ C.CC.... on 3 0 0 1 0\n\
-    cut 1 none, fire none, program 1, fire both, fire none, on, fire both => +---+ CCCCC... on 5 0 0 3 0";
+    fault 1 none, fire both, fire none => -+ C.CC.... on 3 0 0 1 0 4\n\
+    cut 1 none, fire none, program 1, fire both, fire none, on, fire both => +---+ CCCCC... on 5 0 0 3 0 5";
 
 /// The outcome of a name.
 fn outcome(name: &str) -> Outcome {
@@ -286,6 +288,7 @@ fn counts(flash: &MemFlash, want: &str) -> bool {
         && has_version(want, 5, flash.reads())
         && has_version(want, 6, flash.faults())
         && has_number(want, 7, flash.retired())
+        && has_version(want, 8, flash.started())
 }
 
 /// Whether three slots of a new flash are programmed.

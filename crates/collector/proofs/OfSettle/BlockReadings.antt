@@ -12,7 +12,7 @@ use Rattle.collector.specs.Settling.{ReadsBlock, reads_as}
 use Rattle.collector.specs.Collecting.{reads_blank}
 
 -- none was read
-looks_none : (s : FlashState) → Looks s s 0 false
+pub looks_none : (s : FlashState) → Looks s s 0 false
 looks_none s = record { moment = refl; carries = Carries-nothing s; all = refl; some = tt }
 
 -- one read that was done

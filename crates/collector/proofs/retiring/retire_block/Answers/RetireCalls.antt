@@ -1,11 +1,13 @@
 -- Retiring a block, as a call: the spare is replaced at once; else the spare is made blank, what is needed is copied, and the
 -- block is replaced.
-use Rattle.collector.proofs.Common.{◌≡◌, ◌≢◌, ℕ, ◌*◌, true, false, List, [], ◌++◌, length, Ok, Err, Result, refl, sym, ap, ◌∙◌, subst, cond-false, ne_eqb, Block, Protocol, Broken, FlashState, Does, Operation, moment_of, LossLaw, IndexState, Unsure, Cleans, CopiesNeeded, Keeps, cleaning, copies, needed_slots, noted_cleaned, reads_after, RetiresVictim, StoreParts}
-use Rattle.std.proofs.Common.{◌==◌}
+use Rattle.collector.proofs.Common.{◌≡◌, ◌≢◌, ℕ, ◌*◌, true, false, List, [], ◌++◌, length, Ok, Err, Result, refl, sym, ap, ◌∙◌, subst, cond-true, cond-false, ne_eqb, Block, Protocol, Broken, FlashState, Does, Operation, moment_of, LossLaw, IndexState, Unsure, Cleans, CopiesNeeded, Keeps, cleaning, copies, needed_slots, noted_cleaned, reads_after, RetiresVictim, StoreParts}
+use Rattle.std.proofs.Common.{◌==◌, arith}
+use Rattle.std.proofs.lemmas.Bool.Decides.{nat_tests}
+use Rattle.flash_model.proofs.CallLemmas.{Carries-nothing}
 use Rattle.flash_model.proofs.RetireLemmas.{CarriesRetiring-then}
 use Rattle.collector.specs.declared.unsure.Unsure.TheVariants as unsure
 use Rattle.collector.specs.BreakingOff.{CopiesBreakOff}
-use Rattle.collector.specs.Retiring.{RetiresBlock, RetiresNone, EndsRetiring, retiring_first}
+use Rattle.collector.specs.Retiring.{RetiresSpare, RetiresBlock, RetiresNone, EndsRetiring, retiring_first}
 use Rattle.collector.specs.StoreParts.{IsSure}
 use Rattle.collector.proofs.OfCollect.BreakingOff.{copies_broke, victim_broke}
 use Rattle.collector.proofs.OfCollect.CollectCalls.{noted_so, table_so, reads_so}
@@ -26,6 +28,42 @@ ends_copying n s old new before spare block n' (unsure.Copy from to) b none = no
 ends_copying n s old new before spare block n' (unsure.Own at rec) b none = none
 ends_copying n s old new before spare block n' unsure.SpareErase b none = none
 ends_copying n s old new before spare block n' (unsure.VictimErase at) b none = absurd b
+
+-- the spare was replaced, or that broke
+same_number : (n : ℕ) → (n == n) ≡ true
+same_number n = grind (arith, nat_tests)
+
+is_spare : (p : Protocol) (a b : StoreParts) (r : Result (Unit {0}) Broken) → RetiresSpare p a b r → RetiresBlock p a b a.table.spare r
+is_spare p a b (Ok x) e = record {
+  keeps = e.keeps;
+  done = record {
+    between = a.flash;
+    does = subst (λ l. Does a.flash.shape (moment_of a.flash) l (moment_of a.flash))
+        (sym (cond-true (a.table.spare == a.table.spare) [] _ (same_number a.table.spare))) refl;
+    carries = Carries-nothing a.flash;
+    replaced = e.retires.done;
+  };
+  noted = (λ spare. (e.noted, e.blocks), λ other. absurd (other refl));
+  reads = e.retires.reads
+      ∙ ap (λ l. reads_after (length l) a.flash.reads) (sym (cond-true (a.table.spare == a.table.spare) [] _ (same_number a.table.spare)));
+  broken = tt;
+  stays = tt;
+}
+is_spare p a b (Err x) e = record {
+  keeps = e.keeps;
+  done = tt;
+  noted = tt;
+  reads = tt;
+  broken = (
+    λ spare. record { left = e.retires.torn; reads = e.retires.reads; noted = e.torn.1; place = e.torn.0 },
+    λ other. absurd (other refl),
+  );
+  stays = e.blocks;
+}
+
+pub spare_retired : (p : Protocol) (a b : StoreParts) (block : ℕ) (r : Result (Unit {0}) Broken) → block ≡ a.table.spare
+    → RetiresSpare p a b r → RetiresBlock p a b block r
+spare_retired p a b block r spare e = subst (λ n. RetiresBlock p a b n r) (sym spare) (is_spare p a b r e)
 
 module _ (p : Protocol) (loss : LossLaw p) (a m : StoreParts) (k : IsSure p a) (cleaned : Cleans p a m (Ok tt)) (block : Block)
     (apart : block.0 ≢ a.table.spare) where
