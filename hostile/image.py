@@ -150,7 +150,8 @@ def empty_cell(config: Config, state: int) -> bytes:
 
 
 def spell_image(image: Image) -> bytes:
-    return spell_header(image.config, image.extras) + bytes(it.state for it in image.slots) + b"".join(it.cell for it in image.slots)
+    return (spell_header(image.config, image.extras) + bytes(it.state for it in image.slots)
+            + b"".join(it.cell for it in image.slots))
 
 
 def spell_header(config: Config, extras: Extras = Extras()) -> bytes:

@@ -300,7 +300,8 @@ def second_magic(draw: Draw) -> bytes:
     """The header says how many blocks may be retired and how many are, sometimes too many or none."""
     data = spell_image(base_image(draw))
     numbers = HEADER.unpack_from(data)[1:-1]
-    allowance = draw.choice((0, 1, 2, 515, MOST_ALLOWED, MOST_ALLOWED + 1, draw.randrange(1, MOST_ALLOWED), 2 ** 32 - 1))
+    allowance = draw.choice((0, 1, 2, 515, MOST_ALLOWED, MOST_ALLOWED + 1, draw.randrange(1, MOST_ALLOWED),
+                             2 ** 32 - 1))
     retired = draw.choice((0, 0, 1, allowance, allowance, (allowance + 1) % 2 ** 32, draw.randrange(allowance + 1)))
     rest = bytearray(20)
     if draw.random() < 0.15:

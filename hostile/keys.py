@@ -1,4 +1,5 @@
-"""Key scripts and images with pages of keys by seed, and whether what `keys` says and saves can be (docs/formats.md)."""
+"""Key scripts and images with pages of keys by seed, and whether what `keys` prints and saves can be
+(docs/formats.md)."""
 import random
 from typing import Dict, List, NamedTuple, Optional, Tuple, Union
 
@@ -209,7 +210,8 @@ def draw_pages(draw: Draw, config: Config, keys: List[bytes]) -> List[Optional[b
     if draw.random() < 0.25:
         page = draw.randrange(config.logical)
         data = bytearray(pages[page] or bytes(config.page_bytes))
-        data[draw.choice((0, 1, 15, 16, 17, 31, len(data) - 1, draw.randrange(len(data)))) % len(data)] ^= draw.choice((1, 2, 16, 255))
+        data[draw.choice((0, 1, 15, 16, 17, 31, len(data) - 1, draw.randrange(len(data)))) % len(data)] ^= draw.choice(
+            (1, 2, 16, 255))
         pages[page] = bytes(data)
     return pages
 
@@ -236,8 +238,8 @@ def draw_script(draw: Draw, keys: List[bytes]) -> bytes:
             words = [f"{it.hex()}={draw.choice(('~', '~', '-', draw_bytes(draw, 1).hex()))}" for it in put_keys]
             lines.append(" ".join(["put", *words]))
         if draw.random() < 0.03:
-            lines[-1] = draw.choice((lines[-1] + " x", lines[-1].upper(), lines[-1][:-1], "get " + "00" * 16, "put 61=1",
-                                     "get ", "# " + lines[-1], "", "fault 1 all", lines[-1].replace("=", "==")))
+            lines[-1] = draw.choice((lines[-1] + " x", lines[-1].upper(), lines[-1][:-1], "get " + "00" * 16,
+                                     "put 61=1", "get ", "# " + lines[-1], "", "fault 1 all", lines[-1].replace("=", "==")))
     return ("\n".join(lines) + draw.choice(("", "\n", "\r\n"))).encode()
 
 

@@ -3,9 +3,9 @@
 
     pairs.py EXE [--pairs N] [--seed S] [--room FOLDER]
 
-Each of the two writes a page of its own. The second is started with the first one or while that runs. By turns both are given the
-image by its name, one of them by a symbolic link from another folder, and both as a file with two names, which is saved
-in place.
+Each of the two writes a page of its own. The second is started with the first one or while that runs. By turns both are
+given the image by its name, one of them by a symbolic link from another folder, and both as a file with two names,
+which is saved in place.
 
 A run that answers `done`, with status 0, has its page in the image that is left. A run that says `desk fault`, with
 status 5, has changed nothing, and one of the two is done. While a file is written in place, a run may load a part of

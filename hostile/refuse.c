@@ -1,5 +1,5 @@
-/* Refuses one allocation of a program, the REFUSE_AT-th from 1 on (0, or none: no one), and all behind it where REFUSE_ALL
- * is there. At the end the number of allocations is written to the file that REFUSE_COUNT names.
+/* Refuses one allocation of a program, the REFUSE_AT-th from 1 on (0, or none: no one), and all behind it where
+ * REFUSE_ALL is there. At the end the number of allocations is written to the file that REFUSE_COUNT names.
  *
  *     cc -shared -fPIC -O2 -o refuse.so refuse.c
  *     LD_PRELOAD=./refuse.so REFUSE_AT=3 REFUSE_COUNT=count.txt PROGRAM WORDS..

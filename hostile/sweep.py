@@ -338,7 +338,8 @@ def sweep(args: argparse.Namespace) -> int:
     begun = time.monotonic()
     program = os.path.abspath(args.program)
     jobs = [Job(program, args.seed, it, args.processes, args.images, args.commands, args.findings, args.keys,
-                args.retirements, args.words, args.stop, args.room, os.path.abspath(args.keep)) for it in range(args.processes)]
+                args.retirements, args.words, args.stop, args.room, os.path.abspath(args.keep))
+            for it in range(args.processes)]
     with multiprocessing.Pool(args.processes) as pool:
         found = pool.map(work, jobs, 1)
     counts: Counter[str] = sum((it.counts for it in found), collections.Counter())

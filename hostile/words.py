@@ -146,7 +146,8 @@ OTHERS = (
     ["run"], ["run", "d.img"], ["run", "", "c.txt"], ["run", "d.img", ""], ["run", "d.img", "c.txt", "x"], ["explain"],
     ["explain", ""], ["explain", "d.img", "d.img"], ["format"], ["drive"], [" try", "c.txt"], ["run", "c.txt"],
     ["save"], ["check"], ["check", "d.img"], ["check", "", "d.img"], ["check", "d.img", "d.img", "d.img"], ["compare"],
-    ["compare", "d.img"], ["compare", "d.img", ""], ["compare", "d.img", "d.img", "d.img"], ["Compare", "d.img", "d.img"],
+    ["compare", "d.img"], ["compare", "d.img", ""], ["compare", "d.img", "d.img", "d.img"],
+    ["Compare", "d.img", "d.img"],
     ["retire"], ["retire", "d.img"], ["retire", "", "0"], ["retire", "d.img", "0", "0"], ["retire", "d.img", "x"],
     ["retire", "d.img", "4294967296"], ["retire", "d.img", "00000000000"],
 )

@@ -2,7 +2,8 @@
 # fresh.sh [FOLDER]: clones the repository into a new folder of FOLDER (/tmp if none is named) and gives each command
 # of README in the clone, from nothing: with a home of its own, and a toolchain of its own by hard links, since rt keeps
 # beside the toolchain what it has proved. It prints a line for each command: its seconds, its status and the command.
-# The status is 0 where each command ended with 0. It needs 10 GB of disk, and the time of a first build and of the gate.
+# The status is 0 where each command ended with 0. It needs 10 GB of disk, and the time of a first build and of the
+# gate.
 set -u
 top=$(CDPATH='' cd "$(dirname "$(readlink -f -- "$0")")/.." && pwd)
 kit=$(dirname "$(dirname "$(readlink -f -- "$(command -v rt)")")")

@@ -27,9 +27,11 @@ both_none None b h = (refl, h)
 both_none (Some e) b h = cc
 
 -- no write is refused alone
-none_refused : (f : PageWrite → Option SubmitError) (ws : List PageWrite) → first_refusal f ws ≡ None → All (λ w. f w ≡ None) ws
+none_refused : (f : PageWrite → Option SubmitError) (ws : List PageWrite) → first_refusal f ws ≡ None →
+    All (λ w. f w ≡ None) ws
 none_refused f [] h = All-nil (λ w. f w ≡ None)
-none_refused f (w ∷ ws) h = let parts = both_none (f w) (first_refusal f ws) h in All-cons (λ v. f v ≡ None) w ws parts.0 (none_refused f ws parts.1)
+none_refused f (w ∷ ws) h = let parts = both_none (f w) (first_refusal f ws) h in
+    All-cons (λ v. f v ≡ None) w ws parts.0 (none_refused f ws parts.1)
 
 not_empty : (ws : List PageWrite) → empty ws ≡ None → 0 < length ws
 not_empty [] h = cc
@@ -44,35 +46,43 @@ none_cond true e h = cc
 none_cond false e h = refl
 
 -- no page stood earlier
-none_earlier : (earlier ws : List PageWrite) → repeated earlier ws ≡ None → (v w : PageWrite) → Contains earlier v → Contains ws w → v.page ≢ w.page
+none_earlier : (earlier ws : List PageWrite) → repeated earlier ws ≡ None → (v w : PageWrite) → Contains earlier v →
+    Contains ws w → v.page ≢ w.page
 none_earlier earlier [] h v w i j = absurd (Contains-nil w j)
 none_earlier earlier (x ∷ xs) h v w i j =
-    let parts = none_parts (list_any (is_of x.page) earlier) (refused.Repeated x.page) (repeated (earlier ++ x ∷ []) xs) h in
+    let parts = none_parts (list_any (is_of x.page) earlier) (refused.Repeated x.page)
+    (repeated (earlier ++ x ∷ []) xs) h in
     elim (Contains-cases x xs w j) [
-      | inl same ↦ λ e. eqb-false v.page x.page (any_none (is_of x.page) earlier parts.0 v i) (e ∙ ap (λ (y : PageWrite). y.page) (sym same))
+      | inl same ↦ λ e. eqb-false v.page x.page (any_none (is_of x.page) earlier parts.0 v i) (e
+          ∙ ap (λ (y : PageWrite). y.page) (sym same))
       | inr later ↦ none_earlier (earlier ++ x ∷ []) xs parts.1 v w (Contains-append_left earlier (x ∷ []) v i) later
     ]
 
 none_repeated : (earlier ws : List PageWrite) → repeated earlier ws ≡ None → AllPairs (λ v w. v.page ≢ w.page) ws
 none_repeated earlier [] h = λ i j d less below. absurd (omega arith)
 none_repeated earlier (x ∷ xs) h =
-    let parts = none_parts (list_any (is_of x.page) earlier) (refused.Repeated x.page) (repeated (earlier ++ x ∷ []) xs) h in
+    let parts = none_parts (list_any (is_of x.page) earlier) (refused.Repeated x.page)
+    (repeated (earlier ++ x ∷ []) xs) h in
     pairs_cons (λ (v : PageWrite) (w : PageWrite). v.page ≢ w.page) x xs
     (λ w i. none_earlier (earlier ++ x ∷ []) xs parts.1 x w (Contains-push earlier x) i)
     (none_repeated (earlier ++ x ∷ []) xs parts.1)
 
 -- no open transaction has the page
-none_owned : (entries : List Entry) (ws : List PageWrite) → overlap entries ws ≡ None → All (λ w. All (λ e. All (λ v. v.page ≢ w.page) e.writes) entries) ws
+none_owned : (entries : List Entry) (ws : List PageWrite) → overlap entries ws ≡ None →
+    All (λ w. All (λ e. All (λ v. v.page ≢ w.page) e.writes) entries) ws
 none_owned entries ws h =
-    let refusals = none_refused (λ w. option_map (λ e. refused.Overlap w.page e.tag) (find (is_owner w.page) entries)) ws h in
+    let refusals = none_refused (λ w. option_map (λ e. refused.Overlap w.page e.tag) (find (is_owner w.page) entries))
+    ws h in
     all_from (λ w. All (λ e. All (λ v. v.page ≢ w.page) e.writes) entries) ws (λ w i.
     all_from (λ e. All (λ v. v.page ≢ w.page) e.writes) entries (λ e j.
     all_from (λ v. v.page ≢ w.page) e.writes (λ v k.
     let none = map_none (λ f. refused.Overlap w.page f.tag) (find (is_owner w.page) entries)
-    (All-contains (λ w. option_map (λ e. refused.Overlap w.page e.tag) (find (is_owner w.page) entries) ≡ None) ws w refusals i) in
+    (All-contains (λ w. option_map (λ e. refused.Overlap w.page e.tag) (find (is_owner w.page) entries) ≡ None) ws w
+    refusals i) in
     eqb-false v.page w.page (any_none (is_of w.page) e.writes (none_found (is_owner w.page) entries none e j) v k))))
 
-pub accepted : (limits : Limits) (entries : List Entry) (tag : ℕ) (ws : List PageWrite) → first_refusals limits entries tag ws ≡ None →
+pub accepted : (limits : Limits) (entries : List Entry) (tag : ℕ) (ws : List PageWrite) →
+    first_refusals limits entries tag ws ≡ None →
     IsAccepted limits entries tag ws
 accepted limits entries tag ws h =
     let first = both_none (empty ws) _ h in
@@ -88,9 +98,11 @@ accepted limits entries tag ws h =
           (none_refused (λ v. cond (nat_lt v.page limits.logical) None (Some (refused.Range v.page))) ws second.0) i)));
       distinct = none_repeated [] ws third.0;
       unused = all_from (λ e. e.tag ≢ tag) entries (λ e i.
-          eqb-false e.tag tag (any_none (has_tag tag) entries (none_cond (list_any (has_tag tag) entries) refused.Tag fourth.0) e i));
+          eqb-false e.tag tag (any_none (has_tag tag) entries
+          (none_cond (list_any (has_tag tag) entries) refused.Tag fourth.0) e i));
       unowned = none_owned entries ws fifth.0;
-      room = leb-true (length ws) (limits.pending - pending_pages entries) (cond_none (nat_le (length ws) (free_of limits.pending entries))
+      room = leb-true (length ws) (limits.pending - pending_pages entries)
+          (cond_none (nat_le (length ws) (free_of limits.pending entries))
           (refused.Full (free_of limits.pending entries)) fifth.1);
     }
 

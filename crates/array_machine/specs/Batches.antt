@@ -19,8 +19,8 @@ GoInTurn old (e ∷ es) (p ∷ ps) new =
     × ((mid : ArrayState) × GoesOn old e.tag e p mid × GoInTurn mid es ps new)
 GoInTurn old _ _ new = ⊥
 
--- The state settles, and so many of the open transactions, the first ones in the order of their opening, each go on by
--- one step. None does exactly where none is open.
+-- The state settles, and this many of the open transactions, the first ones in the order of their opening, each go on
+-- by one step. None does exactly where none is open.
 pub record StepsAllAs (there : Bool) (old new : ArrayState) (answer : Moved) : Type 0 where
   pub each : List Progress
   pub go :
@@ -39,8 +39,8 @@ MayTakeEach old Q [] new = new ≡ old
 MayTakeEach old Q (e ∷ es) new =
     MayTakeEach old Q es new ⊎ (Q e × MayTakeEach (put old e.writes) Q es new)
 
--- What is left where going on with several transactions met a fault, or power was cut: no transaction is open. What was in
--- doubt was there or not, and then each transaction at its last page was taken or not, by itself.
+-- What is left where going on with several transactions met a fault, or power was cut: no transaction is open. What was
+-- in doubt was there or not, and then each transaction at its last page was taken or not, by itself.
 abbrev pub CutLeavesEach : ArrayState → ArrayState → Type 0
 CutLeavesEach old new =
     (there : Bool) × MayTakeEach (settled there old).pages IsAtLast old.entries new.pages

@@ -39,7 +39,7 @@ pub enum SubmitError {
 /// How far a step brought a transaction.
 #[derive(Clone, Copy, PartialEq, Eq)]
 pub enum Progress {
-    /// So many of all its pages are written.
+    /// `done` of its `all` pages are written.
     Wrote { done: u32, all: u32 },
     /// All its pages are written, and the array has taken them at once.
     Done,
@@ -48,9 +48,9 @@ pub enum Progress {
 /// How far a step of several transactions at once brought them.
 #[derive(Clone, Copy, PartialEq, Eq)]
 pub struct Moved {
-    /// So many of them went on by one step.
+    /// How many of them went on by one step.
     pub moved: u32,
-    /// Of these so many are done, and the array has taken their pages.
+    /// How many of these are done: the array has taken their pages.
     pub finished: u32,
 }
 

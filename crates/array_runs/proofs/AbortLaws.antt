@@ -25,7 +25,10 @@ record Follows (tag : ℕ) (old new : ArrayState) : Type 0 where
   cling : IsConsistent old → HasOneOf tag old → Cling tag old new
 
 follow_same : (tag : ℕ) (old new : ArrayState) → new ≡ old → Follows tag old new
-follow_same tag old new same = record { one = λ h. subst (HasOneOf tag) (sym same) h; cling = λ ok one. cling_same tag old new same }
+follow_same tag old new same = record {
+  one = λ h. subst (HasOneOf tag) (sym same) h;
+  cling = λ ok one. cling_same tag old new same;
+}
 
 follow_then : (tag : ℕ) (old mid new : ArrayState) → Goes old mid → Follows tag old mid → Follows tag mid new →
     Follows tag old new
@@ -43,7 +46,8 @@ follow_settled tag there s = record {
 follow_on : (tag : ℕ) (there : Bool) (old new mid : ArrayState) → new ≡ mid → Follows tag (settled there old) mid →
     Follows tag old new
 follow_on tag there old new mid same h =
-    subst (λ s. Follows tag old s) (sym same) (follow_then tag old (settled there old) mid (goes_settled there old) (follow_settled tag there old) h)
+    subst (λ s. Follows tag old s) (sym same) (follow_then tag old (settled there old) mid (goes_settled there old)
+    (follow_settled tag there old) h)
 
 follow_none : (tag : ℕ) (old new : ArrayState) → new.entries ≡ [] → Follows tag old new
 follow_none tag old new none = record {
@@ -75,16 +79,21 @@ follow_with tag own e new s has t writes plain = record {
 
 -- ---- a step
 
-goes_on_follows : (tag : ℕ) (s new : ArrayState) (own : ℕ) (e : Entry) (p : Progress) → entry_of own s.entries ≡ Some e → GoesOn s own e p new →
+goes_on_follows : (tag : ℕ) (s new : ArrayState) (own : ℕ) (e : Entry) (p : Progress) →
+    entry_of own s.entries ≡ Some e → GoesOn s own e p new →
     Follows tag s new
 goes_on_follows tag s new own e (progress.Wrote done all) found h =
     subst (λ x. Follows tag s x) (sym h.4)
-    (follow_with tag own e (record e { done = e.done + 1 }) s found (tagged own s.entries e found) refl (λ whole. (let plain = h.0 in cc)))
-goes_on_follows tag s new own e progress.Done found (inl h) = subst (λ x. Follows tag s x) (sym h.1) (follow_without tag own s)
-goes_on_follows tag s new own e progress.Done found (inr h) = subst (λ x. Follows tag s x) (sym h.2) (follow_taken tag own e s found)
+    (follow_with tag own e (record e { done = e.done + 1 }) s found (tagged own s.entries e found) refl
+    (λ whole. (let plain = h.0 in cc)))
+goes_on_follows tag s new own e progress.Done found (inl h) =
+    subst (λ x. Follows tag s x) (sym h.1) (follow_without tag own s)
+goes_on_follows tag s new own e progress.Done found (inr h) =
+    subst (λ x. Follows tag s x) (sym h.2) (follow_taken tag own e s found)
 
 -- several go on, in turn
-turn_follows : (tag : ℕ) (es : List Entry) (ps : List Progress) (s new : ArrayState) → GoInTurn s es ps new → Follows tag s new
+turn_follows : (tag : ℕ) (es : List Entry) (ps : List Progress) (s new : ArrayState) → GoInTurn s es ps new →
+    Follows tag s new
 turn_follows tag [] [] s new h = follow_same tag s new h
 turn_follows tag [] (p ∷ ps) s new h = absurd h
 turn_follows tag (e ∷ es) [] s new h = absurd h
@@ -94,7 +103,8 @@ turn_follows tag (e ∷ es) (p ∷ ps) s new h =
 
 step_all_follows : (tag : ℕ) (old new : ArrayState) (answer : Moved) → StepsAll old new answer → Follows tag old new
 step_all_follows tag old new answer (there, h) =
-    follow_on tag there old new new refl (turn_follows tag (take answer.moved (settled there old).entries) h.each (settled there old) new h.go)
+    follow_on tag there old new new refl (turn_follows tag (take answer.moved (settled there old).entries) h.each
+    (settled there old) new h.go)
 
 module _ (tag : ℕ) (there : Bool) (s new : ArrayState) (own : ℕ) (e : Entry)
     (found : entry_of own (settled there s).entries ≡ Some (settled_entry there e)) where
@@ -104,7 +114,8 @@ module _ (tag : ℕ) (there : Bool) (s new : ArrayState) (own : ℕ) (e : Entry)
   gives_follows : (result : Result Progress StepError) →
       StepGives s (settled there s) own (settled_entry there e) result new → Follows tag s new
   gives_follows (Ok progress) h =
-      follow_on tag there s new new refl (goes_on_follows tag (settled there s) new own (settled_entry there e) progress found h)
+      follow_on tag there s new new refl (goes_on_follows tag (settled there s) new own (settled_entry there e)
+      progress found h)
   gives_follows (Err failed.Unknown) h = absurd h
   gives_follows (Err failed.Fault) (inl same) = follow_same tag s new same
   gives_follows (Err failed.Fault) (inr h) = elim h.1 [
@@ -122,7 +133,8 @@ module _ (tag : ℕ) (there : Bool) (s new : ArrayState) (own : ℕ) (e : Entry)
   abort_follows (Err failed.Unknown) h = absurd h
   abort_follows (Err failed.Fault) h = follow_same tag s new h
 
-step_follows_as : (tag : ℕ) (o : Option Entry) (there : Bool) (old new : ArrayState) (own : ℕ) (result : Result Progress StepError) →
+step_follows_as : (tag : ℕ) (o : Option Entry) (there : Bool) (old new : ArrayState) (own : ℕ)
+    (result : Result Progress StepError) →
     entry_of own old.entries ≡ o →
     MatchOption o ((result ≡ Err failed.Unknown) × (new ≡ old))
     (λ e. StepGives old (settled there old) own (settled_entry there e) result new) → Follows tag old new
@@ -134,7 +146,8 @@ step_follows : (tag : ℕ) (old new : ArrayState) (own : ℕ) (result : Result P
     Steps old new own result → Follows tag old new
 step_follows tag old new own result h = step_follows_as tag (entry_of own old.entries) h.0 old new own result refl h.1
 
-finish_follows : (tag : ℕ) (mids : List ArrayState) (old new : ArrayState) (own : ℕ) (result : Result Progress StepError) →
+finish_follows : (tag : ℕ) (mids : List ArrayState) (old new : ArrayState) (own : ℕ)
+    (result : Result Progress StepError) →
     Finishes old mids new own result → Follows tag old new
 finish_follows tag [] old new own (Ok (progress.Wrote done all)) h = absurd h
 finish_follows tag [] old new own (Ok progress.Done) h = step_follows tag old new own (Ok progress.Done) h
@@ -143,7 +156,8 @@ finish_follows tag (mid ∷ mids) old new own result h =
     follow_then tag old mid new (step_goes old mid own (Ok (progress.Wrote h.0 h.1)) h.2)
     (step_follows tag old mid own (Ok (progress.Wrote h.0 h.1)) h.2) (finish_follows tag mids mid new own result h.3)
 
-abort_follows_as : (tag : ℕ) (o : Option Entry) (there : Bool) (old new : ArrayState) (own : ℕ) (result : Result Aborted StepError) →
+abort_follows_as : (tag : ℕ) (o : Option Entry) (there : Bool) (old new : ArrayState) (own : ℕ)
+    (result : Result Aborted StepError) →
     entry_of own old.entries ≡ o →
     MatchOption o ((result ≡ Err failed.Unknown) × (new ≡ old))
     (λ e. AbortGives old (settled there old) own (settled_entry there e) result new) → Follows tag old new
@@ -153,7 +167,8 @@ abort_follows_as tag (Some e) there old new own result found h = abort_follows t
 
 collect_follows : (tag : ℕ) (old new : ArrayState) (result : Result Collected Fault) → Collects old new result →
     Follows tag old new
-collect_follows tag old new (Ok collected) h = follow_on tag h.0 old new _ h.1 (follow_same tag (settled h.0 old) (settled h.0 old) refl)
+collect_follows tag old new (Ok collected) h = follow_on tag h.0 old new _ h.1
+    (follow_same tag (settled h.0 old) (settled h.0 old) refl)
 collect_follows tag old new (Err fault) h = elim h.1 [
   | inl same ↦ follow_same tag old new same
   | inr settles ↦ follow_on tag h.0 old new _ settles (follow_same tag (settled h.0 old) (settled h.0 old) refl)
@@ -209,27 +224,32 @@ by_any : (tag : ℕ) (r : Reply) (old new : ArrayState) → Follows tag old new 
 by_any tag r old new h = record { one = h.one; cling = λ not. h.cling }
 
 submitted_follows : (tag : ℕ) (limits : Limits) (spent : ℕ → Bool) (own pages : ℕ) (ws : List PageWrite)
-    (old : ArrayState) (r : Reply) (new : ArrayState) (result : Result (Unit {0}) SubmitError) (o : Option SubmitError) →
+    (old : ArrayState) (r : Reply) (new : ArrayState) (result : Result (Unit {0}) SubmitError)
+    (o : Option SubmitError) →
     refusal limits spent old.entries own ws ≡ o → result ≡ answer o → r ≡ submit_reply own pages result →
     new ≡ opened o own ws old → FollowsBy tag r old new
 submitted_follows tag limits spent own pages ws old r new result
     (Some e) fine answers told opens = by_any tag r old new (follow_same tag old new opens)
 submitted_follows tag limits spent own pages ws old r new result None fine answers told opens =
-    let accepts = accepted limits old.entries own ws (no_first (first_refusals limits old.entries own ws) (spent_page spent ws) fine) in
+    let accepts = accepted limits old.entries own ws (no_first (first_refusals limits old.entries own ws)
+    (spent_page spent ws) fine) in
     let is : opens_tag tag r ≡ (own == tag) = ap (opens_tag tag) (told ∙ ap (submit_reply own pages) answers) in
     subst (λ s. FollowsBy tag r old s) (sym opens) (record {
       one = λ h. opened_one tag own ws old.entries accepts.unused h;
       cling = λ not ok one. opened_cling tag own ws old (sym is ∙ not);
     })
 
-does_follow : (tag : ℕ) (limits : Limits) (spent : ℕ → Bool) (c : Command) (old : ArrayState) (r : Reply) (new : ArrayState) →
+does_follow : (tag : ℕ) (limits : Limits) (spent : ℕ → Bool) (c : Command) (old : ArrayState) (r : Reply)
+    (new : ArrayState) →
     DoesCommand limits spent c old r new → FollowsBy tag r old new
 does_follow tag limits spent (command.Read page) old r new h = by_any tag r old new (follow_same tag old new h.4)
 does_follow tag limits spent (command.Write own batch) old r new h =
     submitted_follows tag limits spent own (length batch.entries) batch.entries old r new h.0
     (refusal limits spent old.entries own batch.entries) refl h.1.answers h.2 h.1.opens
-does_follow tag limits spent (command.Step own) old r new h = by_any tag r old new (step_follows tag old new own h.0 h.1)
-does_follow tag limits spent (command.Finish own) old r new h = by_any tag r old new (finish_follows tag h.0 old new own h.1 h.2)
+does_follow tag limits spent (command.Step own) old r new h =
+    by_any tag r old new (step_follows tag old new own h.0 h.1)
+does_follow tag limits spent (command.Finish own) old r new h =
+    by_any tag r old new (finish_follows tag h.0 old new own h.1 h.2)
 does_follow tag limits spent (command.Abort own) old r new h = by_any tag r old new
     (abort_follows_as tag (entry_of own old.entries) h.1.0 old new own h.0 refl h.1.1)
 does_follow tag limits spent command.StepAll old r new h = by_any tag r old new (step_all_follows tag old new h.0 h.1)
@@ -240,32 +260,40 @@ does_follow tag limits spent (command.Cut count what) old r new h = absurd h
 does_follow tag limits spent (command.Fault count what) old r new h = absurd h
 does_follow tag limits spent (command.BadRead count) old r new h = absurd h
 
-serves_follow : (tag : ℕ) (limits : Limits) (spent : ℕ → Bool) (c : Command) (old : RunState) (r : Reply) (new : RunState) →
+serves_follow : (tag : ℕ) (limits : Limits) (spent : ℕ → Bool) (c : Command) (old : RunState) (r : Reply)
+    (new : RunState) →
     Serves limits spent c old r new → FollowsBy tag r old.machine new.machine
 serves_follow tag limits spent c old r new serves =
     each_way limits spent c old r new serves
-    (λ h. by_any tag r old.machine new.machine (follow_same tag old.machine new.machine (ap (λ (s : RunState). s.machine) h.1)))
-    (λ h. by_any tag r old.machine new.machine (follow_same tag old.machine new.machine (ap (λ (s : RunState). s.machine) h.2)))
+    (λ h. by_any tag r old.machine new.machine (follow_same tag old.machine new.machine
+    (ap (λ (s : RunState). s.machine) h.1)))
+    (λ h. by_any tag r old.machine new.machine (follow_same tag old.machine new.machine
+    (ap (λ (s : RunState). s.machine) h.2)))
     (λ h. does_follow tag limits spent c old.machine r new.machine h.0)
     (λ h. by_any tag r old.machine new.machine (follow_none tag old.machine new.machine h.1.2))
 
 -- ---- a run
 
-pub run_one_tag : (limits : Limits) (seen : ℕ → ℕ) (old : RunState) (cs : List Command) (rs : List Reply) (new : RunState) (tag : ℕ) →
+pub run_one_tag : (limits : Limits) (seen : ℕ → ℕ) (old : RunState) (cs : List Command) (rs : List Reply)
+    (new : RunState) (tag : ℕ) →
     Run limits seen old cs rs new →
     HasOneOf tag old.machine → HasOneOf tag new.machine
 run_one_tag limits seen old [] [] new tag run h = subst (λ (s : RunState). HasOneOf tag s.machine) (sym run) h
 run_one_tag limits seen old [] (r ∷ rs) new tag run h = absurd run
 run_one_tag limits seen old (c ∷ cs) [] new tag run h = absurd run
 run_one_tag limits seen old (c ∷ cs) (r ∷ rs) new tag run h =
-    run_one_tag limits (seen_after seen c r) run.0 cs rs new tag run.4 ((serves_follow tag limits run.1 c old r run.0 run.3).one h)
+    run_one_tag limits (seen_after seen c r) run.0 cs rs new tag run.4
+    ((serves_follow tag limits run.1 c old r run.0 run.3).one h)
 
 pub idle_one_tag : (pages : Pages) (tag : ℕ) → HasOneOf tag (idle pages)
-idle_one_tag pages tag = (let none = none_counted (has_tag tag) [] (All-nil (λ e. has_tag tag e ≡ false)) in omega (arith, none))
+idle_one_tag pages tag = (let none = none_counted (has_tag tag) [] (All-nil (λ e. has_tag tag e ≡ false)) in
+    omega (arith, none))
 
-run_cling : (limits : Limits) (seen : ℕ → ℕ) (old : RunState) (cs : List Command) (rs : List Reply) (new : RunState) (tag : ℕ) →
+run_cling : (limits : Limits) (seen : ℕ → ℕ) (old : RunState) (cs : List Command) (rs : List Reply)
+    (new : RunState) (tag : ℕ) →
     IsSized limits old.machine → HasOneOf tag old.machine →
-    Run limits seen old cs rs new → All (λ r. opens_tag tag r ≡ false) rs → Cling tag old.machine new.machine × IsSized limits new.machine
+    Run limits seen old cs rs new → All (λ r. opens_tag tag r ≡ false) rs → Cling tag old.machine new.machine
+    × IsSized limits new.machine
 run_cling limits seen old [] [] new tag sized one run none = (
   cling_same tag old.machine new.machine (ap (λ (s : RunState). s.machine) run),
   subst
@@ -296,7 +324,8 @@ gone_as : (o : Option Entry) (there : Bool) (old new : ArrayState) (tag : ℕ) �
     entry_of tag old.entries ≡ o →
     MatchOption o ((Ok aborted.Gone ≡ Err failed.Unknown) × (new ≡ old))
     (λ e. AbortGives old (settled there old) tag (settled_entry there e)
-    (Ok aborted.Gone) new) → (e : Entry) × (entry_of tag old.entries ≡ Some e) × (e.mark ≢ Whole) × HasSame old.pages new.pages e
+    (Ok aborted.Gone) new) → (e : Entry) × (entry_of tag old.entries ≡ Some e) × (e.mark ≢ Whole)
+    × HasSame old.pages new.pages e
 gone_as None there old new tag ok found h = (let no = h.0 in cc)
 gone_as (Some e) there old new tag ok found h =
     let same = settled_plain there old e e.mark refl ok (found_is_in tag old.entries e found) h.0 in
@@ -304,7 +333,8 @@ gone_as (Some e) there old new tag ok found h =
 
 pub aborted_same : (limits : Limits) (spent : ℕ → Bool) (old : RunState) (new : RunState) (tag : ℕ) →
     IsConsistent old.machine → Serves limits spent (command.Abort tag) old (reply.Aborted tag) new →
-    (e : Entry) × (entry_of tag old.machine.entries ≡ Some e) × (e.mark ≢ Whole) × HasSame old.machine.pages new.machine.pages e
+    (e : Entry) × (entry_of tag old.machine.entries ≡ Some e) × (e.mark ≢ Whole)
+    × HasSame old.machine.pages new.machine.pages e
 aborted_same limits spent old new tag ok serves =
     let does = done_of limits spent (command.Abort tag) old (reply.Aborted tag) new refl serves in
     let is = told_gone tag tag does.0 does.2 in
@@ -323,7 +353,8 @@ aborted_changed_nothing limits seen old cs rs mid spent new tag e long ok one fo
     let f = last.0 in
     let its = goes.0 f last.1 in
     let is : its.before ≡ e = (let both = sym its.found ∙ found in cc) in
-    let first : HasSame old.machine.pages mid.machine.pages e = subst (λ x. HasSame old.machine.pages mid.machine.pages x) is (its.plain last.2).1 in
+    let first : HasSame old.machine.pages mid.machine.pages e =
+    subst (λ x. HasSame old.machine.pages mid.machine.pages x) is (its.plain last.2).1 in
     let writes : f.writes ≡ e.writes = its.writes ∙ ap (λ (x : Entry). x.writes) is in
     same_then old.machine.pages mid.machine.pages new.machine.pages e first
     (subst (λ ws. All (λ w. page_at new.machine.pages w.page ≡ page_at mid.machine.pages w.page) ws) writes last.3)

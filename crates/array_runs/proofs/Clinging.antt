@@ -25,11 +25,12 @@ count_settled there tag (e ∷ es) =
 
 pub count_without : (tag own : ℕ) (es : List Entry) → count_of tag (without own es) ≤ count_of tag es
 count_without tag own [] = omega arith
-count_without tag own (e ∷ es) = elim (has_tag own e) as (λ b. count_of tag (cond b es (e ∷ without own es)) ≤ count_of tag (e ∷ es)) [
-  | true ↦ (let split = count_cons tag e es in omega (arith, split))
-  | false ↦ (let split = count_cons tag e es in let other = count_cons tag e
-      (without own es) in let rest = count_without tag own es in omega (arith, split, other, rest))
-]
+count_without tag own (e ∷ es) = elim (has_tag own e) as (λ b. count_of tag (cond b es (e ∷ without own es)) ≤ count_of
+    tag (e ∷ es)) [
+      | true ↦ (let split = count_cons tag e es in omega (arith, split))
+      | false ↦ (let split = count_cons tag e es in let other = count_cons tag e
+          (without own es) in let rest = count_without tag own es in omega (arith, split, other, rest))
+    ]
 
 -- two of one tag are of the same tags
 same_tests : (tag own : ℕ) (a b : Entry) → has_tag own a ≡ true → has_tag own b ≡ true → has_tag tag a ≡ has_tag tag b
@@ -39,22 +40,25 @@ count_with_step : (tag own : ℕ) (new e : Entry) (es : List Entry) (b : Bool) �
     has_tag own new ≡ true → count_of tag (with_entry own new es) ≡ count_of tag es →
     count_of tag (cond b (new ∷ es) (e ∷ with_entry own new es)) ≡ count_of tag (e ∷ es)
 count_with_step tag own new e es true is t rest =
-    count_cons tag new es ∙ ap (λ (b : Bool). cond b 1 0 + count_of tag es) (same_tests tag own new e t is) ∙ sym (count_cons tag e es)
+    count_cons tag new es ∙ ap (λ (b : Bool). cond b 1 0 + count_of tag es) (same_tests tag own new e t is)
+    ∙ sym (count_cons tag e es)
 count_with_step tag own new e es false is t rest =
     count_cons tag e (with_entry own new es) ∙ ap (λ n. cond (has_tag tag e) 1 0 + n) rest ∙ sym (count_cons tag e es)
 
 pub count_with : (tag own : ℕ) (new : Entry) (es : List Entry) → has_tag own new ≡ true →
     count_of tag (with_entry own new es) ≡ count_of tag es
 count_with tag own new [] t = refl
-count_with tag own new (e ∷ es) t = count_with_step tag own new e es (has_tag own e) refl t (count_with tag own new es t)
+count_with tag own new (e ∷ es) t = count_with_step tag own new e es (has_tag own e) refl t
+    (count_with tag own new es t)
 
 -- none has it, so none is found
 none_found : (tag : ℕ) (es : List Entry) → count_of tag es ≤ 0 → entry_of tag es ≡ None
 none_found tag [] h = refl
-none_found tag (e ∷ es) h = elim (has_tag tag e) as (λ b. cond b 1 0 + count_of tag es ≤ 0 → cond b (Some e) (entry_of tag es) ≡ None) [
-  | true ↦ λ k. absurd (omega (arith, k))
-  | false ↦ λ k. none_found tag es (omega (arith, k))
-] (let split = count_cons tag e es in omega (arith, split, h))
+none_found tag (e ∷ es) h = elim (has_tag tag e) as (λ b. cond b 1 0 + count_of tag es ≤ 0 →
+    cond b (Some e) (entry_of tag es) ≡ None) [
+      | true ↦ λ k. absurd (omega (arith, k))
+      | false ↦ λ k. none_found tag es (omega (arith, k))
+    ] (let split = count_cons tag e es in omega (arith, split, h))
 
 gone_step : (tag : ℕ) (e : Entry) (es : List Entry) (b : Bool) → cond b 1 0 + count_of tag es ≤ 1 → has_tag tag e ≡ b →
     (count_of tag es ≤ 1 → entry_of tag (without tag es) ≡ None) →
@@ -64,7 +68,8 @@ gone_step tag e es false h is rest = rw is (rest (omega (arith, h)))
 
 pub gone : (tag : ℕ) (es : List Entry) → count_of tag es ≤ 1 → entry_of tag (without tag es) ≡ None
 gone tag [] h = refl
-gone tag (e ∷ es) h = gone_step tag e es (has_tag tag e) (let split = count_cons tag e es in omega (arith, split, h)) refl (gone tag es)
+gone tag (e ∷ es) h = gone_step tag e es (has_tag tag e) (let split = count_cons tag e es in omega (arith, split, h))
+    refl (gone tag es)
 
 -- ---- another tag
 
@@ -82,18 +87,23 @@ other_without_step tag own e es false other is rest = ap (λ o. cond (has_tag ta
 
 pub other_without : (tag own : ℕ) (es : List Entry) → tag ≢ own → entry_of tag (without own es) ≡ entry_of tag es
 other_without tag own [] other = refl
-other_without tag own (e ∷ es) other = other_without_step tag own e es (has_tag own e) other refl (other_without tag own es other)
+other_without tag own (e ∷ es) other = other_without_step tag own e es (has_tag own e) other refl
+    (other_without tag own es other)
 
 other_with_step : (tag own : ℕ) (new e : Entry) (es : List Entry) (b : Bool) → tag ≢ own → has_tag own new ≡ true →
     has_tag own e ≡ b → entry_of tag (with_entry own new es) ≡ entry_of tag es →
     entry_of tag (cond b (new ∷ es) (e ∷ with_entry own new es)) ≡ entry_of tag (e ∷ es)
-other_with_step tag own new e es true other t is rest = rw (differs tag own new other t, differs tag own e other is) refl
+other_with_step tag own new e es true other t is rest = rw (
+  differs tag own new other t,
+  differs tag own e other is,
+) refl
 other_with_step tag own new e es false other t is rest = ap (λ o. cond (has_tag tag e) (Some e) o) rest
 
 pub other_with : (tag own : ℕ) (new : Entry) (es : List Entry) → tag ≢ own → has_tag own new ≡ true →
     entry_of tag (with_entry own new es) ≡ entry_of tag es
 other_with tag own new [] other t = refl
-other_with tag own new (e ∷ es) other t = other_with_step tag own new e es (has_tag own e) other t refl (other_with tag own new es other t)
+other_with tag own new (e ∷ es) other t = other_with_step tag own new e es (has_tag own e) other t refl
+    (other_with tag own new es other t)
 
 pub other_pushed : (tag : ℕ) (e : Entry) (es : List Entry) → has_tag tag e ≡ false →
     entry_of tag (es ++ e ∷ []) ≡ entry_of tag es
@@ -102,8 +112,8 @@ other_pushed tag e (x ∷ es) h = ap (λ o. cond (has_tag tag x) (Some x) o) (ot
 
 -- ---- an open transaction that is not whole
 
--- The transaction that has the tag now had it before, with the same writes. Where it is not whole it was not whole, and its
--- pages are as they were.
+-- The transaction that has the tag now had it before, with the same writes. Where it is not whole it was not whole, and
+-- its pages are as they were.
 pub record Clings (tag : ℕ) (old new : ArrayState) (f : Entry) : Type 0 where
   pub before : Entry
   pub found : entry_of tag old.entries ≡ Some before
@@ -114,7 +124,12 @@ abbrev pub Cling : ℕ → ArrayState → ArrayState → Type 0
 Cling tag old new = (f : Entry) → entry_of tag new.entries ≡ Some f → Clings tag old new f
 
 pub cling_same : (tag : ℕ) (old new : ArrayState) → new ≡ old → Cling tag old new
-cling_same tag old new same = rw same (λ f found. record { before = f; found = found; writes = refl; plain = λ h. (h, λ k d lt. refl) })
+cling_same tag old new same = rw same (λ f found. record {
+  before = f;
+  found = found;
+  writes = refl;
+  plain = λ h. (h, λ k d lt. refl);
+})
 
 pub cling_then : (tag : ℕ) (old mid new : ArrayState) → Cling tag old mid → Cling tag mid new → Cling tag old new
 cling_then tag old mid new first second f found =
@@ -138,7 +153,8 @@ cling_none tag old new none f found = (let both = sym none ∙ found in cc)
 
 -- the found one before settling
 unsettled_step : (there : Bool) (tag : ℕ) (e f : Entry) (es : List Entry) (b : Bool) →
-    (entry_of tag (map (settled_entry there) es) ≡ Some f → (g : Entry) × (entry_of tag es ≡ Some g) × (f ≡ settled_entry there g)) →
+    (entry_of tag (map (settled_entry there) es) ≡ Some f → (g : Entry) × (entry_of tag es ≡ Some g)
+    × (f ≡ settled_entry there g)) →
     cond b (Some (settled_entry there e)) (entry_of tag (map (settled_entry there) es)) ≡ Some f →
     (g : Entry) × (cond b (Some e) (entry_of tag es) ≡ Some g) × (f ≡ settled_entry there g)
 unsettled_step there tag e f es true rest h = (e, refl, (let is = h in cc))
@@ -153,7 +169,10 @@ unsettled there tag (e ∷ es) f h = unsettled_step there tag e f es (has_tag ta
 pub settled_plain : (there : Bool) (s : ArrayState) (g : Entry) (m : Mark) → g.mark ≡ m → IsConsistent s →
     Contains s.entries g → settled_mark there m ≢ Whole →
     (g.mark ≢ Whole) × HasSame s.pages (settled there s).pages g
-settled_plain there s g Plain is ok i h = ((λ whole. (let both = sym is ∙ whole in cc)), settled_sure_same there s g ok i (ap is_doubted is))
+settled_plain there s g Plain is ok i h = (
+  (λ whole. (let both = sym is ∙ whole in cc)),
+  settled_sure_same there s g ok i (ap is_doubted is),
+)
 settled_plain true s g Doubt is ok i h = absurd (h refl)
 settled_plain false s g Doubt is ok i h = ((λ whole. (let both = sym is ∙ whole in cc)), λ k d lt. refl)
 settled_plain there s g Whole is ok i h = absurd (h refl)
@@ -202,7 +221,12 @@ cling_without tag own s one f found = elim (cases_Bool (own == tag)) [
       (subst (λ t. entry_of tag (without t s.entries) ≡ None) (sym is) (gone tag s.entries one)) f found)
   | inr not ↦ (
       let other : tag ≢ own = λ e. eqb-false own tag not (sym e) in
-      record { before = f; found = sym (other_without tag own s.entries other) ∙ found; writes = refl; plain = λ h. (h, λ k d lt. refl) })
+      record {
+        before = f;
+        found = sym (other_without tag own s.entries other) ∙ found;
+        writes = refl;
+        plain = λ h. (h, λ k d lt. refl);
+      })
 ]
 
 pub cling_taken : (tag own : ℕ) (e : Entry) (s : ArrayState) → IsConsistent s → HasOneOf tag s →

@@ -18,30 +18,35 @@ use Rattle.array_runs.proofs.Cases.{each_way}
 same_closed : (old new : RunState) → new ≡ old → IsClosedUnmounted old → IsClosedUnmounted new
 same_closed old new same h = subst IsClosedUnmounted (sym same) h
 
-serves_closed : (limits : Limits) (spent : ℕ → Bool) (c : Command) (old : RunState) (r : Reply) (new : RunState) → IsClosedUnmounted old →
+serves_closed : (limits : Limits) (spent : ℕ → Bool) (c : Command) (old : RunState) (r : Reply) (new : RunState) →
+    IsClosedUnmounted old →
     Serves limits spent c old r new → IsClosedUnmounted new
 serves_closed limits spent c old r new closed serves =
     each_way limits spent c old r new serves (λ h. same_closed old new h.1 closed) (λ h. same_closed old new h.2 closed)
     (λ h down. absurd (true≢false (sym h.1 ∙ down))) (λ h down. h.1.2)
 
-pub run_closed : (limits : Limits) (seen : ℕ → ℕ) (old : RunState) (cs : List Command) (rs : List Reply) (new : RunState) → Run limits seen old cs rs new →
+pub run_closed : (limits : Limits) (seen : ℕ → ℕ) (old : RunState) (cs : List Command) (rs : List Reply)
+    (new : RunState) → Run limits seen old cs rs new →
     IsClosedUnmounted old →
     IsClosedUnmounted new
 run_closed limits seen old [] [] new run closed = same_closed old new run closed
 run_closed limits seen old [] (r ∷ rs) new run closed = absurd run
 run_closed limits seen old (c ∷ cs) [] new run closed = absurd run
 run_closed limits seen old (c ∷ cs) (r ∷ rs) new run closed =
-    run_closed limits (seen_after seen c r) run.0 cs rs new run.4 (serves_closed limits run.1 c old r run.0 closed run.3)
+    run_closed limits (seen_after seen c r) run.0 cs rs new run.4
+    (serves_closed limits run.1 c old r run.0 closed run.3)
 
 -- ---- a command that was done is not answered so that nothing is open
 
-read_unlost : (page : ℕ) (bytes : List ℕ) (result : Result ReadAnswer ReadError) → is_lost (read_reply page bytes result) ≡ false
+read_unlost : (page : ℕ) (bytes : List ℕ) (result : Result ReadAnswer ReadError) →
+    is_lost (read_reply page bytes result) ≡ false
 read_unlost page bytes (Ok answer.Blank) = refl
 read_unlost page bytes (Ok answer.Page) = refl
 read_unlost page bytes (Err unread.Range) = refl
 read_unlost page bytes (Err unread.Fault) = refl
 
-submit_unlost : (tag pages : ℕ) (result : Result (Unit {0}) SubmitError) → is_lost (submit_reply tag pages result) ≡ false
+submit_unlost : (tag pages : ℕ) (result : Result (Unit {0}) SubmitError) →
+    is_lost (submit_reply tag pages result) ≡ false
 submit_unlost tag pages (Ok u) = refl
 submit_unlost tag pages (Err refused.Empty) = refl
 submit_unlost tag pages (Err (refused.Range page)) = refl
@@ -68,7 +73,8 @@ collect_unlost (Ok collected.One) = refl
 collect_unlost (Ok collected.Nothing) = refl
 collect_unlost (Err fault) = refl
 
-does_unlost : (limits : Limits) (spent : ℕ → Bool) (c : Command) (old : ArrayState) (r : Reply) (new : ArrayState) → DoesCommand limits spent c old r new →
+does_unlost : (limits : Limits) (spent : ℕ → Bool) (c : Command) (old : ArrayState) (r : Reply) (new : ArrayState) →
+    DoesCommand limits spent c old r new →
     is_lost r ≡ false
 does_unlost limits spent (command.Read page) old r new h = ap is_lost h.3 ∙ read_unlost page h.0 h.1
 does_unlost limits spent (command.Write tag batch) old r new h = ap is_lost h.2 ∙ submit_unlost tag _ h.0
@@ -83,11 +89,14 @@ does_unlost limits spent (command.Cut count what) old r new h = absurd h
 does_unlost limits spent (command.Fault count what) old r new h = absurd h
 does_unlost limits spent (command.BadRead count) old r new h = absurd h
 
-not_done_lost : (old : RunState) (r : Reply) (new : RunState) → IsClosedUnmounted old → NotDone old r new → new.machine.entries ≡ []
+not_done_lost : (old : RunState) (r : Reply) (new : RunState) → IsClosedUnmounted old → NotDone old r new →
+    new.machine.entries ≡ []
 not_done_lost old r new closed h = ap (λ (s : RunState). s.machine.entries) h.2 ∙ closed h.0
 
-pub lost_closes : (limits : Limits) (spent : ℕ → Bool) (c : Command) (old : RunState) (r : Reply) (new : RunState) → IsClosedUnmounted old →
+pub lost_closes : (limits : Limits) (spent : ℕ → Bool) (c : Command) (old : RunState) (r : Reply) (new : RunState) →
+    IsClosedUnmounted old →
     Serves limits spent c old r new → is_lost r ≡ true → new.machine.entries ≡ []
 lost_closes limits spent c old r new closed serves told =
-    each_way limits spent c old r new serves (λ h. absurd (true≢false (sym told ∙ ap is_lost h.0))) (not_done_lost old r new closed)
+    each_way limits spent c old r new serves (λ h. absurd (true≢false (sym told ∙ ap is_lost h.0)))
+    (not_done_lost old r new closed)
     (λ h. absurd (true≢false (sym told ∙ does_unlost limits spent c old.machine r new.machine h.0))) (λ h. h.1.2)

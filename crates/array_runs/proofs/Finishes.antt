@@ -16,35 +16,45 @@ pub record Writes (there : Bool) (old new : ArrayState) (tag : ℕ) (e : Entry) 
   pub found : entry_of tag old.entries ≡ Some e
   pub plain : settled_mark there e.mark ≡ Plain
   pub more : e.done + 1 < length e.writes
-  pub new_is : new ≡ record (settled there old) { entries = with_entry tag (record (settled_entry there e) { done = e.done + 1 }) (settled there old).entries }
+  pub new_is : new ≡ record (settled there old) {
+    entries = with_entry tag
+        (record (settled_entry there e) { done = e.done + 1 }) (settled there old).entries;
+  }
 
-pub found_writes : (o : Option Entry) (there : Bool) (old new : ArrayState) (tag done all : ℕ) (result : Result Progress StepError) →
+pub found_writes : (o : Option Entry) (there : Bool) (old new : ArrayState) (tag done all : ℕ)
+    (result : Result Progress StepError) →
     entry_of tag old.entries ≡ o → result ≡ Ok (progress.Wrote done all) →
-    MatchOption o ((result ≡ Err failed.Unknown) × (new ≡ old)) (λ e. StepGives old (settled there old) tag (settled_entry there e) result new) → (e : Entry) ×
+    MatchOption o ((result ≡ Err failed.Unknown) × (new ≡ old))
+    (λ e. StepGives old (settled there old) tag (settled_entry there e) result new) → (e : Entry) ×
     Writes there old new tag e
 found_writes None there old new tag done all result found is h = cc
 found_writes (Some e) there old new tag done all result found is h =
-    let goes = subst (λ (x : Result Progress StepError). StepGives old (settled there old) tag (settled_entry there e) x new) is h in
+    let goes = subst (λ (x : Result Progress StepError). StepGives old (settled there old) tag (settled_entry there e)
+    x new) is h in
     (e, record { found = found; plain = goes.0; more = goes.1; new_is = goes.4 })
 
 -- the step of a reply
-pub told_wrote : (own tag done all : ℕ) (result : Result Progress StepError) → reply.Wrote own done all ≡ step_reply tag result →
+pub told_wrote : (own tag done all : ℕ) (result : Result Progress StepError) →
+    reply.Wrote own done all ≡ step_reply tag result →
     result ≡ Ok (progress.Wrote done all)
 told_wrote own tag done all (Ok (progress.Wrote d a)) h = cc
 told_wrote own tag done all (Ok progress.Done) h = cc
 told_wrote own tag done all (Err failed.Unknown) h = cc
 told_wrote own tag done all (Err failed.Fault) h = cc
 
-pub step_writes : (old new : ArrayState) (own tag done all : ℕ) (result : Result Progress StepError) → Steps old new tag result →
+pub step_writes : (old new : ArrayState) (own tag done all : ℕ) (result : Result Progress StepError) →
+    Steps old new tag result →
     reply.Wrote own done all ≡ step_reply tag result →
     (there : Bool) × (e : Entry) × Writes there old new tag e
 step_writes old new own tag done all result steps told =
-    let w = found_writes (entry_of tag old.entries) steps.0 old new tag done all result refl (told_wrote own tag done all result told) steps.1 in
+    let w = found_writes (entry_of tag old.entries) steps.0 old new tag done all result refl
+    (told_wrote own tag done all result told) steps.1 in
     (steps.0, w.0, w.1)
 
 -- the transaction in the settled state
 settled_step : (there : Bool) (tag : ℕ) (x e : Entry) (es : List Entry) (b : Bool) → has_tag tag x ≡ b →
-    (entry_of tag es ≡ Some e → entry_of tag (map (settled_entry there) es) ≡ Some (settled_entry there e)) → cond b (Some x) (entry_of tag es) ≡ Some e →
+    (entry_of tag es ≡ Some e → entry_of tag (map (settled_entry there) es) ≡ Some (settled_entry there e)) →
+    cond b (Some x) (entry_of tag es) ≡ Some e →
     cond b (Some (settled_entry there x)) (entry_of tag (map (settled_entry there) es)) ≡ Some (settled_entry there e)
 settled_step there tag x e es true is rest h = let same : x ≡ e = cc in ap (λ y. Some (settled_entry there y)) same
 settled_step there tag x e es false is rest h = rest h
@@ -52,7 +62,8 @@ settled_step there tag x e es false is rest h = rest h
 pub settled_found : (there : Bool) (tag : ℕ) (e : Entry) (es : List Entry) → entry_of tag es ≡ Some e →
     entry_of tag (map (settled_entry there) es) ≡ Some (settled_entry there e)
 settled_found there tag e [] h = cc
-settled_found there tag e (x ∷ es) h = settled_step there tag x e es (has_tag tag x) refl (settled_found there tag e es) h
+settled_found there tag e (x ∷ es) h = settled_step there tag x e es (has_tag tag x) refl
+    (settled_found there tag e es) h
 
 -- it is still there, with a page less to write
 pub wrote_found : (old new : ArrayState) (there : Bool) (tag : ℕ) (e : Entry) → Writes there old new tag e →
@@ -61,7 +72,8 @@ wrote_found old new there tag e w =
     let next : Entry = record (settled_entry there e) { done = e.done + 1 } in
     let t : has_tag tag next ≡ true = tagged tag old.entries e w.found in
     ap (λ (s : ArrayState). entry_of tag s.entries) w.new_is
-    ∙ again tag next (settled_entry there e) (map (settled_entry there) old.entries) t (settled_found there tag e old.entries w.found)
+    ∙ again tag next (settled_entry there e) (map (settled_entry there) old.entries) t
+    (settled_found there tag e old.entries w.found)
 
 pub fewer_left : (old new : ArrayState) (there : Bool) (tag : ℕ) (e : Entry) → Writes there old new tag e →
     (pages_left tag new < pages_left tag old) × (0 < pages_left tag new)
@@ -108,18 +120,21 @@ settled_from there es e c =
 
 with_step : (there : Bool) (tag : ℕ) (new x e : Entry) (es : List Entry) (b : Bool) →
     (Contains (with_entry tag new (map (settled_entry there) es)) e → (new ≡ e) ⊎ IsFrom es e) →
-    Contains (cond b (new ∷ map (settled_entry there) es) (settled_entry there x ∷ with_entry tag new (map (settled_entry there) es))) e → (new ≡ e) ⊎
+    Contains (cond b (new ∷ map (settled_entry there) es) (settled_entry there x
+    ∷ with_entry tag new (map (settled_entry there) es))) e → (new ≡ e) ⊎
     IsFrom (x ∷ es) e
 with_step there tag new x e es true rest c = elim (Contains-cases new (map (settled_entry there) es) e c) [
   | inl same ↦ inl same
   | inr i ↦ inr (from_more x es e (settled_from there es e i))
 ]
-with_step there tag new x e es false rest c = elim (Contains-cases (settled_entry there x) (with_entry tag new (map (settled_entry there) es)) e c) [
-  | inl same ↦ inr (x, Contains-first x es, ap (λ (y : Entry). y.tag) same, ap (λ (y : Entry). y.writes) same)
-  | inr i ↦ elim (rest i) [ inl same ↦ inl same | inr from ↦ inr (from_more x es e from) ]
-]
+with_step there tag new x e es false rest c =
+    elim (Contains-cases (settled_entry there x) (with_entry tag new (map (settled_entry there) es)) e c) [
+      | inl same ↦ inr (x, Contains-first x es, ap (λ (y : Entry). y.tag) same, ap (λ (y : Entry). y.writes) same)
+      | inr i ↦ elim (rest i) [ inl same ↦ inl same | inr from ↦ inr (from_more x es e from) ]
+    ]
 
-with_from : (there : Bool) (tag : ℕ) (new e : Entry) (es : List Entry) → Contains (with_entry tag new (map (settled_entry there) es)) e → (new ≡ e) ⊎
+with_from : (there : Bool) (tag : ℕ) (new e : Entry) (es : List Entry) →
+    Contains (with_entry tag new (map (settled_entry there) es)) e → (new ≡ e) ⊎
     IsFrom es e
 with_from there tag new e [] i = absurd (Contains-nil e i)
 with_from there tag new e (x ∷ es) i =
@@ -128,12 +143,19 @@ with_from there tag new e (x ∷ es) i =
 pub found_is_in : (tag : ℕ) (es : List Entry) (e : Entry) → entry_of tag es ≡ Some e → Contains es e
 found_is_in tag es e h = (find_stands (has_tag tag) es e h).0
 
-from_mid : (there : Bool) (old mid : ArrayState) (tag : ℕ) (e other : Entry) → Writes there old mid tag e → Contains mid.entries other →
+from_mid : (there : Bool) (old mid : ArrayState) (tag : ℕ) (e other : Entry) → Writes there old mid tag e →
+    Contains mid.entries other →
     IsFrom old.entries other
 from_mid there old mid tag e other w i =
     let next : Entry = record (settled_entry there e) { done = e.done + 1 } in
-    elim (with_from there tag next other old.entries (subst (λ (s : ArrayState). Contains s.entries other) w.new_is i)) [
-      | inl same ↦ (e, found_is_in tag old.entries e w.found, ap (λ (y : Entry). y.tag) same, ap (λ (y : Entry). y.writes) same)
+    elim (with_from there tag next other old.entries (subst (λ (s : ArrayState). Contains s.entries other)
+    w.new_is i)) [
+      | inl same ↦ (
+        e,
+        found_is_in tag old.entries e w.found,
+        ap (λ (y : Entry). y.tag) same,
+        ap (λ (y : Entry). y.writes) same,
+      )
       | inr from ↦ from
     ]
 
@@ -142,12 +164,14 @@ abbrev pub Comes : (Entry → Type 0) → ArrayState → Pages → Type 0
 Comes Q old pages = (there : Bool) × MayTake (settled there old).pages (λ e. Contains old.entries e × Q e) pages
 
 -- So what comes of the state after the step comes of the one before, by transactions whose tags are of a kind.
-pub comes_before : (Q : ℕ → Type 0) (there : Bool) (old mid : ArrayState) (pages : Pages) (tag : ℕ) (e : Entry) → Writes there old mid tag e →
+pub comes_before : (Q : ℕ → Type 0) (there : Bool) (old mid : ArrayState) (pages : Pages) (tag : ℕ) (e : Entry) →
+    Writes there old mid tag e →
     Comes (λ x. Q x.tag) mid pages → Comes (λ x. Q x.tag) old pages
 comes_before Q there old mid pages tag e w h =
     let sure : doubted mid.entries ≡ [] = ap (λ (s : ArrayState). doubted s.entries) w.new_is
     ∙ sure_with there tag (record (settled_entry there e) { done = e.done + 1 }) old.entries (sure_mark there e.mark) in
-    let same_pages : (settled h.0 mid).pages ≡ (settled there old).pages = settled_sure h.0 mid sure ∙ ap (λ (s : ArrayState). s.pages) w.new_is in (
+    let same_pages : (settled h.0 mid).pages ≡ (settled there old).pages = settled_sure h.0 mid sure
+    ∙ ap (λ (s : ArrayState). s.pages) w.new_is in (
       there,
       elim h.1 [
         | inl same ↦ inl (same ∙ same_pages)
@@ -162,16 +186,26 @@ comes_before Q there old mid pages tag e w h =
 abbrev pub IsOf : ℕ → Entry → Type 0
 IsOf tag e = e.tag ≡ tag
 
-pub cut_before : (there : Bool) (old mid new : ArrayState) (tag : ℕ) (e : Entry) → Writes there old mid tag e → CutLeaves (IsOf tag) mid new →
+pub cut_before : (there : Bool) (old mid new : ArrayState) (tag : ℕ) (e : Entry) → Writes there old mid tag e →
+    CutLeaves (IsOf tag) mid new →
     CutLeaves (IsOf tag) old new
 cut_before there old mid new tag e w h =
     let before = comes_before (λ t. t ≡ tag) there old mid new.pages tag e w (h.0, h.1) in (before.0, before.1, h.2)
 
 -- The last of the steps
-pub at_last : (tag : ℕ) (old new : ArrayState) → CutLeaves (λ e. (e.tag ≡ tag) × IsAtLast e) old new → CutLeaves (IsOf tag) old new
-at_last tag old new h = (h.0, elim h.1 [ inl same ↦ inl same | inr took ↦ inr (took.0, (took.1.0, took.1.1.0), took.2) ], h.2)
+pub at_last : (tag : ℕ) (old new : ArrayState) → CutLeaves (λ e. (e.tag ≡ tag) × IsAtLast e) old new →
+    CutLeaves (IsOf tag) old new
+at_last tag old new h = (
+  h.0,
+  elim h.1 [
+    | inl same ↦ inl same
+    | inr took ↦ inr (took.0, (took.1.0, took.1.1.0), took.2)
+  ],
+  h.2,
+)
 
-pub ends : (old new : ArrayState) (tag : ℕ) (r : Reply) (result : Result Progress StepError) → ((own done all : ℕ) → r ≢ reply.Wrote own done all) →
+pub ends : (old new : ArrayState) (tag : ℕ) (r : Reply) (result : Result Progress StepError) →
+    ((own done all : ℕ) → r ≢ reply.Wrote own done all) →
     r ≡ step_reply tag result → Steps old new tag result →
     Finishes old [] new tag result
 ends old new tag r (Ok (progress.Wrote done all)) last told steps = absurd (last tag done all told)
@@ -179,12 +213,14 @@ ends old new tag r (Ok progress.Done) last told steps = steps
 ends old new tag r (Err e) last told steps = steps
 
 -- So there are no more steps than pages left, and at least one.
-pub steps_left : (old : ArrayState) (mids : List ArrayState) (new : ArrayState) (tag : ℕ) (result : Result Progress StepError) →
+pub steps_left : (old : ArrayState) (mids : List ArrayState) (new : ArrayState) (tag : ℕ)
+    (result : Result Progress StepError) →
     Finishes old mids new tag result →
     length mids + 1 ≤ max 1 (pages_left tag old)
 steps_left old [] new tag result h = omega arith
 steps_left old (mid ∷ mids) new tag result h =
     let rest : length mids + 1 ≤ max 1 (pages_left tag mid) = steps_left mid mids new tag result h.3 in
-    let w = found_writes (entry_of tag old.entries) h.2.0 old mid tag h.0 h.1 (Ok (progress.Wrote h.0 h.1)) refl refl h.2.1 in
+    let w = found_writes (entry_of tag old.entries) h.2.0 old mid tag h.0 h.1 (Ok (progress.Wrote h.0 h.1))
+    refl refl h.2.1 in
     let less = fewer_left old mid h.2.0 tag w.0 w.1 in
     omega (arith, rest, less.0, less.1)

@@ -10,7 +10,8 @@ pub put_length : (ws : List PageWrite) (pages : Pages) → length (put pages ws)
 put_length [] pages = refl
 put_length (w ∷ ws) pages = put_length ws _ ∙ length-set pages w.page w.value
 
-pub put_other : (page : ℕ) (ws : List PageWrite) (pages : Pages) → Avoid page ws → page_at (put pages ws) page ≡ page_at pages page
+pub put_other : (page : ℕ) (ws : List PageWrite) (pages : Pages) → Avoid page ws →
+    page_at (put pages ws) page ≡ page_at pages page
 put_other page [] pages h = refl
 put_other page (w ∷ ws) pages h =
     put_other page ws _ (All-tail (λ w. w.page ≢ page) w ws h)
@@ -19,7 +20,8 @@ put_other page (w ∷ ws) pages h =
 abbrev pub AreWithin : Pages → List PageWrite → Type 0
 AreWithin pages ws = All (λ w. w.page < length pages) ws
 
-pub within_kept : (old new : Pages) (ws : List PageWrite) → length new ≡ length old → AreWithin old ws → AreWithin new ws
+pub within_kept : (old new : Pages) (ws : List PageWrite) → length new ≡ length old → AreWithin old ws →
+    AreWithin new ws
 within_kept old new ws long h = λ k d lt. (let at = h k d lt in omega arith)
 
 -- it has them all
@@ -29,10 +31,12 @@ put_has [] pages distinct within = All-nil (λ w. page_at pages w.page ≡ w.val
 put_has (w ∷ ws) pages distinct within =
     let R = λ (v : PageWrite) (w : PageWrite). v.page ≢ w.page in
     let P = λ (w : PageWrite). w.page < length pages in
-    let others : Avoid w.page ws = all_from (λ v. v.page ≢ w.page) ws (λ v i e. pairs_head R w ws v distinct i (sym e)) in
+    let others : Avoid w.page ws = all_from (λ v. v.page ≢ w.page) ws
+    (λ v i e. pairs_head R w ws v distinct i (sym e)) in
     All-cons (λ v. page_at (put pages (w ∷ ws)) v.page ≡ v.value) w ws
     (put_other w.page ws _ others ∙ get_or-set_same pages w.page w.value None (All-head P w ws within))
-    (put_has ws _ (pairs_tail R w ws distinct) (within_kept pages _ ws (length-set pages w.page w.value) (All-tail P w ws within)))
+    (put_has ws _ (pairs_tail R w ws distinct) (within_kept pages _ ws (length-set pages w.page w.value)
+    (All-tail P w ws within)))
 
 pub put_append : (vs ws : List PageWrite) (pages : Pages) → put pages (vs ++ ws) ≡ put (put pages vs) ws
 put_append [] ws pages = refl
@@ -48,7 +52,8 @@ doubted_avoid page (e ∷ es) h =
       | false ↦ rest
     ]
 
-pub settled_other : (there : Bool) (page : ℕ) (s : ArrayState) → AllAvoid page s.entries → page_at (settled there s).pages page ≡ page_at s.pages page
+pub settled_other : (there : Bool) (page : ℕ) (s : ArrayState) → AllAvoid page s.entries →
+    page_at (settled there s).pages page ≡ page_at s.pages page
 settled_other true page s h = put_other page (doubted s.entries) s.pages (doubted_avoid page s.entries h)
 settled_other false page s h = refl
 
@@ -95,17 +100,21 @@ part_without tag (e ∷ es) = elim (has_tag tag e) as (λ b. ArePart (cond b es 
   | false ↦ inl (refl, part_without tag es)
 ]
 
-with_step : (tag : ℕ) (new x e : Entry) (es : List Entry) (b : Bool) → new.writes ≡ e.writes → (entry_of tag es ≡ Some e → ArePart (with_entry tag new es) es) →
+with_step : (tag : ℕ) (new x e : Entry) (es : List Entry) (b : Bool) → new.writes ≡ e.writes →
+    (entry_of tag es ≡ Some e → ArePart (with_entry tag new es) es) →
     cond b (Some x) (entry_of tag es) ≡ Some e → ArePart (cond b (new ∷ es) (x ∷ with_entry tag new es)) (x ∷ es)
-with_step tag new x e es true same rest h = let is : x ≡ e = cc in inl (same ∙ ap (λ (y : Entry). y.writes) (sym is), part_same es)
+with_step tag new x e es true same rest h = let is : x ≡ e = cc in
+    inl (same ∙ ap (λ (y : Entry). y.writes) (sym is), part_same es)
 with_step tag new x e es false same rest h = inl (refl, rest h)
 
-pub part_with : (tag : ℕ) (new e : Entry) (es : List Entry) → new.writes ≡ e.writes → entry_of tag es ≡ Some e → ArePart (with_entry tag new es) es
+pub part_with : (tag : ℕ) (new e : Entry) (es : List Entry) → new.writes ≡ e.writes → entry_of tag es ≡ Some e →
+    ArePart (with_entry tag new es) es
 part_with tag new e [] same h = refl
 part_with tag new e (x ∷ es) same h = with_step tag new x e es (has_tag tag x) same (part_with tag new e es same) h
 
 -- What is so of the writes of all old ones is so of the new ones.
-pub part_all : (P : List PageWrite → Type 0) (ns os : List Entry) → ArePart ns os → All (λ e. P e.writes) os → All (λ e. P e.writes) ns
+pub part_all : (P : List PageWrite → Type 0) (ns os : List Entry) → ArePart ns os → All (λ e. P e.writes) os →
+    All (λ e. P e.writes) ns
 part_all P ns [] h all = rw h (All-nil (λ (e : Entry). P e.writes))
 part_all P [] (o ∷ os) h all = All-nil (λ (e : Entry). P e.writes)
 part_all P (n ∷ ns) (o ∷ os) (inl h) all =
@@ -118,7 +127,8 @@ part_pairs ns [] h all = rw h all
 part_pairs [] (o ∷ os) h all = λ i j d less below. absurd (omega arith)
 part_pairs (n ∷ ns) (o ∷ os) (inl h) all =
     let from : All (λ e. All (λ w. Avoid w.page e.writes) n.writes) os =
-    all_from (λ e. All (λ w. Avoid w.page e.writes) n.writes) os (λ e i. subst (λ (ws : List PageWrite). All (λ w. Avoid w.page e.writes) ws) (sym h.0)
+    all_from (λ e. All (λ w. Avoid w.page e.writes) n.writes) os
+    (λ e i. subst (λ (ws : List PageWrite). All (λ w. Avoid w.page e.writes) ws) (sym h.0)
     (pairs_head EntriesAreApart o os e all i)) in
     let kept = part_all (λ vs. All (λ w. Avoid w.page vs) n.writes) ns os h.1 from in
     pairs_cons EntriesAreApart n ns (λ e i. All-contains (λ (e : Entry). EntriesAreApart n e) ns e kept i)

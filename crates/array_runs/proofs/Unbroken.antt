@@ -28,39 +28,50 @@ read_given : (logical page : ℕ) (at : Option (List ℕ)) (q : Reply) → page 
     cond (nat_lt page logical) (page_reply page at) (reply.RefusedRange page) ≡ q
 read_given logical page at q lt h = let yes : nat_lt page logical ≡ true = grind (arith, nat_tests) in rw yes h
 
-read_refused : (logical page : ℕ) (q : Reply) → logical ≤ page → cond (nat_lt page logical) q (reply.RefusedRange page) ≡ reply.RefusedRange page
+read_refused : (logical page : ℕ) (q : Reply) → logical ≤ page → cond (nat_lt page logical) q (reply.RefusedRange page)
+    ≡ reply.RefusedRange page
 read_refused logical page q le = let past : nat_lt page logical ≡ false = grind (arith, nat_tests) in rw past refl
 
 read_fine : (limits : Limits) (s : ArrayState) (page : ℕ) (bytes : List ℕ) (result : Result ReadAnswer ReadError) →
     ReadsPage limits.logical s.pages page bytes result →
     is_break (read_reply page bytes result) ≡ false →
-    read_reply page bytes result ≡ cond (nat_lt page limits.logical) (page_reply page (page_at s.pages page)) (reply.RefusedRange page)
-read_fine limits s page bytes (Ok read.Blank) h b = sym (read_given limits.logical page (page_at s.pages page) (reply.Blank page) h.0
+    read_reply page bytes result ≡ cond (nat_lt page limits.logical) (page_reply page (page_at s.pages page))
+    (reply.RefusedRange page)
+read_fine limits s page bytes (Ok read.Blank) h b =
+    sym (read_given limits.logical page (page_at s.pages page) (reply.Blank page) h.0
     (ap (page_reply page) h.1))
-read_fine limits s page bytes (Ok read.Page) h b = sym (read_given limits.logical page (page_at s.pages page) (reply.Page page bytes) h.0
+read_fine limits s page bytes (Ok read.Page) h b =
+    sym (read_given limits.logical page (page_at s.pages page) (reply.Page page bytes) h.0
     (ap (page_reply page) h.1))
-read_fine limits s page bytes (Err unread.Range) h b = sym (read_refused limits.logical page (page_reply page (page_at s.pages page)) h)
+read_fine limits s page bytes (Err unread.Range) h b =
+    sym (read_refused limits.logical page (page_reply page (page_at s.pages page)) h)
 read_fine limits s page bytes (Err unread.Fault) h b = cc
 
 -- Submitting
-opened_plain : (o : Option SubmitError) (tag : ℕ) (ws : List PageWrite) (s : ArrayState) → AllPlain s → AllPlain (opened o tag ws s)
+opened_plain : (o : Option SubmitError) (tag : ℕ) (ws : List PageWrite) (s : ArrayState) → AllPlain s →
+    AllPlain (opened o tag ws s)
 opened_plain None tag ws s h = All-push IsPlain s.entries (new_entry tag ws) h refl
 opened_plain (Some e) tag ws s h = h
 
 -- Steps
-step_unbroken : (tag : ℕ) (r : Reply) (result : Result Progress StepError) → r ≡ step_reply tag result → is_break r ≡ false → result ≢ Err failed.Fault
+step_unbroken : (tag : ℕ) (r : Reply) (result : Result Progress StepError) → r ≡ step_reply tag result →
+    is_break r ≡ false → result ≢ Err failed.Fault
 step_unbroken tag r result is b e = unlike r reply.Fault b (is ∙ ap (step_reply tag) e) refl
 
-abort_unbroken : (tag : ℕ) (r : Reply) (result : Result Aborted StepError) → r ≡ abort_reply tag result → is_break r ≡ false → result ≢ Err failed.Fault
+abort_unbroken : (tag : ℕ) (r : Reply) (result : Result Aborted StepError) → r ≡ abort_reply tag result →
+    is_break r ≡ false → result ≢ Err failed.Fault
 abort_unbroken tag r result is b e = unlike r reply.Fault b (is ∙ ap (abort_reply tag) e) refl
 
 abbrev IsFinished : ArrayState → ℕ → Result Progress StepError → ArrayState → Type 0
-IsFinished old tag result new = (result ≡ finish_answer (entry_of tag old.entries)) × (new ≡ finished (entry_of tag old.entries) tag old) × AllPlain new
+IsFinished old tag result new = (result ≡ finish_answer (entry_of tag old.entries))
+    × (new ≡ finished (entry_of tag old.entries) tag old) × AllPlain new
 
-finish_fine : (mids : List ArrayState) (old new : ArrayState) (tag : ℕ) (result : Result Progress StepError) → AllPlain old → Finishes old mids new tag result →
+finish_fine : (mids : List ArrayState) (old new : ArrayState) (tag : ℕ) (result : Result Progress StepError) →
+    AllPlain old → Finishes old mids new tag result →
     result ≢ Err failed.Fault → IsFinished old tag result new
 finish_fine [] old new tag (Ok (progress.Wrote done all)) plain h fine = absurd h
-finish_fine [] old new tag (Ok progress.Done) plain h fine = last_finishes old new tag (Ok progress.Done) plain h fine (λ done all e. cc)
+finish_fine [] old new tag (Ok progress.Done) plain h fine = last_finishes old new tag (Ok progress.Done) plain h fine
+    (λ done all e. cc)
 finish_fine [] old new tag (Err e) plain h fine = last_finishes old new tag (Err e) plain h fine (λ done all e. cc)
 finish_fine (mid ∷ mids) old new tag result plain h fine =
     let wrote = wrote_finishes old mid tag h.0 h.1 plain h.2 in
@@ -68,7 +79,8 @@ finish_fine (mid ∷ mids) old new tag result plain h fine =
     (rest.0 ∙ wrote.1, rest.1 ∙ wrote.2, rest.2)
 
 -- Collecting
-collect_fine : (old new : ArrayState) (result : Result Collected Fault) → AllPlain old → Collects old new result → is_break (collect_reply result) ≡ false →
+collect_fine : (old new : ArrayState) (result : Result Collected Fault) → AllPlain old → Collects old new result →
+    is_break (collect_reply result) ≡ false →
     ((collect_reply result ≡ reply.Collected) ⊎ (collect_reply result ≡ reply.Nothing)) × (new ≡ old)
 collect_fine old new (Ok collected.One) plain h b = (inl refl, h.1 ∙ settled_same h.0 old plain)
 collect_fine old new (Ok collected.Nothing) plain h b = (inr refl, h.1 ∙ settled_same h.0 old plain)
@@ -76,7 +88,8 @@ collect_fine old new (Err fault) plain h b = cc
 
 -- A command
 abbrev FineAs : Limits → Handed → Command → ArrayState → Reply → ArrayState → Type 0
-FineAs limits handed c old r new = IsReply limits handed c old r × (new ≡ state_after limits handed c old) × AllPlain new
+FineAs limits handed c old r new = IsReply limits handed c old r × (new ≡ state_after limits handed c old)
+    × AllPlain new
 
 abbrev handing : (ℕ → Bool) → ℕ → Handed
 handing its_spent its_moved = record { spent = its_spent; moved = its_moved }
@@ -94,7 +107,8 @@ does_fine limits spent (command.Write tag batch) old r new plain h b =
       (
         h.2 ∙ ap (submit_reply tag (length batch.entries)) h.1.answers,
         opens,
-        subst AllPlain (sym opens) (opened_plain (refusal limits spent old.entries tag batch.entries) tag batch.entries old plain),
+        subst AllPlain (sym opens) (opened_plain (refusal limits spent old.entries tag batch.entries) tag
+            batch.entries old plain),
       ),
     )
 does_fine limits spent (command.Step tag) old r new plain h b =
@@ -119,43 +133,61 @@ does_fine limits spent (command.Fault count what) old r new plain h b = absurd h
 does_fine limits spent (command.BadRead count) old r new plain h b = absurd h
 
 -- a reply after which nothing is open is a break
-pub lost_break : (c : Command) (old : RunState) (r : Reply) (new : RunState) → LosesOpen c old r new → is_break r ≡ false → ⊥
+pub lost_break : (c : Command) (old : RunState) (r : Reply) (new : RunState) → LosesOpen c old r new →
+    is_break r ≡ false → ⊥
 lost_break c old r new (inl cut, left) b = unlike r reply.Cut b cut.0 refl
 lost_break c old r new (inr drops, left) b = unlike r reply.Dropped b drops.0 refl
 
-served_fine : (limits : Limits) (spent : ℕ → Bool) (c : Command) (old : RunState) (r : Reply) (new : RunState) → AllPlain old.machine →
-    (NotDone old r new ⊎ ((DoesCommand limits spent c old.machine r new.machine × (new.up ≡ true)) ⊎ LosesOpen c old r new)) → is_break r ≡ false →
+served_fine : (limits : Limits) (spent : ℕ → Bool) (c : Command) (old : RunState) (r : Reply) (new : RunState) →
+    AllPlain old.machine →
+    (NotDone old r new ⊎ ((DoesCommand limits spent c old.machine r new.machine × (new.up ≡ true))
+    ⊎ LosesOpen c old r new)) → is_break r ≡ false →
     Fine limits spent c old.machine r new.machine
 served_fine limits spent c old r new plain (inl h) b = elim h.1 [
   | inl e ↦ absurd (unlike r reply.Fault b e refl)
   | inr e ↦ absurd (unlike r reply.Cut b e refl)
 ]
-served_fine limits spent c old r new plain (inr (inl h)) b = does_fine limits spent c old.machine r new.machine plain h.0 b
+served_fine limits spent c old r new plain (inr (inl h)) b =
+    does_fine limits spent c old.machine r new.machine plain h.0 b
 served_fine limits spent c old r new plain (inr (inr h)) b = absurd (lost_break c old r new h b)
 
-armed_fine : (old new : RunState) → AllPlain old.machine → new ≡ old → (new.machine ≡ old.machine) × AllPlain new.machine
+armed_fine : (old new : RunState) → AllPlain old.machine → new ≡ old → (new.machine ≡ old.machine)
+    × AllPlain new.machine
 armed_fine old new plain h = (ap (λ s. s.machine) h, subst (λ (s : RunState). AllPlain s.machine) (sym h) plain)
 
 pub command_fine : (limits : Limits) (spent : ℕ → Bool) (c : Command) (old : RunState) (r : Reply) (new : RunState) →
     AllPlain old.machine → Serves limits spent c old r new → is_break r ≡ false →
     (moved : ℕ) × FineAs limits (handing spent moved) c old.machine r new.machine
-command_fine limits spent (command.Read page) old r new plain h b = served_fine limits spent (command.Read page) old r new plain h b
-command_fine limits spent (command.Write tag batch) old r new plain h b = served_fine limits spent (command.Write tag batch) old r new plain h b
-command_fine limits spent (command.Step tag) old r new plain h b = served_fine limits spent (command.Step tag) old r new plain h b
-command_fine limits spent (command.Finish tag) old r new plain h b = served_fine limits spent (command.Finish tag) old r new plain h b
-command_fine limits spent (command.Abort tag) old r new plain h b = served_fine limits spent (command.Abort tag) old r new plain h b
-command_fine limits spent command.StepAll old r new plain h b = served_fine limits spent command.StepAll old r new plain h b
-command_fine limits spent command.Collect old r new plain h b = served_fine limits spent command.Collect old r new plain h b
+command_fine limits spent (command.Read page) old r new plain h b = served_fine limits spent (command.Read page) old
+    r new plain h b
+command_fine limits spent (command.Write tag batch) old r new plain h b =
+    served_fine limits spent (command.Write tag batch) old r new plain h b
+command_fine limits spent (command.Step tag) old r new plain h b =
+    served_fine limits spent (command.Step tag) old r new plain h b
+command_fine limits spent (command.Finish tag) old r new plain h b = served_fine limits spent (command.Finish tag) old
+    r new plain h b
+command_fine limits spent (command.Abort tag) old r new plain h b = served_fine limits spent (command.Abort tag) old
+    r new plain h b
+command_fine limits spent command.StepAll old r new plain h b =
+    served_fine limits spent command.StepAll old r new plain h b
+command_fine limits spent command.Collect old r new plain h b =
+    served_fine limits spent command.Collect old r new plain h b
 command_fine limits spent command.Stats old r new plain h b = served_fine limits spent command.Stats old r new plain h b
-command_fine limits spent command.Explain old r new plain h b = served_fine limits spent command.Explain old r new plain h b
-command_fine limits spent (command.Cut count what) old r new plain h b = let same = armed_fine old new plain h.1 in (0, (h.0, same.0, same.1))
-command_fine limits spent (command.Fault count what) old r new plain h b = let same = armed_fine old new plain h.1 in (0, (h.0, same.0, same.1))
-command_fine limits spent (command.BadRead count) old r new plain h b = let same = armed_fine old new plain h.1 in (0, (h.0, same.0, same.1))
+command_fine limits spent command.Explain old r new plain h b =
+    served_fine limits spent command.Explain old r new plain h b
+command_fine limits spent (command.Cut count what) old r new plain h b = let same = armed_fine old new plain h.1 in
+    (0, (h.0, same.0, same.1))
+command_fine limits spent (command.Fault count what) old r new plain h b = let same = armed_fine old new plain h.1 in
+    (0, (h.0, same.0, same.1))
+command_fine limits spent (command.BadRead count) old r new plain h b = let same = armed_fine old new plain h.1 in
+    (0, (h.0, same.0, same.1))
 
 -- A run
-pub run_fine : (limits : Limits) (seen : ℕ → ℕ) (old : RunState) (cs : List Command) (rs : List Reply) (new : RunState) →
+pub run_fine : (limits : Limits) (seen : ℕ → ℕ) (old : RunState) (cs : List Command) (rs : List Reply)
+    (new : RunState) →
     AllPlain old.machine → Run limits seen old cs rs new → All (λ r. is_break r ≡ false) rs →
-    (hands : List Handed) × AreMaybeSpent seen cs rs hands × UnbrokenRun limits hands old.machine cs rs new.machine × AllPlain new.machine
+    (hands : List Handed) × AreMaybeSpent seen cs rs hands × UnbrokenRun limits hands old.machine cs rs new.machine
+    × AllPlain new.machine
 run_fine limits seen old [] [] new plain run whole =
     ([], tt, ap (λ s. s.machine) run, subst (λ (s : RunState). AllPlain s.machine) (sym run) plain)
 run_fine limits seen old [] (r ∷ rs) new plain run whole = absurd run
@@ -164,7 +196,8 @@ run_fine limits seen old (c ∷ cs) (r ∷ rs) new plain run whole =
     let mid = run.0 in
     let spent = run.1 in
     let first = command_fine limits spent c old r mid plain run.3 (All-head (λ r. is_break r ≡ false) r rs whole) in
-    let rest = run_fine limits (seen_after seen c r) mid cs rs new first.1.2 run.4 (All-tail (λ r. is_break r ≡ false) r rs whole) in (
+    let rest = run_fine limits (seen_after seen c r) mid cs rs new first.1.2 run.4
+    (All-tail (λ r. is_break r ≡ false) r rs whole) in (
       handing spent first.0 ∷ rest.0,
       (run.2, rest.1),
       (first.1.0, subst (λ (s : ArrayState). UnbrokenRun limits rest.0 s cs rs new.machine) first.1.1 rest.2),
@@ -176,14 +209,16 @@ seen_step : (b : Bool) (n k : ℕ) → cond b (n + k) n ≤ n + k
 seen_step true n k = omega arith
 seen_step false n k = omega arith
 
-not_yet : (spent : ℕ → Bool) (seen : ℕ → ℕ) (page rest : ℕ) → MayBeSpent seen spent → seen page + rest < 2 ^ 62 → spent page ≡ false
+not_yet : (spent : ℕ → Bool) (seen : ℕ → ℕ) (page rest : ℕ) → MayBeSpent seen spent → seen page + rest < 2 ^ 62 →
+    spent page ≡ false
 not_yet spent seen page rest may low = elim (cases_Bool (spent page)) [
   | inl is ↦ (let high = may page is in absurd (omega arith))
   | inr not ↦ not
 ]
 
 pub none_spent : (seen : ℕ → ℕ) (cs : List Command) (rs : List Reply) (hands : List Handed) →
-    VersionsSuffice seen cs → AreMaybeSpent seen cs rs hands → All (λ handed. (page : ℕ) → handed.spent page ≡ false) hands
+    VersionsSuffice seen cs → AreMaybeSpent seen cs rs hands →
+    All (λ handed. (page : ℕ) → handed.spent page ≡ false) hands
 none_spent seen [] [] [] low may = All-nil (λ (handed : Handed). (page : ℕ) → handed.spent page ≡ false)
 none_spent seen [] [] (handed ∷ hands) low may = absurd may
 none_spent seen [] (r ∷ rs) hands low may = absurd may

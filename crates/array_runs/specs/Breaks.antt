@@ -29,8 +29,8 @@ arms_fault (command.Fault count what) = true
 arms_fault (command.BadRead count) = true
 arms_fault _ = false
 
--- among the replies to the first so many commands there are at most as many cuts and faults as were
--- to come and were armed among these
+-- among the replies to the first `j` commands there are at most as many cuts and faults as were to come and were armed
+-- among these
 abbrev pub AreFew : ℕ → ℕ → List Command → List Reply → Type 0
 AreFew cuts breaks cs rs =
     (j : ℕ) →

@@ -39,7 +39,7 @@ read_reply page bytes (Ok answer.Page) = reply.Page page bytes
 read_reply page bytes (Err unread.Range) = reply.RefusedRange page
 read_reply page bytes (Err unread.Fault) = reply.Fault
 
--- the reply of a write of so many pages
+-- the reply of a write of this many pages
 abbrev pub submit_reply : ℕ → ℕ → Result (Unit {0}) SubmitError → Reply
 submit_reply tag pages (Ok u) = reply.Opened tag pages
 submit_reply tag pages (Err refused.Empty) = reply.RefusedEmpty

@@ -12,7 +12,8 @@ use Rattle.straddle_sets.proofs.Ending.{Ends}
 
 module _ (l : List Found) (u : Link) (ends : Ends l u) where
   -- while all names are present they are distinct
-  apart : (m i j : ℕ) → ((k : ℕ) → k ≤ m → is_present l (follow l u k) ≡ true) → i < j → j ≤ m → follow l u i ≡ follow l u j → ⊥
+  apart : (m i j : ℕ) → ((k : ℕ) → k ≤ m → is_present l (follow l u k) ≡ true) → i < j → j ≤ m →
+      follow l u i ≡ follow l u j → ⊥
   apart m i j here less le same =
       let never = never_absent l u i j less same (λ k lk. here k (omega arith)) ends.0 ends.0 (omega arith) in
       false≢true (sym ends.1 ∙ never)
@@ -22,7 +23,8 @@ module _ (l : List Found) (u : Link) (ends : Ends l u) where
   ends_in_time = elim (cases_Bool (is_present l (follow l u (length l)))) [
     | inr gone ↦ gone
     | inl at_last ↦ (
-        let here : (k : ℕ) → k ≤ length l → is_present l (follow l u k) ≡ true = λ k le. true_from_ne_false (is_present l (follow l u k)) (λ gone.
+        let here : (k : ℕ) → k ≤ length l → is_present l (follow l u k) ≡ true =
+        λ k le. true_from_ne_false (is_present l (follow l u k)) (λ gone.
         false≢true (sym (stays_absent l u k (length l) le gone) ∙ at_last)) in
         let few = few_met l u (length l) here (λ i j less le. apart (length l) i j here less le) in
         absurd (omega arith))
@@ -33,7 +35,8 @@ pub follow_more : (l : List Found) (u v : Link) (n : ℕ) → v ≡ follow l u n
 follow_more l u v n e = ap (link_of l) e ∙ sym (follow_last l u n) ∙ ap (follow l u) (sym (add-one n))
 
 -- after as many links as there are records the name in hand decides
-pub reached : (l : List Found) (u v : Link) (n : ℕ) (here : Bool) → v ≡ follow l u n → length l ≤ n → n ≤ length l → here ≡ is_present l v →
+pub reached : (l : List Found) (u v : Link) (n : ℕ) (here : Bool) → v ≡ follow l u n → length l ≤ n → n ≤ length l →
+    here ≡ is_present l v →
     IsTrue (not here) ↔ Ends l u
 reached l u v n here at low high is =
     let all : n ≡ length l = omega arith in

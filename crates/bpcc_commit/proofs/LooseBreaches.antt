@@ -10,13 +10,18 @@ use Rattle.record_list.specs.Search.{FindsFirst}
 use Rattle.record_list.proofs.OfFacts.Breaches.{breach, least_breach, one_law_more, before_counted}
 
 -- the laws before each of the two
-before_loose : (P : Law → Type 0) → P Pages → P Copies → P Links → P Present → P Counted → (l : Law) → number l < number Loose → P l
-before_loose P pages copies links present counted = one_law_more P Counted (before_counted P pages copies links present) counted
+before_loose : (P : Law → Type 0) → P Pages → P Copies → P Links → P Present → P Counted → (l : Law) →
+    number l < number Loose → P l
+before_loose P pages copies links present counted = one_law_more P Counted
+    (before_counted P pages copies links present) counted
 
-before_ending : (P : Law → Type 0) → P Pages → P Copies → P Links → P Present → P Counted → P Loose → (l : Law) → number l < number Ending → P l
-before_ending P pages copies links present counted loose = one_law_more P Loose (before_loose P pages copies links present counted) loose
+before_ending : (P : Law → Type 0) → P Pages → P Copies → P Links → P Present → P Counted → P Loose → (l : Law) →
+    number l < number Ending → P l
+before_ending P pages copies links present counted loose =
+    one_law_more P Loose (before_loose P pages copies links present counted) loose
 
-pub breach_of_loose : (p : Protocol) (list : List Found) (logical at : ℕ) → IsScanned list → All (PagesExist logical) list →
+pub breach_of_loose : (p : Protocol) (list : List Found) (logical at : ℕ) → IsScanned list →
+    All (PagesExist logical) list →
     All (CopiesAgree list) list → All (LinksDiffer list) list → All (CurrentIsPresent p list logical) list →
     All (LinkHasCounted p list logical) list → FindsFirst (LooseIsShown p list logical) list (Some at) →
     IsLeastBreach p list logical (breach 6 list at)
@@ -24,7 +29,8 @@ breach_of_loose p list logical at scanned pages copies links current counted fin
     least_breach p list logical Loose at (breach 6 list at) scanned finds refl refl
     (before_loose (λ l. All (Keeps p list logical l) list) pages copies links current counted)
 
-pub breach_of_ending : (p : Protocol) (list : List Found) (logical at : ℕ) → IsScanned list → All (PagesExist logical) list →
+pub breach_of_ending : (p : Protocol) (list : List Found) (logical at : ℕ) → IsScanned list →
+    All (PagesExist logical) list →
     All (CopiesAgree list) list → All (LinksDiffer list) list → All (CurrentIsPresent p list logical) list →
     All (LinkHasCounted p list logical) list → All (LooseIsShown p list logical) list →
     FindsFirst (LooseEnds p list logical) list (Some at) → IsLeastBreach p list logical (breach 7 list at)

@@ -1,9 +1,9 @@
-ghost use Rattle.straddle_sets.proofs.BpccPartial.{bpcc_partial_write};
-ghost use Rattle.straddle_sets.proofs.BpccCompleting.{bpcc_completing_write};
-ghost use Rattle.record_list.proofs.OfChanges.CopyLaw.{copy_law};
-ghost use Rattle.straddle_sets.proofs.LossBpcc.{bpcc_loss};
-ghost use Rattle.record_list.proofs.OfChanges.WrittenChange.{written_partial_write, written_completing_write, written_copy, written_loss};
 ghost use Rattle.tx_types.specs.declared.config.Protocol.TheVariants.{Bpcc as BpccRule};
+ghost use Rattle.record_list.proofs.OfChanges.CopyLaw.{copy_law};
+ghost use Rattle.record_list.proofs.OfChanges.WrittenChange.{written_partial_write, written_completing_write, written_copy, written_loss};
+ghost use Rattle.straddle_sets.proofs.BpccCompleting.{bpcc_completing_write};
+ghost use Rattle.straddle_sets.proofs.BpccPartial.{bpcc_partial_write};
+ghost use Rattle.straddle_sets.proofs.LossBpcc.{bpcc_loss};
 
 use crate::audit::first_breach;
 use record_list::{Breach, CommitRule, Found, Verdict, Why, current_version, reason};

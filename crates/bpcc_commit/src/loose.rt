@@ -2,8 +2,8 @@
 ghost use Rattle.std.specs.Prelude.{◌≡◌, ℕ, ◌↔◌, false, IsTrue};
 ghost use Rattle.tx_types.specs.declared.config.Protocol.TheVariants.{Bpcc as BpccRule};
 ghost use Rattle.record_list.specs.Records.{is_present};
-ghost use Rattle.record_list.specs.SoundList.{LooseIsShown, LooseEnds, follow};
 ghost use Rattle.record_list.specs.Search.{FindsFirst};
+ghost use Rattle.record_list.specs.SoundList.{LooseIsShown, LooseEnds, follow};
 
 use record_list::{Found, current_version, is_loose, link_of, present};
 use straddle_sets::responsible_version;

@@ -41,7 +41,7 @@ fn add_words(text: &str, bytes: &mut Vec<u8>) -> Result<(), Stop> {
     Ok(())
 }
 
-/// Adds a byte so many times.
+/// Adds a byte this many times.
 fn add_often(digits: &str, times: usize, bytes: &mut Vec<u8>) -> Result<(), Stop> {
     let mut byte = [0];
     hex::decode_to_slice(digits, &mut byte).map_err(|_| Stop::BadLine)?;

@@ -4,7 +4,7 @@ use crate::stage::Stage;
 use crate::stop::Stop;
 use std::alloc::{AllocError, Global};
 
-/// Calls the program txflash with words, and answers whether it ends with the status before them.
+/// Calls the program txflash with words, and returns whether it ends with the status before them.
 pub fn call(text: &str, stage: &mut Stage) -> Result<bool, Stop> {
     let (wanted, words) = parted(text)?;
     let words = words_of(stage.alloc, words)?;
@@ -12,7 +12,7 @@ pub fn call(text: &str, stage: &mut Stage) -> Result<bool, Stop> {
     end(wanted, status, stage)
 }
 
-/// The same of the program flash_view.
+/// Calls the program flash_view with words, and returns whether it ends with the status before them.
 pub fn view(text: &str, stage: &mut Stage) -> Result<bool, Stop> {
     let (wanted, words) = parted(text)?;
     let words = words_of(stage.alloc, words)?;
@@ -20,7 +20,7 @@ pub fn view(text: &str, stage: &mut Stage) -> Result<bool, Stop> {
     end(wanted, status, stage)
 }
 
-/// Keeps how a call ended, and answers whether it is the status that is wanted.
+/// Keeps how a call ended, and returns whether it is the status that is wanted.
 fn end(wanted: &str, status: u8, stage: &mut Stage) -> Result<bool, Stop> {
     stage.begin = stage.heard;
     stage.status = status;

@@ -70,7 +70,7 @@ pub fn has_bytes(text: &str, stage: &Stage) -> Result<bool, Stop> {
     Ok(behind.starts_with(&wanted))
 }
 
-/// Whether a file has so many bytes.
+/// Whether a file has this many bytes.
 pub fn has_length(text: &str, stage: &Stage) -> Result<bool, Stop> {
     let (name, length) = parted(text)?;
     Ok(stage.bytes(name)?.len() == number(length)?)

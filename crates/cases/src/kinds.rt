@@ -6,7 +6,7 @@ use crate::record::put_record;
 use crate::stage::Stage;
 use crate::stop::Stop;
 
-/// Does what a line says, and answers whether what it tells is so.
+/// Does what a line says, and returns whether what it tells is so.
 pub fn holds<'a>(line: &'a str, stage: &mut Stage<'a>) -> Result<bool, Stop> {
     let (kind, rest) = line.split_once(' ').unwrap_or((line, ""));
     match kind {
@@ -21,7 +21,7 @@ pub fn holds<'a>(line: &'a str, stage: &mut Stage<'a>) -> Result<bool, Stop> {
     }
 }
 
-/// The same of the lines on what the last call said.
+/// Does what a line on the output of the last call says, and returns whether what it claims is so.
 fn holds_of_answer<'a>(kind: &'a str, rest: &'a str, stage: &mut Stage<'a>) -> Result<bool, Stop> {
     match kind {
         "<" => is_said(rest, true, stage),
@@ -31,7 +31,7 @@ fn holds_of_answer<'a>(kind: &'a str, rest: &'a str, stage: &mut Stage<'a>) -> R
     }
 }
 
-/// The same of the lines on what files hold.
+/// Does what a line on the contents of files says, and returns whether what it claims is so.
 fn holds_of_files<'a>(kind: &'a str, rest: &'a str, stage: &mut Stage<'a>) -> Result<bool, Stop> {
     match kind {
         "same" => is_same(rest, stage),

@@ -1,4 +1,4 @@
-//! Tries the cases of a file on desks in memory, and says which of them differ.
+//! Tries the cases of a file on desks in memory, and prints which of them differ.
 //!
 //! The file is `cases.txt`, and its head tells what the lines of a case do. A paragraph is a case. What differs is
 //! said with the number of its line, and last the number of cases. The status is 0, or 1 where a line is none of
@@ -38,7 +38,7 @@ fn main(rt: HostRuntime) -> ExitCode {
     })
 }
 
-/// Tries the cases of a file, says what differs and how many there are, and answers the status.
+/// Tries the cases of a file, prints what differs and how many there are, and returns the status.
 fn status_of<R: Files + Print + AllocGlobal>(rt: &R, bytes: &[u8]) -> u8 {
     let mut report = Report::new(rt.alloc());
     match str::from_utf8(bytes) {
@@ -50,7 +50,7 @@ fn status_of<R: Files + Print + AllocGlobal>(rt: &R, bytes: &[u8]) -> u8 {
     }
 }
 
-/// Says how trying the cases ended, and answers the status.
+/// Prints how trying the cases ended, and returns the status.
 fn told<R: Print + AllocGlobal>(rt: &R, tried: Result<(), Stop>, report: &Report) -> u8 {
     match tried {
         Ok(()) => after(said(rt, report), 0),
@@ -59,7 +59,7 @@ fn told<R: Print + AllocGlobal>(rt: &R, tried: Result<(), Stop>, report: &Report
     }
 }
 
-/// Says what differs, and how many cases there are.
+/// Prints what differs, and how many cases there are.
 fn said<R: Print + AllocGlobal>(rt: &R, report: &Report) -> io::Result<()> {
     print!(rt; "{}", report.text.as_str())?;
     println!(rt; "{} cases", report.cases)

@@ -25,7 +25,7 @@ pub fn put_record(text: &str, stage: &mut Stage) -> Result<(), Stop> {
     put_cell(name, slot, slots, &cell, stage)
 }
 
-/// Makes a slot of an image of so many slots complete, with these bytes.
+/// Makes a slot of an image of this many slots complete, with these bytes.
 fn put_cell(
     name: &str,
     slot: usize,

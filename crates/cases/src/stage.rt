@@ -50,7 +50,7 @@ impl<'a> Stage<'a> {
         self.desk.said().get(self.begin..).unwrap_or(b"")
     }
 
-    /// Takes it that so many bytes more of what was said are told.
+    /// Takes it that this many bytes more of what was said are told.
     pub fn hear(&mut self, count: usize) {
         self.heard = self.heard.saturating_add(count);
     }

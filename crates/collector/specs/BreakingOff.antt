@@ -28,7 +28,8 @@ pub record CopiedFirst (n : IndexState) (old : FlashState) (before : List Operat
       (before ++ copies n.config.page_bytes old.image (start_of n spare) first) now
   pub noted : n' ≡ copied_from n (start_of n spare) first
 
--- No operation was broken. A slot is left to be copied: its read came next, and failed, and is counted where power was on.
+-- No operation was broken. A slot is left to be copied: its read came next, and failed, and is counted where power was
+-- on.
 pub record ReadFails (n : IndexState) (old new : FlashState) (before : List Operation) (spare block : ℕ)
     (n' : IndexState) : Type 0 where
   pub first : List ℕ
@@ -99,16 +100,16 @@ BreaksOff n old new spare block n' (unsure.VictimErase b) =
     × EraseBreaks (noted_cleaned n spare) old new (cleaning n old.image spare) spare block n'
 BreaksOff n old new spare block n' (unsure.Own at rec) = ⊥
 
--- Room was to be made, and that breaks off: the spare was to be erased first, or, once it is blank, the block with the most
--- garbage was being collected.
+-- Room was to be made, and that breaks off: the spare was to be erased first, or, once it is blank, the block with the
+-- most garbage was being collected.
 abbrev pub RoomBreaksOff : IndexState → BlocksState → FlashState → FlashState → IndexState → Unsure → Type 0
 RoomBreaksOff n t old new n' u =
     ((u ≡ unsure.SpareErase) × CleaningBreaks n old new t.spare × (n' ≡ n))
     ⊎ ((victim : ℕ) × IsVictim (noted_cleaned n t.spare) t victim
     × BreaksOff n old new t.spare victim n' u)
 
--- Blocks were treated in turn, fewer than there were with a record that must go, and then it broke off with the next one: its
--- blocks are those of that turn.
+-- Blocks were evicted in turn, fewer than there were with a record that must go, and then it broke off with the next
+-- one: its blocks are those of that turn.
 pub record ClearingBreaks (page below : ℕ) (old new : FlashState) (n : IndexState) (t : BlocksState)
     (n' : IndexState) (t' : BlocksState) (u : Unsure) : Type 0 where
   pub turn : IndexState

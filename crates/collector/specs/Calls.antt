@@ -82,7 +82,7 @@ pub record CopiesNeeded (p : Protocol) (a b : StoreParts) (block : ℕ)
   pub costs : HasUnneeded a.noted block →
       CostsCopying a.noted.config.pages_per_block a.flash b.flash
 
--- what is wanted in a block has slots outside it, and so many slots of the spare are used
+-- what is wanted in a block has slots outside it, and this many slots of the spare are used
 pub record CanErase (n : IndexState) (t : BlocksState) (block used : ℕ) : Type 0 where
   pub exists : block < blocks_of (shape_of n.config)
   pub not_spare : block ≢ t.spare
@@ -155,7 +155,8 @@ abbrev pub CollectsIfAny : StoreParts → StoreParts → Bool → Type 0
 CollectsIfAny a b true = CollectsOne a.flash b.flash a.noted b.noted a.table b.table
 CollectsIfAny a b false = CollectsNothing a.flash b.flash a.noted b.noted a.table b.table
 
--- The spare is made blank, and the block with the most garbage is collected, if there is any: the old spare has room then.
+-- The spare is made blank, and the block with the most garbage is collected, if there is any: the old spare has room
+-- then.
 pub record CollectsVictim (p : Protocol) (a b : StoreParts) (result : Result Bool Broken) : Type 0 where
   pub keeps : Keeps p a b (is_err result)
   pub done : IfOk result (CollectsIfAny a b)
@@ -175,20 +176,22 @@ pub record Evicts (p : Protocol) (a b : StoreParts) (block : ℕ)
   pub stays : OnErr result (b.table ≡ a.table)
   pub costs : CostsAtMost a.noted.config.pages_per_block 1 a.flash b.flash
 
--- Each block that holds a record which must go is treated, the lowest first, as the tables then are; then there is none.
+-- Each block that holds a record which must go is evicted, the lowest first, as the tables then are; then there is
+-- none.
 pub record ClearsSuperseded (p : Protocol) (a b : StoreParts) (page below : ℕ)
     (result : Result (Unit {0}) Broken) : Type 0 where
   pub keeps : Keeps p a b (is_err result)
   pub cleared : OnOk result (block_to_go b.noted page below ≡ None)
   pub turns : OnOk result (EvictsAll page below a.noted a.table b.noted b.table)
-  -- Else one was being treated in its turn, which broke off as a collection does: the blocks are kept as they were then.
+  -- Else one was being evicted in its turn, which broke off as a collection does: the blocks are kept as they were
+  -- then.
   pub broken : OnErr result
       (ClearingBreaks page below a.flash b.flash a.noted a.table b.noted b.table b.unsure)
   pub costs : CostsAtMost a.noted.config.pages_per_block (blocks_to_go a.noted page below)
       a.flash b.flash
 
--- A slot is found. Where no block has room the block with the most garbage is collected once the spare is blank. After a
--- broken operation the blocks are kept as they were.
+-- A slot is found. Where no block has room the block with the most garbage is collected once the spare is blank. After
+-- a broken operation the blocks are kept as they were.
 pub record AllocatesSlot (p : Protocol) (a b : StoreParts) (result : Result Slot Broken) : Type 0 where
   pub keeps : Keeps p a b (is_err result)
   pub free : IfOk result (λ at. IsFirstFree b.table at.0)

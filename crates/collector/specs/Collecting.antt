@@ -64,11 +64,11 @@ collecting n image spare block =
     (needed_slots (noted_cleaned n spare) block)
     ++ erase block ∷ []
 
--- the state of a block of so many slots of which so many first ones are used
+-- the state of a block with this many slots of which this many first ones are used
 abbrev pub open_state : ℕ → ℕ → BlockState
 open_state pages used = if used == 0 then Clean else (if used == pages then Shut else Part)
 
--- the block is the spare now, and the old spare has so many used slots
+-- the block is the spare now, and the old spare has this many used slots
 abbrev pub swapped : BlocksState → ℕ → ℕ → BlocksState
 swapped t block used =
     with_use (table_with_spare t block) t.spare (open_state t.shape.pages_per_block used) used
@@ -108,8 +108,8 @@ collected n spare block =
     (erased (copied_from m (spare * n.config.pages_per_block)
     (needed_slots m block)) block) block
 
--- The copies of what is needed in a block, in the order of its slots, from the first slot of the spare on: so many,
--- each of them one read and one program. Then nothing that is wanted stands in the block alone.
+-- The copies of what is needed in a block, in the order of its slots, from the first slot of the spare on: `used` of
+-- them, each one read and one program. Then nothing that is wanted stands in the block alone.
 pub record CopiesDone (n n' : IndexState) (old new : FlashState) (spare block used : ℕ) : Type 0 where
   pub count : used ≡ length (needed_slots n block)
   pub programmed :

@@ -40,20 +40,20 @@ pub record IsNextName (n : IndexState) (names : List Link) (name : Link) : Type 
   pub beside : All (IsPinBeside n names) (pinned_names n.pins)
   pub few : length (pinned_names n.pins) ≤ n.config.pending
 
--- the counts of a flash rose at most by the copies and the erases of so many collections
+-- the counts of a flash rose at most by the copies and the erases of this many collections
 pub record CostsAtMost (pages_per_block collections : ℕ) (old new : FlashState) : Type 0 where
   pub programs : new.programs ≤ old.programs + collections * (pages_per_block - 1)
   pub erases : new.erases ≤ old.erases + collections * 2
 
--- a block was treated: erased where it is the spare, and else collected
+-- a block was evicted: erased where it is the spare, and else collected
 abbrev pub IsEvicted : IndexState → BlocksState → ℕ → IndexState → BlocksState → Type 0
 IsEvicted n t block n' t' =
     (block ≡ t.spare → (n' ≡ erased n t.spare) × (t' ≡ t))
     × (block ≢ t.spare → (n' ≡ collected n t.spare block)
     × (t' ≡ swapped t block (length (needed_slots (noted_cleaned n t.spare) block))))
 
--- So many blocks were treated in turn, from these tables on: each was the lowest that then held a record which must go
--- before this version of a page is programmed.
+-- Blocks were evicted in turn, from these tables on, as many as the number says: each was the lowest that then held a
+-- record which must go before this version of a page is programmed.
 pub data EvictsInTurn (page below : ℕ) (n : IndexState) (t : BlocksState) : ℕ → IndexState → BlocksState →
     Type 0 where
   none : EvictsInTurn page below n t 0 n t
@@ -62,7 +62,7 @@ pub data EvictsInTurn (page below : ℕ) (n : IndexState) (t : BlocksState) : �
       block_to_go n' page below ≡ Some block → IsEvicted n' t' block n'' t'' →
       EvictsInTurn page below n t (rounds + 1) n'' t''
 
--- Blocks were treated in turn, no more than there were with such a record.
+-- Blocks were evicted in turn, no more than there were with such a record.
 pub record EvictsAll (page below : ℕ) (n : IndexState) (t : BlocksState) (n' : IndexState)
     (t' : BlocksState) : Type 0 where
   pub rounds : ℕ

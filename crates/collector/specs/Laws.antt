@@ -48,8 +48,8 @@ pub record KnownImageIsSound (p : Protocol) : Type 0 where
       Matches s n t u → n.config.protocol ≡ p →
       array_in p n.config.logical (known_image n t.spare u s.image) ≡ array_known n s.image
 
--- The image has the records, the current versions and the array that will be known of it once the place is settled whose
--- contents are not known.
+-- The image has the records, the current versions and the array that will be known of it once the place is settled
+-- whose contents are not known.
 pub record ImageIsSound (p : Protocol) : Type 0 where
   pub matches : (s : FlashState) (n : IndexState) (t : BlocksState) (u : Unsure) →
       Matches s n t u → CanTake n t u → n.config.protocol ≡ p →
@@ -90,7 +90,8 @@ pub record ArrayStays (p : Protocol) : Type 0 where
       length n.pins ≡ n.config.logical → Preserves n n' →
       IsNextName n names name → IsNextName n' names name
 
--- What the tables keep where the next record of a transaction is noted, which leaves a name absent, or completes the cycle.
+-- What the tables keep where the next record of a transaction is noted, which leaves a name absent, or completes the
+-- cycle.
 pub record NotingKeeps (p : Protocol) : Type 0 where
   pub names : (n : IndexState) (at : ℕ) (rec : Rec) (name : Link) →
       IsNoted p n → at < slots_of (shape_of n.config) → note_at n.notes at ≡ note.Blank →

@@ -51,7 +51,7 @@ abbrev pub SpellsRecord : IndexState → Rec → Contents → Type 0
 SpellsRecord n rec contents =
     (bytes : _) × (contents ≡ complete bytes (spelling n.config.protocol rec))
 
--- so many first slots of a block hold records, and those after them are blank
+-- the first `filled` slots of a block hold records, and those after them are blank
 pub record IsFilledBy (n : IndexState) (block filled : ℕ) : Type 0 where
   pub within : filled ≤ n.config.pages_per_block
   pub records :

@@ -1,5 +1,5 @@
--- Retiring a block: what is needed in it is copied to the spare, as where it is collected, and then it is replaced by a fresh
--- one. The spare is replaced at once.
+-- Retiring a block: what is needed in it is copied to the spare, as where it is collected, and then it is replaced by a
+-- fresh one. The spare is replaced at once.
 use Rattle.std.specs.Prelude.{◌≡◌, ◌≢◌, ◌⊎◌, ℕ, ◌*◌, ◌==◌, Bool, true, List, [], ◌++◌, length, if◌then◌else◌, Result, OnOk, OnErr}
 use Rattle.std.specs.Bool.{OnFalse}
 use Rattle.std.specs.Result.{is_err}
@@ -28,7 +28,8 @@ abbrev pub moved_slots : IndexState → ℕ → ℕ → List ℕ
 moved_slots n spare block =
     if block == spare then [] else needed_slots (noted_cleaned n spare) block
 
--- the operations that come before a block is replaced: none for the spare, and else those that collect the block, but its erase
+-- the operations that come before a block is replaced: none for the spare, and else those that collect the block, but
+-- its erase
 abbrev pub retiring_first : IndexState → List Contents → ℕ → ℕ → List Operation
 retiring_first n image spare block =
     if block == spare then []
@@ -36,8 +37,8 @@ retiring_first n image spare block =
     ++ copies n.config.page_bytes image (spare * n.config.pages_per_block)
     (needed_slots (noted_cleaned n spare) block)
 
--- What stays of the tables and of the array, done or broken. The place that is left unsure is none of an open transaction's
--- records.
+-- What stays of the tables and of the array, done or broken. The place that is left unsure is none of an open
+-- transaction's records.
 pub record KeepsStore (p : Protocol) (a b : StoreParts) (broken : Bool) : Type 0 where
   pub matches : Matches b.flash b.noted b.table b.unsure
   pub preserves : Preserves a.noted b.noted
@@ -89,8 +90,8 @@ EndsRetiring old new block (unsure.Copy from to) = RetiresNone old new
 EndsRetiring old new block unsure.SpareErase = RetiresNone old new
 EndsRetiring old new block (unsure.VictimErase b) = RetiresTorn old new block
 
--- Retiring a block breaks off, and this place is unsure then: for the spare in its replacement, and else where collecting the
--- block breaks off, with the replacement in the place of the last erase.
+-- Retiring a block breaks off, and this place is unsure then: for the spare in its replacement, and else where
+-- collecting the block breaks off, with the replacement in the place of the last erase.
 abbrev pub RetiringBreaks : IndexState → FlashState → FlashState → ℕ → ℕ → IndexState → Unsure → Type 0
 RetiringBreaks n old new spare block n' u =
     (block ≡ spare → SpareBreaks n old new spare n' u)

@@ -143,8 +143,8 @@ pub record Finds (a : StoreParts) (s : FlashState) (n : IndexState) (t : BlocksS
   pub failed : OnErr result ((n ≡ a.noted) × (t ≡ a.table))
   pub looks : Looks a.flash s (slots_read a.noted a.unsure) (is_err result)
 
--- Finding out what a broken operation left. The image stays, and the tables match. After a failed read all is as before but the
--- count of reads.
+-- Finding out what a broken operation left. The image stays, and the tables match. After a failed read all is as before
+-- but the count of reads.
 pub record Settles (a b : StoreParts) (result : Result Settled Broken) : Type 0 where
   pub matches : Matches b.flash b.noted b.table b.unsure
   pub found : IfOk result

@@ -1,7 +1,7 @@
 ghost use Rattle.std.specs.Prelude.{◌≡◌, ◌+◌, ◌*◌, ◌<◌, ◌≤◌, min, Some};
 ghost use Rattle.tx_types.specs.Config.{shape_of, blocks_of};
-ghost use Rattle.collector.specs.Victim.{FindsVictim, garbage_in, is_shut};
 ghost use Rattle.collector.specs.Best.{IsBest, FindsAbove};
+ghost use Rattle.collector.specs.Victim.{FindsVictim, garbage_in, is_shut};
 
 use die_alloc::Blocks;
 use record_list::CommitRule;
@@ -32,8 +32,8 @@ struct Best {
     garbage: u32,
 }
 
-/// The same, where the blank slots of an open block are no garbage: by a look at each block of those
-/// sixteens that may have more than those before, and at the sixteens of such 256 alone.
+/// Finds the victim when the fullest block is open, so that its blank slots are no garbage: groups of 256 and of 16
+/// blocks that cannot have more garbage than the best block so far are skipped.
 fn search<R: CommitRule>(index: &Index<R>, blocks: &Blocks) -> Option<Block>
     requires shape { blocks.now.shape ≡ shape_of index.now.config }
     ensures { FindsVictim index.now blocks.now result }

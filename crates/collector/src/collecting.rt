@@ -57,8 +57,8 @@ pub(crate) fn collect_clean<F: Flash, R: CommitRule>(
     erase_victim(flash, index, blocks, unsure, block, used)
 }
 
-/// Copies what is needed in a block to the blank spare, from its first slot on and in the order of
-/// slots, and answers how many slots that takes.
+/// Copies what is needed in a block to the blank spare, from its first slot on and in the order of slots, and returns
+/// how many slots that takes.
 #[inline(always)]
 pub(crate) fn copy_needed<F: Flash, R: CommitRule>(
     flash: &mut F,

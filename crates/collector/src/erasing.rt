@@ -9,8 +9,8 @@ use record_list::CommitRule;
 use tx_types::Block;
 use version_index::Index;
 
-/// Erases a block whose needed records were copied to the spare, of which so many slots are used:
-/// the block is the spare then, and more programs may go to the old one.
+/// Erases a block whose needed records were copied to the spare, of which this many slots are used: the block is the
+/// spare then, and more programs may go to the old one.
 pub(crate) fn erase_victim<F: Flash, R: CommitRule>(
     flash: &mut F,
     index: &mut Index<R>,

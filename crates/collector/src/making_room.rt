@@ -1,7 +1,7 @@
 ghost use Rattle.std.specs.Prelude.{◌≡◌, ◌≢◌, ◌<◌, List, Some, None, Ok, IfOk, length, false};
 ghost use Rattle.std.specs.Result.{is_err};
-ghost use Rattle.tx_types.specs.declared.record.Link.{Link};
 ghost use Rattle.tx_types.specs.Config.{shape_of, blocks_of};
+ghost use Rattle.tx_types.specs.declared.record.Link.{Link};
 ghost use Rattle.version_index.specs.IndexState.{block_to_go};
 ghost use Rattle.die_alloc.specs.BlocksState.{IsFull};
 ghost use Rattle.die_alloc.specs.NextSlot.{next_slot, after_next_slot};
@@ -20,9 +20,8 @@ use record_list::CommitRule;
 use tx_types::{Block, Slot};
 use version_index::Index;
 
-/// Treats each block that holds a record which must go before the version `below` of a page is
-/// programmed, the lowest first: erases it where it is the spare, and else collects it. Then there
-/// is none.
+/// Evicts each block that holds a record which must go before the version `below` of a page is programmed, the lowest
+/// first: erases it where it is the spare, and else collects it. Then there is none.
 pub fn clear_superseded<F: Flash, R: CommitRule>(
     flash: &mut F,
     index: &mut Index<R>,

@@ -64,8 +64,8 @@ fn retire_spare<F: Retire, R: CommitRule>(
     Ok(())
 }
 
-/// Retires a block whose needed records were copied to the spare, of which so many slots are used:
-/// the block is the spare then, and more programs may go to the old one where it has room.
+/// Retires a block whose needed records were copied to the spare, of which this many slots are used: the block is the
+/// spare then, and more programs may go to the old one where it has room.
 fn retire_victim<F: Retire, R: CommitRule>(
     flash: &mut F,
     index: &mut Index<R>,

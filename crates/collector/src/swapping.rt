@@ -9,8 +9,8 @@ use record_list::CommitRule;
 use tx_types::{Block, BlockState};
 use version_index::Index;
 
-/// Makes a block the spare. So many first slots of the old spare are used, and more programs may go
-/// there where some are not.
+/// Makes a block the spare. The first `used` slots of the old spare are used, and more programs may go there where some
+/// are not.
 #[inline(always)]
 pub(crate) fn swap_spare<R: CommitRule>(
     index: &mut Index<R>,
@@ -32,7 +32,7 @@ pub(crate) fn swap_spare<R: CommitRule>(
     blocks.swap_spare(block, open_state(pages, used), used);
 }
 
-/// The state of a block of so many slots of which so many first ones are used.
+/// The state of a block with this many slots of which this many first ones are used.
 fn open_state(pages: u32, used: u32) -> BlockState
     requires { used ≤ pages }
     ensures state { result ≡ open_state pages used }

@@ -28,20 +28,26 @@ abbrev opening_in : Config → Moment → ArrayState
 opening_in its from = idle (array_in its.protocol its.logical from.image)
 
 -- a run of the array machine in which nothing fails, at whose end nothing is in doubt
-unbroken : (its : Config) (from : Moment) (cs : List Command) (rs : List Reply) (ps : List Point) (run : IsFlashRun its from cs rs ps) →
+unbroken : (its : Config) (from : Moment) (cs : List Command) (rs : List Reply) (ps : List Point)
+    (run : IsFlashRun its from cs rs ps) →
     AreFew 0 0 cs rs → All (λ c. is_arm c ≡ false) cs →
     (hands : List Handed) × AreMaybeSpent (mentions_in its from) cs rs hands
-    × UnbrokenRun (limits_of its) hands (opening_in its from) cs rs (last_state (first_state its run.up from) ps).machine
+    × UnbrokenRun (limits_of its) hands (opening_in its from) cs rs
+    (last_state (first_state its run.up from) ps).machine
     × AllPlain (last_state (first_state its run.up from) ps).machine
 unbroken its from cs rs ps run few none =
-    run_fine (limits_of its) (mentions_in its from) (first_state its run.up from) cs rs (last_state (first_state its run.up from) ps)
+    run_fine (limits_of its) (mentions_in its from) (first_state its run.up from) cs rs
+    (last_state (first_state its run.up from) ps)
     (All-nil (λ (e : Entry). e.mark ≡ Plain))
-    (flash_run_is_run its (mentions_in its from) false (first_point its run.up from) cs rs ps run.runs) (none_broken cs rs none few)
+    (flash_run_is_run its (mentions_in its from) false (first_point its run.up from) cs rs ps run.runs)
+    (none_broken cs rs none few)
 
-pub unarmed : (its : Config) (from : Moment) (cs : List Command) (rs : List Reply) (ps : List Point) (run : IsFlashRun its from cs rs ps) →
+pub unarmed : (its : Config) (from : Moment) (cs : List Command) (rs : List Reply) (ps : List Point)
+    (run : IsFlashRun its from cs rs ps) →
     AreFew 0 0 cs rs → All (λ c. is_arm c ≡ false) cs →
     (hands : List Handed) × AreMaybeSpent (mentions_in its from) cs rs hands
-    × UnbrokenRun (limits_of its) hands (opening_in its from) cs rs (last_state (first_state its run.up from) ps).machine
+    × UnbrokenRun (limits_of its) hands (opening_in its from) cs rs
+    (last_state (first_state its run.up from) ps).machine
     × FinishesAreDone (limits_of its) hands (opening_in its from) cs rs
 unarmed its from cs rs ps run few none =
     let last = (last_state (first_state its run.up from) ps).machine in
@@ -53,7 +59,8 @@ unarmed its from cs rs ps run few none =
 abbrev last_of : Point → List Point → Point
 last_of old ps = record { state = last_state old.state ps; moment = last_moment old.moment ps }
 
-last_stands : (its : Config) (seen : ℕ → ℕ) (faulted : Bool) (old : Point) (cs : List Command) (rs : List Reply) (ps : List Point) →
+last_stands : (its : Config) (seen : ℕ → ℕ) (faulted : Bool) (old : Point) (cs : List Command) (rs : List Reply)
+    (ps : List Point) →
     FlashRun its seen faulted old cs rs ps → IsPoint its old → IsPoint its (last_of old ps)
 last_stands its seen faulted old [] [] [] run is = record { sound = is.sound; array = is.array }
 last_stands its seen faulted old [] [] (p ∷ ps) run is = absurd run
@@ -63,34 +70,44 @@ last_stands its seen faulted old (c ∷ cs) (r ∷ rs) [] run is = absurd run
 last_stands its seen faulted old (c ∷ cs) (r ∷ rs) (p ∷ ps) run is =
     last_stands its (seen_after seen c r) (faulted || is_fault r) p cs rs ps run.2 run.1
 
-run_stands : (its : Config) (image left : List Contents) (cs : List Command) (text : List ℕ) (run : IsRun its image cs left text) →
+run_stands : (its : Config) (image left : List Contents) (cs : List Command) (text : List ℕ)
+    (run : IsRun its image cs left text) →
     IsPoint its (last_of (first_point its run.run.up (first_moment image)) run.points)
 run_stands its image left cs text run =
-    last_stands its (mentions_in its (first_moment image)) false (first_point its run.run.up (first_moment image)) cs run.replies run.points run.run.runs
+    last_stands its (mentions_in its (first_moment image)) false (first_point its run.run.up (first_moment image)) cs
+    run.replies run.points run.run.runs
     (record { sound = run.sound; array = inl refl })
 
-pub left_sound : (its : Config) (image left : List Contents) (cs : List Command) (text : List ℕ) → IsRun its image cs left text →
+pub left_sound : (its : Config) (image left : List Contents) (cs : List Command) (text : List ℕ) →
+    IsRun its image cs left text →
     IsSoundImage its.protocol its.logical (shape_of its) left
 left_sound its image left cs text run =
-    subst (λ i. IsSoundImage its.protocol its.logical (shape_of its) i) (sym run.last) (run_stands its image left cs text run).sound
+    subst (λ i. IsSoundImage its.protocol its.logical (shape_of its) i) (sym run.last)
+    (run_stands its image left cs text run).sound
 
-pub left_stands : (its : Config) (image left : List Contents) (cs : List Command) (text : List ℕ) (run : IsRun its image cs left text) →
+pub left_stands : (its : Config) (image left : List Contents) (cs : List Command) (text : List ℕ)
+    (run : IsRun its image cs left text) →
     Represents (machine_left run) (array_in its.protocol its.logical left)
 left_stands its image left cs text run =
-    subst (λ i. Represents (machine_left run) (array_in its.protocol its.logical i)) (sym run.last) (run_stands its image left cs text run).array
+    subst (λ i. Represents (machine_left run) (array_in its.protocol its.logical i)) (sym run.last)
+    (run_stands its image left cs text run).array
 
 -- where nothing is in doubt
 sure_array : (s : ArrayState) (pages : Pages) → AllPlain s → Represents s pages → pages ≡ s.pages
 sure_array s pages plain (inl same) = same
-sure_array s pages plain (inr (e, has, doubt, took)) = let is = All-contains (λ (e : Entry). e.mark ≡ Plain) s.entries e plain has in cc
+sure_array s pages plain (inr (e, has, doubt, took)) = let is = All-contains (λ (e : Entry). e.mark ≡ Plain) s.entries e
+    plain has in cc
 
-pub left_array : (its : Config) (image left : List Contents) (cs : List Command) (text : List ℕ) (run : IsRun its image cs left text) →
+pub left_array : (its : Config) (image left : List Contents) (cs : List Command) (text : List ℕ)
+    (run : IsRun its image cs left text) →
     All (λ c. is_arm c ≡ false) cs → array_in its.protocol its.logical left ≡ (machine_left run).pages
 left_array its image left cs text run none =
     sure_array (machine_left run) (array_in its.protocol its.logical left)
-    (unbroken its (first_moment image) cs run.replies run.points run.run run.few none).3 (left_stands its image left cs text run)
+    (unbroken its (first_moment image) cs run.replies run.points run.run run.few none).3
+    (left_stands its image left cs text run)
 
-pub begins_again : (its : Config) (image left last : List Contents) (cs ds : List Command) (text more : List ℕ) (run : IsRun its image cs left text) →
+pub begins_again : (its : Config) (image left last : List Contents) (cs ds : List Command) (text more : List ℕ)
+    (run : IsRun its image cs left text) →
     All (λ c. is_arm c ≡ false) cs → (next : IsRun its left ds last more) →
     (first_state its next.run.up (first_moment left)).machine ≡ idle (machine_left run).pages
 begins_again its image left last cs ds text more run none next = ap idle (left_array its image left cs text run none)

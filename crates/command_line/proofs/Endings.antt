@@ -23,11 +23,13 @@ use Rattle.desk_tasks.specs.declared.refusal.Refusal.TheVariants as refusal
 use Rattle.command_line.proofs.OneEnding.{one_ending}
 use Rattle.command_line.proofs.Saving.{ending_saves, gives_saves, never_five, refusal_saves, saver}
 
--- ---- the end after a fate
+-- ---- the end after an ending
 
--- after a fate, what it gives is saved and said
-pub ends_delivered : (task : Option Request) (old mid new : DeskState) (fate : Ending) (given : OutputState) (wanted answer : ℕ) →
-    Comes task old mid fate → Gives fate given → wanted ≡ status fate → Delivers mid new given wanted answer → EndsCall task old new answer
+-- after an ending, what it gives is saved and said
+pub ends_delivered : (task : Option Request) (old mid new : DeskState) (fate : Ending) (given : OutputState)
+    (wanted answer : ℕ) →
+    Comes task old mid fate → Gives fate given → wanted ≡ status fate → Delivers mid new given wanted answer →
+    EndsCall task old new answer
 ends_delivered task old mid new fate given wanted answer (loads, is, at) gives same delivers =
     ending (subst (λ desk. Delivers desk new given wanted answer) at delivers)
   where
@@ -51,34 +53,40 @@ faults_save : (file : Option SavedFile) (desk : DeskState) → (after_save file 
 faults_save None desk = refl
 faults_save (Some file) desk = refl
 
-faults_file : (file : Option SavedFile) (old new : DeskState) → FileStops sink.Failed file old new → new.faults ≡ counted old.faults
+faults_file : (file : Option SavedFile) (old new : DeskState) → FileStops sink.Failed file old new →
+    new.faults ≡ counted old.faults
 faults_file None old new fails = absurd fails
 faults_file (Some file) old new fails = ap (λ (d : DeskState). d.faults) fails.1
 
 faults_call : (task : Option Request) (old new : DeskState) → CallFails task old new → new.faults ≡ counted old.faults
-faults_call task old new (inl (n, less, came, after)) = ap (λ (d : DeskState). d.faults) after ∙ ap counted (faults_loads n old)
+faults_call task old new (inl (n, less, came, after)) = ap (λ (d : DeskState). d.faults) after
+    ∙ ap counted (faults_loads n old)
 faults_call task old new (inr (inl (it, fails))) =
     faults_file it.given.saved (after_loading old it) new fails ∙ ap counted (faults_loads it.loads old)
 faults_call task old new (inr (inr (it, fails))) =
-    ap (λ (d : DeskState). d.faults) fails.1.1 ∙ ap counted (faults_save it.given.saved (after_loading old it) ∙ faults_loads it.loads old)
+    ap (λ (d : DeskState). d.faults) fails.1.1 ∙ ap counted (faults_save it.given.saved (after_loading old it)
+    ∙ faults_loads it.loads old)
 
 pub faulted : (task : Option Request) (old new : DeskState) → IsFaulted task old new → Rose old.faults new.faults
 faulted task old new (mid, fails, tried) = faults_tried old.faults mid new _ (faults_call task old mid fails) tried
 
-pub only_fault : (task : Option Request) (old new : DeskState) (answer : ℕ) → EndsCall task old new answer → answer ≡ 5 → Rose old.faults new.faults
+pub only_fault : (task : Option Request) (old new : DeskState) (answer : ℕ) → EndsCall task old new answer →
+    answer ≡ 5 → Rose old.faults new.faults
 only_fault task old new answer (Decided it same said) five = absurd (never_five it.fate (sym five ∙ same))
 only_fault task old new answer (Faulted is faults) five = faulted task old new faults
 only_fault task old new answer (Starved six starves) five = absurd (omega arith)
 
--- ---- each fate gives its status
+-- ---- each ending gives its status
 
-pub exact : (task : Option Request) (old new : DeskState) (answer : ℕ) → EndsCall task old new answer → IsExact task old new answer
+pub exact : (task : Option Request) (old new : DeskState) (answer : ℕ) → EndsCall task old new answer →
+    IsExact task old new answer
 exact task old new answer ends = record {
   one_fate = λ a b m n tells is also. one_ending task old a b m n tells is also;
   fate_gives = gives ends;
 }
   where
-    gives : EndsCall task old new answer → (fate : Ending) (loads : ℕ) → IsEnding task old fate loads → TellsEnding task old →
+    gives : EndsCall task old new answer → (fate : Ending) (loads : ℕ) → IsEnding task old fate loads →
+        TellsEnding task old →
         (Rose old.faults new.faults → ⊥) → (answer ≡ status fate) ⊎ (answer ≡ 6)
     gives (Decided it same said) fate loads is tells steady =
         inl (same ∙ ap status (one_ending task old it.fate fate it.loads loads tells it.is_fate is))
@@ -93,7 +101,8 @@ files_loads (suc n) desk = same_files as_before (after_loads n desk).told (λ c.
 
 -- a call that changes a file changes that one
 other_files : (name : List ℕ) (left : Option (List ℕ)) (told : Option DeskContents) →
-    option_map (λ c. c.files) (option_map (called (with_file name left)) told) ≡ option_map (λ files. files_with files name left)
+    option_map (λ c. c.files) (option_map (called (with_file name left)) told)
+    ≡ option_map (λ files. files_with files name left)
     (option_map (λ c. c.files) told)
 other_files name left None = refl
 other_files name left (Some c) = refl
@@ -105,48 +114,64 @@ leaves_same None old new e = e
 leaves_same (Some name) old new e = inl e
 
 -- where nothing else changes
-leaves_also : (file : Option (List ℕ)) (old mid new : Option Files) → Leaves file old mid → new ≡ mid → Leaves file old new
+leaves_also : (file : Option (List ℕ)) (old mid new : Option Files) → Leaves file old mid → new ≡ mid →
+    Leaves file old new
 leaves_also None old mid new h e = e ∙ h
 leaves_also (Some name) old mid new (inl h) e = inl (e ∙ h)
 leaves_also (Some name) old mid new (inr (left, h)) e = inr (left, e ∙ h)
 
--- the file that a fate gives is that of its task
-saves_its : (task : Option Request) (old : DeskState) (it : Decision task old) (file : SavedFile) → it.given.saved ≡ Some file →
+-- the file that an ending gives is that of its task
+saves_its : (task : Option Request) (old : DeskState) (it : Decision task old) (file : SavedFile) →
+    it.given.saved ≡ Some file →
     file_of task ≡ Some file.name
 saves_its task old it file e =
-    let named : Some file.name ≡ saver it.fate = sym (ap (option_map (λ f. f.name)) e) ∙ gives_saves it.fate it.given it.gives in
+    let named : Some file.name ≡ saver it.fate = sym (ap (option_map (λ f. f.name)) e)
+    ∙ gives_saves it.fate it.given it.gives in
     elim (ending_saves task old it.fate it.loads it.is_fate) [
       | inl none ↦ absurd (cc)
       | inr some ↦ sym (named ∙ some)
     ]
 
 -- so is the one that is changed
-leaves_file : (task : Option Request) (old new : DeskState) (it : Decision task old) (file : SavedFile) (left : Option (List ℕ)) →
-    it.given.saved ≡ Some file → files_in new ≡ option_map (λ files. files_with files file.name left) (files_in (after_loading old it)) →
+leaves_file : (task : Option Request) (old new : DeskState) (it : Decision task old) (file : SavedFile)
+    (left : Option (List ℕ)) →
+    it.given.saved ≡ Some file → files_in new ≡ option_map (λ files. files_with files file.name left)
+    (files_in (after_loading old it)) →
     Leaves (file_of task) (files_in old) (files_in new)
 leaves_file task old new it file left e changed =
-    rw (saves_its task old it file e) (inr (left, changed ∙ ap (option_map (λ files. files_with files file.name left)) (files_loads it.loads old)))
+    rw (saves_its task old it file e) (inr (
+      left,
+      changed ∙ ap (option_map (λ files. files_with files file.name left))
+          (files_loads it.loads old),
+    ))
 
-leaves_saved : (task : Option Request) (old : DeskState) (it : Decision task old) → Leaves (file_of task) (files_in old) (files_in (after_saving old it))
+leaves_saved : (task : Option Request) (old : DeskState) (it : Decision task old) →
+    Leaves (file_of task) (files_in old) (files_in (after_saving old it))
 leaves_saved task old it = by_file it.given.saved refl
   where
-    by_file : (file : Option SavedFile) → it.given.saved ≡ file → Leaves (file_of task) (files_in old) (files_in (after_save file (after_loading old it)))
-    by_file None e = leaves_same (file_of task) (files_in old) (files_in (after_loading old it)) (files_loads it.loads old)
+    by_file : (file : Option SavedFile) → it.given.saved ≡ file →
+        Leaves (file_of task) (files_in old) (files_in (after_save file (after_loading old it)))
+    by_file None e = leaves_same (file_of task) (files_in old) (files_in (after_loading old it))
+        (files_loads it.loads old)
     by_file (Some file) e =
         leaves_file task old (after_save (Some file) (after_loading old it)) it file (Some file.bytes) e
         (other_files file.name (Some file.bytes) (after_loading old it).told)
 
-leaves_failed : (task : Option Request) (old new : DeskState) (it : Decision task old) → FileStops sink.Failed it.given.saved (after_loading old it) new →
+leaves_failed : (task : Option Request) (old new : DeskState) (it : Decision task old) →
+    FileStops sink.Failed it.given.saved (after_loading old it) new →
     Leaves (file_of task) (files_in old) (files_in new)
 leaves_failed task old new it fails = by_file it.given.saved refl fails
   where
-    by_file : (file : Option SavedFile) → it.given.saved ≡ file → FileStops sink.Failed file (after_loading old it) new →
+    by_file : (file : Option SavedFile) → it.given.saved ≡ file →
+        FileStops sink.Failed file (after_loading old it) new →
         Leaves (file_of task) (files_in old) (files_in new)
     by_file None e fails = absurd fails
     by_file (Some file) e fails =
-        leaves_file task old new it file fails.0 e (ap files_in fails.1 ∙ other_files file.name fails.0 (after_loading old it).told)
+        leaves_file task old new it file fails.0 e (ap files_in fails.1
+        ∙ other_files file.name fails.0 (after_loading old it).told)
 
-leaves_call : (task : Option Request) (old new : DeskState) → CallFails task old new → Leaves (file_of task) (files_in old) (files_in new)
+leaves_call : (task : Option Request) (old new : DeskState) → CallFails task old new →
+    Leaves (file_of task) (files_in old) (files_in new)
 leaves_call task old new (inl (n, less, came, after)) =
     leaves_same (file_of task) (files_in old) (files_in new)
     (ap files_in after ∙ same_files as_before (after_loads n old).told (λ c. refl) ∙ files_loads n old)
@@ -155,37 +180,47 @@ leaves_call task old new (inr (inr (it, fails))) =
     leaves_also (file_of task) (files_in old) (files_in (after_saving old it)) (files_in new) (leaves_saved task old it)
     (files_said (after_saving old it) new it.given.text (Err sink.Failed) fails.1)
 
-leaves_out : (task : Option Request) (old new : DeskState) → RunsOutOfMemory task old new → Leaves (file_of task) (files_in old) (files_in new)
+leaves_out : (task : Option Request) (old new : DeskState) → RunsOutOfMemory task old new →
+    Leaves (file_of task) (files_in old) (files_in new)
 leaves_out task old new (inl (inl (inl (n, less, came, after)))) =
-    leaves_same (file_of task) (files_in old) (files_in new) (ap files_in after ∙ files_asked (after_loads n old) ∙ files_loads n old)
+    leaves_same (file_of task) (files_in old) (files_in new) (ap files_in after ∙ files_asked (after_loads n old)
+    ∙ files_loads n old)
 leaves_out task old new (inl (inl (inr (n, worked, came, after)))) =
     leaves_same (file_of task) (files_in old) (files_in new) (ap files_in after ∙ files_loads n old)
 leaves_out task old new (inl (inr (it, unsaid, after))) =
     leaves_same (file_of task) (files_in old) (files_in new) (ap files_in after ∙ files_loads it.loads old)
 leaves_out task old new (inr (inl (it, starves))) =
-    leaves_same (file_of task) (files_in old) (files_in new) (unsaved_file it.given.saved starves ∙ files_loads it.loads old)
+    leaves_same (file_of task) (files_in old) (files_in new) (unsaved_file it.given.saved starves
+    ∙ files_loads it.loads old)
   where
-    unsaved_file : (file : Option SavedFile) → FileStops sink.Memory file (after_loading old it) new → files_in new ≡ files_in (after_loading old it)
+    unsaved_file : (file : Option SavedFile) → FileStops sink.Memory file (after_loading old it) new →
+        files_in new ≡ files_in (after_loading old it)
     unsaved_file None starves = absurd starves
     unsaved_file (Some file) starves = ap files_in starves ∙ files_asked (after_loading old it)
 leaves_out task old new (inr (inr (it, starves))) =
     leaves_also (file_of task) (files_in old) (files_in (after_saving old it)) (files_in new) (leaves_saved task old it)
     (files_said (after_saving old it) new it.given.text (Err sink.Memory) starves.1)
 
-others : (task : Option Request) (old new : DeskState) (answer : ℕ) → EndsCall task old new answer → Leaves (file_of task) (files_in old) (files_in new)
+others : (task : Option Request) (old new : DeskState) (answer : ℕ) → EndsCall task old new answer →
+    Leaves (file_of task) (files_in old) (files_in new)
 others task old new answer (Decided it same said) =
     leaves_also (file_of task) (files_in old) (files_in (after_saving old it)) (files_in new) (leaves_saved task old it)
     (ap files_in said ∙ files_text it.given.text (after_saving old it))
 others task old new answer (Faulted five (mid, fails, (result, says))) =
-    leaves_also (file_of task) (files_in old) (files_in mid) (files_in new) (leaves_call task old mid fails) (files_said mid new _ result says)
+    leaves_also (file_of task) (files_in old) (files_in mid) (files_in new) (leaves_call task old mid fails)
+    (files_said mid new _ result says)
 others task old new answer (Starved six (mid, out, (result, says))) =
-    leaves_also (file_of task) (files_in old) (files_in mid) (files_in new) (leaves_out task old mid out) (files_said mid new _ result says)
+    leaves_also (file_of task) (files_in old) (files_in mid) (files_in new) (leaves_out task old mid out)
+    (files_said mid new _ result says)
 
 -- a refusal saves nothing
-unsaved : (task : Option Request) (old : DeskState) (it : Decision task old) → (status it.fate ≡ 0 → ⊥) → files_in (after_saving old it) ≡ files_in old
-unsaved task old it refused = by_file it.given.saved (gives_saves it.fate it.given it.gives ∙ refusal_saves it.fate refused)
+unsaved : (task : Option Request) (old : DeskState) (it : Decision task old) → (status it.fate ≡ 0 → ⊥) →
+    files_in (after_saving old it) ≡ files_in old
+unsaved task old it refused = by_file it.given.saved (gives_saves it.fate it.given it.gives
+    ∙ refusal_saves it.fate refused)
   where
-    by_file : (file : Option SavedFile) → option_map (λ f. f.name) file ≡ None → files_in (after_save file (after_loading old it)) ≡ files_in old
+    by_file : (file : Option SavedFile) → option_map (λ f. f.name) file ≡ None →
+        files_in (after_save file (after_loading old it)) ≡ files_in old
     by_file None e = files_loads it.loads old
     by_file (Some file) e = absurd (cc)
 
@@ -197,14 +232,16 @@ refusals task old new answer (Faulted is faults) done five six = absurd (five is
 refusals task old new answer (Starved is starves) done five six = absurd (six is)
 
 -- no file changes but the one that a task saves
-pub leaves_files : (task : Option Request) (old new : DeskState) (answer : ℕ) → EndsCall task old new answer → LeavesFiles task old new answer
+pub leaves_files : (task : Option Request) (old new : DeskState) (answer : ℕ) → EndsCall task old new answer →
+    LeavesFiles task old new answer
 leaves_files task old new answer ends =
     record { others = others task old new answer ends; refused = refusals task old new answer ends }
 
 -- ---- refusals
 
 -- a refusal gives its line
-pub refusal_gives : (r : Refusal) (text : List ℕ) → text ≡ refusal_line (refused r) → Gives (refused r) (record { saved = None; text = text })
+pub refusal_gives : (r : Refusal) (text : List ℕ) → text ≡ refusal_line (refused r) →
+    Gives (refused r) (record { saved = None; text = text })
 refusal_gives (refusal.BadLine n) text e = record { saves_nothing = refl; said = e }
 refusal_gives (refusal.Image why) text e = record { saves_nothing = refl; said = e }
 refusal_gives (refusal.BadConfiguration rule) text e = record { saves_nothing = refl; said = e }
@@ -219,10 +256,12 @@ refusal_gives (refusal.DifferAt page at) text e = record { saves_nothing = refl;
 
 -- the end after a refusal whose line is tried
 ends_refused : (task : Option Request) (old mid new : DeskState) (r : Refusal) (text : List ℕ) (wanted answer : ℕ) →
-    Comes task old mid (refused r) → text ≡ refusal_line (refused r) → wanted ≡ status (refused r) → Speaks mid new text wanted answer →
+    Comes task old mid (refused r) → text ≡ refusal_line (refused r) → wanted ≡ status (refused r) →
+    Speaks mid new text wanted answer →
     EndsCall task old new answer
 ends_refused task old mid new r text wanted answer comes is_line same speaks =
-    ends_delivered task old mid new (refused r) (record { saved = None; text = text }) wanted answer comes (refusal_gives r text is_line) same (inl speaks)
+    ends_delivered task old mid new (refused r) (record { saved = None; text = text }) wanted answer comes
+    (refusal_gives r text is_line) same (inl speaks)
 
 -- the end after a refusal for whose line there was no memory
 ends_unsaid : (task : Option Request) (old mid new : DeskState) (r : Refusal) (answer : ℕ) →
@@ -253,9 +292,12 @@ ends_unsaid task old mid new r answer (loads, is, at) told =
     never_done (refusal.BadConfiguration rule) e = absurd (omega arith)
 
 -- the end after a refusal
-pub ends_stopped : (task : Option Request) (old mid new : DeskState) (r : Refusal) (line : Result (String Global) AllocError) (wanted answer : ℕ) →
-    Comes task old mid (refused r) → IfOk line (λ l. string_bytes l ≡ refusal_line (refused r)) → wanted ≡ status (refused r) →
+pub ends_stopped : (task : Option Request) (old mid new : DeskState) (r : Refusal)
+    (line : Result (String Global) AllocError) (wanted answer : ℕ) →
+    Comes task old mid (refused r) → IfOk line (λ l. string_bytes l ≡ refusal_line (refused r)) →
+    wanted ≡ status (refused r) →
     Refuses mid new line wanted answer → EndsCall task old new answer
 ends_stopped task old mid new r (Ok text) wanted answer comes is_line same speaks =
     ends_refused task old mid new r (string_bytes text) wanted answer comes is_line same speaks
-ends_stopped task old mid new r (Err none) wanted answer comes is_line same told = ends_unsaid task old mid new r answer comes told
+ends_stopped task old mid new r (Err none) wanted answer comes is_line same told =
+    ends_unsaid task old mid new r answer comes told

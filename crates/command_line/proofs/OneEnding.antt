@@ -1,4 +1,4 @@
--- A task has one fate.
+-- A task has one ending.
 use Rattle.std.proofs.Common.{◌≡◌, inl, inr, ℕ, List, Option, None, Some, Result, Ok, Err, refl, sym, ap, subst, ◌∙◌}
 use Rattle.std.specs.Prelude.{IfSome, IsSome}
 use Rattle.tx_types.specs.declared.config.Config.{Config}
@@ -24,7 +24,8 @@ use Rattle.version_index.proofs.OfTables.OneBreach.{breach_one, sound_unbroken}
 
 -- what is at a name, where the desk tells it
 one_found : (told : Option DeskContents) (name : List ℕ) (a b : FileFound) → IsSome told →
-    IfSome told (λ c. file_found (file_at c.files name) ≡ a) → IfSome told (λ c. file_found (file_at c.files name) ≡ b) → a ≡ b
+    IfSome told (λ c. file_found (file_at c.files name) ≡ a) →
+    IfSome told (λ c. file_found (file_at c.files name) ≡ b) → a ≡ b
 one_found None name a b tells h k = absurd (cc)
 one_found (Some c) name a b tells h k = sym h ∙ k
 
@@ -41,17 +42,21 @@ one_loading desk name next tells one a b m n h k =
     after (found.Bytes bytes) h k = one bytes a b h.0 k.0 h.1 k.1
 
 one_reading : (bytes : List ℕ) (next : Config → List Contents → Extras → Ending → Type 0) →
-    ((its : Config) (image : List Contents) (extras : Extras) (a b : Ending) → next its image extras a → next its image extras b → a ≡ b) →
+    ((its : Config) (image : List Contents) (extras : Extras) (a b : Ending) → next its image extras a →
+    next its image extras b → a ≡ b) →
     (a b : Ending) → Reading bytes next a → Reading bytes next b → a ≡ b
 one_reading bytes next one a b h k =
-    after k.0 (subst (λ read. AfterReading (λ its image extras. WithoutLoad (next its image extras)) read a 0) (sym h.1.0 ∙ k.1.0) h.2) k.2
+    after k.0 (subst (λ read. AfterReading (λ its image extras. WithoutLoad (next its image extras)) read a 0)
+    (sym h.1.0 ∙ k.1.0) h.2) k.2
   where
-    after : (read : Result (Config × List Contents × Extras) ImageError) → AfterReading (λ its image extras. WithoutLoad (next its image extras)) read a 0
+    after : (read : Result (Config × List Contents × Extras) ImageError) →
+        AfterReading (λ its image extras. WithoutLoad (next its image extras)) read a 0
         → AfterReading (λ its image extras. WithoutLoad (next its image extras)) read b 0 → a ≡ b
     after (Ok read) h k = one read.0 read.1 read.2 a b h.0 k.0
     after (Err rule) h k = h.0 ∙ sym k.0
 
-one_parsed : (page_bytes : ℕ) (bytes : List ℕ) (p q : Result (List Command) ℕ) → Parses page_bytes bytes p → Parses page_bytes bytes q → p ≡ q
+one_parsed : (page_bytes : ℕ) (bytes : List ℕ) (p q : Result (List Command) ℕ) → Parses page_bytes bytes p →
+    Parses page_bytes bytes q → p ≡ q
 one_parsed page_bytes bytes (Ok cs) (Ok ds) h k = ap (λ cs. Ok cs) (file_same page_bytes bytes cs ds h k)
 one_parsed page_bytes bytes (Ok cs) (Err n) h k = absurd (file_bad page_bytes bytes cs n h k)
 one_parsed page_bytes bytes (Err m) (Ok ds) h k = absurd (file_bad page_bytes bytes ds m k h)
@@ -67,13 +72,16 @@ one_parsing page_bytes bytes next one a b h k =
     after (Ok cs) h k = one cs a b h k
     after (Err n) h k = h ∙ sym k
 
-one_opened : (its : Config) (image : List Contents) (p q : Result (Unit {0}) Breach) → Opens its image p → Opens its image q → p ≡ q
+one_opened : (its : Config) (image : List Contents) (p q : Result (Unit {0}) Breach) → Opens its image p →
+    Opens its image q → p ≡ q
 one_opened its image (Ok p) (Ok q) h k = refl
 one_opened its image (Ok p) (Err b) h k = absurd (sound_unbroken its.protocol its.logical (shape_of its) image b h k)
 one_opened its image (Err a) (Ok q) h k = absurd (sound_unbroken its.protocol its.logical (shape_of its) image a k h)
-one_opened its image (Err a) (Err b) h k = ap (λ b. Err b) (breach_one its.protocol its.logical (shape_of its) image a b h k)
+one_opened its image (Err a) (Err b) h k = ap (λ b. Err b)
+    (breach_one its.protocol its.logical (shape_of its) image a b h k)
 
-one_opening : (its : Config) (image : List Contents) (done : Ending) (a b : Ending) → OpensAndServes its image done a → OpensAndServes its image done b → a ≡ b
+one_opening : (its : Config) (image : List Contents) (done : Ending) (a b : Ending) → OpensAndServes its image done a →
+    OpensAndServes its image done b → a ≡ b
 one_opening its image done a b h k =
     after k.0 (subst (λ opened. AfterOpening done opened a) (one_opened its image h.0 k.0 h.1 k.1) h.2) k.2
   where
@@ -82,16 +90,19 @@ one_opening its image done a b h k =
     after (Err breach) h k = h ∙ sym k
 
 one_reading_on : (bytes : List ℕ) (next : Config → List Contents → Extras → Ending → ℕ → Type 0) →
-    ((its : Config) (image : List Contents) (extras : Extras) (a b : Ending) (m n : ℕ) → next its image extras a m → next its image extras b n → a ≡ b) →
+    ((its : Config) (image : List Contents) (extras : Extras) (a b : Ending) (m n : ℕ) → next its image extras a m →
+    next its image extras b n → a ≡ b) →
     (a b : Ending) (m n : ℕ) → ReadingOn bytes next a m → ReadingOn bytes next b n → a ≡ b
 one_reading_on bytes next one a b m n h k =
     after k.0 (subst (λ read. AfterReading next read a m) (sym h.1.0 ∙ k.1.0) h.2) k.2
   where
-    after : (read : Result (Config × List Contents × Extras) ImageError) → AfterReading next read a m → AfterReading next read b n → a ≡ b
+    after : (read : Result (Config × List Contents × Extras) ImageError) → AfterReading next read a m →
+        AfterReading next read b n → a ≡ b
     after (Ok read) h k = one read.0 read.1 read.2 a b m n h k
     after (Err rule) h k = h.0 ∙ sym k.0
 
-one_opened_on : (its : Config) (image : List Contents) (next : Ending → Type 0) → ((a b : Ending) → next a → next b → a ≡ b) →
+one_opened_on : (its : Config) (image : List Contents) (next : Ending → Type 0) →
+    ((a b : Ending) → next a → next b → a ≡ b) →
     (a b : Ending) → Opening its image next a → Opening its image next b → a ≡ b
 one_opened_on its image next one a b h k =
     after k.0 (subst (λ opened. AfterOpened next opened a) (one_opened its image h.0 k.0 h.1 k.1) h.2) k.2
@@ -112,11 +123,13 @@ one_run name bytes lines a b h k =
 one_explanation : (bytes : List ℕ) (a b : Ending) → Explaining bytes a → Explaining bytes b → a ≡ b
 one_explanation bytes a b h k = one_reading bytes _ (λ its image extras. one_opening its image _) a b h k
 
-one_judging : (its : Config) (image : List Contents) (text : List ℕ) (a b : Ending) → Judging its image text a → Judging its image text b → a ≡ b
+one_judging : (its : Config) (image : List Contents) (text : List ℕ) (a b : Ending) → Judging its image text a →
+    Judging its image text b → a ≡ b
 one_judging its image text =
     one_opened_on its image _ (λ a b h k. h.2 ∙ ap check_ending (one_check its image text h.0 k.0 h.1 k.1) ∙ sym k.2)
 
-one_comparing : (a : Config) (image : List Contents) (b : Config) (other : List Contents) (x y : Ending) → Comparing a image b other x →
+one_comparing : (a : Config) (image : List Contents) (b : Config) (other : List Contents) (x y : Ending) →
+    Comparing a image b other x →
     Comparing a image b other y → x ≡ y
 one_comparing a image b other =
     one_opened_on a image _ (one_opened_on b other _
@@ -127,11 +140,12 @@ one_keys name bytes lines =
     one_reading bytes _
     (λ its image extras. one_parsing_script lines _ (λ cs. one_opened_on its image _ (one_store its image _)))
 
-one_retirement : (name bytes : List ℕ) (block : ℕ) (a b : Ending) → Retiring name bytes block a → Retiring name bytes block b → a ≡ b
+one_retirement : (name bytes : List ℕ) (block : ℕ) (a b : Ending) → Retiring name bytes block a →
+    Retiring name bytes block b → a ≡ b
 one_retirement name bytes block =
     one_reading bytes _ (λ its image extras. one_opened_on its image _ (λ a b h k. h ∙ sym k))
 
--- where the desk tells what it hangs on, the fate of a task is the only one
+-- where the desk tells what it hangs on, the ending of a task is the only one
 pub one_ending : (task : Option Request) (desk : DeskState) (a b : Ending) (m n : ℕ) → TellsEnding task desk →
     IsEnding task desk a m → IsEnding task desk b n → a ≡ b
 one_ending None desk a b m n tells h k = h.0 ∙ sym k.0
@@ -149,7 +163,8 @@ one_ending (Some (Retire image block)) desk a b m n (inr tells) h k =
 one_ending (Some (Run image commands)) desk a b m n (inl none) h k = absurd (cc)
 one_ending (Some (Run image commands)) desk a b m n (inr tells) h k =
     one_loading desk image _ tells
-    (λ bytes. one_loading desk commands _ tells (λ lines a b m n h k. one_run image bytes lines a b h.0 k.0)) a b m n h k
+    (λ bytes. one_loading desk commands _ tells (λ lines a b m n h k. one_run image bytes lines a b h.0 k.0)) a b m n h
+    k
 one_ending (Some (Check image report)) desk a b m n (inl none) h k = absurd (cc)
 one_ending (Some (Check image report)) desk a b m n (inr tells) h k =
     one_loading desk image _ tells
@@ -160,7 +175,8 @@ one_ending (Some (Compare first second)) desk a b m n (inr tells) h k =
     one_loading desk first _ tells
     (λ bytes. one_reading_on bytes _
     (λ its image extras. one_loading desk second _ tells
-    (λ others a b m n h k. one_reading others _ (λ b other extras. one_comparing its image b other) a b h.0 k.0))) a b m n h k
+    (λ others a b m n h k. one_reading others _ (λ b other extras. one_comparing its image b other) a b h.0 k.0))) a b m
+    n h k
 one_ending (Some (Keys image script)) desk a b m n (inl none) h k = absurd (cc)
 one_ending (Some (Keys image script)) desk a b m n (inr tells) h k =
     one_loading desk image _ tells

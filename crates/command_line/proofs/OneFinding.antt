@@ -20,10 +20,13 @@ one_line want given j k a b = elim (cases_order j k) [
 not_itself : (text : List ℕ) (k : ℕ) → IsFirstDifference text text k → ⊥
 not_itself text k a = a.differs refl
 
-pub one_check : (its : Config) (image : List Contents) (text : List ℕ) (p q : Result ℕ ℕ) → Checks its image text p → Checks its image text q → p ≡ q
+pub one_check : (its : Config) (image : List Contents) (text : List ℕ) (p q : Result ℕ ℕ) → Checks its image text p →
+    Checks its image text q → p ≡ q
 one_check its image text (Ok m) (Ok n) h k = ap (λ n. Ok n) (h.1 ∙ sym k.1)
-one_check its image text (Ok m) (Err k) h d = absurd (not_itself text k (subst (λ t. IsFirstDifference t text k) (sym h.0) d))
-one_check its image text (Err k) (Ok n) d h = absurd (not_itself text k (subst (λ t. IsFirstDifference t text k) (sym h.0) d))
+one_check its image text (Ok m) (Err k) h d =
+    absurd (not_itself text k (subst (λ t. IsFirstDifference t text k) (sym h.0) d))
+one_check its image text (Err k) (Ok n) d h =
+    absurd (not_itself text k (subst (λ t. IsFirstDifference t text k) (sym h.0) d))
 one_check its image text (Err j) (Err k) h d = ap (λ n. Err n) (one_line _ text j k h d)
 
 -- two arrays differ first in one page
@@ -49,7 +52,8 @@ one_at : (a b : Option (List ℕ)) (i j : ℕ) → DifferAtByte a b i → Differ
 one_at a b i j h k =
     let first : h.bytes ≡ k.bytes = (let e = h.first in let f = k.first in cc) in
     let second : h.others ≡ k.others = (let e = h.second in let f = k.second in cc) in
-    one_byte k.bytes k.others i j (subst (λ x. DifferFirstAt x k.others i) first (subst (λ x. DifferFirstAt h.bytes x i) second h.differ)) k.differ
+    one_byte k.bytes k.others i j (subst (λ x. DifferFirstAt x k.others i) first
+    (subst (λ x. DifferFirstAt h.bytes x i) second h.differ)) k.differ
 
 not_blank : (a b : Option (List ℕ)) (i : ℕ) → DifferAtByte a b i → (a ≡ None) ⊎ (b ≡ None) → ⊥
 not_blank a b i h (inl none) = absurd (let e = h.first in cc)

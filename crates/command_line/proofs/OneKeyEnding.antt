@@ -1,4 +1,4 @@
--- What comes of reading a key script and of opening a store: one thing, and each fate of which a fact holds.
+-- What comes of reading a key script and of opening a store: one thing, and each ending of which a fact holds.
 use Rattle.std.proofs.Common.{◌≡◌, inl, inr, ℕ, List, Result, Ok, Err, refl, sym, ap, subst, ◌∙◌}
 use Rattle.std.proofs.lemmas.Bool.{cases_order}
 use Rattle.tx_types.specs.declared.config.Config.{Config}
@@ -8,7 +8,7 @@ use Rattle.page_keys.specs.declared.command.KeyCommand.{KeyCommand}
 use Rattle.desk_tasks.specs.Ending.{Ending, BadBucket, BadLine}
 use Rattle.desk_tasks.specs.KeyWork.{AfterBuckets, AfterScript, HoldsKeys, OpensStore, ParsesScript, ParsingScript}
 
--- ---- what holds of each fate
+-- ---- what holds of each ending
 
 pub script_all : (P : Ending → Type 0) (bytes : List ℕ) (next : List KeyCommand → Ending → Type 0) →
     ((n : ℕ) → P (BadLine n)) → ((cs : List KeyCommand) (fate : Ending) → next cs fate → P fate) →

@@ -1,4 +1,4 @@
--- Which file the fate of a task saves.
+-- Which file the ending of a task saves.
 use Rattle.std.proofs.Common.{◌≡◌, ◌⊎◌, inl, inr, ℕ, ◌==◌, nat_lt, Bool, true, false, List, Option, None, Some, Result, Ok, Err, refl, ap, arith, if◌then◌else◌}
 use Rattle.std.proofs.Common.{unwrap_or}
 use Rattle.std.specs.Option.{option_map}
@@ -24,7 +24,7 @@ use Rattle.desk_tasks.specs.Request.{Request, Try, Format, Run, Explain, Drive, 
 use Rattle.command_line.proofs.OneKeyEnding.{script_all, store_all}
 use Rattle.desk_tasks.specs.Checking.{check_ending, Comparison, OneArray, Shapes, BlankAt, ByteAt, comparison_ending}
 
--- the file that a fate saves
+-- the file that an ending saves
 abbrev pub saver : Ending → Option (List ℕ)
 saver (Formatted name its allowance) = Some name
 saver (Ran name its image extras commands) = Some name
@@ -77,7 +77,7 @@ refusal_saves (BadBucket page) refused = refl
 refusal_saves (BadConfiguration rule) refused = refl
 refusal_saves BadAllowance refused = refl
 
--- no fate has status 5
+-- no ending has status 5
 pub never_five : (fate : Ending) → 5 ≡ status fate → ⊥
 never_five (Tried commands) e = absurd (omega arith)
 never_five (Formatted name its allowance) e = absurd (omega arith)
@@ -100,10 +100,11 @@ never_five (BadBucket page) e = absurd (omega arith)
 never_five (BadConfiguration rule) e = absurd (omega arith)
 never_five BadAllowance e = absurd (omega arith)
 
--- ---- what holds of each fate to which a step may lead
+-- ---- what holds of each ending to which a step may lead
 
 loading_all : (P : Ending → Type 0) (desk : DeskState) (name : List ℕ) (next : List ℕ → Ending → ℕ → Type 0) →
-    P (Image (Missing name)) → P (Image (TooLong name)) → ((bytes : List ℕ) (fate : Ending) (more : ℕ) → next bytes fate more → P fate) →
+    P (Image (Missing name)) → P (Image (TooLong name)) →
+    ((bytes : List ℕ) (fate : Ending) (more : ℕ) → next bytes fate more → P fate) →
     (fate : Ending) (loads : ℕ) → Loading desk name next fate loads → P fate
 loading_all P desk name next missing long leads fate loads (there, finds, h) = after there h
   where
@@ -113,19 +114,22 @@ loading_all P desk name next missing long leads fate loads (there, finds, h) = a
     after (found.Bytes bytes) h = leads bytes fate h.0 h.1
 
 reading_all : (P : Ending → Type 0) (bytes : List ℕ) (next : Config → List Contents → Extras → Ending → Type 0) →
-    ((rule : ImageError) → P (Image (BadImage rule))) → ((its : Config) (image : List Contents) (extras : Extras) (fate : Ending) → next its image extras fate →
+    ((rule : ImageError) → P (Image (BadImage rule))) →
+    ((its : Config) (image : List Contents) (extras : Extras) (fate : Ending) → next its image extras fate →
     P fate) →
     (fate : Ending) → Reading bytes next fate → P fate
 reading_all P bytes next bad leads fate (read, reads, h) = after read h
   where
-    after : (read : Result (Config × List Contents × Extras) ImageError) → AfterReading (λ its image extras. WithoutLoad (next its image extras)) read fate 0 →
+    after : (read : Result (Config × List Contents × Extras) ImageError) →
+        AfterReading (λ its image extras. WithoutLoad (next its image extras)) read fate 0 →
         P fate
     after (Ok read) h = leads read.0 read.1 read.2 fate h.0
     after (Err rule) h = rw h.0 (bad rule)
 
 reading_on_all : (P : Ending → Type 0) (bytes : List ℕ) (next : Config → List Contents → Extras → Ending → ℕ → Type 0) →
     ((rule : ImageError) → P (Image (BadImage rule))) →
-    ((its : Config) (image : List Contents) (extras : Extras) (fate : Ending) (more : ℕ) → next its image extras fate more → P fate) →
+    ((its : Config) (image : List Contents) (extras : Extras) (fate : Ending) (more : ℕ) →
+    next its image extras fate more → P fate) →
     (fate : Ending) (loads : ℕ) → ReadingOn bytes next fate loads → P fate
 reading_on_all P bytes next bad leads fate loads (read, reads, h) = after read h
   where
@@ -133,7 +137,8 @@ reading_on_all P bytes next bad leads fate loads (read, reads, h) = after read h
     after (Ok read) h = leads read.0 read.1 read.2 fate loads h
     after (Err rule) h = rw h.0 (bad rule)
 
-opened_all : (P : Ending → Type 0) (its : Config) (image : List Contents) (next : Ending → Type 0) → ((b : Breach) → P (Image (Unsound b))) →
+opened_all : (P : Ending → Type 0) (its : Config) (image : List Contents) (next : Ending → Type 0) →
+    ((b : Breach) → P (Image (Unsound b))) →
     ((fate : Ending) → next fate → P fate) → (fate : Ending) → Opening its image next fate → P fate
 opened_all P its image next bad leads fate (opened, opens, h) = after opened h
   where
@@ -150,7 +155,8 @@ parsing_all P page_bytes bytes next bad leads fate (parsed, parses, h) = after p
     after (Ok cs) h = leads cs fate h
     after (Err n) h = rw h (bad n)
 
-opening_all : (P : Ending → Type 0) (its : Config) (image : List Contents) (done : Ending) → P done → ((b : Breach) → P (Image (Unsound b))) →
+opening_all : (P : Ending → Type 0) (its : Config) (image : List Contents) (done : Ending) → P done →
+    ((b : Breach) → P (Image (Unsound b))) →
     (fate : Ending) → OpensAndServes its image done fate → P fate
 opening_all P its image done good bad fate (opened, opens, h) = after opened h
   where
@@ -158,9 +164,9 @@ opening_all P its image done good bad fate (opened, opens, h) = after opened h
     after (Ok sound) h = rw h good
     after (Err b) h = rw h (bad b)
 
--- ---- the fates of a task
+-- ---- the endings of a task
 
--- a fate saves none, or this one
+-- an ending saves none, or this one
 abbrev SavesAtMost : Option (List ℕ) → Ending → Type 0
 SavesAtMost file fate = (saver fate ≡ None) ⊎ (saver fate ≡ file)
 
@@ -185,7 +191,8 @@ checked_saves (Err k) = inl refl
 check_saves : (bytes text : List ℕ) (fate : Ending) → Checking bytes text fate → SavesAtMost None fate
 check_saves bytes text =
     reading_all (SavesAtMost None) bytes _ (λ rule. inl refl)
-    (λ its image extras. opened_all (SavesAtMost None) its image _ (λ b. inl refl) (λ fate h. rw h.2 (checked_saves h.0)))
+    (λ its image extras. opened_all (SavesAtMost None) its image _ (λ b. inl refl)
+    (λ fate h. rw h.2 (checked_saves h.0)))
 
 compared_saves : (a : Config) (comes : Comparison) → SavesAtMost None (comparison_ending a comes)
 compared_saves a OneArray = inl refl
@@ -193,7 +200,8 @@ compared_saves a Shapes = inl refl
 compared_saves a (BlankAt page) = inl refl
 compared_saves a (ByteAt page at) = inl refl
 
-comparison_saves : (a : Config) (image : List Contents) (b : Config) (other : List Contents) (fate : Ending) → Comparing a image b other fate →
+comparison_saves : (a : Config) (image : List Contents) (b : Config) (other : List Contents) (fate : Ending) →
+    Comparing a image b other fate →
     SavesAtMost None fate
 comparison_saves a image b other =
     opened_all (SavesAtMost None) a image _ (λ b. inl refl)
@@ -206,15 +214,18 @@ keys_saves name bytes lines =
     (λ cs. opened_all (SavesAtMost (Some name)) its image _ (λ b. inl refl)
     (store_all (SavesAtMost (Some name)) its image _ (inr refl) (λ page. inl refl))))
 
-retire_saves : (name bytes : List ℕ) (block : ℕ) (fate : Ending) → Retiring name bytes block fate → SavesAtMost (Some name) fate
+retire_saves : (name bytes : List ℕ) (block : ℕ) (fate : Ending) → Retiring name bytes block fate →
+    SavesAtMost (Some name) fate
 retire_saves name bytes block =
     reading_all (SavesAtMost (Some name)) bytes _ (λ rule. inl refl)
     (λ its image extras. opened_all (SavesAtMost (Some name)) its image _ (λ b. inl refl)
-    (λ fate h. rw h (at_most (nat_lt block (blocks_of (shape_of its))) (extras.retired == extras.allowance) its image extras)))
+    (λ fate h. rw h (at_most (nat_lt block (blocks_of (shape_of its))) (extras.retired == extras.allowance) its
+    image extras)))
   where
     at_most : (low worn : Bool) (its : Config) (image : List Contents) (extras : Extras) →
         SavesAtMost (Some name)
-        (unwrap_or (if low then (if worn then Some (RefusedWorn extras.allowance) else None) else Some (RefusedBlock block))
+        (unwrap_or (if low then (if worn then Some (RefusedWorn extras.allowance) else None)
+        else Some (RefusedBlock block))
         (Retired name its image extras block))
     at_most true true its image extras = inl refl
     at_most true false its image extras = inr refl
@@ -230,16 +241,21 @@ format_saves name its allowance (Ok shape) = by_allowance (nat_lt max_allowance 
 format_saves name its allowance (Err rule) = inl refl
 
 -- it saves no other file than that of the task
-pub ending_saves : (task : Option Request) (desk : DeskState) (fate : Ending) (loads : ℕ) → IsEnding task desk fate loads → SavesAtMost (file_of task) fate
+pub ending_saves : (task : Option Request) (desk : DeskState) (fate : Ending) (loads : ℕ) →
+    IsEnding task desk fate loads → SavesAtMost (file_of task) fate
 ending_saves None desk fate loads h = rw h.0 (inl refl)
-ending_saves (Some (Format image its allowance)) desk fate loads h = rw h.0 (format_saves image its allowance (checked its))
+ending_saves (Some (Format image its allowance)) desk fate loads h =
+    rw h.0 (format_saves image its allowance (checked its))
 ending_saves (Some (Drive start count protocol)) desk fate loads h = rw h.0 (inl refl)
 ending_saves (Some (Try commands)) desk fate loads h =
-    loading_all (SavesAtMost None) desk commands _ (inl refl) (inl refl) (λ lines fate more h. try_saves lines fate h.0) fate loads h
+    loading_all (SavesAtMost None) desk commands _ (inl refl) (inl refl)
+    (λ lines fate more h. try_saves lines fate h.0) fate loads h
 ending_saves (Some (Explain image)) desk fate loads h =
-    loading_all (SavesAtMost None) desk image _ (inl refl) (inl refl) (λ bytes fate more h. explanation_saves bytes fate h.0) fate loads h
+    loading_all (SavesAtMost None) desk image _ (inl refl) (inl refl)
+    (λ bytes fate more h. explanation_saves bytes fate h.0) fate loads h
 ending_saves (Some (Retire image block)) desk fate loads h =
-    loading_all (SavesAtMost (Some image)) desk image _ (inl refl) (inl refl) (λ bytes fate more h. retire_saves image bytes block fate h.0) fate loads h
+    loading_all (SavesAtMost (Some image)) desk image _ (inl refl) (inl refl)
+    (λ bytes fate more h. retire_saves image bytes block fate h.0) fate loads h
 ending_saves (Some (Keys image script)) desk fate loads h =
     loading_all (SavesAtMost (Some image)) desk image _ (inl refl) (inl refl)
     (λ bytes. loading_all (SavesAtMost (Some image)) desk script _ (inl refl) (inl refl)
@@ -256,5 +272,6 @@ ending_saves (Some (Compare first second)) desk fate loads h =
     loading_all (SavesAtMost None) desk first _ (inl refl) (inl refl)
     (λ bytes. reading_on_all (SavesAtMost None) bytes _ (λ rule. inl refl)
     (λ a image extras. loading_all (SavesAtMost None) desk second _ (inl refl) (inl refl)
-    (λ others fate more h. reading_all (SavesAtMost None) others _ (λ rule. inl refl) (λ b other extras. comparison_saves a image b other) fate h.0)))
+    (λ others fate more h. reading_all (SavesAtMost None) others _ (λ rule. inl refl)
+    (λ b other extras. comparison_saves a image b other) fate h.0)))
     fate loads h

@@ -19,10 +19,19 @@ pub record IsArming (c : Command) (sets : Told → Told → Type 0) : Type 0 whe
   pub spent : (x y : Told) → sets x y → IsSpentBy c reply.Armed x y
   pub set : (x y : Told) → sets x y → IsSet c y
 
-pub arming_cut : (count : ℕ) (what : Outcome) → IsArming (command.Cut count what) (SetsCut (record { count = count; outcome = what }))
-arming_cut count what = record { arm = refl; spent = λ x y h. record { cuts = omega (arith, h.cuts); breaks = omega (arith, h.breaks) }; set = λ x y h. h.cut }
+pub arming_cut : (count : ℕ) (what : Outcome) →
+    IsArming (command.Cut count what) (SetsCut (record { count = count; outcome = what }))
+arming_cut count what = record {
+  arm = refl;
+  spent = λ x y h. record {
+    cuts = omega (arith, h.cuts);
+    breaks = omega (arith, h.breaks);
+  };
+  set = λ x y h. h.cut;
+}
 
-pub arming_fault : (count : ℕ) (what : Outcome) → IsArming (command.Fault count what) (SetsFault (record { count = count; outcome = what }))
+pub arming_fault : (count : ℕ) (what : Outcome) →
+    IsArming (command.Fault count what) (SetsFault (record { count = count; outcome = what }))
 arming_fault count what = record {
   arm = refl;
   spent = λ x y h. record { cuts = omega (arith, h.cuts); breaks = omega (arith, h.breaks) };
@@ -39,33 +48,42 @@ arming_bad_read count = record {
 }
 
 -- Of what the flash tells
-pub weaker_told : (P Q : Told → Told → Type 0) → ((x y : Told) → P x y → Q x y) → (a b : Option Told) → BothTell P a b → BothTell Q a b
+pub weaker_told : (P Q : Told → Told → Type 0) → ((x y : Told) → P x y → Q x y) → (a b : Option Told) → BothTell P a b →
+    BothTell Q a b
 weaker_told P Q weaker None None h = tt
 weaker_told P Q weaker None (Some y) h = absurd h
 weaker_told P Q weaker (Some x) None h = absurd h
 weaker_told P Q weaker (Some x) (Some y) h = weaker x y h
 
-then_told : (P : Told → Told → Type 0) (Q : Told → Type 0) → ((x y : Told) → P x y → Q y) → (a b : Option Told) → BothTell P a b → IfSome b Q
+then_told : (P : Told → Told → Type 0) (Q : Told → Type 0) → ((x y : Told) → P x y → Q y) → (a b : Option Told) →
+    BothTell P a b → IfSome b Q
 then_told P Q then None None h = tt
 then_told P Q then None (Some y) h = absurd h
 then_told P Q then (Some x) None h = tt
 then_told P Q then (Some x) (Some y) h = then x y h
 
-still_armed : (sets : Told → Told → Type 0) (old new : FlashState) → ChangesTold sets old new → moment_of new ≡ moment_of old
+still_armed : (sets : Told → Told → Type 0) (old new : FlashState) → ChangesTold sets old new →
+    moment_of new ≡ moment_of old
 still_armed sets old new h = ap moment_of h.stays
 
 -- the point stays
-same_point : {F R : Type 0} (state : F → FlashState) (its : Config) (protocol : Protocol) (sets : Told → Told → Type 0) (old new : Session F R) →
+same_point : {F R : Type 0} (state : F → FlashState) (its : Config) (protocol : Protocol) (sets : Told → Told → Type 0)
+    (old new : Session F R) →
     SetsArm state protocol sets old new → point_of state its new ≡ point_of state its old
 same_point {F = F} state its protocol sets (session.Mounted s) (session.Mounted t) h =
-    ap (λ (x : DeviceState F). record { state = record { machine = x.machine; up = true }; moment = moment_of (state t.flash) }) h.stays
-    ∙ ap (λ (m : Moment). record { state = record { machine = s.machine; up = true }; moment = m }) (still_armed sets (state s.flash) (state t.flash) h.changes)
+    ap (λ (x : DeviceState F). record {
+      state = record { machine = x.machine; up = true };
+      moment = moment_of (state t.flash);
+    }) h.stays
+    ∙ ap (λ (m : Moment). record { state = record { machine = s.machine; up = true }; moment = m })
+    (still_armed sets (state s.flash) (state t.flash) h.changes)
 same_point state its protocol sets (session.Mounted s) (session.Unmounted f) h = absurd h
 same_point state its protocol sets (session.Unmounted e) (session.Mounted t) h = absurd h
 same_point state its protocol sets (session.Unmounted e) (session.Unmounted f) h =
     ap (λ (m : Moment). first_point its false m) (still_armed sets (state e) (state f) h)
 
-armed_told : {F R : Type 0} (state : F → FlashState) (protocol : Protocol) (sets : Told → Told → Type 0) (old new : Session F R) →
+armed_told : {F R : Type 0} (state : F → FlashState) (protocol : Protocol) (sets : Told → Told → Type 0)
+    (old new : Session F R) →
     SetsArm state protocol sets old new →
     BothTell sets (state (flash_in old)).told (state (flash_in new)).told
 armed_told state protocol sets (session.Mounted s) (session.Mounted t) h = h.changes.told
@@ -74,11 +92,14 @@ armed_told state protocol sets (session.Unmounted e) (session.Mounted t) h = abs
 armed_told state protocol sets (session.Unmounted e) (session.Unmounted f) h = h.told
 
 -- what stands still stands
-armed_stands : {F R : Type 0} (state : F → FlashState) (its : Config) (protocol : Protocol) (sets : Told → Told → Type 0) (c : Command) (seen : ℕ →
+armed_stands : {F R : Type 0} (state : F → FlashState) (its : Config) (protocol : Protocol)
+    (sets : Told → Told → Type 0) (c : Command) (seen : ℕ →
     ℕ) (faulted : Bool) (old new : Session F R) →
-    SetsArm state protocol sets old new → StandsAt state its seen faulted old → StandsAt state its (seen_after seen c reply.Armed) (faulted || false) new
+    SetsArm state protocol sets old new → StandsAt state its seen faulted old →
+    StandsAt state its (seen_after seen c reply.Armed) (faulted || false) new
 armed_stands {F = F} state its protocol sets c seen faulted (session.Mounted s) (session.Mounted t) h stands =
-    subst (λ (x : DeviceState F). StandsMounted (seen_after seen c reply.Armed) (faulted || false) x) (sym h.stays) (record {
+    subst (λ (x : DeviceState F). StandsMounted (seen_after seen c reply.Armed) (faulted || false) x)
+    (sym h.stays) (record {
       sure = λ whole. stands.sure (or_parts faulted false whole).0;
       mentions = seen_flash seen s t.flash stands.mentions;
     })
@@ -87,39 +108,54 @@ armed_stands state its protocol sets c seen faulted (session.Unmounted e) (sessi
 armed_stands state its protocol sets c seen faulted (session.Unmounted e) (session.Unmounted f) h stands =
     let moment = still_armed sets (state e) (state f) h in
     record {
-      sound = subst (λ (m : Moment). IsSoundImage its.protocol its.logical (shape_of its) m.image) (sym moment) stands.sound;
-      mentions = λ page lt. subst (λ (m : Moment). mention (records_in its.protocol m.image) page ≤ seen page) (sym moment) (stands.mentions page lt);
+      sound = subst (λ (m : Moment). IsSoundImage its.protocol its.logical (shape_of its) m.image)
+          (sym moment) stands.sound;
+      mentions = λ page lt. subst (λ (m : Moment). mention (records_in its.protocol m.image) page ≤ seen page)
+          (sym moment) (stands.mentions page lt);
     }
 
-armed_faults : {F R : Type 0} (state : F → FlashState) (protocol : Protocol) (sets : Told → Told → Type 0) (old new : Session F R) →
+armed_faults : {F R : Type 0} (state : F → FlashState) (protocol : Protocol) (sets : Told → Told → Type 0)
+    (old new : Session F R) →
     SetsArm state protocol sets old new → (state (flash_in new)).faults ≡ (state (flash_in old)).faults
-armed_faults state protocol sets (session.Mounted s) (session.Mounted t) h = ap (λ (x : FlashState). x.faults) h.changes.stays
+armed_faults state protocol sets (session.Mounted s) (session.Mounted t) h =
+    ap (λ (x : FlashState). x.faults) h.changes.stays
 armed_faults state protocol sets (session.Mounted s) (session.Unmounted f) h = absurd h
 armed_faults state protocol sets (session.Unmounted e) (session.Mounted t) h = absurd h
-armed_faults state protocol sets (session.Unmounted e) (session.Unmounted f) h = ap (λ (x : FlashState). x.faults) h.stays
+armed_faults state protocol sets (session.Unmounted e) (session.Unmounted f) h =
+    ap (λ (x : FlashState). x.faults) h.stays
 
-armed_extras : {F R : Type 0} (state : F → FlashState) (protocol : Protocol) (sets : Told → Told → Type 0) (old new : Session F R) →
+armed_extras : {F R : Type 0} (state : F → FlashState) (protocol : Protocol) (sets : Told → Told → Type 0)
+    (old new : Session F R) →
     SetsArm state protocol sets old new → (state (flash_in new)).extras ≡ (state (flash_in old)).extras
-armed_extras state protocol sets (session.Mounted s) (session.Mounted t) h = ap (λ (x : FlashState). x.extras) h.changes.stays
+armed_extras state protocol sets (session.Mounted s) (session.Mounted t) h =
+    ap (λ (x : FlashState). x.extras) h.changes.stays
 armed_extras state protocol sets (session.Mounted s) (session.Unmounted f) h = absurd h
 armed_extras state protocol sets (session.Unmounted e) (session.Mounted t) h = absurd h
-armed_extras state protocol sets (session.Unmounted e) (session.Unmounted f) h = ap (λ (x : FlashState). x.extras) h.stays
+armed_extras state protocol sets (session.Unmounted e) (session.Unmounted f) h =
+    ap (λ (x : FlashState). x.extras) h.stays
 
 same_told : (a : Option Told) → BothTell NoMoreToCome a a
 same_told None = tt
 same_told (Some x) = (omega arith, omega arith)
 
 -- and the point is one still
-armed_point : {F R : Type 0} (state : F → FlashState) (its : Config) (protocol : Protocol) (sets : Told → Told → Type 0) (entries : List CachedPage) (seen : ℕ →
+armed_point : {F R : Type 0} (state : F → FlashState) (its : Config) (protocol : Protocol) (sets : Told → Told → Type 0)
+    (entries : List CachedPage) (seen : ℕ →
     ℕ) (faulted : Bool) (old new : Session F R) →
-    SetsArm state protocol sets old new → Fits state its entries old → StandsAt state its seen faulted old → IsPoint its (point_of state its new)
+    SetsArm state protocol sets old new → Fits state its entries old → StandsAt state its seen faulted old →
+    IsPoint its (point_of state its new)
 armed_point state its protocol sets entries seen faulted (session.Mounted s) (session.Mounted t) h fits stands =
-    subst (λ (x : Config). IsPoint x (point_at state t)) (ap (λ (x : DeviceState _). x.config) h.stays ∙ fits.config) (always_point state protocol t h.always)
-armed_point state its protocol sets entries seen faulted (session.Mounted s) (session.Unmounted f) h fits stands = absurd h
-armed_point state its protocol sets entries seen faulted (session.Unmounted e) (session.Mounted t) h fits stands = absurd h
-armed_point {F = F} {R = R} state its protocol sets entries seen faulted (session.Unmounted e) (session.Unmounted f) h fits stands =
+    subst (λ (x : Config). IsPoint x (point_at state t)) (ap (λ (x : DeviceState _). x.config) h.stays ∙ fits.config)
+    (always_point state protocol t h.always)
+armed_point state its protocol sets entries seen faulted (session.Mounted s) (session.Unmounted f) h fits stands =
+    absurd h
+armed_point state its protocol sets entries seen faulted (session.Unmounted e) (session.Mounted t) h fits stands =
+    absurd h
+armed_point {F = F} {R = R} state its protocol sets entries seen faulted (session.Unmounted e) (session.Unmounted f)
+    h fits stands =
     let after : Session F R = session.Unmounted e in
-    subst (λ (p : Point). IsPoint its p) (sym (same_point {R = R} state its protocol sets after (session.Unmounted f) h))
+    subst (λ (p : Point). IsPoint its p)
+    (sym (same_point {R = R} state its protocol sets after (session.Unmounted f) h))
     (mounted_point {R = R} state its e after (record {
       moment = refl;
       shape = refl;
@@ -129,48 +165,58 @@ armed_point {F = F} {R = R} state its protocol sets entries seen faulted (sessio
           refl;
     }) stands.sound)
 
-armed_serves_flash : (its : Config) (spent : ℕ → Bool) (faulted : Bool) (c : Command) (old new : Point) → is_arm c ≡ true → new ≡ old →
+armed_serves_flash : (its : Config) (spent : ℕ → Bool) (faulted : Bool) (c : Command) (old new : Point) →
+    is_arm c ≡ true → new ≡ old →
     ServesFlash its spent faulted c old reply.Armed new
 armed_serves_flash its spent faulted c old new arm same = subst (λ b. MatchBool b ((reply.Armed ≡ reply.Armed) ×
     (new ≡ old)) (Cases its spent faulted c old reply.Armed new)) (sym arm) (refl, same)
 
-armed_moment : {F R : Type 0} (state : F → FlashState) (protocol : Protocol) (sets : Told → Told → Type 0) (old new : Session F R) →
+armed_moment : {F R : Type 0} (state : F → FlashState) (protocol : Protocol) (sets : Told → Told → Type 0)
+    (old new : Session F R) →
     SetsArm state protocol sets old new →
     moment_of (state (flash_in new)) ≡ moment_of (state (flash_in old))
-armed_moment state protocol sets (session.Mounted s) (session.Mounted t) h = still_armed sets (state s.flash) (state t.flash) h.changes
+armed_moment state protocol sets (session.Mounted s) (session.Mounted t) h =
+    still_armed sets (state s.flash) (state t.flash) h.changes
 armed_moment state protocol sets (session.Mounted s) (session.Unmounted f) h = absurd h
 armed_moment state protocol sets (session.Unmounted e) (session.Mounted t) h = absurd h
 armed_moment state protocol sets (session.Unmounted e) (session.Unmounted f) h = still_armed sets (state e) (state f) h
 
 armed_serves : {F R : Type 0} (state : F → FlashState) (its : Config) (protocol : Protocol) (sets : Told → Told →
     Type 0) (entries : List CachedPage) (c : Command) (old new : Session F R) →
-    IsArming c sets → Fits state its entries old → SetsArm state protocol sets old new → ServesSession state its c old reply.Armed new
+    IsArming c sets → Fits state its entries old → SetsArm state protocol sets old new →
+    ServesSession state its c old reply.Armed new
 armed_serves state its protocol sets entries c old new arming fits h = record {
   in_run = λ seen faulted stands. record {
     spent = λ page. false;
     may = λ page spent. (let not : false ≡ true = spent in absurd cc);
-    serves = armed_serves_flash its (λ page. false) faulted c (point_of state its old) (point_of state its new) arming.arm
+    serves = armed_serves_flash its (λ page. false) faulted c (point_of state its old)
+        (point_of state its new) arming.arm
         (same_point state its protocol sets old new h);
     point = armed_point state its protocol sets entries seen faulted old new h fits stands;
     stands = armed_stands state its protocol sets c seen faulted old new h stands;
   };
   kept = inr (armed_moment state protocol sets old new h);
-  unsound = λ unsound. subst (λ b. MatchBool b (reply.Armed ≡ reply.Armed) ((reply.Armed ≡ reply.Fault) ⊎ (reply.Armed ≡ reply.Cut))) (sym arming.arm) refl;
-  spends = weaker_told sets (IsSpentBy c reply.Armed) arming.spent (state (flash_in old)).told (state (flash_in new)).told
+  unsound = λ unsound. subst (λ b. MatchBool b (reply.Armed ≡ reply.Armed) ((reply.Armed ≡ reply.Fault)
+      ⊎ (reply.Armed ≡ reply.Cut))) (sym arming.arm) refl;
+  spends = weaker_told sets (IsSpentBy c reply.Armed) arming.spent (state (flash_in old)).told
+      (state (flash_in new)).told
       (armed_told state protocol sets old new h);
-  set = then_told sets (IsSet c) arming.set (state (flash_in old)).told (state (flash_in new)).told (armed_told state protocol sets old new h);
+  set = then_told sets (IsSet c) arming.set (state (flash_in old)).told (state (flash_in new)).told
+      (armed_told state protocol sets old new h);
   faults = armed_faults state protocol sets old new h;
   mounts = inl (λ cut. cc);
   extras = armed_extras state protocol sets old new h;
 }
 
 -- a session that fits is kept
-pub fits_kept : {F R : Type 0} (state : F → FlashState) (its : Config) (entries : List CachedPage) (s : Session F R) → Fits state its entries s → IsNotDropped s
+pub fits_kept : {F R : Type 0} (state : F → FlashState) (its : Config) (entries : List CachedPage) (s : Session F R) →
+    Fits state its entries s → IsNotDropped s
 fits_kept state its entries (session.Mounted s) fits = fits.always.kept
 fits_kept state its entries (session.Unmounted e) fits = tt
 
 -- and the session fits still
-fits_flash : {F : Type 0} (s : DeviceState F) (flash : F) (e : CachedPage) → IsCachedAs s e → IsCachedAs (record s { flash = flash }) e
+fits_flash : {F : Type 0} (s : DeviceState F) (flash : F) (e : CachedPage) → IsCachedAs s e →
+    IsCachedAs (record s { flash = flash }) e
 fits_flash s flash e h = record { exists = h.exists; least = h.least; current = h.current }
 
 armed_fits : {F R : Type 0} (state : F → FlashState) (its : Config) (protocol : Protocol) (sets : Told → Told →
@@ -180,29 +226,36 @@ armed_fits {F = F} state its protocol sets entries (session.Mounted s) (session.
   config = ap (λ (x : DeviceState F). x.config) h.stays ∙ fits.config;
   check = fits.check ∙ ap (λ (x : FlashState). Ok x.shape) (sym h.changes.stays);
   live = ap (λ (x : FlashState). x.live) h.changes.stays ∙ fits.live;
-  cached = subst (λ (x : DeviceState F). IsCached x entries) (sym h.stays) (All-weaker (IsCachedAs s) (IsCachedAs (record s { flash = t.flash }))
+  cached = subst (λ (x : DeviceState F). IsCached x entries) (sym h.stays)
+      (All-weaker (IsCachedAs s) (IsCachedAs (record s { flash = t.flash }))
       (fits_flash s t.flash) entries fits.cached);
   always = subst (λ (p : Protocol). HoldsAlways state p t) (sym rule) h.always;
 }
 armed_fits state its protocol sets entries (session.Mounted s) (session.Unmounted f) rule fits h = absurd h
 armed_fits state its protocol sets entries (session.Unmounted e) (session.Mounted t) rule fits h = absurd h
-armed_fits state its protocol sets entries (session.Unmounted e) (session.Unmounted f) rule fits h = fits ∙ ap (λ (x : FlashState). Ok x.shape) (sym h.stays)
+armed_fits state its protocol sets entries (session.Unmounted e) (session.Unmounted f) rule fits h = fits
+    ∙ ap (λ (x : FlashState). Ok x.shape) (sym h.stays)
 
 -- at the command that was read
 armed_as : {F R : Type 0} (state : F → FlashState) (its : Config) (protocol : Protocol) (sets : Told → Told →
     Type 0) (entries : List CachedPage) (c d : Command) (old new : Session F R) →
-    c ≡ d → IsArming d sets → Fits state its entries old → SetsArm state protocol sets old new → ServesSession state its c old reply.Armed new
+    c ≡ d → IsArming d sets → Fits state its entries old → SetsArm state protocol sets old new →
+    ServesSession state its c old reply.Armed new
 armed_as state its protocol sets entries c d old new is arming fits h =
-    subst (λ x. ServesSession state its x old reply.Armed new) (sym is) (armed_serves state its protocol sets entries d old new arming fits h)
+    subst (λ x. ServesSession state its x old reply.Armed new) (sym is)
+    (armed_serves state its protocol sets entries d old new arming fits h)
 
-armed_caches : {F R : Type 0} (state : F → FlashState) (its : Config) (c : Command) (old new : Session F R) (cache : PageCacheState) → is_arm c ≡ true →
+armed_caches : {F R : Type 0} (state : F → FlashState) (its : Config) (c : Command) (old new : Session F R)
+    (cache : PageCacheState) → is_arm c ≡ true →
     CachesSession state its c old reply.Armed new cache cache
-armed_caches state its c old new cache arm = subst (λ b. MatchBool b (cache ≡ cache) (CachesFrom state its c old reply.Armed new cache cache)) (sym arm) refl
+armed_caches state its c old new cache arm =
+    subst (λ b. MatchBool b (cache ≡ cache) (CachesFrom state its c old reply.Armed new cache cache)) (sym arm) refl
 
 -- the whole of it
 pub armed : {F R : Type 0} (state : F → FlashState) (its : Config) (protocol : Protocol) (sets : Told → Told →
     Type 0) (cache : PageCacheState) (c d : Command) (old new : Session F R) →
-    c ≡ d → IsArming d sets → its.protocol ≡ protocol → Fits state its cache.entries old → SetsArm state protocol sets old new →
+    c ≡ d → IsArming d sets → its.protocol ≡ protocol → Fits state its cache.entries old →
+    SetsArm state protocol sets old new →
     Serves state its c old (Ok reply.Armed) new cache cache
 armed state its protocol sets cache c d old new is arming rule fits h = record {
   fits = armed_fits state its protocol sets cache.entries old new rule fits h;

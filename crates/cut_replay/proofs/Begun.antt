@@ -14,14 +14,20 @@ use Rattle.cut_replay.proofs.Mountings.{mounted_stands, mounted_leaves, mounted_
 use Rattle.cut_replay.proofs.MountingAgain.{mounts_none}
 use Rattle.cut_replay.proofs.Runs.{grew_none, least_none, spends_nothing, counts_later}
 
--- at the opening point
-begun_point : {F R : Type 0} (state : F → FlashState) (its : Config) (flash : F) (s : Session F R) → Mounted state its flash s → (up : Bool) ×
+-- at the first point
+begun_point : {F R : Type 0} (state : F → FlashState) (its : Config) (flash : F) (s : Session F R) →
+    Mounted state its flash s → (up : Bool) ×
     (point_of state its s ≡ first_point its up (moment_of (state flash)))
-begun_point state its flash (session.Mounted s) h =
-    (true, ap₂ (λ (m : ArrayState) (x : Moment). record { state = record { machine = m; up = true }; moment = x }) h.machine h.still.moment)
-begun_point state its flash (session.Unmounted new) h = (false, ap (λ (m : Moment). first_point its false m) h.still.moment)
+begun_point state its flash (session.Mounted s) h = (
+  true,
+  ap₂ (λ (m : ArrayState) (x : Moment). record { state = record { machine = m; up = true }; moment = x })
+      h.machine h.still.moment,
+)
+begun_point state its flash (session.Unmounted new) h =
+    (false, ap (λ (m : Moment). first_point its false m) h.still.moment)
 
-begun_told : {F R : Type 0} (state : F → FlashState) (its : Config) (flash : F) (s : Session F R) → Mounted state its flash s →
+begun_told : {F R : Type 0} (state : F → FlashState) (its : Config) (flash : F) (s : Session F R) →
+    Mounted state its flash s →
     BothTell NoMoreToCome (state flash).told (state (flash_in s)).told
 begun_told state its flash (session.Mounted s) h = h.still.told
 begun_told state its flash (session.Unmounted new) h = h.still.told
@@ -30,17 +36,20 @@ begun_told state its flash (session.Unmounted new) h = h.still.told
 pub none_counted : (s : FlashState) → CountsBreaks [] s s
 none_counted s = record { least = least_none s.faults s.faults (omega arith); quiet = λ unbroken all. refl }
 
-none_spent : (a b : Option Told) (live : Bool) → IsSomeAnd a (λ told. (told.cuts ≡ 0) × (told.breaks ≡ 0)) → BothTell (Spends live) a b → ⊥
+none_spent : (a b : Option Told) (live : Bool) → IsSomeAnd a (λ told. (told.cuts ≡ 0) × (told.breaks ≡ 0)) →
+    BothTell (Spends live) a b → ⊥
 none_spent None b live none h = absurd none
 none_spent (Some x) None live none h = h
 none_spent (Some x) (Some y) true none h = let most = none.1 in omega (arith, h, most)
 none_spent (Some x) (Some y) false none h = let most = none.0 in omega (arith, h, most)
 
-first_unbroken : (old new : FlashState) → old.live ≡ true → BeginsUnbroken old → BothTell (Spends new.live) old.told new.told → ⊥
+first_unbroken : (old new : FlashState) → old.live ≡ true → BeginsUnbroken old →
+    BothTell (Spends new.live) old.told new.told → ⊥
 first_unbroken old new on (inl off) h = cc
 first_unbroken old new on (inr steady) h = none_spent old.told new.told new.live steady.none h
 
-begun_faults : {F R : Type 0} (state : F → FlashState) (its : Config) (flash : F) (s : Session F R) → (state flash).live ≡ true → Mounted state its flash s →
+begun_faults : {F R : Type 0} (state : F → FlashState) (its : Config) (flash : F) (s : Session F R) →
+    (state flash).live ≡ true → Mounted state its flash s →
     CountsBreaks [] (state flash) (state (flash_in s))
 begun_faults state its flash (session.Mounted s) on h = record {
   least = least_none (state flash).faults (state s.flash).faults h.still.later;
@@ -52,13 +61,16 @@ begun_faults state its flash (session.Unmounted new) on h = record {
 }
 
 -- a steady flash is mounted
-begun_up : {F R : Type 0} (state : F → FlashState) (its : Config) (flash : F) (s : Session F R) → (h : Mounted state its flash s) → IsSteady (state flash) →
+begun_up : {F R : Type 0} (state : F → FlashState) (its : Config) (flash : F) (s : Session F R) →
+    (h : Mounted state its flash s) → IsSteady (state flash) →
     (begun_point state its flash s h).0 ≡ true
 unfolding begun_point
 begun_up state its flash (session.Mounted s) h steady = refl
-begun_up state its flash (session.Unmounted new) h steady = absurd (none_spent (state flash).told (state new).told (state new).live steady.none h.spends)
+begun_up state its flash (session.Unmounted new) h steady =
+    absurd (none_spent (state flash).told (state new).told (state new).live steady.none h.spends)
 
-begun : {F R : Type 0} (state : F → FlashState) (its : Config) (flash : F) (s : Session F R) → (state flash).live ≡ true → Mounted state its flash s →
+begun : {F R : Type 0} (state : F → FlashState) (its : Config) (flash : F) (s : Session F R) →
+    (state flash).live ≡ true → Mounted state its flash s →
     IsSoundFlash its (state flash) → Begins state its (state flash) s
 begun state its flash s on h sound =
     let at = begun_point state its flash s h in
@@ -67,17 +79,19 @@ begun state its flash s on h sound =
       up = at.0;
       mounted = begun_up state its flash s h;
       point = at.1;
-      stands = mounted_stands state its flash (mentions_in its (moment_of (state flash))) false s (mounted_leaves state its flash s h) sound
+      stands = mounted_stands state its flash (mentions_in its (moment_of (state flash))) false s
+          (mounted_leaves state its flash s h) sound
           (λ page lt. omega arith);
       told = begun_told state its flash s h;
       faults = begun_faults state its flash s on h;
     }
 
--- the same of each result
+-- what a beginning comes to: a session, or why there is none
 abbrev Results : (F R : Type 0) → Type 0
 Results F R = Result (Session F R) (Ended F)
 
-pub begin_begins : {F R : Type 0} (state : F → FlashState) (its : Config) (flash : F) (result : Results F R) → (state flash).live ≡ true →
+pub begin_begins : {F R : Type 0} (state : F → FlashState) (its : Config) (flash : F) (result : Results F R) →
+    (state flash).live ≡ true →
     IfOk result (Mounted state its flash) → IsSoundFlash its (state flash) →
     IfOk result (Begins state its (state flash))
 begin_begins state its flash (Ok s) on h sound = begun state its flash s on h sound
@@ -88,7 +102,8 @@ same_told : (a : Option Told) → BothTell NoMoreToCome a a
 same_told None = tt
 same_told (Some x) = (omega arith, omega arith)
 
-pub dead_begins : {F : Type 0} (R : Type 0) (state : F → FlashState) (its : Config) (flash : F) → (state flash).live ≡ false → IsSoundFlash its (state flash) →
+pub dead_begins : {F : Type 0} (R : Type 0) (state : F → FlashState) (its : Config) (flash : F) →
+    (state flash).live ≡ false → IsSoundFlash its (state flash) →
     Begins {R = R} state its (state flash) (session.Unmounted flash)
 dead_begins R state its flash off sound = record {
   sound = sound;
@@ -101,7 +116,8 @@ dead_begins R state its flash off sound = record {
 }
 
 -- nothing was served, for want of memory
-nothing_served : {F : Type 0} (R : Type 0) (state : F → FlashState) (its : Config) (list : List Command) (flash new : F) (w : Watched) →
+nothing_served : {F : Type 0} (R : Type 0) (state : F → FlashState) (its : Config) (list : List Command) (flash new : F)
+    (w : Watched) →
     IsSoundFlash its (state flash) → StaysQuiet (state flash) (state new) →
     ServesSound its list (state flash) (state new) w w (Err failed.Memory)
 nothing_served R state its list flash new w sound still = (
@@ -121,21 +137,34 @@ nothing_served R state its list flash new w sound still = (
   }),
 )
 
-pub rooms_ended : {F : Type 0} (R : Type 0) (state : F → FlashState) (its : Config) (list : List Command) (flash : F) (w : Watched) →
+pub rooms_ended : {F : Type 0} (R : Type 0) (state : F → FlashState) (its : Config) (list : List Command) (flash : F)
+    (w : Watched) →
     IsSoundFlash its (state flash) →
     ServesSound its list (state flash) (state flash) w w (Err failed.Memory)
 rooms_ended R state its list flash w sound = nothing_served R state its list flash flash w sound
-    (record { still = record { moment = refl; shape = refl; later = omega arith; told = same_told (state flash).told; extras = refl }; quiet = refl })
+    (record {
+      still = record {
+        moment = refl;
+        shape = refl;
+        later = omega arith;
+        told = same_told (state flash).told;
+        extras = refl;
+      };
+      quiet = refl;
+    })
 
-pub begin_ended : {F : Type 0} (R : Type 0) (state : F → FlashState) (its : Config) (list : List Command) (flash new : F) (why : ServeError) (w : Watched) →
+pub begin_ended : {F : Type 0} (R : Type 0) (state : F → FlashState) (its : Config) (list : List Command)
+    (flash new : F) (why : ServeError) (w : Watched) →
     IsSoundFlash its (state flash) → Unmounted state its flash new why →
     ServesSound its list (state flash) (state new) w w (Err why)
 begin_ended R state its list flash new (failed.Unsound law slot) w sound h = absurd
-    (sound_unbroken its.protocol its.logical (shape_of its) (state flash).image (record { law = law; slot = slot }) sound h.1)
+    (sound_unbroken its.protocol its.logical (shape_of its) (state flash).image
+    (record { law = law; slot = slot }) sound h.1)
 begin_ended R state its list flash new failed.Memory w sound h = nothing_served R state its list flash new w sound h
 
 -- the shape of the flash of a session, and of the flash that comes back
-pub fits_shape : {F R : Type 0} (state : F → FlashState) (its : Config) (cache : List CachedPage) (s : Session F R) → Fits state its cache s →
+pub fits_shape : {F R : Type 0} (state : F → FlashState) (its : Config) (cache : List CachedPage) (s : Session F R) →
+    Fits state its cache s →
     checked its ≡ Ok (state (flash_in s)).shape
 fits_shape state its cache (session.Mounted s) h = h.check
 fits_shape state its cache (session.Unmounted flash) h = h
@@ -145,36 +174,43 @@ pub same_shape : (its : Config) (old new : Shape) → checked its ≡ Ok old →
 same_shape its old new was is = cc
 
 -- whatever the image is
-pub begun_kept : {F R : Type 0} (state : F → FlashState) (its : Config) (flash : F) (result : Results F R) → IfOk result (Mounted state its flash) →
+pub begun_kept : {F R : Type 0} (state : F → FlashState) (its : Config) (flash : F) (result : Results F R) →
+    IfOk result (Mounted state its flash) →
     IfOk result (λ s. IsSoundOrSame its (state flash) (state (flash_in s)))
 begun_kept state its flash (Ok s) h = inr (mounted_still state its flash s (mounted_leaves state its flash s h)).moment
 begun_kept state its flash (Err e) h = tt
 
-pub begun_extras : {F R : Type 0} (state : F → FlashState) (its : Config) (flash : F) (result : Results F R) → IfOk result (Mounted state its flash) →
+pub begun_extras : {F R : Type 0} (state : F → FlashState) (its : Config) (flash : F) (result : Results F R) →
+    IfOk result (Mounted state its flash) →
     IfOk result (λ s. (state (flash_in s)).extras ≡ (state flash).extras)
 begun_extras state its flash (Ok s) h = (mounted_still state its flash s (mounted_leaves state its flash s h)).extras
 begun_extras state its flash (Err e) h = tt
 
 -- a live flash was mounted, and another one stays
-pub begun_first : {F R : Type 0} (state : F → FlashState) (its : Config) (flash : F) (result : Results F R) → (state flash).live ≡ true →
+pub begun_first : {F R : Type 0} (state : F → FlashState) (its : Config) (flash : F) (result : Results F R) →
+    (state flash).live ≡ true →
     IfOk result (Mounted state its flash) →
     IfOk result (MountsFirst state its flash)
-begun_first state its flash (Ok s) on h = subst (λ b. MatchBool b (Mounted state its flash s) (s ≡ session.Unmounted flash)) (sym on) h
+begun_first state its flash (Ok s) on h =
+    subst (λ b. MatchBool b (Mounted state its flash s) (s ≡ session.Unmounted flash)) (sym on) h
 begun_first state its flash (Err e) on h = tt
 
-pub dead_first : {F : Type 0} (R : Type 0) (state : F → FlashState) (its : Config) (flash : F) → (state flash).live ≡ false →
+pub dead_first : {F : Type 0} (R : Type 0) (state : F → FlashState) (its : Config) (flash : F) →
+    (state flash).live ≡ false →
     MountsFirst {R = R} state its flash (session.Unmounted flash)
 dead_first {F = F} R state its flash off =
     let s : Session F R = session.Unmounted flash in
     subst (λ b. MatchBool b (Mounted state its flash s) (s ≡ session.Unmounted flash)) (sym off) refl
 
-pub begin_faults : {F R : Type 0} (state : F → FlashState) (its : Config) (flash : F) (result : Results F R) → (state flash).live ≡ true →
+pub begin_faults : {F R : Type 0} (state : F → FlashState) (its : Config) (flash : F) (result : Results F R) →
+    (state flash).live ≡ true →
     IfOk result (Mounted state its flash) →
     IfOk result (λ s. CountsBreaks [] (state flash) (state (flash_in s)))
 begin_faults state its flash (Ok s) on h = begun_faults state its flash s on h
 begin_faults state its flash (Err e) on h = tt
 
-pub begin_refused : {F : Type 0} (state : F → FlashState) (its : Config) (flash new : F) (why : ServeError) → Unmounted state its flash new why →
+pub begin_refused : {F : Type 0} (state : F → FlashState) (its : Config) (flash new : F) (why : ServeError) →
+    Unmounted state its flash new why →
     RefusesUnsound its (state flash) (state new) (Err why)
 begin_refused state its flash new (failed.Unsound law slot) h = (h.0.still.moment, h.1)
 begin_refused state its flash new failed.Memory h = inr h.still.moment
@@ -184,7 +220,8 @@ ended_as : (init final : FlashState) (why : ServeError) → StaysQuiet init fina
 ended_as init final (failed.Unsound law slot) still = counts_later [] init init final (none_counted init) still.quiet
 ended_as init final failed.Memory still = tt
 
-pub unsound_ended : (init final : FlashState) (list : List Command) (w : Watched) (why : ServeError) → StaysQuiet init final →
+pub unsound_ended : (init final : FlashState) (list : List Command) (w : Watched) (why : ServeError) →
+    StaysQuiet init final →
     ServesUnsound list init final w w (Err why)
 unsound_ended init final list w why still = record {
   told = 0;
@@ -197,7 +234,8 @@ unsound_ended init final list w why still = record {
   faults = ended_as init final why still;
 }
 
-pub unsound_unserved : (init : FlashState) (list : List Command) (w : Watched) → ServesUnsound list init init w w (Err failed.Memory)
+pub unsound_unserved : (init : FlashState) (list : List Command) (w : Watched) →
+    ServesUnsound list init init w w (Err failed.Memory)
 unsound_unserved init list w =
     unsound_ended init init list w failed.Memory (record {
       still = record {
@@ -210,22 +248,27 @@ unsound_unserved init list w =
       quiet = refl;
     })
 
-unmounted_quiet : {F : Type 0} (state : F → FlashState) (its : Config) (flash new : F) (why : ServeError) → Unmounted state its flash new why →
+unmounted_quiet : {F : Type 0} (state : F → FlashState) (its : Config) (flash new : F) (why : ServeError) →
+    Unmounted state its flash new why →
     StaysQuiet (state flash) (state new)
 unmounted_quiet state its flash new (failed.Unsound law slot) h = h.0
 unmounted_quiet state its flash new failed.Memory h = h
 
-pub begin_unsound : {F : Type 0} (state : F → FlashState) (its : Config) (list : List Command) (flash new : F) (why : ServeError) (w : Watched) →
+pub begin_unsound : {F : Type 0} (state : F → FlashState) (its : Config) (list : List Command) (flash new : F)
+    (why : ServeError) (w : Watched) →
     Unmounted state its flash new why →
     ServesUnsound list (state flash) (state new) w w (Err why)
-begin_unsound state its list flash new why w h = unsound_ended (state flash) (state new) list w why (unmounted_quiet state its flash new why h)
+begin_unsound state its list flash new why w h = unsound_ended (state flash) (state new) list w why
+    (unmounted_quiet state its flash new why h)
 
-pub begin_shape : {F : Type 0} (state : F → FlashState) (its : Config) (flash new : F) (why : ServeError) → Unmounted state its flash new why →
+pub begin_shape : {F : Type 0} (state : F → FlashState) (its : Config) (flash new : F) (why : ServeError) →
+    Unmounted state its flash new why →
     (state new).shape ≡ (state flash).shape
 begin_shape state its flash new (failed.Unsound law slot) h = h.0.still.shape
 begin_shape state its flash new failed.Memory h = h.still.shape
 
-pub begin_extras : {F : Type 0} (state : F → FlashState) (its : Config) (flash new : F) (why : ServeError) → Unmounted state its flash new why →
+pub begin_extras : {F : Type 0} (state : F → FlashState) (its : Config) (flash new : F) (why : ServeError) →
+    Unmounted state its flash new why →
     (state new).extras ≡ (state flash).extras
 begin_extras state its flash new (failed.Unsound law slot) h = h.0.still.extras
 begin_extras state its flash new failed.Memory h = h.still.extras

@@ -19,18 +19,25 @@ seen_least false n k = omega arith
 pub seen_at : (seen : ℕ → ℕ) (c : Command) (r : Reply) (page : ℕ) → seen page ≤ seen_after seen c r page
 seen_at seen c r page = seen_least (is_opened r) (seen page) (count_by (is_of page) (writes_in c))
 
-pub seen_later : {F : Type 0} (seen : ℕ → ℕ) (c : Command) (r : Reply) (s : DeviceState F) → IsSeen seen s → IsSeen (seen_after seen c r) s
+pub seen_later : {F : Type 0} (seen : ℕ → ℕ) (c : Command) (r : Reply) (s : DeviceState F) → IsSeen seen s →
+    IsSeen (seen_after seen c r) s
 seen_later seen c r s h = record {
   mentions = λ page. (let least = seen_at seen c r page in let most = h.mentions page in omega arith);
-  names = λ page version named. (let least = seen_at seen c r page in let most = h.names page version named in omega arith);
+  names = λ page version named. (let least = seen_at seen c r page in
+      let most = h.names page version named in omega arith);
 }
 
 -- the cache stays right where versions do not fall, and a page whose version stays has its bytes
-cached_stays_so : {F : Type 0} (old new : DeviceState F) → new.config ≡ old.config → VersionsTell old new → (e : CachedPage) → IsCachedAs old e → IsCachedAs new e
+cached_stays_so : {F : Type 0} (old new : DeviceState F) → new.config ≡ old.config → VersionsTell old new →
+    (e : CachedPage) → IsCachedAs old e → IsCachedAs new e
 cached_stays_so old new same tell e h =
     let exists : e.page < new.config.logical = subst (λ (c : Config). e.page < c.logical) (sym same) h.exists in
     elim (tell e.page h.exists) [
-      | inl rose ↦ (let most = h.least in record { exists = exists; least = omega arith; current = λ now. absurd (omega (arith, now, rose, most)) })
+      | inl rose ↦ (let most = h.least in record {
+        exists = exists;
+        least = omega arith;
+        current = λ now. absurd (omega (arith, now, rose, most));
+      })
       | inr stays ↦ record {
         exists = exists;
         least = subst (λ n. e.version ≤ n) (sym stays.0) h.least;
@@ -38,26 +45,35 @@ cached_stays_so old new same tell e h =
       }
     ]
 
-pub cached_stays : {F : Type 0} (old new : DeviceState F) (entries : List CachedPage) → new.config ≡ old.config → VersionsTell old new → IsCached old entries →
+pub cached_stays : {F : Type 0} (old new : DeviceState F) (entries : List CachedPage) → new.config ≡ old.config →
+    VersionsTell old new → IsCached old entries →
     IsCached new entries
-cached_stays old new entries same tell h = All-weaker (IsCachedAs old) (IsCachedAs new) (cached_stays_so old new same tell) entries h
+cached_stays old new entries same tell h = All-weaker (IsCachedAs old) (IsCachedAs new)
+    (cached_stays_so old new same tell) entries h
 
 -- what a command does that is one call which may settle, write and collect
-pub exits_serve : {F : Type 0} (state : F → FlashState) (protocol : Protocol) (c : Command) (old new : DeviceState F) (r : Reply) (broken : Bool) →
-    HoldsAlways state protocol old → HoldsAlways state protocol new → Exits state old new broken → is_break r ≡ broken → is_fault r ≡ broken →
+pub exits_serve : {F : Type 0} (state : F → FlashState) (protocol : Protocol) (c : Command) (old new : DeviceState F)
+    (r : Reply) (broken : Bool) →
+    HoldsAlways state protocol old → HoldsAlways state protocol new → Exits state old new broken → is_break r ≡ broken →
+    is_fault r ≡ broken →
     is_lost r ≡ false →
     DoesCommand (limits_of old.config) (is_spent old.noted.mentions) c old.machine r new.machine →
     (is_still c ≡ true → moment_of (state new.flash) ≡ moment_of (state old.flash)) →
-    ((faulted : Bool) → (faulted ≡ false → old.unsure ≡ unsure.Nothing) → Tells old.config faulted (point_at state old) r (point_at state new)) →
-    (old.unsure ≡ unsure.Nothing → is_fault r ≡ false → new.unsure ≡ unsure.Nothing) → (is_fault r ≡ true → MayHaveCut state c old new) →
+    ((faulted : Bool) → (faulted ≡ false → old.unsure ≡ unsure.Nothing) →
+    Tells old.config faulted (point_at state old) r (point_at state new)) →
+    (old.unsure ≡ unsure.Nothing → is_fault r ≡ false → new.unsure ≡ unsure.Nothing) →
+    (is_fault r ≡ true → MayHaveCut state c old new) →
     ServesHere state c old new r
 exits_serve state protocol c old new r broken was is exits breaks faults whole does still tells sure cut = record {
   config = exits.tables.config;
   does = does;
   moves = record {
-    moves = together_of (is_together c) (shape_of old.config) (moment_of (state old.flash)) (moment_of (state new.flash)) (is_break r)
-        (subst (λ (x : Shape). Moves x (moment_of (state old.flash)) (is_break r) (moment_of (state new.flash))) was.shape
-        (subst (λ (b : Bool). Moves (state old.flash).shape (moment_of (state old.flash)) b (moment_of (state new.flash))) (sym breaks) exits.moves));
+    moves = together_of (is_together c) (shape_of old.config) (moment_of (state old.flash))
+        (moment_of (state new.flash)) (is_break r)
+        (subst (λ (x : Shape). Moves x (moment_of (state old.flash)) (is_break r) (moment_of (state new.flash)))
+        was.shape
+        (subst (λ (b : Bool). Moves (state old.flash).shape (moment_of (state old.flash)) b
+        (moment_of (state new.flash))) (sym breaks) exits.moves));
     still = still;
   };
   carries = subst (λ (b : Bool). Carries (state old.flash) (state new.flash) b) (sym faults) exits.carries;

@@ -19,16 +19,19 @@ use Rattle.cut_replay.proofs.Spending.{is_its_fault, uncut, spends_none, spends_
 last_version : (n m : ℕ) → nat_le (2 ^ 62) n ≡ true → n ≤ m → 2 ^ 62 ≤ m
 last_version n m is le = grind (arith, nat_tests)
 
-pub may_be_spent : {F : Type 0} (seen : ℕ → ℕ) (s : DeviceState F) → IsSeen seen s → MayBeSpent seen (is_spent s.noted.mentions)
+pub may_be_spent : {F : Type 0} (seen : ℕ → ℕ) (s : DeviceState F) → IsSeen seen s →
+    MayBeSpent seen (is_spent s.noted.mentions)
 may_be_spent seen s h page is = last_version (mention_of s.noted page) (seen page) is (h.mentions page)
 
 -- the point of a device
-pub always_point : {F : Type 0} (state : F → FlashState) (protocol : Protocol) (s : DeviceState F) → HoldsAlways state protocol s →
+pub always_point : {F : Type 0} (state : F → FlashState) (protocol : Protocol) (s : DeviceState F) →
+    HoldsAlways state protocol s →
     IsPoint s.config (point_at state s)
 always_point state protocol s h = record { sound = h.sound; array = h.array }
 
 -- Power was not cut
-pub done_in : {F R : Type 0} (state : F → FlashState) (protocol : Protocol) (c : Command) (s t : DeviceState F) (r : Reply) (seen : ℕ → ℕ) (faulted : Bool) →
+pub done_in : {F R : Type 0} (state : F → FlashState) (protocol : Protocol) (c : Command) (s t : DeviceState F)
+    (r : Reply) (seen : ℕ → ℕ) (faulted : Bool) →
     is_arm c ≡ false →
     ServesHere state c s t r → HoldsAlways state protocol t → StandsMounted seen faulted s →
     ServesIn {R = R} state s.config seen faulted c (session.Mounted s) r (session.Mounted t)
@@ -45,19 +48,23 @@ done_in state protocol c s t r seen faulted no_arm h always stands = record {
 }
 
 -- whether power is on after a call that was on a live flash
-not_broken : (old new : FlashState) (r : Reply) → old.live ≡ true → new.live ≡ false → Carries old new (is_fault r) → is_fault r ≡ true
+not_broken : (old new : FlashState) (r : Reply) → old.live ≡ true → new.live ≡ false → Carries old new (is_fault r) →
+    is_fault r ≡ true
 not_broken old new r on off carries = elim (cases_Bool (is_fault r)) [
   | inl broken ↦ broken
   | inr whole ↦ (let lives : new.live ≡ old.live = (subst (λ (b : Bool). Carries old new b) whole carries).lives in cc)
 ]
 
-live_spends : (c : Command) (r : Reply) (old new : FlashState) → is_lost r ≡ false → old.live ≡ true → new.live ≡ true → Carries old new (is_fault r) →
+live_spends : (c : Command) (r : Reply) (old new : FlashState) → is_lost r ≡ false → old.live ≡ true → new.live ≡ true →
+    Carries old new (is_fault r) →
     BothTell (IsSpentBy c r) old.told new.told
 live_spends c r old new whole on still carries = elim (cases_Bool (is_fault r)) [
   | inl broken ↦ (
       let met : Carries old new true = subst (λ (b : Bool). Carries old new b) broken carries in
-      let spent : BothTell (Spends true) old.told new.told = subst (λ (b : Bool). BothTell (Spends b) old.told new.told) still (met.spends on) in
-      subst (λ q. BothTell (IsSpentBy c q) old.told new.told) (sym (is_its_fault r broken whole)) (spends_fault c old.told new.told met.no_more spent))
+      let spent : BothTell (Spends true) old.told new.told = subst (λ (b : Bool). BothTell (Spends b) old.told new.told)
+      still (met.spends on) in
+      subst (λ q. BothTell (IsSpentBy c q) old.told new.told) (sym (is_its_fault r broken whole))
+      (spends_fault c old.told new.told met.no_more spent))
   | inr none ↦ spends_none c r old.told new.told (uncut r whole) none carries.no_more
 ]
 
@@ -68,16 +75,20 @@ break_is reply.Fault h = refl
 break_is reply.Dropped h = cc
 break_is _ h = refl
 
-by_fault : (broken : Bool) (old new : FlashState) → Carries old new broken → MatchBool broken (Rose old.faults new.faults) (new.faults ≡ old.faults)
+by_fault : (broken : Bool) (old new : FlashState) → Carries old new broken →
+    MatchBool broken (Rose old.faults new.faults) (new.faults ≡ old.faults)
 by_fault true old new h = h.cause
 by_fault false old new h = h.quiet
 
-live_counts : (r : Reply) (old new : FlashState) → is_lost r ≡ false → Carries old new (is_fault r) → CountsBreak r old.faults new.faults
+live_counts : (r : Reply) (old new : FlashState) → is_lost r ≡ false → Carries old new (is_fault r) →
+    CountsBreak r old.faults new.faults
 live_counts r old new whole carries =
-    subst (λ b. MatchBool b (Rose old.faults new.faults) (new.faults ≡ old.faults)) (sym (break_is r whole)) (by_fault (is_fault r) old new carries)
+    subst (λ b. MatchBool b (Rose old.faults new.faults) (new.faults ≡ old.faults)) (sym (break_is r whole))
+    (by_fault (is_fault r) old new carries)
 
 -- what is known of a command that was done
-pub record WasDone {F : Type 0} (state : F → FlashState) (its : Config) (c : Command) (s t : DeviceState F) (r : Reply) (entries : List CachedPage) : Type 0 where
+pub record WasDone {F : Type 0} (state : F → FlashState) (its : Config) (c : Command) (s t : DeviceState F) (r : Reply)
+    (entries : List CachedPage) : Type 0 where
   pub config : s.config ≡ its
   pub sound : IsSoundFlash its (state s.flash)
   pub no_arm : is_arm c ≡ false
@@ -86,13 +97,16 @@ pub record WasDone {F : Type 0} (state : F → FlashState) (its : Config) (c : C
   pub cached : IsCached t entries
   pub always : HoldsAlways state its.protocol t
 
-pub after_check : {F : Type 0} (state : F → FlashState) (its : Config) (c : Command) (s t : DeviceState F) (r : Reply) (entries : List CachedPage) →
+pub after_check : {F : Type 0} (state : F → FlashState) (its : Config) (c : Command) (s t : DeviceState F) (r : Reply)
+    (entries : List CachedPage) →
     WasDone state its c s t r entries → checked its ≡ Ok (state t.flash).shape
 after_check state its c s t r entries w = ap checked (sym (w.here.config ∙ w.config)) ∙ w.always.check
 
-pub fits_after : {F R : Type 0} (state : F → FlashState) (its : Config) (c : Command) (s t : DeviceState F) (r : Reply) (result : Sessions F R)
+pub fits_after : {F R : Type 0} (state : F → FlashState) (its : Config) (c : Command) (s t : DeviceState F) (r : Reply)
+    (result : Sessions F R)
     (before after : PageCacheState) →
-    WasDone state its c s t r before.entries → Follows state its (session.Mounted t) r result before after → FitsAfter F R state its after.entries result
+    WasDone state its c s t r before.entries → Follows state its (session.Mounted t) r result before after →
+    FitsAfter F R state its after.entries result
 fits_after {F = F} {R = R} state its c s t r result before after w follows = elim (cases_Bool (state t.flash).live) [
   | inl on ↦ (
       let went = follows.went_on on in
@@ -110,13 +124,16 @@ fits_after {F = F} {R = R} state its c s t r result before after w follows = eli
 ]
 
 -- the image is sound
-sound_here : {F : Type 0} (state : F → FlashState) (c : Command) (s t : DeviceState F) (r : Reply) (entries : List CachedPage) →
+sound_here : {F : Type 0} (state : F → FlashState) (c : Command) (s t : DeviceState F) (r : Reply)
+    (entries : List CachedPage) →
     WasDone state s.config c s t r entries → IsSoundFlash s.config (state t.flash)
 sound_here state c s t r entries w =
-    subst (λ (x : Config). IsSoundImage x.protocol x.logical (shape_of x) (state t.flash).image) w.here.config w.always.sound
+    subst (λ (x : Config). IsSoundImage x.protocol x.logical (shape_of x) (state t.flash).image) w.here.config
+    w.always.sound
 
 -- the whole of what a command comes to that was done
-went_serves : {F R : Type 0} (state : F → FlashState) (c : Command) (s t : DeviceState F) (r : Reply) (entries : List CachedPage) →
+went_serves : {F R : Type 0} (state : F → FlashState) (c : Command) (s t : DeviceState F) (r : Reply)
+    (entries : List CachedPage) →
     WasDone state s.config c s t r entries → (state t.flash).live ≡ true →
     ServesSession {R = R} state s.config c (session.Mounted s) r (session.Mounted t)
 went_serves state c s t r entries w on = record {
@@ -131,19 +148,23 @@ went_serves state c s t r entries w on = record {
 }
 
 -- the command met a fault, where power is off
-faulted_here : {F : Type 0} (state : F → FlashState) (its : Config) (c : Command) (s t : DeviceState F) (r : Reply) (entries : List CachedPage) →
+faulted_here : {F : Type 0} (state : F → FlashState) (its : Config) (c : Command) (s t : DeviceState F) (r : Reply)
+    (entries : List CachedPage) →
     WasDone state its c s t r entries → (state t.flash).live ≡ false →
     ServesHere state c s t reply.Fault
 faulted_here state its c s t r entries w off =
-    subst (λ (q : Reply). ServesHere state c s t q) (is_its_fault r (not_broken (state s.flash) (state t.flash) r w.on off w.here.carries) w.here.whole)
+    subst (λ (q : Reply). ServesHere state c s t q)
+    (is_its_fault r (not_broken (state s.flash) (state t.flash) r w.on off w.here.carries) w.here.whole)
     w.here
 
 -- what comes after it, as far as its moves go
-cut_moves : (its : Config) (c : Command) (old new : Moment) → MovesBy its c reply.Fault old new → MovesBy its c reply.Cut old new
+cut_moves : (its : Config) (c : Command) (old new : Moment) → MovesBy its c reply.Fault old new →
+    MovesBy its c reply.Cut old new
 cut_moves its c old new h = record { moves = h.moves; still = h.still }
 
 -- so nothing is open then
-cut_lost : {F : Type 0} (state : F → FlashState) (c : Command) (s t : DeviceState F) (r : Reply) (entries : List CachedPage) →
+cut_lost : {F : Type 0} (state : F → FlashState) (c : Command) (s t : DeviceState F) (r : Reply)
+    (entries : List CachedPage) →
     WasDone state s.config c s t r entries → (state t.flash).live ≡ false → WasLost state s.config c s t.flash reply.Cut
 cut_lost state c s t r entries w off =
     let its = s.config in
@@ -156,42 +177,53 @@ cut_lost state c s t r entries w off =
       after = sound_here state c s t r entries w;
       check = after_check state its c s t r entries w;
       may = inl (refl, cut.may);
-      leaves = subst (λ (x : Config). CutLeavesOf c s.machine (idle (array_in x.protocol x.logical (state t.flash).image))) here.config cut.leaves;
+      leaves = subst (λ (x : Config). CutLeavesOf c s.machine
+          (idle (array_in x.protocol x.logical (state t.flash).image))) here.config cut.leaves;
       most = λ seen is page lt.
           subst (λ (x : Config). mention (records_in x.protocol (state t.flash).image) page ≤ seen page) here.config
-          (image_seen state its.protocol seen t page w.always (here.seen seen is) (subst (λ (x : Config). page < x.logical) (sym here.config) lt));
+          (image_seen state its.protocol seen t page w.always (here.seen seen is)
+          (subst (λ (x : Config). page < x.logical) (sym here.config) lt));
       moves = cut_moves its c (moment_of (state s.flash)) (moment_of (state t.flash)) here.moves;
       carries = here.carries;
       spends = spends_cut c (state s.flash).told (state t.flash).told here.carries.no_more
-          (subst (λ (b : Bool). BothTell (Spends b) (state s.flash).told (state t.flash).told) off (here.carries.spends w.on));
+          (subst (λ (b : Bool). BothTell (Spends b) (state s.flash).told (state t.flash).told) off
+          (here.carries.spends w.on));
     }
 
 -- at the configuration of the device, and so at that of the session
-serves_at : {F R : Type 0} (state : F → FlashState) (c : Command) (s t : DeviceState F) (r : Reply) (result : Sessions F R) (before after : PageCacheState) →
+serves_at : {F R : Type 0} (state : F → FlashState) (c : Command) (s t : DeviceState F) (r : Reply)
+    (result : Sessions F R) (before after : PageCacheState) →
     WasDone state s.config c s t r before.entries → Follows state s.config (session.Mounted t) r result before after →
     ServesAfter F R state s.config c s result × EndsAfter F R state s.config c s result
 serves_at {F = F} {R = R} state c s t r result before after w follows = elim (cases_Bool (state t.flash).live) [
   | inl on ↦ (let went = follows.went_on on in
       let done : Sessions F R = Ok (session.Mounted t, r) in (
-        subst (λ (x : Sessions F R). ServesAfter F R state s.config c s x) (sym went.0) (went_serves {R = R} state c s t r before.entries w on),
+        subst (λ (x : Sessions F R). ServesAfter F R state s.config c s x) (sym went.0)
+            (went_serves {R = R} state c s t r before.entries w on),
         subst (λ (x : Sessions F R). EndsAfter F R state s.config c s x) (sym went.0) tt,
       ))
   | inr off ↦ (let cut = follows.was_cut off in
-      let lost = cut_lost state c s t r before.entries w off in
-      (again_serves state s.config c s t.flash reply.Cut result lost cut.0, again_ends state s.config c s t.flash reply.Cut result lost cut.0))
+      let lost = cut_lost state c s t r before.entries w off in (
+        again_serves state s.config c s t.flash reply.Cut result lost cut.0,
+        again_ends state s.config c s t.flash reply.Cut result lost cut.0,
+      ))
 ]
 
-pub serves_after : {F R : Type 0} (state : F → FlashState) (its : Config) (c : Command) (s t : DeviceState F) (r : Reply) (result : Sessions F R)
+pub serves_after : {F R : Type 0} (state : F → FlashState) (its : Config) (c : Command) (s t : DeviceState F)
+    (r : Reply) (result : Sessions F R)
     (before after : PageCacheState) →
-    WasDone state its c s t r before.entries → Follows state its (session.Mounted t) r result before after → ServesAfter F R state its c s result ×
+    WasDone state its c s t r before.entries → Follows state its (session.Mounted t) r result before after →
+    ServesAfter F R state its c s result ×
     EndsAfter F R state its c s result
 serves_after {F = F} {R = R} state its c s t r result before after w follows =
     subst (λ (x : Config). ServesAfter F R state x c s result × EndsAfter F R state x c s result) w.config
-    (serves_at state c s t r result before after (subst (λ (x : Config). WasDone state x c s t r before.entries) (sym w.config) w)
+    (serves_at state c s t r result before after (subst (λ (x : Config). WasDone state x c s t r before.entries)
+    (sym w.config) w)
     (subst (λ (x : Config). Follows state x (session.Mounted t) r result before after) (sym w.config) follows))
 
 -- the cache keeps the size of its pages
-pub follows_size : {F R : Type 0} (state : F → FlashState) (its : Config) (t : DeviceState F) (r : Reply) (result : Sessions F R) (before after : PageCacheState) →
+pub follows_size : {F R : Type 0} (state : F → FlashState) (its : Config) (t : DeviceState F) (r : Reply)
+    (result : Sessions F R) (before after : PageCacheState) →
     Follows state its (session.Mounted t) r result before after →
     after.page_bytes ≡ before.page_bytes
 follows_size state its t r result before after follows = elim (cases_Bool (state t.flash).live) [
@@ -200,33 +232,42 @@ follows_size state its t r result before after follows = elim (cases_Bool (state
 ]
 
 -- what is in the cache
-emptied : (before mid after : PageCacheState) → mid.page_bytes ≡ before.page_bytes → after ≡ record mid { entries = [] } → after ≡ record before { entries = [] }
-emptied before mid after same is = is ∙ ap (λ n. let c : PageCacheState = record { page_bytes = n; entries = [] } in c) same
+emptied : (before mid after : PageCacheState) → mid.page_bytes ≡ before.page_bytes →
+    after ≡ record mid { entries = [] } → after ≡ record before { entries = [] }
+emptied before mid after same is = is ∙ ap (λ n. let c : PageCacheState = record { page_bytes = n; entries = [] } in
+    c) same
 
-pub caches_after : {F R : Type 0} (state : F → FlashState) (its : Config) (c : Command) (s t : DeviceState F) (r : Reply) (result : Sessions F R)
+pub caches_after : {F R : Type 0} (state : F → FlashState) (its : Config) (c : Command) (s t : DeviceState F)
+    (r : Reply) (result : Sessions F R)
     (before mid after : PageCacheState) → is_arm c ≡ false → is_lost r ≡ false →
-    CachesCommand state c s t before mid → mid.page_bytes ≡ before.page_bytes → Follows state its (session.Mounted t) r result mid after →
+    CachesCommand state c s t before mid → mid.page_bytes ≡ before.page_bytes →
+    Follows state its (session.Mounted t) r result mid after →
     CachesAfter F R state its c s before after result
-caches_after {F = F} {R = R} state its c s t r result before mid after no_arm whole caches size follows = elim (cases_Bool (state t.flash).live) [
-  | inl on ↦ (
-      let went = follows.went_on on in
-      let up : Session F R = session.Mounted t in
-      let here : CachesCommand state c s t before after = subst (λ (x : PageCacheState). CachesCommand state c s t before x) (sym went.1) caches in
-      subst (λ (x : Sessions F R). CachesAfter F R state its c s before after x) (sym went.0)
-      (no_arm_caches {R = R} state its c s r up before after no_arm
-      (subst (λ b. MatchBool b (after ≡ record before { entries = [] }) (CachesCommand state c s t before after)) (sym whole) here)))
-  | inr off ↦ (
-      let cut = follows.was_cut off in
-      again_caches state its c s t.flash reply.Cut before after result no_arm refl (emptied before mid after size cut.1) cut.0)
-]
+caches_after {F = F} {R = R} state its c s t r result before mid after no_arm whole caches size
+    follows = elim (cases_Bool (state t.flash).live) [
+      | inl on ↦ (
+          let went = follows.went_on on in
+          let up : Session F R = session.Mounted t in
+          let here : CachesCommand state c s t before after =
+          subst (λ (x : PageCacheState). CachesCommand state c s t before x) (sym went.1) caches in
+          subst (λ (x : Sessions F R). CachesAfter F R state its c s before after x) (sym went.0)
+          (no_arm_caches {R = R} state its c s r up before after no_arm
+          (subst (λ b. MatchBool b (after ≡ record before { entries = [] }) (CachesCommand state c s t before after))
+          (sym whole) here)))
+      | inr off ↦ (
+          let cut = follows.was_cut off in
+          again_caches state its c s t.flash reply.Cut before after result no_arm refl
+          (emptied before mid after size cut.1) cut.0)
+    ]
 
--- The same of a session that is changed
+-- What holds of each reply of a session that changed
 pub left_ok : {F R : Type 0} (P : Session F R → Reply → Type 0) (new : Session F R) (result : Result Reply ServeError) →
     IfOk (left new result) (λ done. P done.0 done.1) → IfOk result (λ r. P new r)
 left_ok P new (Ok r) h = h
 left_ok P new (Err why) h = tt
 
-pub left_on : {F R : Type 0} (P : Session F R → Type 0) (new : Session F R) (result : Result Reply ServeError) → IfOk (left new result) (λ done. P done.0) →
+pub left_on : {F R : Type 0} (P : Session F R → Type 0) (new : Session F R) (result : Result Reply ServeError) →
+    IfOk (left new result) (λ done. P done.0) →
     OnOk result (P new)
 left_on P new (Ok r) h = h
 left_on P new (Err why) h = tt
@@ -236,7 +277,8 @@ pub left_err : {F R : Type 0} (P : F → ServeError → Type 0) (new : Session F
 left_err P new (Ok r) h = tt
 left_err P new (Err why) h = h
 
-pub mounted_serves : {F R : Type 0} (state : F → FlashState) (its : Config) (c : Command) (s t : DeviceState F) (r : Reply) (result : Result Reply ServeError)
+pub mounted_serves : {F R : Type 0} (state : F → FlashState) (its : Config) (c : Command) (s t : DeviceState F)
+    (r : Reply) (result : Result Reply ServeError)
     (new : Session F R) (before mid after : PageCacheState) →
     WasDone state its c s t r mid.entries → CachesCommand state c s t before mid → mid.page_bytes ≡ before.page_bytes →
     Follows state its (session.Mounted t) r (left new result) mid after →
@@ -245,7 +287,8 @@ mounted_serves {F = F} {R = R} state its c s t r result new before mid after w c
     let old : Session F R = session.Mounted s in
     let both = serves_after state its c s t r (left new result) mid after w follows in
     record {
-      fits = left_on (Fits state its after.entries) new result (fits_after state its c s t r (left new result) mid after w follows);
+      fits = left_on (Fits state its after.entries) new result
+          (fits_after state its c s t r (left new result) mid after w follows);
       serves = left_ok (λ (x : Session F R) q. ServesSession state its c old q x) new result both.0;
       caches = left_ok (λ (x : Session F R) q. CachesSession state its c old q x before after) new result
           (caches_after state its c s t r (left new result) before mid after w.no_arm w.here.whole caches size follows);
@@ -253,13 +296,16 @@ mounted_serves {F = F} {R = R} state its c s t r result new before mid after w c
       size = follows_size state its t r (left new result) mid after follows ∙ size;
     }
 
-pub was_done : {F : Type 0} (state : F → FlashState) (its : Config) (protocol : Protocol) (c : Command) (s t : DeviceState F) (r : Reply)
+pub was_done : {F : Type 0} (state : F → FlashState) (its : Config) (protocol : Protocol) (c : Command)
+    (s t : DeviceState F) (r : Reply)
     (before entries : List CachedPage) → its.protocol ≡ protocol →
-    FitsMounted state its before s → is_arm c ≡ false → ServesHere state c s t r → IsCached t entries → HoldsAlways state protocol t →
+    FitsMounted state its before s → is_arm c ≡ false → ServesHere state c s t r → IsCached t entries →
+    HoldsAlways state protocol t →
     WasDone state its c s t r entries
 was_done state its protocol c s t r before entries rule fits no_arm here cached always = record {
   config = fits.config;
-  sound = subst (λ (x : Config). IsSoundImage x.protocol x.logical (shape_of x) (state s.flash).image) fits.config fits.always.sound;
+  sound = subst (λ (x : Config). IsSoundImage x.protocol x.logical (shape_of x) (state s.flash).image) fits.config
+      fits.always.sound;
   no_arm = no_arm;
   on = fits.live;
   here = here;

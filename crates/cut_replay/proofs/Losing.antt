@@ -11,7 +11,8 @@ use Rattle.cut_replay.proofs.Mountings.{Leaves, mounted_leaves, mounted_machine,
 use Rattle.cut_replay.proofs.Spending.{spends_before, sets_none}
 
 -- a command that is no arm
-pub served_no_arm : (its : Config) (spent : ℕ → Bool) (faulted : Bool) (c : Command) (old : Point) (r : Reply) (new : Point) → is_arm c ≡ false →
+pub served_no_arm : (its : Config) (spent : ℕ → Bool) (faulted : Bool) (c : Command) (old : Point) (r : Reply)
+    (new : Point) → is_arm c ≡ false →
     (NotDone old.state r new.state × (new.moment ≡ old.moment)) ⊎ (IsDone its spent faulted c old r new ⊎
     (LosesOpen c old.state r new.state × MovesBy its c r old.moment new.moment)) →
     ServesFlash its spent faulted c old r new
@@ -38,13 +39,17 @@ abbrev pub ServesAfter : (F R : Type 0) → (F → FlashState) → Config → Co
 ServesAfter F R state its c s result = IfOk result (λ done. ServesSession state its c (session.Mounted s) done.1 done.0)
 
 abbrev pub EndsAfter : (F R : Type 0) → (F → FlashState) → Config → Command → DeviceState F → Sessions F R → Type 0
-EndsAfter F R state its c s result = IfErr result (λ e. EndsServing {R = R} state its c (session.Mounted s) e.flash e.why)
+EndsAfter F R state its c s result = IfErr result (λ e. EndsServing {R = R} state its c (session.Mounted s)
+    e.flash e.why)
 
-abbrev pub CachesAfter : (F R : Type 0) → (F → FlashState) → Config → Command → DeviceState F → PageCacheState → PageCacheState → Sessions F R → Type 0
-CachesAfter F R state its c s before after result = IfOk result (λ done. CachesSession state its c (session.Mounted s) done.1 done.0 before after)
+abbrev pub CachesAfter : (F R : Type 0) → (F → FlashState) → Config → Command → DeviceState F → PageCacheState →
+    PageCacheState → Sessions F R → Type 0
+CachesAfter F R state its c s before after result =
+    IfOk result (λ done. CachesSession state its c (session.Mounted s) done.1 done.0 before after)
 
 -- What is known of a call on a mounted device, with its reply, after which nothing is open, and of its flash then
-pub record WasLost {F : Type 0} (state : F → FlashState) (its : Config) (c : Command) (s : DeviceState F) (flash : F) (r : Reply) : Type 0 where
+pub record WasLost {F : Type 0} (state : F → FlashState) (its : Config) (c : Command) (s : DeviceState F) (flash : F)
+    (r : Reply) : Type 0 where
   pub lost : is_lost r ≡ true
   pub no_arm : is_arm c ≡ false
   pub before : IsSoundFlash its (state s.flash)
@@ -64,9 +69,11 @@ lost_breaks reply.Dropped h = refl
 lost_breaks _ h = cc
 
 pub lost_counts : (r : Reply) (before now : ℕ) → is_lost r ≡ true → Rose before now → CountsBreak r before now
-lost_counts r before now lost rose = subst (λ b. MatchBool b (Rose before now) (now ≡ before)) (sym (lost_breaks r lost)) rose
+lost_counts r before now lost rose = subst (λ b. MatchBool b (Rose before now) (now ≡ before))
+    (sym (lost_breaks r lost)) rose
 
-lost_in : {F R : Type 0} (state : F → FlashState) (its : Config) (c : Command) (s : DeviceState F) (flash : F) (r : Reply) (after : Session F R) (seen : ℕ → ℕ)
+lost_in : {F R : Type 0} (state : F → FlashState) (its : Config) (c : Command) (s : DeviceState F) (flash : F)
+    (r : Reply) (after : Session F R) (seen : ℕ → ℕ)
     (faulted : Bool) → WasLost state its c s flash r → StandsMounted seen faulted s → Leaves state its flash after →
     ServesIn {R = R} state its seen faulted c (session.Mounted s) r after
 lost_in state its c s flash r after seen faulted w stands leaves = record {
@@ -74,51 +81,67 @@ lost_in state its c s flash r after seen faulted w stands leaves = record {
   may = λ page spent. (let not : false ≡ true = spent in absurd cc);
   serves = served_no_arm its (λ page. false) faulted c (point_at state s) r (point_of state its after) w.no_arm
       (inr (inr (
-        (w.may, subst (λ (m : ArrayState). CutLeavesOf c s.machine m) (sym (mounted_machine state its flash after leaves)) w.leaves),
-        subst (λ (m : Moment). MovesBy its c r (moment_of (state s.flash)) m) (sym (mounted_moment state its flash after leaves)) w.moves,
+        (
+          w.may,
+          subst (λ (m : ArrayState). CutLeavesOf c s.machine m)
+              (sym (mounted_machine state its flash after leaves)) w.leaves,
+        ),
+        subst (λ (m : Moment). MovesBy its c r (moment_of (state s.flash)) m)
+            (sym (mounted_moment state its flash after leaves)) w.moves,
       )));
   point = mounted_point state its flash after leaves w.after;
   stands = mounted_stands state its flash (seen_after seen c r) (faulted || is_fault r) after leaves w.after
-      (λ page lt. (let most = w.most seen stands.mentions page lt in let least = seen_at seen c r page in omega (arith, most, least)));
+      (λ page lt. (let most = w.most seen stands.mentions page lt in let least = seen_at seen c r page in
+      omega (arith, most, least)));
 }
 
 -- it is sound after it was mounted again, or was not
-sound_again : {F R : Type 0} (state : F → FlashState) (its : Config) (flash : F) (after : Session F R) → IsSoundFlash its (state flash) →
+sound_again : {F R : Type 0} (state : F → FlashState) (its : Config) (flash : F) (after : Session F R) →
+    IsSoundFlash its (state flash) →
     Leaves state its flash after →
     IsSoundFlash its (state (flash_in after))
 sound_again state its flash after sound leaves =
-    subst (λ (m : Moment). IsSoundImage its.protocol its.logical (shape_of its) m.image) (sym (mounted_still state its flash after leaves).moment) sound
+    subst (λ (m : Moment). IsSoundImage its.protocol its.logical (shape_of its) m.image)
+    (sym (mounted_still state its flash after leaves).moment) sound
 
 -- what the call comes to, but for the mount
-record LostBy {F R : Type 0} (state : F → FlashState) (its : Config) (c : Command) (s : DeviceState F) (r : Reply) (after : Session F R) : Type 0 where
-  in_run : (seen : ℕ → ℕ) → (faulted : Bool) → StandsMounted seen faulted s → ServesIn {R = R} state its seen faulted c (session.Mounted s) r after
+record LostBy {F R : Type 0} (state : F → FlashState) (its : Config) (c : Command) (s : DeviceState F) (r : Reply)
+    (after : Session F R) : Type 0 where
+  in_run : (seen : ℕ → ℕ) → (faulted : Bool) → StandsMounted seen faulted s →
+      ServesIn {R = R} state its seen faulted c (session.Mounted s) r after
   kept : IsSoundOrSame its (state s.flash) (state (flash_in after))
   spends : BothTell (IsSpentBy c r) (state s.flash).told (state (flash_in after)).told
   faults : Rose (state s.flash).faults (state (flash_in after)).faults
   extras : (state (flash_in after)).extras ≡ (state s.flash).extras
 
-lost_by : {F R : Type 0} (state : F → FlashState) (its : Config) (c : Command) (s : DeviceState F) (flash : F) (r : Reply) (after : Session F R) →
+lost_by : {F R : Type 0} (state : F → FlashState) (its : Config) (c : Command) (s : DeviceState F) (flash : F)
+    (r : Reply) (after : Session F R) →
     WasLost state its c s flash r → Leaves state its flash after → LostBy {R = R} state its c s r after
 lost_by state its c s flash r after w leaves =
     let still = mounted_still state its flash after leaves in
     record {
       in_run = λ seen faulted stands. lost_in state its c s flash r after seen faulted w stands leaves;
       kept = inl (w.before, sound_again state its flash after w.after leaves);
-      spends = spends_before c r (state s.flash).told (state flash).told (state (flash_in after)).told w.spends still.told;
-      faults = rose_later (state s.flash).faults (state flash).faults (state (flash_in after)).faults w.carries.cause still.later;
+      spends = spends_before c r (state s.flash).told (state flash).told (state (flash_in after)).told
+          w.spends still.told;
+      faults = rose_later (state s.flash).faults (state flash).faults (state (flash_in after)).faults
+          w.carries.cause still.later;
       extras = still.extras ∙ w.carries.extras;
     }
 
 -- the device was mounted again, or the mount met a fault
-lost_mounts : {F R : Type 0} (state : F → FlashState) (its : Config) (s : DeviceState F) (flash : F) (r : Reply) (after : Session F R) →
+lost_mounts : {F R : Type 0} (state : F → FlashState) (its : Config) (s : DeviceState F) (flash : F) (r : Reply)
+    (after : Session F R) →
     is_lost r ≡ true → Rose (state s.flash).faults (state flash).faults → Mounted state its flash after →
     MountsAfter (point_at state s) r (point_of state its after) (state s.flash).faults (state (flash_in after)).faults
 lost_mounts state its s flash r (session.Mounted u) lost rose h = inl (λ is. inr refl)
 lost_mounts state its s flash r (session.Unmounted new) lost rose h =
     inr (lost, rose_twice (state s.flash).faults (state flash).faults (state new).faults rose h.rose)
 
-lost_serves : {F R : Type 0} (state : F → FlashState) (its : Config) (c : Command) (s : DeviceState F) (flash : F) (r : Reply) (after : Session F R) →
-    WasLost state its c s flash r → Mounted state its flash after → ServesSession state its c (session.Mounted s) r after
+lost_serves : {F R : Type 0} (state : F → FlashState) (its : Config) (c : Command) (s : DeviceState F) (flash : F)
+    (r : Reply) (after : Session F R) →
+    WasLost state its c s flash r → Mounted state its flash after →
+    ServesSession state its c (session.Mounted s) r after
 lost_serves state its c s flash r after w mounted =
     let by = lost_by state its c s flash r after w (mounted_leaves state its flash after mounted) in
     record {
@@ -132,17 +155,22 @@ lost_serves state its c s flash r after w mounted =
       extras = by.extras;
     }
 
-pub again_serves : {F R : Type 0} (state : F → FlashState) (its : Config) (c : Command) (s : DeviceState F) (flash : F) (r : Reply) (result : Sessions F R) →
+pub again_serves : {F R : Type 0} (state : F → FlashState) (its : Config) (c : Command) (s : DeviceState F) (flash : F)
+    (r : Reply) (result : Sessions F R) →
     WasLost state its c s flash r → MountsAgain state its flash r result → ServesAfter F R state its c s result
 again_serves {F = F} {R = R} state its c s flash r (Ok done) w h =
-    subst (λ (q : Reply). ServesSession {R = R} state its c (session.Mounted s) q done.0) (sym h.1) (lost_serves state its c s flash r done.0 w h.0)
+    subst (λ (q : Reply). ServesSession {R = R} state its c (session.Mounted s) q done.0) (sym h.1)
+    (lost_serves state its c s flash r done.0 w h.0)
 again_serves state its c s flash r (Err e) w h = tt
 
 -- or there was no memory for the mount
-ended_again : {F : Type 0} (R : Type 0) (state : F → FlashState) (its : Config) (c : Command) (s : DeviceState F) (flash : F) (r : Reply) (new : F)
-    (why : ServeError) → WasLost state its c s flash r → Unmounted state its flash new why → EndsServing {R = R} state its c (session.Mounted s) new why
+ended_again : {F : Type 0} (R : Type 0) (state : F → FlashState) (its : Config) (c : Command) (s : DeviceState F)
+    (flash : F) (r : Reply) (new : F)
+    (why : ServeError) → WasLost state its c s flash r → Unmounted state its flash new why →
+    EndsServing {R = R} state its c (session.Mounted s) new why
 ended_again R state its c s flash r new (failed.Unsound law slot) w h =
-    absurd (sound_unbroken its.protocol its.logical (shape_of its) (state flash).image (record { law = law; slot = slot }) w.after h.1)
+    absurd (sound_unbroken its.protocol its.logical (shape_of its) (state flash).image
+    (record { law = law; slot = slot }) w.after h.1)
 ended_again {F = F} R state its c s flash r new failed.Memory w h =
     let after : Session F R = session.Unmounted new in
     let by = lost_by {R = R} state its c s flash r after w h.still in
@@ -153,12 +181,14 @@ ended_again {F = F} R state its c s flash r new failed.Memory w h =
       kept = by.kept;
     }
 
-pub again_ends : {F R : Type 0} (state : F → FlashState) (its : Config) (c : Command) (s : DeviceState F) (flash : F) (r : Reply) (result : Sessions F R) →
+pub again_ends : {F R : Type 0} (state : F → FlashState) (its : Config) (c : Command) (s : DeviceState F) (flash : F)
+    (r : Reply) (result : Sessions F R) →
     WasLost state its c s flash r → MountsAgain state its flash r result → EndsAfter F R state its c s result
 again_ends state its c s flash r (Ok done) w h = tt
 again_ends {R = R} state its c s flash r (Err e) w h = ended_again R state its c s flash r e.flash e.why w h
 
-mounted_fits : {F R : Type 0} (state : F → FlashState) (its : Config) (flash : F) (after : Session F R) → checked its ≡ Ok (state flash).shape →
+mounted_fits : {F R : Type 0} (state : F → FlashState) (its : Config) (flash : F) (after : Session F R) →
+    checked its ≡ Ok (state flash).shape →
     Mounted state its flash after → Fits state its [] after
 mounted_fits state its flash (session.Mounted t) check h = record {
   config = h.config;
@@ -169,26 +199,33 @@ mounted_fits state its flash (session.Mounted t) check h = record {
 }
 mounted_fits state its flash (session.Unmounted new) check h = check ∙ ap (λ (x : Shape). Ok x) (sym h.still.shape)
 
-pub again_fits : {F R : Type 0} (state : F → FlashState) (its : Config) (flash : F) (r : Reply) (result : Sessions F R) →
+pub again_fits : {F R : Type 0} (state : F → FlashState) (its : Config) (flash : F) (r : Reply)
+    (result : Sessions F R) →
     checked its ≡ Ok (state flash).shape → MountsAgain state its flash r result → FitsAfter F R state its [] result
 again_fits state its flash r (Ok done) check h = mounted_fits state its flash done.0 check h.0
 again_fits state its flash r (Err e) check h = tt
 
 -- the cache is empty then
-pub no_arm_caches : {F R : Type 0} (state : F → FlashState) (its : Config) (c : Command) (s : DeviceState F) (r : Reply) (new : Session F R)
+pub no_arm_caches : {F R : Type 0} (state : F → FlashState) (its : Config) (c : Command) (s : DeviceState F) (r : Reply)
+    (new : Session F R)
     (before after : PageCacheState) → is_arm c ≡ false → CachesServed state c s r new before after →
     CachesSession state its c (session.Mounted s) r new before after
-no_arm_caches state its c s r new before after no_arm h = subst (λ b. MatchBool b (after ≡ before) (CachesServed state c s r new before after)) (sym no_arm) h
+no_arm_caches state its c s r new before after no_arm h =
+    subst (λ b. MatchBool b (after ≡ before) (CachesServed state c s r new before after)) (sym no_arm) h
 
-lost_caches : {F R : Type 0} (state : F → FlashState) (c : Command) (s : DeviceState F) (r : Reply) (new : Session F R) (before after : PageCacheState) →
+lost_caches : {F R : Type 0} (state : F → FlashState) (c : Command) (s : DeviceState F) (r : Reply) (new : Session F R)
+    (before after : PageCacheState) →
     is_lost r ≡ true → after ≡ record before { entries = [] } → CachesServed state c s r new before after
 lost_caches state c s r (session.Mounted t) before after lost h = rw lost h
 lost_caches state c s r (session.Unmounted flash) before after lost h = h
 
-pub again_caches : {F R : Type 0} (state : F → FlashState) (its : Config) (c : Command) (s : DeviceState F) (flash : F) (r : Reply) (before after : PageCacheState)
-    (result : Sessions F R) → is_arm c ≡ false → is_lost r ≡ true → after ≡ record before { entries = [] } → MountsAgain state its flash r result →
+pub again_caches : {F R : Type 0} (state : F → FlashState) (its : Config) (c : Command) (s : DeviceState F) (flash : F)
+    (r : Reply) (before after : PageCacheState)
+    (result : Sessions F R) → is_arm c ≡ false → is_lost r ≡ true → after ≡ record before { entries = [] } →
+    MountsAgain state its flash r result →
     CachesAfter F R state its c s before after result
 again_caches {R = R} state its c s flash r before after (Ok done) no_arm lost empty h =
     no_arm_caches {R = R} state its c s done.1 done.0 before after no_arm
-    (subst (λ (q : Reply). CachesServed state c s q done.0 before after) (sym h.1) (lost_caches state c s r done.0 before after lost empty))
+    (subst (λ (q : Reply). CachesServed state c s q done.0 before after) (sym h.1)
+    (lost_caches state c s r done.0 before after lost empty))
 again_caches state its c s flash r before after (Err e) no_arm lost empty h = tt

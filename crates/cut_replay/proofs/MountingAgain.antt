@@ -37,23 +37,28 @@ breaks_more rs r failed a b d h one = elim (cases_Bool (is_break r)) [
   | inl broken ↦ (
       let rose : Rose b d = subst (λ x. MatchBool x (Rose b d) (d ≡ b)) broken one in
       let more : count_by is_break (rs ++ r ∷ []) ≡ count_by is_break rs + 1 =
-      breaks_push rs r ∙ ap (λ (x : Bool). count_by is_break rs + (if x then 1 else 0)) broken in omega (arith, h, rose, more))
+      breaks_push rs r ∙ ap (λ (x : Bool). count_by is_break rs + (if x then 1 else 0)) broken in
+      omega (arith, h, rose, more))
   | inr whole ↦ (
       let same : d ≡ b = subst (λ x. MatchBool x (Rose b d) (d ≡ b)) whole one in
       let none : count_by is_break (rs ++ r ∷ []) ≡ count_by is_break rs + 0 =
-      breaks_push rs r ∙ ap (λ (x : Bool). count_by is_break rs + (if x then 1 else 0)) whole in omega (arith, h, same, none))
+      breaks_push rs r ∙ ap (λ (x : Bool). count_by is_break rs + (if x then 1 else 0)) whole in
+      omega (arith, h, same, none))
 ]
 
 twice_more : (rs : List Reply) (r : Reply) (failed a b d : ℕ) → counted_by (count_by is_break rs + failed) a ≤ b →
     is_lost r ≡ true → counted_by 2 b ≤ d → counted_by (count_by is_break (rs ++ r ∷ []) + (failed + 1)) a ≤ d
 twice_more rs r failed a b d h lost twice =
     let more : count_by is_break (rs ++ r ∷ []) ≡ count_by is_break rs + 1 =
-    breaks_push rs r ∙ ap (λ (x : Bool). count_by is_break rs + (if x then 1 else 0)) (lost_breaks r lost) in omega (arith, h, twice, more)
+    breaks_push rs r ∙ ap (λ (x : Bool). count_by is_break rs + (if x then 1 else 0)) (lost_breaks r lost) in
+    omega (arith, h, twice, more)
 
-pub mounts_none : (its : Config) (up : Bool) (old new : FlashState) → old.faults ≤ new.faults → CountsMounts its up [] [] old new
+pub mounts_none : (its : Config) (up : Bool) (old new : FlashState) → old.faults ≤ new.faults →
+    CountsMounts its up [] [] old new
 mounts_none its up old new later = record { failed = 0; mounts = refl; faults = omega (arith, later) }
 
-pub mounts_more : (its : Config) (up : Bool) (rs : List Reply) (ps : List Point) (r : Reply) (p : Point) (x y z : FlashState) →
+pub mounts_more : (its : Config) (up : Bool) (rs : List Reply) (ps : List Point) (r : Reply) (p : Point)
+    (x y z : FlashState) →
     CountsMounts its up rs ps x y → CountsBreak r y.faults z.faults →
     MountsAfter (last_point (first_point its up (moment_of x)) ps) r p y.faults z.faults →
     CountsMounts its up (rs ++ r ∷ []) (ps ++ p ∷ []) x z
@@ -73,10 +78,12 @@ pub mounts_later : (its : Config) (up : Bool) (rs : List Reply) (ps : List Point
     CountsMounts its up rs ps x y → CountsBreak r y.faults z.faults → CountsMounts its up rs ps x z
 mounts_later its up rs ps r x y z h one = elim (cases_Bool (is_break r)) [
   | inl broken ↦ (
-      let rose : Rose y.faults z.faults = subst (λ b. MatchBool b (Rose y.faults z.faults) (z.faults ≡ y.faults)) broken one in
+      let rose : Rose y.faults z.faults = subst (λ b. MatchBool b (Rose y.faults z.faults) (z.faults ≡ y.faults)) broken
+      one in
       let most = h.faults in record { failed = h.failed; mounts = h.mounts; faults = omega (arith, most, rose) })
   | inr whole ↦ (
-      let same : z.faults ≡ y.faults = subst (λ b. MatchBool b (Rose y.faults z.faults) (z.faults ≡ y.faults)) whole one in
+      let same : z.faults ≡ y.faults = subst (λ b. MatchBool b (Rose y.faults z.faults) (z.faults ≡ y.faults)) whole
+      one in
       let most = h.faults in record { failed = h.failed; mounts = h.mounts; faults = omega (arith, most, same) })
 ]
 

@@ -8,28 +8,34 @@ abbrev pub Leaves : {F R : Type 0} → (F → FlashState) → Config → F → S
 Leaves state its flash (session.Mounted s) = MountsIn state its flash s
 Leaves state its flash (session.Unmounted new) = MomentStays (state flash) (state new)
 
-pub mounted_leaves : {F R : Type 0} (state : F → FlashState) (its : Config) (flash : F) (s : Session F R) → Mounted state its flash s → Leaves state its flash s
+pub mounted_leaves : {F R : Type 0} (state : F → FlashState) (its : Config) (flash : F) (s : Session F R) →
+    Mounted state its flash s → Leaves state its flash s
 mounted_leaves state its flash (session.Mounted s) h = h
 mounted_leaves state its flash (session.Unmounted new) h = h.still
 
 -- the array of the flash, with nothing open
-pub mounted_machine : {F R : Type 0} (state : F → FlashState) (its : Config) (flash : F) (s : Session F R) → Leaves state its flash s →
+pub mounted_machine : {F R : Type 0} (state : F → FlashState) (its : Config) (flash : F) (s : Session F R) →
+    Leaves state its flash s →
     (point_of state its s).state.machine ≡ idle (array_in its.protocol its.logical (state flash).image)
 mounted_machine state its flash (session.Mounted s) h = h.machine
-mounted_machine state its flash (session.Unmounted new) h = ap (λ (m : Moment). idle (array_in its.protocol its.logical m.image)) h.moment
+mounted_machine state its flash (session.Unmounted new) h =
+    ap (λ (m : Moment). idle (array_in its.protocol its.logical m.image)) h.moment
 
 -- and its moment
-pub mounted_still : {F R : Type 0} (state : F → FlashState) (its : Config) (flash : F) (s : Session F R) → Leaves state its flash s →
+pub mounted_still : {F R : Type 0} (state : F → FlashState) (its : Config) (flash : F) (s : Session F R) →
+    Leaves state its flash s →
     MomentStays (state flash) (state (flash_in s))
 mounted_still state its flash (session.Mounted s) h = h.still
 mounted_still state its flash (session.Unmounted new) h = h
 
-pub mounted_moment : {F R : Type 0} (state : F → FlashState) (its : Config) (flash : F) (s : Session F R) → Leaves state its flash s →
+pub mounted_moment : {F R : Type 0} (state : F → FlashState) (its : Config) (flash : F) (s : Session F R) →
+    Leaves state its flash s →
     (point_of state its s).moment ≡ moment_of (state flash)
 mounted_moment state its flash (session.Mounted s) h = h.still.moment
 mounted_moment state its flash (session.Unmounted new) h = h.moment
 
-pub mounted_point : {F R : Type 0} (state : F → FlashState) (its : Config) (flash : F) (s : Session F R) → Leaves state its flash s →
+pub mounted_point : {F R : Type 0} (state : F → FlashState) (its : Config) (flash : F) (s : Session F R) →
+    Leaves state its flash s →
     IsSoundFlash its (state flash) → IsPoint its (point_of state its s)
 mounted_point state its flash s h sound =
     let moment = mounted_moment state its flash s h in
@@ -40,15 +46,20 @@ mounted_point state its flash s h sound =
     }
 
 -- each page is mentioned as the image mentions it
-device_seen : {F : Type 0} (state : F → FlashState) (its : Config) (flash : F) (seen : ℕ → ℕ) (s : DeviceState F) → MountsIn state its flash s →
-    ((page : ℕ) → page < its.logical → mention (records_in its.protocol (state flash).image) page ≤ seen page) → IsSeen seen s
+device_seen : {F : Type 0} (state : F → FlashState) (its : Config) (flash : F) (seen : ℕ → ℕ) (s : DeviceState F) →
+    MountsIn state its flash s →
+    ((page : ℕ) → page < its.logical → mention (records_in its.protocol (state flash).image) page ≤ seen page) →
+    IsSeen seen s
 device_seen state its flash seen s h most =
-    opened_seen seen (records_in its.protocol (state flash).image) its.logical s (ap (λ (n : IndexState). n.mentions) h.tables.noted_is) h.namings
+    opened_seen seen (records_in its.protocol (state flash).image) its.logical s
+    (ap (λ (n : IndexState). n.mentions) h.tables.noted_is) h.namings
     (λ page ge. h.always.beyond page (subst (λ (c : Config). c.logical ≤ page) (sym h.config) ge)) most
 
-pub mounted_stands : {F R : Type 0} (state : F → FlashState) (its : Config) (flash : F) (seen : ℕ → ℕ) (faulted : Bool) (s : Session F R) →
+pub mounted_stands : {F R : Type 0} (state : F → FlashState) (its : Config) (flash : F) (seen : ℕ → ℕ) (faulted : Bool)
+    (s : Session F R) →
     Leaves state its flash s → IsSoundFlash its (state flash) →
-    ((page : ℕ) → page < its.logical → mention (records_in its.protocol (state flash).image) page ≤ seen page) → StandsAt state its seen faulted s
+    ((page : ℕ) → page < its.logical → mention (records_in its.protocol (state flash).image) page ≤ seen page) →
+    StandsAt state its seen faulted s
 mounted_stands state its flash seen faulted (session.Mounted s) h sound most = record {
   sure = λ whole. h.unsure;
   mentions =
@@ -56,5 +67,6 @@ mounted_stands state its flash seen faulted (session.Mounted s) h sound most = r
 }
 mounted_stands state its flash seen faulted (session.Unmounted new) h sound most = record {
   sound = subst (λ (m : Moment). IsSoundImage its.protocol its.logical (shape_of its) m.image) (sym h.moment) sound;
-  mentions = λ page lt. subst (λ (m : Moment). mention (records_in its.protocol m.image) page ≤ seen page) (sym h.moment) (most page lt);
+  mentions = λ page lt. subst (λ (m : Moment). mention (records_in its.protocol m.image) page ≤ seen page)
+      (sym h.moment) (most page lt);
 }

@@ -28,12 +28,14 @@ use Rattle.cut_replay.proofs.Runs.{grew_none, grew_more, text_more, told_more, s
 use Rattle.cut_replay.proofs.Runs.{none_sets}
 
 -- the moment of a session is that of its flash
-pub point_moment : {F R : Type 0} (state : F → FlashState) (its : Config) (s : Session F R) → (point_of state its s).moment ≡ moment_of (state (flash_in s))
+pub point_moment : {F R : Type 0} (state : F → FlashState) (its : Config) (s : Session F R) →
+    (point_of state its s).moment ≡ moment_of (state (flash_in s))
 point_moment state its (session.Mounted s) = refl
 point_moment state its (session.Unmounted flash) = refl
 
 -- a run over commands that leads to this session
-pub record Runs {F R : Type 0} (state : F → FlashState) (its : Config) (init : FlashState) (cs : List Command) (rs : List Reply) (ps : List Point)
+pub record Runs {F R : Type 0} (state : F → FlashState) (its : Config) (init : FlashState) (cs : List Command)
+    (rs : List Reply) (ps : List Point)
     (s : Session F R) : Type 0 where
   pub up : Bool
   pub first : IsPoint its (first_point its up (moment_of init))
@@ -44,7 +46,8 @@ pub record Runs {F R : Type 0} (state : F → FlashState) (its : Config) (init :
   pub faults : CountsBreaks rs init (state (flash_in s))
 
 -- and its replies were told
-pub record HasServed {F R : Type 0} (state : F → FlashState) (its : Config) (init : FlashState) (cs : List Command) (s : Session F R)
+pub record HasServed {F R : Type 0} (state : F → FlashState) (its : Config) (init : FlashState) (cs : List Command)
+    (s : Session F R)
     (before after : Watched) : Type 0 where
   pub replies : List Reply
   pub points : List Point
@@ -56,7 +59,8 @@ pub record HasServed {F R : Type 0} (state : F → FlashState) (its : Config) (i
   pub mounts : CountsMounts its runs.up replies points init (state (flash_in s))
 
 -- at the beginning
-pub served_none : {F R : Type 0} (state : F → FlashState) (its : Config) (init : FlashState) (s : Session F R) (w : Watched) → Begins state its init s →
+pub served_none : {F R : Type 0} (state : F → FlashState) (its : Config) (init : FlashState) (s : Session F R)
+    (w : Watched) → Begins state its init s →
     HasServed state its init [] s w w
 served_none state its init s w h = record {
   replies = [];
@@ -78,12 +82,14 @@ served_none state its init s w h = record {
 }
 
 -- one command more
-pub runs_more : {F R : Type 0} (state : F → FlashState) (its : Config) (init : FlashState) (cs : List Command) (rs : List Reply) (ps : List Point) (c : Command)
+pub runs_more : {F R : Type 0} (state : F → FlashState) (its : Config) (init : FlashState) (cs : List Command)
+    (rs : List Reply) (ps : List Point) (c : Command)
     (r : Reply) (s t : Session F R) →
     Runs state its init cs rs ps s →
     ((seen : ℕ → ℕ) → (faulted : Bool) → StandsAt state its seen faulted s → ServesIn state its seen faulted c s r t) →
     BothTell (IsSpentBy c r) (state (flash_in s)).told (state (flash_in t)).told →
-    CountsBreak r (state (flash_in s)).faults (state (flash_in t)).faults → Runs state its init (cs ++ c ∷ []) (rs ++ r ∷ [])
+    CountsBreak r (state (flash_in s)).faults (state (flash_in t)).faults →
+    Runs state its init (cs ++ c ∷ []) (rs ++ r ∷ [])
     (ps ++ point_of state its t ∷ []) t
 runs_more state its init cs rs ps c r s t h served spends faults =
     let seen = mentions_in its (moment_of init) in
@@ -94,17 +100,28 @@ runs_more state its init cs rs ps c r s t h served spends faults =
     record {
       up = h.up;
       first = h.first;
-      run = run_more its seen false old cs rs ps c r p h.run
-          ((one.spent, one.may, subst (λ (q : Point). ServesFlash its one.spent (faulted_through false rs) c q r p) h.last one.serves), one.point);
+      run = run_more its seen false old cs rs ps c r p h.run (
+        (
+          one.spent,
+          one.may,
+          subst (λ (q : Point). ServesFlash its one.spent (faulted_through false rs) c q r p)
+              h.last one.serves,
+        ),
+        one.point,
+      );
       last = sym (last_more old ps p);
-      stands = subst (λ (f : ℕ → ℕ). StandsAt state its f (faulted_through false (rs ++ r ∷ [])) t) (sym (seen_more seen cs rs c r same.0))
-          (subst (λ (b : Bool). StandsAt state its (seen_after (seen_through seen cs rs) c r) b t) (sym (faulted_more false rs r)) one.stands);
-      spends = spends_more cs rs c r init.told (state (flash_in s)).told (state (flash_in t)).told same.0 h.spends spends;
+      stands = subst (λ (f : ℕ → ℕ). StandsAt state its f (faulted_through false (rs ++ r ∷ [])) t)
+          (sym (seen_more seen cs rs c r same.0))
+          (subst (λ (b : Bool). StandsAt state its (seen_after (seen_through seen cs rs) c r) b t)
+          (sym (faulted_more false rs r)) one.stands);
+      spends = spends_more cs rs c r init.told (state (flash_in s)).told (state (flash_in t)).told same.0
+          h.spends spends;
       faults = counts_more rs r init (state (flash_in s)) (state (flash_in t)) h.faults faults;
     }
 
 -- which was told
-pub served_more : {F R : Type 0} (state : F → FlashState) (its : Config) (init : FlashState) (cs : List Command) (c : Command) (r : Reply) (s t : Session F R)
+pub served_more : {F R : Type 0} (state : F → FlashState) (its : Config) (init : FlashState) (cs : List Command)
+    (c : Command) (r : Reply) (s t : Session F R)
     (a b d : Watched) →
     HasServed state its init cs s a b → ServesSession state its c s r t → Grew b.text d.text (text_of r) →
     Grew b.kept d.kept (record { text = text_of r; moment = moment_of (state (flash_in t)) } ∷ []) →
@@ -112,35 +129,47 @@ pub served_more : {F R : Type 0} (state : F → FlashState) (its : Config) (init
 unfolding runs_more
 served_more state its init cs c r s t a b d h serves text kept =
     let p = point_of state its t in
-    let same = run_lengths its (mentions_in its (moment_of init)) false (first_point its h.runs.up (moment_of init)) cs h.replies h.points h.runs.run in
+    let same = run_lengths its (mentions_in its (moment_of init)) false (first_point its h.runs.up (moment_of init)) cs
+    h.replies h.points h.runs.run in
     record {
       replies = h.replies ++ r ∷ [];
       points = h.points ++ p ∷ [];
       runs = runs_more state its init cs h.replies h.points c r s t h.runs serves.in_run serves.spends serves.faults;
       text = subst (λ (x : List ℕ). Grew a.text d.text x) (sym (text_more h.replies r))
           (grew_more a.text b.text d.text (text_of_all h.replies) (text_of r) h.text text);
-      kept = subst (λ (x : List ToldReply). Grew a.kept d.kept x) (sym (told_more h.replies h.points r p (same.0 ∙ sym same.1)))
-          (grew_more a.kept b.kept d.kept (replies_told h.replies h.points) (record { text = text_of r; moment = p.moment } ∷ []) h.kept
-          (subst (λ (m : Moment). Grew b.kept d.kept (record { text = text_of r; moment = m } ∷ [])) (sym (point_moment state its t)) kept));
+      kept = subst (λ (x : List ToldReply). Grew a.kept d.kept x)
+          (sym (told_more h.replies h.points r p (same.0 ∙ sym same.1)))
+          (grew_more a.kept b.kept d.kept (replies_told h.replies h.points)
+          (record { text = text_of r; moment = p.moment } ∷ []) h.kept
+          (subst (λ (m : Moment). Grew b.kept d.kept (record { text = text_of r; moment = m } ∷ []))
+          (sym (point_moment state its t)) kept));
       set = last_sets cs c (state (flash_in t)).told serves.set;
       mounted = h.mounted;
-      mounts = mounts_more its h.runs.up h.replies h.points r p init (state (flash_in s)) (state (flash_in t)) h.mounts serves.faults
-          (subst (λ (q : Point). MountsAfter q r p (state (flash_in s)).faults (state (flash_in t)).faults) h.runs.last serves.mounts);
+      mounts = mounts_more its h.runs.up h.replies h.points r p init (state (flash_in s)) (state (flash_in t))
+          h.mounts serves.faults
+          (subst (λ (q : Point). MountsAfter q r p (state (flash_in s)).faults (state (flash_in t)).faults) h.runs.last
+          serves.mounts);
     }
 
 -- What has been served is what serving comes to
-run_parts : {F R : Type 0} (state : F → FlashState) (its : Config) (init : FlashState) (cs : List Command) (rs : List Reply) (ps : List Point) (s : Session F R)
+run_parts : {F R : Type 0} (state : F → FlashState) (its : Config) (init : FlashState) (cs : List Command)
+    (rs : List Reply) (ps : List Point) (s : Session F R)
     (final : FlashState) →
-    Runs state its init cs rs ps s → moment_of final ≡ moment_of (state (flash_in s)) → moment_of final ≡ last_moment (moment_of init) ps
+    Runs state its init cs rs ps s → moment_of final ≡ moment_of (state (flash_in s)) →
+    moment_of final ≡ last_moment (moment_of init) ps
 run_parts state its init cs rs ps s final h same =
-    same ∙ sym (point_moment state its s) ∙ ap (λ (p : Point). p.moment) h.last ∙ last_moment_is (first_point its h.up (moment_of init)) ps
+    same ∙ sym (point_moment state its s) ∙ ap (λ (p : Point). p.moment) h.last
+    ∙ last_moment_is (first_point its h.up (moment_of init)) ps
 
-pub all_served : {F R : Type 0} (state : F → FlashState) (its : Config) (init : FlashState) (cs : List Command) (s : Session F R) (final : FlashState)
+pub all_served : {F R : Type 0} (state : F → FlashState) (its : Config) (init : FlashState) (cs : List Command)
+    (s : Session F R) (final : FlashState)
     (a b : Watched) → HasServed state its init cs s a b →
-    moment_of final ≡ moment_of (state (flash_in s)) → BothTell NoMoreToCome (state (flash_in s)).told final.told → final.faults ≡ (state (flash_in s)).faults →
+    moment_of final ≡ moment_of (state (flash_in s)) → BothTell NoMoreToCome (state (flash_in s)).told final.told →
+    final.faults ≡ (state (flash_in s)).faults →
     ServesRun its cs (length cs) init final a b
 all_served state its init cs s final a b h same no_more quiet =
-    let lengths = run_lengths its (mentions_in its (moment_of init)) false (first_point its h.runs.up (moment_of init)) cs h.replies h.points h.runs.run in
+    let lengths = run_lengths its (mentions_in its (moment_of init)) false (first_point its h.runs.up (moment_of init))
+    cs h.replies h.points h.runs.run in
     let replies = take_whole (length cs) h.replies lengths.0 in
     let points = take_whole (length cs) h.points lengths.1 in
     record {
@@ -154,13 +183,15 @@ all_served state its init cs s final a b h same no_more quiet =
       spends = spends_later cs h.replies init.told (state (flash_in s)).told final.told h.runs.spends no_more;
       faults = counts_later h.replies init (state (flash_in s)) final h.runs.faults quiet;
       up = λ steady. inr (h.mounted steady);
-      mounts = subst (λ (x : List Reply). CountsMounts its h.runs.up x (take (length cs) h.points) init final) (sym replies)
+      mounts = subst (λ (x : List Reply). CountsMounts its h.runs.up x (take (length cs) h.points) init final)
+          (sym replies)
           (subst (λ (x : List Point). CountsMounts its h.runs.up h.replies x init final) (sym points)
           (mounts_same its h.runs.up h.replies h.points init (state (flash_in s)) final h.mounts quiet));
     }
 
 -- where one command more was served whose reply was not told
-pub one_untold : {F R : Type 0} (state : F → FlashState) (its : Config) (init : FlashState) (cs : List Command) (c : Command) (r : Reply) (s t : Session F R)
+pub one_untold : {F R : Type 0} (state : F → FlashState) (its : Config) (init : FlashState) (cs : List Command)
+    (c : Command) (r : Reply) (s t : Session F R)
     (a b d : Watched) → HasServed state its init cs s a b →
     ((seen : ℕ → ℕ) → (faulted : Bool) → StandsAt state its seen faulted s → ServesIn state its seen faulted c s r t) →
     BothTell (IsSpentBy c r) (state (flash_in s)).told (state (flash_in t)).told →
@@ -168,7 +199,8 @@ pub one_untold : {F R : Type 0} (state : F → FlashState) (its : Config) (init 
     ServesRun its (cs ++ c ∷ []) (length cs) init (state (flash_in t)) a d
 unfolding runs_more
 one_untold state its init cs c r s t a b d h served spends faults text kept =
-    let lengths = run_lengths its (mentions_in its (moment_of init)) false (first_point its h.runs.up (moment_of init)) cs h.replies h.points h.runs.run in
+    let lengths = run_lengths its (mentions_in its (moment_of init)) false (first_point its h.runs.up (moment_of init))
+    cs h.replies h.points h.runs.run in
     let p = point_of state its t in
     let runs = runs_more state its init cs h.replies h.points c r s t h.runs served spends faults in
     let replies = take_before_last (length cs) h.replies r lengths.0 in
@@ -177,34 +209,42 @@ one_untold state its init cs c r s t a b d h served spends faults text kept =
       replies = h.replies ++ r ∷ [];
       points = h.points ++ p ∷ [];
       run = record { up = runs.up; first = runs.first; runs = runs.run };
-      last = run_parts state its init (cs ++ c ∷ []) (h.replies ++ r ∷ []) (h.points ++ p ∷ []) t (state (flash_in t)) runs refl;
+      last = run_parts state its init (cs ++ c ∷ []) (h.replies ++ r ∷ []) (h.points ++ p ∷ []) t
+          (state (flash_in t)) runs refl;
       text = subst (λ (x : List Reply). Grew a.text d.text (text_of_all x)) (sym replies)
           (subst (λ (o : Option (List ℕ)). Grew a.text o (text_of_all h.replies)) (sym text) h.text);
-      kept = subst (λ (x : List Reply). Grew a.kept d.kept (replies_told x (take (length cs) (h.points ++ p ∷ [])))) (sym replies)
+      kept = subst (λ (x : List Reply). Grew a.kept d.kept (replies_told x (take (length cs) (h.points ++ p ∷ []))))
+          (sym replies)
           (subst (λ (x : List Point). Grew a.kept d.kept (replies_told h.replies x)) (sym points)
           (subst (λ (o : Option (List ToldReply)). Grew a.kept o (replies_told h.replies h.points)) (sym kept) h.kept));
       spends = runs.spends;
       faults = runs.faults;
       up = λ steady. inr (h.mounted steady);
-      mounts = subst (λ (x : List Reply). CountsMounts its h.runs.up x (take (length cs) (h.points ++ p ∷ [])) init (state (flash_in t))) (sym replies)
+      mounts = subst (λ (x : List Reply). CountsMounts its h.runs.up x (take (length cs) (h.points ++ p ∷ [])) init
+          (state (flash_in t))) (sym replies)
           (subst (λ (x : List Point). CountsMounts its h.runs.up h.replies x init (state (flash_in t))) (sym points)
-          (mounts_later its h.runs.up h.replies h.points r init (state (flash_in s)) (state (flash_in t)) h.mounts faults));
+          (mounts_later its h.runs.up h.replies h.points r init (state (flash_in s)) (state (flash_in t))
+          h.mounts faults));
     }
 
 -- The next command of a list
-pub next_of : (list : List Command) (at : ℕ) (c : Command) → at < length list → c ≡ get_or list at c → take (at + 1) list ≡ take at list ++ c ∷ []
+pub next_of : (list : List Command) (at : ℕ) (c : Command) → at < length list → c ≡ get_or list at c →
+    take (at + 1) list ≡ take at list ++ c ∷ []
 next_of list at c lt read = take_more list at c lt ∙ ap (λ x. take at list ++ x ∷ []) (sym read)
 
 -- Serving ended before that command did anything, or in it
-pub ended_for_memory : {F R : Type 0} (state : F → FlashState) (its : Config) (init : FlashState) (list : List Command) (at : ℕ) (c : Command) (s : Session F R)
+pub ended_for_memory : {F R : Type 0} (state : F → FlashState) (its : Config) (init : FlashState) (list : List Command)
+    (at : ℕ) (c : Command) (s : Session F R)
     (flash : F) (a b : Watched) → at < length list → c ≡ get_or list at c →
-    HasServed state its init (take at list) s a b → EndsForMemory state its c s flash → ServesSound its list init (state flash) a b (Err failed.Memory)
+    HasServed state its init (take at list) s a b → EndsForMemory state its c s flash →
+    ServesSound its list init (state flash) a b (Err failed.Memory)
 ended_for_memory state its init list at c s flash a b lt read h (inl still) =
     let count : length (take at list) ≡ at = length-take-le at list (omega arith) in (
       at,
       omega arith,
       inl (subst (λ n. ServesRun its (take at list) n init (state flash) a b) count
-          (all_served state its init (take at list) s (state flash) a b h still.still.moment still.still.told still.quiet)),
+          (all_served state its init (take at list) s (state flash) a b h still.still.moment still.still.told
+          still.quiet)),
     )
 ended_for_memory {F = F} {R = R} state its init list at c s flash a b lt read h (inr cut) =
     let after : Session F R = session.Unmounted flash in
@@ -212,40 +252,49 @@ ended_for_memory {F = F} {R = R} state its init list at c s flash a b lt read h 
       at,
       omega arith,
       inr (subst (λ n. ServesRun its (take (at + 1) list) n init (state flash) a b) count
-          (subst (λ (cs : List Command). ServesRun its cs (length (take at list)) init (state flash) a b) (sym (next_of list at c lt read))
+          (subst (λ (cs : List Command). ServesRun its cs (length (take at list)) init (state flash) a b)
+          (sym (next_of list at c lt read))
           (one_untold {R = R} state its init (take at list) c cut.0 s after a b b h cut.2 cut.3
           (lost_counts cut.0 (state (flash_in s)).faults (state flash).faults cut.1 cut.4) refl refl))),
     )
 
 -- a session that stands has no image that is refused
-unrefused : {F R : Type 0} (state : F → FlashState) (its : Config) (seen : ℕ → ℕ) (faulted : Bool) (s : Session F R) (flash : F) (law : ℕ) (slot : Slot) →
+unrefused : {F R : Type 0} (state : F → FlashState) (its : Config) (seen : ℕ → ℕ) (faulted : Bool) (s : Session F R)
+    (flash : F) (law : ℕ) (slot : Slot) →
     StandsAt state its seen faulted s → Refuses state its s flash law slot → ⊥
 unrefused state its seen faulted (session.Mounted s) flash law slot stands h = h
 unrefused state its seen faulted (session.Unmounted old) flash law slot stands h =
-    sound_unbroken its.protocol its.logical (shape_of its) (state old).image (record { law = law; slot = slot }) stands.sound h.1
+    sound_unbroken its.protocol its.logical (shape_of its) (state old).image (record { law = law; slot = slot })
+    stands.sound h.1
 
-pub ended_in : {F R : Type 0} (state : F → FlashState) (its : Config) (init : FlashState) (list : List Command) (at : ℕ) (c : Command) (s : Session F R)
+pub ended_in : {F R : Type 0} (state : F → FlashState) (its : Config) (init : FlashState) (list : List Command) (at : ℕ)
+    (c : Command) (s : Session F R)
     (flash : F) (why : ServeError) (a b : Watched) → at < length list →
     c ≡ get_or list at c → HasServed state its init (take at list) s a b → EndsServing state its c s flash why →
     ServesSound its list init (state flash) a b (Err why)
 ended_in state its init list at c s flash (failed.Unsound law slot) a b lt read h ends =
     absurd (unrefused state its (seen_through (mentions_in its (moment_of init)) (take at list) h.replies)
     (faulted_through false h.replies) s flash law slot h.runs.stands ends.cause)
-ended_in state its init list at c s flash failed.Memory a b lt read h ends = ended_for_memory state its init list at c s flash a b lt read h ends.cause
+ended_in state its init list at c s flash failed.Memory a b lt read h ends =
+    ended_for_memory state its init list at c s flash a b lt read h ends.cause
 
 -- the reply of it could not be told
-pub untold_in : {F R : Type 0} (state : F → FlashState) (its : Config) (init : FlashState) (list : List Command) (at : ℕ) (c : Command) (r : Reply)
+pub untold_in : {F R : Type 0} (state : F → FlashState) (its : Config) (init : FlashState) (list : List Command)
+    (at : ℕ) (c : Command) (r : Reply)
     (s t : Session F R) (flash : F) (a b d : Watched) → at < length list →
-    c ≡ get_or list at c → HasServed state its init (take at list) s a b → ServesSession state its c s r t → flash ≡ flash_in t → d.text ≡ b.text →
+    c ≡ get_or list at c → HasServed state its init (take at list) s a b → ServesSession state its c s r t →
+    flash ≡ flash_in t → d.text ≡ b.text →
     d.kept ≡ b.kept → ServesSound its list init (state flash) a d (Err failed.Memory)
 untold_in state its init list at c r s t flash a b d lt read h serves is text kept =
     let count : length (take at list) ≡ at = length-take-le at list (omega arith) in (
       at,
       omega arith,
       inr (subst (λ n. ServesRun its (take (at + 1) list) n init (state flash) a d) count
-          (subst (λ (cs : List Command). ServesRun its cs (length (take at list)) init (state flash) a d) (sym (next_of list at c lt read))
+          (subst (λ (cs : List Command). ServesRun its cs (length (take at list)) init (state flash) a d)
+          (sym (next_of list at c lt read))
           (subst (λ x. ServesRun its (take at list ++ c ∷ []) (length (take at list)) init (state x) a d) (sym is)
-          (one_untold state its init (take at list) c r s t a b d h serves.in_run serves.spends serves.faults text kept)))),
+          (one_untold state its init (take at list) c r s t a b d h serves.in_run serves.spends serves.faults
+          text kept)))),
     )
 
 -- all was served
@@ -253,22 +302,27 @@ no_more_same : (o : Option Told) → BothTell NoMoreToCome o o
 no_more_same None = tt
 no_more_same (Some told) = (omega arith, omega arith)
 
-fits_live : {F R : Type 0} (state : F → FlashState) (its : Config) (cache : List CachedPage) (s : Session F R) → Fits state its cache s →
+fits_live : {F R : Type 0} (state : F → FlashState) (its : Config) (cache : List CachedPage) (s : Session F R) →
+    Fits state its cache s →
     (point_of state its s).state.up ≡ true → (state (flash_in s)).live ≡ true
 fits_live state its cache (session.Mounted t) fits up = fits.live
 fits_live state its cache (session.Unmounted flash) fits up = cc
 
-ends_live : {F R : Type 0} (state : F → FlashState) (its : Config) (init : FlashState) (cs : List Command) (cache : List CachedPage) (s : Session F R)
+ends_live : {F R : Type 0} (state : F → FlashState) (its : Config) (init : FlashState) (cs : List Command)
+    (cache : List CachedPage) (s : Session F R)
     (a b : Watched) →
-    Fits state its cache s → (h : HasServed state its init cs s a b) → (last_state (first_state its h.runs.up (moment_of init)) h.points).up ≡ true →
+    Fits state its cache s → (h : HasServed state its init cs s a b) →
+    (last_state (first_state its h.runs.up (moment_of init)) h.points).up ≡ true →
     (state (flash_in s)).live ≡ true
 ends_live state its init cs cache s a b fits h up =
     fits_live state its cache s fits (ap (λ (p : Point). p.state.up) h.runs.last
     ∙ ap (λ (x : RunState). x.up) (last_state_is (first_point its h.runs.up (moment_of init)) h.points) ∙ up)
 
-pub served_to_the_end : {F R : Type 0} (state : F → FlashState) (its : Config) (init : FlashState) (list : List Command) (at : ℕ) (cache : List CachedPage)
+pub served_to_the_end : {F R : Type 0} (state : F → FlashState) (its : Config) (init : FlashState) (list : List Command)
+    (at : ℕ) (cache : List CachedPage)
     (s : Session F R) (flash : F) (a b : Watched) → length list ≤ at →
-    Fits state its cache s → HasServed state its init (take at list) s a b → flash ≡ flash_in s → ServesSound its list init (state flash) a b (Ok tt)
+    Fits state its cache s → HasServed state its init (take at list) s a b → flash ≡ flash_in s →
+    ServesSound its list init (state flash) a b (Ok tt)
 unfolding all_served
 served_to_the_end state its init list at cache s flash a b ge fits h is =
     let whole : take at list ≡ list = take_all at list ge in
@@ -280,7 +334,8 @@ served_to_the_end state its init list at cache s flash a b ge fits h is =
     )
 
 -- Of the flash that was handed in
-pub kept_more : (its : Config) (init old new : FlashState) → IsSoundOrSame its init old → IsSoundOrSame its old new → IsSoundOrSame its init new
+pub kept_more : (its : Config) (init old new : FlashState) → IsSoundOrSame its init old → IsSoundOrSame its old new →
+    IsSoundOrSame its init new
 kept_more its init old new (inl sound) (inl after) = inl (sound.0, after.1)
 kept_more its init old new (inr was) (inl sound) = inl (
   subst (λ (m : Moment). IsSoundImage its.protocol its.logical (shape_of its) m.image) was sound.0,
@@ -293,28 +348,37 @@ kept_more its init old new (inl sound) (inr same) = inl (
 )
 kept_more its init old new (inr was) (inr same) = inr (same ∙ was)
 
-refused_for : {F R : Type 0} (state : F → FlashState) (its : Config) (init : FlashState) (c : Command) (s : Session F R) (flash : F) (law : ℕ) (slot : Slot) →
+refused_for : {F R : Type 0} (state : F → FlashState) (its : Config) (init : FlashState) (c : Command) (s : Session F R)
+    (flash : F) (law : ℕ) (slot : Slot) →
     IsSoundOrSame its init (state (flash_in s)) →
-    EndsFor state its c s flash (failed.Unsound law slot) → RefusesUnsound its init (state flash) (Err (failed.Unsound law slot))
+    EndsFor state its c s flash (failed.Unsound law slot) →
+    RefusesUnsound its init (state flash) (Err (failed.Unsound law slot))
 refused_for state its init c (session.Mounted s) flash law slot kept ends = absurd ends
 refused_for state its init c (session.Unmounted old) flash law slot (inl sound) ends =
-    absurd (sound_unbroken its.protocol its.logical (shape_of its) (state old).image (record { law = law; slot = slot }) sound.1 ends.1)
+    absurd (sound_unbroken its.protocol its.logical (shape_of its) (state old).image (record { law = law; slot = slot })
+    sound.1 ends.1)
 refused_for state its init c (session.Unmounted old) flash law slot (inr same) ends = (
   ends.0.still.moment ∙ same,
-  subst (λ (m : Moment). IsLeastImageBreach its.protocol its.logical (shape_of its) m.image (record { law = law; slot = slot }))
+  subst (λ (m : Moment). IsLeastImageBreach its.protocol its.logical (shape_of its) m.image
+      (record { law = law; slot = slot }))
       same ends.1,
 )
 
-pub refused_in : {F R : Type 0} (state : F → FlashState) (its : Config) (init : FlashState) (c : Command) (s : Session F R) (flash : F) (why : ServeError) →
+pub refused_in : {F R : Type 0} (state : F → FlashState) (its : Config) (init : FlashState) (c : Command)
+    (s : Session F R) (flash : F) (why : ServeError) →
     IsSoundOrSame its init (state (flash_in s)) → EndsServing state its c s flash why →
     RefusesUnsound its init (state flash) (Err why)
-refused_in state its init c s flash failed.Memory kept ends = kept_more its init (state (flash_in s)) (state flash) kept ends.kept
-refused_in state its init c s flash (failed.Unsound law slot) kept ends = refused_for state its init c s flash law slot kept ends.cause
+refused_in state its init c s flash failed.Memory kept ends = kept_more its init (state (flash_in s)) (state flash)
+    kept ends.kept
+refused_in state its init c s flash (failed.Unsound law slot) kept ends =
+    refused_for state its init c s flash law slot kept ends.cause
 
 -- While the image is not sound no command is done
-pub moment_stays : (its : Config) (init old new : FlashState) → (IsSoundFlash its init → ⊥) → moment_of old ≡ moment_of init → IsSoundOrSame its old new →
+pub moment_stays : (its : Config) (init old new : FlashState) → (IsSoundFlash its init → ⊥) →
+    moment_of old ≡ moment_of init → IsSoundOrSame its old new →
     moment_of new ≡ moment_of init
-moment_stays its init old new unsound was (inl sound) = absurd (unsound (subst (λ (m : Moment). IsSoundImage its.protocol its.logical (shape_of its) m.image)
+moment_stays its init old new unsound was (inl sound) =
+    absurd (unsound (subst (λ (m : Moment). IsSoundImage its.protocol its.logical (shape_of its) m.image)
     was sound.0))
 moment_stays its init old new unsound was (inr same) = same ∙ was
 
@@ -329,10 +393,19 @@ pub record StaysUnmounted (cs : List Command) (init now : FlashState) (before af
   pub kept : Grew before.kept after.kept (map (told_at (moment_of init)) replies)
   pub faults : CountsBreaks replies init now
 
-pub unmounted_none : (init now : FlashState) (w : Watched) → moment_of now ≡ moment_of init → CountsBreaks [] init now → StaysUnmounted [] init now w w
-unmounted_none init now w same faults = record { replies = []; unmounted = tt; still = same; text = grew_none w.text; kept = grew_none w.kept; faults = faults }
+pub unmounted_none : (init now : FlashState) (w : Watched) → moment_of now ≡ moment_of init → CountsBreaks [] init now →
+    StaysUnmounted [] init now w w
+unmounted_none init now w same faults = record {
+  replies = [];
+  unmounted = tt;
+  still = same;
+  text = grew_none w.text;
+  kept = grew_none w.kept;
+  faults = faults;
+}
 
-pub unmounted_more : {F R : Type 0} (state : F → FlashState) (its : Config) (init : FlashState) (cs : List Command) (c : Command) (r : Reply)
+pub unmounted_more : {F R : Type 0} (state : F → FlashState) (its : Config) (init : FlashState) (cs : List Command)
+    (c : Command) (r : Reply)
     (s t : Session F R) (a b d : Watched) → (IsSoundFlash its init → ⊥) →
     StaysUnmounted cs init (state (flash_in s)) a b → ServesSession state its c s r t → Grew b.text d.text (text_of r) →
     Grew b.kept d.kept (told_at (moment_of (state (flash_in t))) r ∷ []) →
@@ -347,8 +420,10 @@ unmounted_more state its init cs c r s t a b d unsound h serves text kept =
       still = still;
       text = subst (λ (x : List ℕ). Grew a.text d.text x) (sym (text_more h.replies r))
           (grew_more a.text b.text d.text (text_of_all h.replies) (text_of r) h.text text);
-      kept = subst (λ (x : List ToldReply). Grew a.kept d.kept x) (sym (map-append (told_at (moment_of init)) h.replies (r ∷ [])))
-          (grew_more a.kept b.kept d.kept (map (told_at (moment_of init)) h.replies) (told_at (moment_of init) r ∷ []) h.kept
+      kept = subst (λ (x : List ToldReply). Grew a.kept d.kept x)
+          (sym (map-append (told_at (moment_of init)) h.replies (r ∷ [])))
+          (grew_more a.kept b.kept d.kept (map (told_at (moment_of init)) h.replies)
+          (told_at (moment_of init) r ∷ []) h.kept
           (subst (λ (m : Moment). Grew b.kept d.kept (told_at m r ∷ [])) still kept));
       faults = counts_more h.replies r init (state (flash_in s)) (state (flash_in t)) h.faults serves.faults;
     }
@@ -356,7 +431,8 @@ unmounted_more state its init cs c r s t a b d unsound h serves text kept =
 -- and what serving comes to then
 pub unmounted_in : (init now final : FlashState) (list : List Command) (at : ℕ) (a b d : Watched) (why : ServeError) →
     (h : StaysUnmounted (take at list) init now a b) → moment_of final ≡ moment_of init →
-    d.text ≡ b.text → d.kept ≡ b.kept → CountsTold h.replies init final (Err why) → ServesUnsound list init final a d (Err why)
+    d.text ≡ b.text → d.kept ≡ b.kept → CountsTold h.replies init final (Err why) →
+    ServesUnsound list init final a d (Err why)
 unmounted_in init now final list at a b d why h same text kept faults = record {
   told = at;
   replies = h.replies;
@@ -364,21 +440,26 @@ unmounted_in init now final list at a b d why h same text kept faults = record {
   all = tt;
   still = same;
   text = subst (λ (o : Option (List ℕ)). Grew a.text o (text_of_all h.replies)) (sym text) h.text;
-  kept = subst (λ (o : Option (List ToldReply)). Grew a.kept o (map (told_at (moment_of init)) h.replies)) (sym kept) h.kept;
+  kept = subst (λ (o : Option (List ToldReply)). Grew a.kept o (map (told_at (moment_of init)) h.replies))
+      (sym kept) h.kept;
   faults = faults;
 }
 
-refused_counts : {F R : Type 0} (state : F → FlashState) (its : Config) (init : FlashState) (rs : List Reply) (s : Session F R) (flash : F) (law : ℕ)
+refused_counts : {F R : Type 0} (state : F → FlashState) (its : Config) (init : FlashState) (rs : List Reply)
+    (s : Session F R) (flash : F) (law : ℕ)
     (slot : Slot) → CountsBreaks rs init (state (flash_in s)) →
     Refuses state its s flash law slot → CountsBreaks rs init (state flash)
 refused_counts state its init rs (session.Mounted s) flash law slot h ends = absurd ends
-refused_counts state its init rs (session.Unmounted old) flash law slot h ends = counts_later rs init (state old) (state flash) h ends.0.quiet
+refused_counts state its init rs (session.Unmounted old) flash law slot h ends =
+    counts_later rs init (state old) (state flash) h ends.0.quiet
 
-pub ended_counts : {F R : Type 0} (state : F → FlashState) (its : Config) (init : FlashState) (rs : List Reply) (c : Command) (s : Session F R) (flash : F)
+pub ended_counts : {F R : Type 0} (state : F → FlashState) (its : Config) (init : FlashState) (rs : List Reply)
+    (c : Command) (s : Session F R) (flash : F)
     (why : ServeError) → CountsBreaks rs init (state (flash_in s)) →
     EndsServing state its c s flash why → CountsTold rs init (state flash) (Err why)
 ended_counts state its init rs c s flash failed.Memory h ends = tt
-ended_counts state its init rs c s flash (failed.Unsound law slot) h ends = refused_counts state its init rs s flash law slot h ends.cause
+ended_counts state its init rs c s flash (failed.Unsound law slot) h ends =
+    refused_counts state its init rs s flash law slot h ends.cause
 
 pub unmounted_to_the_end : (init now : FlashState) (list : List Command) (at : ℕ) (a b : Watched) → length list ≤ at →
     StaysUnmounted (take at list) init now a b → ServesUnsound list init now a b (Ok tt)

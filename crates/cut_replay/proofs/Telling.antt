@@ -35,24 +35,29 @@ use Rattle.cut_replay.specs.FlashRun.{is_together}
 use Rattle.cut_replay.proofs.Devices.{seen_at, seen_later}
 
 -- the moment stays
-stays_moved : (its : Config) (c : Command) (r : Reply) (old new : FlashState) → moment_of new ≡ moment_of old → MovesBy its c r (moment_of old) (moment_of new)
+stays_moved : (its : Config) (c : Command) (r : Reply) (old new : FlashState) → moment_of new ≡ moment_of old →
+    MovesBy its c r (moment_of old) (moment_of new)
 stays_moved its c r old new same = record {
   moves = subst (λ m. MovesTogether (is_together c) (shape_of its) (moment_of old) (is_break r) m) (sym same)
-      (together_of (is_together c) (shape_of its) (moment_of old) (moment_of old) (is_break r) (Moves-nothing (shape_of its) (moment_of old) (is_break r)));
+      (together_of (is_together c) (shape_of its) (moment_of old) (moment_of old) (is_break r)
+      (Moves-nothing (shape_of its) (moment_of old) (is_break r)));
   still = λ h. same;
 }
 
 -- nothing at all changed
-pub same_serves : {F : Type 0} (state : F → FlashState) (c : Command) (s : DeviceState F) (r : Reply) → is_break r ≡ false → is_fault r ≡ false →
+pub same_serves : {F : Type 0} (state : F → FlashState) (c : Command) (s : DeviceState F) (r : Reply) →
+    is_break r ≡ false → is_fault r ≡ false →
     is_lost r ≡ false →
     DoesCommand (limits_of s.config) (is_spent s.noted.mentions) c s.machine r s.machine →
-    ((faulted : Bool) → (faulted ≡ false → s.unsure ≡ unsure.Nothing) → Tells s.config faulted (point_at state s) r (point_at state s)) →
+    ((faulted : Bool) → (faulted ≡ false → s.unsure ≡ unsure.Nothing) →
+    Tells s.config faulted (point_at state s) r (point_at state s)) →
     ServesHere state c s s r
 same_serves state c s r unbroken whole uncut does tells = record {
   config = refl;
   does = does;
   moves = stays_moved s.config c r (state s.flash) (state s.flash) refl;
-  carries = subst (λ (b : Bool). Carries (state s.flash) (state s.flash) b) (sym whole) (Carries-nothing (state s.flash));
+  carries = subst (λ (b : Bool). Carries (state s.flash) (state s.flash) b) (sym whole)
+      (Carries-nothing (state s.flash));
   tells = tells;
   sure = λ sure h. sure;
   seen = λ seen h. seen_later seen c r s h;
@@ -61,29 +66,38 @@ same_serves state c s r unbroken whole uncut does tells = record {
   whole = uncut;
 }
 
-pub stats_serves : {F : Type 0} (state : F → FlashState) (s : DeviceState F) (told : Stats) → TellsStats s.machine told →
+pub stats_serves : {F : Type 0} (state : F → FlashState) (s : DeviceState F) (told : Stats) →
+    TellsStats s.machine told →
     told.programs ≡ (state s.flash).programs → told.erases ≡ (state s.flash).erases →
     ServesHere state command.Stats s s (reply.Stats told)
 stats_serves state s told machine programs erases =
-    same_serves state command.Stats s (reply.Stats told) refl refl refl (told, machine, refl, refl) (λ faulted h. (programs, erases))
+    same_serves state command.Stats s (reply.Stats told) refl refl refl (
+      told,
+      machine,
+      refl,
+      refl,
+    ) (λ faulted h. (programs, erases))
 
 -- A read
 read_breaks : (page : ℕ) (bytes : List ℕ) (result : Result ReadAnswer ReadError) →
-    (is_break (read_reply page bytes result) ≡ is_read_fault result) × (is_fault (read_reply page bytes result) ≡ is_read_fault result) ×
+    (is_break (read_reply page bytes result) ≡ is_read_fault result)
+    × (is_fault (read_reply page bytes result) ≡ is_read_fault result) ×
     (is_lost (read_reply page bytes result) ≡ false)
 read_breaks page bytes (Ok read.Blank) = (refl, refl, refl)
 read_breaks page bytes (Ok read.Page) = (refl, refl, refl)
 read_breaks page bytes (Err unread.Range) = (refl, refl, refl)
 read_breaks page bytes (Err unread.Fault) = (refl, refl, refl)
 
-read_tells : (its : Config) (faulted : Bool) (old new : Point) (page : ℕ) (bytes : List ℕ) (result : Result ReadAnswer ReadError) →
+read_tells : (its : Config) (faulted : Bool) (old new : Point) (page : ℕ) (bytes : List ℕ)
+    (result : Result ReadAnswer ReadError) →
     Tells its faulted old (read_reply page bytes result) new
 read_tells its faulted old new page bytes (Ok read.Blank) = tt
 read_tells its faulted old new page bytes (Ok read.Page) = tt
 read_tells its faulted old new page bytes (Err unread.Range) = tt
 read_tells its faulted old new page bytes (Err unread.Fault) = tt
 
-read_may : (logical : ℕ) (pages : Pages) (page : ℕ) (bytes : List ℕ) (result : Result ReadAnswer ReadError) → ReadsPage logical pages page bytes result →
+read_may : (logical : ℕ) (pages : Pages) (page : ℕ) (bytes : List ℕ) (result : Result ReadAnswer ReadError) →
+    ReadsPage logical pages page bytes result →
     is_fault (read_reply page bytes result) ≡ true →
     IsSome (page_at pages page)
 read_may logical pages page bytes (Ok read.Blank) reads fault = cc
@@ -92,19 +106,24 @@ read_may logical pages page bytes (Err unread.Range) reads fault = cc
 read_may logical pages page bytes (Err unread.Fault) reads fault = reads.1
 
 -- only the flash changed, and its moment stays
-pub flash_serves : {F : Type 0} (state : F → FlashState) (protocol : Protocol) (old : DeviceState F) (flash : F) (page : ℕ) (bytes : List ℕ)
+pub flash_serves : {F : Type 0} (state : F → FlashState) (protocol : Protocol) (old : DeviceState F) (flash : F)
+    (page : ℕ) (bytes : List ℕ)
     (result : Result ReadAnswer ReadError) →
     (let new : DeviceState F = record old { flash = flash } in
-    HoldsAlways state protocol new → ReadsPage old.config.logical old.machine.pages page bytes result → moment_of (state flash) ≡ moment_of (state old.flash) →
-    Carries (state old.flash) (state flash) (is_read_fault result) → ServesHere state (command.Read page) old new (read_reply page bytes result))
+    HoldsAlways state protocol new → ReadsPage old.config.logical old.machine.pages page bytes result →
+    moment_of (state flash) ≡ moment_of (state old.flash) →
+    Carries (state old.flash) (state flash) (is_read_fault result) →
+    ServesHere state (command.Read page) old new (read_reply page bytes result))
 flash_serves state protocol old flash page bytes result is reads still carries =
     let breaks = read_breaks page bytes result in
     record {
       config = refl;
       does = (bytes, result, reads, refl, refl);
-      moves = stays_moved old.config (command.Read page) (read_reply page bytes result) (state old.flash) (state flash) still;
+      moves = stays_moved old.config (command.Read page) (read_reply page bytes result) (state old.flash)
+          (state flash) still;
       carries = subst (λ (b : Bool). Carries (state old.flash) (state flash) b) (sym breaks.1) carries;
-      tells = λ faulted h. read_tells old.config faulted (point_at state old) (point_at state (record old { flash = flash })) page bytes result;
+      tells = λ faulted h. read_tells old.config faulted (point_at state old)
+          (point_at state (record old { flash = flash })) page bytes result;
       sure = λ sure h. sure;
       seen = λ seen h. record {
         mentions = (seen_later seen (command.Read page) (read_reply page bytes result) old h).mentions;
@@ -112,24 +131,32 @@ flash_serves state protocol old flash page bytes result is reads still carries =
             (seen_later seen (command.Read page) (read_reply page bytes result) old h).names;
       };
       versions = λ p lt. inr (refl, refl);
-      cut = λ fault. record { may = read_may old.config.logical old.machine.pages page bytes result reads fault; leaves = is.same_cut };
+      cut = λ fault. record {
+        may = read_may old.config.logical old.machine.pages page bytes result reads fault;
+        leaves = is.same_cut;
+      };
       whole = breaks.2;
     }
 
-pub read_serves : {F : Type 0} (state : F → FlashState) (protocol : Protocol) (old new : DeviceState F) (page : ℕ) (bytes : List ℕ)
+pub read_serves : {F : Type 0} (state : F → FlashState) (protocol : Protocol) (old new : DeviceState F) (page : ℕ)
+    (bytes : List ℕ)
     (result : Result ReadAnswer ReadError) (r : Reply) →
     HoldsAlways state protocol new → ReadsPage old.config.logical old.machine.pages page bytes result →
     moment_of (state new.flash) ≡ moment_of (state old.flash) →
-    Carries (state old.flash) (state new.flash) (is_read_fault result) → new ≡ record old { flash = new.flash } → r ≡ read_reply page bytes result →
+    Carries (state old.flash) (state new.flash) (is_read_fault result) → new ≡ record old { flash = new.flash } →
+    r ≡ read_reply page bytes result →
     ServesHere state (command.Read page) old new r
 read_serves {F = F} state protocol old new page bytes result r is reads still carries stays told =
     subst (λ (q : Reply). ServesHere state (command.Read page) old new q) (sym told)
-    (subst (λ (s : DeviceState F). ServesHere state (command.Read page) old s (read_reply page bytes result)) (sym stays)
-    (flash_serves state protocol old new.flash page bytes result (subst (λ (s : DeviceState F). HoldsAlways state protocol s) stays is) reads still carries))
+    (subst (λ (s : DeviceState F). ServesHere state (command.Read page) old s (read_reply page bytes result))
+    (sym stays)
+    (flash_serves state protocol old new.flash page bytes result
+    (subst (λ (s : DeviceState F). HoldsAlways state protocol s) stays is) reads still carries))
 
 -- A write
 write_unbroken : (tag pages : ℕ) (result : Result (Unit {0}) SubmitError) →
-    (is_break (submit_reply tag pages result) ≡ false) × (is_fault (submit_reply tag pages result) ≡ false) × (is_lost (submit_reply tag pages result) ≡ false)
+    (is_break (submit_reply tag pages result) ≡ false) × (is_fault (submit_reply tag pages result) ≡ false)
+    × (is_lost (submit_reply tag pages result) ≡ false)
 write_unbroken tag pages (Ok u) = (refl, refl, refl)
 write_unbroken tag pages (Err refused.Empty) = (refl, refl, refl)
 write_unbroken tag pages (Err (refused.Range page)) = (refl, refl, refl)
@@ -139,7 +166,8 @@ write_unbroken tag pages (Err (refused.Overlap page owner)) = (refl, refl, refl)
 write_unbroken tag pages (Err (refused.Full free)) = (refl, refl, refl)
 write_unbroken tag pages (Err (refused.Spent page)) = (refl, refl, refl)
 
-write_tells : (its : Config) (faulted : Bool) (old new : Point) (tag pages : ℕ) (result : Result (Unit {0}) SubmitError) →
+write_tells : (its : Config) (faulted : Bool) (old new : Point) (tag pages : ℕ)
+    (result : Result (Unit {0}) SubmitError) →
     Tells its faulted old (submit_reply tag pages result) new
 write_tells its faulted old new tag pages (Ok u) = tt
 write_tells its faulted old new tag pages (Err refused.Empty) = tt
@@ -150,11 +178,13 @@ write_tells its faulted old new tag pages (Err (refused.Overlap page owner)) = t
 write_tells its faulted old new tag pages (Err (refused.Full free)) = tt
 write_tells its faulted old new tag pages (Err (refused.Spent page)) = tt
 
-opened_pages : (o : Option SubmitError) (tag : ℕ) (ws : List PageWrite) (s : ArrayState) → (opened o tag ws s).pages ≡ s.pages
+opened_pages : (o : Option SubmitError) (tag : ℕ) (ws : List PageWrite) (s : ArrayState) →
+    (opened o tag ws s).pages ≡ s.pages
 opened_pages None tag ws s = refl
 opened_pages (Some e) tag ws s = refl
 
-pins_current : (n : IndexState) (pins : List ℕ) (page : ℕ) → current_of (record n { pins = pins }) page ≡ current_of n page
+pins_current : (n : IndexState) (pins : List ℕ) (page : ℕ) → current_of (record n { pins = pins }) page
+    ≡ current_of n page
 unfolding current_of
 pins_current n pins page = refl
 
@@ -163,7 +193,8 @@ counts_step : (b : Bool) (n : ℕ) → n ≤ cond b 1 0 + n
 counts_step true n = omega arith
 counts_step false n = omega arith
 
-named_in : (n : IndexState) (ws : List PageWrite) (page version : ℕ) (name : Link) → Contains (map (next_name n) ws) name → name.page ≡ page →
+named_in : (n : IndexState) (ws : List PageWrite) (page version : ℕ) (name : Link) →
+    Contains (map (next_name n) ws) name → name.page ≡ page →
     name.version ≡ version →
     (version ≡ mention_of n page + 1) × (1 ≤ count_by (is_of page) ws)
 named_in n [] page version name c same at = absurd (Contains-nil name c)
@@ -174,8 +205,10 @@ named_in n (w ∷ ws) page version name c same at =
       | inl e ↦ (
           let here : w.page ≡ page = ap (λ (x : Link). x.page) e ∙ same in
           let is : is_of page w ≡ true = eq-eqb w.page page here in
-          let one : ◌≡◌ {A = ℕ} (cond {A = ℕ} (is_of page w) 1 0) 1 = ap (λ (b : Bool). cond {A = ℕ} b 1 0) is in
-          (sym at ∙ ap (λ (x : Link). x.version) (sym e) ∙ ap (λ p. mention_of n p + 1) here, omega (arith, split, one)))
+          let one : ◌≡◌ {A = ℕ} (cond {A = ℕ} (is_of page w) 1 0) 1 = ap (λ (b : Bool). cond {A = ℕ} b 1 0) is in (
+            sym at ∙ ap (λ (x : Link). x.version) (sym e) ∙ ap (λ p. mention_of n p + 1) here,
+            omega (arith, split, one),
+          ))
       | inr i ↦ (
           let rest = named_in n ws page version name i same at in
           let more = counts_step (is_of page w) (count_by (is_of page) ws) in
@@ -183,32 +216,41 @@ named_in n (w ∷ ws) page version name c same at =
     ]
 
 -- the names once a batch was opened: those of before, and those of its pages
-named_after_seen : {F : Type 0} (old new : DeviceState F) (seen : ℕ → ℕ) (tag : ℕ) (batch : Writes) (result : Result (Unit {0}) SubmitError) → IsSeen seen old →
-    new.namings ≡ named_after old.noted batch.entries result old.namings → (page version : ℕ) → IsNamedAt new.namings page version →
+named_after_seen : {F : Type 0} (old new : DeviceState F) (seen : ℕ → ℕ) (tag : ℕ) (batch : Writes)
+    (result : Result (Unit {0}) SubmitError) → IsSeen seen old →
+    new.namings ≡ named_after old.noted batch.entries result old.namings → (page version : ℕ) →
+    IsNamedAt new.namings page version →
     version ≤ seen_after seen (command.Write tag batch) (submit_reply tag (length batch.entries) result) page
 named_after_seen old new seen tag batch (Err e) h names page version named =
-    let before : IsNamedAt old.namings page version = subst (λ (x : List Naming). IsNamedAt x page version) names named in
+    let before : IsNamedAt old.namings page version = subst (λ (x : List Naming). IsNamedAt x page version)
+    names named in
     let most = h.names page version before in
-    let least = seen_at seen (command.Write tag batch) (submit_reply tag (length batch.entries) (Err e)) page in omega arith
+    let least = seen_at seen (command.Write tag batch) (submit_reply tag (length batch.entries) (Err e)) page in
+    omega arith
 named_after_seen old new seen tag batch (Ok u) h names page version named =
     let at = in_any (λ x. Any (λ name. (name.page ≡ page) × (name.version ≡ version)) x.names) new.namings named in
     let mine : Naming = record { names = map (next_name old.noted) batch.entries; noted_count = 0 } in
-    let where_from = Contains-push_cases old.namings mine at.0 (subst (λ (x : List Naming). Contains x at.0) names at.1) in
+    let where_from = Contains-push_cases old.namings mine at.0
+    (subst (λ (x : List Naming). Contains x at.0) names at.1) in
     elim where_from [
       | inl before ↦ (let most = h.names page version (any_in (λ x. Any (λ name. (name.page ≡ page) ×
           (name.version ≡ version)) x.names) old.namings at.0 before at.2) in omega arith)
       | inr same ↦ (
-          let name = in_any (λ (name : Link). (name.page ≡ page) × (name.version ≡ version)) (map (next_name old.noted) batch.entries)
-          (subst (λ (x : Naming). Any (λ name. (name.page ≡ page) × (name.version ≡ version)) x.names) (sym same) at.2) in
+          let name = in_any (λ (name : Link). (name.page ≡ page) × (name.version ≡ version))
+          (map (next_name old.noted) batch.entries)
+          (subst (λ (x : Naming). Any (λ name. (name.page ≡ page) × (name.version ≡ version)) x.names)
+          (sym same) at.2) in
           let both = named_in old.noted batch.entries page version name.0 name.1 name.2.0 name.2.1 in
           let most = h.mentions page in omega (arith, both.0, both.1, most))
     ]
 
-pub write_serves : {F : Type 0} (state : F → FlashState) (old new : DeviceState F) (tag : ℕ) (batch : Writes) (result : Result (Unit {0}) SubmitError)
+pub write_serves : {F : Type 0} (state : F → FlashState) (old new : DeviceState F) (tag : ℕ) (batch : Writes)
+    (result : Result (Unit {0}) SubmitError)
     (r : Reply) →
     Submits (limits_of old.config) (is_spent old.noted.mentions) old.machine new.machine tag batch.entries result →
     new.namings ≡ named_after old.noted batch.entries result old.namings →
-    KeepsTables old new → r ≡ submit_reply tag (length batch.entries) result → ServesHere state (command.Write tag batch) old new r
+    KeepsTables old new → r ≡ submit_reply tag (length batch.entries) result →
+    ServesHere state (command.Write tag batch) old new r
 write_serves {F = F} state old new tag batch result r submits names keeps told =
     let reply = submit_reply tag (length batch.entries) result in
     let breaks = write_unbroken tag (length batch.entries) result in
@@ -216,36 +258,44 @@ write_serves {F = F} state old new tag batch result r submits names keeps told =
     subst (λ (q : Reply). ServesHere state (command.Write tag batch) old new q) (sym told) (record {
       config = keeps.config;
       does = (result, submits, refl);
-      moves = stays_moved old.config (command.Write tag batch) reply (state old.flash) (state new.flash) (ap moment_of flash);
+      moves = stays_moved old.config (command.Write tag batch) reply (state old.flash) (state new.flash)
+          (ap moment_of flash);
       carries = subst (λ (b : Bool). Carries (state old.flash) (state new.flash) b) (sym breaks.1)
-          (subst (λ (s : FlashState). Carries (state old.flash) s false) (sym flash) (Carries-nothing (state old.flash)));
-      tells = λ faulted h. write_tells old.config faulted (point_at state old) (point_at state new) tag (length batch.entries) result;
+          (subst (λ (s : FlashState). Carries (state old.flash) s false) (sym flash)
+          (Carries-nothing (state old.flash)));
+      tells = λ faulted h. write_tells old.config faulted (point_at state old) (point_at state new) tag
+          (length batch.entries) result;
       sure = λ sure h. keeps.unsure ∙ sure;
       seen = λ seen h. record {
-        mentions = λ page. (let same : mention_of new.noted page ≡ mention_of old.noted page = ap (λ (n : IndexState). mention_of n page) keeps.noted in
+        mentions = λ page. (let same : mention_of new.noted page
+            ≡ mention_of old.noted page = ap (λ (n : IndexState). mention_of n page) keeps.noted in
             let least = seen_at seen (command.Write tag batch) reply page in let most = h.mentions page in omega arith);
         names = named_after_seen old new seen tag batch result h names;
       };
       versions = λ page lt. inr (
         ap (λ (n : IndexState). current_of n page) keeps.noted ∙ pins_current old.noted new.noted.pins page,
         ap (λ (m : ArrayState). page_at m.pages page) submits.opens ∙ ap (λ (x : Pages). page_at x page)
-            (opened_pages (refusal (limits_of old.config) (is_spent old.noted.mentions) old.machine.entries tag batch.entries) tag batch.entries old.machine),
+            (opened_pages (refusal (limits_of old.config) (is_spent old.noted.mentions) old.machine.entries tag
+            batch.entries) tag batch.entries old.machine),
       );
       cut = λ fault. (let not = breaks.1 in cc);
       whole = breaks.2;
     })
 
 -- the reply of a write whose answer is known
-pub told_opened : (tag pages count : ℕ) (u : Unit {0}) (result : Result (Unit {0}) SubmitError) → count ≡ pages → result ≡ Ok u →
+pub told_opened : (tag pages count : ℕ) (u : Unit {0}) (result : Result (Unit {0}) SubmitError) → count ≡ pages →
+    result ≡ Ok u →
     reply.Opened tag count ≡ submit_reply tag pages result
 told_opened tag pages count u result same is = ap (λ n. reply.Opened tag n) same ∙ ap (submit_reply tag pages) (sym is)
 
-pub told_refused : (tag pages : ℕ) (e : SubmitError) (result : Result (Unit {0}) SubmitError) (r : Reply) → r ≡ submit_reply tag pages (Err e) →
+pub told_refused : (tag pages : ℕ) (e : SubmitError) (result : Result (Unit {0}) SubmitError) (r : Reply) →
+    r ≡ submit_reply tag pages (Err e) →
     result ≡ Err e → r ≡ submit_reply tag pages result
 told_refused tag pages e result r told is = told ∙ ap (submit_reply tag pages) (sym is)
 
 -- a read whose reply there was memory for
-pub reads_serve : {F : Type 0} (state : F → FlashState) (protocol : Protocol) (old new : DeviceState F) (page : ℕ) (bytes : List ℕ)
+pub reads_serve : {F : Type 0} (state : F → FlashState) (protocol : Protocol) (old new : DeviceState F) (page : ℕ)
+    (bytes : List ℕ)
     (result : Result ReadAnswer ReadError) (r : Result Reply Memory) →
     HoldsAlways state protocol new → ReadsPage old.config.logical old.machine.pages page bytes result →
     moment_of (state new.flash) ≡ moment_of (state old.flash) →

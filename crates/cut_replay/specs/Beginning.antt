@@ -10,9 +10,9 @@ use Rattle.cut_replay.specs.Sessions.{point_of, flash_in, IsSoundFlash, StandsAt
 use Rattle.cut_replay.specs.declared.session.Session.{Session}
 use Rattle.cut_replay.specs.declared.session.Session.TheVariants as session
 
--- It is at the opening point of a flash whose image is sound, mounted or not. It is mounted where the
--- flash is live and tells that no break is to come. No more is to come.
--- No fault was counted where nothing breaks before the first command; else that count did not fall.
+-- It is at the first point of a flash whose image is sound, mounted or not. It is mounted where the flash is live and
+-- tells that no break is to come. No more is to come. No fault was counted where nothing breaks before the first
+-- command; else that count did not fall.
 pub record Begins {F R : Type 0}
     (state : F → FlashState) (its : Config) (init : FlashState) (s : Session F R) : Type 0 where
   pub sound : IsSoundFlash its init

@@ -15,7 +15,7 @@ pub record AreSpent (cs : List Command) (rs : List Reply) (old new : Told) : Typ
   pub cuts : count_by is_cut rs + new.cuts ≤ old.cuts + count_by arms_cut cs
   pub breaks : count_by is_fault rs + new.breaks ≤ old.breaks + count_by arms_fault cs
 
--- where a flash tells what is to come, so many cuts and faults were met
+-- where a flash tells what is to come, this many cuts and faults were met
 abbrev pub SpendsTold : List Command → List Reply → Option Told → Option Told → Type 0
 SpendsTold cs rs old new = BothTell (AreSpent cs rs) old new
 

@@ -19,7 +19,7 @@ abbrev pub MountsAfter : Point → Reply → Point → ℕ → ℕ → Type 0
 MountsAfter old r new before now =
     IsMountedAgain old r new ⊎ ((is_lost r ≡ true) × (counted_by 2 before ≤ now))
 
--- in a run from this point so many mounts after such replies met a fault
+-- in a run from this point this many mounts after such replies met a fault
 abbrev pub FailedMounts : Point → List Reply → List Point → ℕ → Type 0
 FailedMounts old [] [] failed = failed ≡ 0
 FailedMounts old (r ∷ rs) (p ∷ ps) failed =

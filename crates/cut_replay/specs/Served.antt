@@ -23,11 +23,10 @@ pub record Watched : Type 0 where
   pub text : Option (List ℕ)
   pub kept : Option (List ToldReply)
 
--- There is one run on the flash over these commands. Its last moment is that of the flash that
--- comes back. Of its replies the first so many were told, each with its moment. Where a command was
--- served and the flash was live and told that no break was to come, the run begins mounted. When the
--- reply `cut` or `dropped` of a command that was done is told, the device is mounted again, unless the
--- mount met a fault.
+-- There is one run on the flash over these commands. Its last moment is that of the flash that comes back. Of its
+-- replies the first `told` were told, each with its moment. Where a command was served and the flash was live and told
+-- that no break was to come, the run begins mounted. When the reply `cut` or `dropped` of a command that was done is
+-- told, the device is mounted again, unless the mount met a fault.
 pub record ServesRun
     (its : Config) (cs : List Command) (told : ℕ) (old new : FlashState)
     (before after : Watched) : Type 0 where
@@ -67,9 +66,9 @@ abbrev pub CountsTold : List Reply → FlashState → FlashState → Result (Uni
 CountsTold replies old new (Err failed.Memory) = Unit {0}
 CountsTold replies old new _ = CountsBreaks replies old new
 
--- What serving comes to where the image handed in was not sound: no command is done, and nothing is
--- written. The first so many commands were answered, all of them where the answer is Ok, and this
--- was told, each reply with the moment handed in.
+-- What serving comes to where the image handed in was not sound: no command is done, and nothing is written. The first
+-- `told` commands were answered, all of them where the answer is Ok, and this was told, each reply with the moment
+-- handed in.
 pub record ServesUnsound
     (cs : List Command) (old new : FlashState) (before after : Watched)
     (result : Result (Unit {0}) ServeError) : Type 0 where

@@ -1,8 +1,7 @@
 ghost use Rattle.std.specs.Prelude.{◌≡◌, Ok, IfOk, IfErr, OnOk, [], false};
 ghost use Rattle.tx_types.specs.Config.{checked};
 ghost use Rattle.flash_model.specs.Arms.{TurnsOn};
-ghost use Rattle.cut_replay.specs.Sessions.{flash_in, left, Mounted, Unmounted, Follows};
-ghost use Rattle.cut_replay.specs.Sessions.{FollowsLoss};
+ghost use Rattle.cut_replay.specs.Sessions.{flash_in, left, Mounted, Unmounted, Follows, FollowsLoss};
 
 use crate::ServeError;
 use crate::session::{Ended, Session};

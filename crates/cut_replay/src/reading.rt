@@ -1,5 +1,4 @@
 ghost use Rattle.std.specs.Prelude.{◌≡◌, ◌<◌, true, false, Some, length, IfOk, OnErr};
-ghost use Rattle.flash_model.specs.Operations.{moment_of};
 ghost use Rattle.flash_model.specs.Calls.{Carries};
 ghost use Rattle.array_machine.specs.ArrayState.{page_at};
 ghost use Rattle.tx_engine.specs.Read.{is_read_fault};

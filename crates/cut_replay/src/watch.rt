@@ -1,6 +1,6 @@
 ghost use Rattle.std.specs.Prelude.{◌≡◌, ℕ, List, [], ◌∷◌, Option, OnOk, OnErr};
-ghost use Rattle.flash_model.specs.Operations.{moment_of};
 ghost use Rattle.host_protocol.specs.Replies.{text_of};
+ghost use Rattle.flash_model.specs.Operations.{moment_of};
 ghost use Rattle.cut_replay.specs.Watching.{ToldReply, Grew};
 
 use flash_model::Flash;

@@ -25,7 +25,8 @@ level_start_whole zero l = absurd (omega arith)
 level_start_whole (suc levels) l = (level_start levels, refl)
 
 -- so do the cells over those, where there is another level
-level_start_twice : (levels : ℕ) → 0 < levels → (level_start levels ≡ 1) ⊎ ((m : ℕ) × (level_start levels ≡ 16 * (16 * m + 1) + 1))
+level_start_twice : (levels : ℕ) → 0 < levels → (level_start levels ≡ 1)
+    ⊎ ((m : ℕ) × (level_start levels ≡ 16 * (16 * m + 1) + 1))
 level_start_twice zero l = absurd (omega arith)
 level_start_twice (suc zero) l = inl refl
 level_start_twice (suc (suc levels)) l = inr (level_start levels, refl)
@@ -35,12 +36,14 @@ abbrev pub over_256 : ℕ → ℕ → ℕ
 over_256 start group = (start - 1) / 256 + group
 
 -- a number that stands in a list has a first place there
-pub first_place : (xs : List ℕ) (number k : ℕ) → k < length xs → get_or xs k 0 ≡ number → (n : ℕ) × (position (λ x. eqb x number) xs ≡ Some n)
+pub first_place : (xs : List ℕ) (number k : ℕ) → k < length xs → get_or xs k 0 ≡ number →
+    (n : ℕ) × (position (λ x. eqb x number) xs ≡ Some n)
 first_place xs number k l is =
     let first = position_or_len (λ x. eqb x number) xs in
     elim (cases_lt first (length xs)) [
       | inl low ↦ let inside : ltb first (length xs) ≡ true = grind (arith, nat_tests) in (first, rw inside refl)
-      | inr past ↦ let fails = fails_before_first (λ x. eqb x number) xs k 0 (omega arith) in absurd (grind (arith, nat_tests))
+      | inr past ↦ let fails = fails_before_first (λ x. eqb x number) xs k 0 (omega arith) in
+          absurd (grind (arith, nat_tests))
     ]
 
 -- on the way down: this cell of a level has the greatest number, and those before it in the level are less
@@ -51,9 +54,11 @@ pub record IsOnWay (cells : List ℕ) (level from place : ℕ) : Type 0 where
   pub here : get_or cells (from + place) 0 ≡ get_or cells 0 0
   pub first : (k : ℕ) → k < place → get_or cells (from + k) 0 < get_or cells 0 0
 
-module _ (cells : List ℕ) (levels start : ℕ) (shape : IsShape levels start (length cells)) (peaks : AreAllPeaks cells start) where
+module _ (cells : List ℕ) (levels start : ℕ) (shape : IsShape levels start (length cells))
+    (peaks : AreAllPeaks cells start) where
   -- no cell is greater than the one over it
-  pub at_most_over : (cell : ℕ) → 0 < cell → cell < length cells → get_or cells cell 0 ≤ get_or cells ((cell - 1) / 16) 0
+  pub at_most_over : (cell : ℕ) → 0 < cell → cell < length cells →
+      get_or cells cell 0 ≤ get_or cells ((cell - 1) / 16) 0
   at_most_over cell later l =
       let over = (cell - 1) / 16 in
       let low : over < start = omega (arith, shape.most) in
@@ -87,15 +92,18 @@ module _ (cells : List ℕ) (levels start : ℕ) (shape : IsShape levels start (
 
   -- one of the cells under it has the greatest number too
   pub peak_under : (level from place : ℕ) → IsOnWay cells level from place → level < levels → 0 < get_or cells 0 0
-      → (k : ℕ) × (k < length (under cells (from + place))) × (get_or (under cells (from + place)) k 0 ≡ get_or cells 0 0)
+      → (k : ℕ) × (k < length (under cells (from + place)))
+      × (get_or (under cells (from + place)) k 0 ≡ get_or cells 0 0)
   peak_under level from place way l some =
-      let is : greatest (under cells (from + place)) ≡ get_or cells 0 0 = sym (peaks (from + place) (way_above level from place way l)) ∙ way.here in
+      let is : greatest (under cells (from + place)) ≡ get_or cells 0 0 =
+      sym (peaks (from + place) (way_above level from place way l)) ∙ way.here in
       let stands = greatest_stands (under cells (from + place)) (omega arith) in
       (stands.0, stands.1, stands.2 ∙ is)
 
   -- and the way goes on at the first such one
   pub way_down : (level from place k : ℕ) → IsOnWay cells level from place → level < levels
-      → position (λ x. eqb x (get_or cells 0 0)) (under cells (from + place)) ≡ Some k → IsOnWay cells (level + 1) (16 * from + 1) (16 * place + k)
+      → position (λ x. eqb x (get_or cells 0 0)) (under cells (from + place)) ≡ Some k →
+      IsOnWay cells (level + 1) (16 * from + 1) (16 * place + k)
   way_down level from place k way l found =
       let at = position-Some (λ x. eqb x (get_or cells 0 0)) (under cells (from + place)) k 0 found in
       let long = length-under cells (from + place) in
@@ -116,11 +124,13 @@ module _ (cells : List ℕ) (levels start : ℕ) (shape : IsShape levels start (
           | inr high ↦
               let m = j - 16 * place in
               let is_cell : 16 * (from + place) + 1 + m ≡ 16 * from + 1 + j = omega arith in
-              let reads = get_or-under cells (from + place) m (omega (arith, at.0)) ∙ ap (λ c. get_or cells c 0) is_cell in
+              let reads = get_or-under cells (from + place) m (omega (arith, at.0))
+              ∙ ap (λ c. get_or cells c 0) is_cell in
               let most = at_most_greatest (under cells (from + place)) m (omega (arith, at.0)) in
               let peak = peaks (from + place) (way_above level from place way l) in
               let same = way.here in
-              let other : get_or (under cells (from + place)) m 0 ≢ get_or cells 0 0 = grind (arith, nat_tests, at.2 m (omega arith)) in
+              let other : get_or (under cells (from + place)) m 0 ≢ get_or cells 0 0 =
+              grind (arith, nat_tests, at.2 m (omega arith)) in
               omega arith
         ];
       }
@@ -143,7 +153,8 @@ module _ (cells : List ℕ) (levels start : ℕ) (shape : IsShape levels start (
       let number = get_or-drop start cells place 0 ∙ ap (λ n. get_or cells (n + place) 0) (sym same) ∙ way.here in (
         record {
           within = let l = way.within in omega (arith, length-drop start cells);
-          greatest = λ k d l. let most = number_at_most_first k l in rw (get_or_default (drop start cells) k d 0 l, number) most;
+          greatest = λ k d l. let most = number_at_most_first k l in
+              rw (get_or_default (drop start cells) k d 0 l, number) most;
           first = λ k l. let less = rw same at (way.first k l) in rw (get_or-drop start cells k 0, number) less;
         },
         number,
@@ -151,12 +162,15 @@ module _ (cells : List ℕ) (levels start : ℕ) (shape : IsShape levels start (
 
   -- all numbers are 0 where the first cell is
   pub all_zero : get_or cells 0 0 ≡ 0 → All (λ x. x ≡ 0) (drop start cells)
-  all_zero none k d l = let most = number_at_most_first k l in rw (get_or_default (drop start cells) k d 0 l) (omega arith)
+  all_zero none k d l = let most = number_at_most_first k l in
+      rw (get_or_default (drop start cells) k d 0 l) (omega arith)
 
-module _ (cells : List ℕ) (levels start : ℕ) (shape : IsShape levels start (length cells)) (peaks : AreAllPeaks cells start) where
+module _ (cells : List ℕ) (levels start : ℕ) (shape : IsShape levels start (length cells))
+    (peaks : AreAllPeaks cells start) where
   -- a cell is at most what each one under it is
   at_most_under : (cell m : ℕ) → cell < start
-      → ((k : ℕ) → k < 16 → 16 * cell + 1 + k < length cells → get_or cells (16 * cell + 1 + k) 0 ≤ m) → get_or cells cell 0 ≤ m
+      → ((k : ℕ) → k < 16 → 16 * cell + 1 + k < length cells → get_or cells (16 * cell + 1 + k) 0 ≤ m) →
+      get_or cells cell 0 ≤ m
   at_most_under cell m low h =
       rw (peaks cell low) (greatest_at_most (under cells cell) m (λ k l.
       let long = length-under cells cell in
@@ -166,7 +180,8 @@ module _ (cells : List ℕ) (levels start : ℕ) (shape : IsShape levels start (
     abbrev most : ℕ
     most = greatest (group_of 256 (drop start cells) group)
 
-    number_at_most : (i : ℕ) → i < 256 → start + (256 * group + i) < length cells → get_or cells (start + (256 * group + i)) 0 ≤ most
+    number_at_most : (i : ℕ) → i < 256 → start + (256 * group + i) < length cells →
+        get_or cells (start + (256 * group + i)) 0 ≤ most
     number_at_most i low within =
         let all = length-drop start cells in
         let long = length-group 256 (drop start cells) group in
@@ -174,12 +189,14 @@ module _ (cells : List ℕ) (levels start : ℕ) (shape : IsShape levels start (
         let reads = get_or-group 256 (drop start cells) group i low ∙ get_or-drop start cells (256 * group + i) 0 in
         omega arith
 
-    most_at_most : (m : ℕ) → ((i : ℕ) → i < 256 → start + (256 * group + i) < length cells → get_or cells (start + (256 * group + i)) 0 ≤ m)
+    most_at_most : (m : ℕ) → ((i : ℕ) → i < 256 → start + (256 * group + i) < length cells →
+        get_or cells (start + (256 * group + i)) 0 ≤ m)
         → most ≤ m
     most_at_most m h = greatest_at_most (group_of 256 (drop start cells) group) m (λ i l.
         let all = length-drop start cells in
         let long = length-group 256 (drop start cells) group in
-        rw (get_or-group 256 (drop start cells) group i (omega arith), get_or-drop start cells (256 * group + i) 0) (h i (omega arith) (omega arith)))
+        rw (get_or-group 256 (drop start cells) group i (omega arith), get_or-drop start cells (256 * group + i) 0)
+        (h i (omega arith) (omega arith)))
 
   -- where there is one level the first cell is over all numbers
   one_level : start ≡ 1 → get_or cells 0 0 ≡ most 0
@@ -188,11 +205,13 @@ module _ (cells : List ℕ) (levels start : ℕ) (shape : IsShape levels start (
       let place : 1 + k ≡ start + (256 * 0 + k) = omega arith in
       rw place (number_at_most 0 k (omega arith) (omega arith))) in
       let high = most_at_most 0 (get_or cells 0 0) (λ i l within.
-      at_most_first cells levels start shape peaks (suc (start + (256 * 0 + i))) (start + (256 * 0 + i)) (omega arith) within) in
+      at_most_first cells levels start shape peaks (suc (start + (256 * 0 + i))) (start + (256 * 0 + i))
+      (omega arith) within) in
       omega arith
 
   -- and else one two levels above 256 of them
-  two_levels : (m group : ℕ) → start ≡ 16 * (16 * m + 1) + 1 → 256 * group < length (drop start cells) → get_or cells (m + group) 0 ≡ most group
+  two_levels : (m group : ℕ) → start ≡ 16 * (16 * m + 1) + 1 → 256 * group < length (drop start cells) →
+      get_or cells (m + group) 0 ≡ most group
   two_levels m group is l =
       let all = length-drop start cells in
       let size = shape.most in
@@ -205,7 +224,8 @@ module _ (cells : List ℕ) (levels start : ℕ) (shape : IsShape levels start (
       let under_it : (cell - 1) / 16 ≡ 16 * (m + group) + 1 + i / 16 = omega arith in
       let over_it : (16 * (m + group) + 1 + i / 16 - 1) / 16 ≡ m + group = omega arith in
       let first = rw under_it at (at_most_over cells levels start shape peaks cell (omega arith) within) in
-      let next = rw over_it at (at_most_over cells levels start shape peaks (16 * (m + group) + 1 + i / 16) (omega arith) (omega arith)) in
+      let next = rw over_it at (at_most_over cells levels start shape peaks (16 * (m + group) + 1 + i / 16)
+      (omega arith) (omega arith)) in
       omega arith) in
       omega arith
 
@@ -227,8 +247,10 @@ module _ (cells : List ℕ) (levels start : ℕ) (shape : IsShape levels start (
       ]
 
 -- under the cell over a sixteen of the numbers stand those
-pub sixteen_under : (cells : List ℕ) (levels start : ℕ) → IsShape levels start (length cells) → (sixteen : ℕ) → 16 * sixteen < length (drop start cells)
-    → ((start - 1) / 16 + sixteen < start) × (under cells ((start - 1) / 16 + sixteen) ≡ group_of 16 (drop start cells) sixteen)
+pub sixteen_under : (cells : List ℕ) (levels start : ℕ) → IsShape levels start (length cells) → (sixteen : ℕ) →
+    16 * sixteen < length (drop start cells)
+    → ((start - 1) / 16 + sixteen < start) × (under cells ((start - 1) / 16 + sixteen)
+    ≡ group_of 16 (drop start cells) sixteen)
 unfolding group_of under
 sixteen_under cells levels start shape sixteen l =
     let long = length-drop start cells in
@@ -239,32 +261,41 @@ sixteen_under cells levels start shape sixteen l =
     (low, ap (take 16) (ap (λ n. drop n cells) whole ∙ sym (drop-drop (16 * sixteen) start cells)))
 
 -- there is a cell above the numbers
-pub some_cells : (cells : List ℕ) (levels start : ℕ) → IsShape levels start (length cells) → (0 < start) × (0 < length cells)
+pub some_cells : (cells : List ℕ) (levels start : ℕ) → IsShape levels start (length cells) →
+    (0 < start) × (0 < length cells)
 some_cells cells levels start shape =
     let below = level_start_below 0 levels shape.levels_least in
     (omega (arith, shape.begins), omega (arith, shape.begins, shape.least))
 
 -- with the greatest of all in the first cell the numbers are the same
-pub rooted_shape : (cells : List ℕ) (levels start : ℕ) → IsShape levels start (length cells) → IsShape levels start (length (rooted cells))
+pub rooted_shape : (cells : List ℕ) (levels start : ℕ) → IsShape levels start (length cells) →
+    IsShape levels start (length (rooted cells))
 rooted_shape cells levels start shape = rw (length-set cells 0 (greatest (under cells 0))) shape
 
-pub rooted_numbers : (cells : List ℕ) (levels start : ℕ) → IsShape levels start (length cells) → drop start (rooted cells) ≡ drop start cells
-rooted_numbers cells levels start shape = drop-set-lt start cells 0 (greatest (under cells 0)) (some_cells cells levels start shape).0
+pub rooted_numbers : (cells : List ℕ) (levels start : ℕ) → IsShape levels start (length cells) →
+    drop start (rooted cells) ≡ drop start cells
+rooted_numbers cells levels start shape = drop-set-lt start cells 0 (greatest (under cells 0))
+    (some_cells cells levels start shape).0
 
 -- and each cell above them is the greatest of those under it
-pub all_peaks : (cells : List ℕ) (levels top start : ℕ) → IsShape levels start (length cells) → IsTop top → ArePeaks cells top start
+pub all_peaks : (cells : List ℕ) (levels top start : ℕ) → IsShape levels start (length cells) → IsTop top →
+    ArePeaks cells top start
     → AreAllPeaks (rooted cells) start
 all_peaks cells levels top start shape one peaks =
-    rooted_peaks cells top start (elim one [ inl none ↦ omega arith | inr first ↦ omega arith ]) (some_cells cells levels start shape).1 peaks
+    rooted_peaks cells top start (elim one [ inl none ↦ omega arith | inr first ↦ omega arith ])
+    (some_cells cells levels start shape).1 peaks
 
 -- the greatest of those under the cell over a group of 256 numbers is that of the group
-pub group_under : (cells : List ℕ) (levels top start : ℕ) → IsShape levels start (length cells) → IsTop top → ArePeaks cells top start → (group : ℕ)
+pub group_under : (cells : List ℕ) (levels top start : ℕ) → IsShape levels start (length cells) → IsTop top →
+    ArePeaks cells top start → (group : ℕ)
     → 256 * group < length (drop start cells)
-    → (over_256 start group < start) × (greatest (under cells (over_256 start group)) ≡ greatest (group_of 256 (drop start cells) group))
+    → (over_256 start group < start) × (greatest (under cells (over_256 start group))
+    ≡ greatest (group_of 256 (drop start cells) group))
 group_under cells levels top start shape one peaks group l =
     let numbers = rooted_numbers cells levels start shape in
     let all = all_peaks cells levels top start shape one peaks in
-    let over = over_group (rooted cells) levels start (rooted_shape cells levels start shape) all group (rw numbers l) in
+    let over = over_group (rooted cells) levels start (rooted_shape cells levels start shape) all group
+    (rw numbers l) in
     let place = over_256 start group in (
       over.0,
       sym (ap greatest (under-set_first cells place (greatest (under cells 0)))) ∙ sym (all place over.0)

@@ -11,7 +11,8 @@ use Rattle.std.proofs.lemmas.List.Sums.{position_or_len_is}
 use Rattle.dense_tables.specs.Links.{path, IsLinked}
 
 -- what follows the first place of a list is a linked list, and the first place its root
-pub linked_rest : (next before : List ℕ) (root x : ℕ) (xs : List ℕ) → IsLinked next before root (x ∷ xs) → IsLinked next before x xs
+pub linked_rest : (next before : List ℕ) (root x : ℕ) (xs : List ℕ) → IsLinked next before root (x ∷ xs) →
+    IsLinked next before x xs
 linked_rest next before root x xs h = record {
   within = λ k below. h.within (suc k) (omega arith);
   forth = λ k below. h.forth (suc k) (omega arith);
@@ -19,7 +20,8 @@ linked_rest next before root x xs h = record {
 }
 
 -- following `next` from the root on gives the list
-pub path_is : (next before : List ℕ) (root : ℕ) (xs : List ℕ) (fuel : ℕ) → IsLinked next before root xs → length xs ≤ fuel
+pub path_is : (next before : List ℕ) (root : ℕ) (xs : List ℕ) (fuel : ℕ) → IsLinked next before root xs →
+    length xs ≤ fuel
     → path next (length before) fuel (get_or next root 0) ≡ xs
 unfolding path
 path_is next before root [] zero h fits = refl
@@ -32,13 +34,16 @@ path_is next before root (x ∷ xs) (suc fuel) h fits =
     let first : get_or next root 0 ≡ x = h.forth 0 (omega arith) in
     let below : x < length before = h.within 0 (omega arith) in
     let is_place : ltb x (length before) ≡ true = grind (arith, nat_tests) in
-    rw (first, is_place) (ap (λ rest. x ∷ rest) (path_is next before x xs fuel (linked_rest next before root x xs h) (omega arith)))
+    rw (first, is_place) (ap (λ rest. x ∷ rest) (path_is next before x xs fuel (linked_rest next before root x xs h)
+    (omega arith)))
 
-module _ (next before : List ℕ) (root other : ℕ) (xs ys : List ℕ) (h : IsLinked next before root xs) (g : IsLinked next before other ys)
+module _ (next before : List ℕ) (root other : ℕ) (xs ys : List ℕ) (h : IsLinked next before root xs)
+    (g : IsLinked next before other ys)
     (is_root : length before ≤ root) (is_other : length before ≤ other) where
   -- a place that stands in two lists stands at one index in both, and they have one root: the way back tells
   pub same_place : (i j : ℕ) → i < length xs → j < length ys → get_or xs i 0 ≡ get_or ys j 0 → (root ≡ other) × (i ≡ j)
-  same_place zero zero l m e = let same = ap (λ n. get_or before n 0) e in let a = h.back 0 l in let b = g.back 0 m in (cc, refl)
+  same_place zero zero l m e = let same = ap (λ n. get_or before n 0) e in let a = h.back 0 l in
+      let b = g.back 0 m in (cc, refl)
   same_place zero (suc j) l m e =
       let same = ap (λ n. get_or before n 0) e in
       let a = h.back 0 l in
@@ -61,15 +66,17 @@ module _ (next before : List ℕ) (root other : ℕ) (xs ys : List ℕ) (h : IsL
       let both = same_place i j (omega arith) (omega arith) is in
       (both.0, ap suc both.1)
 
-  -- the same of places and roots
-  pub same_number : (i j : ℕ) → i ≤ length xs → j ≤ length ys → get_or (root ∷ xs) i 0 ≡ get_or (other ∷ ys) j 0 → (root ≡ other) × (i ≡ j)
+  -- a number among the places of two lists with their roots stands at one index in both, and they have one root
+  pub same_number : (i j : ℕ) → i ≤ length xs → j ≤ length ys → get_or (root ∷ xs) i 0 ≡ get_or (other ∷ ys) j 0 →
+      (root ≡ other) × (i ≡ j)
   same_number zero zero l m e = (e, refl)
   same_number zero (suc j) l m e = let low = g.within j (omega arith) in absurd (omega arith)
   same_number (suc i) zero l m e = let low = h.within i (omega arith) in absurd (omega arith)
   same_number (suc i) (suc j) l m e = let both = same_place i j (omega arith) (omega arith) e in (both.0, ap suc both.1)
 
 -- a list stays linked where its links stay
-pub linked_still : (next before next' before' : List ℕ) (root : ℕ) (xs : List ℕ) → IsLinked next before root xs → length before' ≡ length before
+pub linked_still : (next before next' before' : List ℕ) (root : ℕ) (xs : List ℕ) → IsLinked next before root xs →
+    length before' ≡ length before
     → ((k : ℕ) → k ≤ length xs → get_or next' (get_or (root ∷ xs) k 0) 0 ≡ get_or next (get_or (root ∷ xs) k 0) 0)
     → ((k : ℕ) → k < length xs → get_or before' (get_or xs k 0) 0 ≡ get_or before (get_or xs k 0) 0)
     → IsLinked next' before' root xs
@@ -79,7 +86,8 @@ linked_still next before next' before' root xs h size forth back = record {
   back = λ k below. back k below ∙ h.back k below;
 }
 
-module _ (next before : List ℕ) (root : ℕ) (xs : List ℕ) (h : IsLinked next before root xs) (is_root : length before ≤ root) where
+module _ (next before : List ℕ) (root : ℕ) (xs : List ℕ) (h : IsLinked next before root xs)
+    (is_root : length before ≤ root) where
   -- no place stands in it twice
   pub index_once : (i j : ℕ) → i < length xs → j < length xs → get_or xs i 0 ≡ get_or xs j 0 → i ≡ j
   index_once i j l m e = (same_place next before root root xs xs h h is_root is_root i j l m e).1
@@ -91,17 +99,20 @@ module _ (next before : List ℕ) (root : ℕ) (xs : List ℕ) (h : IsLinked nex
   pub index_is : (i at : ℕ) → i < length xs → get_or xs i 0 ≡ at → index_in xs at ≡ i
   index_is i at l e =
       position_or_len_is (λ x. eqb x at) xs i 0 (omega arith)
-      (λ k sooner. let apart : get_or xs k 0 ≢ at = λ same. let is = index_once k i (omega arith) l (same ∙ sym e) in omega arith in grind (arith, nat_tests))
+      (λ k sooner. let apart : get_or xs k 0 ≢ at = λ same. let is = index_once k i (omega arith) l (same ∙ sym e) in
+      omega arith in grind (arith, nat_tests))
       (λ _. grind (arith, nat_tests))
 
 -- the length of a linked list
-pub length_linked : (next before : List ℕ) (root : ℕ) (xs : List ℕ) → IsLinked next before root xs → length before ≤ root → length xs ≤ length before
+pub length_linked : (next before : List ℕ) (root : ℕ) (xs : List ℕ) → IsLinked next before root xs →
+    length before ≤ root → length xs ≤ length before
 length_linked next before root xs h is_root =
     length-le_from_distinct_below xs (length before)
     (IsDistinct-from_apart eqb xs (λ i j d sooner below.
     let here = get_or_default xs i d 0 (omega arith) in
     let there = get_or_default xs j d 0 below in
-    let apart : get_or xs i 0 ≢ get_or xs j 0 = λ e. let is = index_once next before root xs h is_root i j (omega arith) below e in omega arith in
+    let apart : get_or xs i 0 ≢ get_or xs j 0 = λ e. let is = index_once next before root xs h is_root i j (omega arith)
+    below e in omega arith in
     rw (here, there) (grind (arith, nat_tests))))
     (λ q among. let at = place_among q xs among in rw (← at.2) (h.within at.0 at.1))
   where
@@ -152,7 +163,8 @@ behind_insert xs i y d k low l = let e : suc k ≡ k + 1 = omega arith in rw e (
 behind_remove : (xs : List ℕ) (i d k : ℕ) → i ≤ k → i < length xs → get_or (remove xs i) k d ≡ get_or xs (suc k) d
 behind_remove xs i d k low l = let e : suc k ≡ k + 1 = omega arith in rw e (get_or-remove_above xs i d k low l)
 
-module _ (next before : List ℕ) (root : ℕ) (xs : List ℕ) (h : IsLinked next before root xs) (is_root : length before ≤ root)
+module _ (next before : List ℕ) (root : ℕ) (xs : List ℕ) (h : IsLinked next before root xs)
+    (is_root : length before ≤ root)
     (roots : length before ≤ length next) (lies : root < length next) where
   -- the number behind which index i stands
   abbrev ahead : ℕ → ℕ
@@ -176,7 +188,8 @@ module _ (next before : List ℕ) (root : ℕ) (xs : List ℕ) (h : IsLinked nex
       ]
 
   -- a place that does not stand in it is put in at an index
-  pub linked_insert : (next' before' : List ℕ) (i at : ℕ) → i ≤ length xs → at < length before → ((k : ℕ) → k < length xs → get_or xs k 0 ≢ at)
+  pub linked_insert : (next' before' : List ℕ) (i at : ℕ) → i ≤ length xs → at < length before →
+      ((k : ℕ) → k < length xs → get_or xs k 0 ≢ at)
       → PutsBehind next before next' before' (ahead i) at → IsLinked next' before' root (insert xs i at)
   linked_insert next' before' i at l place free put = record {
     within = λ k m. elim (index_cases k i) [
@@ -186,17 +199,36 @@ module _ (next before : List ℕ) (root : ℕ) (xs : List ℕ) (h : IsLinked nex
     ];
     forth = λ k m. elim (index_cases k i) [
       | sooner low ↦
-          rw (put.size, get_or-insert_below xs i at (length before) k low l, get_or-insert_below (root ∷ xs) (suc i) at 0 k (omega arith) (omega arith))
+          rw (
+            put.size,
+            get_or-insert_below xs i at (length before) k low l,
+            get_or-insert_below (root ∷ xs) (suc i) at 0 k (omega arith) (omega arith),
+          )
           (next_still k (omega arith) (λ e. omega arith) ∙ h.forth k (omega arith))
-      | here e ↦ rw (put.size, e, get_or-insert_at xs i at (length before) l, get_or-insert_below (root ∷ xs) (suc i) at 0 i (omega arith) (omega arith))
+      | here e ↦ rw (
+        put.size,
+        e,
+        get_or-insert_at xs i at (length before) l,
+        get_or-insert_below (root ∷ xs) (suc i) at 0 i (omega arith) (omega arith),
+      )
           put.next_behind
-      | later j e low ↦ rw (put.size, e, behind_insert xs i at (length before) j low l) (forth_later j low (omega (arith, long)))
+      | later j e low ↦ rw (put.size, e, behind_insert xs i at (length before) j low l)
+          (forth_later j low (omega (arith, long)))
     ];
     back = λ k m. elim (index_cases k i) [
       | sooner low ↦
-          rw (get_or-insert_below xs i at 0 k low l, get_or-insert_below (root ∷ xs) (suc i) at 0 k (omega arith) (omega arith))
+          rw (
+            get_or-insert_below xs i at 0 k low l,
+            get_or-insert_below (root ∷ xs) (suc i) at 0 k (omega arith)
+                (omega arith),
+          )
           (before_still k (omega arith) (λ e. omega arith))
-      | here e ↦ rw (e, get_or-insert_at xs i at 0 l, get_or-insert_below (root ∷ xs) (suc i) at 0 i (omega arith) (omega arith)) put.before_at
+      | here e ↦ rw (
+        e,
+        get_or-insert_at xs i at 0 l,
+        get_or-insert_below (root ∷ xs) (suc i) at 0 i (omega arith)
+            (omega arith),
+      ) put.before_at
       | later j e low ↦ rw (e, behind_insert xs i at 0 j low l) (back_later j low (omega (arith, long)))
     ];
   }
@@ -209,16 +241,19 @@ module _ (next before : List ℕ) (root : ℕ) (xs : List ℕ) (h : IsLinked nex
       ahead_free (suc k) m e = free k (omega arith) e
 
       next_still : (k : ℕ) → k ≤ length xs → k ≢ i → get_or next' (ahead k) 0 ≡ get_or next (ahead k) 0
-      next_still k m apart = put.next_other (ahead k) (ahead_free k m) (λ e. apart (number_once next before root xs h is_root k i m l e))
+      next_still k m apart = put.next_other (ahead k) (ahead_free k m)
+          (λ e. apart (number_once next before root xs h is_root k i m l e))
 
       before_still : (k : ℕ) → k < length xs → k ≢ i → get_or before' (get_or xs k 0) 0 ≡ ahead k
       before_still k m apart = put.before_other (get_or xs k 0) (free k m) (not_after i k l m apart) ∙ h.back k m
 
-      forth_later : (j : ℕ) → i ≤ j → j ≤ length xs → get_or next' (get_or (insert xs i at) j 0) 0 ≡ get_or xs j (length before)
+      forth_later : (j : ℕ) → i ≤ j → j ≤ length xs → get_or next' (get_or (insert xs i at) j 0) 0
+          ≡ get_or xs j (length before)
       forth_later j low m = elim (index_cases j i) [
         | sooner high ↦ absurd (omega arith)
         | here e ↦ rw (e, get_or-insert_at xs i at 0 l) (put.next_at ∙ h.forth i l)
-        | later n e above ↦ rw (e, behind_insert xs i at 0 n above l) (next_still (suc n) (omega arith) (λ same. omega arith) ∙ h.forth (suc n) (omega arith))
+        | later n e above ↦ rw (e, behind_insert xs i at 0 n above l)
+            (next_still (suc n) (omega arith) (λ same. omega arith) ∙ h.forth (suc n) (omega arith))
       ]
 
       back_later : (j : ℕ) → i ≤ j → j < length xs → get_or before' (get_or xs j 0) 0 ≡ get_or (insert xs i at) j 0
@@ -227,11 +262,13 @@ module _ (next before : List ℕ) (root : ℕ) (xs : List ℕ) (h : IsLinked nex
         | here e ↦
             let is : after i ≡ get_or xs i 0 = h.forth i l ∙ get_or_default xs i (length before) 0 (omega arith) in
             rw (e, get_or-insert_at xs i at 0 l, ← is) (put.before_after (rw is (h.within i (omega arith))))
-        | later n e above ↦ rw (e, behind_insert xs i at 0 n above l) (before_still (suc n) (omega arith) (λ same. omega arith))
+        | later n e above ↦ rw (e, behind_insert xs i at 0 n above l)
+            (before_still (suc n) (omega arith) (λ same. omega arith))
       ]
 
   -- the place at an index is taken out
-  pub linked_remove : (next' before' : List ℕ) (i : ℕ) → i < length xs → TakesOut next before next' before' (get_or xs i 0)
+  pub linked_remove : (next' before' : List ℕ) (i : ℕ) → i < length xs →
+      TakesOut next before next' before' (get_or xs i 0)
       → IsLinked next' before' root (remove xs i)
   linked_remove next' before' i l out = record {
     within = λ k m. elim (cases_lt k i) [
@@ -240,22 +277,46 @@ module _ (next before : List ℕ) (root : ℕ) (xs : List ℕ) (h : IsLinked nex
     ];
     forth = λ k m. elim (index_cases k i) [
       | sooner low ↦
-          rw (out.size, get_or-remove_below xs i (length before) k low l, get_or-remove_below (root ∷ xs) (suc i) 0 k (omega arith) (omega arith))
+          rw (
+            out.size,
+            get_or-remove_below xs i (length before) k low l,
+            get_or-remove_below (root ∷ xs) (suc i) 0 k (omega arith) (omega arith),
+          )
           (next_still k (omega arith) (λ e. omega arith) ∙ h.forth k (omega arith))
       | here e ↦
-          rw (out.size, e, behind_remove xs i (length before) i (omega arith) l, get_or-remove_below (root ∷ xs) (suc i) 0 i (omega arith) (omega arith))
+          rw (
+            out.size,
+            e,
+            behind_remove xs i (length before) i (omega arith) l,
+            get_or-remove_below (root ∷ xs) (suc i) 0 i (omega arith) (omega arith),
+          )
           (rw (h.back i l) at out.next_behind ∙ h.forth (suc i) (omega arith))
-      | later j e low ↦ rw (out.size, e, behind_remove xs i (length before) (suc j) (omega arith) l, behind_remove xs i 0 j low l)
-          (next_still (suc (suc j)) (omega (arith, short)) (λ same. omega arith) ∙ h.forth (suc (suc j)) (omega (arith, short)))
+      | later j e low ↦ rw (
+        out.size,
+        e,
+        behind_remove xs i (length before) (suc j) (omega arith) l,
+        behind_remove xs i 0 j low l,
+      )
+          (next_still (suc (suc j)) (omega (arith, short)) (λ same. omega arith)
+          ∙ h.forth (suc (suc j)) (omega (arith, short)))
     ];
     back = λ k m. elim (index_cases k i) [
       | sooner low ↦
-          rw (get_or-remove_below xs i 0 k low l, get_or-remove_below (root ∷ xs) (suc i) 0 k (omega arith) (omega arith))
+          rw (
+            get_or-remove_below xs i 0 k low l,
+            get_or-remove_below (root ∷ xs) (suc i) 0 k (omega arith)
+                (omega arith),
+          )
           (before_still k (omega arith) (λ e. omega arith))
       | here e ↦
           let is : get_or next (get_or xs i 0) 0 ≡ get_or xs (suc i) 0 = h.forth (suc i) (omega arith) ∙
           get_or_default xs (suc i) (length before) 0 (omega (arith, short)) in
-          rw (e, behind_remove xs i 0 i (omega arith) l, get_or-remove_below (root ∷ xs) (suc i) 0 i (omega arith) (omega arith), ← is)
+          rw (
+            e,
+            behind_remove xs i 0 i (omega arith) l,
+            get_or-remove_below (root ∷ xs) (suc i) 0 i (omega arith) (omega arith),
+            ← is,
+          )
           (out.before_after (rw is (h.within (suc i) (omega (arith, short)))) ∙ h.back i l)
       | later j e low ↦ rw (e, behind_remove xs i 0 (suc j) (omega arith) l, behind_remove xs i 0 j low l)
           (before_still (suc (suc j)) (omega (arith, short)) (λ same. omega arith))
@@ -266,7 +327,8 @@ module _ (next before : List ℕ) (root : ℕ) (xs : List ℕ) (h : IsLinked nex
       short = length-remove xs i l
 
       next_still : (k : ℕ) → k ≤ length xs → k ≢ i → get_or next' (ahead k) 0 ≡ get_or next (ahead k) 0
-      next_still k m apart = out.next_other (ahead k) (λ e. apart (number_once next before root xs h is_root k i m (omega arith) (e ∙ h.back i l)))
+      next_still k m apart = out.next_other (ahead k)
+          (λ e. apart (number_once next before root xs h is_root k i m (omega arith) (e ∙ h.back i l)))
 
       before_still : (k : ℕ) → k < length xs → k ≢ suc i → get_or before' (get_or xs k 0) 0 ≡ ahead k
       before_still k m apart = out.before_other (get_or xs k 0) (not_after (suc i) k (omega arith) m apart) ∙ h.back k m

@@ -8,7 +8,8 @@ use Rattle.std.proofs.lemmas.List.Sums.{fails_before_first, passes_at_first}
 use Rattle.dense_tables.specs.LinkedLists.{with_list}
 
 -- a place of a list stands at its index
-pub index_reads : (xs : List ℕ) (at : ℕ) → Contains xs at → (index_in xs at < length xs) × (get_or xs (index_in xs at) 0 ≡ at)
+pub index_reads : (xs : List ℕ) (at : ℕ) → Contains xs at → (index_in xs at < length xs)
+    × (get_or xs (index_in xs at) 0 ≡ at)
 index_reads xs at (k, l, is) =
     let first = index_in xs at in
     elim (cases_lt k first) [
@@ -23,21 +24,25 @@ index_reads xs at (k, l, is) =
     ]
 
 -- a place that was taken out of a list without doubles is no longer in it
-pub not_in_rest : (xs : List ℕ) (at : ℕ) → AllPairs (λ x y. x ≢ y) xs → Contains xs at → Contains (remove xs (index_in xs at)) at → ⊥
+pub not_in_rest : (xs : List ℕ) (at : ℕ) → AllPairs (λ x y. x ≢ y) xs → Contains xs at →
+    Contains (remove xs (index_in xs at)) at → ⊥
 not_in_rest xs at once has (k, l, is) =
     let i = index_in xs at in
     let reads = index_reads xs at has in
     let short = length-remove xs i reads.0 in
     elim (cases_lt k i) [
-      | inl sooner ↦ once k i 0 sooner reads.0 (get_or_default xs k 0 at (omega (arith, reads.0)) ∙ sym (get_or-remove_below xs i at k sooner reads.0) ∙ is ∙
+      | inl sooner ↦ once k i 0 sooner reads.0 (get_or_default xs k 0 at (omega (arith, reads.0))
+          ∙ sym (get_or-remove_below xs i at k sooner reads.0) ∙ is ∙
           sym reads.1)
       | inr later ↦
           once i (k + 1) 0 (omega arith) (omega (arith, l))
-          (reads.1 ∙ sym is ∙ get_or-remove_above xs i at k later reads.0 ∙ get_or_default xs (k + 1) at 0 (omega (arith, l)))
+          (reads.1 ∙ sym is ∙ get_or-remove_above xs i at k later reads.0
+          ∙ get_or_default xs (k + 1) at 0 (omega (arith, l)))
     ]
 
 -- the other places of the list stay in it
-pub still_in_rest : (xs : List ℕ) (at x : ℕ) → Contains xs at → Contains xs x → x ≢ at → Contains (remove xs (index_in xs at)) x
+pub still_in_rest : (xs : List ℕ) (at x : ℕ) → Contains xs at → Contains xs x → x ≢ at →
+    Contains (remove xs (index_in xs at)) x
 still_in_rest xs at x has (k, l, is) other =
     let i = index_in xs at in
     let reads = index_reads xs at has in
@@ -65,23 +70,30 @@ was_in_list xs at x has (k, l, is) =
 pub contains_rest : (xs : List ℕ) (at x : ℕ) → AllPairs (λ x y. x ≢ y) xs → Contains xs at
     → Contains (remove xs (index_in xs at)) x ↔ (Contains xs x × (x ≢ at))
 contains_rest xs at x once has = (
-  λ still. (was_in_list xs at x has still, λ e. not_in_rest xs at once has (subst (Contains (remove xs (index_in xs at))) e still)),
+  λ still. (
+    was_in_list xs at x has still,
+    λ e. not_in_rest xs at once has
+        (subst (Contains (remove xs (index_in xs at))) e still),
+  ),
   λ both. still_in_rest xs at x has both.0 both.1,
 )
 
 -- a list that is written for a key
-list_written : (c : LinkedListsState) (key : ℕ) (xs : List ℕ) → key < length c.lists → list_of (with_list c key xs) key ≡ xs
+list_written : (c : LinkedListsState) (key : ℕ) (xs : List ℕ) → key < length c.lists →
+    list_of (with_list c key xs) key ≡ xs
 list_written c key xs low = get_or-set_same c.lists key xs [] low
 
 -- a key whose list has a place is one of theirs
 pub key_lies : (c : LinkedListsState) (key at : ℕ) → Contains (list_of c key) at → key < length c.lists
 key_lies c key at has = elim (cases_lt key (length c.lists)) [
   | inl low ↦ low
-  | inr past ↦ let none : list_of c key ≡ [] = get_or_past c.lists key [] past in let no = rw none at has.1 in absurd (omega arith)
+  | inr past ↦ let none : list_of c key ≡ [] = get_or_past c.lists key [] past in let no = rw none at has.1 in
+      absurd (omega arith)
 ]
 
 -- a place that was taken out is in no list
-pub not_listed_without : (c : LinkedListsState) (key at : ℕ) → AreDisjoint c → Contains (list_of c key) at → IsListed (without c key at) at → ⊥
+pub not_listed_without : (c : LinkedListsState) (key at : ℕ) → AreDisjoint c → Contains (list_of c key) at →
+    IsListed (without c key at) at → ⊥
 not_listed_without c key at h has (other, still) = elim (cases_eq other key) [
   | inl same ↦
       let here : list_of (without c key at) other ≡ remove (list_of c key) (index_in (list_of c key) at) =

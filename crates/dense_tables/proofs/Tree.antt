@@ -10,7 +10,8 @@ pub length-under : (cells : List ℕ) (cell : ℕ) → length (under cells cell)
 unfolding under
 length-under cells cell = length-take 16 (drop (16 * cell + 1) cells) ∙ ap (min 16) (length-drop (16 * cell + 1) cells)
 
-pub get_or-under : (cells : List ℕ) (cell k : ℕ) → k < 16 → get_or (under cells cell) k 0 ≡ get_or cells (16 * cell + 1 + k) 0
+pub get_or-under : (cells : List ℕ) (cell k : ℕ) → k < 16 →
+    get_or (under cells cell) k 0 ≡ get_or cells (16 * cell + 1 + k) 0
 unfolding under
 get_or-under cells cell k l = get_or-take 16 (drop (16 * cell + 1) cells) k 0 l ∙ get_or-drop (16 * cell + 1) cells k 0
 
@@ -22,12 +23,15 @@ take_set (suc n) (x ∷ xs) zero v = refl
 take_set (suc n) (x ∷ xs) (suc k) v = ap (λ rest. x ∷ rest) (take_set n xs k v)
 
 -- a write to one of the cells under a cell
-pub under-set_inside : (cells : List ℕ) (cell k v : ℕ) → under (set cells (16 * cell + 1 + k) v) cell ≡ set (under cells cell) k v
+pub under-set_inside : (cells : List ℕ) (cell k v : ℕ) → under (set cells (16 * cell + 1 + k) v) cell
+    ≡ set (under cells cell) k v
 unfolding under
-under-set_inside cells cell k v = ap (take 16) (drop-set-add (16 * cell + 1) cells k v) ∙ take_set 16 (drop (16 * cell + 1) cells) k v
+under-set_inside cells cell k v = ap (take 16) (drop-set-add (16 * cell + 1) cells k v)
+    ∙ take_set 16 (drop (16 * cell + 1) cells) k v
 
 -- and to another cell
-pub under-set_outside : (cells : List ℕ) (cell other k v : ℕ) → k < 16 → other ≢ cell → under (set cells (16 * cell + 1 + k) v) other ≡ under cells other
+pub under-set_outside : (cells : List ℕ) (cell other k v : ℕ) → k < 16 → other ≢ cell →
+    under (set cells (16 * cell + 1 + k) v) other ≡ under cells other
 unfolding under
 under-set_outside cells cell other k v l differ = elim (cases_lt cell other) [
   | inl sooner ↦ ap (take 16) (drop-set-lt (16 * other + 1) cells (16 * cell + 1 + k) v (omega arith))
@@ -38,7 +42,8 @@ under-set_outside cells cell other k v l differ = elim (cases_lt cell other) [
 ]
 
 -- a cell that is kept lies over none of the first ones
-under-set_top : (cells : List ℕ) (top cell other v : ℕ) → cell ≤ top → top ≤ 16 * other → under (set cells cell v) other ≡ under cells other
+under-set_top : (cells : List ℕ) (top cell other v : ℕ) → cell ≤ top → top ≤ 16 * other →
+    under (set cells cell v) other ≡ under cells other
 unfolding under
 under-set_top cells top cell other v low kept = ap (take 16) (drop-set-lt (16 * other + 1) cells cell v (omega arith))
 
@@ -50,11 +55,14 @@ under-set_first cells other v = ap (take 16) (drop-set-lt (16 * other + 1) cells
 -- one cell was changed: each cell that is kept was the greatest of those under it while that one had its old number
 pub record IsRising (cells : List ℕ) (top start cell was : ℕ) : Type 0 where
   pub within : cell < length cells
-  pub peaks : (other : ℕ) → top ≤ 16 * other → other < start → get_or cells other 0 ≡ greatest (under (set cells cell was) other)
+  pub peaks : (other : ℕ) → top ≤ 16 * other → other < start →
+      get_or cells other 0 ≡ greatest (under (set cells cell was) other)
 
 -- where no cell over that one is kept all is done
-pub risen_top : (cells : List ℕ) (top start cell was : ℕ) → cell ≤ top → IsRising cells top start cell was → ArePeaks cells top start
-risen_top cells top start cell was low h other kept l = h.peaks other kept l ∙ ap greatest (under-set_top cells top cell other was low kept)
+pub risen_top : (cells : List ℕ) (top start cell was : ℕ) → cell ≤ top → IsRising cells top start cell was →
+    ArePeaks cells top start
+risen_top cells top start cell was low h other kept l = h.peaks other kept l
+    ∙ ap greatest (under-set_top cells top cell other was low kept)
 
 -- the cell over another one
 abbrev pub over : ℕ → ℕ
@@ -89,12 +97,15 @@ module _ (cells : List ℕ) (cell was : ℕ) (not_first : 0 < cell) (within : ce
   rises high = rw news_are (greatest_risen olds ((cell - 1) % 16) (get_or cells cell 0) place_lies high)
 
   -- where both the old and the new number are less, the peak stays
-  pub stays : get_or cells cell 0 < greatest olds → was < greatest olds → greatest (under cells (over cell)) ≡ greatest olds
-  stays low less = rw news_are (greatest_still olds ((cell - 1) % 16) (get_or cells cell 0) place_lies (rw old_here less) (omega arith))
+  pub stays : get_or cells cell 0 < greatest olds → was < greatest olds →
+      greatest (under cells (over cell)) ≡ greatest olds
+  stays low less = rw news_are (greatest_still olds ((cell - 1) % 16) (get_or cells cell 0) place_lies
+      (rw old_here less) (omega arith))
 
   pub others_stay : (other : ℕ) → other ≢ over cell → under (set cells cell was) other ≡ under cells other
   others_stay other differ =
-      ap (λ c. under (set cells c was) other) parts.0 ∙ under-set_outside cells (over cell) other ((cell - 1) % 16) was parts.1 differ
+      ap (λ c. under (set cells c was) other) parts.0 ∙ under-set_outside cells (over cell) other ((cell - 1) % 16) was
+      parts.1 differ
 
 module _ (cells : List ℕ) (top start cell was : ℕ) (h : IsRising cells top start cell was) (not_first : 0 < cell) where
   -- where the peak stays all is done
@@ -131,7 +142,8 @@ zero_peaks size top count cell kept l =
     all_zero : (k : ℕ) → get_or (replicate size 0) k 0 ≤ 0
     all_zero k = elim (cases_lt k size) [
       | inl inside ↦ rw (get_or-replicate {A = ℕ} size k 0 0 inside) (omega arith)
-      | inr past ↦ rw (get_or_past {X = ℕ} (replicate size 0) k 0 (rw (length-replicate {A = ℕ} size 0) past)) (omega arith)
+      | inr past ↦ rw (get_or_past {X = ℕ} (replicate size 0) k 0 (rw (length-replicate {A = ℕ} size 0) past))
+          (omega arith)
     ]
 
 -- each of these cells is the greatest of the cells under it
@@ -145,8 +157,10 @@ rooted cells = set cells 0 (greatest (under cells 0))
 pub root : (cells : List ℕ) → 0 < length cells → get_or (rooted cells) 0 0 ≡ greatest (under cells 0)
 root cells some = get_or-set_same cells 0 (greatest (under cells 0)) 0 some
 
-pub rooted_peaks : (cells : List ℕ) (top start : ℕ) → top ≤ 16 → 0 < length cells → ArePeaks cells top start → AreAllPeaks (rooted cells) start
-rooted_peaks cells top start low some h zero l = root cells some ∙ ap greatest (sym (under-set_first cells 0 (greatest (under cells 0))))
+pub rooted_peaks : (cells : List ℕ) (top start : ℕ) → top ≤ 16 → 0 < length cells → ArePeaks cells top start →
+    AreAllPeaks (rooted cells) start
+rooted_peaks cells top start low some h zero l = root cells some
+    ∙ ap greatest (sym (under-set_first cells 0 (greatest (under cells 0))))
 rooted_peaks cells top start low some h (suc cell) l =
     get_or-set_other cells 0 (suc cell) (greatest (under cells 0)) 0 (λ e. omega arith) ∙ h (suc cell) (omega arith) l
     ∙ ap greatest (sym (under-set_first cells (suc cell) (greatest (under cells 0))))

@@ -3,7 +3,7 @@ use Rattle.std.specs.Prelude.{◌≡◌, ◌⊎◌, ℕ, zero, suc, ◌+◌, ◌
 use Rattle.dense_tables.specs.Greatest.{greatest}
 use Rattle.dense_tables.specs.declared.max_tree.MaxTree.TheInside.{Inside}
 
--- where a level begins that has so many levels above it, each of sixteen times as many cells as the one above it
+-- where a level begins that has this many levels above it, each of sixteen times as many cells as the one above it
 abbrev pub level_start : ℕ → ℕ
 level_start zero = 0
 level_start (suc level) = 16 * level_start level + 1
@@ -12,7 +12,7 @@ level_start (suc level) = 16 * level_start level + 1
 unfoldable pub under : List ℕ → ℕ → List ℕ
 under cells cell = take 16 (drop (16 * cell + 1) cells)
 
--- the cell over the first so many ones is not kept: the first one, or none
+-- the cell over the first `top` ones is not kept: the first one, or none
 abbrev pub IsTop : ℕ → Type 0
 IsTop top = (top ≡ 0) ⊎ (top ≡ 16)
 
@@ -21,7 +21,7 @@ abbrev pub ArePeaks : List ℕ → ℕ → ℕ → Type 0
 ArePeaks cells top count =
     (cell : ℕ) → top ≤ 16 * cell → cell < count → slice_index cells cell ≡ greatest (under cells cell)
 
--- so many levels stand above the numbers, which begin here, and each number is under a cell
+-- this many levels stand above the numbers, which begin here, and each number is under a cell
 pub record IsShape (levels start count : ℕ) : Type 0 where
   pub levels_least : 0 < levels
   pub begins : start ≡ level_start levels

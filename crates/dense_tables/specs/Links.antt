@@ -3,7 +3,7 @@ use Rattle.std.specs.Prelude.{◌≡◌, ℕ, zero, suc, ◌+◌, ◌<◌, ◌�
 use Rattle.dense_tables.specs.LinkedLists.{LinkedListsState}
 use Rattle.dense_tables.specs.declared.linked_lists.LinkedLists.TheInside.{Inside}
 
--- the places that follow one another from a number on, as long as it is a place, and at most so many of them
+-- the places that follow one another from a number on, as long as it is a place, and at most this many of them
 unfoldable pub path : List ℕ → ℕ → ℕ → ℕ → List ℕ
 path next places zero at = []
 path next places (suc fuel) at = cond (nat_lt at places) (at ∷ path next places fuel (slice_index next at)) []

@@ -60,7 +60,8 @@ impl LinkedLists {
     pub fn next(&self, at: u32) -> Option<u32>
         requires { IsListed self.now at }
         ensures next { (key : ℕ) → Contains (list_of self.now key) at → result ≡ next_in (list_of self.now key) at }
-        ensures listed { (key : ℕ) → Contains (list_of self.now key) at → IfSome result (Contains (list_of self.now key)) }
+        ensures listed { (key : ℕ) → Contains (list_of self.now key) at →
+            IfSome result (Contains (list_of self.now key)) }
         ensures order { (key : ℕ) → Contains (list_of self.now key) at →
             rest_from (list_of self.now key) (Some at) ≡ at ∷ rest_from (list_of self.now key) result }
         ensures lists { AreDisjoint self.now }
@@ -103,7 +104,7 @@ impl LinkedLists {
     }
 }
 
-/// The place of this number, of so many places.
+/// The place of this number, of this many places.
 fn place(number: u32, places: usize) -> Option<u32>
     ensures { result ≡ cond (nat_lt number places) (Some number) None }
 {

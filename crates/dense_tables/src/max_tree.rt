@@ -19,8 +19,8 @@ pub struct MaxTree {
     levels: usize,
     /// Where the numbers begin.
     start: usize,
-    /// The cell over the first so many ones is not kept: 16 where the single cell is found when it is asked for,
-    /// and else 0.
+    /// The cell over the first `top` ones is not kept: 16 where the single cell is found when it is asked for, and else
+    /// 0.
     top: usize,
 }
 
@@ -46,7 +46,7 @@ impl MaxTree {
         MaxTree::with_top(alloc, count, 0)
     }
 
-    /// The same for numbers that change more often than the greatest is asked for.
+    /// All numbers are 0. This suits numbers that change more often than the greatest is asked for.
     pub fn for_changes(alloc: Global, count: usize) -> Result<MaxTree, AllocError>
         requires { count < 2 ^ 32 }
         ensures { IfOk result (λ p. p ≡ replicate count 0) }
@@ -54,7 +54,7 @@ impl MaxTree {
         MaxTree::with_top(alloc, count, 16)
     }
 
-    /// The same where the cell over the first `top` ones is not kept.
+    /// All numbers are 0, and the cell over the first `top` ones is not kept.
     fn with_top(alloc: Global, count: usize, top: usize) -> Result<MaxTree, AllocError>
         requires count { count < 2 ^ 32 }
         requires top { IsTop top }

@@ -26,7 +26,10 @@ cell_length n (complete bytes spare) h = rw (length-append, h.0, h.1) refl
 contents_same : (n : ℕ) (c : Contents) → IsWhole n c → contents_of n (seen_of c) (cell_of n c) ≡ c
 contents_same n blank h = refl
 contents_same n damaged h = refl
-contents_same n (complete bytes spare) h = rw (take_front bytes spare n (sym h.0), drop_front bytes spare n (sym h.0)) refl
+contents_same n (complete bytes spare) h = rw (
+  take_front bytes spare n (sym h.0),
+  drop_front bytes spare n (sym h.0),
+) refl
 
 -- the slots are those that it was made from
 pub image_same : (n : ℕ) (image : List Contents) → All (IsWhole n) image →
@@ -37,7 +40,8 @@ image_same n (c ∷ cs) h =
     let long = sym (cell_length n c first) in
     let rest = flat_map (cell_of n) cs in
     rw (take_front (cell_of n c) rest (cell_bytes n) long, drop_front (cell_of n c) rest (cell_bytes n) long)
-    (ap₂ (λ (x : Contents) (xs : List Contents). x ∷ xs) (contents_same n c first) (image_same n cs (All-tail (IsWhole n) c cs h)))
+    (ap₂ (λ (x : Contents) (xs : List Contents). x ∷ xs) (contents_same n c first)
+    (image_same n cs (All-tail (IsWhole n) c cs h)))
 
 is_filled : (n : ℕ) (c : Contents) → IsFilled n (seen_of c) (cell_of n c)
 is_filled n blank = replicate-append-replicate n 64 255
@@ -49,10 +53,12 @@ pub are_filled : (n : ℕ) (image : List Contents) → All (IsWhole n) image →
     AreFilled n (map seen_of image) (flat_map (cell_of n) image)
 are_filled n [] h k within = absurd (omega arith)
 are_filled n (c ∷ cs) h zero within =
-    rw (first_chunk (cell_of n c) (flat_map (cell_of n) cs) (cell_bytes n) (sym (cell_length n c (All-head (IsWhole n) c cs h))))
+    rw (first_chunk (cell_of n c) (flat_map (cell_of n) cs) (cell_bytes n)
+    (sym (cell_length n c (All-head (IsWhole n) c cs h))))
     (is_filled n c)
 are_filled n (c ∷ cs) h (suc k) within =
-    rw (later_chunk (cell_of n c) (flat_map (cell_of n) cs) (cell_bytes n) k (sym (cell_length n c (All-head (IsWhole n) c cs h))))
+    rw (later_chunk (cell_of n c) (flat_map (cell_of n) cs) (cell_bytes n) k
+    (sym (cell_length n c (All-head (IsWhole n) c cs h))))
     (are_filled n cs (All-tail (IsWhole n) c cs h) k (omega arith))
 
 -- and there are as many as the slots have
@@ -69,7 +75,8 @@ made_same : (n m : ℕ) (image : List Contents) (seen : List Seen) (cells : List
 made_same n m image seen cells e f g h = rw (e, f, g) (image_same n image h)
 
 -- a flash that is made of them has these slots
-pub copy_is : (n : ℕ) (shape : Shape) (image : List Contents) (seen : List Seen) (cells : List ℕ) (result : Result MemFlashState Memory) →
+pub copy_is : (n : ℕ) (shape : Shape) (image : List Contents) (seen : List Seen) (cells : List ℕ)
+    (result : Result MemFlashState Memory) →
     shape.page_bytes ≡ n → seen ≡ map seen_of image → cells ≡ flat_map (cell_of n) image → All (IsWhole n) image →
     IfOk result (λ f. f ≡ fresh shape (image_of shape.page_bytes seen cells)) → IfOk result (λ copy. copy.image ≡ image)
 copy_is n shape image seen cells (Ok f) e g k whole h =
@@ -78,12 +85,15 @@ copy_is n shape image seen cells (Err m) e g k whole h = h
 
 -- ---- the entries that are kept
 
-entry_kept : (items : List Entry) (i : ℕ) (e : Entry) → i < length items → e ≡ get_or items i e → reply_at (map kept_by items) i ≡ kept_by e
+entry_kept : (items : List Entry) (i : ℕ) (e : Entry) → i < length items → e ≡ get_or items i e →
+    reply_at (map kept_by items) i ≡ kept_by e
 entry_kept items i e within is = get_or-map kept_by items i e no_entry within ∙ ap kept_by (sym is)
 
 -- a moment has the slots of the flash that is kept
-pub slots_kept : (items : List Entry) (now : List KeptReply) (i : ℕ) (e : Entry) → map kept_by items ≡ now → i < length now →
-    e ≡ get_or items i e → length e.flash.image ≡ slots_of e.flash.shape → length (reply_at now i).told.moment.image ≡ slots_of e.flash.shape
+pub slots_kept : (items : List Entry) (now : List KeptReply) (i : ℕ) (e : Entry) → map kept_by items ≡ now →
+    i < length now →
+    e ≡ get_or items i e → length e.flash.image ≡ slots_of e.flash.shape → length (reply_at now i).told.moment.image
+    ≡ slots_of e.flash.shape
 slots_kept items now i e view within is slots =
     let short : i < length items = let same = ap length view in omega (arith, length-map items kept_by) in
     rw (← view, entry_kept items i e short is) slots

@@ -1,4 +1,4 @@
--- The fate of a comparison, from what is found.
+-- The ending of a comparison, from what is found.
 use Rattle.desk_tasks.proofs.Common.{◌≡◌, inl, inr, ℕ, ◌*◌, ◌<◌, List, length, Option, None, Some, Result, Ok, Err, refl, sym, ap, ◌∙◌, subst, arith, All, Config, Protocol, shape_of, Contents, IsSoundImage, array_in, records_in, Ending, Same, array_of_device, ComesTo, Comparing, Judging, Opening, RefusesDevice}
 use Rattle.std.proofs.Common.{◌≢◌, ◌⊎◌, ◌+◌, ◌-◌, ◌≤◌}
 use Rattle.std.proofs.Common.{slice_index}
@@ -28,16 +28,21 @@ use Rattle.desk_tasks.proofs.Works.{stops_by}
 
 -- ---- a check
 
-pub judging_device : (its : Config) (image : List Contents) (text : List ℕ) (fate : Ending) → RefusesDevice its image fate → Judging its image text fate
+pub judging_device : (its : Config) (image : List Contents) (text : List ℕ) (fate : Ending) →
+    RefusesDevice its image fate → Judging its image text fate
 judging_device its image text fate h = (Err h.0, h.1, h.2)
 
-judging_list : (its : Config) (image : List Contents) (text : List ℕ) → IsSoundImage its.protocol its.logical (shape_of its) image →
-    (fate : Ending) → ChecksList its.protocol (records_in its.protocol image) its.logical text fate → Judging its image text fate
+judging_list : (its : Config) (image : List Contents) (text : List ℕ) →
+    IsSoundImage its.protocol its.logical (shape_of its) image →
+    (fate : Ending) → ChecksList its.protocol (records_in its.protocol image) its.logical text fate →
+    Judging its image text fate
 judging_list its image text sound fate (inl (n, same, count, is)) = (Ok tt, sound, (Ok n, (same, count), is))
 judging_list its image text sound fate (inr (k, differs, is)) = (Ok tt, sound, (Err k, differs, is))
 
-pub judging : (its : Config) (image : List Contents) (text : List ℕ) (list : List Found) → IsSoundImage its.protocol its.logical (shape_of its) image →
-    list ≡ records_in its.protocol image → (fate : Ending) → ChecksList its.protocol list its.logical text fate → Judging its image text fate
+pub judging : (its : Config) (image : List Contents) (text : List ℕ) (list : List Found) →
+    IsSoundImage its.protocol its.logical (shape_of its) image →
+    list ≡ records_in its.protocol image → (fate : Ending) → ChecksList its.protocol list its.logical text fate →
+    Judging its image text fate
 judging its image text list sound e fate h =
     judging_list its image text sound fate (subst (λ l. ChecksList its.protocol l its.logical text fate) e h)
 
@@ -48,15 +53,19 @@ few n pending blocks pages space most =
 
 pub few_pages : (its : Config) → checked its ≡ Ok (shape_of its) → its.logical ≤ 65536
 few_pages its e =
-    let c = (checked_config its (shape_of its) e).0 in few its.logical its.pending (blocks_of (shape_of its)) its.pages_per_block c.space c.shape.slots_most
+    let c = (checked_config its (shape_of its) e).0 in
+    few its.logical its.pending (blocks_of (shape_of its)) its.pages_per_block c.space c.shape.slots_most
 
-pub own_pages : (its : Config) (image : List Contents) (list : List Found) → IsSoundImage its.protocol its.logical (shape_of its) image →
+pub own_pages : (its : Config) (image : List Contents) (list : List Found) →
+    IsSoundImage its.protocol its.logical (shape_of its) image →
     list ≡ records_in its.protocol image → All (λ f. f.rec.page < its.logical) list
 own_pages its image list sound e =
     subst (λ l. All (λ f. f.rec.page < its.logical) l) (sym e)
-    (All-weaker (PagesExist its.logical) (λ f. f.rec.page < its.logical) (λ f pages. pages.0) _ (sound.written.records page_law))
+    (All-weaker (PagesExist its.logical) (λ f. f.rec.page < its.logical) (λ f pages. pages.0)
+    _ (sound.written.records page_law))
 
-pub scanned_list : (its : Config) (image : List Contents) (list : List Found) → list ≡ records_in its.protocol image → IsScanned list
+pub scanned_list : (its : Config) (image : List Contents) (list : List Found) → list ≡ records_in its.protocol image →
+    IsScanned list
 scanned_list its image list e = subst (λ l. IsScanned l) (sym e) (records_scanned its.protocol image)
 
 -- ---- a comparison
@@ -65,23 +74,28 @@ module _ (a : Config) (image : List Contents) (b : Config) (other : List Content
   pub first_refused : (fate : Ending) → RefusesDevice a image fate → Comparing a image b other fate
   first_refused fate h = (Err h.0, h.1, h.2)
 
-array_length : (protocol : Protocol) (logical : ℕ) (image : List Contents) → length (array_in protocol logical image) ≡ logical
+array_length : (protocol : Protocol) (logical : ℕ) (image : List Contents) →
+    length (array_in protocol logical image) ≡ logical
 unfolding array_in
 array_length protocol logical image = length-map (range_with_len 0 logical) _ ∙ length-range_with_len 0 logical
 
 module _ (a : Config) (image : List Contents) (b : Config) (other : List Contents)
-    (sound : IsSoundImage a.protocol a.logical (shape_of a) image) (other_sound : IsSoundImage b.protocol b.logical (shape_of b) other)
+    (sound : IsSoundImage a.protocol a.logical (shape_of a) image)
+    (other_sound : IsSoundImage b.protocol b.logical (shape_of b) other)
     (shape : HaveOneShape a b) where
-  pub arrays_same : FindsFirst (array_of_device a image) (array_of_device b other) a.logical None → Comparing a image b other (Same a.logical)
+  pub arrays_same : FindsFirst (array_of_device a image) (array_of_device b other) a.logical None →
+      Comparing a image b other (Same a.logical)
   arrays_same same =
       let m = array_length a.protocol a.logical image in
       let n = array_length b.protocol b.logical other in
       let e = shape.pages in
       let one : array_of_device a image ≡ array_of_device b other =
-      ext_get_or None (array_of_device a image) (array_of_device b other) (omega arith) (λ i low. same i (omega arith)) in
+      ext_get_or None (array_of_device a image) (array_of_device b other) (omega arith)
+      (λ i low. same i (omega arith)) in
       (Ok tt, sound, (Ok tt, other_sound, (OneArray, (shape, one), refl)))
 
-  pub blank_differs : (page : ℕ) → FindsFirst (array_of_device a image) (array_of_device b other) a.logical (Some (difference.Blank page)) →
+  pub blank_differs : (page : ℕ) → FindsFirst (array_of_device a image) (array_of_device b other) a.logical
+      (Some (difference.Blank page)) →
       Comparing a image b other (DifferBlank page)
   blank_differs page (at, low, (same, blank), before) = (
     Ok tt,
@@ -95,7 +109,8 @@ module _ (a : Config) (image : List Contents) (b : Config) (other : List Content
           shape,
           rw same low,
           record {
-            here = λ e. differ blank (subst (λ p. page_at (array_of_device a image) p ≡ page_at (array_of_device b other) p) same e);
+            here = λ e. differ blank (subst (λ p. page_at (array_of_device a image) p
+                ≡ page_at (array_of_device b other) p) same e);
             before = λ p less. before p (omega arith);
           },
           one_blank blank,
@@ -117,11 +132,13 @@ module _ (a : Config) (image : List Contents) (b : Config) (other : List Content
       one_blank (inl h) = inl (subst (λ p. page_at (array_of_device a image) p ≡ None) (sym same) h.0)
       one_blank (inr h) = inr (subst (λ p. page_at (array_of_device b other) p ≡ None) (sym same) h.1)
 
-  pub byte_differs : (page at : ℕ) → FindsFirst (array_of_device a image) (array_of_device b other) a.logical (Some (difference.At page at)) →
+  pub byte_differs : (page at : ℕ) → FindsFirst (array_of_device a image) (array_of_device b other) a.logical
+      (Some (difference.At page at)) →
       Comparing a image b other (DifferAt page at)
   byte_differs page at (here, low, (same, byte), before) =
       let there : DifferAtByte (page_at (array_of_device a image) page) (page_at (array_of_device b other) page) at =
-      subst (λ p. DifferAtByte (page_at (array_of_device a image) p) (page_at (array_of_device b other) p) at) (sym same) byte in (
+      subst (λ p. DifferAtByte (page_at (array_of_device a image) p) (page_at (array_of_device b other) p) at)
+      (sym same) byte in (
         Ok tt,
         sound,
         (
@@ -154,29 +171,36 @@ comparing a image b other sound other_sound one two e f fate h =
     from (subst (λ pages. ComesTo a pages b (array_of_device b other) fate) (ap (λ (m : ArrayState). m.pages) e)
     (subst (λ pages. ComesTo a one.pages b pages fate) (ap (λ (m : ArrayState). m.pages) f) h))
   where
-    by_found : HaveOneShape a b → (found : Option Difference) → FindsFirst (array_of_device a image) (array_of_device b other) a.logical found →
+    by_found : HaveOneShape a b → (found : Option Difference) →
+        FindsFirst (array_of_device a image) (array_of_device b other) a.logical found →
         Comparing a image b other (difference_ending a.logical found)
     by_found shape None finds = arrays_same a image b other sound other_sound shape finds
-    by_found shape (Some (difference.Blank page)) finds = blank_differs a image b other sound other_sound shape page finds
-    by_found shape (Some (difference.At page at)) finds = byte_differs a image b other sound other_sound shape page at finds
+    by_found shape (Some (difference.Blank page)) finds = blank_differs a image b other sound other_sound
+        shape page finds
+    by_found shape (Some (difference.At page at)) finds = byte_differs a image b other sound other_sound
+        shape page at finds
 
     from : ComesTo a (array_of_device a image) b (array_of_device b other) fate → Comparing a image b other fate
     from (inl (differ, is)) = (Ok tt, sound, (Ok tt, other_sound, (Shapes, differ, is)))
-    from (inr (shape, (found, finds, is))) = subst (λ fate. Comparing a image b other fate) (sym is) (by_found shape found finds)
+    from (inr (shape, (found, finds, is))) = subst (λ fate. Comparing a image b other fate) (sym is)
+        (by_found shape found finds)
 
 -- what the second device comes to beside an array, where its image is sound, and where it is not
-pub opened_second : (a : Config) (pages : Pages) (b : Config) (other : List Contents) → IsSoundImage b.protocol b.logical (shape_of b) other →
+pub opened_second : (a : Config) (pages : Pages) (b : Config) (other : List Contents) →
+    IsSoundImage b.protocol b.logical (shape_of b) other →
     (two : ArrayState) → two ≡ idle (array_of_device b other) → (fate : Ending) → ComesTo a pages b two.pages fate →
     Opening b other (ComesTo a pages b (array_of_device b other)) fate
 opened_second a pages b other sound two e fate h =
     (Ok tt, sound, subst (λ others. ComesTo a pages b others fate) (ap (λ (m : ArrayState). m.pages) e) h)
 
-pub second_refused : (a : Config) (pages : Pages) (b : Config) (other : List Contents) (fate : Ending) → RefusesDevice b other fate →
+pub second_refused : (a : Config) (pages : Pages) (b : Config) (other : List Contents) (fate : Ending) →
+    RefusesDevice b other fate →
     Opening b other (ComesTo a pages b (array_of_device b other)) fate
 second_refused a pages b other fate h = (Err h.0, h.1, h.2)
 
 -- and so what two images come to, where the first is sound
-pub first_opened : (a : Config) (image : List Contents) (b : Config) (other : List Contents) → IsSoundImage a.protocol a.logical (shape_of a) image →
+pub first_opened : (a : Config) (image : List Contents) (b : Config) (other : List Contents) →
+    IsSoundImage a.protocol a.logical (shape_of a) image →
     (one : ArrayState) → one ≡ idle (array_of_device a image) → (fate : Ending) →
     Opening b other (ComesTo a one.pages b (array_of_device b other)) fate → Comparing a image b other fate
 first_opened a image b other sound one e fate (Ok done, other_sound, h) =
@@ -186,7 +210,8 @@ first_opened a image b other sound one e fate (Err breach, opens, is) = (Ok tt, 
 -- ---- a number, or why there is none
 
 -- what is done, or refused, in one way is so in another
-pub leads_ok : (P Q : Ending → Type 0) (done : ℕ → Ending) → ((fate : Ending) → P fate → Q fate) → (result : Result ℕ Failure) →
+pub leads_ok : (P Q : Ending → Type 0) (done : ℕ → Ending) → ((fate : Ending) → P fate → Q fate) →
+    (result : Result ℕ Failure) →
     IfOk result (λ n. P (done n)) → IfOk result (λ n. Q (done n))
 leads_ok P Q done leads (Ok n) h = leads (done n) h
 leads_ok P Q done leads (Err e) h = h
@@ -196,7 +221,8 @@ pub leads_err : (P Q : Ending → Type 0) → ((fate : Ending) → P fate → Q 
 leads_err P Q leads (Ok n) h = h
 leads_err P Q leads (Err e) h = stops_by P Q leads e h
 
-pub leads_stop : {T : Type 0} → (P Q : Ending → Type 0) → ((fate : Ending) → P fate → Q fate) → (result : Result T Failure) (e : Failure) →
+pub leads_stop : {T : Type 0} → (P Q : Ending → Type 0) → ((fate : Ending) → P fate → Q fate) →
+    (result : Result T Failure) (e : Failure) →
     IsErrAnd result (λ x. x ≡ e) → StopsBy P e → IfErr result (StopsBy Q)
 leads_stop P Q leads (Ok n) e same h = absurd same
 leads_stop P Q leads (Err x) e same h = stops_by P Q leads x (rw same h)

@@ -1,4 +1,4 @@
--- The fate of a key script, from what its parts come to.
+-- The ending of a key script, from what its parts come to.
 use Rattle.desk_tasks.proofs.Common.{◌≡◌, inl, inr, ℕ, List, [], length, Ok, Err, refl, ap, subst, ◌∙◌, shape_of, Config, Contents, Extras, MemFlashState, loaded, state_of, IsSoundImage, array_in, ReadsImage, Ending, Image, Keyed, OpensStore, Keying, Opening}
 use Rattle.tx_types.specs.declared.config.Slot.{Slot}
 use Rattle.flash_model.specs.Operations.{Moment, moment_of}
@@ -18,7 +18,7 @@ use Rattle.desk_tasks.specs.KeyWork.{IsKeysRun}
 use Rattle.desk_tasks.specs.Stops.{RefusesScript, RefusesStore}
 use Rattle.desk_tasks.proofs.RunLemmas.{starts}
 
--- ---- the fate, from its parts
+-- ---- the ending, from its parts
 
 module _ (name bytes lines : List ℕ) (its : Config) (image : List Contents) (extras : Extras)
     (read : ReadsImage bytes (Ok (its, image, extras))) where
@@ -35,7 +35,8 @@ module _ (its : Config) (image : List Contents) (done : Ending) where
   opening_store fate (inl h) = (Err h.0, h.1, h.2)
   opening_store fate (inr h) = (Ok tt, h.0, (Err h.1.0, h.1.1, h.1.2))
 
-  pub opening_done : IsSoundImage its.protocol its.logical (shape_of its) image → AreBuckets its (array_in its.protocol its.logical image) →
+  pub opening_done : IsSoundImage its.protocol its.logical (shape_of its) image →
+      AreBuckets its (array_in its.protocol its.logical image) →
       Opening its image (OpensStore its image done) done
   opening_done sound buckets = (Ok tt, sound, (Ok tt, buckets, refl))
 

@@ -1,4 +1,4 @@
--- The fate of a task, from what its parts come to.
+-- The ending of a task, from what its parts come to.
 use Rattle.desk_tasks.proofs.Common.{◌≡◌, ℕ, List, [], length, Ok, Err, refl, Config, Protocol, shape_of, Contents, Extras, IsSoundImage, Ending, Ran, Explaining, OpensAndServes, Running, Trying, ReadsImage, RefusesDevice, RefusesLine}
 use Rattle.std.proofs.Common.{◌++◌}
 use Rattle.tx_types.specs.declared.config.Protocol.TheVariants.{Scc}
@@ -13,16 +13,21 @@ use Rattle.desk_tasks.proofs.Sound.{blank_sound}
 -- ---- a fresh default device
 
 -- it is opened
-pub blank_opens : (protocol : Protocol) (its : Config) (image : List Contents) → its ≡ default_config protocol → image ≡ blank_image its →
+pub blank_opens : (protocol : Protocol) (its : Config) (image : List Contents) → its ≡ default_config protocol →
+    image ≡ blank_image its →
     (fate : Ending) → RefusesDevice its image fate → ⊥
 blank_opens protocol its image e f fate h =
-    let refuses : RefusesDevice (default_config protocol) (blank_image (default_config protocol)) fate = rw (f, e) at h in
-    sound_unbroken protocol (default_config protocol).logical (shape_of (default_config protocol)) (blank_image (default_config protocol))
+    let refuses : RefusesDevice (default_config protocol) (blank_image (default_config protocol)) fate =
+    rw (f, e) at h in
+    sound_unbroken protocol (default_config protocol).logical (shape_of (default_config protocol))
+    (blank_image (default_config protocol))
     refuses.0 (blank_sound protocol) refuses.1
 
 -- and commands are run on it
-pub run_blank : (protocol : Protocol) (its : Config) (image : List Contents) (cs : List Command) (left : List Contents) (text : List ℕ) →
-    its ≡ default_config protocol → image ≡ blank_image its → IsRun its image cs left text → RepliesFresh protocol cs text
+pub run_blank : (protocol : Protocol) (its : Config) (image : List Contents) (cs : List Command) (left : List Contents)
+    (text : List ℕ) →
+    its ≡ default_config protocol → image ≡ blank_image its → IsRun its image cs left text →
+    RepliesFresh protocol cs text
 run_blank protocol its image cs left text e f h = (left, rw (f, e) at h)
 
 -- the line that sums up the replies of a list of commands
@@ -33,27 +38,35 @@ summed start count protocol before after cs lines text none same h = rw (none, s
 
 -- ---- a try
 
-pub trying_line : (its : Config) (lines : List ℕ) → its ≡ default_config Scc → (fate : Ending) → RefusesLine its.page_bytes lines fate → Trying lines fate
+pub trying_line : (its : Config) (lines : List ℕ) → its ≡ default_config Scc → (fate : Ending) →
+    RefusesLine its.page_bytes lines fate → Trying lines fate
 trying_line its lines e fate h =
-    let refuses : RefusesLine (default_config Scc).page_bytes lines fate = rw e at h in (Err refuses.0, refuses.1, refuses.2)
+    let refuses : RefusesLine (default_config Scc).page_bytes lines fate = rw e at h in
+    (Err refuses.0, refuses.1, refuses.2)
 
 -- ---- a run
 
-pub running_line : (name bytes lines : List ℕ) (its : Config) (image : List Contents) (extras : Extras) → ReadsImage bytes (Ok (its, image, extras)) →
+pub running_line : (name bytes lines : List ℕ) (its : Config) (image : List Contents) (extras : Extras) →
+    ReadsImage bytes (Ok (its, image, extras)) →
     (fate : Ending) → RefusesLine its.page_bytes lines fate → Running name bytes lines fate
-running_line name bytes lines its image extras read fate h = (Ok (its, image, extras), read, ((Err h.0, h.1, h.2), refl))
+running_line name bytes lines its image extras read fate h =
+    (Ok (its, image, extras), read, ((Err h.0, h.1, h.2), refl))
 
-pub running_on : (name bytes lines : List ℕ) (its : Config) (image : List Contents) (extras : Extras) (cs : List Command) →
+pub running_on : (name bytes lines : List ℕ) (its : Config) (image : List Contents) (extras : Extras)
+    (cs : List Command) →
     ReadsImage bytes (Ok (its, image, extras)) → IsFile its.page_bytes lines cs →
     (fate : Ending) → OpensAndServes its image (Ran name its image extras cs) fate → Running name bytes lines fate
-running_on name bytes lines its image extras cs read file fate h = (Ok (its, image, extras), read, ((Ok cs, file, h), refl))
+running_on name bytes lines its image extras cs read file fate h =
+    (Ok (its, image, extras), read, ((Ok cs, file, h), refl))
 
 -- ---- an explanation
 
-pub explaining_device : (bytes : List ℕ) (its : Config) (image : List Contents) (extras : Extras) → ReadsImage bytes (Ok (its, image, extras)) →
+pub explaining_device : (bytes : List ℕ) (its : Config) (image : List Contents) (extras : Extras) →
+    ReadsImage bytes (Ok (its, image, extras)) →
     (fate : Ending) → RefusesDevice its image fate → Explaining bytes fate
 explaining_device bytes its image extras read fate h = (Ok (its, image, extras), read, ((Err h.0, h.1, h.2), refl))
 
-pub explaining_done : (bytes : List ℕ) (its : Config) (image : List Contents) (extras : Extras) → ReadsImage bytes (Ok (its, image, extras)) →
+pub explaining_done : (bytes : List ℕ) (its : Config) (image : List Contents) (extras : Extras) →
+    ReadsImage bytes (Ok (its, image, extras)) →
     IsSoundImage its.protocol its.logical (shape_of its) image → Explaining bytes (Explained its image)
 explaining_done bytes its image extras read sound = (Ok (its, image, extras), read, ((Ok tt, sound, refl), refl))

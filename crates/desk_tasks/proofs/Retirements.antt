@@ -23,13 +23,17 @@ settled_idle true pages = refl
 settled_idle false pages = refl
 
 -- what a device with nothing open is left with
-pub retires_idle : (old new : DeviceState MemFlashState) (block : ℕ) (p : Protocol) → old.machine ≡ idle old.machine.pages → Stands state_of new →
-    new.config.protocol ≡ p → DevicesStand state_of p → RetiresDevice state_of old new block (Ok tt) → RetiresIdle old new block
+pub retires_idle : (old new : DeviceState MemFlashState) (block : ℕ) (p : Protocol) →
+    old.machine ≡ idle old.machine.pages → Stands state_of new →
+    new.config.protocol ≡ p → DevicesStand state_of p → RetiresDevice state_of old new block (Ok tt) →
+    RetiresIdle old new block
 retires_idle old new block p none stands rule laws retires = record {
   shape = shape;
   extras = ap (λ extras. unwrap_or extras no_extras) retires.told;
-  sound = subst (λ (c : Config). IsSoundImage c.protocol c.logical old.flash.shape image) same (rw (rule, ← shape) (laws.sound new stands rule));
-  array = subst (λ (c : Config). array_in c.protocol c.logical image ≡ new.machine.pages) same (rw rule (laws.records new stands rule retires.sure).1) ∙ pages;
+  sound = subst (λ (c : Config). IsSoundImage c.protocol c.logical old.flash.shape image) same
+      (rw (rule, ← shape) (laws.sound new stands rule));
+  array = subst (λ (c : Config). array_in c.protocol c.logical image ≡ new.machine.pages) same
+      (rw rule (laws.records new stands rule retires.sure).1) ∙ pages;
   blank = subst (λ (c : Config). IsBlankBlock c image block) (sym stands.config ∙ same) retires.blank;
 }
   where
@@ -48,7 +52,8 @@ retires_idle old new block p none stands rule laws retires = record {
 
 -- ---- the flash that is left, from a device that was mounted
 
-module _ (its : Config) (flash : MemFlashState) (opened : DeviceState MemFlashState) (ready : flash ≡ loaded (shape_of its) flash.image flash.extras)
+module _ (its : Config) (flash : MemFlashState) (opened : DeviceState MemFlashState)
+    (ready : flash ≡ loaded (shape_of its) flash.image flash.extras)
     (mounts : Mounts state_of flash its opened) where
   pub opened_shape : opened.flash.shape ≡ shape_of its
   opened_shape = mounts.carries.shape ∙ ap (λ (s : MemFlashState). s.shape) ready
@@ -56,14 +61,16 @@ module _ (its : Config) (flash : MemFlashState) (opened : DeviceState MemFlashSt
   opened_extras : opened.flash.extras ≡ flash.extras
   opened_extras = ap (λ extras. unwrap_or extras no_extras) mounts.carries.extras
 
-  pub opened_refusal : (block : ℕ) (refusal : Option Ending) → block_refusal opened.config opened.flash.extras block ≡ refusal →
+  pub opened_refusal : (block : ℕ) (refusal : Option Ending) →
+      block_refusal opened.config opened.flash.extras block ≡ refusal →
       block_refusal its flash.extras block ≡ refusal
   opened_refusal block refusal e =
       subst (λ (c : Config). block_refusal c flash.extras block ≡ refusal) mounts.config
       (subst (λ (x : Extras). block_refusal opened.config x block ≡ refusal) opened_extras e)
 
   pub leaves_retired : (block : ℕ) (new : DeviceState MemFlashState) (left : MemFlashState) →
-      IsSoundImage its.protocol its.logical (shape_of its) flash.image → block_refusal opened.config opened.flash.extras block ≡ None →
+      IsSoundImage its.protocol its.logical (shape_of its) flash.image →
+      block_refusal opened.config opened.flash.extras block ≡ None →
       RetiresIdle opened new block → left ≡ new.flash → LeavesRetired its flash block left
   leaves_retired block new left sound none retires is = record {
     refusal = opened_refusal block None none;
@@ -71,22 +78,26 @@ module _ (its : Config) (flash : MemFlashState) (opened : DeviceState MemFlashSt
     extras = ap (λ (s : MemFlashState). s.extras) is ∙ retires.extras ∙ ap one_more opened_extras;
     empties = record {
       sound = sound;
-      left_sound = rw is (subst (λ (c : Config). IsSoundImage c.protocol c.logical (shape_of its) new.flash.image) mounts.config
+      left_sound = rw is (subst (λ (c : Config). IsSoundImage c.protocol c.logical (shape_of its) new.flash.image)
+          mounts.config
           (rw (← opened_shape) retires.sound));
-      array = rw is (subst (λ (c : Config). array_in c.protocol c.logical new.flash.image ≡ opened.machine.pages) mounts.config retires.array
+      array = rw is (subst (λ (c : Config). array_in c.protocol c.logical new.flash.image ≡ opened.machine.pages)
+          mounts.config retires.array
           ∙ ap (λ (s : ArrayState). s.pages) mounts.machine);
       blank = rw is (subst (λ (c : Config). IsBlankBlock c new.flash.image block) mounts.config retires.blank);
     };
   }
 
--- ---- the fate, from its parts
+-- ---- the ending, from its parts
 
 module _ (name bytes : List ℕ) (block : ℕ) (its : Config) (image : List Contents) (extras : Extras)
     (read : ReadsImage bytes (Ok (its, image, extras))) where
-  pub retiring_refused : (fate : Ending) → RefusesRetirement its image extras block fate → Retiring name bytes block fate
+  pub retiring_refused : (fate : Ending) → RefusesRetirement its image extras block fate →
+      Retiring name bytes block fate
   retiring_refused fate (inl h) = (Ok (its, image, extras), read, ((Err h.0, h.1, h.2), refl))
   retiring_refused fate (inr h) = (Ok (its, image, extras), read, ((Ok tt, h.0, rw h.1 refl), refl))
 
-  pub retiring_done : IsSoundImage its.protocol its.logical (shape_of its) image → block_refusal its extras block ≡ None →
+  pub retiring_done : IsSoundImage its.protocol its.logical (shape_of its) image →
+      block_refusal its extras block ≡ None →
       Retiring name bytes block (Retired name its image extras block)
   retiring_done sound none = (Ok (its, image, extras), read, ((Ok tt, sound, rw none refl), refl))

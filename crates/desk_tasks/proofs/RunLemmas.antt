@@ -16,10 +16,12 @@ use Rattle.cut_replay.proofs.Runs.{run_lengths}
 use Rattle.desk_tasks.specs.Runs.{IsRun, first_moment}
 
 -- a flash that was just loaded breaks only where it is armed
-pub is_steady : (its : Config) (flash : MemFlashState) → flash ≡ loaded (shape_of its) flash.image flash.extras → IsSteady (state_of flash)
+pub is_steady : (its : Config) (flash : MemFlashState) → flash ≡ loaded (shape_of its) flash.image flash.extras →
+    IsSteady (state_of flash)
 is_steady its flash e = record {
   live = ap (λ s. s.live) e;
-  none = let none = ap (λ (s : MemFlashState). s.armed) e in subst (λ armed. ((told_of armed).cuts ≡ 0) × ((told_of armed).breaks ≡ 0)) (sym none) (refl, refl);
+  none = let none = ap (λ (s : MemFlashState). s.armed) e in
+      subst (λ armed. ((told_of armed).cuts ≡ 0) × ((told_of armed).breaks ≡ 0)) (sym none) (refl, refl);
 }
 
 pub starts : (its : Config) (flash : MemFlashState) → flash ≡ loaded (shape_of its) flash.image flash.extras →
@@ -32,14 +34,17 @@ starts its flash e =
 pub is_run : (its : Config) (flash left : MemFlashState) (cs : List Command) (before after : List ℕ) →
     flash ≡ loaded (shape_of its) flash.image flash.extras → before ≡ [] →
     IsSoundImage its.protocol its.logical (shape_of its) flash.image →
-    ServesRun its cs (length cs) (state_of flash) (state_of left) (record { text = Some before; kept = None }) (record { text = Some after; kept = None }) →
+    ServesRun its cs (length cs) (state_of flash) (state_of left) (record { text = Some before; kept = None })
+    (record { text = Some after; kept = None }) →
     IsRun its flash.image cs left.image after
 is_run its flash left cs before after e none is_sound served =
     let start = starts its flash e in
     let told : after ≡ before ++ text_of_all (take (length cs) served.replies) = cc (served.text) in
-    let whole = take_whole (length cs) served.replies (run_lengths its (mentions_in its (moment_of (state_of flash))) false
+    let whole = take_whole (length cs) served.replies
+    (run_lengths its (mentions_in its (moment_of (state_of flash))) false
     (first_point its served.run.up (moment_of (state_of flash))) cs served.replies served.points served.run.runs).0 in
-    let from = subst (λ m. (run : IsFlashRun its m cs served.replies served.points) × ((cs ≡ []) ⊎ (run.up ≡ true))) start
+    let from = subst (λ m. (run : IsFlashRun its m cs served.replies served.points)
+    × ((cs ≡ []) ⊎ (run.up ≡ true))) start
     (served.run, served.up (is_steady its flash e)) in
     record {
       sound = is_sound;
@@ -49,7 +54,8 @@ is_run its flash left cs before after e none is_sound served =
       up = from.1;
       last = ap (λ m. m.image) (served.last ∙ ap (λ m. last_moment m served.points) start);
       said = rw (none, whole) at told;
-      few = subst (λ armed. AreFew (told_of armed).cuts (told_of armed).breaks cs served.replies) (ap (λ (s : MemFlashState). s.armed) e) served.spends.few;
+      few = subst (λ armed. AreFew (told_of armed).cuts (told_of armed).breaks cs served.replies)
+          (ap (λ (s : MemFlashState). s.armed) e) served.spends.few;
     }
 
 -- the report on the list of the records of an image, under the rule of its protocol

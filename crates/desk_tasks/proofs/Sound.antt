@@ -32,7 +32,8 @@ blank_reads protocol logical (suc n) =
 
 -- a blank image is sound
 pub blank_sound : (protocol : Protocol) →
-    IsSoundImage protocol (default_config protocol).logical (shape_of (default_config protocol)) (blank_image (default_config protocol))
+    IsSoundImage protocol (default_config protocol).logical (shape_of (default_config protocol))
+    (blank_image (default_config protocol))
 blank_sound protocol = record {
   reads = blank_reads protocol 20 32;
   written = rw (no_records protocol) (written_none protocol);

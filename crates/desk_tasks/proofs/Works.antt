@@ -19,13 +19,15 @@ use Rattle.desk_tasks.specs.declared.output.Failure.{Failure}
 use Rattle.desk_tasks.specs.declared.output.Failure.TheVariants as stop
 
 -- a step that is refused in one way is refused in another
-pub stops_by : (P Q : Ending → Type 0) → ((fate : Ending) → P fate → Q fate) → (stopped : Failure) → StopsBy P stopped → StopsBy Q stopped
+pub stops_by : (P Q : Ending → Type 0) → ((fate : Ending) → P fate → Q fate) → (stopped : Failure) → StopsBy P stopped →
+    StopsBy Q stopped
 stops_by P Q leads (stop.Refused refusal) h = leads (refused refusal) h
 stops_by P Q leads stop.Fault h = h
 stops_by P Q leads stop.Memory h = h
 
--- work that comes to a fate in one way comes to it in another
-pub works_on : (P Q : Ending → Type 0) → ((fate : Ending) → P fate → Q fate) → (result : Result Output Failure) → WorksTo P result → WorksTo Q result
+-- work that comes to an ending in one way comes to it in another
+pub works_on : (P Q : Ending → Type 0) → ((fate : Ending) → P fate → Q fate) → (result : Result Output Failure) →
+    WorksTo P result → WorksTo Q result
 works_on P Q leads (Ok product) h = (h.0, leads h.0 h.1, h.2, h.3)
 works_on P Q leads (Err stopped) h = stops_by P Q leads stopped h
 
@@ -36,46 +38,55 @@ stopped P Q (Ok product) e same leads h = absurd same
 stopped P Q (Err x) e same leads h = stops_by P Q leads x (rw same h)
 
 -- what nothing refuses stops only where memory runs out
-pub only_memory : (P : Ending → Type 0) → ((fate : Ending) → P fate → ⊥) → (stopped : Failure) → StopsBy P stopped → stopped ≡ stop.Memory
+pub only_memory : (P : Ending → Type 0) → ((fate : Ending) → P fate → ⊥) → (stopped : Failure) → StopsBy P stopped →
+    stopped ≡ stop.Memory
 only_memory P never (stop.Refused refusal) h = absurd (never (refused refusal) h)
 only_memory P never stop.Fault h = absurd h
 only_memory P never stop.Memory h = refl
 
 -- and so does what stops with it
-pub memory_alone : {T : Type 0} → (result : Result T Failure) (e : Failure) → IsErrAnd result (λ x. x ≡ e) → e ≡ stop.Memory →
+pub memory_alone : {T : Type 0} → (result : Result T Failure) (e : Failure) → IsErrAnd result (λ x. x ≡ e) →
+    e ≡ stop.Memory →
     IfErr result (λ x. x ≡ stop.Memory)
 memory_alone (Ok done) e same memory = absurd same
 memory_alone (Err x) e same memory = same ∙ memory
 
-pub out_of_memory : (Q : Ending → Type 0) (result : Result Output Failure) (e : Failure) → IsErrAnd result (λ x. x ≡ e) →
+pub out_of_memory : (Q : Ending → Type 0) (result : Result Output Failure) (e : Failure) →
+    IsErrAnd result (λ x. x ≡ e) →
     e ≡ stop.Memory → WorksTo Q result
 out_of_memory Q (Ok product) e same memory = absurd same
 out_of_memory Q (Err x) e same memory = rw (same, memory) tt
 
-pub memory_stops : {T : Type 0} → (P : Ending → Type 0) (result : Result T Failure) → IfErr result (λ e. e ≡ stop.Memory) → IfErr result (StopsBy P)
+pub memory_stops : {T : Type 0} → (P : Ending → Type 0) (result : Result T Failure) →
+    IfErr result (λ e. e ≡ stop.Memory) → IfErr result (StopsBy P)
 memory_stops P (Ok done) h = h
 memory_stops P (Err x) h = rw h tt
 
 -- so is what stops where reading an image does
-image_stops_by : (P : ImageEnding → Type 0) (Q : Ending → Type 0) → ((why : ImageEnding) → P why → Q (Image why)) → (stopped : ImageStop) →
+image_stops_by : (P : ImageEnding → Type 0) (Q : Ending → Type 0) → ((why : ImageEnding) → P why → Q (Image why)) →
+    (stopped : ImageStop) →
     ImageStops P stopped → StopsBy Q (failure_of stopped)
 image_stops_by P Q leads (image.Refused refusal) h = leads (image_refused refusal) h
 image_stops_by P Q leads image.Fault h = h
 image_stops_by P Q leads image.Memory h = h
 
-pub unread : (P : ImageEnding → Type 0) (Q : Ending → Type 0) (result : Result Output Failure) (e : ImageStop) → IsErrAnd result (λ x. x ≡ failure_of e) →
+pub unread : (P : ImageEnding → Type 0) (Q : Ending → Type 0) (result : Result Output Failure) (e : ImageStop) →
+    IsErrAnd result (λ x. x ≡ failure_of e) →
     ((why : ImageEnding) → P why → Q (Image why)) → ImageStops P e → WorksTo Q result
 unread P Q (Ok product) e same leads h = absurd same
 unread P Q (Err x) e same leads h = rw same (image_stops_by P Q leads e h)
 
 -- the work on the bytes of an image stops where reading them does
-pub unread_image : (bytes : List ℕ) (next : Config → List Contents → Extras → Ending → Type 0) (result : Result Output Failure) (e : ImageStop) →
+pub unread_image : (bytes : List ℕ) (next : Config → List Contents → Extras → Ending → Type 0)
+    (result : Result Output Failure) (e : ImageStop) →
     IsErrAnd result (λ x. x ≡ failure_of e) → ImageStops (RefusesImage bytes) e → WorksTo (Reading bytes next) result
 unread_image bytes next result e same h =
-    unread (RefusesImage bytes) (Reading bytes next) result e same (λ why refuses. (Err refuses.0, refuses.1, (ap Image refuses.2, refl))) h
+    unread (RefusesImage bytes) (Reading bytes next) result e same
+    (λ why refuses. (Err refuses.0, refuses.1, (ap Image refuses.2, refl))) h
 
 -- after its loads, the work of a task comes to what its last part comes to
-pub works : (task : Option Request) (old new : DeskState) (n : ℕ) (comes : Ending → Type 0) (result : Result Output Failure) →
+pub works : (task : Option Request) (old new : DeskState) (n : ℕ) (comes : Ending → Type 0)
+    (result : Result Output Failure) →
     new ≡ after_loads n old → IsWorkedAfter task n → CameThrough task old n →
     ((fate : Ending) → comes fate → IsEnding task old fate n) → WorksTo comes result → Works task old new result
 works task old new n comes (Ok product) loaded all came leads h = (h.0, (n, leads h.0 h.1, loaded), h.2, h.3)
@@ -97,10 +108,13 @@ unfetched_by task old mid new n name (image.Refused refusal) loaded most came mi
       | inr much ↦ (suc n, rw much.1 (long much.0), after)
     ]
 unfetched_by task old mid new n name image.Fault loaded most came missing long h = (n, most, came, rw (← loaded) h)
-unfetched_by task old mid new n name image.Memory loaded most came missing long h = inl (n, most, came, h ∙ ap after_memory loaded)
+unfetched_by task old mid new n name image.Memory loaded most came missing long h =
+    inl (n, most, came, h ∙ ap after_memory loaded)
 
-pub unfetched : (task : Option Request) (old mid new : DeskState) (n : ℕ) (name : List ℕ) (stopped : ImageStop) (result : Result Output Failure) →
-    IsErrAnd result (λ x. x ≡ failure_of stopped) → mid ≡ after_loads n old → n < length (files_of task) → CameThrough task old n →
+pub unfetched : (task : Option Request) (old mid new : DeskState) (n : ℕ) (name : List ℕ) (stopped : ImageStop)
+    (result : Result Output Failure) →
+    IsErrAnd result (λ x. x ≡ failure_of stopped) → mid ≡ after_loads n old → n < length (files_of task) →
+    CameThrough task old n →
     (Finds mid name found.Missing → IsEnding task old (Image (Missing name)) (suc n)) →
     (Finds mid name found.TooLong → IsEnding task old (Image (TooLong name)) (suc n)) →
     Fetches mid new name (Err stopped) → Works task old new result
@@ -127,6 +141,7 @@ finds_before old mid name found e h =
 pub found_none : (desk : DeskState) → All (FindsBytes desk) []
 found_none desk = All-nil (FindsBytes desk)
 
-pub found_more : (desk : DeskState) (name bytes : List ℕ) (names : List (List ℕ)) → Finds desk name (found.Bytes bytes) →
+pub found_more : (desk : DeskState) (name bytes : List ℕ) (names : List (List ℕ)) →
+    Finds desk name (found.Bytes bytes) →
     All (FindsBytes desk) names → All (FindsBytes desk) (name ∷ names)
 found_more desk name bytes names finds rest = All-cons (FindsBytes desk) name names (bytes, finds) rest

@@ -27,7 +27,7 @@ pub const SIMPLE: Config = Config {
     pending: 7,
 };
 
-/// The same under Back Pointer Cyclic Commit.
+/// Two dies of four blocks of four slots, and twenty pages, under Back Pointer Cyclic Commit.
 pub const BACK_POINTER: Config = Config {
     protocol: Protocol::Bpcc,
     page_bytes: 16,
@@ -178,7 +178,7 @@ fn may_program(flash: &MemFlash, at: Slot) -> bool
     true
 }
 
-/// Programs a slot, where it may be. Tells whether that was not broken.
+/// Programs a slot, where it may be. Returns whether that was not broken.
 fn program(flash: &mut MemFlash, at: Slot, fill: u8, spare_area: &[u8; SPARE_BYTES]) -> Option<bool>
     requires { flash.old.shape.page_bytes ≡ 16 }
     ensures { flash.new.shape ≡ flash.old.shape }
@@ -190,7 +190,7 @@ fn program(flash: &mut MemFlash, at: Slot, fill: u8, spare_area: &[u8; SPARE_BYT
     }
 }
 
-/// Programs a record. Tells whether that could be done and was not broken.
+/// Programs a record. Returns whether that could be done and was not broken.
 pub fn put_record(flash: &mut MemFlash, protocol: Protocol, at: Slot, rec: Rec, fill: u8) -> bool
     requires { flash.old.shape.page_bytes ≡ 16 }
     ensures { flash.new.shape ≡ flash.old.shape }
@@ -203,7 +203,7 @@ pub fn put_record(flash: &mut MemFlash, protocol: Protocol, at: Slot, rec: Rec, 
     program(flash, at, fill, &spare_area) == Some(true)
 }
 
-/// Has a read from now on, the one of this number, be broken. Tells whether it is one.
+/// Has a read from now on, the one of this number, be broken. Returns whether it is one.
 fn arm_bad_read(flash: &mut MemFlash, count: u32) -> bool
     ensures { flash.new.shape ≡ flash.old.shape }
 {
@@ -215,7 +215,7 @@ fn arm_bad_read(flash: &mut MemFlash, count: u32) -> bool
 }
 
 /// Does to a slot what a text says behind it: `4 damaged`, `4 zeros`, or the record of which it is, with a page that is
-/// full of a byte. Tells whether that could be done.
+/// full of a byte. Returns whether that could be done.
 fn put_slot(flash: &mut MemFlash, protocol: Protocol, at: Slot, text: &str) -> bool
     requires { flash.old.shape.page_bytes ≡ 16 }
     ensures { flash.new.shape ≡ flash.old.shape }
@@ -233,7 +233,7 @@ fn put_slot(flash: &mut MemFlash, protocol: Protocol, at: Slot, text: &str) -> b
     }
 }
 
-/// Does the item that a text says to a flash: `nothing`, `badread 2`, or what is done to a slot. Tells whether that
+/// Does the item that a text says to a flash: `nothing`, `badread 2`, or what is done to a slot. Returns whether that
 /// could be done.
 fn put(flash: &mut MemFlash, protocol: Protocol, text: &str) -> bool
     requires { flash.old.shape.page_bytes ≡ 16 }
@@ -246,7 +246,7 @@ fn put(flash: &mut MemFlash, protocol: Protocol, text: &str) -> bool
     }
 }
 
-/// Does the items of a text to a flash. Tells whether that could be done.
+/// Does the items of a text to a flash. Returns whether that could be done.
 pub fn put_all(flash: &mut MemFlash, protocol: Protocol, items: &str) -> bool
     requires { flash.old.shape.page_bytes ≡ 16 }
     ensures { flash.new.shape ≡ flash.old.shape }

@@ -21,7 +21,7 @@ const SMALL: Config = Config {
     pending: 7,
 };
 
-/// Serves a script on a fresh device. Tells whether it could.
+/// Serves a script on a fresh device. Returns whether it could.
 fn is_served(alloc: Global, script: &[u8], replies: &mut Vec<u8>) -> bool
     requires { length script.now ≤ 1000 }
 {

@@ -30,7 +30,7 @@ impl Watch<MemFlash> for Moments {
     }
 }
 
-/// Serves commands on a fresh flash. It answers how many reads the flash counted.
+/// Serves commands on a fresh flash. It returns how many reads the flash counted.
 fn served<W: Watch<MemFlash>>(alloc: Global, commands: &[u8], out: &mut W) -> Option<u64>
     requires { length commands.now ≤ 1000 }
 {
@@ -84,7 +84,7 @@ fn reads_fail_in_the_mount_after_a_cut_and_in_the_next(rt: HostRuntime) {
     }
 }
 
-/// Whether so many slots are read for commands.
+/// Whether this many slots are read for commands.
 fn are_reads(alloc: Global, commands: &str, reads: u64) -> bool {
     let mut lines = Lines::new(alloc);
     reads_of(alloc, commands, &mut lines) == Some(reads)

@@ -8,16 +8,19 @@ use Rattle.die_alloc.specs.NextSlot.{first_answer}
 
 -- of a range that is not empty, the first number is asked first
 pub first_range : {B : Type 0} (f : ℕ → Option B) (from to : ℕ) → from < to
-    → first_answer f (range_with_len from (to - from)) ≡ option_or (f from) (first_answer f (range_with_len (from + 1) (to - (from + 1))))
+    → first_answer f (range_with_len from (to - from))
+    ≡ option_or (f from) (first_answer f (range_with_len (from + 1) (to - (from + 1))))
 first_range f from to h = let e : to - from ≡ suc (to - (from + 1)) = omega arith in rw e refl
 
 pub first_answer-append : {A B : Type 0} (f : A → Option B) (xs ys : List A)
     → first_answer f (xs ++ ys) ≡ option_or (first_answer f xs) (first_answer f ys)
 first_answer-append f [] ys = refl
-first_answer-append f (x ∷ xs) ys = rw (first_answer-append f xs ys) (sym (option_or_assoc (f x) (first_answer f xs) (first_answer f ys)))
+first_answer-append f (x ∷ xs) ys = rw (first_answer-append f xs ys)
+    (sym (option_or_assoc (f x) (first_answer f xs) (first_answer f ys)))
 
 -- an answer is that of one of the numbers
-pub answer_of_one : {B : Type 0} (f : ℕ → Option B) (from count : ℕ) (y : B) → first_answer f (range_with_len from count) ≡ Some y
+pub answer_of_one : {B : Type 0} (f : ℕ → Option B) (from count : ℕ) (y : B) →
+    first_answer f (range_with_len from count) ≡ Some y
     → (n : ℕ) × (from ≤ n) × (n < from + count) × (f n ≡ Some y)
 answer_of_one f from zero y h = cc
 answer_of_one f from (suc count) y h =

@@ -23,7 +23,8 @@ before_cursor t = first_answer (open_block t) (range_with_len 0 t.cursor)
 
 pub next_block_split : (t : BlocksState) → next_block t ≡ option_or (from_cursor t) (before_cursor t)
 unfolding next_block
-next_block_split t = first_answer-append (open_block t) (range_with_len t.cursor (t.shape.dies - t.cursor)) (range_with_len 0 t.cursor)
+next_block_split t = first_answer-append (open_block t) (range_with_len t.cursor (t.shape.dies - t.cursor))
+    (range_with_len 0 t.cursor)
 
 -- the open block of a die is one of the table, lies in the die, and has room
 pub record Stands (t : BlocksState) (die block : ℕ) : Type 0 where
@@ -31,7 +32,8 @@ pub record Stands (t : BlocksState) (die block : ℕ) : Type 0 where
   pub lies : block / t.shape.blocks_per_die ≡ die
   pub room : HasRoom t block
 
-pub open_block_stands : (t : BlocksState) → IsBlocksState t → (die block : ℕ) → die < t.shape.dies → open_block t die ≡ Some block
+pub open_block_stands : (t : BlocksState) → IsBlocksState t → (die block : ℕ) → die < t.shape.dies →
+    open_block t die ≡ Some block
     → Stands t die block
 open_block_stands t h die block below e =
     let found = open_block_has_room t h die block below e in
@@ -42,7 +44,8 @@ open_block_stands t h die block below e =
     }
 
 -- a die has none exactly where no block of it has room
-pub no_open_block_where_full : (t : BlocksState) → IsBlocksState t → (die : ℕ) → die < t.shape.dies → IsNone (open_block t die) ↔ IsFullIn t die
+pub no_open_block_where_full : (t : BlocksState) → IsBlocksState t → (die : ℕ) → die < t.shape.dies →
+    IsNone (open_block t die) ↔ IsFullIn t die
 no_open_block_where_full t h die below = by_block (open_block t die) refl
   where
     by_block : (o : Option ℕ) → open_block t die ≡ o → IsNone o ↔ IsFullIn t die
@@ -74,7 +77,8 @@ next_block_has_room t h block e =
           from_die die.0 below die.3
     ]
   where
-    from_die : (die : ℕ) → die < t.shape.dies → open_block t die ≡ Some block → (block < blocks_of t.shape) × HasRoom t block
+    from_die : (die : ℕ) → die < t.shape.dies → open_block t die ≡ Some block → (block < blocks_of t.shape)
+        × HasRoom t block
     from_die die below e = let stands = open_block_stands t h die block below e in (stands.within, stands.room)
 
 -- where there is none, no block has room
@@ -106,11 +110,13 @@ room_left t h block within room =
     ]
 
 -- so the slot that follows the used ones is the first free slot of the block
-pub first_unused_is_free : (t : BlocksState) → IsBlocksState t → (block : ℕ) → block < blocks_of t.shape → HasRoom t block
+pub first_unused_is_free : (t : BlocksState) → IsBlocksState t → (block : ℕ) → block < blocks_of t.shape →
+    HasRoom t block
     → IsFirstFree t (first_unused t block).0
 first_unused_is_free t h block within room =
     let left = room_left t h block within room in
-    let lies : block_of_slot t.shape (first_unused t block).0 ≡ block = div-mul-add block t.shape.pages_per_block _ left in
+    let lies : block_of_slot t.shape (first_unused t block).0 ≡ block =
+    div-mul-add block t.shape.pages_per_block _ left in
     let place = mod-mul-add block t.shape.pages_per_block _ left in
     record {
       free = record {
@@ -141,14 +147,23 @@ no_block_where_full t h = by_block (next_block t) refl
 
 -- the cursor plays no part in what is free
 pub is_first_free_moved : (t : BlocksState) (at die : ℕ) → IsFirstFree t at → IsFirstFree (record t { cursor = die }) at
-is_first_free_moved t at die h = record { free = record { within = h.free.within; room = h.free.room; unused = h.free.unused }; first = h.first }
+is_first_free_moved t at die h = record {
+  free = record {
+    within = h.free.within;
+    room = h.free.room;
+    unused = h.free.unused;
+  };
+  first = h.first;
+}
 
 pub ruleset next_blocks = (next_block_split, next_block_has_room, no_block_where_full)
 
 -- the first die comes after the last one
-pub first_die : (s : Shape) (block : ℕ) → IsShape s → block < blocks_of s → s.dies ≤ block / s.blocks_per_die + 1 → die_after s block ≡ 0
+pub first_die : (s : Shape) (block : ℕ) → IsShape s → block < blocks_of s → s.dies ≤ block / s.blocks_per_die + 1 →
+    die_after s block ≡ 0
 first_die s block shape within past =
     let below : block / s.blocks_per_die < s.dies =
-    div_below block s.blocks_per_die s.dies (omega (arith, shape.blocks_least)) (omega (arith, within, mul_comm s.blocks_per_die s.dies)) in
+    div_below block s.blocks_per_die s.dies (omega (arith, shape.blocks_least))
+    (omega (arith, within, mul_comm s.blocks_per_die s.dies)) in
     let place : block / s.blocks_per_die + 1 ≡ 1 * s.dies + 0 = omega arith in
     rw place (mod-mul-add 1 s.dies 0 (omega arith))

@@ -28,11 +28,14 @@ module _ (test : BlockState → Bool) (t : BlocksState) (die : ℕ) where
 
   -- the lowest block of a die that passes a test lies in the die and passes it
   pub lowest_passes : Lies → (block : ℕ) → lowest_block test t die ≡ Some block
-      → (die * t.shape.blocks_per_die ≤ block) × (block < die * t.shape.blocks_per_die + t.shape.blocks_per_die) × (test (block_state t block) ≡ true)
+      → (die * t.shape.blocks_per_die ≤ block) × (block < die * t.shape.blocks_per_die + t.shape.blocks_per_die)
+      × (test (block_state t block) ≡ true)
   lowest_passes lies block h = from_place (position (λ b. test b.state) (die_blocks t die)) refl h
     where
-      from_place : (o : Option ℕ) → position (λ b. test b.state) (die_blocks t die) ≡ o → option_map (λ k. die * t.shape.blocks_per_die + k) o ≡ Some block
-          → (die * t.shape.blocks_per_die ≤ block) × (block < die * t.shape.blocks_per_die + t.shape.blocks_per_die) × (test (block_state t block) ≡ true)
+      from_place : (o : Option ℕ) → position (λ b. test b.state) (die_blocks t die) ≡ o →
+          option_map (λ k. die * t.shape.blocks_per_die + k) o ≡ Some block
+          → (die * t.shape.blocks_per_die ≤ block) × (block < die * t.shape.blocks_per_die + t.shape.blocks_per_die)
+          × (test (block_state t block) ≡ true)
       from_place None e g = cc
       from_place (Some k) e g =
           let found = position-Some (λ b. test b.state) (die_blocks t die) k no_block e in
@@ -42,17 +45,20 @@ module _ (test : BlockState → Bool) (t : BlocksState) (die : ℕ) where
 
   -- where there is none, no block of the die passes it
   pub none_passes : Lies → lowest_block test t die ≡ None
-      → (block : ℕ) → die * t.shape.blocks_per_die ≤ block → block < die * t.shape.blocks_per_die + t.shape.blocks_per_die → test (block_state t block) ≡ false
+      → (block : ℕ) → die * t.shape.blocks_per_die ≤ block →
+      block < die * t.shape.blocks_per_die + t.shape.blocks_per_die → test (block_state t block) ≡ false
   none_passes lies h block low high = from_place (position (λ b. test b.state) (die_blocks t die)) refl h
     where
-      from_place : (o : Option ℕ) → position (λ b. test b.state) (die_blocks t die) ≡ o → option_map (λ k. die * t.shape.blocks_per_die + k) o ≡ None →
+      from_place : (o : Option ℕ) → position (λ b. test b.state) (die_blocks t die) ≡ o →
+          option_map (λ k. die * t.shape.blocks_per_die + k) o ≡ None →
           test (block_state t block) ≡ false
       from_place (Some k) e g = cc
       from_place None e g =
           let place = block - die * t.shape.blocks_per_die in
           let within : place < t.shape.blocks_per_die = omega arith in
           let is : die * t.shape.blocks_per_die + place ≡ block = omega arith in
-          let fails = position-all (λ b. test b.state) (die_blocks t die) no_block e place (omega (arith, length_of_die lies)) in
+          let fails = position-all (λ b. test b.state) (die_blocks t die) no_block e place
+          (omega (arith, length_of_die lies)) in
           rw (place_of_die place within, is) at fails
 
 part_is : (s : BlockState) → is_part s ≡ true → s ≡ Part
@@ -70,22 +76,28 @@ clean_is Shut h = cc
 -- the dies of a block table lie in it
 pub die_lies : (t : BlocksState) → IsBlocksState t → (die : ℕ) → die < t.shape.dies
     → die * t.shape.blocks_per_die + t.shape.blocks_per_die ≤ length t.blocks
-die_lies t h die below = rw h.count (row_fits_turned die t.shape.blocks_per_die t.shape.blocks_per_die t.shape.dies below (omega arith))
+die_lies t h die below = rw h.count (row_fits_turned die t.shape.blocks_per_die t.shape.blocks_per_die t.shape.dies
+    below (omega arith))
 
 -- the block of a die that has room
-pub open_block_has_room : (t : BlocksState) → IsBlocksState t → (die block : ℕ) → die < t.shape.dies → open_block t die ≡ Some block
-    → (die * t.shape.blocks_per_die ≤ block) × (block < die * t.shape.blocks_per_die + t.shape.blocks_per_die) × HasRoom t block
+pub open_block_has_room : (t : BlocksState) → IsBlocksState t → (die block : ℕ) → die < t.shape.dies →
+    open_block t die ≡ Some block
+    → (die * t.shape.blocks_per_die ≤ block) × (block < die * t.shape.blocks_per_die + t.shape.blocks_per_die)
+    × HasRoom t block
 unfolding open_block
 open_block_has_room t h die block below e =
     let lies = die_lies t h die below in
     elim (option_or_some (lowest_block is_part t die) (lowest_block is_clean t die) block e) [
-      | inl part ↦ let found = lowest_passes is_part t die lies block part in (found.0, found.1, inr (part_is _ found.2))
-      | inr clean ↦ let found = lowest_passes is_clean t die lies block clean.1 in (found.0, found.1, inl (clean_is _ found.2))
+      | inl part ↦ let found = lowest_passes is_part t die lies block part in
+          (found.0, found.1, inr (part_is _ found.2))
+      | inr clean ↦ let found = lowest_passes is_clean t die lies block clean.1 in
+          (found.0, found.1, inl (clean_is _ found.2))
     ]
 
 -- where a die has none, no block of it has room
 pub no_open_block : (t : BlocksState) → IsBlocksState t → (die block : ℕ) → die < t.shape.dies → open_block t die ≡ None
-    → die * t.shape.blocks_per_die ≤ block → block < die * t.shape.blocks_per_die + t.shape.blocks_per_die → HasRoom t block → ⊥
+    → die * t.shape.blocks_per_die ≤ block → block < die * t.shape.blocks_per_die + t.shape.blocks_per_die →
+    HasRoom t block → ⊥
 unfolding open_block
 no_open_block t h die block below e low high room =
     let lies = die_lies t h die below in

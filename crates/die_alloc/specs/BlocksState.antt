@@ -30,7 +30,7 @@ block_state t block = (use_of t block).state
 abbrev pub used_of : BlocksState → ℕ → ℕ
 used_of t block = (use_of t block).used
 
--- how many used slots a block of so many slots may have in a state
+-- how many used slots a block of this many slots may have in a state
 abbrev pub MayHave : ℕ → BlockState → ℕ → Type 0
 MayHave pages Spare used = used ≡ 0
 MayHave pages Clean used = used ≡ 0

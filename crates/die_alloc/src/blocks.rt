@@ -1,9 +1,9 @@
 ghost use Rattle.std.specs.Prelude.{◌≡◌, ◌≢◌, ◌-◌, ◌*◌, ◌/◌, ◌%◌, ◌<◌, ◌≤◌, ◌↔◌, IfOk, IfSome, IfNone, IsNone};
+ghost use Rattle.std.specs.List.{range_with_len};
 ghost use Rattle.tx_types.specs.Config.{IsShape, slots_of, blocks_of};
 ghost use Rattle.flash_model.specs.Operations.{die_of};
 ghost use Rattle.die_alloc.specs.BlocksState.{IsBlocksState, MayHave, block_state, used_of, fresh_table, with_slot, with_use, table_with_spare, HasRoom, IsFree, IsFirstFree, IsFull, IsFullIn};
 ghost use Rattle.die_alloc.specs.NextSlot.{next_slot, next_slot_in, first_unused, next_block, open_block, die_after, after_next_slot, first_answer};
-ghost use Rattle.std.specs.List.{range_with_len};
 
 use crate::block_use::BlockUse;
 use crate::ranks::{keep, ranks};

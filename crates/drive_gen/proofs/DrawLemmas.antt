@@ -24,7 +24,8 @@ unfolding state_behind_all
 behind_is c start i = refl
 
 -- one transaction more
-pub behind_more : (c : Config) (start i : ℕ) → state_behind c (state_behind_all c start i) ≡ state_behind_all c start (i + 1)
+pub behind_more : (c : Config) (start i : ℕ) → state_behind c (state_behind_all c start i)
+    ≡ state_behind_all c start (i + 1)
 behind_more c start i = rw add-one (behind_is c start i)
 
 pub behind_none : (c : Config) (start : ℕ) → state_behind_all c start 0 ≡ start
@@ -35,18 +36,21 @@ behind_none c start = refl
 
 -- a cut is armed first
 pub kind_cut : (c : Config) (x tag : ℕ) → drawn_kind c x ≡ kind.Cut
-    → (transaction c x tag ≡ drawn_cut c x ∷ written_at_once tag (drawn_batch c x)) × (state_behind c x ≡ generator_after x (page_count c x + 5))
+    → (transaction c x tag ≡ drawn_cut c x ∷ written_at_once tag (drawn_batch c x))
+    × (state_behind c x ≡ generator_after x (page_count c x + 5))
 unfolding transaction state_behind
 kind_cut c x tag e = (rw e refl, rw e refl)
 
 -- it is aborted
 pub kind_abort : (c : Config) (x tag : ℕ) → drawn_kind c x ≡ kind.Abort
-    → (transaction c x tag ≡ aborted tag (drawn_batch c x) (length (drawn_batch c x).entries)) × (state_behind c x ≡ generator_after x (page_count c x + 3))
+    → (transaction c x tag ≡ aborted tag (drawn_batch c x) (length (drawn_batch c x).entries))
+    × (state_behind c x ≡ generator_after x (page_count c x + 3))
 unfolding transaction state_behind
 kind_abort c x tag e = (rw (e, length-map-range_with_len (drawn_write c x) 0 (page_count c x)) refl, rw e refl)
 
 -- it is finished
 pub kind_finish : (c : Config) (x tag : ℕ) → drawn_kind c x ≡ kind.Finish
-    → (transaction c x tag ≡ written_at_once tag (drawn_batch c x)) × (state_behind c x ≡ generator_after x (page_count c x + 3))
+    → (transaction c x tag ≡ written_at_once tag (drawn_batch c x))
+    × (state_behind c x ≡ generator_after x (page_count c x + 3))
 unfolding transaction state_behind
 kind_finish c x tag e = (rw e refl, rw e refl)

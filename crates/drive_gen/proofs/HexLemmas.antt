@@ -6,7 +6,8 @@ use Rattle.drive_gen.specs.Summary.{digit_value}
 
 -- two digits more
 pub sum_more : (digits : List ℕ) → 2 ≤ length digits
-    → sum_of_bytes digits ≡ 16 * digit_value (get_or digits 0 0) + digit_value (get_or digits 1 0) + sum_of_bytes (drop 2 digits)
+    → sum_of_bytes digits ≡ 16 * digit_value (get_or digits 0 0) + digit_value (get_or digits 1 0) + sum_of_bytes
+    (drop 2 digits)
 unfolding sum_of_bytes
 sum_more [] h = absurd (omega arith)
 sum_more (high ∷ []) h = absurd (omega arith)
@@ -30,5 +31,6 @@ pub sum_most : (digits : List ℕ) → sum_of_bytes digits ≤ 128 * length digi
 unfolding sum_of_bytes
 sum_most [] = omega arith
 sum_most (digit ∷ []) = omega arith
-sum_most (high ∷ low ∷ digits) = pair_more (digit_value high) (digit_value low) (sum_of_bytes digits) (length digits) (digit_most high) (digit_most low)
+sum_most (high ∷ low ∷ digits) = pair_more (digit_value high) (digit_value low) (sum_of_bytes digits) (length digits)
+    (digit_most high) (digit_most low)
     (sum_most digits)

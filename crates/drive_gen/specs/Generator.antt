@@ -9,7 +9,7 @@ next_state x = (x * 6364136223846793005 + 1442695040888963407) % 2 ^ 64
 abbrev pub high_bits : ℕ → ℕ → ℕ
 high_bits x m = x / 2 ^ 33 % m
 
--- the state after so many draws from state x
+-- the state after this many draws from state x
 unfoldable pub generator_after : ℕ → ℕ → ℕ
 generator_after x zero = x
 generator_after x (suc k) = next_state (generator_after x k)

@@ -85,7 +85,7 @@ other_draws _ = 3
 unfoldable pub state_behind : Config → ℕ → ℕ
 state_behind c x = generator_after x (page_count c x + other_draws (drawn_kind c x))
 
--- the state behind so many transactions
+-- the state behind this many transactions
 unfoldable pub state_behind_all : Config → ℕ → ℕ → ℕ
 state_behind_all c start zero = start
 state_behind_all c start (suc i) = state_behind c (state_behind_all c start i)
@@ -103,7 +103,8 @@ transactions start count c = flat_map (numbered c start) (range_with_len 0 count
 abbrev pub reads : ℕ → List Command
 reads pages = map (λ page. command.Read page) (range_with_len 0 pages)
 
--- every page is written, so many transactions are drawn, every page is read, and the numbers of the device are asked for
+-- every page is written, this many transactions are drawn, every page is read, and the numbers of the device are asked
+-- for
 unfoldable pub generated : ℕ → ℕ → Config → List Command
 generated start count c =
     fills c ++ transactions start count c ++ reads c.logical ++ command.Stats ∷ []

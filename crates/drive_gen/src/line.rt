@@ -1,7 +1,6 @@
 ghost use Rattle.std.specs.Prelude.{◌≡◌, ◌++◌, length, IfOk, OnOk, OnErr};
 ghost use Rattle.host_protocol.specs.Replies.{line_of};
-ghost use Rattle.drive_gen.specs.Summary.{asked_words, flash_words, sum_words, summary_line};
-ghost use Rattle.drive_gen.specs.Summary.{protocol_word, spaced};
+ghost use Rattle.drive_gen.specs.Summary.{asked_words, flash_words, sum_words, summary_line, protocol_word, spaced};
 ghost use Rattle.drive_gen.specs.Tally.{tally_words};
 
 use crate::tally::{Tally, count_lines};

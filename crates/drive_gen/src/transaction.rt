@@ -2,8 +2,7 @@ ghost use Rattle.std.specs.Prelude.{◌≡◌, ◌<◌, ◌+◌, ◌%◌, ◌++�
 ghost use Rattle.tx_types.specs.Config.{IsConfig};
 ghost use Rattle.host_protocol.specs.declared.command.Command.TheVariants as command;
 ghost use Rattle.drive_gen.specs.Generator.{next_state, high_bits, generator_after};
-ghost use Rattle.drive_gen.specs.Work.{aborted, drawn_batch, written_at_once, most_pages};
-ghost use Rattle.drive_gen.specs.Work.{outcome_of, page_count, state_behind, transaction};
+ghost use Rattle.drive_gen.specs.Work.{aborted, drawn_batch, written_at_once, most_pages, outcome_of, page_count, state_behind, transaction};
 
 use crate::generator::Generator;
 use crate::kind::Kind;
@@ -60,7 +59,7 @@ fn draw_page_count(config: Config, generator: &mut Generator) -> u32
     1 + generator.draw(3.min(config.pending).min(config.logical))
 }
 
-/// The page that comes so many pages behind another one, where the first follows the last.
+/// The page that comes this many pages behind another one, where the first follows the last.
 fn page_behind(first: u32, k: u32, pages: u32) -> u32
     requires { 0 < pages }
     ensures { result ≡ (first + k) % pages }

@@ -45,7 +45,8 @@ fn add_all(
     Ok(())
 }
 
-/// The most commands that so many transactions on so many pages may have, so that the list is not moved while it grows.
+/// The most commands that this many transactions on this many pages may have, so that the list is not moved while it
+/// grows.
 fn most_commands(count: u32, pages: u32) -> usize {
     3 * count as usize + 3 * pages as usize + 1
 }
@@ -91,7 +92,7 @@ fn add_transactions(
     Ok(())
 }
 
-/// Adds a read of each of so many pages.
+/// Adds a read of each of this many pages.
 fn add_reads(pages: u32, list: &mut Vec<Command>) -> Result<(), Memory>
     ensures { OnOk result (list.new.items ≡ list.old.items ++ reads pages) }
 {

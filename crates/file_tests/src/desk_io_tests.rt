@@ -48,7 +48,7 @@ pub fn save_fails<D: Desk>(desk: &mut D, name: &str, bytes: &[u8]) -> bool {
     }
 }
 
-/// Whether the file has so many bytes.
+/// Whether the file has this many bytes.
 fn is_long<D: Desk>(desk: &mut D, name: &str, length: usize) -> bool {
     match length_on(desk, name) {
         Ok(found) => found == length,

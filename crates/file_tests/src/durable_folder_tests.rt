@@ -131,7 +131,7 @@ fn stays(folder: &CrashingFolder, name: &str, bytes: &[u8]) -> bool {
     }
 }
 
-/// Whether a save of which no call fails is in place only where it has to be, and answers Ok. A file that was made
+/// Whether a save of which no call fails is in place only where it has to be, and returns Ok. A file that was made
 /// through a link has no folder to be synced, where that can't be told.
 fn is_done(folder: &CrashingFolder, it: &Case, is_ok: bool) -> bool {
     let is_lost = it.is_nowhere() && it.setting == Setting::Unresolved;
@@ -159,7 +159,7 @@ fn save_over(folder: &mut CrashingFolder, alloc: Global, it: &Case) -> Option<u3
     }
 }
 
-/// The same, of a save in a folder of its own.
+/// The number of calls of a save in a folder of its own, where all that a loss of power may leave is as it should be.
 fn save_counting_calls(alloc: Global, it: &Case) -> Option<u32> {
     let mut folder = CrashingFolder::new(alloc, it.setting, it.fails, it.kind, it.is_cut);
     save_over(&mut folder, alloc, it)
@@ -225,7 +225,7 @@ fn folder_of(alloc: Global, setting: Setting) -> Result<CrashingFolder, AllocErr
     Ok(folder)
 }
 
-/// Whether a save that claims the file first answers Ok and keeps it open.
+/// Whether a save that claims the file first returns Ok and keeps it open.
 fn is_saved(
     folder: &mut CrashingFolder,
     alloc: Global,
@@ -285,7 +285,7 @@ fn is_saved_if_unchanged(
         && is_saved(folder, alloc, name, &found) == (since == Since::Nothing)
 }
 
-/// The same, in a folder of its own.
+/// Whether a file that was loaded in a folder of its own is saved, where nothing was done to it since, and only there.
 fn is_saved_only_if_unchanged(alloc: Global, name: &str, setting: Setting, since: Since) -> bool {
     match folder_of(alloc, setting) {
         Ok(folder) => {

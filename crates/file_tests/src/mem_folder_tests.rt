@@ -186,15 +186,15 @@ fn fault(name: &str) -> Fault {
     }
 }
 
-/// How the calls of a folder fail of which one fails, after so many others.
+/// How the calls of a folder fail of which one fails, after this many others.
 fn one_fault(alloc: Global, fault: Fault, calls: usize) -> Result<Vec<Option<Fault>>, AllocError> {
     let mut faults = vec![in alloc; Some(fault)]?;
     faults.resize(calls.saturating_add(1), None)?;
     Ok(faults)
 }
 
-/// Whether a loss of power leaves the new bytes after two saves if the second one was answered Ok, and else those of the
-/// first one if this was. Of a folder that could not be synced nothing is said.
+/// Whether a loss of power leaves the new bytes after two saves if the second one was answered Ok, and else those of
+/// the first one if this was. Of a folder that could not be synced nothing is said.
 fn is_whole(folder: &mut MemFolder, alloc: Global) -> bool {
     let is_old = save(folder, alloc, "f", b"old").is_ok();
     let is_new = save(folder, alloc, "f", b"new").is_ok();
@@ -210,7 +210,7 @@ fn is_whole(folder: &mut MemFolder, alloc: Global) -> bool {
 /// How many of the calls of two saves fail in turn. They make more.
 const CALLS: usize = 20;
 
-/// Whether two saves are whole, of which the call after so many others fails.
+/// Whether two saves are whole, of which the call after this many others fails.
 fn is_whole_at(alloc: Global, line: &str, calls: usize) -> bool {
     let Ok(faults) = one_fault(alloc, fault(line), calls) else {
         return false;

@@ -10,7 +10,8 @@ pub counted_by-twice : (more most n : ℕ) → counted_by most (counted_by more 
 counted_by-twice more most n = omega arith
 
 -- what a flash tells stays told, and no more is to come
-pub no_more_then : (a b c : Option Told) → BothTell NoMoreToCome a b → BothTell NoMoreToCome b c → BothTell NoMoreToCome a c
+pub no_more_then : (a b c : Option Told) → BothTell NoMoreToCome a b → BothTell NoMoreToCome b c →
+    BothTell NoMoreToCome a c
 no_more_then None None None ab bc = tt
 no_more_then None None (Some z) ab bc = absurd bc
 no_more_then None (Some y) c ab bc = absurd ab
@@ -23,7 +24,8 @@ pub no_more_same : (a : Option Told) → BothTell NoMoreToCome a a
 no_more_same None = tt
 no_more_same (Some x) = (omega arith, omega arith)
 
-spends_then : (live : Bool) (a b c : Option Told) → BothTell NoMoreToCome a b → BothTell (Spends live) b c → BothTell (Spends live) a c
+spends_then : (live : Bool) (a b c : Option Told) → BothTell NoMoreToCome a b → BothTell (Spends live) b c →
+    BothTell (Spends live) a c
 spends_then live None None None ab bc = tt
 spends_then live None None (Some z) ab bc = absurd bc
 spends_then live None (Some y) c ab bc = absurd ab
@@ -47,7 +49,8 @@ Carries-nothing s = record {
   starts = λ on. Starts-nothing s;
 }
 
-dead_then : (a b c : FlashState) → Carries a b false → Carries b c true → a.live ≡ false → c ≡ record a { faults = c.faults }
+dead_then : (a b c : FlashState) → Carries a b false → Carries b c true → a.live ≡ false →
+    c ≡ record a { faults = c.faults }
 dead_then a b c ab bc off =
     bc.dead (ab.lives ∙ off) ∙ ap (λ (s : FlashState). record s { faults = c.faults }) (ab.dead off)
 
@@ -107,6 +110,7 @@ IsSteady-carries old new steady carries = record {
 }
 
 -- so each call on a steady flash leaves it steady
-pub IsSteady-stays : (old new : FlashState) (broken : Bool) → IsSteady old → Carries old new broken → (broken ≡ false) × IsSteady new
+pub IsSteady-stays : (old new : FlashState) (broken : Bool) → IsSteady old → Carries old new broken → (broken ≡ false)
+    × IsSteady new
 IsSteady-stays old new true steady carries = absurd (steady_unbroken old new steady carries)
 IsSteady-stays old new false steady carries = (refl, IsSteady-carries old new steady carries)

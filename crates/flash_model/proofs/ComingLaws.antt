@@ -20,7 +20,8 @@ module _ (before : Told) (arm : Arm) (armed : before.cut ≡ Some arm) (n m : �
   waited None live both = absurd both
   waited (Some after) live both = subst (λ o. Waits n o after.cut) armed both.0
 
-module _ (old new : FlashState) (before : Told) (arm : Arm) (told : old.told ≡ Some before) (armed : before.cut ≡ Some arm)
+module _ (old new : FlashState) (before : Told) (arm : Arm) (told : old.told ≡ Some before)
+    (armed : before.cut ≡ Some arm)
     (some : 1 ≤ arm.count) (within : old.started + arm.count < 2 ^ 64) (on : old.live ≡ true) where
   -- where power goes off, as many were started as the cut was to count
   pub cut_came : Carries old new true → new.live ≡ false → new.started ≡ old.started + arm.count
@@ -28,7 +29,8 @@ module _ (old new : FlashState) (before : Told) (arm : Arm) (told : old.told ≡
       let starts = carries.starts on in
       let there = subst (λ l. BothTell (ComesTo true l starts.0 starts.1) old.told new.told) off starts.4 in
       let n : starts.0 ≡ number arm.count =
-      came before arm armed starts.0 starts.1 new.told (subst (λ t. BothTell (ComesTo true false starts.0 starts.1) t new.told) told there)
+      came before arm armed starts.0 starts.1 new.told
+      (subst (λ t. BothTell (ComesTo true false starts.0 starts.1) t new.told) told there)
       in
       let exact : starts.0 ≡ arm.count = omega (arith, n, some) in
       starts.2 ∙ ap (λ k. counted_times k old.started) exact ∙ counted_times-within arm.count old.started within
@@ -39,11 +41,11 @@ module _ (old new : FlashState) (before : Told) (arm : Arm) (told : old.told ≡
   cut_waits carries =
       let starts = carries.starts on in
       let here = waited before arm armed starts.0 starts.1 new.told new.live
-          (subst (λ t. BothTell (ComesTo false new.live starts.0 starts.1) t new.told) told starts.4) in
+      (subst (λ t. BothTell (ComesTo false new.live starts.0 starts.1) t new.told) told starts.4) in
       let fewer : starts.0 < arm.count = omega (arith, here.0, some) in
-      let is : new.started ≡ old.started + starts.0 = starts.2 ∙ counted_times-within starts.0 old.started (omega (arith, fewer, within)) in
-      let n : starts.0 ≡ new.started - old.started = omega (arith, is) in
-      (
+      let is : new.started ≡ old.started + starts.0 = starts.2
+      ∙ counted_times-within starts.0 old.started (omega (arith, fewer, within)) in
+      let n : starts.0 ≡ new.started - old.started = omega (arith, is) in (
         omega (arith, is, fewer),
         subst (λ k. IsSomeAnd new.told (λ after. after.cut ≡ Some (record arm { count = arm.count - k }))) n here.1,
       )

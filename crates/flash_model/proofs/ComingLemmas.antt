@@ -16,17 +16,20 @@ counted_times-then (suc more) (suc most) n =
 
 -- an arm that waits counts on, and comes at the number that is left of its own
 module _ (n m : ℕ) (c : Option Arm) where
-  waits_some : (x : Arm) → n < number x.count → Waits m (Some (record x { count = x.count - n })) c → Waits (n + m) (Some x) c
+  waits_some : (x : Arm) → n < number x.count → Waits m (Some (record x { count = x.count - n })) c →
+      Waits (n + m) (Some x) c
   waits_some x later next = (
     omega (arith, later, next.0),
-    let e : x.count - n - m ≡ x.count - (n + m) = omega arith in next.1 ∙ ap (λ (k : ℕ). Some (record x { count = k })) e,
+    let e : x.count - n - m ≡ x.count - (n + m) = omega arith in
+        next.1 ∙ ap (λ (k : ℕ). Some (record x { count = k })) e,
   )
 
   waits_then : (a b : Option Arm) → Waits n a b → Waits m b c → Waits (n + m) a c
   waits_then None b ab bc = subst (λ o. Waits m o c) ab bc
   waits_then (Some x) b ab bc = waits_some x ab.0 (subst (λ o. Waits m o c) ab.1 bc)
 
-  comes_some : (x : Arm) → n < number x.count → Comes m (Some (record x { count = x.count - n })) c → Comes (n + m) (Some x) c
+  comes_some : (x : Arm) → n < number x.count → Comes m (Some (record x { count = x.count - n })) c →
+      Comes (n + m) (Some x) c
   comes_some x later next = (omega (arith, later, next.0), next.1)
 
   comes_then : (a b : Option Arm) → Waits n a b → Comes m b c → Comes (n + m) a c
@@ -64,7 +67,8 @@ pub read_waits_nothing : (a : Option ℕ) → ReadWaits 0 a a
 read_waits_nothing None = refl
 read_waits_nothing (Some x) = (omega arith, let e : x ≡ x - 0 = omega arith in ap Some e)
 
-module _ (n m i j : ℕ) (a b c : Told) (here : Waits n a.cut b.cut × Waits n a.fault b.fault × ReadWaits m a.bad_read b.bad_read) where
+module _ (n m i j : ℕ) (a b c : Told) (here : Waits n a.cut b.cut × Waits n a.fault b.fault
+    × ReadWaits m a.bad_read b.bad_read) where
   fault_then : Waits i b.fault c.fault → Waits (n + i) a.fault c.fault
   fault_then waits = waits_then n i c.fault a.fault b.fault here.1 waits
 

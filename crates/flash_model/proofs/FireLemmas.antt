@@ -28,13 +28,15 @@ slot_at-load image load outcome.All k other =
 slot_at-load image load outcome.Bad k other = get_or-set_other image load.at k damaged blank other
 
 -- the slots from one of them to the end of its block lie in its block
-in_block : (shape : Shape) (at k : ℕ) → at ≤ k → k < block_end shape at → k / shape.pages_per_block ≡ at / shape.pages_per_block
+in_block : (shape : Shape) (at k : ℕ) → at ≤ k → k < block_end shape at →
+    k / shape.pages_per_block ≡ at / shape.pages_per_block
 in_block shape at k low high =
     div-eq_of_lt-le shape.pages_per_block (omega (arith, div-add-mod' at shape.pages_per_block)) high
 
 -- so a program of another die may be done as before
 can_other : (shape : Shape) (image : List Contents) (load other : Load) (how : Outcome)
-    → die_of shape load.at ≢ die_of shape other.at → CanLoad shape image other → CanLoad shape (load_left image load how) other
+    → die_of shape load.at ≢ die_of shape other.at → CanLoad shape image other →
+    CanLoad shape (load_left image load how) other
 can_other shape image load other how apart can = (
   record {
     in_range = can.0.in_range;
@@ -80,7 +82,8 @@ pub empty_registers : (n : ℕ) → (loads_in (replicate n None) ≡ []) × AreF
 empty_registers n = (none_loaded (replicate n None) (λ k low. free_empty n k), λ k low. free_empty n k)
 
 -- a program behind all that are loaded is the last
-pub loads_in-more : (registers : List (Option Load)) (die : ℕ) (load : Load) → die < length registers → AreFreeFrom registers die
+pub loads_in-more : (registers : List (Option Load)) (die : ℕ) (load : Load) → die < length registers →
+    AreFreeFrom registers die
     → loads_in (set registers die (Some load)) ≡ loads_in registers ++ load ∷ []
 loads_in-more [] die load within free = absurd (omega arith)
 loads_in-more (None ∷ rest) zero load within free =
@@ -89,7 +92,8 @@ loads_in-more (Some other ∷ rest) zero load within free = let none = free 0 (o
 loads_in-more (None ∷ rest) (suc die) load within free =
     loads_in-more rest die load (omega arith) (λ k low. free (suc k) (omega arith))
 loads_in-more (Some other ∷ rest) (suc die) load within free =
-    ap (λ (loads : List Load). other ∷ loads) (loads_in-more rest die load (omega arith) (λ k low. free (suc k) (omega arith)))
+    ap (λ (loads : List Load). other ∷ loads) (loads_in-more rest die load (omega arith)
+    (λ k low. free (suc k) (omega arith)))
 
 -- and the registers behind it stay empty
 pub AreFreeFrom-more : (registers : List (Option Load)) (die : ℕ) (load : Load) → AreFreeFrom registers die
@@ -101,5 +105,7 @@ AreFreeFrom-more registers die load free k low =
 pub die_within : (shape : Shape) (at : ℕ) → IsShape shape → at < slots_of shape → die_of shape at < shape.dies
 die_within shape at bounds within =
     let block : at / shape.pages_per_block < blocks_of shape =
-    div_below at shape.pages_per_block (blocks_of shape) (let b = bounds.pages_least in omega arith) (omega (arith, within)) in
-    div_below (at / shape.pages_per_block) shape.blocks_per_die shape.dies (let b = bounds.blocks_least in omega arith) (omega (arith, block))
+    div_below at shape.pages_per_block (blocks_of shape) (let b = bounds.pages_least in
+    omega arith) (omega (arith, within)) in
+    div_below (at / shape.pages_per_block) shape.blocks_per_die shape.dies (let b = bounds.blocks_least in
+    omega arith) (omega (arith, block))

@@ -34,10 +34,17 @@ none_lone = All-nil IsLone
 
 -- where nothing was done the moment is the same
 pub Moves-nothing : (shape : Shape) (m : Moment) (broken : Bool) → Moves shape m broken m
-Moves-nothing shape m broken = record { done = []; lone = none_lone; between = m; does = refl; ends = ends_nothing shape m broken }
+Moves-nothing shape m broken = record {
+  done = [];
+  lone = none_lone;
+  between = m;
+  does = refl;
+  ends = ends_nothing shape m broken;
+}
 
 -- an operation that is done
-pub Moves-done : (shape : Shape) (old new : Moment) (o : Operation) → IsLone o → CanDo shape old.image o → Done shape old o new
+pub Moves-done : (shape : Shape) (old new : Moment) (o : Operation) → IsLone o → CanDo shape old.image o →
+    Done shape old o new
     → Moves shape old false new
 Moves-done shape old new o lone can done = record {
   done = o ∷ [];
@@ -48,13 +55,15 @@ Moves-done shape old new o lone can done = record {
 }
 
 -- an operation that is broken
-pub Moves-torn : (shape : Shape) (old new : Moment) (o : Operation) → IsLone o → CanDo shape old.image o → Torn shape old o new
+pub Moves-torn : (shape : Shape) (old new : Moment) (o : Operation) → IsLone o → CanDo shape old.image o →
+    Torn shape old o new
     → Moves shape old true new
 Moves-torn shape old new o lone can torn =
     record { done = []; lone = none_lone; between = old; does = refl; ends = inr (o, lone, can, torn) }
 
 -- operations that were done, and what comes after them
-pub Moves-after : (shape : Shape) (a b c : Moment) (list : List Operation) (broken : Bool) → All IsLone list → Does shape a list b
+pub Moves-after : (shape : Shape) (a b c : Moment) (list : List Operation) (broken : Bool) → All IsLone list →
+    Does shape a list b
     → Moves shape b broken c → Moves shape a broken c
 Moves-after shape a b c list broken lone does moves = record {
   done = list ++ moves.done;
@@ -68,24 +77,30 @@ Moves-after shape a b c list broken lone does moves = record {
 pub Moves-then : (shape : Shape) (a b c : Moment) (broken : Bool) → Moves shape a false b → Moves shape b broken c
     → Moves shape a broken c
 Moves-then shape a b c broken first second =
-    Moves-after shape a b c first.done broken first.lone (subst (λ (m : Moment). Does shape a first.done m) (sym first.ends) first.does) second
+    Moves-after shape a b c first.done broken first.lone
+    (subst (λ (m : Moment). Does shape a first.done m) (sym first.ends) first.does) second
 
 -- the same from one state of a flash to another
-pub FlashMoves-nothing : (old new : FlashState) (broken : Bool) → moment_of new ≡ moment_of old → FlashMoves old new broken
+pub FlashMoves-nothing : (old new : FlashState) (broken : Bool) → moment_of new ≡ moment_of old →
+    FlashMoves old new broken
 FlashMoves-nothing old new broken same =
-    subst (λ (m : Moment). Moves old.shape (moment_of old) broken m) (sym same) (Moves-nothing old.shape (moment_of old) broken)
+    subst (λ (m : Moment). Moves old.shape (moment_of old) broken m) (sym same)
+    (Moves-nothing old.shape (moment_of old) broken)
 
-pub FlashMoves-then : (a b c : FlashState) (broken : Bool) → b.shape ≡ a.shape → FlashMoves a b false → FlashMoves b c broken
+pub FlashMoves-then : (a b c : FlashState) (broken : Bool) → b.shape ≡ a.shape → FlashMoves a b false →
+    FlashMoves b c broken
     → FlashMoves a c broken
 FlashMoves-then a b c broken shape first second =
     Moves-then a.shape (moment_of a) (moment_of b) (moment_of c) broken first
     (subst (λ (s : Shape). Moves s (moment_of b) broken (moment_of c)) shape second)
 
 -- a read
-pub FlashMoves-reads : (old new : FlashState) (at : ℕ) (bytes spare_area : List ℕ) (result : Result Seen Broken) (broken : Bool)
+pub FlashMoves-reads : (old new : FlashState) (at : ℕ) (bytes spare_area : List ℕ) (result : Result Seen Broken)
+    (broken : Bool)
     → Reads old new at bytes spare_area result → FlashMoves old new broken
 FlashMoves-reads old new at bytes spare_area result broken reads =
-    FlashMoves-nothing old new broken (same_moments (moment_of new) (moment_of old) reads.image reads.programs reads.erases)
+    FlashMoves-nothing old new broken (same_moments (moment_of new) (moment_of old) reads.image
+    reads.programs reads.erases)
 
 -- a program or an erase
 pub FlashMoves-operates : (old new : FlashState) (o : Operation) (result : Result (Unit {0}) Broken)
@@ -96,7 +111,8 @@ FlashMoves-operates old new o (Err broken) lone can operates =
     Moves-torn old.shape (moment_of old) (moment_of new) o lone can operates.torn
 
 -- programs that are started together do what they do one after another
-pub Does-fire : (shape : Shape) (m : Moment) (load : Load) (loads : List Load) → CanDo shape m.image (fire (load ∷ loads))
+pub Does-fire : (shape : Shape) (m : Moment) (load : Load) (loads : List Load) →
+    CanDo shape m.image (fire (load ∷ loads))
     → Does shape m (map program_of (load ∷ loads)) (after shape m (fire (load ∷ loads)))
 Does-fire shape m load [] can = (can_first shape m.image load [] can, refl)
 Does-fire shape m load (next ∷ loads) can =
@@ -115,7 +131,8 @@ all_lone (load ∷ loads) = All-cons IsLone (program_of load) (map program_of lo
 
 -- so a fire that is done moves the flash by its programs
 pub FlashMoves-fires : (old new : FlashState) (loads : List Load) (done : Unit {0})
-    → loads ≢ [] → CanDo old.shape old.image (fire loads) → Operates old new (fire loads) (Ok done) → FlashMoves old new false
+    → loads ≢ [] → CanDo old.shape old.image (fire loads) → Operates old new (fire loads) (Ok done) →
+    FlashMoves old new false
 FlashMoves-fires old new [] done some can fired = absurd (some refl)
 FlashMoves-fires old new (load ∷ loads) done some can fired = record {
   done = map program_of (load ∷ loads);

@@ -33,7 +33,8 @@ pub CarriesRetiring-then : (a b c : FlashState) (broken : Bool) → Carries a b 
     → CarriesRetiring a c broken
 CarriesRetiring-then a b c broken ab bc = record {
   carries =
-      Carries-then (with_extras a c.extras) (with_extras b c.extras) c broken (Carries-with_extras a b c.extras false ab) bc.carries;
+      Carries-then (with_extras a c.extras) (with_extras b c.extras) c broken
+      (Carries-with_extras a b c.extras false ab) bc.carries;
   dead = λ off. bc.dead (ab.lives ∙ off) ∙ ab.extras;
 }
 
@@ -51,4 +52,5 @@ CarriesRetiring-before a b c broken ab bc = record {
 pub IsSteady-retiring : (old new : FlashState) (broken : Bool) → IsSteady old → CarriesRetiring old new broken
     → (broken ≡ false) × IsSteady new
 IsSteady-retiring old new broken steady keeps =
-    IsSteady-stays (with_extras old new.extras) new broken (record { live = steady.live; none = steady.none }) keeps.carries
+    IsSteady-stays (with_extras old new.extras) new broken (record { live = steady.live; none = steady.none })
+    keeps.carries

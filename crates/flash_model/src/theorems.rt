@@ -30,7 +30,7 @@ pub fn cuts_come_due()
         before.cut ≡ Some arm → 1 ≤ arm.count → old.started + arm.count < 2 ^ 64 → old.live ≡ true →
         Carries old new false → (new.started < old.started + arm.count)
         × IsSomeAnd new.told (λ after. after.cut
-            ≡ Some (record arm { count = arm.count - (new.started - old.started) })) }
+        ≡ Some (record arm { count = arm.count - (new.started - old.started) })) }
 {}
 
 /// A program or an erase moves the flash by one operation, done or broken, and so does a fire that is done, by its

@@ -20,7 +20,8 @@ use Rattle.flash_picture.specs.Held.{AreAsked, asked_name, asks_at, if_asked, pl
 -- ---- a record is held where its back version is below the greatest link of those that ask for its name
 
 -- some number is above a bound where the greatest is
-any_greatest : (test : Found → Bool) (of : Rec → ℕ) (b : ℕ) → ((f : Found) → test f ≡ nat_lt b (of f.rec)) → (l : List Found) →
+any_greatest : (test : Found → Bool) (of : Rec → ℕ) (b : ℕ) → ((f : Found) → test f ≡ nat_lt b (of f.rec)) →
+    (l : List Found) →
     list_any test l ≡ nat_lt b (greatest of l)
 any_greatest test of b same [] = sym (le-ltb b 0 (omega arith))
 any_greatest test of b same (f ∷ fs) =
@@ -47,9 +48,11 @@ module _ (list : List Found) (logical : ℕ) (r : Rec) where
 
   -- a record asks for the name of one that answers for it, and links above its back version
   asks_answer : (f : Rec) → answers_for Bpcc list logical r f ≡ nat_lt r.back (asks_at Bpcc list logical (name_of r) f)
-  asks_answer f = one_test (answers_for Bpcc list logical r f) (nat_lt r.back (asks_at Bpcc list logical (name_of r) f)) to from
+  asks_answer f = one_test (answers_for Bpcc list logical r f) (nat_lt r.back (asks_at Bpcc list logical (name_of r) f))
+      to from
     where
-      asked : asks f ≡ true → asks_at Bpcc list logical (name_of r) f ≡ cond (is_same (name f) (name_of r)) f.next.version 0
+      asked : asks f ≡ true → asks_at Bpcc list logical (name_of r) f
+          ≡ cond (is_same (name f) (name_of r)) f.next.version 0
       asked holds = ap (λ o. if_asked (name_of r) o f.next.version) (cond-true (asks f) (Some (name f)) None holds)
 
       to : answers_for Bpcc list logical r f ≡ true → nat_lt r.back (asks_at Bpcc list logical (name_of r) f) ≡ true
@@ -60,7 +63,8 @@ module _ (list : List Found) (logical : ℕ) (r : Rec) where
           let some = and_from (is_loose Bpcc list logical f) (nat_lt f.next.version (version f))
           (lt-ltb (cur Bpcc list logical f.page) f.version a.loose) (lt-ltb f.next.version (version f) (omega arith)) in
           let same : name f ≡ name_of r = ap₂ (λ (p v : ℕ). record { page = p; version = v }) a.page a.version in
-          ap (nat_lt r.back) (asked some ∙ cond-true (is_same (name f) (name_of r)) f.next.version 0 (is_same_own (name f) (name_of r) same))
+          ap (nat_lt r.back) (asked some ∙ cond-true (is_same (name f) (name_of r)) f.next.version 0
+          (is_same_own (name f) (name_of r) same))
           ∙ lt-ltb r.back f.next.version a.from
 
       from : nat_lt r.back (asks_at Bpcc list logical (name_of r) f) ≡ true → answers_for Bpcc list logical r f ≡ true
@@ -95,13 +99,16 @@ module _ (list : List Found) (logical : ℕ) (r : Rec) where
   none_greatest [] = refl
   none_greatest (f ∷ fs) = ap (max 0) (none_greatest fs)
 
-  pub held_is : (protocol : Protocol) → nat_lt r.back (greatest (asks_at protocol list logical (name_of r)) list) ≡ is_held protocol list logical r
+  pub held_is : (protocol : Protocol) → nat_lt r.back (greatest (asks_at protocol list logical (name_of r)) list)
+      ≡ is_held protocol list logical r
   held_is Scc = ap (nat_lt r.back) (none_greatest list) ∙ le-ltb r.back 0 (omega arith)
   held_is Bpcc =
-      sym (any_greatest (λ f. answers_for Bpcc list logical r f.rec) (asks_at Bpcc list logical (name_of r)) r.back (λ f. asks_answer f.rec) list)
+      sym (any_greatest (λ f. answers_for Bpcc list logical r f.rec) (asks_at Bpcc list logical (name_of r)) r.back
+      (λ f. asks_answer f.rec) list)
 
 -- a name that is asked for is that of a record
-asked_there : (protocol : Protocol) (list : List Found) (logical : ℕ) (f : Rec) (n : Link) → asked_name protocol list logical f ≡ Some n →
+asked_there : (protocol : Protocol) (list : List Found) (logical : ℕ) (f : Rec) (n : Link) →
+    asked_name protocol list logical f ≡ Some n →
     is_present list n ≡ true
 asked_there Scc list logical f n asked = cc
 asked_there Bpcc list logical f n asked =
@@ -113,7 +120,8 @@ asked_there Bpcc list logical f n asked =
           let e : Some its ≡ Some n = sym (cond-true those (Some its) None holds) ∙ asked in
           let is : its ≡ n = ap (λ (o : Option Link). elim o [ Some m ↦ m | None ↦ n ]) e in
           let under = ltb-true f.next.version (responsible Bpcc list logical f.next)
-          (and_parts (is_loose Bpcc list logical f) (nat_lt f.next.version (responsible Bpcc list logical f.next)) holds).1 in
+          (and_parts (is_loose Bpcc list logical f) (nat_lt f.next.version (responsible Bpcc list logical f.next))
+          holds).1 in
           let g = has_responsible list logical f.next (omega arith) in
           let named : name_of g.0.rec ≡ its =
           ap₂ (λ (p v : ℕ). record { page = p; version = v }) g.2.0 g.3 in
@@ -127,17 +135,20 @@ other_name name n version other = elim (cases_Bool (is_same n name)) [
   | inr differ ↦ cond-false (is_same n name) version 0 differ
 ]
 
-not_asked : (name : Link) (o : Option Link) (version : ℕ) → ((n : Link) → o ≡ Some n → n ≡ name → ⊥) → if_asked name o version ≡ 0
+not_asked : (name : Link) (o : Option Link) (version : ℕ) → ((n : Link) → o ≡ Some n → n ≡ name → ⊥) →
+    if_asked name o version ≡ 0
 not_asked name None version none = refl
 not_asked name (Some n) version none = other_name name n version (none n refl)
 
 -- where no record has a name none asks for it
-pub none_asks : (protocol : Protocol) (list : List Found) (logical : ℕ) (name : Link) → position (λ f. has_name name f.rec) list ≡ None →
+pub none_asks : (protocol : Protocol) (list : List Found) (logical : ℕ) (name : Link) →
+    position (λ f. has_name name f.rec) list ≡ None →
     greatest (asks_at protocol list logical name) list ≡ 0
 none_asks protocol list logical name none =
     let low = greatest_least (asks_at protocol list logical name) list 0 (λ f c.
     let e = not_asked name (asked_name protocol list logical f.rec) f.rec.next.version (λ n asked same.
-    false≢true (sym (absent_at list name none) ∙ sym (ap (is_present list) same) ∙ asked_there protocol list logical f.rec n asked)) in
+    false≢true (sym (absent_at list name none) ∙ sym (ap (is_present list) same)
+    ∙ asked_there protocol list logical f.rec n asked)) in
     omega arith) in
     omega arith
 
@@ -156,21 +167,26 @@ module _ (j : CurrentVersionsState) where
     rec = record_at j.list i
 
     -- what a place has, after a name was asked for at a version
-    raised_at : (o : Option Link) (version : ℕ) (name : Link) (place none g : ℕ) → position (λ f. has_name name f.rec) j.list ≡ Some place →
+    raised_at : (o : Option Link) (version : ℕ) (name : Link) (place none g : ℕ) →
+        position (λ f. has_name name f.rec) j.list ≡ Some place →
         get_or asked place 0 ≡ g → get_or asked place none ≡ g → place < length asked →
         get_or (raised (place_of_name j.list o) version asked) place none ≡ max g (if_asked name o version)
     raised_at None version name place none g at had has low = has ∙ sym (max-eq_left (omega arith))
-    raised_at (Some n) version name place none g at had has low = by_place (position (λ f. has_name n f.rec) j.list) refl
+    raised_at (Some n) version name place none g at had has low =
+        by_place (position (λ f. has_name n f.rec) j.list) refl
       where
         by_place : (o : Option ℕ) → position (λ f. has_name n f.rec) j.list ≡ o →
             get_or (raised o version asked) place none ≡ max g (if_asked name (Some n) version)
         by_place None nowhere =
-            let no = other_name name n version (λ same. let e = ap (λ m. position (λ f. has_name m f.rec) j.list) same in cc) in
+            let no = other_name name n version (λ same. let e = ap (λ m. position (λ f. has_name m f.rec) j.list)
+            same in cc) in
             has ∙ sym (ap (max g) no ∙ max-eq_left (omega arith))
         by_place (Some q) there = elim (cases_eq place q) [
           | inl same ↦ (
-              let its = has_name_true n (record_at j.list q) (position-Some (λ f. has_name n f.rec) j.list q nothing there).1 in
-              let own = has_name_true name (record_at j.list place) (position-Some (λ f. has_name name f.rec) j.list place nothing at).1 in
+              let its = has_name_true n (record_at j.list q)
+              (position-Some (λ f. has_name n f.rec) j.list q nothing there).1 in
+              let own = has_name_true name (record_at j.list place)
+              (position-Some (λ f. has_name name f.rec) j.list place nothing at).1 in
               let here : n ≡ name = sym its ∙ ap (λ k. name_of (record_at j.list k)) (sym same) ∙ own in
               ap (λ k. get_or (slice_set asked k (max (get_or asked k 0) version)) place none) (sym same)
               ∙ get_or-set_same asked place (max (get_or asked place 0) version) none low
@@ -178,17 +194,20 @@ module _ (j : CurrentVersionsState) where
           | inr other ↦ (
               let no = other_name name n version (λ same.
               let e = ap (λ m. position (λ f. has_name m f.rec) j.list) same in let p : place ≡ q = cc in other p) in
-              get_or-set_other asked q place (max (get_or asked q 0) version) none other ∙ has ∙ sym (ap (max g) no ∙ max-eq_left (omega arith)))
+              get_or-set_other asked q place (max (get_or asked q 0) version) none other ∙ has
+              ∙ sym (ap (max g) no ∙ max-eq_left (omega arith)))
         ]
 
     pub asked_more : AreAsked j (take (i + 1) j.list)
         (raised (place_of_name j.list (asked_name j.protocol j.list j.logical rec)) rec.next.version asked)
     asked_more = record {
-      size = size_raised (place_of_name j.list (asked_name j.protocol j.list j.logical rec)) rec.next.version asked ∙ before.size;
+      size = size_raised (place_of_name j.list (asked_name j.protocol j.list j.logical rec)) rec.next.version asked
+          ∙ before.size;
       each = λ name place none at.
           let low = (position-Some (λ f. has_name name f.rec) j.list place nothing at).0 in
           let size = before.size in
-          raised_at (asked_name j.protocol j.list j.logical rec) rec.next.version name place none (greatest (of name) (take i j.list)) at
+          raised_at (asked_name j.protocol j.list j.logical rec) rec.next.version name place none
+          (greatest (of name) (take i j.list)) at
           (before.each name place 0 at) (before.each name place none at) (omega arith)
           ∙ sym (greatest_step (of name) j.list i within);
     }

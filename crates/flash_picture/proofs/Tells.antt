@@ -51,15 +51,17 @@ module _ (r : Rec) (rank : Rank) (held : Bool) where
 
   -- a word of the cell that is no name is that of the rank, or a flag
   said : (word : List ℕ) → list_any (λ b. b == 46) word ≡ false → Contains words word →
-      (rank_word rank ≡ word) ⊎ (((held ≡ true) × (codes "held" ≡ word)) ⊎ ((r.discard ≡ true) × (codes "discard" ≡ word)))
+      (rank_word rank ≡ word) ⊎ (((held ≡ true) × (codes "held" ≡ word))
+      ⊎ ((r.discard ≡ true) × (codes "discard" ≡ word)))
   said word none c = elim (Contains-cases _ (rank_word rank ∷ flags) word c) [
     | inl e ↦ absurd (no_name _ word none e)
     | inr d ↦ elim (Contains-cases (rank_word rank) flags word d) [
       | inl e ↦ inl e
-      | inr f ↦ elim (Contains-append_cases (word_if held (codes "held")) (word_if r.discard (codes "discard")) word f) [
-        | inl g ↦ inr (inl (in_flag held (codes "held") word g))
-        | inr g ↦ inr (inr (in_flag r.discard (codes "discard") word g))
-      ]
+      | inr f ↦ elim (Contains-append_cases (word_if held (codes "held"))
+          (word_if r.discard (codes "discard")) word f) [
+            | inl g ↦ inr (inl (in_flag held (codes "held") word g))
+            | inr g ↦ inr (inr (in_flag r.discard (codes "discard") word g))
+          ]
     ]
   ]
 
@@ -84,9 +86,18 @@ module _ (r : Rec) (rank : Rank) (held : Bool) where
 
 -- a rank by its word
 no_flag : (rank : Rank) → (rank_word rank ≡ codes "held" → ⊥) × (rank_word rank ≡ codes "discard" → ⊥)
-no_flag Current = ((λ e. let n : 99 ≡ 104 = ap head e in absurd (omega arith)), (λ e. let n : 99 ≡ 100 = ap head e in absurd (omega arith)))
-no_flag Loose = ((λ e. let n : 108 ≡ 104 = ap head e in absurd (omega arith)), (λ e. let n : 108 ≡ 100 = ap head e in absurd (omega arith)))
-no_flag Stale = ((λ e. let n : 115 ≡ 104 = ap head e in absurd (omega arith)), (λ e. let n : 115 ≡ 100 = ap head e in absurd (omega arith)))
+no_flag Current = (
+  (λ e. let n : 99 ≡ 104 = ap head e in absurd (omega arith)),
+  (λ e. let n : 99 ≡ 100 = ap head e in absurd (omega arith)),
+)
+no_flag Loose = (
+  (λ e. let n : 108 ≡ 104 = ap head e in absurd (omega arith)),
+  (λ e. let n : 108 ≡ 100 = ap head e in absurd (omega arith)),
+)
+no_flag Stale = (
+  (λ e. let n : 115 ≡ 104 = ap head e in absurd (omega arith)),
+  (λ e. let n : 115 ≡ 100 = ap head e in absurd (omega arith)),
+)
 
 abbrev rank_head : Rank → ℕ
 rank_head rank = head (rank_word rank)
@@ -116,11 +127,13 @@ ranked : (current version : ℕ) → Ranked current version (rank_by current ver
 ranked current version = elim (eqb_tells version current) [
   | inl h ↦ At h.1 (cond-true (version == current) Current _ h.0)
   | inr h ↦ elim (cases_lt current version) [
-    | inl less ↦ Above less (cond-false (version == current) Current _ h.0 ∙ cond-true (nat_lt current version) Loose Stale (lt-ltb current version less))
-    | inr le ↦ Below (let differ = h.1 in omega arith) (cond-false (version == current) Current _ h.0 ∙ elim (cases_Bool (nat_lt current version)) [
-      | inl e ↦ absurd (let l = ltb-true current version e in omega arith)
-      | inr e ↦ cond-false (nat_lt current version) Loose Stale e
-    ])
+    | inl less ↦ Above less (cond-false (version == current) Current _ h.0
+        ∙ cond-true (nat_lt current version) Loose Stale (lt-ltb current version less))
+    | inr le ↦ Below (let differ = h.1 in omega arith) (cond-false (version == current) Current _ h.0
+        ∙ elim (cases_Bool (nat_lt current version)) [
+          | inl e ↦ absurd (let l = ltb-true current version e in omega arith)
+          | inr e ↦ cond-false (nat_lt current version) Loose Stale e
+        ])
   ]
 ]
 
@@ -153,19 +166,25 @@ cell_tells protocol list logical r =
     let held = is_held protocol list logical r in
     record {
       current = (
-        λ s. (rank_current c r.version).0 (is_current rank (ap head (only_rank r rank held (codes "current") refl (λ e. absurd (omega arith))
+        λ s. (rank_current c r.version).0 (is_current rank
+            (ap head (only_rank r rank held (codes "current") refl (λ e. absurd (omega arith))
             (λ e. absurd (omega arith)) s))),
-        λ h. subst (λ k. Contains (cell_words (Holds r rank held)) (rank_word k)) ((rank_current c r.version).1 h) (says_rank r rank held),
+        λ h. subst (λ k. Contains (cell_words (Holds r rank held)) (rank_word k)) ((rank_current c r.version).1 h)
+            (says_rank r rank held),
       );
       loose = (
-        λ s. (rank_loose c r.version).0 (is_loose rank (ap head (only_rank r rank held (codes "loose") refl (λ e. absurd (omega arith))
+        λ s. (rank_loose c r.version).0
+            (is_loose rank (ap head (only_rank r rank held (codes "loose") refl (λ e. absurd (omega arith))
             (λ e. absurd (omega arith)) s))),
-        λ h. subst (λ k. Contains (cell_words (Holds r rank held)) (rank_word k)) ((rank_loose c r.version).1 h) (says_rank r rank held),
+        λ h. subst (λ k. Contains (cell_words (Holds r rank held)) (rank_word k)) ((rank_loose c r.version).1 h)
+            (says_rank r rank held),
       );
       stale = (
-        λ s. (rank_stale c r.version).0 (is_stale rank (ap head (only_rank r rank held (codes "stale") refl (λ e. absurd (omega arith))
+        λ s. (rank_stale c r.version).0
+            (is_stale rank (ap head (only_rank r rank held (codes "stale") refl (λ e. absurd (omega arith))
             (λ e. absurd (omega arith)) s))),
-        λ h. subst (λ k. Contains (cell_words (Holds r rank held)) (rank_word k)) ((rank_stale c r.version).1 h) (says_rank r rank held),
+        λ h. subst (λ k. Contains (cell_words (Holds r rank held)) (rank_word k)) ((rank_stale c r.version).1 h)
+            (says_rank r rank held),
       );
       held = (
         λ s. elim (said r rank held (codes "held") refl s) [
@@ -184,13 +203,15 @@ cell_tells protocol list logical r =
     }
 
 -- the label of a block
-label_spare : (spare : Option Block) (block : ℕ) → (cond (is_spare spare block) (codes "spare") (codes "block") ≡ codes "spare") ↔ (spare ≡ Some
+label_spare : (spare : Option Block) (block : ℕ) →
+    (cond (is_spare spare block) (codes "spare") (codes "block") ≡ codes "spare") ↔ (spare ≡ Some
     (record { 0 = block }))
 label_spare None block = (λ e. absurd (let n : 98 ≡ 115 = ap head e in omega arith), λ e. absurd cc)
 label_spare (Some spare) block = elim (eqb_tells spare.0 block) [
   | inl h ↦ (λ _. ap (λ n. Some (record { 0 = n })) h.1, λ _. ap (λ b. cond b (codes "spare") (codes "block")) h.0)
   | inr h ↦ (
-    λ e. absurd (let n : 98 ≡ 115 = sym (ap (λ b. head (cond b (codes "spare") (codes "block"))) h.0) ∙ ap head e in omega arith),
+    λ e. absurd (let n : 98 ≡ 115 = sym (ap (λ b. head (cond b (codes "spare") (codes "block"))) h.0)
+        ∙ ap head e in omega arith),
     λ e. absurd (h.1 (ap (λ o. elim o [ Some b ↦ b.0 | None ↦ block ]) e)),
   )
 ]
@@ -220,7 +241,8 @@ other n word far first e =
 no_mark : (cell : Cell) → Contains (cell_words cell) (codes "!") → ⊥
 no_mark Blank c = other 98 (codes "blank") refl refl (Contains-one (codes "blank") (codes "!") c)
 no_mark Damaged c = other 100 (codes "damaged") refl refl (Contains-one (codes "damaged") (codes "!") c)
-no_mark (Holds r rank held) c = no_rank rank (only_rank r rank held (codes "!") refl (λ e. absurd (omega arith)) (λ e. absurd (omega arith)) c)
+no_mark (Holds r rank held) c = no_rank rank (only_rank r rank held (codes "!") refl (λ e. absurd (omega arith))
+    (λ e. absurd (omega arith)) c)
   where
     no_rank : (rank : Rank) → rank_word rank ≡ codes "!" → ⊥
     no_rank Current e = other 99 (codes "current") refl refl e
@@ -238,12 +260,14 @@ words_tell its notes marks slot =
     let there = is_named marks.breach slot in
     record {
       blank = λ e. ap cell_words (cell_noted its notes slot ∙ ap (cell_of its.protocol (found_in notes) its.logical) e);
-      damaged = λ e. ap cell_words (cell_noted its notes slot ∙ ap (cell_of its.protocol (found_in notes) its.logical) e);
+      damaged = λ e. ap cell_words (cell_noted its notes slot
+          ∙ ap (cell_of its.protocol (found_in notes) its.logical) e);
       mark = (
-        λ c. (is_mark marks.breach slot).0 (elim (Contains-append_cases (cell_words cell) (word_if there (codes "!")) (codes "!") c) [
-          | inl d ↦ absurd (no_mark cell d)
-          | inr d ↦ (in_flag there (codes "!") (codes "!") d).0
-        ]),
+        λ c. (is_mark marks.breach slot).0
+            (elim (Contains-append_cases (cell_words cell) (word_if there (codes "!")) (codes "!") c) [
+              | inl d ↦ absurd (no_mark cell d)
+              | inr d ↦ (in_flag there (codes "!") (codes "!") d).0
+            ]),
         λ named. Contains-append_right (cell_words cell) (word_if there (codes "!")) (codes "!")
             (of_flag there (codes "!") ((is_mark marks.breach slot).1 named)),
       );

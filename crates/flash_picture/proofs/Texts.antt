@@ -13,7 +13,8 @@ joined_more : (word : List ℕ) (words more : List (List ℕ)) →
     join_with_byte 32 ((word ∷ words) ++ more) ≡ join_with_byte 32 (word ∷ words) ++ after_spaces more
 joined_more word words more =
     joined word (words ++ more) ∙ ap (λ text. word ++ text) (flat_map-append (λ w. 32 ∷ w) words more)
-    ∙ sym (append_assoc word (after_spaces words) (after_spaces more)) ∙ ap (λ text. text ++ after_spaces more) (sym (joined word words))
+    ∙ sym (append_assoc word (after_spaces words) (after_spaces more))
+    ∙ ap (λ text. text ++ after_spaces more) (sym (joined word words))
 
 -- the words of a cell, and more
 pub cell_joined : (cell : Cell) (more : List (List ℕ)) →
@@ -21,14 +22,17 @@ pub cell_joined : (cell : Cell) (more : List (List ℕ)) →
 cell_joined Blank more = joined_more (codes "blank") [] more
 cell_joined Damaged more = joined_more (codes "damaged") [] more
 cell_joined (Holds rec rank held) more =
-    joined_more (name_word (name_of rec)) (rank_word rank ∷ (word_if held (codes "held") ++ word_if rec.discard (codes "discard"))) more
+    joined_more (name_word (name_of rec)) (rank_word rank
+    ∷ (word_if held (codes "held") ++ word_if rec.discard (codes "discard"))) more
 
 -- a text that has grown by a piece, and grows by one more
 pub then : (old piece text more all : List ℕ) → text ≡ old ++ piece → all ≡ text ++ more → all ≡ old ++ (piece ++ more)
 then old piece text more all before after = after ∙ ap (λ t. t ++ more) before ∙ append_assoc old piece more
 
 -- a text grows by that of one number more
-pub text_more : (f : ℕ → List ℕ) (k : ℕ) (old text new : List ℕ) → text ≡ old ++ flat_map f (range_with_len 0 k) → new ≡ text ++ f k →
+pub text_more : (f : ℕ → List ℕ) (k : ℕ) (old text new : List ℕ) → text ≡ old ++ flat_map f (range_with_len 0 k) →
+    new ≡ text ++ f k →
     new ≡ old ++ flat_map f (range_with_len 0 (k + 1))
 text_more f k old text new before after =
-    after ∙ ap (λ t. t ++ f k) before ∙ append_assoc old (flat_map f (range_with_len 0 k)) (f k) ∙ ap (λ t. old ++ t) (sym (flat_more f k))
+    after ∙ ap (λ t. t ++ f k) before ∙ append_assoc old (flat_map f (range_with_len 0 k)) (f k)
+    ∙ ap (λ t. old ++ t) (sym (flat_more f k))

@@ -20,7 +20,8 @@ abbrev final : Link → List Link → Link
 final link [] = link
 final link (next ∷ links) = final next links
 
-final_at : (link : Link) (links : List Link) (none : Link) → get_or (link ∷ links) (length (link ∷ links) - 1) none ≡ final link links
+final_at : (link : Link) (links : List Link) (none : Link) → get_or (link ∷ links) (length (link ∷ links) - 1) none
+    ≡ final link links
 final_at link [] none = refl
 final_at link (next ∷ links) none =
     let e : length (link ∷ next ∷ links) - 1 ≡ suc (length (next ∷ links) - 1) = omega arith in
@@ -34,7 +35,8 @@ one_of false true c link rest h = refl
 one_of false false true link rest h = refl
 one_of false false false link rest h = absurd (false≢true h)
 
-none_of : (a b c : Bool) (link : Link) (rest : Option Link) → ((a || b) || c) ≡ false → cond (a || b) (Some link) (cond c None rest) ≡ rest
+none_of : (a b c : Bool) (link : Link) (rest : Option Link) → ((a || b) || c) ≡ false →
+    cond (a || b) (Some link) (cond c None rest) ≡ rest
 none_of true b c link rest h = absurd (false≢true (sym h))
 none_of false true c link rest h = absurd (false≢true (sym h))
 none_of false false true link rest h = absurd (false≢true (sym h))
@@ -48,18 +50,21 @@ none_ends false false false link = refl
 
 module _ (list : List Found) (start : Link) where
   -- a walk leaves the newest records at its last link, if it does
-  left_last : (turns : ℕ) (link : Link) → left_from list start (suc turns) link ≡ leaving list (final link (after list start turns link))
+  left_last : (turns : ℕ) (link : Link) → left_from list start (suc turns) link
+      ≡ leaving list (final link (after list start turns link))
   left_last zero link =
       none_ends (is_ahead list link) (is_behind list link) (is_same link start) link
       ∙ ap (λ links. leaving list (final link links)) (sym (after_none list start link))
   left_last (suc turns) link = elim (cases_Bool (is_end list start link)) [
     | inl ends ↦ one_of (is_ahead list link) (is_behind list link) (is_same link start) link _ ends
         ∙ ap (λ links. leaving list (final link links)) (sym (after_end list start (suc turns) link ends))
-    | inr goes ↦ none_of (is_ahead list link) (is_behind list link) (is_same link start) link _ goes ∙ left_last turns (link_of list link)
+    | inr goes ↦ none_of (is_ahead list link) (is_behind list link) (is_same link start) link _ goes
+        ∙ left_last turns (link_of list link)
         ∙ ap (λ links. leaving list (final link links)) (sym (after_more list start (suc turns) link goes))
   ]
 
-pub leaving_at_last : (list : List Found) (logical page : ℕ) (none : Link) → leaving_at list logical page ≡ leaving list (last_of list logical page none)
+pub leaving_at_last : (list : List Found) (logical page : ℕ) (none : Link) →
+    leaving_at list logical page ≡ leaving list (last_of list logical page none)
 leaving_at_last list logical page none =
     let start = newest_name list page in
     let link = link_of list start in
@@ -74,22 +79,38 @@ drawn_by reason.Absent None = (λ e. cc, λ h. absurd (false≢true h))
 drawn_by reason.Absent (Some link) = (λ e. cc, λ h. absurd (false≢true h))
 drawn_by (reason.Straddled version) o = (λ e. cc, λ h. absurd (false≢true h))
 
-straddled_by : (w : Why) (o : Option Link) (version : ℕ) → (end_by w o ≡ Some (Straddled version)) ↔ (w ≡ reason.Straddled version)
+straddled_by : (w : Why) (o : Option Link) (version : ℕ) → (end_by w o ≡ Some (Straddled version))
+    ↔ (w ≡ reason.Straddled version)
 straddled_by reason.Cycle o version = (λ e. cc, λ e. cc)
 straddled_by reason.Passed o version = (λ e. cc, λ e. cc)
 straddled_by reason.Absent None version = (λ e. cc, λ e. cc)
 straddled_by reason.Absent (Some link) version = (λ e. cc, λ e. cc)
 straddled_by (reason.Straddled v) o version = (
-  λ e. ap reason.Straddled (ap (λ (p : Option End). elim p [ Some x ↦ elim x [ Straddled n ↦ n | Absent ↦ v | TooLong ↦ v ] | None ↦ v ]) e),
-  λ e. ap (λ n. Some (Straddled n)) (ap (λ (p : Why). elim p [ reason.Straddled n ↦ n | reason.Absent ↦ v | reason.Cycle ↦ v | reason.Passed ↦ v ]) e),
+  λ e. ap reason.Straddled (ap (λ (p : Option End). elim p [
+    | Some x ↦ elim x [
+      | Straddled n ↦ n
+      | Absent ↦ v
+      | TooLong ↦ v
+    ]
+    | None ↦ v
+  ]) e),
+  λ e. ap (λ n. Some (Straddled n)) (ap (λ (p : Why). elim p [
+    | reason.Straddled n ↦ n
+    | reason.Absent ↦ v
+    | reason.Cycle ↦ v
+    | reason.Passed ↦ v
+  ]) e),
 )
 
 -- a link below the newest of its page does not show that a record is absent
-not_absent : (protocol : Protocol) (list : List Found) (link : Link) → why_below_newest protocol list link ≡ reason.Absent → ⊥
+not_absent : (protocol : Protocol) (list : List Found) (link : Link) →
+    why_below_newest protocol list link ≡ reason.Absent → ⊥
 not_absent Scc list link e = cc
 not_absent Bpcc list link e = elim (cases_Bool (straddling list link == 0)) [
-  | inl nil ↦ (let p = cond-true (straddling list link == 0) reason.Passed (reason.Straddled (straddling list link)) nil in cc)
-  | inr some ↦ (let p = cond-false (straddling list link == 0) reason.Passed (reason.Straddled (straddling list link)) some in cc)
+  | inl nil ↦ (let p = cond-true (straddling list link == 0) reason.Passed
+      (reason.Straddled (straddling list link)) nil in cc)
+  | inr some ↦ (let p = cond-false (straddling list link == 0) reason.Passed
+      (reason.Straddled (straddling list link)) some in cc)
 ]
 
 abbrev by_tests : Bool → Bool → Bool → Why → Why
@@ -122,23 +143,27 @@ walk_tells protocol list logical page =
     record {
       drawn = drawn_by (why protocol list logical page) (leaving_at list logical page);
       links = decides;
-      last = λ link none e. left_there link (last_of list logical page none) (sym (leaving_at_last list logical page none) ∙ e);
+      last = λ link none e. left_there link (last_of list logical page none)
+          (sym (leaving_at_last list logical page none) ∙ e);
       absent = λ none. (
           let last = last_of list logical page none in
           rw (decides.last none, leaving_at_last list logical page none)
-          (absent_by (is_ahead list last) (is_behind list last) (is_same last start) (why_below_newest protocol list last) last (not_absent protocol list last)));
+          (absent_by (is_ahead list last) (is_behind list last) (is_same last start)
+          (why_below_newest protocol list last) last (not_absent protocol list last)));
       straddled = straddled_by (why protocol list logical page) (leaving_at list logical page);
       too_long = λ none. (
           let last = last_of list logical page none in
           rw (decides.last none, leaving_at_last list logical page none)
-          (long_by (is_ahead list last) (is_behind list last) (is_same last start) (why_below_newest protocol list last) last (not_absent protocol list last)));
+          (long_by (is_ahead list last) (is_behind list last) (is_same last start) (why_below_newest protocol list last)
+          last (not_absent protocol list last)));
     }
   where
     left_there : (link last : Link) → leaving list last ≡ Some link → link ≡ last
     left_there link last e = elim (cases_Bool (is_ahead list last || is_behind list last)) [
       | inl leaves ↦ (let there = cond-true (is_ahead list last || is_behind list last) (Some last) None leaves in
           ap (λ (o : Option Link). elim o [ Some l ↦ l | None ↦ last ]) (sym e ∙ there))
-      | inr stays ↦ (let nowhere = cond-false (is_ahead list last || is_behind list last) (Some last) None stays in absurd cc)
+      | inr stays ↦ (let nowhere = cond-false (is_ahead list last || is_behind list last) (Some last) None stays in
+          absurd cc)
     ]
 
 -- ---- what its line says
@@ -154,12 +179,16 @@ module _ (links : List Link) (last : Option Link) where
 
   all_steps : length links ≤ 16 → flat_map step_text (steps_over links last) ≡ arrows_text links
   all_steps few =
-      ap (λ rest. flat_map step_text (map To (take 16 links) ++ rest)) (cond-false longer (last_steps last) [] (le-ltb 16 (length links) few))
-      ∙ ap (flat_map step_text) (append-nil (map To (take 16 links))) ∙ steps_arrows (take 16 links) ∙ ap arrows_text (take_all 16 links few)
+      ap (λ rest. flat_map step_text (map To (take 16 links) ++ rest))
+      (cond-false longer (last_steps last) [] (le-ltb 16 (length links) few))
+      ∙ ap (flat_map step_text) (append-nil (map To (take 16 links))) ∙ steps_arrows (take 16 links)
+      ∙ ap arrows_text (take_all 16 links few)
 
-  first_steps : 16 < length links → flat_map step_text (steps_over links last) ≡ arrows_text (take 16 links) ++ flat_map step_text (last_steps last)
+  first_steps : 16 < length links → flat_map step_text (steps_over links last) ≡ arrows_text (take 16 links)
+      ++ flat_map step_text (last_steps last)
   first_steps many =
-      ap (λ rest. flat_map step_text (map To (take 16 links) ++ rest)) (cond-true longer (last_steps last) [] (lt-ltb 16 (length links) many))
+      ap (λ rest. flat_map step_text (map To (take 16 links) ++ rest))
+      (cond-true longer (last_steps last) [] (lt-ltb 16 (length links) many))
       ∙ flat_map-append step_text (map To (take 16 links)) (last_steps last)
       ∙ ap (λ t. t ++ flat_map step_text (last_steps last)) (steps_arrows (take 16 links))
 

@@ -5,7 +5,7 @@ use Rattle.tx_types.specs.Config.{IsShape, blocks_of}
 use Rattle.flash_picture.specs.declared.grid.Grid.{Grid}
 use Rattle.flash_picture.specs.declared.grid.Spot.{Spot}
 
--- a cell is drawn as wide as so many columns of text at most: the longest text of a slot of an image has no more
+-- a cell is drawn as wide as this many columns of text at most: the longest text of a slot of an image has no more
 abbrev pub most_columns : ℕ
 most_columns = 53
 
@@ -51,6 +51,6 @@ spot_of grid slot =
 abbrev pub bottom : Grid → ℕ
 bottom grid = top_of_block grid (blocks_of grid.shape)
 
--- the height of a picture with so many lines of walks
+-- the height of a picture with this many lines of walks
 abbrev pub height : Grid → ℕ → ℕ
 height grid lines = bottom grid + 20 * (lines + 2)

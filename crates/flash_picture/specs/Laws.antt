@@ -51,7 +51,8 @@ IsNamed breach slot = (b : Breach) × (breach ≡ Some b) × (b.slot.0 ≡ slot)
 -- a slot without a record has one word; and any slot has a `!` exactly where a broken law names it
 pub record WordsTell (its : Config) (notes : List Note) (marks : Marks) (slot : ℕ) : Type 0 where
   pub blank : note_at notes slot ≡ note.Blank → cell_words (cell_at (cells_of its notes) slot) ≡ codes "blank" ∷ []
-  pub damaged : note_at notes slot ≡ note.Damaged → cell_words (cell_at (cells_of its notes) slot) ≡ codes "damaged" ∷ []
+  pub damaged : note_at notes slot ≡ note.Damaged → cell_words (cell_at (cells_of its notes) slot)
+      ≡ codes "damaged" ∷ []
   pub mark : Contains (slot_words (cells_of its notes) marks slot) (codes "!") ↔ IsNamed marks.breach slot
 
 -- ---- walks
@@ -63,14 +64,17 @@ last_of list logical page none =
     slice_index_or links (length links - 1) none
 
 -- A walk is drawn exactly where the newest version of its page does not count. Its steps are over the links of the walk
--- that decides this. It ends in `absent` exactly where its last link is to a version above all of its page, in `straddled
--- by` exactly where that version straddles this link, and in `too long` exactly where the walk ends at no link.
+-- that decides this. It ends in `absent` exactly where its last link is to a version above all of its page, in
+-- `straddled by` exactly where that version straddles this link, and in `too long` exactly where the walk ends at no
+-- link.
 pub record WalkTells (protocol : Protocol) (list : List Found) (logical page : ℕ) : Type 0 where
   pub drawn : (end_of protocol list logical page ≡ None) ↔ IsTrue (is_committed (why protocol list logical page))
   pub links : IsDecidingWalk protocol list logical page (links_of list logical page)
   pub last : (link none : Link) → leaving_at list logical page ≡ Some link → link ≡ last_of list logical page none
-  pub absent : (none : Link) → (end_of protocol list logical page ≡ Some Absent) ↔ IsTrue (is_ahead list (last_of list logical page none))
-  pub straddled : (version : ℕ) → (end_of protocol list logical page ≡ Some (Straddled version)) ↔ (why protocol list logical page ≡ reason.Straddled version)
+  pub absent : (none : Link) → (end_of protocol list logical page ≡ Some Absent)
+      ↔ IsTrue (is_ahead list (last_of list logical page none))
+  pub straddled : (version : ℕ) → (end_of protocol list logical page ≡ Some (Straddled version))
+      ↔ (why protocol list logical page ≡ reason.Straddled version)
   pub too_long : (none : Link) → (end_of protocol list logical page ≡ Some TooLong)
       ↔ (is_end list (newest_name list page) (last_of list logical page none) ≡ false)
 
@@ -81,10 +85,11 @@ arrows_text links = flat_map (λ link. codes " -> " ++ name_word link) links
 -- the line of a walk that ends in these words
 abbrev pub line_with : List Found → ℕ → ℕ → List ℕ → List ℕ
 line_with list logical page words =
-    codes "walk " ++ name_word (newest_name list page) ++ flat_map step_text (steps_of list logical page) ++ words ++ 10 ∷ []
+    codes "walk " ++ name_word (newest_name list page) ++ flat_map step_text (steps_of list logical page)
+    ++ words ++ 10 ∷ []
 
--- What the line of a page says: nothing where its newest version counts, and else the links of the walk, of more than 16
--- the first 16, two dots, and the one at which it leaves the newest records, and behind them the words for its end.
+-- What the line of a page says: nothing where its newest version counts, and else the links of the walk, of more than
+-- 16 the first 16, two dots, and the one at which it leaves the newest records, and behind them the words for its end.
 pub record WalkSays (protocol : Protocol) (list : List Found) (logical page : ℕ) : Type 0 where
   pub nothing : IsTrue (is_committed (why protocol list logical page)) → walk_text protocol list logical page ≡ []
   pub absent : (none : Link) → IsTrue (is_ahead list (last_of list logical page none)) →
@@ -99,7 +104,8 @@ pub record WalkSays (protocol : Protocol) (list : List Found) (logical page : �
       flat_map step_text (steps_of list logical page)
       ≡ arrows_text (take 16 (links_of list logical page)) ++ (codes " .." ++ arrows_text (link ∷ []))
   pub given_up : 16 < length (links_of list logical page) → leaving_at list logical page ≡ None →
-      flat_map step_text (steps_of list logical page) ≡ arrows_text (take 16 (links_of list logical page)) ++ codes " .."
+      flat_map step_text (steps_of list logical page) ≡ arrows_text (take 16 (links_of list logical page))
+      ++ codes " .."
 
 -- ---- in SVG
 
@@ -109,9 +115,11 @@ Shows text part = (before : List ℕ) × (behind : List ℕ) × (text ≡ before
 
 -- the cell of a slot is in the picture, and its words are those that `CellTells` and `WordsTell` speak of
 pub record SvgCellTells (its : Config) (notes : List Note) (marks : Marks) (slot : ℕ) : Type 0 where
-  pub shown : Shows (svg its notes marks) (cell_svg (grid_of (shape_of its) (cells_of its notes) marks) (cells_of its notes) marks slot)
+  pub shown : Shows (svg its notes marks) (cell_svg (grid_of (shape_of its) (cells_of its notes) marks)
+      (cells_of its notes) marks slot)
   pub words : slot_text (cells_of its notes) marks slot
-      ≡ join_with_byte 32 (cell_words (cell_of its.protocol (found_in notes) its.logical (note_at notes slot)) ++ word_if (is_named marks.breach slot)
+      ≡ join_with_byte 32 (cell_words (cell_of its.protocol (found_in notes) its.logical (note_at notes slot))
+      ++ word_if (is_named marks.breach slot)
       (codes "!"))
 
 -- the label of a block, of whose words `LabelTells` speaks, is in the picture
@@ -143,7 +151,8 @@ pub record ArrowTells (its : Config) (notes : List Note) (marks : Marks) (slot :
   pub shown : Shows (svg its notes marks) (arrow_of its notes marks slot)
   pub to : (r : Rec) (other : ℕ) → note_at notes slot ≡ note.Holds r → IsLowest notes r.next other →
       arrow_of its notes marks slot
-      ≡ arrow_to (grid_of (shape_of its) (cells_of its notes) marks) (slot_text (cells_of its notes) marks slot) slot (Some (record { 0 = other }))
+      ≡ arrow_to (grid_of (shape_of its) (cells_of its notes) marks) (slot_text (cells_of its notes) marks slot) slot
+      (Some (record { 0 = other }))
   pub none : (r : Rec) → note_at notes slot ≡ note.Holds r → ((other : ℕ) → HoldsName notes r.next other → ⊥) →
       arrow_of its notes marks slot ≡ []
   pub bare : ((r : Rec) → note_at notes slot ≡ note.Holds r → ⊥) → arrow_of its notes marks slot ≡ []

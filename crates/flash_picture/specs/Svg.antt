@@ -87,7 +87,8 @@ above its height = head height ++ words_at (record { left = 8; top = 20 }) (head
 abbrev pub die_heading : Grid → ℕ → List ℕ
 die_heading grid die =
     group (codes "die")
-    (words_at (record { left = 8; top = top_of_block grid (die * grid.shape.blocks_per_die) + 24 }) (codes "die " ++ decimal die))
+    (words_at (record { left = 8; top = top_of_block grid (die * grid.shape.blocks_per_die) + 24 })
+    (codes "die " ++ decimal die))
 
 -- the label of a block, before its first line
 abbrev pub label_svg : Grid → Marks → ℕ → List ℕ
@@ -153,7 +154,7 @@ arrows_svg grid list cells marks =
 
 -- ---- below the map
 
--- of so many columns a line of a walk is full
+-- a line of a walk is full with this many columns
 abbrev pub full_columns : ℕ
 full_columns = 120
 
@@ -161,7 +162,7 @@ full_columns = 120
 abbrev pub row_break : List ℕ
 row_break = codes "</tspan>\n<tspan class='walk' x='40' dy='20'>"
 
--- a step behind so many columns: it stands in the next line where they are more than a full line has
+-- a step behind this many columns: it stands in the next line where they are more than a full line has
 abbrev pub step_row : ℕ → Step → List ℕ
 step_row columns step = (if nat_lt full_columns columns then row_break else []) ++ step_text step
 
@@ -174,7 +175,7 @@ columns_with columns step =
 abbrev pub count_rows : ℕ → ℕ
 count_rows columns = if nat_lt full_columns columns then 1 else 0
 
--- steps behind so many columns, and how many lines they begin
+-- steps behind this many columns, and how many lines they begin
 abbrev pub steps_rows : ℕ → List Step → List ℕ
 steps_rows columns [] = []
 steps_rows columns (step ∷ steps) = step_row columns step ++ steps_rows (columns_with columns step) steps
@@ -191,7 +192,7 @@ rows_text start steps end =
 abbrev pub rows_taken : Link → List Step → ℕ
 rows_taken start steps = suc (steps_begin (length (start_text start)) steps)
 
--- the same of the walk of a page that ends so; nothing where its newest version counts
+-- the lines of the walk of a page that ends so, and how many these are; none where its newest version counts
 abbrev pub walk_rows : List Found → ℕ → ℕ → Option End → List ℕ
 walk_rows list logical page None = []
 walk_rows list logical page (Some end) = rows_text (newest_name list page) (steps_of list logical page) end

@@ -25,7 +25,7 @@ abbrev pub leaving : List Found → Link → Option Link
 leaving list link = if is_ahead list link || is_behind list link then Some link else None
 
 -- the link at which a walk from the record `start` leaves the newest records, that has come to this link and looks at
--- so many links yet; nothing where it leaves them at none of these
+-- this many links yet; nothing where it leaves them at none of these
 abbrev pub left_from : List Found → Link → ℕ → Link → Option Link
 left_from list start zero link = None
 left_from list start (suc turns) link =
@@ -38,7 +38,7 @@ abbrev pub leaving_at : List Found → ℕ → ℕ → Option Link
 leaving_at list logical page =
     left_from list (newest_name list page) (suc logical) (link_of list (newest_name list page))
 
--- the same from the orbit of the place of that record
+-- the link at which the walk of a page leaves the newest records, from the orbit of the place of its newest record
 abbrev pub leaving_by : List Found → ℕ → Orbit → Option Link
 leaving_by list logical (Ends after at) =
     if nat_lt logical after then None else leaving list (record_at list at).next

@@ -42,7 +42,7 @@ fn asked_name(standing: &CurrentVersions, rec: Rec) -> Option<Link>
     }
 }
 
-/// The same under Back Pointer Cyclic Commit.
+/// The name of the record that is responsible for a loose one under Back Pointer Cyclic Commit, if there is one.
 fn asked_in_bpcc(standing: &CurrentVersions, rec: Rec) -> Option<Link>
     requires { standing.now.protocol ≡ Protocol.Bpcc }
     ensures { let s = standing.now in result ≡ asked_in_bpcc s.list s.logical rec }

@@ -88,7 +88,7 @@ impl Grid {
         self.top_of_block(self.shape.blocks())
     }
 
-    /// The height of a picture with so many lines of walks.
+    /// The height of a picture with this many lines of walks.
     pub fn height(self, lines: u64) -> u64
         requires grid { IsGrid self }
         requires few { lines < 2 ^ 40 }

@@ -43,7 +43,8 @@ impl Map<'_> {
     /// The greatest length of the text of a slot.
     pub fn width(&self, alloc: Global) -> Result<usize, Memory>
         requires { IsShape self.now.shape }
-        ensures width { let m = self.now in IfOk result (λ width. width ≡ widest m.cells.now m.marks (slots_of m.shape)) }
+        ensures width { let m = self.now in
+            IfOk result (λ width. width ≡ widest m.cells.now m.marks (slots_of m.shape)) }
         ensures few { IfOk result (λ width. width < 2 ^ 63) }
     {
         let mut width = 0;

@@ -2,8 +2,8 @@ ghost use Rattle.std.specs.Prelude.{◌≡◌, ◌^◌, ◌<◌, [], ◌++◌, S
 ghost use Rattle.std.specs.Fmt.{decimal};
 ghost use Rattle.std.specs.List.{cons_option};
 ghost use Rattle.tx_types.specs.Config.{IsShape, checked, shape_of, slots_of};
-ghost use Rattle.version_index.specs.Notes.{found_at, found_in};
 ghost use Rattle.sorted_records.specs.SortedRecords.{Sorts};
+ghost use Rattle.version_index.specs.Notes.{found_at, found_in};
 ghost use Rattle.flash_picture.specs.Picture.{breach_line, heading, parts, picture, protocol_word};
 
 use crate::cells::cells;

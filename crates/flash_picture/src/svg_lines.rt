@@ -11,10 +11,10 @@ use sorted_records::SortedRecords;
 use std::alloc::{AllocError, Global};
 use tx_types::{Link, Memory, Protocol};
 
-/// Of so many columns a line of a walk is full: a step behind more stands in the next line.
+/// A line of a walk is full with this many columns: a step behind more stands in the next line.
 const FULL_COLUMNS: usize = 120;
 
-/// Appends the walks of all pages whose newest version does not count, and answers how many lines they are.
+/// Appends the walks of all pages whose newest version does not count, and returns how many lines they are.
 pub fn write_walks(
     alloc: Global,
     chart: &SortedRecords,
@@ -34,7 +34,7 @@ pub fn write_walks(
     Ok(lines)
 }
 
-/// Appends the walk of a page that ends so, if its newest version does not count, and answers how many lines it is.
+/// Appends the walk of a page that ends so, if its newest version does not count, and returns how many lines it is.
 fn write_walk(
     alloc: Global,
     chart: &SortedRecords,
@@ -56,7 +56,7 @@ fn write_walk(
     }
 }
 
-/// Appends a walk from a record, and answers how many lines it is.
+/// Appends a walk from a record, and returns how many lines it is.
 fn write_rows(start: Link, steps: &[Step], end: End, text: &mut Vec<u8>) -> Result<u64, AllocError>
     ensures text { OnOk result (text.new.items ≡ text.old.items ++ rows_text start steps.now end) }
     ensures lines { IfOk result (λ lines. lines ≡ rows_taken start steps.now) }
@@ -71,7 +71,7 @@ fn write_rows(start: Link, steps: &[Step], end: End, text: &mut Vec<u8>) -> Resu
     Ok(begun + 1)
 }
 
-/// Appends steps behind so many columns of a line, and answers how many lines they begin.
+/// Appends steps behind this many columns of a line, and returns how many lines they begin.
 fn write_steps(steps: &[Step], first: usize, text: &mut Vec<u8>) -> Result<u64, AllocError>
     requires { first ≤ length text.old.items }
     ensures text { OnOk result (text.new.items ≡ text.old.items ++ steps_rows first steps.now) }
@@ -87,7 +87,7 @@ fn write_steps(steps: &[Step], first: usize, text: &mut Vec<u8>) -> Result<u64, 
     Ok(begun)
 }
 
-/// How many lines a step begins behind so many columns.
+/// How many lines a step begins behind this many columns.
 fn count_rows(columns: usize) -> u64
     ensures rows { result ≡ count_rows columns }
     ensures few { result ≤ 1 }
@@ -95,7 +95,7 @@ fn count_rows(columns: usize) -> u64
     if columns > FULL_COLUMNS { 1 } else { 0 }
 }
 
-/// Appends a step behind so many columns of a line, and answers how many the line has with it.
+/// Appends a step behind this many columns of a line, and returns how many the line has with it.
 fn write_step(step: Step, columns: usize, text: &mut Vec<u8>) -> Result<usize, AllocError>
     requires { columns ≤ length text.old.items }
     ensures text { OnOk result (text.new.items ≡ text.old.items ++ step_row columns step) }
@@ -110,7 +110,7 @@ fn write_step(step: Step, columns: usize, text: &mut Vec<u8>) -> Result<usize, A
     }
 }
 
-/// The same in this line.
+/// Appends a step behind this many columns of this line, and returns how many the line has with it.
 fn write_behind(step: Step, columns: usize, text: &mut Vec<u8>) -> Result<usize, AllocError>
     requires { columns ≤ length text.old.items }
     ensures text { OnOk result (text.new.items ≡ text.old.items ++ step_text step) }

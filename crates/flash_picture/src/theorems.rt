@@ -1,13 +1,13 @@
 //! What holds of all pictures. The functions do nothing: each is there for what it ensures.
 ghost use Rattle.std.specs.Prelude.{ℕ, ◌<◌, List};
+ghost use Rattle.tx_types.specs.Config.{blocks_of, shape_of, slots_of};
 ghost use Rattle.tx_types.specs.declared.config.Config.{Config};
 ghost use Rattle.tx_types.specs.declared.config.Protocol.{Protocol};
 ghost use Rattle.tx_types.specs.declared.record.Rec.{Rec};
-ghost use Rattle.tx_types.specs.Config.{blocks_of, shape_of, slots_of};
-ghost use Rattle.version_index.specs.declared.note.Note.{Note};
 ghost use Rattle.record_list.specs.declared.found.Found.{Found};
-ghost use Rattle.flash_picture.specs.declared.marks.Marks.{Marks};
+ghost use Rattle.version_index.specs.declared.note.Note.{Note};
 ghost use Rattle.flash_picture.specs.Laws.{ArrowTells, CellTells, LabelTells, SvgCellTells, SvgLabelTells, SvgWalkTells, WalkSays, WalkTells, WordsTell};
+ghost use Rattle.flash_picture.specs.declared.marks.Marks.{Marks};
 
 /// A cell says current, loose, stale, held or discard exactly where its record is so, whatever else its slot says.
 pub fn cells_tell()
@@ -36,9 +36,10 @@ pub fn walks_tell()
         WalkSays protocol list logical page }
 {}
 
-/// A picture in SVG has the cell of each slot, with the words of which `cells_tell` and `words_tell` speak, the label of
-/// each block, of which `labels_tell` does, and the lines of each walk, of which `walks_tell` does. An arrow leads from
-/// the cell of a record to that of the lowest slot which holds the record of its link, and there is no other arrow.
+/// A picture in SVG has the cell of each slot, with the words of which `cells_tell` and `words_tell` speak, the label
+/// of each block, of which `labels_tell` does, and the lines of each walk, of which `walks_tell` does. An arrow leads
+/// from the cell of a record to that of the lowest slot which holds the record of its link, and there is no other
+/// arrow.
 pub fn svg_tells()
     ensures cells { (its : Config) (notes : List Note) (marks : Marks) (slot : ℕ) →
         slot < slots_of (shape_of its) → SvgCellTells its notes marks slot }

@@ -105,7 +105,8 @@ fn leaving_at(chart: &SortedRecords, logical: u32, page: u32) -> Option<Link>
     }
 }
 
-/// The same from the orbit of the place of that record.
+/// The link at which the walk from the newest record of a page leaves the newest records, by the orbit of the place of
+/// that record.
 fn leaving_by(chart: &SortedRecords, logical: u32, orbit: Orbit) -> Option<Link>
     requires { EndsBelow (length chart.now) orbit }
     ensures { result ≡ leaving_by chart.now logical orbit }
@@ -154,7 +155,7 @@ pub fn steps(
     )
 }
 
-/// The same from a record, where the walk leaves the newest records at this link.
+/// The steps that are shown of the walk from a record, where the walk leaves the newest records at this link.
 fn steps_from(
     alloc: Global,
     chart: &SortedRecords,

@@ -51,14 +51,16 @@ same_writes a b sizes entries =
     ap Sized sizes ∙ ap Filled entries
 
 -- the words behind `write` are one tag and one batch
-pub same_write : (size : ℕ) (words : List (List ℕ)) (t u : ℕ) (a b : Writes) → AreWriteOperands size words t a → AreWriteOperands size words u b → (t ≡ u) ×
+pub same_write : (size : ℕ) (words : List (List ℕ)) (t u : ℕ) (a b : Writes) → AreWriteOperands size words t a →
+    AreWriteOperands size words u b → (t ≡ u) ×
     (a ≡ b)
 same_write size words t u a b x y =
     let both = sym x.all ∙ y.all in
     let first : x.first ≡ y.first = cc in
     let others : x.others ≡ y.others = cc in
     let tags : Some t ≡ Some u = sym x.tagged ∙ (ap number_of first ∙ y.tagged) in
-    let entries : map Some a.entries ≡ map Some b.entries = sym x.each ∙ (ap (λ ws. map (page_write_of size) ws) others ∙ y.each) in
+    let entries : map Some a.entries ≡ map Some b.entries = sym x.each
+    ∙ (ap (λ ws. map (page_write_of size) ws) others ∙ y.each) in
     (cc, same_writes a b (x.size ∙ sym y.size) (same_somes a.entries b.entries entries))
 
 -- the words of an arm are one count and one outcome
@@ -71,9 +73,11 @@ same_arm words m n a b x y =
     (cc, same_outcome a b second)
 
 -- the words behind one verb are one command
-same_operands : (size : ℕ) (words : List (List ℕ)) (c d : Command) → verb_of c ≡ verb_of d → AreOperands size words c → AreOperands size words d → c ≡ d
+same_operands : (size : ℕ) (words : List (List ℕ)) (c d : Command) → verb_of c ≡ verb_of d → AreOperands size words c →
+    AreOperands size words d → c ≡ d
 same_operands size words (command.Read p) (command.Read q) e x y = let h : Some p ≡ Some q = sym x ∙ y in cc
-same_operands size words (command.Write t a) (command.Write u b) e x y = let h = same_write size words t u a b x y in cc (h.0, h.1)
+same_operands size words (command.Write t a) (command.Write u b) e x y = let h = same_write size words t u a b x y in
+    cc (h.0, h.1)
 same_operands size words (command.Step p) (command.Step q) e x y = let h : Some p ≡ Some q = sym x ∙ y in cc
 same_operands size words (command.Finish p) (command.Finish q) e x y = let h : Some p ≡ Some q = sym x ∙ y in cc
 same_operands size words (command.Abort p) (command.Abort q) e x y = let h : Some p ≡ Some q = sym x ∙ y in cc
@@ -82,7 +86,8 @@ same_operands size words command.Collect command.Collect e x y = refl
 same_operands size words command.Stats command.Stats e x y = refl
 same_operands size words command.Explain command.Explain e x y = refl
 same_operands size words (command.Cut m a) (command.Cut n b) e x y = let h = same_arm words m n a b x y in cc (h.0, h.1)
-same_operands size words (command.Fault m a) (command.Fault n b) e x y = let h = same_arm words m n a b x y in cc (h.0, h.1)
+same_operands size words (command.Fault m a) (command.Fault n b) e x y = let h = same_arm words m n a b x y in
+    cc (h.0, h.1)
 same_operands size words (command.BadRead p) (command.BadRead q) e x y = let h : Some p ≡ Some q = sym x ∙ y in cc
 same_operands size words c d e x y = absurd (cc)
 
@@ -112,11 +117,13 @@ suits size line (command.Fault count what) h = counted h.follow.first count h.fo
 suits size line (command.BadRead count) h = lone_counted h.operands count h.follow
 suits size line what h = tt
 
-all_suit : (size : ℕ) (lines : List (List ℕ)) (commands : List Command) → AllZip (IsCommand size) lines commands → AllByRecursion (Suits size) commands
+all_suit : (size : ℕ) (lines : List (List ℕ)) (commands : List Command) → AllZip (IsCommand size) lines commands →
+    AllByRecursion (Suits size) commands
 all_suit size lines [] all = tt
 all_suit size [] (what ∷ commands) all = absurd all
 all_suit size (line ∷ lines) (what ∷ commands) all = (suits size line what all.0, all_suit size lines commands all.1)
 
 -- so do those of a file
-pub file_suits : (size : ℕ) (lines : List (List ℕ)) (commands : List Command) → AllZip (IsCommand size) lines commands → All (Suits size) commands
+pub file_suits : (size : ℕ) (lines : List (List ℕ)) (commands : List Command) → AllZip (IsCommand size) lines commands →
+    All (Suits size) commands
 file_suits size lines commands all = All-from_recursion (Suits size) commands (all_suit size lines commands all)

@@ -15,11 +15,13 @@ use Rattle.host_protocol.specs.Commands.{page_contents, contents_from, page_writ
 use Rattle.host_protocol.proofs.PartLemmas.{parts, split_some, split_none}
 
 -- a word without an equals sign has no two parts
-pub parts_none : (word : List ℕ) → position is_equals word ≡ None → (x y : List ℕ) → slice_split is_equals word ≢ x ∷ y ∷ []
+pub parts_none : (word : List ℕ) → position is_equals word ≡ None → (x y : List ℕ) →
+    slice_split is_equals word ≢ x ∷ y ∷ []
 parts_none word h x y two = let one = split_none is_equals word h in absurd (cc)
 
 -- nor has one with two
-pub parts_many : (word : List ℕ) (i j : ℕ) → position is_equals word ≡ Some i → position is_equals (drop (i + 1) word) ≡ Some j
+pub parts_many : (word : List ℕ) (i j : ℕ) → position is_equals word ≡ Some i →
+    position is_equals (drop (i + 1) word) ≡ Some j
     → (x y : List ℕ) → slice_split is_equals word ≢ x ∷ y ∷ []
 parts_many word i j first second x y two =
     let text = drop (i + 1) word in
@@ -28,7 +30,8 @@ parts_many word i j first second x y two =
     absurd (cc)
 
 -- one equals sign stands between two parts
-pub parts_one : (word : List ℕ) (i : ℕ) → position is_equals word ≡ Some i → position is_equals (drop (i + 1) word) ≡ None
+pub parts_one : (word : List ℕ) (i : ℕ) → position is_equals word ≡ Some i →
+    position is_equals (drop (i + 1) word) ≡ None
     → slice_split is_equals word ≡ take i word ∷ drop (i + 1) word ∷ []
 parts_one word i first second =
     rw (split_some is_equals word i first, split_none is_equals (drop (i + 1) word) second) refl
@@ -39,7 +42,8 @@ entry_parts : (size : ℕ) (word page text : List ℕ) → slice_split is_equals
 unfolding page_write_of
 entry_parts size word page text two = ap (page_write_from size) two
 
-from_others : (size : ℕ) (parts : List (List ℕ)) → ((x y : List ℕ) → parts ≢ x ∷ y ∷ []) → page_write_from size parts ≡ None
+from_others : (size : ℕ) (parts : List (List ℕ)) → ((x y : List ℕ) → parts ≢ x ∷ y ∷ []) →
+    page_write_from size parts ≡ None
 from_others size [] other = refl
 from_others size (x ∷ []) other = refl
 from_others size (x ∷ y ∷ []) other = absurd (other x y refl)
@@ -51,7 +55,8 @@ entry_others : (size : ℕ) (word : List ℕ) → ((x y : List ℕ) → slice_sp
 unfolding page_write_of
 entry_others size word other = from_others size (slice_split is_equals word) other
 
-pub contents_dash : (size : ℕ) (text : List ℕ) → bytes_eq text (codes "-") ≡ true → page_contents size text ≡ Some (padded size [])
+pub contents_dash : (size : ℕ) (text : List ℕ) → bytes_eq text (codes "-") ≡ true →
+    page_contents size text ≡ Some (padded size [])
 unfolding page_contents
 contents_dash size text h = rw h refl
 
@@ -61,7 +66,8 @@ contents_hex : (size : ℕ) (text bytes : List ℕ) → bytes_eq text (codes "-"
 unfolding page_contents
 contents_hex size text bytes other h = rw (other, h) refl
 
-within : (size : ℕ) (bytes : List ℕ) → 1 ≤ length bytes → length bytes ≤ size → contents_from size bytes ≡ Some (padded size bytes)
+within : (size : ℕ) (bytes : List ℕ) → 1 ≤ length bytes → length bytes ≤ size →
+    contents_from size bytes ≡ Some (padded size bytes)
 within size bytes some most = rw (le-leb 1 (length bytes) some, le-leb (length bytes) size most) refl
 
 outside : (size : ℕ) (bytes : List ℕ) → (length bytes ≡ 0) ⊎ (size < length bytes) → contents_from size bytes ≡ None
@@ -77,24 +83,29 @@ contents_ok size text bytes other h some most =
     let twice : length text ≡ 2 * length bytes = (decode_of-ok text bytes h).2 in
     contents_hex size text bytes other h ∙ within size bytes (omega arith) (omega arith)
 
-contents_length : (size : ℕ) (text bytes : List ℕ) → decode_of text ≡ Ok bytes → length text / 2 ≤ size → length bytes ≤ size
+contents_length : (size : ℕ) (text bytes : List ℕ) → decode_of text ≡ Ok bytes → length text / 2 ≤ size →
+    length bytes ≤ size
 contents_length size text bytes h most =
     let twice : length text ≡ 2 * length bytes = (decode_of-ok text bytes h).2 in omega arith
 
 -- what is no digits
-contents_err : (size : ℕ) (text : List ℕ) (e : FromHexError) → bytes_eq text (codes "-") ≡ false → decode_of text ≡ Err e → page_contents size text ≡ None
+contents_err : (size : ℕ) (text : List ℕ) (e : FromHexError) → bytes_eq text (codes "-") ≡ false →
+    decode_of text ≡ Err e → page_contents size text ≡ None
 unfolding page_contents
 contents_err size text e other h = rw (other, h) refl
 
-by_decoding : (size : ℕ) (text : List ℕ) → bytes_eq text (codes "-") ≡ false → (length text ≡ 0) ⊎ (size < length text / 2)
+by_decoding : (size : ℕ) (text : List ℕ) → bytes_eq text (codes "-") ≡ false → (length text ≡ 0)
+    ⊎ (size < length text / 2)
     → (r : Result (List ℕ) FromHexError) → decode_of text ≡ r → page_contents size text ≡ None
 by_decoding size text other out (Ok bytes) h =
     let twice : length text ≡ 2 * length bytes = (decode_of-ok text bytes h).2 in
-    contents_hex size text bytes other h ∙ outside size bytes (elim out [ inl none ↦ inl (omega arith) | inr more ↦ inr (omega arith) ])
+    contents_hex size text bytes other h ∙ outside size bytes
+    (elim out [ inl none ↦ inl (omega arith) | inr more ↦ inr (omega arith) ])
 by_decoding size text other out (Err e) h = contents_err size text e other h
 
 -- no digits, or too many
-pub contents_out : (size : ℕ) (text : List ℕ) → bytes_eq text (codes "-") ≡ false → (length text ≡ 0) ⊎ (size < length text / 2) →
+pub contents_out : (size : ℕ) (text : List ℕ) → bytes_eq text (codes "-") ≡ false → (length text ≡ 0)
+    ⊎ (size < length text / 2) →
     page_contents size text ≡ None
 contents_out size text other out = by_decoding size text other out (decode_of text) refl
 
@@ -102,7 +113,8 @@ is_decoded : (d : Result (List ℕ) FromHexError) (bytes : List ℕ) → result_
 is_decoded (Ok x) bytes h = ap (λ o. Ok (unwrap_or o x)) h
 is_decoded (Err e) bytes h = absurd (cc)
 
-not_decoded : (size : ℕ) (text : List ℕ) → bytes_eq text (codes "-") ≡ false → result_ok (decode_of text) ≡ None → page_contents size text ≡ None
+not_decoded : (size : ℕ) (text : List ℕ) → bytes_eq text (codes "-") ≡ false → result_ok (decode_of text) ≡ None →
+    page_contents size text ≡ None
 unfolding page_contents
 not_decoded size text other h = rw (other, h) refl
 
@@ -110,13 +122,16 @@ not_decoded size text other h = rw (other, h) refl
 pub contents_as : {X : Type 0} (view : X → List ℕ) (size : ℕ) (text : List ℕ) (r : Result X LineError)
     → bytes_eq text (codes "-") ≡ false → length text ≢ 0 → length text / 2 ≤ size
     → AnswersAs view r (result_ok (decode_of text)) → AnswersAs (λ x. padded size (view x)) r (page_contents size text)
-contents_as view size text (Ok x) other some most h = contents_ok size text (view x) other (is_decoded (decode_of text) (view x) h) some most
+contents_as view size text (Ok x) other some most h = contents_ok size text (view x) other
+    (is_decoded (decode_of text) (view x) h) some most
 contents_as view size text (Err Bad) other some most h = not_decoded size text other h
 contents_as view size text (Err Memory) other some most h = tt
 
-pub contents_within : {X : Type 0} (view : X → List ℕ) (size : ℕ) (text : List ℕ) (r : Result X LineError) → length text / 2 ≤ size
+pub contents_within : {X : Type 0} (view : X → List ℕ) (size : ℕ) (text : List ℕ) (r : Result X LineError) →
+    length text / 2 ≤ size
     → AnswersAs view r (result_ok (decode_of text)) → IfOk r (λ x. length (view x) ≤ size)
-contents_within view size text (Ok x) most h = contents_length size text (view x) (is_decoded (decode_of text) (view x) h) most
+contents_within view size text (Ok x) most h = contents_length size text (view x)
+    (is_decoded (decode_of text) (view x) h) most
 contents_within view size text (Err e) most h = tt
 
 -- a tilde discards, and any other text is its contents
@@ -124,23 +139,28 @@ pub value_tilde : (size : ℕ) (text : List ℕ) → bytes_eq text (codes "~") �
 unfolding page_value
 value_tilde size text h = rw h refl
 
-pub value_contents : (size : ℕ) (text : List ℕ) → bytes_eq text (codes "~") ≡ false → page_value size text ≡ option_map Some (page_contents size text)
+pub value_contents : (size : ℕ) (text : List ℕ) → bytes_eq text (codes "~") ≡ false →
+    page_value size text ≡ option_map Some (page_contents size text)
 unfolding page_value
 value_contents size text h = rw h refl
 
 -- what is no contents is no value
-pub value_fails : (size : ℕ) (text : List ℕ) (e : LineError) → bytes_eq text (codes "~") ≡ false → Fails e (page_contents size text) →
+pub value_fails : (size : ℕ) (text : List ℕ) (e : LineError) → bytes_eq text (codes "~") ≡ false →
+    Fails e (page_contents size text) →
     Fails e (page_value size text)
 value_fails size text Bad other none = value_contents size text other ∙ ap (option_map Some) none
 value_fails size text Memory other none = tt
 
 -- a text that is one byte, no equals sign, has none
-no_sign : (text one : List ℕ) (i : ℕ) → position is_equals one ≡ None → position is_equals text ≡ Some i → bytes_eq text one ≡ false
+no_sign : (text one : List ℕ) (i : ℕ) → position is_equals one ≡ None → position is_equals text ≡ Some i →
+    bytes_eq text one ≡ false
 no_sign text one i none some =
-    let other : bytes_eq text one ≢ true = λ same. (let is = (bytes_eq-Decides text one).0 same in let h = ap (position is_equals) is in absurd (cc)) in
+    let other : bytes_eq text one ≢ true = λ same. (let is = (bytes_eq-Decides text one).0 same in
+    let h = ap (position is_equals) is in absurd (cc)) in
     false_from_ne_true (bytes_eq text one) other
 
-not_digits : (text : List ℕ) (i : ℕ) → position is_equals text ≡ Some i → (d : Result (List ℕ) FromHexError) → decode_of text ≡ d → result_ok d ≡ None
+not_digits : (text : List ℕ) (i : ℕ) → position is_equals text ≡ Some i → (d : Result (List ℕ) FromHexError) →
+    decode_of text ≡ d → result_ok d ≡ None
 not_digits text i h (Err e) is = refl
 not_digits text i h (Ok bytes) is =
     let at = position_some is_equals text i h in
@@ -153,18 +173,22 @@ not_digits text i h (Ok bytes) is =
 value_none : (size : ℕ) (text : List ℕ) (i : ℕ) → position is_equals text ≡ Some i → page_value size text ≡ None
 value_none size text i h =
     value_contents size text (no_sign text (codes "~") i refl h)
-    ∙ ap (option_map Some) (not_decoded size text (no_sign text (codes "-") i refl h) (not_digits text i h (decode_of text) refl))
+    ∙ ap (option_map Some) (not_decoded size text (no_sign text (codes "-") i refl h)
+    (not_digits text i h (decode_of text) refl))
 
-write_none : (size : ℕ) (page text : List ℕ) (o : Option ℕ) → number_of page ≡ o → page_value size text ≡ None → write_of_texts size page text ≡ None
+write_none : (size : ℕ) (page text : List ℕ) (o : Option ℕ) → number_of page ≡ o → page_value size text ≡ None →
+    write_of_texts size page text ≡ None
 write_none size page text None is none = rw is refl
 write_none size page text (Some p) is none = rw (is, none) refl
 
-by_rest : (size : ℕ) (word : List ℕ) (i : ℕ) → position is_equals word ≡ Some i → (o : Option ℕ) → position is_equals (drop (i + 1) word) ≡ o
+by_rest : (size : ℕ) (word : List ℕ) (i : ℕ) → position is_equals word ≡ Some i → (o : Option ℕ) →
+    position is_equals (drop (i + 1) word) ≡ o
     → page_write_of size word ≡ write_of_texts size (take i word) (drop (i + 1) word)
 by_rest size word i first None h = entry_parts size word (take i word) (drop (i + 1) word) (parts_one word i first h)
 by_rest size word i first (Some j) h =
     entry_others size word (parts_many word i j first h)
-    ∙ sym (write_none size (take i word) (drop (i + 1) word) (number_of (take i word)) refl (value_none size (drop (i + 1) word) j h))
+    ∙ sym (write_none size (take i word) (drop (i + 1) word) (number_of (take i word)) refl
+    (value_none size (drop (i + 1) word) j h))
 
 -- an entry by the texts before and behind its first equals sign
 pub entry_around : (size : ℕ) (word : List ℕ) (i : ℕ) → position is_equals word ≡ Some i

@@ -18,28 +18,33 @@ digit_fills : (b : ℕ) → is_digit b ≡ true → (is_space_or_tab b ≡ false
 digit_fills b h = grind (arith)
 
 -- a number that ends before an equals sign is all the digits at the beginning
-number_ends : (line : List ℕ) (place n : ℕ) → place < length line → slice_index line place ≡ 61 → number_of (take place line) ≡ Some n → digits_in line ≡ place
+number_ends : (line : List ℕ) (place n : ℕ) → place < length line → slice_index line place ≡ 61 →
+    number_of (take place line) ≡ Some n → digits_in line ≡ place
 number_ends line place n inside sign is =
     let size = length-take place line in
     prefix_len_is is_digit line place 0 (omega (arith, inside))
     (λ k before. ap is_digit (sym (get_or-take place line k 0 before))
-    ∙ AllPass-from_list_all is_digit (take place line) (number_digits (take place line) n is) k 0 (omega (arith, inside, before, size)))
+    ∙ AllPass-from_list_all is_digit (take place line) (number_digits (take place line) n is) k 0
+    (omega (arith, inside, before, size)))
     (λ less. ap is_digit sign)
 
-by_number : (line : List ℕ) (place : ℕ) (o : Option ℕ) → number_of (take place line) ≡ o → ((n : ℕ) → number_of (take place line) ≡ Some n → ⊥) →
+by_number : (line : List ℕ) (place : ℕ) (o : Option ℕ) → number_of (take place line) ≡ o →
+    ((n : ℕ) → number_of (take place line) ≡ Some n → ⊥) →
     number_of (take place line) ≡ None
 by_number line place None is never = is
 by_number line place (Some n) is never = absurd (never n is)
 
 -- where the digits at the beginning are no number, no number ends before an equals sign
-pub page_none : (line : List ℕ) → number_of (take (digits_in line) line) ≡ None → (place : ℕ) → place < length line → slice_index line place ≡ 61 →
+pub page_none : (line : List ℕ) → number_of (take (digits_in line) line) ≡ None → (place : ℕ) → place < length line →
+    slice_index line place ≡ 61 →
     number_of (take place line) ≡ None
 page_none line none place inside sign = by_number line place (number_of (take place line)) refl (λ n is.
     let here = rw (number_ends line place n inside sign is) at none in
     absurd cc)
 
 -- nor does one where no equals sign follows them
-pub page_other : (line : List ℕ) → (digits_in line ≡ length line) ⊎ (slice_index line (digits_in line) ≢ 61) → (place : ℕ) → place < length line →
+pub page_other : (line : List ℕ) → (digits_in line ≡ length line) ⊎ (slice_index line (digits_in line) ≢ 61) →
+    (place : ℕ) → place < length line →
     slice_index line place ≡ 61 → number_of (take place line) ≡ None
 page_other line (inl whole) place inside sign = by_number line place (number_of (take place line)) refl (λ n is.
     let here = number_ends line place n inside sign is in absurd (omega arith))
@@ -55,25 +60,29 @@ module _ (line : List ℕ) (page : ℕ) (behind : List ℕ) (is : BeginsWithPage
   digit_at k before = prefix_len_passes is_digit line k 0 before
 
   -- what stands before what is behind the equals sign has no blank
-  fills : (k : ℕ) → (k < digits_in line) ⊎ (digits_in line ≤ k) → k < digits_in line + 1 → is_space_or_tab (get_or line k 0) ≡ false
+  fills : (k : ℕ) → (k < digits_in line) ⊎ (digits_in line ≤ k) → k < digits_in line + 1 →
+      is_space_or_tab (get_or line k 0) ≡ false
   fills k (inl less) before = (digit_fills (get_or line k 0) (digit_at k less)).0
   fills k (inr more) before =
       let here : k ≡ digits_in line = omega arith in
       rw (here, is.sign) refl
 
-  fails_at : (k : ℕ) → (k < digits_in line + 1) ⊎ (digits_in line + 1 ≤ k) → k < digits_in line + 1 + text_end line → is_space_or_tab (get_or line k 0) ≡ false
+  fails_at : (k : ℕ) → (k < digits_in line + 1) ⊎ (digits_in line + 1 ≤ k) → k < digits_in line + 1 + text_end line →
+      is_space_or_tab (get_or line k 0) ≡ false
   fails_at k (inl less) before = fills k (cases_lt k (digits_in line)) less
   fails_at k (inr more) before =
       let on : digits_in line + 1 + (k - (digits_in line + 1)) ≡ k = omega arith in
       let there = get_or-drop (digits_in line + 1) line (k - (digits_in line + 1)) 0 in
-      rw (there, on) at (fails_before_first is_space_or_tab (drop (digits_in line + 1) line) (k - (digits_in line + 1)) 0 (omega (arith, before)))
+      rw (there, on) at (fails_before_first is_space_or_tab (drop (digits_in line + 1) line) (k - (digits_in line + 1))
+      0 (omega (arith, before)))
 
   -- the word ends where the text behind the equals sign ends
   word_end : position_or_len is_space_or_tab line ≡ digits_in line + 1 + text_end line
   word_end =
       let rest = length-drop (digits_in line + 1) line in
       let most = prefix_len-le-length (λ b. not (is_space_or_tab b)) (drop (digits_in line + 1) line) in
-      position_or_len_is is_space_or_tab line (digits_in line + 1 + text_end line) 0 (omega (arith, rest, most, is.inside))
+      position_or_len_is is_space_or_tab line (digits_in line + 1 + text_end line) 0
+      (omega (arith, rest, most, is.inside))
       (λ k before. fails_at k (cases_lt k (digits_in line + 1)) before)
       (λ less. ap is_space_or_tab (sym (get_or-drop (digits_in line + 1) line (text_end line) 0))
       ∙ passes_at_first is_space_or_tab (drop (digits_in line + 1) line) 0 (omega (arith, rest, less)))
@@ -90,18 +99,23 @@ module _ (line : List ℕ) (page : ℕ) (behind : List ℕ) (is : BeginsWithPage
       (ap is_equals (get_or-take end line (digits_in line) 0 (omega arith) ∙ is.sign))
 
   word_write : (size : ℕ) → page_write_of size (take (digits_in line + 1 + text_end line) line)
-      ≡ option_map (λ value. record { page = page; value = value }) (page_value size (take (text_end line) (drop (digits_in line + 1) line)))
+      ≡ option_map (λ value. record { page = page; value = value })
+      (page_value size (take (text_end line) (drop (digits_in line + 1) line)))
   word_write size =
       let end = digits_in line + 1 + text_end line in
       let front = take-take (digits_in line) end line (omega arith) in
-      rw (front, drop-take (digits_in line + 1) (text_end line) line, is.number) at (entry_around size (take end line) (digits_in line) word_sign)
+      rw (front, drop-take (digits_in line + 1) (text_end line) line, is.number) at
+      (entry_around size (take end line) (digits_in line) word_sign)
 
   -- the entry, where the line is the rest of another from its first word on
-  pub entry_first : (whole : List ℕ) (start end : ℕ) → position (λ b. not (is_space_or_tab b)) whole ≡ Some start → line ≡ rest_from start whole →
-      end ≡ unwrap_or (position is_space_or_tab behind) (length behind) → BeginsWithEntry whole page (take end behind) (drop end behind)
+  pub entry_first : (whole : List ℕ) (start end : ℕ) → position (λ b. not (is_space_or_tab b)) whole ≡ Some start →
+      line ≡ rest_from start whole →
+      end ≡ unwrap_or (position is_space_or_tab behind) (length behind) →
+      BeginsWithEntry whole page (take end behind) (drop end behind)
   entry_first whole start end at same ended =
       let there : end ≡ text_end line = rw is.rest at (ended ∙ position_end is_space_or_tab behind) in
-      let until : digits_in line + 1 + text_end line ≡ unwrap_or (position is_space_or_tab (rest_from start whole)) (length (rest_from start whole)) =
+      let until : digits_in line + 1 + text_end line ≡ unwrap_or (position is_space_or_tab (rest_from start whole))
+      (length (rest_from start whole)) =
       subst (λ l. digits_in line + 1 + text_end line ≡ unwrap_or (position is_space_or_tab l) (length l)) same
       (sym word_end ∙ sym (position_end is_space_or_tab line)) in
       record {
@@ -113,26 +127,32 @@ module _ (line : List ℕ) (page : ℕ) (behind : List ℕ) (is : BeginsWithPage
       }
 
 by_sign : (size : ℕ) (word : List ℕ) (o : Option ℕ) → position is_equals word ≡ o →
-    ((place : ℕ) → place < length word → slice_index word place ≡ 61 → number_of (take place word) ≡ None) → page_write_of size word ≡ None
+    ((place : ℕ) → place < length word → slice_index word place ≡ 61 → number_of (take place word) ≡ None) →
+    page_write_of size word ≡ None
 by_sign size word None is none = entry_none size word is
 by_sign size word (Some i) is none =
     let at = position_some is_equals word i is in
-    let sign : slice_index word i ≡ 61 = eqb-true _ 61 (rw at.0 at (passes_at_first is_equals word 0 (omega (arith, at.0, at.1)))) in
+    let sign : slice_index word i ≡ 61 = eqb-true _ 61
+    (rw at.0 at (passes_at_first is_equals word 0 (omega (arith, at.0, at.1)))) in
     rw (none i at.1 sign) at (entry_around size word i is)
 
 -- the first word is no entry where no number ends before an equals sign
-pub other_first : (whole line : List ℕ) (start : ℕ) → position (λ b. not (is_space_or_tab b)) whole ≡ Some start → line ≡ rest_from start whole →
-    ((place : ℕ) → place < length line → slice_index line place ≡ 61 → number_of (take place line) ≡ None) → BeginsWithOther whole
+pub other_first : (whole line : List ℕ) (start : ℕ) → position (λ b. not (is_space_or_tab b)) whole ≡ Some start →
+    line ≡ rest_from start whole →
+    ((place : ℕ) → place < length line → slice_index line place ≡ 61 → number_of (take place line) ≡ None) →
+    BeginsWithOther whole
 other_first whole line start at same none =
     let end = unwrap_or (position is_space_or_tab (rest_from start whole)) (length (rest_from start whole)) in
     record {
       word = take end (rest_from start whole);
       others = words_of (drop end (rest_from start whole));
       words = word_first whole start end at refl;
-      none = λ size. by_sign size (take end (rest_from start whole)) (position is_equals (take end (rest_from start whole))) refl (λ place inside sign.
+      none = λ size. by_sign size (take end (rest_from start whole))
+          (position is_equals (take end (rest_from start whole))) refl (λ place inside sign.
           let long = length-take end (rest_from start whole) in
           let before : place < end = omega (arith, inside, long) in
           let front = take-take place end (rest_from start whole) (omega (arith, before)) in
           let none' = rw same at none in
-          rw front (none' place (omega (arith, inside, long)) (sym (get_or-take end (rest_from start whole) place 0 before) ∙ sign)));
+          rw front (none' place (omega (arith, inside, long))
+          (sym (get_or-take end (rest_from start whole) place 0 before) ∙ sign)));
     }

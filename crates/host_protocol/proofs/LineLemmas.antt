@@ -6,7 +6,8 @@ use Rattle.host_protocol.specs.Lines.{is_line_feed, ended_parts}
 use Rattle.host_protocol.proofs.PartLemmas.{Parts, parts, split_some, split_none}
 
 -- a part that others follow is a line
-ended_more : {p : ℕ → Bool} (part xs : List ℕ) → Parts p xs → ended_parts (part ∷ slice_split p xs) ≡ part ∷ ended_parts (slice_split p xs)
+ended_more : {p : ℕ → Bool} (part xs : List ℕ) → Parts p xs → ended_parts (part ∷ slice_split p xs) ≡ part
+    ∷ ended_parts (slice_split p xs)
 ended_more part xs h = rw h.all refl
 
 -- the first line ends before the first line feed
@@ -22,7 +23,8 @@ some_part [] h = absurd (omega arith)
 some_part (b ∷ bs) h = refl
 
 -- bytes without a line feed are one line
-pub line_last : (bytes : List ℕ) → 0 < length bytes → position is_line_feed bytes ≡ None → lines_of bytes ≡ strip_carriage_return bytes ∷ []
+pub line_last : (bytes : List ℕ) → 0 < length bytes → position is_line_feed bytes ≡ None →
+    lines_of bytes ≡ strip_carriage_return bytes ∷ []
 unfolding lines_of
 line_last bytes some h = rw (split_none is_line_feed bytes h, some_part bytes some) refl
 

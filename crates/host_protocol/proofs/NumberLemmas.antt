@@ -35,7 +35,8 @@ leading_outside text count is out =
     let size = digits_long text in
     outside (take (digits_in text) text) (elim out [ inl none ↦ inl (omega arith) | inr more ↦ inr (omega arith) ])
 
-pub leading_large : (text : List ℕ) (count : ℕ) → count ≡ min 11 (digits_in text) → 1 ≤ count → count ≤ 10 → 4294967295 < value_of (take count text) →
+pub leading_large : (text : List ℕ) (count : ℕ) → count ≡ min 11 (digits_in text) → 1 ≤ count → count ≤ 10 →
+    4294967295 < value_of (take count text) →
     number_of (take (digits_in text) text) ≡ None
 unfolding number_of
 leading_large text count is some few large =
@@ -49,7 +50,8 @@ leading_large text count is some few large =
       lt-leb (value_of (take (digits_in text) text)) 4294967295 large',
     ) refl
 
-pub leading_some : (text : List ℕ) (count : ℕ) → count ≡ min 11 (digits_in text) → 1 ≤ count → count ≤ 10 → value_of (take count text) ≤ 4294967295 →
+pub leading_some : (text : List ℕ) (count : ℕ) → count ≡ min 11 (digits_in text) → 1 ≤ count → count ≤ 10 →
+    value_of (take count text) ≤ 4294967295 →
     number_of (take (digits_in text) text) ≡ Some (value_of (take count text))
 unfolding number_of
 leading_some text count is some few fits =
@@ -64,7 +66,8 @@ leading_some text count is some few fits =
       le-leb (value_of (take (digits_in text) text)) 4294967295 fits',
     ) refl
 
-other_byte : (some few all fits : Bool) (n : ℕ) → all ≡ false → (if some && few && all && fits then Some n else None) ≡ None
+other_byte : (some few all fits : Bool) (n : ℕ) → all ≡ false →
+    (if some && few && all && fits then Some n else None) ≡ None
 other_byte true true false fits n is = refl
 other_byte true false false fits n is = refl
 other_byte false true false fits n is = refl
@@ -76,7 +79,8 @@ by_all : (word : List ℕ) (n : ℕ) (all : Bool) → list_all is_digit word ≡
 unfolding number_of
 by_all word n true is some = refl
 by_all word n false is some =
-    let none = other_byte (nat_le 1 (length word)) (nat_le (length word) 10) (list_all is_digit word) (nat_le (value_of word) max_u32) (value_of word) is in
+    let none = other_byte (nat_le 1 (length word)) (nat_le (length word) 10) (list_all is_digit word)
+    (nat_le (value_of word) max_u32) (value_of word) is in
     absurd (cc)
 
 pub number_digits : (word : List ℕ) (n : ℕ) → number_of word ≡ Some n → list_all is_digit word ≡ true
@@ -86,10 +90,12 @@ number_digits word n some = by_all word n (list_all is_digit word) refl some
 pub number_other : (word : List ℕ) → digits_in word < length word → number_of word ≡ None
 unfolding number_of
 number_other word less =
-    other_byte (nat_le 1 (length word)) (nat_le (length word) 10) (list_all is_digit word) (nat_le (value_of word) max_u32) (value_of word)
+    other_byte (nat_le 1 (length word)) (nat_le (length word) 10) (list_all is_digit word)
+    (nat_le (value_of word) max_u32) (value_of word)
     (list_all_at is_digit word (digits_in word) 0 less (prefix_len_stops is_digit word 0 less))
 
-pub number_whole : (word : List ℕ) → length word ≤ digits_in word → number_of (take (digits_in word) word) ≡ number_of word
+pub number_whole : (word : List ℕ) → length word ≤ digits_in word →
+    number_of (take (digits_in word) word) ≡ number_of word
 number_whole word all = ap number_of (take_all (digits_in word) word all)
 
 pub number_none : (word : List ℕ) → number_of (take (digits_in word) word) ≡ None → number_of word ≡ None

@@ -16,14 +16,19 @@ pub record Parts {X : Type 0} (p : X → Bool) (xs : List X) : Type 0 where
 
 more_parts : {X : Type 0} (p : X → Bool) (x : X) (xs : List X) (v : Bool) → p x ≡ v → Parts p xs → Parts p (x ∷ xs)
 more_parts p x xs true e h = record { rest = slice_split p xs; all = rw e refl; behind = rw (e, e) refl }
-more_parts p x xs false e h = record { rest = h.rest; all = rw (e, h.all, one_more) refl; behind = rw (e, one_more) h.behind }
+more_parts p x xs false e h = record {
+  rest = h.rest;
+  all = rw (e, h.all, one_more) refl;
+  behind = rw (e, one_more) h.behind;
+}
 
 pub parts : {X : Type 0} (p : X → Bool) (xs : List X) → Parts p xs
 parts p [] = record { rest = []; all = refl; behind = refl }
 parts p (x ∷ xs) = more_parts p x xs (p x) refl (parts p xs)
 
 -- the first part ends at the first place that passes
-pub split_some : (p : ℕ → Bool) (xs : List ℕ) (i : ℕ) → position p xs ≡ Some i → slice_split p xs ≡ take i xs ∷ slice_split p (drop (i + 1) xs)
+pub split_some : (p : ℕ → Bool) (xs : List ℕ) (i : ℕ) → position p xs ≡ Some i →
+    slice_split p xs ≡ take i xs ∷ slice_split p (drop (i + 1) xs)
 split_some p xs i h =
     let at = position_some p xs i h in
     let here : position_or_len p xs < length xs = omega (arith, at.0, at.1) in

@@ -28,7 +28,8 @@ has_some (x ∷ xs) h = refl
 
 -- a line that does not begin with a blank begins with a word
 word_take : (line : List ℕ) → 0 < length line → 0 < position_or_len is_space_or_tab line
-    → words_of line ≡ take (position_or_len is_space_or_tab line) line ∷ words_of (drop (position_or_len is_space_or_tab line) line)
+    → words_of line ≡ take (position_or_len is_space_or_tab line) line
+    ∷ words_of (drop (position_or_len is_space_or_tab line) line)
 unfolding words_of
 word_take line filled first =
     let h = parts is_space_or_tab line in
@@ -45,7 +46,8 @@ word_at : (line : List ℕ) (i : ℕ) → i < length line → is_space_or_tab (g
     (drop (position_or_len is_space_or_tab (drop i line)) (drop i line))
 word_at line i within e =
     let split : drop i line ≡ get_or line i 0 ∷ drop (suc i) line = drop-cons line i 0 within in
-    word_take (drop i line) (omega (arith, length-drop i line)) (rw split (long_start (get_or line i 0) (drop (suc i) line) e))
+    word_take (drop i line) (omega (arith, length-drop i line))
+    (rw split (long_start (get_or line i 0) (drop (suc i) line) e))
 
 -- the first word begins at the first byte that is no blank, and ends before the next blank
 pub word_first : (line : List ℕ) (start end : ℕ) → position (λ b. not (is_space_or_tab b)) line ≡ Some start
@@ -56,9 +58,11 @@ word_first line start end h e' =
     let e : end ≡ unwrap_or (position is_space_or_tab (drop start line)) (length (drop start line)) = rw whole at e' in
     let at = position_some (λ b. not (is_space_or_tab b)) line start h in
     let here : start_of line < length line = omega (arith, at.0, at.1) in
-    let filled = not-true (is_space_or_tab (get_or line (start_of line) 0)) (passes_at_first (λ b. not (is_space_or_tab b)) line 0 here) in
+    let filled = not-true (is_space_or_tab (get_or line (start_of line) 0))
+    (passes_at_first (λ b. not (is_space_or_tab b)) line 0 here) in
     let skipped : words_of (drop start line) ≡ words_of line = rw at.0 at (words_skip line) in
-    let ended : end ≡ position_or_len is_space_or_tab (drop start line) = e ∙ position_end is_space_or_tab (drop start line) in
+    let ended : end ≡ position_or_len is_space_or_tab (drop start line) = e
+    ∙ position_end is_space_or_tab (drop start line) in
     let taken = word_at line start at.1 (rw at.0 at filled) in
     rw (whole, ← skipped, ended) taken
 

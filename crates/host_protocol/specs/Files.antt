@@ -21,7 +21,7 @@ abbrev pub entries_in : Command → ℕ
 entries_in (command.Write tag batch) = length batch.entries
 entries_in _ = 0
 
--- each line that is neither blank nor a comment is one of these, in order, and there are so many of them at most
+-- each line that is neither blank nor a comment is one of these, in order, and no more of them than a file may have
 pub record AreLines {A : Type 0} (IsOne : List ℕ → A → Type 0) (lines : List (List ℕ))
     (commands : List A) : Type 0 where
   pub each : AllZip IsOne (filter is_command_line lines) commands
@@ -37,7 +37,7 @@ pub record AreCommands (page_bytes : ℕ) (lines : List (List ℕ))
 abbrev pub IsFile : ℕ → List ℕ → List Command → Type 0
 IsFile page_bytes bytes commands = AreCommands page_bytes (lines_of bytes) commands
 
--- the first so many lines of the bytes are some commands, by what it is to be commands
+-- the first `n` lines of the bytes are some commands, by what it is to be commands
 abbrev pub AreGoodLines : {A : Type 0} → (List (List ℕ) → List A → Type 0) → List ℕ → ℕ → Type 0
 AreGoodLines {A = A} Are bytes n = (commands : List A) × Are (take n (lines_of bytes)) commands
 
@@ -49,7 +49,7 @@ pub record IsFirstBadLine {A : Type 0} (Are : List (List ℕ) → List A → Typ
   pub before : AreGoodLines Are bytes (n - 1)
   pub bad : ¬ AreGoodLines Are bytes n
 
--- the same of the commands for pages of this many bytes
+-- the first `n` lines of the bytes are commands for pages of this many bytes
 abbrev pub AreGood : ℕ → List ℕ → ℕ → Type 0
 AreGood page_bytes bytes n = AreGoodLines (AreCommands page_bytes) bytes n
 

@@ -17,7 +17,7 @@ line_of (word ∷ next ∷ words) = word ++ 32 ∷ line_of (next ∷ words)
 abbrev pub page_words : ℕ → List ℕ → List (List ℕ)
 page_words page bytes = codes "page" ∷ decimal page ∷ encode_lower bytes ∷ []
 
--- the words of so many transactions that went on, and so many of these that went
+-- the words for how many transactions went on, and how many of these were finished
 abbrev pub moved_words : ℕ → ℕ → List (List ℕ)
 moved_words moved finished =
     codes "moved" ∷ decimal moved ∷ codes "finished" ∷ decimal finished ∷ []

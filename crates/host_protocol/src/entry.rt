@@ -1,23 +1,6 @@
-ghost use Rattle.std.specs.Prelude.{
-  ◌≡◌,
-  ◌≢◌,
-  ◌≤◌,
-  ◌<◌,
-  ◌∷◌,
-  [],
-  ℕ,
-  List,
-  length,
-  take,
-  slice_index,
-  position,
-  IfOk,
-  IfSome,
-  IfNone,
-  IsErr,
-};
-ghost use Rattle.std.specs.Option.{option_map};
+ghost use Rattle.std.specs.Prelude.{◌≡◌, ◌≢◌, ◌≤◌, ◌<◌, ◌∷◌, [], ℕ, List, length, take, slice_index, position, IfOk, IfSome, IfNone, IsErr};
 ghost use Rattle.std.specs.List.{slice_split};
+ghost use Rattle.std.specs.Option.{option_map};
 ghost use Rattle.tx_types.specs.Batch.{padded};
 ghost use Rattle.host_protocol.specs.Commands.{page_contents, page_value, is_equals};
 ghost use Rattle.host_protocol.specs.Lines.{words_of};

@@ -74,7 +74,7 @@ fn add_commands(
 /// The fewest bytes of a line with a command, and of its line feed.
 const MIN_LINE_BYTES: usize = 6;
 
-/// No commands, with room for as many as a file of so many bytes may have.
+/// No commands, with room for as many as a file of this many bytes may have.
 pub fn no_commands<T>(alloc: Global, bytes: &[u8]) -> Result<Vec<T>, Memory>
     ensures { IfOk result (λ list. list.items ≡ []) }
 {

@@ -1,17 +1,7 @@
 ghost use Rattle.std.specs.Prelude.{◌≡◌, ◌≢◌, ◌≤◌, [], false, IfOk, IfNone, IfSome, OnOk, IsErrOf};
 ghost use Rattle.host_protocol.specs.Files.{is_command_line};
 ghost use Rattle.host_protocol.specs.Lines.{words_of};
-ghost use Rattle.host_protocol.specs.Reading.{
-  AddsCommand,
-  AddsNone,
-  HasEntries,
-  HasNoEntries,
-  IsWritePast,
-  IsWriteWithin,
-  MakesCommand,
-  MakesNone,
-  MakesPlain,
-};
+ghost use Rattle.host_protocol.specs.Reading.{AddsCommand, AddsNone, HasEntries, HasNoEntries, IsWritePast, IsWriteWithin, MakesCommand, MakesNone, MakesPlain};
 
 use crate::command::Command;
 use crate::entry::{first_entry, value};
@@ -187,7 +177,7 @@ fn add_entries(
 /// The bytes behind a tag in which entries are counted beforehand.
 const NEAR_BYTES: usize = 64;
 
-/// How many equals signs stand near the beginning: room for so many entries is taken at once.
+/// How many equals signs stand near the beginning: room for this many entries is taken at once.
 fn near_entries(words: &[u8]) -> usize
     ensures { result ≤ NEAR_BYTES }
 {

@@ -1,8 +1,8 @@
 ghost use Rattle.std.specs.Prelude.{◌≡◌, ◌≢◌, ◌∷◌, [], ℕ, List, IfSome, IfNone, IsSome, ◌↔◌};
-ghost use Rattle.flash_model.specs.declared.outcome.Outcome.{Outcome};
 ghost use Rattle.host_protocol.specs.Commands.{alone, IsArm, outcome_word};
 ghost use Rattle.host_protocol.specs.Lines.{words_of};
 ghost use Rattle.host_protocol.specs.Numbers.{number_of, count_of};
+ghost use Rattle.flash_model.specs.declared.outcome.Outcome.{Outcome};
 
 use crate::numbers::{count, number};
 use crate::words::{first_word, is_word};

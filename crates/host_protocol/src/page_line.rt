@@ -25,7 +25,7 @@ pub fn add_page(page: u32, bytes: &[u8], out: &mut Vec<u8>) -> Result<(), Memory
     Ok(())
 }
 
-/// The most bytes of the line of a page of so many bytes.
+/// The most bytes of the line of a page of this many bytes.
 fn line_bytes(count: usize) -> Option<usize>
     ensures { IfSome result (λ room. room ≡ 2 * count + NUMBER_BYTES + OTHER_BYTES) }
 {

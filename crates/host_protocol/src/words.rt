@@ -50,7 +50,7 @@ pub fn first_blank(line: &[u8]) -> Option<usize>
     far_blank(line)
 }
 
-/// The same, byte by byte.
+/// Where the first space or tab stands, byte by byte.
 #[inline(always)]
 fn near_blank(line: &[u8]) -> Option<usize>
     ensures { result ≡ position is_space_or_tab line.now }

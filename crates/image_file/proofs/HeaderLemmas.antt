@@ -32,11 +32,16 @@ numbers_from : ℕ → ℕ → List ℕ → List ℕ
 numbers_from offset zero bytes = []
 numbers_from offset (suc k) bytes = number_at offset bytes ∷ numbers_from (offset + 4) k bytes
 
-number_again : (offset : ℕ) (bytes : List ℕ) → offset + 4 ≤ length bytes → IsBytes bytes → to_le_bytes w32 (number_at offset bytes) ≡ take 4 (drop offset bytes)
+number_again : (offset : ℕ) (bytes : List ℕ) → offset + 4 ≤ length bytes → IsBytes bytes →
+    to_le_bytes w32 (number_at offset bytes) ≡ take 4 (drop offset bytes)
 unfolding number_at
 number_again offset bytes room h =
     let four : offset + 4 - offset ≡ 4 = omega arith in
-    rw four (le_bytes_4 (take 4 (drop offset bytes)) _ (omega (arith, length-take 4 (drop offset bytes), length-drop offset bytes))
+    rw four (le_bytes_4 (take 4 (drop offset bytes)) _ (omega (
+      arith,
+      length-take 4 (drop offset bytes),
+      length-drop offset bytes,
+    ))
     (IsBytes-take 4 (drop offset bytes) (IsBytes-drop offset bytes h)).at refl)
 
 numbers_again : (k offset : ℕ) (bytes : List ℕ) → offset + 4 * k ≤ length bytes → IsBytes bytes →
@@ -49,8 +54,10 @@ numbers_again (suc k) offset bytes room h =
     let others = numbers_again k (offset + 4) bytes (omega arith) h in
     let behind : drop 4 (drop offset bytes) ≡ drop (offset + 4) bytes = drop-drop 4 offset bytes in
     let start = drop offset bytes in
-    ap (λ front. front ++ flat_map (to_le_bytes w32) (numbers_from (offset + 4) k bytes)) first ∙ ap (λ rest. take 4 start ++ rest) others
-    ∙ ap (λ rest. take 4 start ++ take (4 * k) rest) (sym behind) ∙ sym (take-add 4 (4 * k) start) ∙ ap (λ m. take m start) (sym next)
+    ap (λ front. front ++ flat_map (to_le_bytes w32) (numbers_from (offset + 4) k bytes)) first
+    ∙ ap (λ rest. take 4 start ++ rest) others
+    ∙ ap (λ rest. take 4 start ++ take (4 * k) rest) (sym behind) ∙ sym (take-add 4 (4 * k) start)
+    ∙ ap (λ m. take m start) (sym next)
 
 -- ---- the rules of a header, each by itself
 
@@ -62,15 +69,18 @@ pub record HeaderHolds (bytes : List ℕ) : Type 0 where
   pub extras_hold : (not (is_second bytes) || is_allowed (told_in bytes)) ≡ true
   pub checks : checked (config_in bytes) ≡ Ok (shape_in bytes)
 
-pub passed : (holds : Bool) (refusal : ImageError) (rest : Option ImageError) → unless holds refusal rest ≡ None → (holds ≡ true) × (rest ≡ None)
+pub passed : (holds : Bool) (refusal : ImageError) (rest : Option ImageError) → unless holds refusal rest ≡ None →
+    (holds ≡ true) × (rest ≡ None)
 passed true refusal rest h = (refl, h)
 passed false refusal rest h = absurd cc
 
-pub passes : (holds : Bool) (refusal : ImageError) (rest : Option ImageError) → holds ≡ true → unless holds refusal rest ≡ rest
+pub passes : (holds : Bool) (refusal : ImageError) (rest : Option ImageError) → holds ≡ true →
+    unless holds refusal rest ≡ rest
 passes true refusal rest h = refl
 passes false refusal rest h = absurd cc
 
-is_ok : (c : Config) (r : Result Shape ConfigError) → checked c ≡ r → option_map error.Config (result_err r) ≡ None → checked c ≡ Ok (shape_of c)
+is_ok : (c : Config) (r : Result Shape ConfigError) → checked c ≡ r → option_map error.Config (result_err r) ≡ None →
+    checked c ≡ Ok (shape_of c)
 is_ok c (Ok s) h none = h ∙ ap (λ x. Ok x) (checked_config c s h).1
 is_ok c (Err e) h none = absurd cc
 
@@ -80,7 +90,8 @@ header_holds bytes none =
     let a = passed (nat_le 64 (length bytes)) error.Short _ none in
     let b = passed (starts_with nat_eq bytes first_magic || is_second bytes) error.Magic _ a.1 in
     let c = passed (is_some (protocol_of (number_at 8 bytes))) error.Protocol _ b.1 in
-    let rest = option_or_none (broken_rest bytes) (option_map error.Config (result_err (checked (config_in bytes)))) c.1 in
+    let rest = option_or_none (broken_rest bytes) (option_map error.Config (result_err (checked (config_in bytes))))
+    c.1 in
     let d = passed (all_equal (slice_range bytes (reserved_from bytes) 64) 0) error.Reserved _ rest.0 in
     let e = passed (not (is_second bytes) || is_allowed (told_in bytes)) error.Allowance _ d.1 in
     record {
@@ -128,12 +139,17 @@ pub record Again (bytes : List ℕ) (extras : Extras) : Type 0 where
   pub few : extras.allowance ≤ 1024
 
 -- reserved bytes
-zeros_again : (bytes : List ℕ) (from n : ℕ) → from + n ≡ 64 → 64 ≤ length bytes → all_equal (slice_range bytes from 64) 0 ≡ true
+zeros_again : (bytes : List ℕ) (from n : ℕ) → from + n ≡ 64 → 64 ≤ length bytes →
+    all_equal (slice_range bytes from 64) 0 ≡ true
     → replicate n 0 ≡ take n (drop from bytes)
 zeros_again bytes from n ends long zeros =
     let many : 64 - from ≡ n = omega arith in
     let zero : all_equal (take n (drop from bytes)) 0 ≡ true = rw many at zeros in
-    let all : length (take n (drop from bytes)) ≡ n = omega (arith, length-take n (drop from bytes), length-drop from bytes) in
+    let all : length (take n (drop from bytes)) ≡ n = omega (
+      arith,
+      length-take n (drop from bytes),
+      length-drop from bytes,
+    ) in
     sym (all_equal-is (take n (drop from bytes)) 0 zero ∙ ap (λ k. replicate k 0) all)
 
 module _ (bytes : List ℕ) (fits : IsBytes bytes) (h : HeaderHolds bytes) where
@@ -147,7 +163,8 @@ module _ (bytes : List ℕ) (fits : IsBytes bytes) (h : HeaderHolds bytes) where
   parts_again magic rest magic_is rest_is =
       let code_is = code_again (number_at 8 bytes) h.protocol_holds in
       let numbers_are : flat_map (to_le_bytes w32) (numbers_of (config_in bytes)) ≡ take 28 (drop 8 bytes) =
-      ap (λ code. flat_map (to_le_bytes w32) (code ∷ numbers_from 12 6 bytes)) code_is ∙ numbers_again 7 8 bytes (omega (arith, long)) fits in
+      ap (λ code. flat_map (to_le_bytes w32) (code ∷ numbers_from 12 6 bytes)) code_is
+      ∙ numbers_again 7 8 bytes (omega (arith, long)) fits in
       let front : take 8 bytes ++ take 28 (drop 8 bytes) ≡ take 36 bytes = sym (take-add 8 28 bytes) in
       ap (λ m. m ++ flat_map (to_le_bytes w32) (numbers_of (config_in bytes)) ++ rest) magic_is
       ∙ ap (λ m. take 8 bytes ++ m ++ rest) numbers_are
@@ -161,21 +178,26 @@ module _ (bytes : List ℕ) (fits : IsBytes bytes) (h : HeaderHolds bytes) where
     allowed = rw second at h.extras_hold
 
     some : nat_le 1 (number_at 36 bytes) ≡ true
-    some = (and_parts (nat_le 1 (number_at 36 bytes)) _ (and_parts _ (nat_le (number_at 40 bytes) (number_at 36 bytes)) allowed).0).0
+    some = (and_parts (nat_le 1 (number_at 36 bytes))
+        _ (and_parts _ (nat_le (number_at 40 bytes) (number_at 36 bytes)) allowed).0).0
 
     told_again : header_of (config_in bytes) (told_in bytes) ≡ take 64 bytes
     unfolding numbers_from header_of
     told_again =
         let zeros : all_equal (slice_range bytes 44 64) 0 ≡ true = rw second at h.reserved_holds in
         let magic_is : second_magic ≡ take 8 bytes = (bytes_eq-Decides second_magic (take 8 bytes)).0 second in
-        let numbers_are : flat_map (to_le_bytes w32) (number_at 36 bytes ∷ number_at 40 bytes ∷ []) ≡ take 8 (drop 36 bytes) =
+        let numbers_are : flat_map (to_le_bytes w32) (number_at 36 bytes ∷ number_at 40 bytes ∷ [])
+        ≡ take 8 (drop 36 bytes) =
         numbers_again 2 36 bytes (omega (arith, long)) fits in
         let behind : drop 8 (drop 36 bytes) ≡ drop 44 bytes = drop-drop 8 36 bytes in
         let zeros_are : replicate 20 0 ≡ take 20 (drop 8 (drop 36 bytes)) =
         zeros_again bytes 44 20 refl long zeros ∙ ap (take 20) (sym behind) in
-        let rest_is : flat_map (to_le_bytes w32) (number_at 36 bytes ∷ number_at 40 bytes ∷ []) ++ replicate 20 0 ≡ take 28 (drop 36 bytes) =
-        ap (λ m. m ++ replicate 20 0) numbers_are ∙ ap (λ z. take 8 (drop 36 bytes) ++ z) zeros_are ∙ sym (take-add 8 20 (drop 36 bytes)) in
-        let not_0 : eqb (number_at 36 bytes) 0 ≡ false = ne_eqb (number_at 36 bytes) 0 (λ is. let one = leb-true 1 (number_at 36 bytes) some in omega arith) in
+        let rest_is : flat_map (to_le_bytes w32) (number_at 36 bytes ∷ number_at 40 bytes ∷ []) ++ replicate 20 0
+        ≡ take 28 (drop 36 bytes) =
+        ap (λ m. m ++ replicate 20 0) numbers_are ∙ ap (λ z. take 8 (drop 36 bytes) ++ z) zeros_are
+        ∙ sym (take-add 8 20 (drop 36 bytes)) in
+        let not_0 : eqb (number_at 36 bytes) 0 ≡ false =
+        ne_eqb (number_at 36 bytes) 0 (λ is. let one = leb-true 1 (number_at 36 bytes) some in omega arith) in
         rw not_0 (parts_again second_magic _ magic_is rest_is)
 
     told_fits : ((told_in bytes).retired ≤ (told_in bytes).allowance) × ((told_in bytes).allowance ≤ 1024)
@@ -191,7 +213,8 @@ module _ (bytes : List ℕ) (fits : IsBytes bytes) (h : HeaderHolds bytes) where
     none_again =
         let zeros : all_equal (slice_range bytes 36 64) 0 ≡ true = rw first at h.reserved_holds in
         let begins : starts_with nat_eq bytes first_magic ≡ true = or_first _ (is_second bytes) h.magic_holds first in
-        parts_again first_magic (replicate 28 0) ((bytes_eq-Decides first_magic (take 8 bytes)).0 begins) (zeros_again bytes 36 28 refl long zeros)
+        parts_again first_magic (replicate 28 0) ((bytes_eq-Decides first_magic (take 8 bytes)).0 begins)
+        (zeros_again bytes 36 28 refl long zeros)
 
   again : (b : Bool) → is_second bytes ≡ b → Again bytes (if b then told_in bytes else no_extras)
   again true second = record { header = told_again second; within = (told_fits second).0; few = (told_fits second).1 }
@@ -253,7 +276,8 @@ module _ (digit : ℕ) (c : Config) (extras : Extras) (rest : List ℕ) (checks 
   logical_below : c.logical < 2 ^ 32
   logical_below =
       let fewer : blocks_of (shape_of c) - 1 ≤ blocks_of (shape_of c) = omega arith in
-      let room : (blocks_of (shape_of c) - 1) * c.pages_per_block ≤ blocks_of (shape_of c) * c.pages_per_block = mul-le-mul_right c.pages_per_block fewer in
+      let room : (blocks_of (shape_of c) - 1) * c.pages_per_block ≤ blocks_of (shape_of c) * c.pages_per_block =
+      mul-le-mul_right c.pages_per_block fewer in
       let slots : blocks_of (shape_of c) * c.pages_per_block ≡ slots_of (shape_of c) = omega arith in
       omega (arith, config.space, config.shape.slots_most)
 
@@ -318,12 +342,14 @@ module _ (c : Config) (rest : List ℕ) (checks : checked c ≡ Ok (shape_of c))
       protocol_holds = rw (number-protocol 49 c no_extras rest checks, protocol_again c.protocol) refl;
       reserved_holds = refl;
       extras_hold = refl;
-      checks = subst (λ (x : Config). checked x ≡ Ok (shape_of x)) (sym (config_in-with 49 c no_extras rest checks)) checks;
+      checks = subst (λ (x : Config). checked x ≡ Ok (shape_of x)) (sym (config_in-with 49 c no_extras rest checks))
+          checks;
     };
   }
 
   -- and the second
-  module _ (extras : Extras) (within : extras.retired ≤ extras.allowance) (few : extras.allowance ≤ 1024) (some : 1 ≤ extras.allowance) where
+  module _ (extras : Extras) (within : extras.retired ≤ extras.allowance) (few : extras.allowance ≤ 1024)
+      (some : 1 ≤ extras.allowance) where
     reads-second : Reads (header_with 50 c extras ++ rest) c extras
     unfolding header_with
     reads-second = record {
@@ -335,7 +361,8 @@ module _ (c : Config) (rest : List ℕ) (checks : checked c ≡ Ok (shape_of c))
         protocol_holds = rw (number-protocol 50 c extras rest checks, protocol_again c.protocol) refl;
         reserved_holds = refl;
         extras_hold = is_allowed-with 50 c extras rest checks within few some;
-        checks = subst (λ (x : Config). checked x ≡ Ok (shape_of x)) (sym (config_in-with 50 c extras rest checks)) checks;
+        checks = subst (λ (x : Config). checked x ≡ Ok (shape_of x))
+            (sym (config_in-with 50 c extras rest checks)) checks;
       };
     }
 
@@ -344,18 +371,21 @@ header-first : (c : Config) → header_of c no_extras ≡ header_with 49 c no_ex
 unfolding header_of header_with
 header-first c = refl
 
-header-second : (c : Config) (extras : Extras) → eqb extras.allowance 0 ≡ false → header_of c extras ≡ header_with 50 c extras
+header-second : (c : Config) (extras : Extras) → eqb extras.allowance 0 ≡ false →
+    header_of c extras ≡ header_with 50 c extras
 unfolding header_of header_with
 header-second c extras some = rw some refl
 
-pub none_or_some : (extras : Extras) → extras.retired ≤ extras.allowance → (extras ≡ no_extras) ⊎ (eqb extras.allowance 0 ≡ false)
+pub none_or_some : (extras : Extras) → extras.retired ≤ extras.allowance → (extras ≡ no_extras)
+    ⊎ (eqb extras.allowance 0 ≡ false)
 none_or_some extras within =
     elim (cases_eq extras.allowance 0) [
       | inl none ↦ (let both : extras.retired ≡ 0 = omega arith in inl (rw (none, both) refl))
       | inr some ↦ inr (ne_eqb extras.allowance 0 some)
     ]
 
-pub length-header_of : (c : Config) (extras : Extras) → extras.retired ≤ extras.allowance → length (header_of c extras) ≡ 64
+pub length-header_of : (c : Config) (extras : Extras) → extras.retired ≤ extras.allowance →
+    length (header_of c extras) ≡ 64
 unfolding header_with
 length-header_of c extras within =
     elim (none_or_some extras within) [
@@ -363,7 +393,8 @@ length-header_of c extras within =
       | inr some ↦ ap length (header-second c extras some)
     ]
 
-pub header_reads : (c : Config) (extras : Extras) (rest : List ℕ) → checked c ≡ Ok (shape_of c) → extras.retired ≤ extras.allowance
+pub header_reads : (c : Config) (extras : Extras) (rest : List ℕ) → checked c ≡ Ok (shape_of c) →
+    extras.retired ≤ extras.allowance
     → extras.allowance ≤ 1024 → Reads (header_of c extras ++ rest) c extras
 header_reads c extras rest checks within few =
     elim (none_or_some extras within) [

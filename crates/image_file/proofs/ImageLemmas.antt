@@ -31,7 +31,8 @@ all_equal-replicate (suc n) x = rw (eq-eqb x x refl, all_equal-replicate n x) re
 -- ---- one slot
 
 -- a state is the byte of how the slot reads
-state_byte-seen_from : (state : ℕ) → is_none (seen_from state) ≡ false → state_byte (unwrap_or (seen_from state) Blank) ≡ state
+state_byte-seen_from : (state : ℕ) → is_none (seen_from state) ≡ false →
+    state_byte (unwrap_or (seen_from state) Blank) ≡ state
 state_byte-seen_from state known =
     elim (cases_eq state 0) [
       | inl is_0 ↦ rw is_0 refl
@@ -40,7 +41,11 @@ state_byte-seen_from state known =
         | inr not_1 ↦ elim (cases_eq state 2) [
           | inl is_2 ↦ rw is_2 refl
           | inr not_2 ↦
-              let unknown : seen_from state ≡ None = rw (ne_eqb state 0 not_0, ne_eqb state 1 not_1, ne_eqb state 2 not_2) refl in
+              let unknown : seen_from state ≡ None = rw (
+                ne_eqb state 0 not_0,
+                ne_eqb state 1 not_1,
+                ne_eqb state 2 not_2,
+              ) refl in
               absurd (let none = ap is_none unknown in cc)
         ]
       ]
@@ -52,15 +57,18 @@ seen_from-state_byte Complete = refl
 seen_from-state_byte Damaged = refl
 
 -- the test of a slot's bytes, as a fact
-pub IsFilled-tested : (n : ℕ) (how : Seen) (cell : List ℕ) → length cell ≡ cell_bytes n → is_filled how cell ≡ true → IsFilled n how cell
+pub IsFilled-tested : (n : ℕ) (how : Seen) (cell : List ℕ) → length cell ≡ cell_bytes n → is_filled how cell ≡ true →
+    IsFilled n how cell
 IsFilled-tested n Blank cell long h = all_equal-is cell 255 h ∙ ap (λ k. replicate k 255) long
 IsFilled-tested n Damaged cell long h = all_equal-is cell 0 h ∙ ap (λ k. replicate k 0) long
 IsFilled-tested n Complete cell long h = tt
 
 -- what a slot shows fits how it reads
 is_filled-cell_of : (n : ℕ) (slot : Contents) → is_filled (seen_of slot) (cell_of n slot) ≡ true
-is_filled-cell_of n blank = ap (λ cell. all_equal cell 255) (replicate-append-replicate n 64 255) ∙ all_equal-replicate (n + 64) 255
-is_filled-cell_of n damaged = ap (λ cell. all_equal cell 0) (replicate-append-replicate n 64 0) ∙ all_equal-replicate (n + 64) 0
+is_filled-cell_of n blank = ap (λ cell. all_equal cell 255) (replicate-append-replicate n 64 255)
+    ∙ all_equal-replicate (n + 64) 255
+is_filled-cell_of n damaged = ap (λ cell. all_equal cell 0) (replicate-append-replicate n 64 0)
+    ∙ all_equal-replicate (n + 64) 0
 is_filled-cell_of n (complete bytes spare_area) = refl
 
 length-cell_of : (n : ℕ) (slot : Contents) → IsWhole n slot → length (cell_of n slot) ≡ cell_bytes n
@@ -72,7 +80,10 @@ length-cell_of n (complete bytes spare_area) whole = omega (arith, length-append
 contents_of-cell_of : (n : ℕ) (slot : Contents) → IsWhole n slot → contents_of n (seen_of slot) (cell_of n slot) ≡ slot
 contents_of-cell_of n blank whole = refl
 contents_of-cell_of n damaged whole = refl
-contents_of-cell_of n (complete bytes spare_area) whole = rw (take_at bytes spare_area n whole.0, drop_at bytes spare_area n whole.0) refl
+contents_of-cell_of n (complete bytes spare_area) whole = rw (
+  take_at bytes spare_area n whole.0,
+  drop_at bytes spare_area n whole.0,
+) refl
 
 -- ---- all slots, from their states and bytes
 
@@ -84,7 +95,8 @@ states-all_seen (state ∷ states) none =
     let others : map state_byte (all_seen states) ≡ states = states-all_seen states rest.1 in
     cc
 
-pub states-image_of : (n : ℕ) (seen : List Seen) (cells : List ℕ) → map (λ slot. state_byte (seen_of slot)) (image_of n seen cells) ≡ map state_byte seen
+pub states-image_of : (n : ℕ) (seen : List Seen) (cells : List ℕ) →
+    map (λ slot. state_byte (seen_of slot)) (image_of n seen cells) ≡ map state_byte seen
 states-image_of n [] cells = refl
 states-image_of n (how ∷ seen) cells =
     let first = ap state_byte (seen_of-contents_of n how (take (cell_bytes n) cells)) in
@@ -110,7 +122,8 @@ cells-image_of n (how ∷ seen) cells long none =
 -- ---- states and bytes, from all slots
 
 module _ (n : ℕ) where
-  pub all_seen-states : (image : List Contents) → all_seen (map (λ slot. state_byte (seen_of slot)) image) ≡ map seen_of image
+  pub all_seen-states : (image : List Contents) → all_seen (map (λ slot. state_byte (seen_of slot)) image)
+      ≡ map seen_of image
   all_seen-states [] = refl
   all_seen-states (slot ∷ image) =
       let first = ap (λ how. unwrap_or how Blank) (seen_from-state_byte (seen_of slot)) in
@@ -123,25 +136,29 @@ module _ (n : ℕ) where
       position-pass (λ b. is_none (seen_from b)) (state_byte (seen_of slot)) (map (λ s. state_byte (seen_of s)) image)
       (ap is_none (seen_from-state_byte (seen_of slot))) (wrong_state-states image)
 
-  pub length-cells : (image : List Contents) → All (IsWhole n) image → length (flat_map (cell_of n) image) ≡ length image * cell_bytes n
+  pub length-cells : (image : List Contents) → All (IsWhole n) image →
+      length (flat_map (cell_of n) image) ≡ length image * cell_bytes n
   length-cells [] whole = omega arith
   length-cells (slot ∷ image) whole =
       let first = length-cell_of n slot (whole 0 slot (omega arith)) in
       let others = length-cells image (All-tail (IsWhole n) slot image whole) in
       omega (arith, length-append (cell_of n slot) (flat_map (cell_of n) image))
 
-  pub image_of-cells : (image : List Contents) → All (IsWhole n) image → image_of n (map seen_of image) (flat_map (cell_of n) image) ≡ image
+  pub image_of-cells : (image : List Contents) → All (IsWhole n) image →
+      image_of n (map seen_of image) (flat_map (cell_of n) image) ≡ image
   image_of-cells [] whole = refl
   image_of-cells (slot ∷ image) whole =
       let this = whole 0 slot (omega arith) in
       let long = length-cell_of n slot this in
       let rest = flat_map (cell_of n) image in
-      let first = ap (contents_of n (seen_of slot)) (take_at (cell_of n slot) rest (cell_bytes n) long) ∙ contents_of-cell_of n slot this in
+      let first = ap (contents_of n (seen_of slot)) (take_at (cell_of n slot) rest (cell_bytes n) long)
+      ∙ contents_of-cell_of n slot this in
       let others = ap (image_of n (map seen_of image)) (drop_at (cell_of n slot) rest (cell_bytes n) long) ∙
       image_of-cells image (All-tail (IsWhole n) slot image whole) in
       cc
 
-  pub wrong_bytes-cells : (image : List Contents) → All (IsWhole n) image → wrong_bytes (cell_bytes n) (map seen_of image) (flat_map (cell_of n) image) ≡ None
+  pub wrong_bytes-cells : (image : List Contents) → All (IsWhole n) image →
+      wrong_bytes (cell_bytes n) (map seen_of image) (flat_map (cell_of n) image) ≡ None
   wrong_bytes-cells [] whole = refl
   wrong_bytes-cells (slot ∷ image) whole =
       let long = length-cell_of n slot (whole 0 slot (omega arith)) in
@@ -150,6 +167,8 @@ module _ (n : ℕ) where
       let behind = drop_at (cell_of n slot) rest (cell_bytes n) long in
       position-pass (λ (s : Seen × List ℕ). not (is_filled s.0 s.1))
       (seen_of slot, take (cell_bytes n) (cell_of n slot ++ rest))
-      (zip (map seen_of image) (first_chunks (cell_bytes n) (length (map seen_of image)) (drop (cell_bytes n) (cell_of n slot ++ rest))))
+      (zip (map seen_of image) (first_chunks (cell_bytes n) (length (map seen_of image))
+      (drop (cell_bytes n) (cell_of n slot ++ rest))))
       (ap (λ cell. not (is_filled (seen_of slot) cell)) cell_is ∙ ap not (is_filled-cell_of n slot))
-      (ap (wrong_bytes (cell_bytes n) (map seen_of image)) behind ∙ wrong_bytes-cells image (All-tail (IsWhole n) slot image whole))
+      (ap (wrong_bytes (cell_bytes n) (map seen_of image)) behind
+      ∙ wrong_bytes-cells image (All-tail (IsWhole n) slot image whole))

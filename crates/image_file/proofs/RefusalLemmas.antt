@@ -13,12 +13,14 @@ refusal-some broken error.Memory h = tt
 refusal-some broken e h = h
 
 -- a refusal stands before later rules
-pub refusal-before : (broken rest : Option ImageError) (e : ImageError) → IsRefusal broken e → IsRefusal (option_or broken rest) e
+pub refusal-before : (broken rest : Option ImageError) (e : ImageError) → IsRefusal broken e →
+    IsRefusal (option_or broken rest) e
 refusal-before broken rest error.Memory h = tt
 refusal-before broken rest e h = ap (λ o. option_or o rest) h
 
 -- and behind rules that hold
-pub refusal-behind : (before broken : Option ImageError) (e : ImageError) → before ≡ None → IsRefusal broken e → IsRefusal (option_or before broken) e
+pub refusal-behind : (before broken : Option ImageError) (e : ImageError) → before ≡ None → IsRefusal broken e →
+    IsRefusal (option_or before broken) e
 refusal-behind before broken error.Memory none h = tt
 refusal-behind before broken e none h = ap (λ o. option_or o broken) none ∙ h
 
@@ -27,16 +29,20 @@ pub only_memory : (broken : Option ImageError) (e : ImageError) → IsRefusal br
 only_memory broken error.Memory h none = refl
 only_memory broken e h none = absurd cc
 
-pub spelled_memory : (bytes : List ℕ) (e : ImageError) → IsRefusal (first_broken bytes) e → (c : Config) (image : List Contents) (extras : Extras)
+pub spelled_memory : (bytes : List ℕ) (e : ImageError) → IsRefusal (first_broken bytes) e →
+    (c : Config) (image : List Contents) (extras : Extras)
     → Spells bytes c image extras → e ≡ error.Memory
 spelled_memory bytes e refused c image extras spelled =
-    only_memory (first_broken bytes) e refused (ap first_broken spelled.same ∙ first_broken-spelling c image extras spelled.can)
+    only_memory (first_broken bytes) e refused (ap first_broken spelled.same
+    ∙ first_broken-spelling c image extras spelled.can)
 
 pub refused_header : (bytes : List ℕ) (e : ImageError) → broken_header bytes ≡ Some e → IsRefusal (first_broken bytes) e
 unfolding first_broken
-refused_header bytes e h = refusal-before (broken_header bytes) (broken_slots bytes) e (refusal-some (broken_header bytes) e h)
+refused_header bytes e h = refusal-before (broken_header bytes) (broken_slots bytes) e
+    (refusal-some (broken_header bytes) e h)
 
-pub refused_slots : (bytes : List ℕ) (e : ImageError) → broken_header bytes ≡ None → IsRefusal (broken_slots bytes) e → IsRefusal (first_broken bytes) e
+pub refused_slots : (bytes : List ℕ) (e : ImageError) → broken_header bytes ≡ None → IsRefusal (broken_slots bytes) e →
+    IsRefusal (first_broken bytes) e
 unfolding first_broken
 refused_slots bytes e none h = refusal-behind (broken_header bytes) (broken_slots bytes) e none h
 
@@ -52,9 +58,11 @@ module _ (bytes : List ℕ) (long : length bytes ≡ image_bytes (shape_in bytes
 
 -- ---- nothing is broken
 
-pub nothing_broken : (bytes : List ℕ) → broken_header bytes ≡ None → broken_slots bytes ≡ None → first_broken bytes ≡ None
+pub nothing_broken : (bytes : List ℕ) → broken_header bytes ≡ None → broken_slots bytes ≡ None →
+    first_broken bytes ≡ None
 unfolding first_broken
 nothing_broken bytes header slots = ap (λ o. option_or o (broken_slots bytes)) header ∙ slots
 
-pub reading-read : (bytes : List ℕ) → first_broken bytes ≡ None → reading bytes ≡ Ok (config_in bytes, image_in bytes, extras_in bytes)
+pub reading-read : (bytes : List ℕ) → first_broken bytes ≡ None →
+    reading bytes ≡ Ok (config_in bytes, image_in bytes, extras_in bytes)
 reading-read bytes none = ap (λ o. option_map_or Err o (Ok (config_in bytes, image_in bytes, extras_in bytes))) none

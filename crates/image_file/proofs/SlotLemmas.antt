@@ -19,11 +19,16 @@ module _ (size : ℕ) (seen : List Seen) (cells : List ℕ) where
   is_wrong slot = not (is_filled slot.0 slot.1)
 
   length-slots : length slots ≡ length seen
-  length-slots = omega (arith, length-zip seen (first_chunks size (length seen) cells), length-first_chunks size (length seen) cells)
+  length-slots = omega (
+    arith,
+    length-zip seen (first_chunks size (length seen) cells),
+    length-first_chunks size (length seen) cells,
+  )
 
   slot_is : (k : ℕ) → k < length seen → get_or slots k (Blank, []) ≡ (get_or seen k Blank, slice_chunk cells size k)
   slot_is k inside =
-      let chunks : k < length (first_chunks size (length seen) cells) = omega (arith, length-first_chunks size (length seen) cells) in
+      let chunks : k < length (first_chunks size (length seen) cells) =
+      omega (arith, length-first_chunks size (length seen) cells) in
       get_or-zip seen (first_chunks size (length seen) cells) k (Blank, []) inside chunks
       ∙ ap (λ cell. (get_or seen k Blank, cell)) (get_or-first_chunks size (length seen) cells k [] inside)
 
@@ -35,16 +40,19 @@ module _ (size : ℕ) (seen : List Seen) (cells : List ℕ) where
       → ((k : ℕ) → k < i → is_filled (get_or seen k Blank) (slice_chunk cells size k) ≡ true)
       → is_filled (get_or seen i Blank) (slice_chunk cells size i) ≡ false → wrong_bytes size seen cells ≡ Some i
   wrong_bytes-at i inside before here =
-      position-at is_wrong slots (Blank, []) i (omega (arith, length-slots)) (λ k less. wrong_is k (omega arith) true (before k less))
+      position-at is_wrong slots (Blank, []) i (omega (arith, length-slots))
+      (λ k less. wrong_is k (omega arith) true (before k less))
       (wrong_is i inside false here)
 
-  pub wrong_bytes-none : ((k : ℕ) → k < length seen → is_filled (get_or seen k Blank) (slice_chunk cells size k) ≡ true) → wrong_bytes size seen cells ≡ None
+  pub wrong_bytes-none : ((k : ℕ) → k < length seen → is_filled (get_or seen k Blank) (slice_chunk cells size k)
+      ≡ true) → wrong_bytes size seen cells ≡ None
   wrong_bytes-none all =
       position-none is_wrong slots (Blank, []) (λ k less.
       let inside : k < length seen = omega (arith, length-slots) in
       wrong_is k inside true (all k inside))
 
-  pub filled-at : wrong_bytes size seen cells ≡ None → (k : ℕ) → k < length seen → is_filled (get_or seen k Blank) (slice_chunk cells size k) ≡ true
+  pub filled-at : wrong_bytes size seen cells ≡ None → (k : ℕ) → k < length seen →
+      is_filled (get_or seen k Blank) (slice_chunk cells size k) ≡ true
   filled-at none k inside =
       let fails = position-all is_wrong slots (Blank, []) none k (omega (arith, length-slots)) in
       not-false _ (sym (ap is_wrong (slot_is k inside)) ∙ fails)
@@ -53,6 +61,8 @@ module _ (size : ℕ) (seen : List Seen) (cells : List ℕ) where
 pub AreFilled-tested : (n : ℕ) (seen : List Seen) (cells : List ℕ) → length cells ≡ length seen * cell_bytes n
     → wrong_bytes (cell_bytes n) seen cells ≡ None → AreFilled n seen cells
 AreFilled-tested n seen cells long none k inside =
-    let ends : k * cell_bytes n + cell_bytes n ≤ length seen * cell_bytes n = chunk_end (cell_bytes n) k (length seen) inside in
-    IsFilled-tested n (get_or seen k Blank) (slice_chunk cells (cell_bytes n) k) (length-slice_chunk cells (cell_bytes n) k (omega arith))
+    let ends : k * cell_bytes n + cell_bytes n ≤ length seen * cell_bytes n =
+    chunk_end (cell_bytes n) k (length seen) inside in
+    IsFilled-tested n (get_or seen k Blank) (slice_chunk cells (cell_bytes n) k)
+    (length-slice_chunk cells (cell_bytes n) k (omega arith))
     (filled-at (cell_bytes n) seen cells none k inside)

@@ -27,11 +27,13 @@ pub record SlotsHold (bytes : List ℕ) : Type 0 where
 pub slots_hold : (bytes : List ℕ) → broken_slots bytes ≡ None → SlotsHold bytes
 slots_hold bytes none =
     let a = passed (eqb (length bytes) (image_bytes (shape_in bytes))) error.Length _ none in
-    let b = option_or_none (option_map (λ at. error.SlotState (record { 0 = at })) (wrong_state (states_in bytes))) _ a.1 in
+    let b = option_or_none (option_map (λ at. error.SlotState (record { 0 = at })) (wrong_state (states_in bytes)))
+    _ a.1 in
     record {
       long = eqb-true (length bytes) (image_bytes (shape_in bytes)) a.0;
       states_hold = map_none _ (wrong_state (states_in bytes)) b.0;
-      bytes_hold = map_none _ (wrong_bytes (cell_bytes (number_at 12 bytes)) (all_seen (states_in bytes)) (cells_in bytes)) b.1;
+      bytes_hold = map_none _ (wrong_bytes (cell_bytes (number_at 12 bytes)) (all_seen (states_in bytes))
+          (cells_in bytes)) b.1;
     }
 
 pub slots_pass : (bytes : List ℕ) → SlotsHold bytes → broken_slots bytes ≡ None
@@ -65,7 +67,12 @@ module _ (bytes : List ℕ) (fits : IsBytes bytes) (header : HeaderHolds bytes) 
   seen = all_seen (states_in bytes)
 
   length-seen : length seen ≡ count
-  length-seen = length-map (states_in bytes) _ ∙ omega (arith, long, length-take (64 + count - 64) (drop 64 bytes), length-drop 64 bytes)
+  length-seen = length-map (states_in bytes) _ ∙ omega (
+    arith,
+    long,
+    length-take (64 + count - 64) (drop 64 bytes),
+    length-drop 64 bytes,
+  )
 
   length-cells_in : length (cells_in bytes) ≡ length seen * cell_bytes n
   length-cells_in =
@@ -86,11 +93,14 @@ module _ (bytes : List ℕ) (fits : IsBytes bytes) (header : HeaderHolds bytes) 
       let cells_are = cells-image_of n seen (cells_in bytes) length-cells_in slots.bytes_hold in
       let header_is = (header_again bytes fits header).header in
       let many : 64 + count - 64 ≡ count = omega arith in
-      let front : take 64 bytes ++ states_in bytes ≡ take (64 + count) bytes = ap (λ k. take 64 bytes ++ take k (drop 64 bytes)) many ∙
+      let front : take 64 bytes ++ states_in bytes ≡ take (64 + count) bytes =
+      ap (λ k. take 64 bytes ++ take k (drop 64 bytes)) many ∙
       sym (take-add 64 count bytes) in
-      let parts : header_of (config_in bytes) (extras_in bytes) ++ map (λ slot. state_byte (seen_of slot)) (image_in bytes) ++ flat_map (cell_of n)
+      let parts : header_of (config_in bytes) (extras_in bytes) ++ map (λ slot. state_byte (seen_of slot))
+      (image_in bytes) ++ flat_map (cell_of n)
       (image_in bytes) ≡ bytes =
-      rw (header_is, states_are, cells_are) (ap (λ bs. bs ++ cells_in bytes) front ∙ take-append-drop (64 + count) bytes) in
+      rw (header_is, states_are, cells_are) (ap (λ bs. bs ++ cells_in bytes) front
+      ∙ take-append-drop (64 + count) bytes) in
       sym parts
 
 -- ---- what is spelled breaks no rule
@@ -116,7 +126,8 @@ module _ (c : Config) (image : List Contents) (extras : Extras) (can : CanBeSpel
   in_parts = append_assoc header states cells
 
   reads : Reads spelled c extras
-  reads = subst (λ bytes. Reads bytes c extras) (sym in_parts) (header_reads c extras (states ++ cells) can.checks can.within can.few)
+  reads = subst (λ bytes. Reads bytes c extras) (sym in_parts)
+      (header_reads c extras (states ++ cells) can.checks can.within can.few)
 
   pub config_in-spelling : config_in spelled ≡ c
   config_in-spelling = reads.config
@@ -128,12 +139,20 @@ module _ (c : Config) (image : List Contents) (extras : Extras) (can : CanBeSpel
   length-states = length-map image _ ∙ can.fits.slots
 
   length-all_cells : length cells ≡ slots_of (shape_of c) * cell_bytes c.page_bytes
-  length-all_cells = length-cells c.page_bytes image can.fits.whole ∙ ap (λ k. k * cell_bytes c.page_bytes) can.fits.slots
+  length-all_cells = length-cells c.page_bytes image can.fits.whole
+      ∙ ap (λ k. k * cell_bytes c.page_bytes) can.fits.slots
 
   pub length-spelling : length spelled ≡ image_bytes (shape_of c)
   length-spelling =
       ap length in_parts
-      ∙ omega (arith, length-append header (states ++ cells), length-append states cells, length-header, length-states, length-all_cells)
+      ∙ omega (
+        arith,
+        length-append header (states ++ cells),
+        length-append states cells,
+        length-header,
+        length-states,
+        length-all_cells,
+      )
 
   behind : drop 64 spelled ≡ states ++ cells
   behind = ap (drop 64) in_parts ∙ drop_at header (states ++ cells) 64 length-header
@@ -142,7 +161,8 @@ module _ (c : Config) (image : List Contents) (extras : Extras) (can : CanBeSpel
   states_in-spelling =
       let many : 64 + slots_of (shape_of c) - 64 ≡ slots_of (shape_of c) = omega arith in
       ap (λ (x : Config). slice_range spelled 64 (64 + slots_of (shape_of x))) config_in-spelling
-      ∙ ap (λ k. take k (drop 64 spelled)) many ∙ ap (take (slots_of (shape_of c))) behind ∙ take_at states cells (slots_of (shape_of c)) length-states
+      ∙ ap (λ k. take k (drop 64 spelled)) many ∙ ap (take (slots_of (shape_of c))) behind
+      ∙ take_at states cells (slots_of (shape_of c)) length-states
 
   cells_in-spelling : cells_in spelled ≡ cells
   cells_in-spelling =
@@ -180,14 +200,21 @@ read_spelled bytes fits none =
     let holds = holds_of bytes none in
     let header = header_again bytes fits holds.0 in
     record {
-      can = record { checks = holds.0.checks; fits = IsImage-read bytes fits holds.0 holds.1; within = header.within; few = header.few };
+      can = record {
+        checks = holds.0.checks;
+        fits = IsImage-read bytes fits holds.0 holds.1;
+        within = header.within;
+        few = header.few;
+      };
       same = read_again bytes fits holds.0 holds.1;
     }
 
 -- header, states and bytes one after the other
-pub written : (bytes : List ℕ) (c : Config) (shape : Shape) (image : List Contents) (extras : Extras) → checked c ≡ Ok shape → IsImage shape image
+pub written : (bytes : List ℕ) (c : Config) (shape : Shape) (image : List Contents) (extras : Extras) →
+    checked c ≡ Ok shape → IsImage shape image
     → extras.retired ≤ extras.allowance → extras.allowance ≤ max_allowance
-    → bytes ≡ header_of c extras ++ map (λ slot. state_byte (seen_of slot)) image ++ flat_map (cell_of shape.page_bytes) image
+    → bytes ≡ header_of c extras ++ map (λ slot. state_byte (seen_of slot)) image
+    ++ flat_map (cell_of shape.page_bytes) image
     → Spells bytes c image extras
 unfolding spelling
 written bytes c shape image extras checks fits within few parts =
@@ -199,7 +226,8 @@ written bytes c shape image extras checks fits within few parts =
         within = within;
         few = few;
       };
-      same = parts ∙ ap (λ (s : Shape). header_of c extras ++ map (λ slot. state_byte (seen_of slot)) image ++ flat_map (cell_of s.page_bytes) image) shape_is;
+      same = parts ∙ ap (λ (s : Shape). header_of c extras ++ map (λ slot. state_byte (seen_of slot)) image
+          ++ flat_map (cell_of s.page_bytes) image) shape_is;
     }
 
 -- no two have one spelling
@@ -218,11 +246,13 @@ reading-iff bytes c image extras fits = (
   λ h.
       let read : Config × List Contents × Extras = (config_in bytes, image_in bytes, extras_in bytes) in
       let P : Option ImageError → Type 0 = λ broken.
-      first_broken bytes ≡ broken → option_map_or Err broken (Ok read) ≡ Ok (c, image, extras) → Spells bytes c image extras in
+      first_broken bytes ≡ broken → option_map_or Err broken (Ok read) ≡ Ok (c, image, extras) →
+      Spells bytes c image extras in
       let cases : P (first_broken bytes) = elim (first_broken bytes) as P [
         | None ↦ λ none found.
             let same : read ≡ (c, image, extras) = cc in
-            subst (λ (p : Config × List Contents × Extras). Spells bytes p.0 p.1 p.2) same (read_spelled bytes fits none)
+            subst (λ (p : Config × List Contents × Extras). Spells bytes p.0 p.1 p.2) same
+            (read_spelled bytes fits none)
         | Some e ↦ λ _ found. absurd cc
       ] in
       cases refl h,

@@ -57,7 +57,8 @@ spelling config image extras =
     header_of config extras ++ map (λ slot. state_byte (seen_of slot)) image
     ++ flat_map (cell_of config.page_bytes) image
 
--- the configuration is one of a device, whose flash may have these slots, allow so many retired blocks, and have so many
+-- the configuration is one of a device, whose flash may have these slots, allow this many retired blocks, and have this
+-- many
 pub record CanBeSpelled (config : Config) (image : List Contents) (extras : Extras) : Type 0 where
   pub checks : checked config ≡ Ok (shape_of config)
   pub fits : IsImage (shape_of config) image

@@ -3,9 +3,9 @@ ghost use Rattle.std.specs.List.{starts_with};
 ghost use Rattle.tx_types.specs.Config.{checked, shape_of};
 ghost use Rattle.tx_types.specs.Limits.{header_bytes};
 ghost use Rattle.flash_model.specs.Retiring.{max_allowance};
-ghost use Rattle.image_file.specs.Spelling.{first_magic, code_of, header_of};
-ghost use Rattle.image_file.specs.Rules.{number_at, protocol_of, is_second, extras_in, broken_rest, broken_header};
 ghost use Rattle.image_file.specs.Header.{IsHeader};
+ghost use Rattle.image_file.specs.Rules.{number_at, protocol_of, is_second, extras_in, broken_rest, broken_header};
+ghost use Rattle.image_file.specs.Spelling.{first_magic, code_of, header_of};
 
 use crate::ImageError;
 use byteorder::{ByteOrder, LittleEndian};

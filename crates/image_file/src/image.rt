@@ -4,8 +4,8 @@ ghost use Rattle.tx_types.specs.Config.{checked, shape_of, IsShape};
 ghost use Rattle.tx_types.specs.declared.config.Config.{Config};
 ghost use Rattle.flash_model.specs.Flash.{Contents, Extras};
 ghost use Rattle.mem_flash.specs.MemFlashState.{loaded, fresh};
-ghost use Rattle.image_file.specs.Spelling.{Spells};
 ghost use Rattle.image_file.specs.Rules.{shape_in, image_in, broken_slots, first_broken, reading, IsRefusal};
+ghost use Rattle.image_file.specs.Spelling.{Spells};
 ghost use Rattle.image_file.specs.States.{AreSlotsOf};
 
 use crate::ImageError;
@@ -36,7 +36,8 @@ pub fn read_image(alloc: Global, bytes: &[u8]) -> Result<(Config, MemFlash), Ima
     take_image(alloc, Vec::from_slice(alloc, bytes)?)
 }
 
-/// The same of bytes that are handed over. They become those of the flash, and are not copied.
+/// The configuration and the flash that the bytes of an image file spell, or the first rule that they break. The flash
+/// takes the bytes over, and they are not copied.
 pub fn take_image(alloc: Global, bytes: Vec<u8>) -> Result<(Config, MemFlash), ImageError>
     ensures spelled { IfOk result (λ r. Spells bytes.items r.0 r.1.image r.1.extras) }
     ensures flash { IfOk result (λ r. r.1 ≡ loaded (shape_of r.0) r.1.image r.1.extras) }

@@ -1,7 +1,7 @@
 ghost use Rattle.std.specs.Prelude.{◌≡◌, ◌*◌, ◌<◌, ◌≤◌, length, map, IfSome, None, Some, MatchResult};
 ghost use Rattle.tx_types.specs.Limits.{max_slots};
-ghost use Rattle.image_file.specs.Spelling.{state_byte};
 ghost use Rattle.image_file.specs.Rules.{seen_from, all_seen, is_filled, wrong_state, wrong_bytes, broken_states, IsRefusal};
+ghost use Rattle.image_file.specs.Spelling.{state_byte};
 
 use crate::ImageError;
 use flash_model::Seen;

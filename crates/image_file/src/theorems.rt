@@ -3,8 +3,8 @@ ghost use Rattle.std.specs.Prelude.{◌≡◌, ◌↔◌, ◌<◌, ℕ, List, le
 ghost use Rattle.tx_types.specs.Config.{shape_of, image_bytes};
 ghost use Rattle.tx_types.specs.declared.config.Config.{Config};
 ghost use Rattle.flash_model.specs.Flash.{Contents, Extras};
-ghost use Rattle.image_file.specs.Spelling.{spelling, CanBeSpelled, Spells};
 ghost use Rattle.image_file.specs.Rules.{reading};
+ghost use Rattle.image_file.specs.Spelling.{spelling, CanBeSpelled, Spells};
 
 /// A spelling has as many bytes as its configuration says, and no two configurations with slots and retired
 /// blocks have the same one.

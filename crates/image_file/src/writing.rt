@@ -1,9 +1,9 @@
 ghost use Rattle.std.specs.Prelude.{◌≡◌, ◌≤◌, ◌++◌, length, map, drop, replicate, Ok, IfOk, OnOk};
 ghost use Rattle.std.specs.List.{flat_map};
 ghost use Rattle.tx_types.specs.Config.{checked, shape_of, slots_of};
+ghost use Rattle.flash_model.specs.Calls.{seen_of};
 ghost use Rattle.flash_model.specs.Flash.{blank, IsImage};
 ghost use Rattle.flash_model.specs.Retiring.{max_allowance};
-ghost use Rattle.flash_model.specs.Calls.{seen_of};
 ghost use Rattle.mem_flash.specs.Slots.{cell_of};
 ghost use Rattle.image_file.specs.Spelling.{header_of, state_byte, Spells};
 
@@ -29,7 +29,7 @@ pub fn write_image(alloc: Global, config: &Config, flash: &MemFlash) -> Result<V
     Ok(bytes)
 }
 
-/// The same of a flash that is handed over. Its bytes become those of the file. They are not copied where
+/// The image file of a device whose flash is handed over. Its bytes become those of the file. They are not copied where
 /// the flash was taken from an image file.
 pub fn into_image(alloc: Global, config: &Config, flash: MemFlash) -> Result<Vec<u8>, Memory>
     requires { checked config.now ≡ Ok flash.shape }

@@ -32,7 +32,8 @@ step false m rest h = ne_eqb (1 + 2 * m) 0 (λ e. omega arith)
 
 none_differ : (xs : List ℕ) (y : ℕ) → eqb (mask_l (map (λ x. differ x y) xs)) 0 ≡ list_all (λ x. eqb x y) xs
 none_differ [] y = refl
-none_differ (x ∷ xs) y = step (eqb x y) (mask_l (map (λ z. differ z y) xs)) (list_all (λ z. eqb z y) xs) (none_differ xs y)
+none_differ (x ∷ xs) y = step (eqb x y) (mask_l (map (λ z. differ z y) xs)) (list_all (λ z. eqb z y) xs)
+    (none_differ xs y)
 
 -- no bit is set just where each lane has the value
 pub mask-splat : (xs : List ℕ) (y : ℕ) → length xs ≡ 32 → eqb (mask xs (replicate 32 y)) 0 ≡ list_all (λ x. eqb x y) xs

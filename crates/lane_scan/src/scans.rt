@@ -22,7 +22,7 @@ pub fn all_equal(bytes: &[u8], value: u8) -> bool
     all_equal_by_one(rest, value)
 }
 
-/// The same for bytes that fill no vector.
+/// Whether each byte has this value, of bytes that fill no vector.
 fn all_equal_by_one(bytes: &[u8], value: u8) -> bool
     ensures { result ≡ all_equal bytes.now value }
 {
@@ -34,7 +34,7 @@ pub fn first_difference(a: &[u8], b: &[u8]) -> Option<usize>
     requires { length a.now ≡ length b.now }
     ensures exact { result ≡ first_difference a.now b.now }
 
-    // The same without the definition.
+    // No index exactly where the lists are equal, in plain words.
     ensures equal { IsNone result ↔ (a.now ≡ b.now) }
     ensures least { IfSome result (DifferFirstAt a.now b.now) }
 {
@@ -58,7 +58,7 @@ fn count_same(a: &[u8], b: &[u8]) -> usize
     at + count_same_by_one(&a[at..], &b[at..])
 }
 
-/// The same for the few bytes that fill no vector.
+/// How many bytes at the front of both are equal, of the few bytes that fill no vector.
 fn count_same_by_one(a: &[u8], b: &[u8]) -> usize
     requires { length a.now ≡ length b.now }
     ensures same { result ≡ common_prefix_len nat_eq a.now b.now }

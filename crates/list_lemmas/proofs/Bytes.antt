@@ -32,7 +32,12 @@ tested [] h = record { at = λ i. omega arith }
 tested (b ∷ bytes) h =
     let parts = and_parts (ltb b 256) (list_all (λ x. ltb x 256) bytes) h in
     let rest = tested bytes parts.1 in
-    record { at = λ i. elim i as (λ k. get_or (b ∷ bytes) k 0 < 256) [ zero ↦ ltb-true b 256 parts.0 | suc k ↦ rest.at k ] }
+    record {
+      at = λ i. elim i as (λ k. get_or (b ∷ bytes) k 0 < 256) [
+        | zero ↦ ltb-true b 256 parts.0
+        | suc k ↦ rest.at k
+      ];
+    }
 
 -- and the other way round
 pub tests : (bytes : List ℕ) → IsBytes bytes → list_all (λ b. ltb b 256) bytes ≡ true
@@ -42,5 +47,8 @@ tests (b ∷ bytes) h = rw (lt-ltb b 256 (h.at 0)) (tests bytes (record { at = �
 -- from a fact of each item
 pub IsBytes-all : (bytes : List ℕ) → All (λ b. b < 256) bytes → IsBytes bytes
 IsBytes-all bytes all = record {
-  at = λ i. elim (cases_lt i (length bytes)) [ inl inside ↦ all i 0 inside | inr past ↦ rw (get_or_past bytes i 0 past) (omega arith) ];
+  at = λ i. elim (cases_lt i (length bytes)) [
+    | inl inside ↦ all i 0 inside
+    | inr past ↦ rw (get_or_past bytes i 0 past) (omega arith)
+  ];
 }

@@ -11,19 +11,22 @@ abbrev one_if : (ℕ → Bool) → ℕ → ℕ
 one_if p k = cond (p k) 1 0
 
 -- a count with one number more
-count_one_more : (p : ℕ → Bool) (first n at : ℕ) → first + n ≡ at → count_by p (range_with_len first (n + 1)) ≡ count_by p
+count_one_more : (p : ℕ → Bool) (first n at : ℕ) → first + n ≡ at →
+    count_by p (range_with_len first (n + 1)) ≡ count_by p
     (range_with_len first n) + one_if p at
 count_one_more p first n at e =
     ap (count_by p) (sym (map-id (range_with_len first (n + 1))))
     ∙ sum_by-map-range_with_len_more (one_if p) (λ (k : ℕ). k) first n at e
     ∙ ap (λ xs. count_by p xs + one_if p at) (map-id (range_with_len first n))
 
-module _ (p : ℕ → Bool) (first at count : ℕ) (low : first ≤ at) (so_far : count ≡ count_by p (range_with_len first (at - first))) where
+module _ (p : ℕ → Bool) (first at count : ℕ) (low : first ≤ at)
+    (so_far : count ≡ count_by p (range_with_len first (at - first))) where
   -- a loop's step over such a count
   count_next : count_by p (range_with_len first (at + 1 - first)) ≡ count + one_if p at
   count_next =
       let next : at + 1 - first ≡ at - first + 1 = omega arith in
-      ap (λ k. count_by p (range_with_len first k)) next ∙ count_one_more p first (at - first) at (omega arith) ∙ ap (λ k. k + one_if p at) (sym so_far)
+      ap (λ k. count_by p (range_with_len first k)) next ∙ count_one_more p first (at - first) at (omega arith)
+      ∙ ap (λ k. k + one_if p at) (sym so_far)
 
   -- a loop's step over such a count
   pub count_taken : p at ≡ true → count + 1 ≡ count_by p (range_with_len first (at + 1 - first))
@@ -34,11 +37,13 @@ module _ (p : ℕ → Bool) (first at count : ℕ) (low : first ≤ at) (so_far 
   count_passed fail = sym (count_next ∙ ap (λ b. count + cond b 1 0) fail ∙ (omega arith))
 
 -- a count over a range, its first number apart
-pub count_first : (p : ℕ → Bool) (a n : ℕ) → count_by p (range_with_len a (suc n)) ≡ cond (p a) 1 0 + count_by p (range_with_len (a + 1) n)
+pub count_first : (p : ℕ → Bool) (a n : ℕ) → count_by p (range_with_len a (suc n))
+    ≡ cond (p a) 1 0 + count_by p (range_with_len (a + 1) n)
 count_first p a n = sum_by-cons (λ k. cond (p k) 1 0) a (range_with_len (a + 1) n)
 
 -- where none of a range is counted, each fails
-pub none_in_range : (p : ℕ → Bool) (a n : ℕ) → count_by p (range_with_len a n) ≡ 0 → (k : ℕ) → a ≤ k → k < a + n → p k ≡ false
+pub none_in_range : (p : ℕ → Bool) (a n : ℕ) → count_by p (range_with_len a n) ≡ 0 → (k : ℕ) → a ≤ k →
+    k < a + n → p k ≡ false
 none_in_range p a zero none k low high = absurd (omega arith)
 none_in_range p a (suc n) none k low high =
     let first = count_first p a n in
@@ -72,12 +77,14 @@ count_more p q a (suc n) h =
     omega (arith, count_first p a n, count_first q a n, rest, here)
 
 -- and somewhere the second does not
-pub count_less : (p q : ℕ → Bool) (a n j : ℕ) → ((k : ℕ) → a ≤ k → k < a + n → q k ≡ true → p k ≡ true) → a ≤ j → j < a + n → p j ≡ true → q j ≡ false →
+pub count_less : (p q : ℕ → Bool) (a n j : ℕ) → ((k : ℕ) → a ≤ k → k < a + n → q k ≡ true → p k ≡ true) → a ≤ j →
+    j < a + n → p j ≡ true → q j ≡ false →
     count_by q (range_with_len a n) < count_by p (range_with_len a n)
 count_less p q a zero j h low high pass off = absurd (omega arith)
 count_less p q a (suc n) j h low high pass off = elim (cases_lt a j) [
   | inl later ↦ (
-      let rest = count_less p q (a + 1) n j (λ k low high. h k (omega arith) (omega arith)) (omega arith) (omega arith) pass off in
+      let rest = count_less p q (a + 1) n j (λ k low high. h k (omega arith) (omega arith)) (omega arith)
+      (omega arith) pass off in
       let here = one_more (p a) (q a) (h a (omega arith) (omega arith)) in
       omega (arith, count_first p a n, count_first q a n, rest, here))
   | inr now ↦ (
@@ -108,7 +115,7 @@ count_some p a (suc n) h = elim (cases_Bool (p a)) [
       record { at = rest.at; low = omega arith; high = omega arith; passes = rest.passes })
 ]
 
--- a count over a range of which so many first numbers pass, and no others
+-- a count over a range of which this many first numbers pass, and no others
 pub filled_count : (p : ℕ → Bool) (a n filled : ℕ) → filled ≤ n → ((k : ℕ) → k < filled → p (a + k) ≡ true) →
     ((k : ℕ) → filled ≤ k → k < n → p (a + k) ≡ false) →
     count_by p (range_with_len a n) ≡ filled
@@ -116,10 +123,13 @@ filled_count p a zero filled le pass fail = omega arith
 filled_count p a (suc n) zero le pass fail =
     let here : p a ≡ false = ap p (let at : a ≡ a + 0 = omega arith in at) ∙ fail 0 (omega arith) (omega arith) in
     let rest = filled_count p (a + 1) n 0 (omega arith) (λ k lt. absurd (omega arith))
-    (λ k low lt. ap p (let at : a + 1 + k ≡ a + (k + 1) = omega arith in at) ∙ fail (k + 1) (omega arith) (omega arith)) in
+    (λ k low lt. ap p (let at : a + 1 + k ≡ a + (k + 1) = omega arith in at)
+    ∙ fail (k + 1) (omega arith) (omega arith)) in
     count_first p a n ∙ ap₂ (λ b r. cond b 1 0 + r) here rest
 filled_count p a (suc n) (suc f) le pass fail =
     let here : p a ≡ true = ap p (let at : a ≡ a + 0 = omega arith in at) ∙ pass 0 (omega arith) in
-    let rest = filled_count p (a + 1) n f (omega arith) (λ k lt. ap p (let at : a + 1 + k ≡ a + (k + 1) = omega arith in at) ∙ pass (k + 1) (omega arith))
-    (λ k low lt. ap p (let at : a + 1 + k ≡ a + (k + 1) = omega arith in at) ∙ fail (k + 1) (omega arith) (omega arith)) in
+    let rest = filled_count p (a + 1) n f (omega arith) (λ k lt. ap p (let at : a + 1 + k ≡ a + (k + 1) = omega arith in
+    at) ∙ pass (k + 1) (omega arith))
+    (λ k low lt. ap p (let at : a + 1 + k ≡ a + (k + 1) = omega arith in at)
+    ∙ fail (k + 1) (omega arith) (omega arith)) in
     count_first p a n ∙ ap₂ (λ b r. cond b 1 0 + r) here rest ∙ (let more : 1 + f ≡ suc f = omega arith in more)

@@ -1,4 +1,5 @@
--- What a list contains, in std's word: item by item, in a longer list, in one that is filtered, and in one that is mapped.
+-- What a list contains, in std's word: item by item, in a longer list, in one that is filtered, and in one that is
+-- mapped.
 use Rattle.std.proofs.Common.{◌≡◌, ◌⊎◌, ℕ, zero, suc, ◌<◌, Bool, true, List, [], ◌∷◌, ◌++◌, length, get_or, map, filter, slice_get, Some, All, Any, Contains}
 use Rattle.std.proofs.Common.{refl, sym, ap, ◌∙◌, subst, inl, inr, arith}
 use Rattle.std.proofs.lemmas.Bool.{cond-true, cond_both}
@@ -24,7 +25,8 @@ pub Contains-here : {X : Type 0} (y : X) (xs : List X) (x : X) → y ≡ x → C
 Contains-here y xs x same = (0, omega arith, same)
 
 -- an item at a place is the first, or one of the rest
-cases_at : {X : Type 0} (y : X) (xs : List X) (x : X) (k : ℕ) → k < length (y ∷ xs) → get_or (y ∷ xs) k x ≡ x → (y ≡ x) ⊎ Contains xs x
+cases_at : {X : Type 0} (y : X) (xs : List X) (x : X) (k : ℕ) → k < length (y ∷ xs) → get_or (y ∷ xs) k x ≡ x →
+    (y ≡ x) ⊎ Contains xs x
 cases_at y xs x zero within is = inl is
 cases_at y xs x (suc k) within is = inr (k, omega arith, is)
 
@@ -53,7 +55,8 @@ pub any_in : {X : Type 0} (P : X → Type 0) (xs : List X) (x : X) → Contains 
 any_in P xs x c h = (c.0, x, c.1, c.2, h)
 
 -- of a list with one item more, it contains the new one or one of before
-pub from_more : {X : Type 0} (before after : List X) (x y : X) → Contains (before ++ x ∷ after) y → (x ≡ y) ⊎ Contains (before ++ after) y
+pub from_more : {X : Type 0} (before after : List X) (x y : X) → Contains (before ++ x ∷ after) y →
+    (x ≡ y) ⊎ Contains (before ++ after) y
 from_more before after x y c = elim (Contains-append_cases before (x ∷ after) y c) [
   | inl front ↦ inr (Contains-append_left before after y front)
   | inr rest ↦ elim (Contains-cases x after y rest) [
@@ -63,31 +66,37 @@ from_more before after x y c = elim (Contains-append_cases before (x ∷ after) 
 ]
 
 -- and it contains still what it did
-pub in_more : {X : Type 0} (before after : List X) (x y : X) → Contains (before ++ after) y → Contains (before ++ x ∷ after) y
+pub in_more : {X : Type 0} (before after : List X) (x y : X) → Contains (before ++ after) y →
+    Contains (before ++ x ∷ after) y
 in_more before after x y c = elim (Contains-append_cases before after y c) [
   | inl front ↦ Contains-append_left before (x ∷ after) y front
   | inr later ↦ Contains-append_right before (x ∷ after) y (Contains-rest x after y later)
 ]
 
 -- an item that passes a test is among those that pass
-pub in_filter : {X : Type 0} (p : X → Bool) (x : X) (xs : List X) → Contains xs x → p x ≡ true → Contains (filter p xs) x
+pub in_filter : {X : Type 0} (p : X → Bool) (x : X) (xs : List X) → Contains xs x → p x ≡ true →
+    Contains (filter p xs) x
 in_filter p x [] c h = absurd (Contains-nil x c)
 in_filter p x (y ∷ ys) c h = elim (Contains-cases y ys x c) [
-  | inl same ↦ subst (λ zs. Contains zs x) (sym (cond-true (p y) (y ∷ filter p ys) (filter p ys) (ap p same ∙ h))) (Contains-here y (filter p ys) x same)
+  | inl same ↦ subst (λ zs. Contains zs x) (sym (cond-true (p y) (y ∷ filter p ys) (filter p ys) (ap p same ∙ h)))
+      (Contains-here y (filter p ys) x same)
   | inr i ↦ (
       let rest = in_filter p x ys i h in
-      cond_both (p y) (y ∷ filter p ys) (filter p ys) (λ zs. Contains zs x) (λ e. Contains-rest y (filter p ys) x rest) (λ e. rest))
+      cond_both (p y) (y ∷ filter p ys) (filter p ys) (λ zs. Contains zs x)
+      (λ e. Contains-rest y (filter p ys) x rest) (λ e. rest))
 ]
 
 -- an item among those that pass is in the list, and passes
-pub from_filter : {X : Type 0} (p : X → Bool) (x : X) (xs : List X) → Contains (filter p xs) x → Contains xs x × (p x ≡ true)
+pub from_filter : {X : Type 0} (p : X → Bool) (x : X) (xs : List X) → Contains (filter p xs) x →
+    Contains xs x × (p x ≡ true)
 from_filter p x xs c = (
   All-contains (Contains xs) (filter p xs) x (All-filter p (Contains xs) xs (All-contains_itself xs)) c,
   All-contains (λ y. p y ≡ true) (filter p xs) x (filter_passes p xs) c,
 )
 
 -- an item of a mapped list is that of an item
-pub in_map : {X Y : Type 0} (f : X → Y) (xs : List X) (y : Y) → Contains (map f xs) y → (x : X) × Contains xs x × (f x ≡ y)
+pub in_map : {X Y : Type 0} (f : X → Y) (xs : List X) (y : Y) → Contains (map f xs) y →
+    (x : X) × Contains xs x × (f x ≡ y)
 in_map f [] y c = absurd (Contains-nil y c)
 in_map f (x ∷ xs) y c = elim (Contains-cases (f x) (map f xs) y c) [
   | inl same ↦ (x, Contains-first x xs, same)

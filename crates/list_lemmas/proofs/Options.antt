@@ -9,7 +9,8 @@ cases_Option None = inl refl
 cases_Option (Some x) = inr (x, refl)
 
 -- one of two gives what both give
-pub option_or_some : {B : Type 0} (o p : Option B) (y : B) → option_or o p ≡ Some y → (o ≡ Some y) ⊎ ((o ≡ None) × (p ≡ Some y))
+pub option_or_some : {B : Type 0} (o p : Option B) (y : B) → option_or o p ≡ Some y →
+    (o ≡ Some y) ⊎ ((o ≡ None) × (p ≡ Some y))
 option_or_some None p y h = inr (refl, h)
 option_or_some (Some x) p y h = inl h
 

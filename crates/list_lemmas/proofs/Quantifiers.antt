@@ -10,11 +10,13 @@ use Rattle.std.proofs.lemmas.Option.{slice_get_within, get_or_from_slice_get}
 
 -- what is so of two lists end to end is so of the first
 pub all_left : {X : Type 0} (P : X → Type 0) (xs ys : List X) → All P (xs ++ ys) → All P xs
-all_left P xs ys h k d inside = subst P (get_or_append_left xs ys d k inside) (h k d (omega (arith, length-append xs ys)))
+all_left P xs ys h k d inside = subst P (get_or_append_left xs ys d k inside)
+    (h k d (omega (arith, length-append xs ys)))
 
 -- and of the second
 pub all_right : {X : Type 0} (P : X → Type 0) (xs ys : List X) → All P (xs ++ ys) → All P ys
-all_right P xs ys h k d inside = subst P (get_or-append-add xs ys k d) (h (length xs + k) d (omega (arith, length-append xs ys)))
+all_right P xs ys h k d inside = subst P (get_or-append-add xs ys k d)
+    (h (length xs + k) d (omega (arith, length-append xs ys)))
 
 -- and of a list without one
 pub all_remove : {X : Type 0} (P : X → Type 0) (xs : List X) (i : ℕ) → All P xs → All P (remove xs i)
@@ -36,8 +38,14 @@ any_got P xs k x is h = (k, x, slice_get_within xs k x is, get_or_from_slice_get
 
 -- some item is still there with one more
 pub any_before : {X : Type 0} (P : X → Type 0) (xs : List X) (y : X) → Any P xs → Any P (xs ++ y ∷ [])
-any_before P xs y any =
-    (any.0, any.1, omega (arith, any.2, length_push xs y), get_or_append_left xs (y ∷ []) any.1 any.0 any.2 ∙ any.3, any.4)
+any_before P xs y any = (
+  any.0,
+  any.1,
+  omega (arith, any.2, length_push xs y),
+  get_or_append_left xs (y ∷ []) any.1 any.0 any.2
+      ∙ any.3,
+  any.4,
+)
 
 -- and with one more it was there before, or is that one
 pub any_push_cases : {X : Type 0} (P : X → Type 0) (xs : List X) (y : X) → Any P (xs ++ y ∷ []) → Any P xs ⊎ P y
@@ -49,7 +57,8 @@ any_push_cases P xs y any = elim (cases_lt any.0 (length xs)) [
 ]
 
 -- what is so of some mapped item
-pub any_from_map : {X Y : Type 0} (f : X → Y) (P : Y → Type 0) (xs : List X) (d : X) → Any P (map f xs) → Any (λ x. P (f x)) xs
+pub any_from_map : {X Y : Type 0} (f : X → Y) (P : Y → Type 0) (xs : List X) (d : X) → Any P (map f xs) →
+    Any (λ x. P (f x)) xs
 any_from_map f P xs d h =
     let inside : h.0 < length xs = subst (λ n. h.0 < n) (length-map xs f) h.2 in
     let at : f (get_or xs h.0 d) ≡ h.1 = sym (get_or-map f xs h.0 d h.1 inside) ∙ h.3 in
@@ -61,11 +70,19 @@ any_to_map f P xs h =
     (h.0, f h.1, subst (λ n. h.0 < n) (sym (length-map xs f)) h.2, get_or-map f xs h.0 h.1 (f h.1) h.2 ∙ ap f h.3, h.4)
 
 -- what is so of an element beside the removed one
-pub any_beside : {X : Type 0} (P : X → Type 0) (xs : List X) (i j : ℕ) (d : X) → i < length xs → j < length xs → j ≢ i → P (get_or xs j d) → Any P (remove xs i)
+pub any_beside : {X : Type 0} (P : X → Type 0) (xs : List X) (i j : ℕ) (d : X) → i < length xs → j < length xs → j ≢ i →
+    P (get_or xs j d) → Any P (remove xs i)
 any_beside P xs i j d within inside other h =
     let long = length-remove xs i within in
     elim (cases_lt j i) [
-      | inl less ↦ (j, get_or xs j d, omega arith, get_or-remove_below xs i (get_or xs j d) j less within ∙ get_or_default xs j (get_or xs j d) d inside, h)
+      | inl less ↦ (
+        j,
+        get_or xs j d,
+        omega arith,
+        get_or-remove_below xs i (get_or xs j d) j less within
+            ∙ get_or_default xs j (get_or xs j d) d inside,
+        h,
+      )
       | inr past ↦ (
           let k = j - 1 in
           let up : k + 1 ≡ j = omega (arith, other) in (
@@ -89,12 +106,14 @@ beside_any P xs i d within h =
         h.0,
         omega arith,
         (λ e. absurd (omega arith)),
-        subst P (sym h.3 ∙ get_or-remove_below xs i h.1 h.0 less within ∙ get_or_default xs h.0 h.1 d (omega arith)) h.4,
+        subst P (sym h.3 ∙ get_or-remove_below xs i h.1 h.0 less within
+            ∙ get_or_default xs h.0 h.1 d (omega arith)) h.4,
       )
       | inr past ↦ (
         h.0 + 1,
         omega arith,
         (λ e. absurd (omega arith)),
-        subst P (sym h.3 ∙ get_or-remove_above xs i h.1 h.0 past within ∙ get_or_default xs (h.0 + 1) h.1 d (omega arith)) h.4,
+        subst P (sym h.3 ∙ get_or-remove_above xs i h.1 h.0 past within
+            ∙ get_or_default xs (h.0 + 1) h.1 d (omega arith)) h.4,
       )
     ]

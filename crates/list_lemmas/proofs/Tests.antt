@@ -11,22 +11,27 @@ use Rattle.std.proofs.lemmas.Option.{slice_get-get_or, slice_get_past, same_Some
 use Rattle.list_lemmas.proofs.Membership.{Contains-nil, Contains-first, Contains-rest, Contains-cases, Contains-here, in_any, any_in}
 
 -- some item passes a test
-pub any_of : {X : Type 0} (test : X → Bool) (l : List X) → list_any test l ≡ true → (x : X) × Contains l x × (test x ≡ true)
+pub any_of : {X : Type 0} (test : X → Bool) (l : List X) → list_any test l ≡ true → (x : X) × Contains l x
+    × (test x ≡ true)
 any_of test l h = in_any (λ x. test x ≡ true) l (Any-from_list_any test l h)
 
 -- and the other way round
-pub any_from : {X : Type 0} (test : X → Bool) (l : List X) (x : X) → Contains l x → test x ≡ true → list_any test l ≡ true
+pub any_from : {X : Type 0} (test : X → Bool) (l : List X) (x : X) → Contains l x → test x ≡ true →
+    list_any test l ≡ true
 any_from test l x c h = list_any-from_Any test l (any_in (λ x. test x ≡ true) l x c h)
 
 -- two tests that agree at each item pass alike
-pub any_same : {X : Type 0} (test test' : X → Bool) (l : List X) → ((x : X) → test x ≡ test' x) → list_any test l ≡ list_any test' l
+pub any_same : {X : Type 0} (test test' : X → Bool) (l : List X) → ((x : X) → test x ≡ test' x) →
+    list_any test l ≡ list_any test' l
 any_same test test' [] h = refl
 any_same test test' (x ∷ xs) h = ap₂ (λ a b. a || b) (h x) (any_same test test' xs h)
 
 -- two tests that agree on the items of a list
-pub any_same_in : {X : Type 0} (test test' : X → Bool) (l : List X) → ((x : X) → Contains l x → test x ≡ test' x) → list_any test l ≡ list_any test' l
+pub any_same_in : {X : Type 0} (test test' : X → Bool) (l : List X) → ((x : X) → Contains l x → test x ≡ test' x) →
+    list_any test l ≡ list_any test' l
 any_same_in test test' [] h = refl
-any_same_in test test' (x ∷ xs) h = ap₂ (λ a b. a || b) (h x (Contains-first x xs)) (any_same_in test test' xs (λ y i. h y (Contains-rest x xs y i)))
+any_same_in test test' (x ∷ xs) h = ap₂ (λ a b. a || b) (h x (Contains-first x xs))
+    (any_same_in test test' xs (λ y i. h y (Contains-rest x xs y i)))
 
 -- a test that no item passes fails for each
 pub any_none : {X : Type 0} (p : X → Bool) (xs : List X) → list_any p xs ≡ false → (x : X) → Contains xs x → p x ≡ false
@@ -41,7 +46,8 @@ or_swap false false c = refl
 
 module _ {X : Type 0} where
   -- a test over a list with one item more
-  pub any_more : (test : X → Bool) (x : X) (before after : List X) → list_any test (before ++ x ∷ after) ≡ (test x || list_any test (before ++ after))
+  pub any_more : (test : X → Bool) (x : X) (before after : List X) →
+      list_any test (before ++ x ∷ after) ≡ (test x || list_any test (before ++ after))
   any_more test x before after =
       list_any-append test before (x ∷ after)
       ∙ or_swap (list_any test before) (test x) (list_any test after)
@@ -57,7 +63,8 @@ below_any (x ∷ xs) n q a h = elim (or_cases (eqb q x) (list_any (eqb q) xs) h)
 
 module _ {X : Type 0} (p : X → Bool) where
   -- what stands at the first place that passes is found
-  find_here : (xs : List X) (d : X) → position_or_len p xs < length xs → find p xs ≡ Some (get_or xs (position_or_len p xs) d)
+  find_here : (xs : List X) (d : X) → position_or_len p xs < length xs →
+      find p xs ≡ Some (get_or xs (position_or_len p xs) d)
   find_here xs d within = find_at p xs ∙ slice_get-get_or xs (position_or_len p xs) d within
 
   -- where there is none, nothing is found
@@ -72,7 +79,8 @@ module _ {X : Type 0} (p : X → Bool) where
         (lt-ltb (position_or_len p xs) (length xs) within) in
         find_here xs d within ∙ ap (λ k. Some (get_or xs k d)) (same_Some (position_or_len p xs) i (sym here ∙ is))
     | inr all ↦
-        let none : position p xs ≡ None = ap (λ b. cond b (Some (position_or_len p xs)) None) (le-ltb (position_or_len p xs) (length xs) all) in
+        let none : position p xs ≡ None = ap (λ b. cond b (Some (position_or_len p xs)) None)
+        (le-ltb (position_or_len p xs) (length xs) all) in
         absurd cc
   ]
 
@@ -99,7 +107,8 @@ find_stands p (y ∷ ys) x e = elim (cases_Bool (p y)) [
 ]
 
 -- where neither gives anything
-pub none_parts : {X : Type 0} (b : Bool) (e : X) (rest : Option X) → cond b (Some e) rest ≡ None → (b ≡ false) × (rest ≡ None)
+pub none_parts : {X : Type 0} (b : Bool) (e : X) (rest : Option X) → cond b (Some e) rest ≡ None →
+    (b ≡ false) × (rest ≡ None)
 none_parts true e rest h = cc
 none_parts false e rest h = (refl, h)
 
@@ -111,20 +120,24 @@ none_found p (y ∷ ys) h x c =
     elim (Contains-cases y ys x c) [ inl same ↦ ap p (sym same) ∙ none.0 | inr i ↦ none_found p ys none.1 x i ]
 
 -- an item that fails a test is not found by it
-pub find_more : {X : Type 0} (test : X → Bool) (x : X) (before after : List X) → test x ≡ false → find test (before ++ x ∷ after) ≡ find test (before ++ after)
+pub find_more : {X : Type 0} (test : X → Bool) (x : X) (before after : List X) → test x ≡ false →
+    find test (before ++ x ∷ after) ≡ find test (before ++ after)
 find_more test x [] after fail = cond-false (test x) (Some x) (find test after) fail
 find_more test x (y ∷ ys) after fail = ap (λ o. cond (test y) (Some y) o) (find_more test x ys after fail)
 
 -- a test that finds only what stays finds the same in what is left
-pub find_left : {X : Type 0} (test keep : X → Bool) (l : List X) → ((x : X) → test x ≡ true → keep x ≡ true) → find test (filter keep l) ≡ find test l
+pub find_left : {X : Type 0} (test keep : X → Bool) (l : List X) → ((x : X) → test x ≡ true → keep x ≡ true) →
+    find test (filter keep l) ≡ find test l
 find_left test keep [] h = refl
 find_left test keep (x ∷ xs) h =
     let ih = find_left test keep xs h in
     elim (cases_Bool (test x)) [
       | inl pass' ↦ ap (find test) (cond-true (keep x) (x ∷ filter keep xs) (filter keep xs) (h x pass'))
-          ∙ cond-true (test x) (Some x) (find test (filter keep xs)) pass' ∙ sym (cond-true (test x) (Some x) (find test xs) pass')
+          ∙ cond-true (test x) (Some x) (find test (filter keep xs)) pass'
+          ∙ sym (cond-true (test x) (Some x) (find test xs) pass')
       | inr fail ↦ cond_both (keep x) (x ∷ filter keep xs) (filter keep xs) (λ l. find test l ≡ find test (x ∷ xs))
-          (λ e. cond-false (test x) (Some x) (find test (filter keep xs)) fail ∙ ih ∙ sym (cond-false (test x) (Some x) (find test xs) fail))
+          (λ e. cond-false (test x) (Some x) (find test (filter keep xs)) fail ∙ ih
+          ∙ sym (cond-false (test x) (Some x) (find test xs) fail))
           (λ e. ih ∙ sym (cond-false (test x) (Some x) (find test xs) fail))
     ]
 
@@ -132,8 +145,10 @@ find_left test keep (x ∷ xs) h =
 pub none_counted : {X : Type 0} (test : X → Bool) (xs : List X) → All (λ x. test x ≡ false) xs → count_by test xs ≡ 0
 none_counted test [] h = refl
 none_counted test (x ∷ xs) h =
-    let split : count_by test (x ∷ xs) ≡ cond (test x) 1 0 + count_by test xs = sum_by-cons (λ y. cond (test y) 1 0) x xs in
-    let here : ◌≡◌ {A = ℕ} (cond {A = ℕ} (test x) 1 0) 0 = ap (λ (b : Bool). cond {A = ℕ} b 1 0) (All-head (λ x. test x ≡ false) x xs h) in
+    let split : count_by test (x ∷ xs) ≡ cond (test x) 1 0 + count_by test xs =
+    sum_by-cons (λ y. cond (test y) 1 0) x xs in
+    let here : ◌≡◌ {A = ℕ} (cond {A = ℕ} (test x) 1 0) 0 = ap (λ (b : Bool). cond {A = ℕ} b 1 0)
+    (All-head (λ x. test x ≡ false) x xs h) in
     let rest = none_counted test xs (All-tail (λ x. test x ≡ false) x xs h) in omega (arith, split, here, rest)
 
 -- one test and a count
@@ -145,6 +160,7 @@ none_passes false n h = (refl, omega arith)
 pub all_uncounted : {X : Type 0} (test : X → Bool) (xs : List X) → count_by test xs ≤ 0 → All (λ x. test x ≡ false) xs
 all_uncounted test [] h = All-nil (λ x. test x ≡ false)
 all_uncounted test (x ∷ xs) h =
-    let split : count_by test (x ∷ xs) ≡ cond (test x) 1 0 + count_by test xs = sum_by-cons (λ y. cond (test y) 1 0) x xs in
+    let split : count_by test (x ∷ xs) ≡ cond (test x) 1 0 + count_by test xs =
+    sum_by-cons (λ y. cond (test y) 1 0) x xs in
     let both = none_passes (test x) (count_by test xs) (omega (arith, split, h)) in
     All-cons (λ x. test x ≡ false) x xs both.0 (all_uncounted test xs both.1)

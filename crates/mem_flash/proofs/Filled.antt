@@ -50,7 +50,8 @@ module _ (n : ℕ) (states : List Seen) (cells : List ℕ) (long : length cells 
   marks_within = rw length-replicate inside
 
   room : (i + m) * cell_bytes n ≤ length cells
-  room = let wide : (i + m) * cell_bytes n ≤ length states * cell_bytes n = mul-le-mul_right (cell_bytes n) inside in omega arith
+  room = let wide : (i + m) * cell_bytes n ≤ length states * cell_bytes n = mul-le-mul_right (cell_bytes n) inside in
+      omega arith
 
   fill_long : length fill ≡ m * cell_bytes n
   fill_long = length-replicate (m * cell_bytes n) (filler how)
@@ -66,10 +67,12 @@ module _ (n : ℕ) (states : List Seen) (cells : List ℕ) (long : length cells 
       get_or-overwritten_in states i marks marks_within k Blank low (rw length-replicate high)
       ∙ get_or-replicate m (k - i) how Blank (omega arith)
 
-  chunk_in : (k : ℕ) → i ≤ k → k < i + m → slice_chunk new_cells (cell_bytes n) k ≡ replicate (cell_bytes n) (filler how)
+  chunk_in : (k : ℕ) → i ≤ k → k < i + m → slice_chunk new_cells (cell_bytes n) k
+      ≡ replicate (cell_bytes n) (filler how)
   chunk_in k low high =
       slice_chunk-written cells (cell_bytes n) i m fill fill_long room k (k - i) (omega arith) (omega arith)
-      ∙ slice_chunk-replicate (m * cell_bytes n) (cell_bytes n) (k - i) (filler how) (chunk_end (cell_bytes n) (k - i) m (omega arith))
+      ∙ slice_chunk-replicate (m * cell_bytes n) (cell_bytes n) (k - i) (filler how)
+      (chunk_end (cell_bytes n) (k - i) m (omega arith))
 
   -- a slot outside reads as before and has the bytes that it had
   record Stays (k : ℕ) : Type 0 where
@@ -103,7 +106,12 @@ module _ (n : ℕ) (states : List Seen) (cells : List ℕ) (long : length cells 
   slot_stays : (k : ℕ) → k < length states → Stays k → get_or new_image k blank ≡ get_or old_image k blank
   slot_stays k below stays =
       let within : k < length new_states = rw length-filled_states below in
-      rw (get_or-image_of n new_states new_cells k blank within, get_or-image_of n states cells k blank below, stays.state, stays.cell)
+      rw (
+        get_or-image_of n new_states new_cells k blank within,
+        get_or-image_of n states cells k blank below,
+        stays.state,
+        stays.cell,
+      )
       refl
 
   abbrev left_slots : List Contents
@@ -115,7 +123,8 @@ module _ (n : ℕ) (states : List Seen) (cells : List ℕ) (long : length cells 
   slot_at_is : (k : ℕ) → k < length states → (k < i) ⊎ (((i ≤ k) × (k < i + m)) ⊎ (i + m ≤ k))
       → get_or new_image k blank ≡ get_or (overwritten old_image i left_slots) k blank
   slot_at_is k below (inl before) =
-      slot_stays k below (stays_before k before) ∙ sym (get_or-overwritten_below old_image i left_slots slots_within k blank before)
+      slot_stays k below (stays_before k before)
+      ∙ sym (get_or-overwritten_below old_image i left_slots slots_within k blank before)
   slot_at_is k below (inr (inl among)) =
       slot_in k among.0 among.1
       ∙ sym (get_or-overwritten_in old_image i left_slots slots_within k blank among.0 (rw length-replicate among.1)
@@ -137,7 +146,8 @@ module _ (n : ℕ) (states : List Seen) (cells : List ℕ) (long : length cells 
   filled_at : AreFilled n states cells → (k : ℕ) → k < length states → (k < i) ⊎ (((i ≤ k) × (k < i + m)) ⊎ (i + m ≤ k))
       → IsFilled n (get_or new_states k Blank) (slice_chunk new_cells (cell_bytes n) k)
   filled_at filled k below (inl before) = let s = stays_before k before in rw (s.state, s.cell) (filled k below)
-  filled_at filled k below (inr (inl among)) = rw (state_in k among.0 among.1, chunk_in k among.0 among.1) (IsFilled-filler n how bare)
+  filled_at filled k below (inr (inl among)) = rw (state_in k among.0 among.1, chunk_in k among.0 among.1)
+      (IsFilled-filler n how bare)
   filled_at filled k below (inr (inr behind)) = let s = stays_behind k behind in rw (s.state, s.cell) (filled k below)
 
   pub AreFilled-filled : AreFilled n states cells → AreFilled n new_states new_cells

@@ -16,7 +16,8 @@ seen_of-contents_of n Blank cell = refl
 seen_of-contents_of n Damaged cell = refl
 seen_of-contents_of n Complete cell = refl
 
-pub page_of-contents_of : (n : ℕ) (state : Seen) (cell : List ℕ) → IsFilled n state cell → page_of n (contents_of n state cell) ≡ take n cell
+pub page_of-contents_of : (n : ℕ) (state : Seen) (cell : List ℕ) → IsFilled n state cell →
+    page_of n (contents_of n state cell) ≡ take n cell
 page_of-contents_of n Blank cell filled = rw filled (sym (take-replicate n (n + 64) 255 (omega arith)))
 page_of-contents_of n Damaged cell filled = rw filled (sym (take-replicate n (n + 64) 0 (omega arith)))
 page_of-contents_of n Complete cell filled = refl
@@ -24,16 +25,20 @@ page_of-contents_of n Complete cell filled = refl
 spare_is : (n x : ℕ) → replicate 64 x ≡ drop n (replicate (n + 64) x)
 spare_is n x = let left : 64 ≡ n + 64 - n = omega arith in rw drop-replicate (ap (λ (m : ℕ). replicate m x) left)
 
-pub spare_area_of-contents_of : (n : ℕ) (state : Seen) (cell : List ℕ) → IsFilled n state cell → spare_area_of (contents_of n state cell) ≡ drop n cell
+pub spare_area_of-contents_of : (n : ℕ) (state : Seen) (cell : List ℕ) → IsFilled n state cell →
+    spare_area_of (contents_of n state cell) ≡ drop n cell
 spare_area_of-contents_of n Blank cell filled = rw filled (spare_is n 255)
 spare_area_of-contents_of n Damaged cell filled = rw filled (spare_is n 0)
 spare_area_of-contents_of n Complete cell filled = refl
 
-pub cell_of-contents_of : (n : ℕ) (state : Seen) (cell : List ℕ) → IsFilled n state cell → cell_of n (contents_of n state cell) ≡ cell
+pub cell_of-contents_of : (n : ℕ) (state : Seen) (cell : List ℕ) → IsFilled n state cell →
+    cell_of n (contents_of n state cell) ≡ cell
 cell_of-contents_of n state cell filled =
-    rw (page_of-contents_of n state cell filled, spare_area_of-contents_of n state cell filled) (take-append-drop n cell)
+    rw (page_of-contents_of n state cell filled, spare_area_of-contents_of n state cell filled)
+    (take-append-drop n cell)
 
-pub IsWhole-contents_of : (n : ℕ) (state : Seen) (cell : List ℕ) → length cell ≡ cell_bytes n → IsWhole n (contents_of n state cell)
+pub IsWhole-contents_of : (n : ℕ) (state : Seen) (cell : List ℕ) → length cell ≡ cell_bytes n →
+    IsWhole n (contents_of n state cell)
 IsWhole-contents_of n Blank cell long = tt
 IsWhole-contents_of n Damaged cell long = tt
 IsWhole-contents_of n Complete cell long = (simp length-take (omega arith), simp length-drop (omega arith))
@@ -58,7 +63,8 @@ pub All-image_of : (n : ℕ) (states : List Seen) (cells : List ℕ) → length 
     → All (IsWhole n) (image_of n states cells)
 All-image_of n states cells long k d below =
     let inside : k < length states = omega (arith, length-image_of n states cells) in
-    let ends : k * cell_bytes n + cell_bytes n ≤ length states * cell_bytes n = chunk_end (cell_bytes n) k (length states) inside in
+    let ends : k * cell_bytes n + cell_bytes n ≤ length states * cell_bytes n =
+    chunk_end (cell_bytes n) k (length states) inside in
     rw (get_or-image_of n states cells k d inside)
     (IsWhole-contents_of n _ _ (length-slice_chunk cells (cell_bytes n) k (omega arith)))
 
@@ -66,7 +72,8 @@ All-image_of n states cells long k d below =
 
 pub image_of-blank : (n count : ℕ) (cells : List ℕ) → image_of n (replicate count Blank) cells ≡ replicate count blank
 image_of-blank n zero cells = refl
-image_of-blank n (suc count) cells = ap (λ (rest : List Contents). blank ∷ rest) (image_of-blank n count (drop (cell_bytes n) cells))
+image_of-blank n (suc count) cells = ap (λ (rest : List Contents). blank ∷ rest)
+    (image_of-blank n count (drop (cell_bytes n) cells))
 
 pub AreFilled-blank : (n count : ℕ) → AreFilled n (replicate count Blank) (replicate (count * cell_bytes n) 255)
 AreFilled-blank n count k below =

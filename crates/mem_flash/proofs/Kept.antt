@@ -20,9 +20,11 @@ pub AreFilled-new : (shape : Shape) (states : List Seen) (cells : List ℕ) → 
 AreFilled-new shape states cells states_are cells_are =
     rw (states_are, cells_are) (AreFilled-blank shape.page_bytes (slots_of shape))
 
-pub image_of-all_blank : (shape : Shape) (states : List Seen) (cells : List ℕ) → states ≡ replicate (slots_of shape) Blank
+pub image_of-all_blank : (shape : Shape) (states : List Seen) (cells : List ℕ) →
+    states ≡ replicate (slots_of shape) Blank
     → image_of shape.page_bytes states cells ≡ replicate (slots_of shape) blank
-image_of-all_blank shape states cells states_are = rw states_are (image_of-blank shape.page_bytes (slots_of shape) cells)
+image_of-all_blank shape states cells states_are =
+    rw states_are (image_of-blank shape.page_bytes (slots_of shape) cells)
 
 module _ (f : Inside) (stored : SlotsInvariant f) where
   abbrev page : ℕ
@@ -78,7 +80,8 @@ module _ (f : Inside) (stored : SlotsInvariant f) where
     filled : IsFilled page state cell
     filled = stored.filled at (rw stored.slots below)
 
-    pub seen_of-slot : (how : Seen) → how ≡ get_or states at how → how ≡ seen_of (slot_at (image_of page states cells) at)
+    pub seen_of-slot : (how : Seen) → how ≡ get_or states at how →
+        how ≡ seen_of (slot_at (image_of page states cells) at)
     seen_of-slot how read =
         rw is (get_or_read states at how (rw stored.slots below) read Blank ∙ sym (seen_of-contents_of page state cell))
 
@@ -92,7 +95,8 @@ module _ (f : Inside) (stored : SlotsInvariant f) where
     spare_area_of-slot = rw is (spare_area_of-contents_of page state cell filled)
 
   -- after a program
-  module _ (at : ℕ) (bytes spare_area : List ℕ) (below : at < slots_of f.shape) (whole : length bytes ≡ page) (tail : length spare_area ≡ 64) where
+  module _ (at : ℕ) (bytes spare_area : List ℕ) (below : at < slots_of f.shape) (whole : length bytes ≡ page)
+      (tail : length spare_area ≡ 64) where
     inside : at < length states
     inside = rw stored.slots below
 
@@ -107,18 +111,23 @@ module _ (f : Inside) (stored : SlotsInvariant f) where
         rw bytes_are (drop-overwritten f.bytes.items f.head (at * size) (bytes ++ spare_area) written_within)
 
     pub image-programmed : (new_states : List Seen) (new_bytes : List ℕ)
-        → new_states ≡ set states at Complete → new_bytes ≡ overwritten f.bytes.items (f.head + at * size) (bytes ++ spare_area)
-        → image_of page new_states (drop f.head new_bytes) ≡ set (image_of page states cells) at (complete bytes spare_area)
+        → new_states ≡ set states at Complete → new_bytes ≡ overwritten f.bytes.items (f.head + at * size)
+        (bytes ++ spare_area)
+        → image_of page new_states (drop f.head new_bytes) ≡ set (image_of page states cells) at
+        (complete bytes spare_area)
     image-programmed new_states new_bytes states_are bytes_are =
-        rw (states_are, written new_bytes bytes_are) (image_of-programmed page states cells bytes_long at bytes spare_area inside whole tail)
+        rw (states_are, written new_bytes bytes_are) (image_of-programmed page states cells bytes_long at bytes
+        spare_area inside whole tail)
 
     pub AreStored-programmed : (g : Inside) → g.shape ≡ f.shape → g.head ≡ f.head
-        → g.seen.items ≡ set states at Complete → g.bytes.items ≡ overwritten f.bytes.items (f.head + at * size) (bytes ++ spare_area)
+        → g.seen.items ≡ set states at Complete → g.bytes.items ≡ overwritten f.bytes.items (f.head + at * size)
+        (bytes ++ spare_area)
         → SlotsInvariant g
     AreStored-programmed g same same_head states_are bytes_are = record {
       shape = rw same stored.shape;
       slots = rw (states_are, same) (length-set states at Complete ∙ stored.slots);
-      bytes = rw (bytes_are, same, same_head) (length-overwritten f.bytes.items (f.head + at * size) (bytes ++ spare_area) written_within ∙ stored.bytes);
+      bytes = rw (bytes_are, same, same_head) (length-overwritten f.bytes.items (f.head + at * size)
+          (bytes ++ spare_area) written_within ∙ stored.bytes);
       filled = rw (states_are, same, same_head, written g.bytes.items bytes_are)
           (AreFilled-programmed page states cells bytes_long at bytes spare_area inside whole tail stored.filled);
     }
@@ -128,7 +137,8 @@ module _ (f : Inside) (stored : SlotsInvariant f) where
     all_inside : i + m ≤ length states
     all_inside = rw stored.slots within
 
-    filled_bytes : (new_bytes : List ℕ) → new_bytes ≡ overwritten f.bytes.items (f.head + i * size) (replicate (m * size) (filler how))
+    filled_bytes : (new_bytes : List ℕ) → new_bytes ≡ overwritten f.bytes.items (f.head + i * size)
+        (replicate (m * size) (filler how))
         → drop f.head new_bytes ≡ overwritten cells (i * size) (replicate (m * size) (filler how))
     filled_bytes new_bytes bytes_are =
         rw bytes_are (drop-overwritten f.bytes.items f.head (i * size) (replicate (m * size) (filler how))
@@ -137,17 +147,22 @@ module _ (f : Inside) (stored : SlotsInvariant f) where
     pub image-filled : (new_states : List Seen) (new_bytes : List ℕ)
         → new_states ≡ overwritten states i (replicate m how)
         → new_bytes ≡ overwritten f.bytes.items (f.head + i * size) (replicate (m * size) (filler how))
-        → image_of page new_states (drop f.head new_bytes) ≡ overwritten (image_of page states cells) i (replicate m (contents_of page how []))
+        → image_of page new_states (drop f.head new_bytes) ≡ overwritten (image_of page states cells) i
+        (replicate m (contents_of page how []))
     image-filled new_states new_bytes states_are bytes_are =
-        rw (states_are, filled_bytes new_bytes bytes_are) (image_of-filled page states cells bytes_long i m all_inside how bare)
+        rw (states_are, filled_bytes new_bytes bytes_are)
+        (image_of-filled page states cells bytes_long i m all_inside how bare)
 
     pub AreStored-filled : (g : Inside) → g.shape ≡ f.shape → g.head ≡ f.head
         → g.seen.items ≡ overwritten states i (replicate m how)
-        → g.bytes.items ≡ overwritten f.bytes.items (f.head + i * size) (replicate (m * size) (filler how)) → SlotsInvariant g
+        → g.bytes.items ≡ overwritten f.bytes.items (f.head + i * size) (replicate (m * size) (filler how)) →
+        SlotsInvariant g
     AreStored-filled g same same_head states_are bytes_are = record {
       shape = rw same stored.shape;
-      slots = rw (states_are, same) (length-filled_states page states cells bytes_long i m all_inside how bare ∙ stored.slots);
-      bytes = rw (bytes_are, same, same_head) (length-overwritten f.bytes.items (f.head + i * size) (replicate (m * size) (filler how))
+      slots = rw (states_are, same) (length-filled_states page states cells bytes_long i m all_inside how bare
+          ∙ stored.slots);
+      bytes = rw (bytes_are, same, same_head) (length-overwritten f.bytes.items (f.head + i * size)
+          (replicate (m * size) (filler how))
           (simp length-replicate (cells_within i m within)) ∙ stored.bytes);
       filled = rw (states_are, same, same_head, filled_bytes g.bytes.items bytes_are)
           (AreFilled-filled page states cells bytes_long i m all_inside how bare stored.filled);

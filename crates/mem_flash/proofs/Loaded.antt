@@ -19,17 +19,21 @@ load_at r at = record { at = at.0; bytes = r.bytes.items; spare_area = r.spare_a
 first_none : (r : Register) (rest : List Register) → r.at ≡ None → loads_of (r ∷ rest) ≡ loads_of rest
 first_none r rest none = rw none refl
 
-first_some : (r : Register) (rest : List Register) (at : Slot) → r.at ≡ Some at → loads_of (r ∷ rest) ≡ load_at r at ∷ loads_of rest
+first_some : (r : Register) (rest : List Register) (at : Slot) → r.at ≡ Some at →
+    loads_of (r ∷ rest) ≡ load_at r at ∷ loads_of rest
 first_some r rest at some = rw some refl
 
 -- what the registers from one on hold: what those behind it do, and before it its own program
-module _ (registers : List Register) (i : ℕ) (r : Register) (within : i < length registers) (is : r ≡ get_or registers i r) where
+module _ (registers : List Register) (i : ℕ) (r : Register) (within : i < length registers)
+    (is : r ≡ get_or registers i r) where
   pub loads-none : r.at ≡ None → loads_of (drop i registers) ≡ loads_of (drop (i + 1) registers)
   loads-none none =
       at_drop_more loads_of registers i r within
-      ∙ subst (λ x. loads_of (x ∷ drop (i + 1) registers) ≡ loads_of (drop (i + 1) registers)) is (first_none r (drop (i + 1) registers) none)
+      ∙ subst (λ x. loads_of (x ∷ drop (i + 1) registers) ≡ loads_of (drop (i + 1) registers)) is
+      (first_none r (drop (i + 1) registers) none)
 
-  pub loads-some : (at : Slot) → r.at ≡ Some at → loads_of (drop i registers) ≡ load_at r at ∷ loads_of (drop (i + 1) registers)
+  pub loads-some : (at : Slot) → r.at ≡ Some at → loads_of (drop i registers) ≡ load_at r at
+      ∷ loads_of (drop (i + 1) registers)
   loads-some at some =
       at_drop_more loads_of registers i r within
       ∙ subst (λ x. loads_of (x ∷ drop (i + 1) registers) ≡ load_at r at ∷ loads_of (drop (i + 1) registers)) is
@@ -40,8 +44,10 @@ abbrev pub left_from : List Contents → Outcome → List Load → List Contents
 left_from image how loads = left_each image loads (outcomes_from how (length loads))
 
 pub left_from-more : (shape : Shape) (image : List Contents) (how : Outcome) (load : Load) (loads : List Load)
-    → left_from image how (load ∷ loads) ≡ left_from (image_left shape image (program_of load) how) (outcome_after how) loads
-left_from-more shape image how load loads = ap (λ i. left_from i (outcome_after how) loads) (load_left_is shape image load how)
+    → left_from image how (load ∷ loads) ≡ left_from (image_left shape image (program_of load) how)
+    (outcome_after how) loads
+left_from-more shape image how load loads = ap (λ i. left_from i (outcome_after how) loads)
+    (load_left_is shape image load how)
 
 -- the outcomes of a fire
 pub length-outcomes_from : (how : Outcome) (n : ℕ) → length (outcomes_from how n) ≡ n
@@ -64,7 +70,8 @@ pub map-emptied : (registers : List Register) → map load_in (map emptied regis
 map-emptied [] = refl
 map-emptied (r ∷ rest) = ap (λ (more : List (Option Load)). None ∷ more) (map-emptied rest)
 
-pub AreRegisters-emptied : (shape : Shape) (registers : List Register) → AreRegisters shape registers → AreRegisters shape (map emptied registers)
+pub AreRegisters-emptied : (shape : Shape) (registers : List Register) → AreRegisters shape registers →
+    AreRegisters shape (map emptied registers)
 AreRegisters-emptied shape registers are = record {
   dies = length-map registers emptied ∙ are.dies;
   room = All-map (HasPage shape.page_bytes) emptied registers are.room;
@@ -79,7 +86,8 @@ emptied_all registers now i end so_far =
     ∙ append-nil (map emptied registers)
 
 -- registers that hold no program are empty
-pub none_in : (registers : List (Option Load)) → length (loads_in registers) ≡ 0 → registers ≡ replicate (length registers) None
+pub none_in : (registers : List (Option Load)) → length (loads_in registers) ≡ 0 →
+    registers ≡ replicate (length registers) None
 none_in [] none = refl
 none_in (None ∷ rest) none = ap (λ (more : List (Option Load)). None ∷ more) (none_in rest none)
 none_in (Some load ∷ rest) none = absurd (omega (arith, none))

@@ -72,13 +72,15 @@ live_is (Some how) true is = cc
 live_is (Some how) false is = refl
 
 -- the same where these are the outcomes with which the arms come due, and the arms once they have counted
-pub operation_met : (armed now : Armed) (cut fault broken : Option Outcome) (live : Bool) → cut ≡ due armed.cut → fault ≡ due armed.fault
+pub operation_met : (armed now : Armed) (cut fault broken : Option Outcome) (live : Bool) → cut ≡ due armed.cut →
+    fault ≡ due armed.fault
     → broken ≡ option_or cut fault → is_some cut ≡ not live → now ≡ operation_down armed
     → ComesTo (is_some broken) live 1 0 (told_of armed) (told_of now)
 operation_met armed now cut fault broken live cut_is fault_is broken_is dead now_is =
     subst (λ (a : Armed). ComesTo (is_some broken) live 1 0 (told_of armed) (told_of a)) (sym now_is)
     (subst (λ b. ComesTo (is_some b) live 1 0 (told_of armed) (told_of (operation_down armed))) (sym broken_is)
-    (subst (λ l. ComesTo (is_some (option_or cut fault)) l 1 0 (told_of armed) (told_of (operation_down armed))) (live_is cut live dead)
+    (subst (λ l. ComesTo (is_some (option_or cut fault)) l 1 0 (told_of armed) (told_of (operation_down armed)))
+    (live_is cut live dead)
     (operation_comes armed cut fault (sym cut_is) (sym fault_is))))
 
 -- what comes where a read does
@@ -100,4 +102,5 @@ pub starts_read : (s t : MemFlashState) (broken : Bool) → t ≡ after_read s �
 starts_read s t broken met_is broken_is on =
     subst (λ (t : MemFlashState). Starts (state_of s) (state_of t) broken) (sym met_is)
     (subst (λ b. Starts (state_of s) (state_of (after_read s)) b) (sym broken_is)
-    (subst (λ (s : MemFlashState). Starts (state_of s) (state_of (after_read s)) (is_read_broken s)) (is_on s on) (read_on s)))
+    (subst (λ (s : MemFlashState). Starts (state_of s) (state_of (after_read s)) (is_read_broken s))
+    (is_on s on) (read_on s)))

@@ -20,8 +20,8 @@ memory_of f = record {
   registers = map load_in f.registers.items;
 }
 
--- There is a register for each die, with room for a page. No more blocks are retired than may be, and no more may be than
--- any flash may allow.
+-- There is a register for each die, with room for a page. No more blocks are retired than may be, and no more may be
+-- than any flash may allow.
 pub record MemFlashInvariant (f : Inside) : Type 0 where
   pub registers : AreRegisters f.slots.shape f.registers.items
   pub within : f.retired ≤ f.allowance

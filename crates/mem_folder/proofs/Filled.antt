@@ -33,20 +33,25 @@ filled_alone which [] h = absurd h
 filled_alone left.Newest (x ∷ xs) h = tt
 filled_alone left.Synced (x ∷ xs) h = filled_last x xs
 
-named_filled_after : (name : List ℕ) (c : Change) (had : List (Option ℕ)) → IsFilled had → IsFilled (named_after name c had)
-named_filled_after name (change.Made it file) had h = filled_if (bytes_eq (string_bytes it) name) (Some file ∷ had) had tt h
+named_filled_after : (name : List ℕ) (c : Change) (had : List (Option ℕ)) → IsFilled had →
+    IsFilled (named_after name c had)
+named_filled_after name (change.Made it file) had h = filled_if (bytes_eq (string_bytes it) name)
+    (Some file ∷ had) had tt h
 named_filled_after name (change.Removed it) had h = filled_if (bytes_eq (string_bytes it) name) (None ∷ had) had tt h
 named_filled_after name (change.Moved from to file) had h =
-    filled_if (bytes_eq (string_bytes from) name) (None ∷ had) (if bytes_eq (string_bytes to) name then Some file ∷ had else had) tt
+    filled_if (bytes_eq (string_bytes from) name) (None ∷ had) (if bytes_eq (string_bytes to) name
+    then Some file ∷ had else had) tt
     (filled_if (bytes_eq (string_bytes to) name) (Some file ∷ had) had tt h)
 named_filled_after name (change.Wrote file bytes) had h = h
 named_filled_after name (change.Synced file) had h = h
 named_filled_after name change.Settled had h = tt
 named_filled_after name (change.Lost names bytes) had h = filled_alone names had h
 
-named_filled_from : (name : List ℕ) (had : List (Option ℕ)) (cs : List Change) → IsFilled had → IsFilled (named_from name had cs)
+named_filled_from : (name : List ℕ) (had : List (Option ℕ)) (cs : List Change) → IsFilled had →
+    IsFilled (named_from name had cs)
 named_filled_from name had [] h = h
-named_filled_from name had (c ∷ cs) h = named_filled_from name (named_after name c had) cs (named_filled_after name c had h)
+named_filled_from name had (c ∷ cs) h = named_filled_from name (named_after name c had) cs
+    (named_filled_after name c had h)
 
 pub named_filled : (cs : List Change) (name : List ℕ) → IsFilled (named cs name)
 named_filled cs name = named_filled_from name (None ∷ []) cs tt

@@ -14,14 +14,19 @@ pub write_fails : (cs : List Change) (file offset : ℕ) (bytes : List ℕ) (err
     SparesNames file (state_of cs) (state_of cs) × Written offset bytes (Err error) (held cs file) (held cs file)
 write_fails cs file offset bytes error = (same_names cs file, not_written offset bytes error (held cs file))
 
-pub writes : (cs ds : List Change) (file offset : ℕ) (bytes : List ℕ) (written : Vec ℕ Global) (result : Result (Unit {0}) Error) →
+pub writes : (cs ds : List Change) (file offset : ℕ) (bytes : List ℕ) (written : Vec ℕ Global)
+    (result : Result (Unit {0}) Error) →
     written.items ≡ overlay offset bytes (newest [] (held cs file)) → IsNoted cs (change.Wrote file written) result ds →
     SparesNames file (state_of cs) (state_of ds) × Written offset bytes result (held cs file) (held ds file)
 writes cs ds file offset bytes written (Ok done) is noted =
     let w = wrote cs file written in
     rw noted.ok (
       w.0,
-      (overlay offset bytes (newest [] (held cs file)), is_overlaid offset bytes (newest [] (held cs file)), w.1 ∙ ap (λ v. v ∷ held cs file) is),
+      (
+        overlay offset bytes (newest [] (held cs file)),
+        is_overlaid offset bytes (newest [] (held cs file)),
+        w.1 ∙ ap (λ v. v ∷ held cs file) is,
+      ),
     )
 writes cs ds file offset bytes written (Err error) is noted = rw noted.err.0 (write_fails cs file offset bytes error)
 
@@ -36,11 +41,16 @@ resizes cs ds file size resized (Ok done) is noted =
     let w = wrote cs file resized in
     rw noted.ok (
       w.0,
-      (filled size (newest [] (held cs file)), is_resized size (newest [] (held cs file)), w.1 ∙ ap (λ v. v ∷ held cs file) is),
+      (
+        filled size (newest [] (held cs file)),
+        is_resized size (newest [] (held cs file)),
+        w.1 ∙ ap (λ v. v ∷ held cs file) is,
+      ),
     )
 resizes cs ds file size resized (Err error) is noted = rw noted.err.0 (resize_fails cs file size error)
 
-pub syncs : (cs ds : List Change) (file : ℕ) (result : Result (Unit {0}) Error) → IsNoted cs (change.Synced file) result ds →
+pub syncs : (cs ds : List Change) (file : ℕ) (result : Result (Unit {0}) Error) →
+    IsNoted cs (change.Synced file) result ds →
     SparesNames file (state_of cs) (state_of ds) × Synced (held cs file) result (held ds file)
 syncs cs ds file (Ok done) noted = rw noted.ok (synced cs file)
 syncs cs ds file (Err error) noted = rw noted.err.0 (same_names cs file, λ c h. h)

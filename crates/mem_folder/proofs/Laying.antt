@@ -10,14 +10,16 @@ use Rattle.durable_folder.specs.Calls.{Overlaid, Resized, Written, Lengthened}
 filled-length : (size : ℕ) (old : List ℕ) → length (filled size old) ≡ size
 filled-length size old =
     let front : length (take size old) ≡ min size (length old) = length-take size old in
-    let rest : length (replicate {A = ℕ} (size - length old) 0) ≡ size - length old = length-replicate (size - length old) 0 in
+    let rest : length (replicate {A = ℕ} (size - length old) 0)
+    ≡ size - length old = length-replicate (size - length old) 0 in
     length-append (take size old) (replicate (size - length old) 0) ∙ omega arith
 
 filled-byte : (size : ℕ) (old : List ℕ) (i : ℕ) → i < size → byte_at (filled size old) i ≡ byte_at old i
 filled-byte size old i below =
     let front : length (take size old) ≡ min size (length old) = length-take size old in
     elim (cases_lt i (length old)) [
-      | inl within ↦ get_or_append_left (take size old) (replicate (size - length old) 0) 0 i (omega arith) ∙ get_or-take size old i 0 below
+      | inl within ↦ get_or_append_left (take size old) (replicate (size - length old) 0) 0 i (omega arith)
+          ∙ get_or-take size old i 0 below
       | inr past ↦
           get_or-append_right (take size old) (replicate (size - length old) 0) (length old) i 0 (omega arith) past
           ∙ get_or-replicate (size - length old) (i - length old) 0 0 (omega arith) ∙ sym (get_or-eq_default old 0 past)
@@ -44,7 +46,8 @@ is_overlaid offset bytes old =
           ∙ get_or_append_left front bytes 0 i (omega arith) ∙ filled-byte offset old i below;
       behind = λ i above.
           get_or-append_right (front ++ bytes) rest (offset + length bytes) i 0 both_length above
-          ∙ get_or-drop (offset + length bytes) old (i - (offset + length bytes)) 0 ∙ ap (λ j. byte_at old j) (omega arith);
+          ∙ get_or-drop (offset + length bytes) old (i - (offset + length bytes)) 0
+          ∙ ap (λ j. byte_at old j) (omega arith);
     }
 
 -- what may be left of some versions may be left of one more
@@ -52,7 +55,8 @@ pub holds_more : (v : List ℕ) (vs : List (List ℕ)) (c : List ℕ) → MayHol
 holds_more v vs c h = record { blocks = λ k. inr (h.blocks k); least = inr h.least; most = inr h.most }
 
 -- a call that fails changes nothing
-pub not_written : (offset : ℕ) (bytes : List ℕ) (error : Error) (vs : List (List ℕ)) → Written offset bytes (Err error) vs vs
+pub not_written : (offset : ℕ) (bytes : List ℕ) (error : Error) (vs : List (List ℕ)) →
+    Written offset bytes (Err error) vs vs
 not_written offset bytes error vs =
     let written = overlay offset bytes (newest [] vs) in
     (written, is_overlaid offset bytes (newest [] vs), λ c h. holds_more written vs c h)

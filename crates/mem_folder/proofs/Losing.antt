@@ -26,12 +26,15 @@ leaves_before cs names bytes left None h = h
 leaves_before cs names bytes left (Some file) h =
     (h.0, holds_alone bytes (held cs file) h.0 (rw (held-append cs (change.Lost names bytes) file) at h.1), h.2)
 
-pub is_left : (cs : List Change) (names bytes : Left) → IsLeft (state_of cs) (state_of (cs ++ change.Lost names bytes ∷ []))
+pub is_left : (cs : List Change) (names bytes : Left) →
+    IsLeft (state_of cs) (state_of (cs ++ change.Lost names bytes ∷ []))
 is_left cs names bytes =
     let t : FolderState = state_of (cs ++ change.Lost names bytes ∷ []) in
     record {
-      names = λ n. let one = one_alone names (named cs n) (named_filled cs n) in (one.0, named-append cs (change.Lost names bytes) n ∙ one.1);
-      files = λ f. let one = one_alone bytes (held cs f) (held_filled cs f) in (one.0, held-append cs (change.Lost names bytes) f ∙ one.1);
+      names = λ n. let one = one_alone names (named cs n) (named_filled cs n) in
+          (one.0, named-append cs (change.Lost names bytes) n ∙ one.1);
+      files = λ f. let one = one_alone bytes (held cs f) (held_filled cs f) in
+          (one.0, held-append cs (change.Lost names bytes) f ∙ one.1);
       before = λ n left h.
           some_map (LeavesOf t left) (LeavesOf (state_of cs) left) (named cs n) (leaves_before cs names bytes left)
           (of_alone (LeavesOf t left) names (named cs n) (rw (named-append cs (change.Lost names bytes) n) at h));

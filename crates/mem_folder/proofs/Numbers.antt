@@ -24,12 +24,14 @@ of_alone P left.Synced (x ∷ xs) h = of_last P x xs h
 no_file : (file : ℕ) → None ≡ Some file → ⊥
 no_file file e = grind arith
 
-born_if : (b : Bool) (x : Option ℕ) (had : List (Option ℕ)) (file : ℕ) → Has (if b then x ∷ had else had) file → Has had file ⊎ (x ≡ Some file)
+born_if : (b : Bool) (x : Option ℕ) (had : List (Option ℕ)) (file : ℕ) → Has (if b then x ∷ had else had) file →
+    Has had file ⊎ (x ≡ Some file)
 born_if true x had file (inl e) = inr e
 born_if true x had file (inr h) = inl h
 born_if false x had file h = inl h
 
-gone_if : (b : Bool) (had other : List (Option ℕ)) (file : ℕ) → Has (if b then None ∷ had else other) file → Has had file ⊎ Has other file
+gone_if : (b : Bool) (had other : List (Option ℕ)) (file : ℕ) → Has (if b then None ∷ had else other) file →
+    Has had file ⊎ Has other file
 gone_if true had other file (inl e) = absurd (no_file file e)
 gone_if true had other file (inr h) = inl h
 gone_if false had other file h = inr h
@@ -40,7 +42,8 @@ born : (c : Change) (name : List ℕ) (had : List (Option ℕ)) (file : ℕ) →
 born (change.Made it n) name had file h = born_if (bytes_eq (string_bytes it) name) (Some n) had file h
 born (change.Removed it) name had file h = born_if (bytes_eq (string_bytes it) name) None had file h
 born (change.Moved from to n) name had file h =
-    elim (gone_if (bytes_eq (string_bytes from) name) had (if bytes_eq (string_bytes to) name then Some n ∷ had else had) file h) [
+    elim (gone_if (bytes_eq (string_bytes from) name) had (if bytes_eq (string_bytes to) name then Some n ∷ had
+    else had) file h) [
       | inl before ↦ inl before
       | inr after ↦ born_if (bytes_eq (string_bytes to) name) (Some n) had file after
     ]
@@ -55,7 +58,8 @@ born (change.Lost names bytes) name had file h = inl (of_alone (λ f. f ≡ Some
 pub below-more : (cs : List Change) (i : ℕ) (d : Change) (next above : ℕ) → i < length cs → AllBelow (take i cs) next →
     IsAbove next (number_of (get_or cs i d)) above → AllBelow (take (i + 1) cs) above
 below-more cs i d next above within all is name file h =
-    let after : Has (named_after name (get_or cs i d) (named (take i cs) name)) file = rw (named-more cs i d name within) at h in
+    let after : Has (named_after name (get_or cs i d) (named (take i cs) name)) file =
+    rw (named-more cs i d name within) at h in
     elim (born (get_or cs i d) name (named (take i cs) name) file after) [
       | inl before ↦ let less : file < next = all name file before in omega (arith, is.least)
       | inr given ↦ is.over file given

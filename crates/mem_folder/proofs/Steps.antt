@@ -12,10 +12,12 @@ use Rattle.mem_folder.proofs.Filled.{IsFilled, named_filled}
 use Rattle.mem_folder.proofs.Seeing.{named_from-append, held_from-append}
 
 -- one change more
-pub named-append : (cs : List Change) (c : Change) (name : List ℕ) → named (cs ++ c ∷ []) name ≡ named_after name c (named cs name)
+pub named-append : (cs : List Change) (c : Change) (name : List ℕ) →
+    named (cs ++ c ∷ []) name ≡ named_after name c (named cs name)
 named-append cs c name = named_from-append name (None ∷ []) cs c
 
-pub held-append : (cs : List Change) (c : Change) (file : ℕ) → held (cs ++ c ∷ []) file ≡ held_after file c (held cs file)
+pub held-append : (cs : List Change) (c : Change) (file : ℕ) →
+    held (cs ++ c ∷ []) file ≡ held_after file c (held cs file)
 held-append cs c file = held_from-append file ([] ∷ []) cs c
 
 no_answer : {P : Type 0} (b : Bool) → Decides b P → (P → ⊥) → b ≡ false
@@ -34,7 +36,8 @@ same_number n = (Decides-eqb n n).1 refl
 other_number : (a b : ℕ) → a ≢ b → (a == b) ≡ false
 other_number a b apart = no_answer (a == b) (Decides-eqb a b) apart
 
-pub makes : (cs : List Change) (it : String Global) (file : ℕ) → newest None (named cs (string_bytes it)) ≡ None → IsFresh cs file →
+pub makes : (cs : List Change) (it : String Global) (file : ℕ) → newest None (named cs (string_bytes it)) ≡ None →
+    IsFresh cs file →
     Makes file (string_bytes it) (state_of cs) (state_of (cs ++ change.Made it file ∷ []))
 makes cs it file free fresh = record {
   is_free = free;
@@ -43,13 +46,17 @@ makes cs it file free fresh = record {
   named = rw (named-append cs (change.Made it file) (string_bytes it), same_text (string_bytes it)) refl;
   empty = rw (held-append cs (change.Made it file) file, same_number file) refl;
   spares = record {
-    names = λ n apart. rw (named-append cs (change.Made it file) n, other_text (string_bytes it) n (λ e. apart (sym e))) refl;
+    names = λ n apart. rw (
+      named-append cs (change.Made it file) n,
+      other_text (string_bytes it) n (λ e. apart (sym e)),
+    ) refl;
     files = λ f apart. rw (held-append cs (change.Made it file) f, other_number file f (λ e. apart (sym e))) refl;
     fixed = refl;
   };
 }
 
-pub moves : (cs : List Change) (from to : String Global) (file : ℕ) → newest None (named cs (string_bytes from)) ≡ Some file →
+pub moves : (cs : List Change) (from to : String Global) (file : ℕ) →
+    newest None (named cs (string_bytes from)) ≡ Some file →
     string_bytes from ≢ string_bytes to →
     Moves (string_bytes from) (string_bytes to) (state_of cs) (state_of (cs ++ change.Moved from to file ∷ []))
 moves cs from to file there apart = record {
@@ -68,10 +75,14 @@ moves cs from to file there apart = record {
   files = record { files = λ f. held-append cs (change.Moved from to file) f; fixed = refl };
 }
 
-pub drops : (cs : List Change) (it : String Global) → Drops (string_bytes it) (state_of cs) (state_of (cs ++ change.Removed it ∷ []))
+pub drops : (cs : List Change) (it : String Global) →
+    Drops (string_bytes it) (state_of cs) (state_of (cs ++ change.Removed it ∷ []))
 drops cs it = record {
   gone = rw (named-append cs (change.Removed it) (string_bytes it), same_text (string_bytes it)) refl;
-  others = λ n apart. rw (named-append cs (change.Removed it) n, other_text (string_bytes it) n (λ e. apart (sym e))) refl;
+  others = λ n apart. rw (
+    named-append cs (change.Removed it) n,
+    other_text (string_bytes it) n (λ e. apart (sym e)),
+  ) refl;
   files = record { files = λ f. held-append cs (change.Removed it) f; fixed = refl };
 }
 
@@ -82,31 +93,37 @@ pub record IsNoted (cs : List Change) (c : Change) (result : Result (Unit {0}) E
 
 pub renames : (cs ds : List Change) (from to : String Global) (file : ℕ) (result : Result (Unit {0}) Error) →
     newest None (named cs (string_bytes from)) ≡ Some file → newest None (named cs (string_bytes to)) ≢ Some file →
-    IsNoted cs (change.Moved from to file) result ds → Renames (string_bytes from) (string_bytes to) result (state_of cs) (state_of ds)
+    IsNoted cs (change.Moved from to file) result ds →
+    Renames (string_bytes from) (string_bytes to) result (state_of cs) (state_of ds)
 renames cs ds from to file (Ok done) there other noted = (
-  λ _. rw noted.ok (moves cs from to file there (λ same. other (ap (λ name. newest None (named cs name)) (sym same) ∙ there))),
+  λ _. rw noted.ok (moves cs from to file there
+      (λ same. other (ap (λ name. newest None (named cs name)) (sym same) ∙ there))),
   λ same. absurd (other (sym same ∙ there)),
 )
 renames cs ds from to file (Err error) there other noted = ap state_of noted.err.0
 
-pub removes : (cs ds : List Change) (it : String Global) (result : Result (Unit {0}) Error) → IsNoted cs (change.Removed it) result ds →
+pub removes : (cs ds : List Change) (it : String Global) (result : Result (Unit {0}) Error) →
+    IsNoted cs (change.Removed it) result ds →
     Removes (string_bytes it) result (state_of cs) (state_of ds)
 removes cs ds it (Ok done) noted = rw noted.ok (drops cs it)
 removes cs ds it (Err error) noted = ap state_of noted.err.0
 
-newest_is_one : (f : Option ℕ) (xs : List (Option ℕ)) → IsFilled xs → SomeOf (λ g. g ≡ f) (newest None xs ∷ []) → SomeOf (λ g. g ≡ f) xs
+newest_is_one : (f : Option ℕ) (xs : List (Option ℕ)) → IsFilled xs → SomeOf (λ g. g ≡ f) (newest None xs ∷ []) →
+    SomeOf (λ g. g ≡ f) xs
 newest_is_one f [] h one = absurd h
 newest_is_one f (x ∷ xs) h (inl is) = inl is
 newest_is_one f (x ∷ xs) h (inr none) = absurd none
 
-pub settles : (cs : List Change) (place : List ℕ) → SyncsNames place (state_of cs) (state_of (cs ++ change.Settled ∷ []))
+pub settles : (cs : List Change) (place : List ℕ) →
+    SyncsNames place (state_of cs) (state_of (cs ++ change.Settled ∷ []))
 settles cs place = record {
   here = λ n _. named-append cs change.Settled n;
   others = λ n f one. newest_is_one f (named cs n) (named_filled cs n) (rw (named-append cs change.Settled n) at one);
   files = record { files = λ f. held-append cs change.Settled f; fixed = refl };
 }
 
-pub syncs_folder : (cs ds : List Change) (place : List ℕ) (result : Result (Unit {0}) Error) → IsNoted cs change.Settled result ds →
+pub syncs_folder : (cs ds : List Change) (place : List ℕ) (result : Result (Unit {0}) Error) →
+    IsNoted cs change.Settled result ds →
     SyncsFolder place result (state_of cs) (state_of ds)
 syncs_folder cs ds place (Ok done) noted = rw noted.ok (settles cs place)
 syncs_folder cs ds place (Err error) noted = ap state_of noted.err.0

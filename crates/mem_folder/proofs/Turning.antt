@@ -5,10 +5,13 @@ use Rattle.mem_folder.specs.Telling.{AreNoted, IsCountOf, IsNoteOf, failures_in,
 use Rattle.mem_folder.specs.declared.note.Note.{Note}
 
 -- a call that may have noted a folder
-pub turned_noting : (step : FolderState → FolderState → Type 0) (answer : Answer) (note : Note) (before : Vec Change Global) (befores : List (Vec Change Global))
-    (notes : List Note) (old new : List MemPlace) (changes : List Change) → step (state_of before.items) (state_of changes) →
+pub turned_noting : (step : FolderState → FolderState → Type 0) (answer : Answer) (note : Note)
+    (before : Vec Change Global) (befores : List (Vec Change Global))
+    (notes : List Note) (old new : List MemPlace) (changes : List Change) →
+    step (state_of before.items) (state_of changes) →
     IsCountOf answer note → AreNoted answer old new →
-    Turns step answer (Some (history_of before.items befores notes old)) (Some (history_of changes (before ∷ befores) (note ∷ notes) new))
+    Turns step answer (Some (history_of before.items befores notes old))
+    (Some (history_of changes (before ∷ befores) (note ∷ notes) new))
 turned_noting step answer note before befores notes old new changes goes count noted = (
   goes,
   refl,
@@ -17,8 +20,12 @@ turned_noting step answer note before befores notes old new changes goes count n
   noted,
 )
 
-pub turned : (step : FolderState → FolderState → Type 0) (answer : Answer) (note : Note) (before : Vec Change Global) (befores : List (Vec Change Global))
-    (notes : List Note) (places : List MemPlace) (changes : List Change) → step (state_of before.items) (state_of changes) → IsNoteOf answer note →
-    Turns step answer (Some (history_of before.items befores notes places)) (Some (history_of changes (before ∷ befores) (note ∷ notes) places))
+pub turned : (step : FolderState → FolderState → Type 0) (answer : Answer) (note : Note) (before : Vec Change Global)
+    (befores : List (Vec Change Global))
+    (notes : List Note) (places : List MemPlace) (changes : List Change) →
+    step (state_of before.items) (state_of changes) → IsNoteOf answer note →
+    Turns step answer (Some (history_of before.items befores notes places))
+    (Some (history_of changes (before ∷ befores) (note ∷ notes) places))
 turned step answer note before befores notes places changes goes is =
-    turned_noting step answer note before befores notes places places changes goes is.count (ap (λ noted. noted ++ unsynced_of places) (sym is.unsynced))
+    turned_noting step answer note before befores notes places places changes goes is.count
+    (ap (λ noted. noted ++ unsynced_of places) (sym is.unsynced))

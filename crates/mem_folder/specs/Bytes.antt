@@ -1,7 +1,7 @@
 -- The bytes of a file, once others are written over them or its length is changed.
 use Rattle.std.specs.Prelude.{ℕ, ◌+◌, ◌-◌, List, ◌++◌, length, take, drop, replicate}
 
--- so many bytes of it, with zeros behind its end
+-- this many bytes of it, with zeros behind its end
 abbrev pub filled : ℕ → List ℕ → List ℕ
 filled size old = take size old ++ replicate (size - length old) 0
 

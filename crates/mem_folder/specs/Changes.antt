@@ -22,7 +22,8 @@ abbrev pub named_after : List ℕ → Change → List (Option ℕ) → List (Opt
 named_after name (change.Made it file) had = if bytes_eq (string_bytes it) name then Some file ∷ had else had
 named_after name (change.Removed it) had = if bytes_eq (string_bytes it) name then None ∷ had else had
 named_after name (change.Moved from to file) had =
-    if bytes_eq (string_bytes from) name then None ∷ had else (if bytes_eq (string_bytes to) name then Some file ∷ had else had)
+    if bytes_eq (string_bytes from) name then None ∷ had
+    else (if bytes_eq (string_bytes to) name then Some file ∷ had else had)
 named_after name (change.Wrote file bytes) had = had
 named_after name (change.Synced file) had = had
 named_after name change.Settled had = newest None had ∷ []

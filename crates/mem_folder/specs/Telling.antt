@@ -30,8 +30,8 @@ place_of place = string_bytes place.name
 abbrev pub unsynced_of : List MemPlace → List (List ℕ)
 unsynced_of noted = map place_of (reverse noted)
 
--- The history of a folder, by the changes until now, those before each call, the newest first, what was answered, and the
--- folders of which it was said that they cannot be synced, or may not be opened.
+-- The history of a folder, by the changes until now, those before each call, the newest first, what was answered, and
+-- the folders of which it was said that they cannot be synced, or may not be opened.
 abbrev pub history_of : List Change → List (Vec Change Global) → List Note → List MemPlace → History
 history_of changes befores notes noted = record {
   now = state_of changes;
@@ -50,7 +50,7 @@ pub record IsCountOf (answer : Answer) (note : Note) : Type 0 where
   pub refusals : answer.refusals ≡ if_so note.is_refusal
   pub failures : answer.failures ≡ unless_so note.is_excused
 
--- the same of an answer that notes no folder
+-- The note has the count of an answer that notes no folder.
 pub record IsNoteOf (answer : Answer) (note : Note) : Type 0 where
   pub count : IsCountOf answer note
   pub unsynced : answer.unsynced ≡ []

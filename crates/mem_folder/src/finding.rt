@@ -3,10 +3,10 @@ ghost use Rattle.std.specs.Prelude.{◌≡◌, ℕ, IfErr, IfOk, List};
 ghost use Rattle.std.specs.Path.{path_buf_bytes};
 ghost use Rattle.durable_folder.specs.Calls.{Finds, FindsFolder, FindsOpen, Locks, Opens, Reads, Resolves, Seeks};
 ghost use Rattle.durable_folder.specs.FolderState.{FolderState};
-ghost use Rattle.mem_folder.specs.declared.change.Change.{Change};
 ghost use Rattle.mem_folder.specs.Changes.{state_of};
 ghost use Rattle.mem_folder.specs.Found.{IsOf};
 ghost use Rattle.mem_folder.specs.Telling.{IsFault, handle_of};
+ghost use Rattle.mem_folder.specs.declared.change.Change.{Change};
 
 use crate::change::Change;
 use crate::files::MemFile;
@@ -114,7 +114,8 @@ pub fn find_open(fault: io::Result<()>, changes: &[Change], file: &MemFile) -> i
 
 /// What is told of an open folder.
 pub fn find_folder(fault: io::Result<()>) -> io::Result<Found>
-    ensures { (folder : List ℕ) (changes : List Change) → FindsFolder folder result (state_of changes) (state_of changes) }
+    ensures { (folder : List ℕ) (changes : List Change) →
+        FindsFolder folder result (state_of changes) (state_of changes) }
 {
     if let Err(error) = fault {
         return Err(error);
@@ -137,7 +138,8 @@ pub fn resolve(fault: io::Result<()>, alloc: Global, name: &str) -> io::Result<P
 
 /// Takes the lock of an open file, or finds that there are no locks.
 pub fn lock(fault: io::Result<()>, file: &mut MemFile) -> io::Result<Lock>
-    ensures { (changes : List Change) → Locks (handle_of file.old) (handle_of file.new) result (state_of changes) (state_of changes) }
+    ensures { (changes : List Change) → Locks (handle_of file.old) (handle_of file.new) result (state_of changes)
+        (state_of changes) }
 {
     file.is_held = true;
     match fault {

@@ -165,7 +165,8 @@ pub fn remove(
 
 /// Syncs the names.
 pub fn settle(fault: io::Result<()>, changes: &mut Vec<Change>) -> io::Result<()>
-    ensures syncs { (place : List ℕ) → SyncsFolder place result (state_of changes.old.items) (state_of changes.new.items) }
+    ensures syncs { (place : List ℕ) → SyncsFolder place result (state_of changes.old.items)
+        (state_of changes.new.items) }
     ensures err { IfErr result (λ _. changes.new.items ≡ changes.old.items) }
 {
     if let Err(error) = fault {

@@ -36,7 +36,8 @@ pub fn load_after_loss(
     left_names: Left,
     left_bytes: Left,
 ) -> io::Result<Vec<u8>>
-    ensures { file_of (state_of folder.old.changes.items) name.now ≡ None → IfOk result (λ loaded. loaded.items ≡ bytes.now) }
+    ensures { file_of (state_of folder.old.changes.items) name.now ≡ None →
+        IfOk result (λ loaded. loaded.items ≡ bytes.now) }
 {
     save_durably(folder, alloc, name, bytes)?;
     folder.lose_power(left_names, left_bytes)?;

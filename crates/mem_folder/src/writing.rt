@@ -13,7 +13,7 @@ use std::alloc::{AllocError, Global};
 use std::io;
 use std::io::{Error, ErrorKind};
 
-/// So many bytes of these, with zeros behind their end.
+/// This many bytes of these, with zeros behind their end.
 fn fill(alloc: Global, bytes: &[u8], size: usize) -> Result<Vec<u8>, AllocError>
     ensures { IfOk result (λ v. v.items ≡ filled size bytes.now) }
 {
@@ -44,7 +44,8 @@ pub fn write(
     bytes: &[u8],
 ) -> io::Result<()>
     ensures same { (handle_of file.new).file ≡ (handle_of file.old).file }
-    ensures writes { Writes (handle_of file.old) bytes.now result (state_of changes.old.items) (state_of changes.new.items) }
+    ensures writes { Writes (handle_of file.old) bytes.now result (state_of changes.old.items)
+        (state_of changes.new.items) }
 {
     if let Err(error) = fault {
         return Err(error);
@@ -68,7 +69,8 @@ pub fn resize(
     file: &MemFile,
     length: u64,
 ) -> io::Result<()>
-    ensures { ResizesFile (handle_of file.now).file length result (state_of changes.old.items) (state_of changes.new.items) }
+    ensures { ResizesFile (handle_of file.now).file length result (state_of changes.old.items)
+        (state_of changes.new.items) }
 {
     if let Err(error) = fault {
         return Err(error);

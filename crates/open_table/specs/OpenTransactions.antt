@@ -15,7 +15,7 @@ table_of t = record {
   all = map transaction_of t.all.items;
 }
 
--- An open transaction has a page, its pages exist and are whole, and there is room for so many.
+-- An open transaction has a page, its pages exist and are whole, and there is room for them.
 pub record TransactionInvariant (page_bytes logical pending : ℕ) (o : Transaction) : Type 0 where
   pub some : 0 < pages_of o
   pub exist : All (λ p. p.name.page < logical) o.pages.items

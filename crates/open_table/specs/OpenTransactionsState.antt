@@ -37,7 +37,7 @@ pub record OpenTransactionsState : Type 0 where
   pub pending : ℕ
   pub all : List TransactionState
 
--- the same pages, and as many may be pending
+-- pages keep their size and their number, and as many pages may be pending
 pub record HasLimitsOf (old new : OpenTransactionsState) : Type 0 where
   pub page_bytes : new.page_bytes ≡ old.page_bytes
   pub logical : new.logical ≡ old.logical
@@ -57,7 +57,8 @@ entries_of t = map (λ o. o.entry) t.all
 abbrev pub namings_of : OpenTransactionsState → List Naming
 namings_of t = map (λ o. o.naming) t.all
 
--- each transaction has a name for each page that it writes, each page is whole, and no more pages are pending than may be
+-- each transaction has a name for each page that it writes, each page is whole, and no more pages are pending than may
+-- be
 pub record IsOpenTransactionsState (t : OpenTransactionsState) : Type 0 where
   pub named : All
       (λ o. map (λ name. name.page) o.naming.names ≡ map (λ w. w.page) o.entry.writes) t.all
@@ -76,7 +77,7 @@ begun n tag writes = record {
   naming = record { names = map (next_name n) writes; noted_count = 0 };
 }
 
--- A batch may be opened: its pages are as long as those of the table, it has some, and so many may be pending yet. Each
+-- A batch may be opened: its pages are as long as those of the table, it has some, and as many may be pending yet. Each
 -- page exists, no open transaction has it, and it has a version left.
 pub record CanOpen (t : OpenTransactionsState) (n : IndexState) (batch : Writes) : Type 0 where
   pub pages : batch.page_bytes ≡ t.page_bytes

@@ -38,12 +38,12 @@ abbrev pub owned_page : List (Option ℕ) → List PageWrite → Option SubmitEr
 owned_page owners = first_refusal
     (λ w. option_map (λ tag. refused.Overlap w.page tag) (slice_index_or owners w.page None))
 
--- a page has so many bytes, zeros where it is discarded
+-- a page has this many bytes, zeros where it is discarded
 pub record IsWhole (page_bytes : ℕ) (p : PendingWrite) : Type 0 where
   pub long : length p.bytes.items ≡ page_bytes
   pub bytes : p.bytes.items ≡ bytes_in page_bytes (write_held p)
 
--- room for so many bytes
+-- room for this many bytes
 abbrev pub HasRoom : ℕ → Vec ℕ Global → Type 0
 HasRoom size r = length r.items ≡ size
 

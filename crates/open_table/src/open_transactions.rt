@@ -18,7 +18,8 @@ use std::marker::Model;
 use tx_types::{Batch, Config, Link, Memory};
 use version_index::Index;
 
-/// What a device keeps of its open transactions, in the order of their opening. All its memory is taken when it is made.
+/// What a device keeps of its open transactions, in the order of their opening. All its memory is taken when it is
+/// made.
 #[derive(Drop)]
 pub struct OpenTransactions {
     page_bytes: u32,
@@ -83,8 +84,8 @@ impl OpenTransactions {
         self.pending - self.rooms.len() as u32
     }
 
-    /// The first refusal of a batch for which what is kept of open transactions and the number of logical pages are enough:
-    /// any but that of a page which has no version left, which is tried last.
+    /// The first refusal of a batch for which what is kept of open transactions and the number of logical pages are
+    /// enough: any but that of a page which has no version left, which is tried last.
     pub fn refusal(&self, tag: u32, batch: &Batch) -> Option<SubmitError>
         ensures { result ≡ first_refusals
             (record { logical = self.now.logical; pending = self.now.pending })
@@ -194,7 +195,7 @@ impl OpenTransactions {
         &self.all[at].pages[place as usize].bytes
     }
 
-    /// So many of its pages are written.
+    /// Sets how many of its pages are written.
     pub fn set_done_count(&mut self, at: usize, done: u32)
         requires { at < length self.old.all }
         ensures { self.new ≡ with_transaction self.old at (with_done (transaction_at self.old at) done) }
@@ -202,7 +203,7 @@ impl OpenTransactions {
         self.all[at].done = done;
     }
 
-    /// So many of its records are noted.
+    /// Sets how many of its records are noted.
     pub fn set_noted_count(&mut self, at: usize, count: u32)
         requires { at < length self.old.all }
         ensures { self.new ≡ with_transaction self.old at (with_noted_count (transaction_at self.old at) count) }
@@ -210,7 +211,7 @@ impl OpenTransactions {
         self.all[at].noted_count = count;
     }
 
-    /// This is known of its last page.
+    /// Sets what is known of its last page.
     pub fn set_mark(&mut self, at: usize, mark: Mark)
         requires { at < length self.old.all }
         ensures { self.new ≡ with_transaction self.old at (with_mark (transaction_at self.old at) mark) }

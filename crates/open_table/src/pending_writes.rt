@@ -71,7 +71,7 @@ fn page_lists(alloc: Global, config: Config) -> Result<Vec<Vec<PendingWrite>>, M
     Ok(lists)
 }
 
-/// Each of these pages belongs to this transaction now, or to none.
+/// Sets the transaction to which each of these pages belongs, or none.
 pub fn set_owner(owners: &mut [Option<u32>], pages: &[PendingWrite], owner: Option<u32>)
     requires { All (λ p. p.name.page < length owners.old) pages.now }
     ensures { owners.new ≡ with_owner owners.old owner pages.now }
@@ -103,7 +103,8 @@ fn fill(room: &mut Vec<u8>, bytes: &[u8])
     room.copy_from_slice(bytes);
 }
 
-/// Takes the pages of a batch in, each in the room that is kept for it, and named one version above its greatest mention.
+/// Takes the pages of a batch in, each in the room that is kept for it, and named one version above its greatest
+/// mention.
 pub fn store_pages<R: CommitRule>(
     pages: &mut Vec<PendingWrite>,
     rooms: &mut Vec<Vec<u8>>,

@@ -3,8 +3,8 @@ ghost use Rattle.std.specs.Prelude.{◌≡◌, ◌≤◌, ◌==◌, ◌<◌, [],
 ghost use Rattle.open_table.specs.PendingWrites.{owned_page};
 ghost use Rattle.array_machine.specs.Submit.{is_of, or_else, empty, range, repeated, full};
 
-use array_machine::SubmitError;
 use crate::pending_writes::Transaction;
+use array_machine::SubmitError;
 use tx_types::Batch;
 
 /// The refusal of a batch that is empty, has a page which is not below the number of logical pages,

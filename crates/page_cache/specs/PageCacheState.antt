@@ -22,7 +22,7 @@ has_page_size page_bytes e = length e.bytes == page_bytes
 abbrev pub max_cached : ℕ
 max_cached = 16
 
--- at most so many pages are held, each whole
+-- at most this many pages are held, each whole
 pub record IsPageCacheState (c : PageCacheState) : Type 0 where
   pub most : length c.entries ≤ max_cached
   pub whole : IsTrue (list_all (has_page_size c.page_bytes) c.entries)

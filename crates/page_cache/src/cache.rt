@@ -67,9 +67,9 @@ impl PageCache {
         promote(&mut self.pages, page, version)
     }
 
-    /// Puts a page at a version in front, with a copy of the bytes of the whole page, in place of its entry if it has one.
-    /// Where there would be more than 16 entries, the last one goes. Where there is no memory the cache
-    /// stays as it was.
+    /// Puts a page at a version in front, with a copy of the bytes of the whole page, in place of its entry if it has
+    /// one. Where there would be more than 16 entries, the last one goes. Where there is no memory the cache stays as
+    /// it was.
     #[tactic(auto, using(crate::proofs::Pages::puts))]
     pub fn keep(&mut self, page: u32, version: u64, bytes: &[u8]) -> Result<(), Memory>
         requires { length bytes.now ≡ self.old.page_bytes }

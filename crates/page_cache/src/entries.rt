@@ -1,6 +1,6 @@
 ghost use Rattle.std.specs.Prelude.{◌≡◌, ◌≤◌, length, is_some, option_map, option_copied, OnOk, OnErr};
-ghost use Rattle.page_cache.specs.PageCacheState.{cached_page, max_cached, promoted, kept};
 ghost use Rattle.page_cache.specs.Entries.{pages_in};
+ghost use Rattle.page_cache.specs.PageCacheState.{cached_page, max_cached, promoted, kept};
 
 use lru::LruCache;
 use tx_types::Memory;

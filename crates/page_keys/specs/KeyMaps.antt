@@ -42,7 +42,7 @@ hash_more h byte = (h * 31 + byte) % 2 ^ 32
 unfoldable pub hash : List ℕ → ℕ
 hash key = fold hash_more 0 key
 
--- the page that a key belongs to, of so many
+-- the page that a key belongs to, of this many
 abbrev pub bucket_of : ℕ → List ℕ → ℕ
 bucket_of logical key = hash key % logical
 

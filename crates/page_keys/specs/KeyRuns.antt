@@ -1,4 +1,5 @@
--- The map machine on a flash: what a list of commands does to a map that a flash keeps, and the replies that it may give.
+-- The map machine on a flash: what a list of commands does to a map that a flash keeps, and the replies that it may
+-- give.
 use Rattle.std.specs.Prelude.{◌≡◌, ◌⊎◌, ℕ, ◌+◌, ◌≤◌, Bool, true, false, not, List, [], ◌∷◌, length, take, count_by, slice_index_or, None, Some, MatchBool}
 use Rattle.std.specs.Prelude.{if◌then◌else◌}
 use Rattle.std.specs.FinMap.{get}
@@ -129,8 +130,8 @@ abbrev pub arms_key_cut : KeyCommand → Bool
 arms_key_cut (command.Cut count what) = true
 arms_key_cut _ = false
 
--- Before a command that is no arm power is turned on. The reply is `Cut` exactly where it is off afterwards. The count of faults
--- rose, or stood at its end, where a break is told, and else is as it was.
+-- Before a command that is no arm power is turned on. The reply is `Cut` exactly where it is off afterwards. The count
+-- of faults rose, or stood at its end, where a break is told, and else is as it was.
 pub record IsCaused (r : KeyReply) (old new : FlashState) : Type 0 where
   pub cut : is_key_cut r ≡ not new.live
   pub faults : MatchBool (is_key_break r) (Rose old.faults new.faults) (new.faults ≡ old.faults)
@@ -166,8 +167,8 @@ abbrev pub seen_after : Config → (ℕ → ℕ) → KeyCommand → KeyReply →
 seen_after its seen c r page =
     if is_tried r then seen_by its.logical (changes_in c) seen page else seen page
 
--- A run over a list of commands: one reply and one point for each. `seen` is at least the greatest mention of each page on the
--- flash.
+-- A run over a list of commands: one reply and one point for each. `seen` is at least the greatest mention of each page
+-- on the flash.
 abbrev pub KeyRun : Config → (ℕ → ℕ) → KeyPoint → List KeyCommand → List KeyReply → List KeyPoint →
     Type 0
 KeyRun its seen old [] [] [] = Unit {0}
@@ -191,8 +192,8 @@ pub record IsKeyRun (its : Config) (first : KeyPoint) (cs : List KeyCommand) (rs
   pub begins : IsKeyPoint its first
   pub runs : KeyRun its (mentions_in its (moment_of first.flash)) first cs rs ps
 
--- Among the replies to the first so many commands there are at most as many cuts as were to come and were armed among these,
--- and at most as many faults as were to come.
+-- Among the replies to the first `j` commands there are at most as many cuts as were to come and were armed among
+-- these, and at most as many faults as were to come.
 abbrev pub AreFewBreaks : ℕ → ℕ → List KeyCommand → List KeyReply → Type 0
 AreFewBreaks cuts breaks cs rs =
     (j : ℕ) →

@@ -14,8 +14,8 @@ use Rattle.page_keys.specs.declared.key_error.KeyServeError.TheVariants as faile
 use Rattle.page_keys.specs.declared.key_reply.KeyReply.{KeyReply}
 use Rattle.page_keys.specs.declared.key_session.KeySession.{KeySession}
 
--- where a run begins: the flash is as it was handed in, but for reads. A flash that is live and tells that no break is to come
--- has met none.
+-- where a run begins: the flash is as it was handed in, but for reads. A flash that is live and tells that no break is
+-- to come has met none.
 pub record IsFirstFlash (init first : FlashState) : Type 0 where
   pub moment : moment_of first ≡ moment_of init
   pub told : BothTell NoMoreToCome init.told first.told
@@ -29,8 +29,8 @@ pub record BeginsKeys {F R : Type 0} (state : F → FlashState) (its : Config) (
   pub keys : KeyMap
   pub stands : StandsAt state its (mentions_in its (moment_of init)) keys s
 
--- There is one run over these commands. Its last point is where the flash is that comes back. Of its replies the first so many
--- were told.
+-- There is one run over these commands. Its last point is where the flash is that comes back. Of its replies the first
+-- `told` were told.
 pub record ServesKeyRun (its : Config) (cs : List KeyCommand) (told : ℕ) (old new : FlashState)
     (before after : List ℕ) : Type 0 where
   pub first : KeyPoint

@@ -20,7 +20,7 @@ abbrev pub MakesNoKeyCommand : KeyVerb → List (List ℕ) → Type 0
 MakesNoKeyCommand verb words =
     (what : KeyCommand) → verb ≡ verb_of what → ¬ AreKeyOperands words what
 
--- a put has so many changes at most
+-- a put has this many changes at most
 abbrev pub HasFewChanges : ℕ → KeyCommand → Type 0
 HasFewChanges most (command.Put changes) = length changes ≤ most
 HasFewChanges most _ = Unit {0}

@@ -60,7 +60,7 @@ WritesNot state old new writes (refused.Spent page) =
 WritesNot state old new writes refused.Fault = Breaks state old new writes
 WritesNot state old new writes _ = ⊥
 
--- a machine that has one transaction open, with so many pages written
+-- a machine that has one transaction open, with this many pages written
 abbrev pub writing : Pages → List PageWrite → ℕ → ArrayState
 writing array writes done = record {
   pages = array;

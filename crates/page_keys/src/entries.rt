@@ -1,8 +1,8 @@
 ghost use Rattle.std.specs.Prelude.{◌≡◌, ◌<◌, ◌≤◌, ◌++◌, ◌∷◌, ◌*◌, ℕ, List, [], length, flat_map, IsTrue, IfOk, IfErr, OnOk, OnErr, All};
+ghost use Rattle.page_keys.specs.Buckets.{entry_bytes};
+ghost use Rattle.page_keys.specs.Entries.{changed, with_pair, IsFoundAt, IsGapAt};
 ghost use Rattle.page_keys.specs.Groups.{changes_of};
 ghost use Rattle.page_keys.specs.KeyMaps.{is_ascending};
-ghost use Rattle.page_keys.specs.Entries.{changed, with_pair, IsFoundAt, IsGapAt};
-ghost use Rattle.page_keys.specs.Buckets.{entry_bytes};
 
 use crate::changes::Change;
 use crate::grouping::Placed;

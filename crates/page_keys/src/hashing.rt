@@ -1,7 +1,7 @@
 ghost use Rattle.std.specs.Prelude.{◌≡◌, ◌<◌};
 ghost use Rattle.page_keys.specs.KeyMaps.{bucket_of};
 
-/// The page that a key belongs to, of so many.
+/// The page that a key belongs to, of this many.
 #[tactic(auto, unfolding(crate::specs::KeyMaps::hash))]
 pub fn bucket(key: &[u8], logical: u32) -> u32
     requires { 0 < logical }

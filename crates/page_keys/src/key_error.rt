@@ -10,8 +10,8 @@ pub enum KeyServeError {
     Unsound { law: u8, slot: Slot },
     /// The bytes of this page of the image that was handed in are no bucket. It is the least such page.
     Bucket(u32),
-    /// There was no memory. The last command may have been done and its reply not told: the flash is as that command left
-    /// it.
+    /// There was no memory. The last command may have been done and its reply not told: the flash is as that command
+    /// left it.
     Memory,
 }
 

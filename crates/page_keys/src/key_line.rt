@@ -1,13 +1,7 @@
 ghost use Rattle.std.specs.Prelude.{◌≡◌, ◌≤◌, ◌<◌, ◌^◌, false, length, IfOk, IfNone, IfSome, IsErrOf};
 ghost use Rattle.host_protocol.specs.Files.{is_command_line};
 ghost use Rattle.host_protocol.specs.Lines.{words_of};
-ghost use Rattle.page_keys.specs.ScriptReading.{
-  AddsKeyCommand,
-  AddsNoKeyCommand,
-  HasFewChanges,
-  MakesKeyCommand,
-  MakesNoKeyCommand,
-};
+ghost use Rattle.page_keys.specs.ScriptReading.{AddsKeyCommand, AddsNoKeyCommand, HasFewChanges, MakesKeyCommand, MakesNoKeyCommand};
 
 use crate::command::KeyCommand;
 use crate::key_verb::KeyVerb;

@@ -1,7 +1,7 @@
 ghost use Rattle.std.specs.Prelude.{◌≡◌, ◌<◌, ◌≤◌, ◌+◌, ◌++◌, ◌∷◌, [], length, vec_len, vec_capacity, OnOk, OnErr};
-ghost use Rattle.page_keys.specs.KeyReplies.{key_text};
-ghost use Rattle.host_protocol.specs.Replies.{line_of};
 ghost use Rattle.hex.specs.Hex.{encode_lower};
+ghost use Rattle.host_protocol.specs.Replies.{line_of};
+ghost use Rattle.page_keys.specs.KeyReplies.{key_text};
 
 use crate::short_bytes::{MAX_SHORT, ShortBytes};
 use host_protocol::add_line;
@@ -10,7 +10,7 @@ use tx_types::Memory;
 /// The answer to a command of a key script.
 #[derive(Drop)]
 pub enum KeyReply {
-    /// All changes of a put were made, so many.
+    /// All changes of a put were made, this many.
     Stored(u32),
     /// The key and its value.
     Value(ShortBytes, ShortBytes),
@@ -26,7 +26,7 @@ pub enum KeyReply {
     RefusedEmpty,
     /// The key stood in the put before.
     RefusedRepeated(ShortBytes),
-    /// The put has keys in so many pages, more than may be pending.
+    /// The put has keys in this many pages, more than may be pending.
     RefusedWide(u32),
     /// The page would not hold its entries.
     RefusedBucket(u32),

@@ -3,8 +3,8 @@ ghost use Rattle.tx_types.specs.Config.{checked};
 ghost use Rattle.flash_model.specs.Flash.{FlashState, IsSteady};
 ghost use Rattle.flash_model.specs.Operations.{moment_of};
 ghost use Rattle.page_keys.specs.KeyRuns.{arms_key_cut};
-ghost use Rattle.page_keys.specs.KeySessions.{flash_in, is_mounted, Ends, Fits, IsKeyImage, ServesOne};
 ghost use Rattle.page_keys.specs.KeyServed.{BeginsKeys, RefusesKeys, ServesScript};
+ghost use Rattle.page_keys.specs.KeySessions.{flash_in, is_mounted, Ends, Fits, IsKeyImage, ServesOne};
 ghost use Rattle.page_keys.specs.Scripts.{SuitsKeys};
 
 use crate::command::KeyCommand;
@@ -161,17 +161,17 @@ fn begin<F: Power, R: CommitRule>(
     }
 }
 
-/// Serves the commands of a key script in order on the store of a flash, and appends the line of each reply. The store of a
-/// flash with power is opened first.
+/// Serves the commands of a key script in order on the store of a flash, and appends the line of each reply. The store
+/// of a flash with power is opened first.
 ///
-/// The check of the configuration gives the shape of the flash, and its protocol is that of `R`. Keys have 1 to 15 bytes,
-/// values at most 15, a put has fewer than 2^32 changes, and each cut counts from 1.
+/// The check of the configuration gives the shape of the flash, and its protocol is that of `R`. Keys have 1 to 15
+/// bytes, values at most 15, a put has fewer than 2^32 changes, and each cut counts from 1.
 ///
-/// - After a command in which power was cut, or the flash met a fault, the store is closed. The next command that is no `cut`
-///   turns power on and opens it again. Where that meets a fault the command is not done, and its reply is `Fault`, or `Cut`
-///   where power is off.
-/// - `Unsound` and `Bucket` come only from an opening before the first one that succeeded. The flash then comes back with its
-///   image and its counts of programs and erases.
+/// - After a command in which power was cut, or the flash met a fault, the store is closed. The next command that is no
+///   `cut` turns power on and opens it again. Where that meets a fault the command is not done, and its reply is
+///   `Fault`, or `Cut` where power is off.
+/// - `Unsound` and `Bucket` come only from an opening before the first one that succeeded. The flash then comes back
+///   with its image and its counts of programs and erases.
 /// - `Memory` ends the run before a command, in it, or where its reply is to be told. The replies before it were told.
 pub fn key_serve<F: Power + Arms, R: CommitRule>(
     alloc: Global,

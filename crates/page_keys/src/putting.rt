@@ -2,12 +2,10 @@ ghost use Rattle.std.specs.Prelude.{◌≡◌, List, ◌<◌, ◌≤◌, ◌+◌
 ghost use Rattle.array_machine.specs.ArrayState.{page_at};
 ghost use Rattle.page_keys.specs.Groups.{changes_of};
 ghost use Rattle.page_keys.specs.KeyMaps.{KeyMap, of_page, pages_of};
-ghost use Rattle.page_keys.specs.Buckets.{EncodesMap};
-ghost use Rattle.std.specs.List.{AllByRecursion};
 ghost use Rattle.page_keys.specs.Puts.{IsKeyChange, repeated};
+ghost use Rattle.page_keys.specs.Putting.{is_put_fault, is_failed, HasNewBytes, IsTooMuch, HasWrites, IsFull};
 ghost use Rattle.page_keys.specs.Stores.{HasKeys, OnlyReads};
 ghost use Rattle.page_keys.specs.declared.changes.Change.{Change};
-ghost use Rattle.page_keys.specs.Putting.{is_put_fault, is_failed, HasNewBytes, IsTooMuch, HasWrites, IsFull};
 
 use crate::answers::PutError;
 use crate::changes::Change;

@@ -1,7 +1,7 @@
 ghost use Rattle.std.specs.Prelude.{◌≡◌, ◌≢◌, ◌<◌, ◌≤◌, ◌++◌, ◌∷◌, ℕ, List, [], Ok, Some, true, false, length, take, drop, IfSome, IfNone, IsTrue, MatchOption, OnOk};
-ghost use Rattle.page_keys.specs.KeyMaps.{Pair, is_ascending, value_of};
 ghost use Rattle.page_keys.specs.Buckets.{entry_bytes, IsEntry, IsBucketOf, IsBucket, HoldsEntries};
 ghost use Rattle.page_keys.specs.Entries.{GivesValue};
+ghost use Rattle.page_keys.specs.KeyMaps.{Pair, is_ascending, value_of};
 
 use crate::entries::Entry;
 use crate::hashing::bucket;
@@ -39,7 +39,7 @@ fn is_above(entries: &[Entry], key: &[u8]) -> bool
     }
 }
 
-/// Reads the entries of a page, and answers whether its bytes are a bucket.
+/// Reads the entries of a page, and returns whether its bytes are a bucket.
 pub(crate) fn read(
     bytes: &[u8],
     logical: u32,
@@ -111,7 +111,7 @@ pub(crate) fn value_in(bytes: &[u8], key: &[u8], into: &mut [u8; 15]) -> Option<
     None
 }
 
-/// Copies a value to the front of the room, and answers the number of its bytes.
+/// Copies a value to the front of the room, and returns the number of its bytes.
 fn copy(value: &[u8], into: &mut [u8; 15]) -> usize
     requires { length value.now ≤ MAX_SHORT }
     ensures gives { GivesValue (Some value.now) (Some result) into.old into.new }

@@ -14,8 +14,8 @@ use tx_types::{Config, Memory};
 /// Up to this many changes their pages are listed without a set.
 const FEW: usize = 16;
 
-/// The pages of the keys of a put, in ascending order, unless its changes alone are refused. `Memory` comes only where they
-/// are not.
+/// The pages of the keys of a put, in ascending order, unless its changes alone are refused. `Memory` comes only where
+/// they are not.
 pub(crate) fn check_changes(
     alloc: Global,
     config: Config,

@@ -11,8 +11,8 @@ use tx_types::Memory;
 /// Up to this many changes the keys before each one are looked through.
 const FEW: usize = 16;
 
-/// The refusal of the first change whose key stood earlier. Where there is no memory for a set of the keys, the changes before
-/// each one are looked through.
+/// The refusal of the first change whose key stood earlier. Where there is no memory for a set of the keys, the changes
+/// before each one are looked through.
 pub(crate) fn first_repeated(alloc: Global, changes: &[Change]) -> Option<PutError>
     requires { length changes.now < 2 ^ 32 }
     ensures { result ≡ repeated [] changes.now }

@@ -1,7 +1,7 @@
 ghost use Rattle.std.specs.Prelude.{◌≡◌, ◌≤◌, ◌++◌, ◌⊎◌, ℕ, List, length, IfOk, IfErr, OnOk, MatchResult, All};
 ghost use Rattle.std.specs.Option.{option_to_list};
-ghost use Rattle.page_keys.specs.Scripts.{IsScript, IsFirstBadScriptLine, SuitsKeys};
 ghost use Rattle.page_keys.specs.ScriptReading.{EndsAt};
+ghost use Rattle.page_keys.specs.Scripts.{IsScript, IsFirstBadScriptLine, SuitsKeys};
 ghost use Rattle.page_keys.specs.declared.command.KeyCommand.{KeyCommand};
 
 use crate::command::KeyCommand;

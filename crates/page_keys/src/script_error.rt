@@ -1,7 +1,7 @@
 ghost use Rattle.std.specs.Prelude.{◌≡◌};
 ghost use Rattle.page_keys.specs.ScriptReading.{text_error};
-ghost use Rattle.page_keys.specs.declared.script_error.LineError.TheVariants.{Memory};
 ghost use Rattle.page_keys.specs.declared.script_error.KeyTextError.TheVariants as text;
+ghost use Rattle.page_keys.specs.declared.script_error.LineError.TheVariants.{Memory};
 
 /// Why a line gave no command.
 #[derive(Clone, Copy)]

@@ -75,7 +75,7 @@ impl ShortBytes {
         }
     }
 
-    /// The same bytes.
+    /// A copy of the bytes.
     pub(crate) fn copy(&self) -> ShortBytes
         ensures { result ≡ self.now }
     {

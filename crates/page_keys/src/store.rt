@@ -1,6 +1,7 @@
 ghost use Rattle.std.specs.Prelude.{◌≡◌, ◌<◌, ◌≤◌, ◌+◌, ◌^◌, ◌⊎◌, [], Ok, Err, None, Some, false, true, length, All, IfOk, IfErr, IfSome, OnOk, OnErr};
-ghost use Rattle.std.specs.Result.{is_err};
 ghost use Rattle.std.specs.FinMap.{get};
+ghost use Rattle.std.specs.List.{AllByRecursion};
+ghost use Rattle.std.specs.Result.{is_err};
 ghost use Rattle.flash_model.specs.Arms.{ArmsCut};
 ghost use Rattle.tx_engine.specs.Always.{HoldsAlways};
 ghost use Rattle.page_keys.specs.KeyMaps.{KeyMap};
@@ -12,10 +13,10 @@ ghost use Rattle.tx_engine.specs.DeviceState.{limits_of};
 ghost use Rattle.array_machine.specs.Submit.{first_refusals};
 ghost use Rattle.page_keys.specs.Buckets.{AreBuckets};
 ghost use Rattle.page_keys.specs.PutAnswers.{PutGives, ReadsFirst};
-ghost use Rattle.page_keys.specs.Putting.{is_put_fault};
 ghost use Rattle.page_keys.specs.Puts.{IsKeyChange};
-ghost use Rattle.page_keys.specs.Writing.{Writes, WritesNot};
+ghost use Rattle.page_keys.specs.Putting.{is_put_fault};
 ghost use Rattle.page_keys.specs.Stores.{HasKeys, OnlyReads, OpensNot, is_key_fault};
+ghost use Rattle.page_keys.specs.Writing.{Writes, WritesNot};
 
 use crate::answers::{KeyError, PutError};
 use crate::changes::Changes;
@@ -58,8 +59,8 @@ impl<F: Flash, R: CommitRule> Model for KeyStore<F, R> {
 }
 
 impl<F: Flash, R: CommitRule> KeyStore<F, R> {
-    /// The store that a device shows on which nothing is open. Each page is read, in ascending order, up to the first one
-    /// that is no bucket. A device that is not taken comes back.
+    /// The store that a device shows on which nothing is open. Each page is read, in ascending order, up to the first
+    /// one that is no bucket. A device that is not taken comes back.
     pub fn over(
         alloc: Global,
         device: Device<F, R>,
@@ -114,8 +115,8 @@ impl<F: Flash, R: CommitRule> KeyStore<F, R> {
         Ok(value_in(&self.room, key, into))
     }
 
-    /// Makes all changes at once, in their order. A put that is refused, or that finds no memory, changes nothing; where the
-    /// flash met a fault, all changes are made or none is, and only `live` and `close` may follow.
+    /// Makes all changes at once, in their order. A put that is refused, or that finds no memory, changes nothing;
+    /// where the flash met a fault, all changes are made or none is, and only `live` and `close` may follow.
     pub fn put(&mut self, changes: &Changes) -> Result<(), PutError>
         requires usable { self.old.broken ≡ false }
         requires keys { AllByRecursion IsKeyChange changes.now }

@@ -9,7 +9,8 @@ use record_list::CommitRule;
 use tx_engine::{Device, Progress, SubmitError, device_facts};
 use tx_types::Batch;
 
-/// Writes a batch as one transaction, on a device on which nothing is open. Only a page that has no version left is refused.
+/// Writes a batch as one transaction, on a device on which nothing is open. Only a page that has no version left is
+/// refused.
 pub(crate) fn write<F: Flash, R: CommitRule>(
     device: &mut Device<F, R>,
     batch: &Batch,

@@ -36,7 +36,8 @@ pub record BreaksNone (protocol : Protocol) (bytes : List ℕ) : Type 0 where
   pub count_holds : holds protocol bytes rule.Count ≡ true
   pub rest_holds : holds protocol bytes rule.Rest ≡ true
 
-passed : (b : Bool) (e : SpareError) (after : Option SpareError) → cond (not b) (Some e) after ≡ None → (b ≡ true) × (after ≡ None)
+passed : (b : Bool) (e : SpareError) (after : Option SpareError) → cond (not b) (Some e) after ≡ None →
+    (b ≡ true) × (after ≡ None)
 passed true e after h = (refl, h)
 passed false e after h = absurd cc
 
@@ -53,7 +54,8 @@ number_at-version : (p : Protocol) (r : Rec) → r.version < 2 ^ 64 → number_a
 unfolding spelling number_at
 number_at-version p r lt = from_le_bytes-to_le_bytes_8 r.version lt
 
-number_at-next_version : (p : Protocol) (r : Rec) → r.next.version < 2 ^ 64 → number_at w64 24 (spelling p r) ≡ r.next.version
+number_at-next_version : (p : Protocol) (r : Rec) → r.next.version < 2 ^ 64 →
+    number_at w64 24 (spelling p r) ≡ r.next.version
 unfolding spelling number_at
 number_at-next_version p r lt = from_le_bytes-to_le_bytes_8 r.next.version lt
 
@@ -105,16 +107,20 @@ counted : (p : Protocol) (r : Rec) → CanBeSpelled p r → Counted r
 counted p r can = elim (cases_eq r.count 0) [
   | inl none ↦ record {
     format_is = ap (λ k. eqb k 1 || eqb k 2) (format_plain r none);
-    flag_is = ap₂ (λ d k. (eqb (flag_of d) 0 || (eqb k 2 && eqb (flag_of d) 1)) && true) (can.discard none) (format_plain r none);
+    flag_is = ap₂ (λ d k. (eqb (flag_of d) 0 || (eqb k 2 && eqb (flag_of d) 1)) && true) (can.discard none)
+        (format_plain r none);
     count_is = ap (λ k. not (eqb k 2) || is_count r.count) (format_plain r none);
-    rest_is = ap₂ (λ k c. are_zeros (if eqb k 2 then replicate 20 0 else to_le_bytes w32 c ++ replicate 20 0)) (format_plain r none) none;
+    rest_is = ap₂ (λ k c. are_zeros (if eqb k 2 then replicate 20 0 else to_le_bytes w32 c ++ replicate 20 0))
+        (format_plain r none) none;
   }
   | inr some ↦ record {
     format_is = ap (λ k. eqb k 1 || eqb k 2) (format_counted r some);
-    flag_is = ap (λ k. (eqb (flag_of r.discard) 0 || (eqb k 2 && eqb (flag_of r.discard) 1)) && true) (format_counted r some) ∙ either r.discard;
+    flag_is = ap (λ k. (eqb (flag_of r.discard) 0 || (eqb k 2 && eqb (flag_of r.discard) 1)) && true)
+        (format_counted r some) ∙ either r.discard;
     count_is = ap (λ k. not (eqb k 2) || is_count r.count) (format_counted r some) ∙
         and_from (leb 1 r.count) (leb r.count 256) (le-leb 1 r.count (omega arith)) (le-leb r.count 256 can.count);
-    rest_is = ap (λ k. are_zeros (if eqb k 2 then replicate 20 0 else to_le_bytes w32 r.count ++ replicate 20 0)) (format_counted r some);
+    rest_is = ap (λ k. are_zeros (if eqb k 2 then replicate 20 0 else to_le_bytes w32 r.count ++ replicate 20 0))
+        (format_counted r some);
   }
 ]
   where
@@ -197,17 +203,22 @@ pass false e after h = absurd cc
 pub none_broken : (p : Protocol) (bytes : List ℕ) → BreaksNone p bytes → first_broken p bytes ≡ None
 unfolding first_broken
 none_broken p bytes h =
-    pass (holds p bytes rule.Mark) rule.Mark _ h.mark_holds ∙ pass (holds p bytes rule.Format) rule.Format _ h.format_holds
-    ∙ pass (holds p bytes rule.Protocol) rule.Protocol _ h.protocol_holds ∙ pass (holds p bytes rule.Flags) rule.Flags _ h.flags_hold
-    ∙ pass (holds p bytes rule.Version) rule.Version _ h.versions_hold ∙ pass (holds p bytes rule.Back) rule.Back _ h.back_holds
-    ∙ pass (holds p bytes rule.Count) rule.Count _ h.count_holds ∙ pass (holds p bytes rule.Rest) rule.Rest _ h.rest_holds
+    pass (holds p bytes rule.Mark) rule.Mark _ h.mark_holds
+    ∙ pass (holds p bytes rule.Format) rule.Format _ h.format_holds
+    ∙ pass (holds p bytes rule.Protocol) rule.Protocol _ h.protocol_holds
+    ∙ pass (holds p bytes rule.Flags) rule.Flags _ h.flags_hold
+    ∙ pass (holds p bytes rule.Version) rule.Version _ h.versions_hold
+    ∙ pass (holds p bytes rule.Back) rule.Back _ h.back_holds
+    ∙ pass (holds p bytes rule.Count) rule.Count _ h.count_holds
+    ∙ pass (holds p bytes rule.Rest) rule.Rest _ h.rest_holds
 
 is_back_is : (p : Protocol) (version back : ℕ) → is_back p version back ≡ true → IsBack p version back
 is_back_is Scc version back h = eqb-true back 0 h
 is_back_is Bpcc version back h = ltb-true back version h
 
 version_is : (n : ℕ) → is_version n ≡ true → (1 ≤ n) × (n ≤ 2 ^ 62)
-version_is n h = let parts = and_parts (leb 1 n) (leb n (2 ^ 62)) h in (leb-true 1 n parts.0, leb-true n (2 ^ 62) parts.1)
+version_is n h = let parts = and_parts (leb 1 n) (leb n (2 ^ 62)) h in
+    (leb-true 1 n parts.0, leb-true n (2 ^ 62) parts.1)
 
 zeros_at : (n : ℕ) (bytes : List ℕ) → length bytes ≡ n → are_zeros bytes ≡ true → bytes ≡ replicate n 0
 zeros_at n bytes len h = zeros bytes h ∙ ap (λ k. replicate k 0) len
@@ -222,21 +233,26 @@ record Told (bytes : List ℕ) : Type 0 where
   rest : slice_range bytes 44 64 ≡ replicate 20 0
 
 -- in format 2
-told_counted : (p : Protocol) (bytes : List ℕ) → length bytes ≡ 64 → BreaksNone p bytes → is_counted bytes ≡ true → Told bytes
+told_counted : (p : Protocol) (bytes : List ℕ) → length bytes ≡ 64 → BreaksNone p bytes →
+    is_counted bytes ≡ true → Told bytes
 told_counted p bytes len h two =
-    let flags = and_parts (eqb (get_or bytes 6 0) 0 || (is_counted bytes && eqb (get_or bytes 6 0) 1)) (eqb (get_or bytes 7 0) 0) h.flags_hold in
-    let count = version_is' (number_at w32 40 bytes) (ap (λ b. not b || is_count (number_at w32 40 bytes)) (sym two) ∙ h.count_holds) in
+    let flags = and_parts (eqb (get_or bytes 6 0) 0 || (is_counted bytes && eqb (get_or bytes 6 0) 1))
+    (eqb (get_or bytes 7 0) 0) h.flags_hold in
+    let count = version_is' (number_at w32 40 bytes) (ap (λ b. not b || is_count (number_at w32 40 bytes)) (sym two)
+    ∙ h.count_holds) in
     record {
       format = eqb-true (get_or bytes 4 0) 2 two ∙ sym (format_counted (fields_of bytes) (λ e. omega arith));
       flag = elim (or_cases (eqb (get_or bytes 6 0) 0) (is_counted bytes && eqb (get_or bytes 6 0) 1) flags.0) [
         | inl e ↦ by_zero (get_or bytes 6 0) (eqb-true (get_or bytes 6 0) 0 e)
-        | inr e ↦ by_one (get_or bytes 6 0) (eqb-true (get_or bytes 6 0) 1 (and_parts (is_counted bytes) (eqb (get_or bytes 6 0) 1) e).1)
+        | inr e ↦ by_one (get_or bytes 6 0) (eqb-true (get_or bytes 6 0) 1
+            (and_parts (is_counted bytes) (eqb (get_or bytes 6 0) 1) e).1)
       ];
       zero_flag = eqb-true (get_or bytes 7 0) 0 flags.1;
       few = count.1;
       plain = λ e. absurd (omega arith);
       rest = zeros_at 20 (slice_range bytes 44 64) (length-range 44 20 bytes (omega arith))
-          (ap are_zeros (sym (cond-true (is_counted bytes) (slice_range bytes 44 64) (slice_range bytes 40 64) two)) ∙ h.rest_holds);
+          (ap are_zeros (sym (cond-true (is_counted bytes) (slice_range bytes 44 64) (slice_range bytes 40 64) two))
+          ∙ h.rest_holds);
     }
   where
     version_is' : (n : ℕ) → is_count n ≡ true → (1 ≤ n) × (n ≤ 256)
@@ -253,10 +269,13 @@ unfolding number_at
 zero_number bytes e = ap (from_le_bytes w32) e
 
 -- in format 1
-told_plain : (p : Protocol) (bytes : List ℕ) → length bytes ≡ 64 → BreaksNone p bytes → is_counted bytes ≡ false → Told bytes
+told_plain : (p : Protocol) (bytes : List ℕ) → length bytes ≡ 64 → BreaksNone p bytes →
+    is_counted bytes ≡ false → Told bytes
 told_plain p bytes len h one =
-    let flags = and_parts (eqb (get_or bytes 6 0) 0 || (is_counted bytes && eqb (get_or bytes 6 0) 1)) (eqb (get_or bytes 7 0) 0) h.flags_hold in
-    let flag : get_or bytes 6 0 ≡ 0 = elim (or_cases (eqb (get_or bytes 6 0) 0) (is_counted bytes && eqb (get_or bytes 6 0) 1) flags.0) [
+    let flags = and_parts (eqb (get_or bytes 6 0) 0 || (is_counted bytes && eqb (get_or bytes 6 0) 1))
+    (eqb (get_or bytes 7 0) 0) h.flags_hold in
+    let flag : get_or bytes 6 0 ≡ 0 =
+    elim (or_cases (eqb (get_or bytes 6 0) 0) (is_counted bytes && eqb (get_or bytes 6 0) 1) flags.0) [
       | inl e ↦ eqb-true (get_or bytes 6 0) 0 e
       | inr e ↦ absurd (false≢true (sym one ∙ (and_parts (is_counted bytes) (eqb (get_or bytes 6 0) 1) e).0))
     ] in
@@ -265,7 +284,8 @@ told_plain p bytes len h one =
       | inr e ↦ absurd (false≢true (sym one ∙ e))
     ] in
     let rest = zeros_at 24 (slice_range bytes 40 64) (length-range 40 24 bytes (omega arith))
-    (ap are_zeros (sym (cond-false (is_counted bytes) (slice_range bytes 44 64) (slice_range bytes 40 64) one)) ∙ h.rest_holds) in
+    (ap are_zeros (sym (cond-false (is_counted bytes) (slice_range bytes 44 64) (slice_range bytes 40 64) one))
+    ∙ h.rest_holds) in
     let nothing : drop 64 bytes ≡ [] = nil_from_length (drop 64 bytes) (omega (arith, length-drop 64 bytes)) in
     let at_40 : drop 40 bytes ≡ replicate 24 0 = joined 40 64 bytes (replicate 24 0) [] (lit≤ tt) rest nothing in
     let at_44 : drop 44 bytes ≡ replicate 20 0 =
@@ -287,10 +307,12 @@ told p bytes len h = elim (cases_Bool (is_counted bytes)) [
   | inr one ↦ told_plain p bytes len h one
 ]
 
-pub can_be_spelled : (p : Protocol) (bytes : List ℕ) → length bytes ≡ 64 → IsBytes bytes → BreaksNone p bytes → CanBeSpelled p (fields_of bytes)
+pub can_be_spelled : (p : Protocol) (bytes : List ℕ) → length bytes ≡ 64 → IsBytes bytes → BreaksNone p bytes →
+    CanBeSpelled p (fields_of bytes)
 can_be_spelled p bytes len fits h =
     let tells = told p bytes len h in
-    let versions = and_parts (is_version (number_at w64 16 bytes)) (is_version (number_at w64 24 bytes)) h.versions_hold in
+    let versions = and_parts (is_version (number_at w64 16 bytes)) (is_version (number_at w64 24 bytes))
+    h.versions_hold in
     let version = version_is (number_at w64 16 bytes) versions.0 in
     let next_version = version_is (number_at w64 24 bytes) versions.1 in
     record {
@@ -305,7 +327,8 @@ can_be_spelled p bytes len fits h =
       discard = tells.plain;
     }
 
-pub is_spelled : (p : Protocol) (bytes : List ℕ) → length bytes ≡ 64 → IsBytes bytes → BreaksNone p bytes → bytes ≡ spelling p (fields_of bytes)
+pub is_spelled : (p : Protocol) (bytes : List ℕ) → length bytes ≡ 64 → IsBytes bytes → BreaksNone p bytes →
+    bytes ≡ spelling p (fields_of bytes)
 unfolding spelling
 is_spelled p bytes len fits h =
     let mark_is : slice_range bytes 0 4 ≡ mark = sym ((bytes_eq-Decides mark (take 4 bytes)).0 h.mark_holds) in
@@ -327,14 +350,16 @@ is_spelled p bytes len fits h =
 
 -- ---- the record that bytes spell
 
-pub record_of-fields : (p : Protocol) (bytes : List ℕ) → length bytes ≡ 64 → IsBytes bytes → first_broken p bytes ≡ None →
+pub record_of-fields : (p : Protocol) (bytes : List ℕ) → length bytes ≡ 64 → IsBytes bytes →
+    first_broken p bytes ≡ None →
     record_of p bytes ≡ Some (fields_of bytes)
 unfolding record_of
 record_of-fields p bytes len fits h =
     let long : eqb (length bytes) 64 ≡ true = rw len refl in
     rw (long, tests bytes fits, h) refl
 
-pub record_of-broken : (p : Protocol) (bytes : List ℕ) (e : SpareError) → first_broken p bytes ≡ Some e → record_of p bytes ≡ None
+pub record_of-broken : (p : Protocol) (bytes : List ℕ) (e : SpareError) → first_broken p bytes ≡ Some e →
+    record_of p bytes ≡ None
 unfolding record_of
 record_of-broken p bytes e h = rw (h, and-false) refl
 
@@ -360,7 +385,8 @@ IsBytes-spelling p r = tested (spelling p r) (simp (mod_fits, code_fits, format_
 
 pub record_of-spelling : (p : Protocol) (r : Rec) → CanBeSpelled p r → record_of p (spelling p r) ≡ Some r
 record_of-spelling p r can =
-    record_of-fields p (spelling p r) (length-spelling p r) (IsBytes-spelling p r) (none_broken p (spelling p r) (BreaksNone-spelling p r can))
+    record_of-fields p (spelling p r) (length-spelling p r) (IsBytes-spelling p r)
+    (none_broken p (spelling p r) (BreaksNone-spelling p r can))
     ∙ ap (λ x. Some x) (fields_of-spelling p r can)
 
 found_if : (b : Bool) (r : Rec) → is_some (cond b (Some r) None) ≡ b
@@ -371,7 +397,8 @@ none_is : (o : Option SpareError) → is_none o ≡ true → o ≡ None
 none_is None h = refl
 none_is (Some e) h = absurd cc
 
-pub record_of-some : (p : Protocol) (bytes : List ℕ) (r : Rec) → record_of p bytes ≡ Some r → CanBeSpelled p r × (bytes ≡ spelling p r)
+pub record_of-some : (p : Protocol) (bytes : List ℕ) (r : Rec) → record_of p bytes ≡ Some r → CanBeSpelled p r
+    × (bytes ≡ spelling p r)
 unfolding record_of
 record_of-some p bytes r h =
     let parts = cond_some (is_area bytes && is_none (first_broken p bytes)) (fields_of bytes) r h in
@@ -385,12 +412,14 @@ record_of-some p bytes r h =
     )
 
 -- a spare area has a record or breaks a rule
-pub is_some-record_of : (p : Protocol) (bytes : List ℕ) → is_area bytes ≡ true → is_some (record_of p bytes) ≡ is_none (first_broken p bytes)
+pub is_some-record_of : (p : Protocol) (bytes : List ℕ) → is_area bytes ≡ true →
+    is_some (record_of p bytes) ≡ is_none (first_broken p bytes)
 unfolding record_of
 is_some-record_of p bytes area = rw area (found_if (is_none (first_broken p bytes)) (fields_of bytes))
 
 -- a record is found exactly in its spelling
-pub record_of-iff : (p : Protocol) (bytes : List ℕ) (r : Rec) → (record_of p bytes ≡ Some r) ↔ (CanBeSpelled p r × (bytes ≡ spelling p r))
+pub record_of-iff : (p : Protocol) (bytes : List ℕ) (r : Rec) → (record_of p bytes ≡ Some r)
+    ↔ (CanBeSpelled p r × (bytes ≡ spelling p r))
 record_of-iff p bytes r = (record_of-some p bytes r, λ h. ap (record_of p) h.1 ∙ record_of-spelling p r h.0)
 
 same_code : (p q : Protocol) → code_of p ≡ code_of q → p ≡ q
@@ -404,11 +433,13 @@ unfolding spelling
 code_at p r = refl
 
 -- no two records have one spelling, under whichever protocols
-pub spelling-injective : (p q : Protocol) (r s : Rec) → CanBeSpelled p r → CanBeSpelled q s → spelling p r ≡ spelling q s → (p ≡ q) × (r ≡ s)
+pub spelling-injective : (p q : Protocol) (r s : Rec) → CanBeSpelled p r → CanBeSpelled q s →
+    spelling p r ≡ spelling q s → (p ≡ q) × (r ≡ s)
 spelling-injective p q r s can_r can_s h =
     let protocols : p ≡ q = same_code p q (sym (code_at p r) ∙ ap (λ bytes. get_or bytes 5 0) h ∙ code_at q s) in
     let found : record_of p (spelling q s) ≡ Some r = ap (record_of p) (sym h) ∙ record_of-spelling p r can_r in
-    let again : record_of p (spelling q s) ≡ Some s = ap (λ x. record_of x (spelling q s)) protocols ∙ record_of-spelling q s can_s in
+    let again : record_of p (spelling q s) ≡ Some s = ap (λ x. record_of x (spelling q s)) protocols
+    ∙ record_of-spelling q s can_s in
     (protocols, cc)
 
 -- ---- the first rule that is broken
@@ -421,7 +452,8 @@ record Parts (test : SpareError → Bool) (all : List SpareError) (first : Spare
   pass_before : list_all test before ≡ true
   fails : test first ≡ false
 
-more : (test : SpareError → Bool) (r : SpareError) (rs : List SpareError) (e : SpareError) → test r ≡ true → Parts test rs e → Parts test (r ∷ rs) e
+more : (test : SpareError → Bool) (r : SpareError) (rs : List SpareError) (e : SpareError) → test r ≡ true →
+    Parts test rs e → Parts test (r ∷ rs) e
 more test r rs e passes parts = record {
   before = r ∷ parts.before;
   after = parts.after;
@@ -430,10 +462,12 @@ more test r rs e passes parts = record {
   fails = parts.fails;
 }
 
-parts_of : (test : SpareError → Bool) (rs : List SpareError) (e : SpareError) → find (λ r. not (test r)) rs ≡ Some e → Parts test rs e
+parts_of : (test : SpareError → Bool) (rs : List SpareError) (e : SpareError) → find (λ r. not (test r)) rs ≡ Some e →
+    Parts test rs e
 parts_of test [] e h = absurd cc
 parts_of test (r ∷ rs) e h =
-    let P : Bool → Type 0 = λ b. test r ≡ b → cond (not b) (Some r) (find (λ x. not (test x)) rs) ≡ Some e → Parts test (r ∷ rs) e in
+    let P : Bool → Type 0 = λ b. test r ≡ b → cond (not b) (Some r) (find (λ x. not (test x)) rs) ≡ Some e →
+    Parts test (r ∷ rs) e in
     let cases : P (test r) = elim (test r) as P [
       | true ↦ λ passes found. more test r rs e passes (parts_of test rs e found)
       | false ↦ λ fails found. let is : r ≡ e = cc in subst (λ x. Parts test (r ∷ rs) x) is
@@ -441,8 +475,15 @@ parts_of test (r ∷ rs) e h =
     ] in
     cases refl h
 
-pub first_broken-some : (p : Protocol) (bytes : List ℕ) (e : SpareError) → first_broken p bytes ≡ Some e → IsFirstBrokenRule p bytes e
+pub first_broken-some : (p : Protocol) (bytes : List ℕ) (e : SpareError) → first_broken p bytes ≡ Some e →
+    IsFirstBrokenRule p bytes e
 unfolding first_broken
 first_broken-some p bytes e h =
     let parts = parts_of (holds p bytes) rules e h in
-    record { before = parts.before; after = parts.after; in_order = parts.in_order; hold_before = parts.pass_before; broken = parts.fails }
+    record {
+      before = parts.before;
+      after = parts.after;
+      in_order = parts.in_order;
+      hold_before = parts.pass_before;
+      broken = parts.fails;
+    }

@@ -20,7 +20,8 @@ unfolding number_at
 zero_w32 offset bytes le fits =
     let part = slice_range bytes offset (offset + 4) in
     same_truth _ _
-    (λ h. ap are_zeros (sym (number_at-w32 offset bytes le fits) ∙ ap (to_le_bytes w32) (eqb-true (number_at w32 offset bytes) 0 h)))
+    (λ h. ap are_zeros (sym (number_at-w32 offset bytes le fits)
+    ∙ ap (to_le_bytes w32) (eqb-true (number_at w32 offset bytes) 0 h)))
     (λ h. eq-eqb _ 0 (ap (from_le_bytes w32) (zeros part h ∙ ap (λ n. replicate n 0) (length-range offset 4 bytes le))))
 
 pub zero_w64 : (offset : ℕ) (bytes : List ℕ) → offset + 8 ≤ length bytes → IsBytes bytes →
@@ -29,12 +30,15 @@ unfolding number_at
 zero_w64 offset bytes le fits =
     let part = slice_range bytes offset (offset + 8) in
     same_truth _ _
-    (λ h. ap are_zeros (sym (number_at-w64 offset bytes le fits) ∙ ap (to_le_bytes w64) (eqb-true (number_at w64 offset bytes) 0 h)))
+    (λ h. ap are_zeros (sym (number_at-w64 offset bytes le fits)
+    ∙ ap (to_le_bytes w64) (eqb-true (number_at w64 offset bytes) 0 h)))
     (λ h. eq-eqb _ 0 (ap (from_le_bytes w64) (zeros part h ∙ ap (λ n. replicate n 0) (length-range offset 8 bytes le))))
 
 -- zeros up to a place and behind it
-zeros_split : (m n : ℕ) (bytes : List ℕ) → m ≤ n → are_zeros (drop m bytes) ≡ (are_zeros (slice_range bytes m n) && are_zeros (drop n bytes))
-zeros_split m n bytes le = ap are_zeros (split_at m n bytes le) ∙ list_all-append _ (slice_range bytes m n) (drop n bytes)
+zeros_split : (m n : ℕ) (bytes : List ℕ) → m ≤ n → are_zeros (drop m bytes)
+    ≡ (are_zeros (slice_range bytes m n) && are_zeros (drop n bytes))
+zeros_split m n bytes le = ap are_zeros (split_at m n bytes le)
+    ∙ list_all-append _ (slice_range bytes m n) (drop n bytes)
 
 -- to the end
 to_end : (m : ℕ) (bytes : List ℕ) → length bytes ≡ 64 → slice_range bytes m 64 ≡ drop m bytes

@@ -1,10 +1,10 @@
 ghost use Rattle.std.specs.Prelude.{◌≡◌, ◌&&◌, ◌+◌, ◌≤◌, IfOk, Ok, slice_range};
-ghost use Rattle.std.specs.Result.{result_ok, result_err};
 ghost use Rattle.std.specs.Int.{w32, w64};
+ghost use Rattle.std.specs.Result.{result_ok, result_err};
 ghost use Rattle.tx_types.specs.Limits.{spare_bytes};
 ghost use Rattle.tx_types.specs.declared.record.Rec.{Rec};
-ghost use Rattle.page_record.specs.Spelling.{spelling, CanBeSpelled};
 ghost use Rattle.page_record.specs.Rules.{number_at, fields_of, are_zeros, is_counted, has_flags, is_count, rest_of, is_version, is_back, first_broken, record_of};
+ghost use Rattle.page_record.specs.Spelling.{spelling, CanBeSpelled};
 
 use crate::SpareError;
 use crate::layout::{COUNTED, MARK, MAX_COUNT, PLAIN, code};

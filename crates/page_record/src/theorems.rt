@@ -2,9 +2,9 @@
 ghost use Rattle.std.specs.Prelude.{◌≡◌, ℕ, ◌↔◌, List, length, Some, is_some, is_none, IsTrue};
 ghost use Rattle.tx_types.specs.declared.config.Protocol.{Protocol};
 ghost use Rattle.tx_types.specs.declared.record.Rec.{Rec};
-ghost use Rattle.page_record.specs.declared.error.SpareError.{SpareError};
-ghost use Rattle.page_record.specs.Spelling.{spelling, CanBeSpelled};
 ghost use Rattle.page_record.specs.Rules.{first_broken, is_area, record_of, IsFirstBrokenRule};
+ghost use Rattle.page_record.specs.Spelling.{spelling, CanBeSpelled};
+ghost use Rattle.page_record.specs.declared.error.SpareError.{SpareError};
 
 /// A spelling fills a spare area, and no two records have the same one.
 pub fn one_spelling()

@@ -20,7 +20,8 @@ never_fault (BadImage rule) e = absurd (omega arith)
 never_fault (Unsound breach) e = absurd (omega arith)
 
 -- each has a line, which is said
-pub line_said : (why : ImageEnding) (desk : DeskState) → after_text (image_line why) desk ≡ after_answer (with_said (image_line why)) desk
+pub line_said : (why : ImageEnding) (desk : DeskState) → after_text (image_line why) desk
+    ≡ after_answer (with_said (image_line why)) desk
 line_said BadWords desk = refl
 line_said (Missing name) desk = refl
 line_said (TooLong name) desk = refl

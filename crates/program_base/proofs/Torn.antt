@@ -28,7 +28,8 @@ neither : (a b : Option ImageError) → option_or a b ≡ None → (a ≡ None) 
 neither None b none = (refl, none)
 neither (Some e) b none = absurd (cc)
 
-no_error : (check : Result Shape ConfigError) → option_map error.Config (result_err check) ≡ None → (s : Shape) × (check ≡ Ok s)
+no_error : (check : Result Shape ConfigError) → option_map error.Config (result_err check) ≡ None →
+    (s : Shape) × (check ≡ Ok s)
 no_error (Ok s) none = (s, refl)
 no_error (Err e) none = absurd (cc)
 
@@ -44,9 +45,12 @@ product a b low also = let wide : 1 * b ≤ a * b = mul-le-mul_right b low in om
 is_long : (its : Config) (s : Shape) → checked its ≡ Ok s → header_bytes < image_bytes (shape_of its)
 is_long its s check =
     let shape = (checked_config its s check).0.shape in
-    let blocks : 1 ≤ blocks_of (shape_of its) = product its.blocks_per_die its.dies shape.blocks_least shape.dies_least in
-    let slots : 1 ≤ slots_of (shape_of its) = product its.pages_per_block (blocks_of (shape_of its)) (omega (arith, shape.pages_least)) blocks in
-    let all : 1 ≤ slots_of (shape_of its) * (65 + its.page_bytes) = product (slots_of (shape_of its)) (65 + its.page_bytes) slots (omega arith) in
+    let blocks : 1 ≤ blocks_of (shape_of its) = product its.blocks_per_die its.dies shape.blocks_least
+    shape.dies_least in
+    let slots : 1 ≤ slots_of (shape_of its) = product its.pages_per_block (blocks_of (shape_of its))
+    (omega (arith, shape.pages_least)) blocks in
+    let all : 1 ≤ slots_of (shape_of its) * (65 + its.page_bytes) =
+    product (slots_of (shape_of its)) (65 + its.page_bytes) slots (omega arith) in
     omega (arith, all)
 
 sound : (bytes : List ℕ) → option_or (broken_header bytes) (broken_slots bytes) ≡ None → IsTorn bytes → ⊥

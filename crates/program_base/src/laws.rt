@@ -1,7 +1,7 @@
 //! What holds of all files of images. The function does nothing: it is there for what it ensures.
 ghost use Rattle.std.specs.Prelude.{ℕ, List, IsSome};
-ghost use Rattle.durable_folder.specs.InPlace.{IsTorn};
 ghost use Rattle.image_file.specs.Rules.{first_broken};
+ghost use Rattle.durable_folder.specs.InPlace.{IsTorn};
 
 /// What a loss of power leaves torn of a file that is saved in place breaks a rule of an image file. So it is
 /// refused, and never served.

@@ -7,7 +7,7 @@ use image_file::ImageError;
 use record_list::Breach;
 use std::alloc::{AllocError, Global};
 
-/// Why a call for an image file is refused: its program says one line, and answers a status.
+/// Why a call for an image file is refused: its program says one line, and returns a status.
 #[derive(Clone, Copy)]
 pub enum ImageRefusal<'a> {
     /// The words are not those of the program.
@@ -23,7 +23,7 @@ pub enum ImageRefusal<'a> {
 }
 
 impl ImageRefusal<'_> {
-    /// The status that the program answers.
+    /// The status that the program returns.
     pub fn status(&self) -> u8
         ensures { result ≡ image_status (image_refused self.now) }
     {
@@ -36,7 +36,7 @@ impl ImageRefusal<'_> {
         }
     }
 
-    /// The line that it says. It answers `AllocError` where there is no memory for it.
+    /// The line that it prints. It returns `AllocError` where there is no memory for it.
     pub fn line(&self, alloc: Global) -> Result<String, AllocError>
         ensures { IfOk result (λ line. string_bytes line ≡ image_line (image_refused self.now)) }
     {

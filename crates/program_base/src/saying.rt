@@ -4,7 +4,7 @@ ghost use Rattle.program_base.specs.Saying.{FaultTold, MemoryTold, Refuses, Spea
 use desk_io::{Desk, SinkError};
 use std::alloc::AllocError;
 
-/// Says a text, if there is one, and answers the status.
+/// Prints a text, if there is one, and returns the status.
 pub fn say<D: Desk>(desk: &mut D, text: &[u8], status: u8) -> u8
     ensures speaks { Speaks (D.state desk.old) (D.state desk.new) text.now status result }
     ensures disk { Rests (D.disk desk.old) (D.disk desk.new) }
@@ -19,7 +19,7 @@ pub fn say<D: Desk>(desk: &mut D, text: &[u8], status: u8) -> u8
     }
 }
 
-/// Says the line of a refusal, where there was memory for it, and answers the status.
+/// Prints the line of a refusal, where there was memory for it, and returns the status.
 pub fn refuse<D: Desk>(desk: &mut D, line: Result<String, AllocError>, status: u8) -> u8
     ensures refuses { Refuses (D.state desk.old) (D.state desk.new) line status result }
     ensures disk { Rests (D.disk desk.old) (D.disk desk.new) }
@@ -30,7 +30,7 @@ pub fn refuse<D: Desk>(desk: &mut D, line: Result<String, AllocError>, status: u
     }
 }
 
-/// Attempts to say that the desk met a fault.
+/// Attempts to print that the desk met a fault.
 pub fn desk_fault<D: Desk>(desk: &mut D) -> u8
     ensures told { FaultTold (D.state desk.old) (D.state desk.new) result }
     ensures disk { Rests (D.disk desk.old) (D.disk desk.new) }
@@ -39,7 +39,7 @@ pub fn desk_fault<D: Desk>(desk: &mut D) -> u8
     5
 }
 
-/// Attempts to say that there was no memory.
+/// Attempts to print that there was no memory.
 pub fn no_memory<D: Desk>(desk: &mut D) -> u8
     ensures told { MemoryTold (D.state desk.old) (D.state desk.new) result }
     ensures disk { Rests (D.disk desk.old) (D.disk desk.new) }

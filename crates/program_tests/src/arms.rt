@@ -81,7 +81,8 @@ fn is_possible(alloc: Global, text: &str, said: &str) -> Result<bool, AllocError
     are_taken(text, said, &mut known)
 }
 
-/// The same of a blank device. The first line is that of the format.
+/// Whether a blank device may give the replies to commands, and to the reads after them. The first line is that of the
+/// format.
 fn are_taken<'a>(text: &'a str, said: &str, known: &mut Known<'a>) -> Result<bool, AllocError> {
     let count = text.split('\n').count();
     if !said.ends_with('\n') || said.split('\n').count() != count.saturating_add(6) {
@@ -94,7 +95,7 @@ fn are_taken<'a>(text: &'a str, said: &str, known: &mut Known<'a>) -> Result<boo
     are_lines_taken(READS, said, count.saturating_add(1), known)
 }
 
-/// Whether the replies to commands are possible, where so many lines stand before these.
+/// Whether the replies to commands are possible, where this many lines stand before these.
 fn are_lines_taken<'a>(
     text: &'a str,
     said: &str,
@@ -130,7 +131,7 @@ fn stands_throughout(
     stands_behind_each(alloc, protocol, text, said, &mut done)
 }
 
-/// The same where the commands are added to those that are done.
+/// Whether the pages are there after a cut behind each of the commands, which are added to those that are done.
 fn stands_behind_each(
     alloc: Global,
     protocol: &str,
@@ -154,7 +155,7 @@ fn count_of(said: &str, word: &str) -> usize {
     said.split('\n').filter(|line| *line == word).count()
 }
 
-/// Runs the history with this arm. Answers how many replies are `cut` and how many are `fault`, or nothing where a
+/// Runs the history with this arm. Returns how many replies are `cut` and how many are `fault`, or nothing where a
 /// reply is not possible.
 fn broken(alloc: Global, protocol: &str, arm: &str) -> Result<Option<(usize, usize)>, AllocError> {
     let text = format!(in alloc; "{arm}\n{HISTORY}")?;
@@ -162,7 +163,7 @@ fn broken(alloc: Global, protocol: &str, arm: &str) -> Result<Option<(usize, usi
     counted(alloc, protocol, text.as_str(), said.as_str())
 }
 
-/// The same of commands and what is said of them.
+/// How many replies to commands are `cut` and how many are `fault`, or nothing where a reply is not possible.
 fn counted(
     alloc: Global,
     protocol: &str,

@@ -133,7 +133,7 @@ fn said(rt: &HostRuntime) -> Vec<u8> {
     fs::read(rt, SAID).unwrap_or(Vec::new(rt.alloc()))
 }
 
-/// Whether these lines and no more were said behind so many bytes.
+/// Whether these lines and no more were said behind this many bytes.
 fn is_said(rt: &HostRuntime, before: usize, text: &str) -> bool {
     match lines_of(rt.alloc(), text) {
         Ok(lines) => said(rt).get(before..) == Some(lines.as_slice()),

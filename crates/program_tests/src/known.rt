@@ -21,7 +21,7 @@ impl<'a, 'r> Fitting<'a, 'r> {
         Ok(())
     }
 
-    /// The same with a reply that is made, if there is memory for it.
+    /// Takes a device in where the reply is this one, which was made if there was memory for it.
     fn offer_made(
         &mut self,
         reply: Result<String, AllocError>,
@@ -31,7 +31,7 @@ impl<'a, 'r> Fitting<'a, 'r> {
         self.offer(reply.as_str(), world)
     }
 
-    /// The same with the reply of a word and another.
+    /// Takes a device in where the reply is a word and a tag.
     fn offer_of(&mut self, word: &str, tag: &str, world: World<'a>) -> Result<(), AllocError> {
         self.offer_made(format!(in self.alloc; "{word} {tag}"), world)
     }
@@ -49,7 +49,7 @@ impl<'a, 'r> Fitting<'a, 'r> {
         }
     }
 
-    /// The same of one of them.
+    /// Takes in one of the devices of a command in which the arm came due.
     fn broken(&mut self, kind: Kind, world: World<'a>) -> Result<(), AllocError> {
         if kind == Kind::Cut {
             self.offer("cut", world.reopened())
@@ -75,14 +75,14 @@ impl<'a, 'r> Fitting<'a, 'r> {
         }
     }
 
-    /// The same of a collection.
+    /// Takes in what a collection leaves of a device.
     fn collect(&mut self, world: World<'a>) -> Result<(), AllocError> {
         self.offer("collected", world)?;
         self.offer("nothing", world)?;
         self.break_in(&[world])
     }
 
-    /// The same of the numbers of a device, of which the first three are known.
+    /// Takes a device in where the reply is its numbers, of which the first three are known.
     fn count(&mut self, world: World<'a>) -> Result<(), AllocError> {
         let written = world
             .array
@@ -107,7 +107,7 @@ impl<'a, 'r> Fitting<'a, 'r> {
         Ok(())
     }
 
-    /// The same of a read.
+    /// Takes a device in where the reply is that of a read of a page.
     fn read(&mut self, page: &str, world: World<'a>) -> Result<(), AllocError> {
         let digits = world.digits(page);
         if digits.is_empty() {
@@ -122,7 +122,7 @@ impl<'a, 'r> Fitting<'a, 'r> {
         }
     }
 
-    /// The same of a write.
+    /// Takes in what a write may leave of a device.
     fn write(&mut self, tag: &'a str, pages: &'a str, world: World<'a>) -> Result<(), AllocError> {
         if world.find(tag).is_some() {
             return self.offer_of("refused tag", tag, world);
@@ -137,7 +137,7 @@ impl<'a, 'r> Fitting<'a, 'r> {
         self.open(tag, pages, world)
     }
 
-    /// The same of a write of pages that no other transaction has.
+    /// Takes in what a write of pages that no other transaction has may leave of a device.
     fn open(&mut self, tag: &'a str, pages: &'a str, world: World<'a>) -> Result<(), AllocError> {
         let count = pages.split(' ').count();
         let free = 3usize.saturating_sub(world.pending().1);
@@ -154,7 +154,7 @@ impl<'a, 'r> Fitting<'a, 'r> {
         self.offer_made(reply, world.opened(open))
     }
 
-    /// The same of a step, a finish or an abort of an open transaction.
+    /// Takes in what a step, a finish or an abort of an open transaction may leave of a device.
     fn go_on(
         &mut self,
         command: Move<'a>,
@@ -172,7 +172,7 @@ impl<'a, 'r> Fitting<'a, 'r> {
         }
     }
 
-    /// The same of a step or a finish that nothing breaks.
+    /// Takes in what a step or a finish that nothing breaks leaves of a device.
     fn write_on(
         &mut self,
         command: Move<'a>,
@@ -194,8 +194,8 @@ impl<'a, 'r> Fitting<'a, 'r> {
         self.offer_of("done", tag, gone.put(open.pages))
     }
 
-    /// The same of a step that breaks, or a finish, which goes the whole way, where one of its operations does. The
-    /// last page may be there only where that operation was done all the same.
+    /// Takes in what a step that breaks may leave of a device, or a finish, which goes the whole way, where one of its
+    /// operations breaks. The last page may be there only where that operation was done all the same.
     fn break_off(
         &mut self,
         whole_way: bool,
@@ -253,7 +253,7 @@ impl<'a> Known<'a> {
         }
     }
 
-    /// Takes the line of a command and its reply in. Answers whether the reply is possible.
+    /// Takes the line of a command and its reply in. Returns whether the reply is possible.
     pub fn take(&mut self, line: &'a str, reply: &str) -> Result<bool, AllocError> {
         match move_of(line) {
             Some(command) => self.take_move(command, reply),
@@ -261,7 +261,7 @@ impl<'a> Known<'a> {
         }
     }
 
-    /// The same of a command.
+    /// Takes a command and its reply in. Returns whether the reply is possible.
     fn take_move(&mut self, command: Move<'a>, reply: &str) -> Result<bool, AllocError> {
         if let Move::Arm(arm) = command {
             self.arm = Some(arm);

@@ -8,7 +8,7 @@ use scc_commit::Scc;
 use std::alloc::Global;
 use tx_types::{Protocol, Slot};
 
-/// The reply to each command, before which so many slots from the first on are complete.
+/// The reply to each command, before which this many slots from the first on are complete.
 const REPLIES: &str = "open 1 2\nwrote 1 1 2\ndone 1";
 
 /// What the slot of a record shows: page 0 with byte 1, version 1, and a link to page 1, version 1.
@@ -45,7 +45,7 @@ fn is_cell_right(alloc: Global, kept: &Kept, i: usize) -> bool {
     }
 }
 
-/// Whether a reply is this, and was given after so many programs as there were replies before.
+/// Whether a reply is this, and was given after this many programs as there were replies before.
 fn is_reply_right(kept: &Kept, i: usize, text: &str) -> bool {
     i < kept.len()
         && str::from_utf8(kept.text(i))
@@ -56,7 +56,7 @@ fn is_reply_right(kept: &Kept, i: usize, text: &str) -> bool {
         && kept.erases(i) == 0
 }
 
-/// Serves commands on a blank device, and keeps what the flash is at each reply. Answers whether that is done.
+/// Serves commands on a blank device, and keeps what the flash is at each reply. Returns whether that is done.
 fn is_served(alloc: Global, kept: &mut Kept) -> bool {
     let config = default_config(Protocol::Scc);
     let Ok(list) = parse(

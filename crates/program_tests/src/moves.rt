@@ -44,7 +44,7 @@ pub fn move_of(line: &str) -> Option<Move<'_>> {
     }
 }
 
-/// The same of the verbs that no transaction and no page follows.
+/// The command of a verb that no transaction and no page follows, if it is one.
 fn other_move_of<'a>(verb: &str, rest: &str) -> Option<Move<'a>> {
     match verb {
         "collect" => Some(Move::Collect),

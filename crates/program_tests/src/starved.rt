@@ -123,7 +123,7 @@ fn is_starved(alloc: Global, line: &str) -> bool {
     is_filled(alloc, &mut desk.desk) && is_answered(alloc, line, &mut desk)
 }
 
-/// The same on a desk that has its files.
+/// Whether a call on a desk that has its files is starved as its line says.
 fn is_answered(alloc: Global, line: &str, desk: &mut StarvedDesk) -> bool {
     let mut parts = line.splitn(4, ' ');
     let program = parts.next().unwrap_or("");

@@ -27,7 +27,7 @@ impl<'a> Open<'a> {
         self.pages.split(' ').count()
     }
 
-    /// The same transaction where all its pages have changed.
+    /// This transaction, with all its pages changed.
     pub fn whole(self) -> Open<'a> {
         Open {
             mark: Mark::Whole,
@@ -35,7 +35,7 @@ impl<'a> Open<'a> {
         }
     }
 
-    /// The same transaction where so many of its pages were written.
+    /// This transaction, with this many of its pages written.
     pub fn with(self, written: usize, mark: Mark) -> Open<'a> {
         Open {
             written,

@@ -12,7 +12,7 @@ use Rattle.record_list.specs.SoundList.{CopiesAgree, follow}
 use Rattle.record_list.specs.Transaction.{ShareNoPage}
 use Rattle.record_list.specs.Changes.{IsInserted, IsWrite, IsCopy, left}
 
--- so many links lead back to the name, and no fewer do
+-- this many links lead back to the name, and no fewer do
 pub record IsFirstReturn (list : List Found) (name : Link) (n : ℕ) : Type 0 where
   pub some : 1 ≤ n
   pub back : follow list name n ≡ name

@@ -60,7 +60,7 @@ LooseIsShown Bpcc list logical f =
     × (f.rec.next.version < cur Bpcc list logical f.rec.next.page →
     responsible Bpcc list logical f.rec.next ≢ 0)
 
--- the name that so many links lead to; an absent name leads no further
+-- the name that this many links lead to; an absent name leads no further
 abbrev pub follow : List Found → Link → ℕ → Link
 follow list name zero = name
 follow list name (suc n) = follow list (link_of list name) n

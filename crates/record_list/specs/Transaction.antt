@@ -16,7 +16,8 @@ pub record IsTransaction (logical : ℕ) (names : List Link) : Type 0 where
   pub in_range : All (λ a. (a.page < logical) × (1 ≤ a.version) × (a.version ≤ max_version)) names
   pub few : length names ≤ max_pending
 
--- the names from the second on, and then the first: `zip names (next_names names)` has each name with the one that follows it
+-- the names from the second on, and then the first: `zip names (next_names names)` has each name with the one that
+-- follows it
 abbrev pub next_names : List Link → List Link
 next_names [] = []
 next_names (name ∷ names) = names ++ name ∷ []

@@ -63,7 +63,7 @@ is_ahead list link = nat_lt (newest list link.page) link.version
 abbrev pub is_behind : List Found → Link → Bool
 is_behind list link = nat_lt link.version (newest list link.page)
 
--- how a walk from the record `start` ends that has come to this link, and looks at so many links yet
+-- how a walk from the record `start` ends that has come to this link, and looks at this many links yet
 abbrev pub walk : Protocol → List Found → Link → ℕ → Link → Why
 walk protocol list start zero link = Absent
 walk protocol list start (suc turns) link =

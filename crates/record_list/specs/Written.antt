@@ -1,5 +1,5 @@
--- A list of records with the bytes of their slots: the texts that it has, the array that it stands for, the nine laws, homes
--- and garbage. Law 1 is here its part on pages: a slot whose spare area does not read has no record, so that part
+-- A list of records with the bytes of their slots: the texts that it has, the array that it stands for, the nine laws,
+-- homes and garbage. Law 1 is here its part on pages: a slot whose spare area does not read has no record, so that part
 -- of the law comes with the image, above this crate.
 use Rattle.std.specs.Prelude.{◌≡◌, ℕ, ◌/◌, ◌<◌, ◌==◌, ◌⊎◌, Bool, true, false, not, ◌&&◌, ◌||◌, if◌then◌else◌, Option, Some, None, option_and_then, List, All}
 use Rattle.std.specs.Prelude.{Any, map, find}

@@ -1,8 +1,8 @@
 ghost use Rattle.std.specs.Prelude.{◌≡◌, ◌<◌, ◌↔◌, IsTrue, length, slice_index_or};
-ghost use Rattle.record_list.specs.Records.{mentions_below, nothing};
 ghost use Rattle.record_list.specs.Current.{is_loose};
-ghost use Rattle.record_list.specs.SoundList.{PagesExist, CopiesAgree, LinksDiffer, CurrentIsPresent, LinkHasCounted};
+ghost use Rattle.record_list.specs.Records.{mentions_below, nothing};
 ghost use Rattle.record_list.specs.Search.{FindsFirst};
+ghost use Rattle.record_list.specs.SoundList.{PagesExist, CopiesAgree, LinksDiffer, CurrentIsPresent, LinkHasCounted};
 
 use crate::{Breach, Found, current_version, newest, present, straddling};
 use tx_types::{Link, Protocol, Rec};

@@ -1,7 +1,7 @@
 ghost use Rattle.std.specs.Prelude.{◌≡◌, ℕ, ◌↔◌, IsTrue, All, MatchOption};
+ghost use Rattle.record_list.specs.Counts.{IsFirstReturn, KeepsCount, IsFirstMiscount};
 ghost use Rattle.record_list.specs.Records.{name_of, IsScanned};
 ghost use Rattle.record_list.specs.Search.{FindsFirst};
-ghost use Rattle.record_list.specs.Counts.{IsFirstReturn, KeepsCount, IsFirstMiscount};
 
 use crate::{Breach, Found, breach_at, link_of};
 use tx_types::{Link, Rec};

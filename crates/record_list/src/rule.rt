@@ -1,10 +1,10 @@
 ghost use Rattle.std.specs.Prelude.{◌≡◌, ℕ, ◌<◌, All, length};
 ghost use Rattle.tx_types.specs.declared.config.Protocol.{Protocol};
-ghost use Rattle.record_list.specs.Records.{newest, record_at, IsScanned};
-ghost use Rattle.record_list.specs.Verdict.{why, verdict_of};
-ghost use Rattle.record_list.specs.Current.{cur, must_go, is_held};
-ghost use Rattle.record_list.specs.SoundList.{OwnPageExists, IsFirstBreach};
 ghost use Rattle.record_list.specs.Changes.{PartialWriteLaw, CompletingWriteLaw, CopyLaw, LossLaw};
+ghost use Rattle.record_list.specs.Current.{cur, must_go, is_held};
+ghost use Rattle.record_list.specs.Records.{newest, record_at, IsScanned};
+ghost use Rattle.record_list.specs.SoundList.{OwnPageExists, IsFirstBreach};
+ghost use Rattle.record_list.specs.Verdict.{why, verdict_of};
 ghost use Rattle.record_list.specs.WrittenChanges.{WrittenPartialWriteLaw, WrittenCompletingWriteLaw, WrittenCopyLaw, WrittenLossLaw};
 
 use crate::{Breach, Found, Verdict, Why};

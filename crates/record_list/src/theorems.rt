@@ -2,16 +2,15 @@
 ghost use Rattle.std.specs.Prelude.{◌≡◌, ℕ, ◌<◌, ◌≤◌, List};
 ghost use Rattle.tx_types.specs.declared.config.Protocol.{Protocol};
 ghost use Rattle.tx_types.specs.declared.config.Protocol.TheVariants.{Scc as SccRule};
-ghost use Rattle.record_list.specs.declared.found.Found.{Found};
-ghost use Rattle.record_list.specs.Records.{newest, IsScanned};
-ghost use Rattle.record_list.specs.Verdict.{newest_name, link_of, walk, why};
-ghost use Rattle.record_list.specs.SoundList.{CurrentIsPresent, IsSoundList};
-ghost use Rattle.record_list.specs.Changes.{PartialWriteLaw, CompletingWriteLaw, CopyLaw, LossLaw};
 ghost use Rattle.record_list.specs.ArrayChanges.{PartialWriteLeavesArray, CompletingWriteTakesTransaction, CopyLeavesArray, BlockLossLeavesArray};
-ghost use Rattle.record_list.specs.Losses.{WrittenSlotLossLaw, WriteAfterLossLaw, LostTransactionLaw};
+ghost use Rattle.record_list.specs.Changes.{PartialWriteLaw, CompletingWriteLaw, CopyLaw, LossLaw};
 ghost use Rattle.record_list.specs.Counts.{WriteKeepsCounts, CopyKeepsCounts, LossKeepsCounts, WriteKeepsFlags, OthersKeepFlags, CopyKeepsFlags, LossKeepsFlags};
-ghost use Rattle.record_list.specs.Examples.{StraddledVerdict, StraddledIsHeld, NamesakeIsHeld, CopiedHome, UnansweredBreaks, MisledBreaks, ClosedBreaks, TwiceMentioned};
-ghost use Rattle.record_list.specs.Examples.{CopyMayGo, AskedAfterLoss, WholeOrAbsent, TornWithoutCurrent};
+ghost use Rattle.record_list.specs.Examples.{StraddledVerdict, StraddledIsHeld, NamesakeIsHeld, CopiedHome, UnansweredBreaks, MisledBreaks, ClosedBreaks, TwiceMentioned, CopyMayGo, AskedAfterLoss, WholeOrAbsent, TornWithoutCurrent};
+ghost use Rattle.record_list.specs.Losses.{WrittenSlotLossLaw, WriteAfterLossLaw, LostTransactionLaw};
+ghost use Rattle.record_list.specs.Records.{newest, IsScanned};
+ghost use Rattle.record_list.specs.SoundList.{CurrentIsPresent, IsSoundList};
+ghost use Rattle.record_list.specs.Verdict.{newest_name, link_of, walk, why};
+ghost use Rattle.record_list.specs.declared.found.Found.{Found};
 
 /// On a sound list as many links as there are pages decide a verdict: a walk that may look at more of
 /// them ends alike.

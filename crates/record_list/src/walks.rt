@@ -1,8 +1,8 @@
 #![tactic(auto, using(crate::proofs::OfFacts::Greatest::greatest_step))]
 
 ghost use Rattle.std.specs.Prelude.{◌≡◌};
-ghost use Rattle.record_list.specs.Verdict.{link_of, back_of, straddling, why_below_newest, why, verdict_of};
 ghost use Rattle.record_list.specs.Current.{cur};
+ghost use Rattle.record_list.specs.Verdict.{link_of, back_of, straddling, why_below_newest, why, verdict_of};
 
 use crate::{Found, Verdict, Why, newest, next_older};
 use tx_types::{Link, Protocol};

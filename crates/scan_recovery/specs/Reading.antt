@@ -4,18 +4,18 @@ use Rattle.flash_model.specs.Flash.{FlashState, counted_by}
 use Rattle.flash_model.specs.Calls.{Carries}
 use Rattle.flash_model.specs.Operations.{moment_of}
 
--- a count of reads goes up by so many
+-- a count of reads goes up by this many
 abbrev pub read_more : ℕ → ℕ → ℕ
 read_more zero count = count
 read_more (suc more) count = counted_by (suc more) count
 
--- so many slots were read, none of them broken, and nothing that the flash holds changed
+-- this many slots were read, none of them broken, and nothing that the flash holds changed
 pub record ReadsAll (old new : FlashState) (count : ℕ) : Type 0 where
   pub carries : Carries old new false
   pub moment : moment_of new ≡ moment_of old
   pub reads : new.reads ≡ read_more count old.reads
 
--- at most so many slots were read, and nothing that the flash holds changed
+-- at most this many slots were read, and nothing that the flash holds changed
 pub record ReadsSome (old new : FlashState) (broken : Bool) (most : ℕ) : Type 0 where
   pub carries : Carries old new broken
   pub moment : moment_of new ≡ moment_of old

@@ -24,7 +24,7 @@ is_read_failure (Err error.Fault) = true
 is_read_failure (Err (error.Unsound law slot)) = false
 is_read_failure (Err error.Memory) = false
 
--- so many slots were read: all of them where no read failed and there was memory
+-- this many slots were read: all of them where no read failed and there was memory
 abbrev pub ReadsTo : {T : Type 0} → FlashState → FlashState → ℕ → Result T RecoverError → Type 0
 ReadsTo old new count (Ok x) = ReadsAll old new count
 ReadsTo old new count (Err error.Fault) = ReadsSome old new true count

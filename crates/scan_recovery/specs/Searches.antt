@@ -67,7 +67,8 @@ HaveOwnLinks list = (i j : ℕ) → i < length list → j < length list →
 -- any two of the first records whose links lead to one place have one name
 abbrev pub AreLinkedOnce : List Found → ℕ → Type 0
 AreLinkedOnce list n = (i j place : ℕ) → slice_index_or (name_graph list) i None ≡ Some place → i < n →
-    slice_index_or (name_graph list) j None ≡ Some place → j < n → name_of (record_at list i) ≡ name_of (record_at list j)
+    slice_index_or (name_graph list) j None ≡ Some place → j < n →
+    name_of (record_at list i) ≡ name_of (record_at list j)
 
 -- the places to which the links of the first records lead are marked
 abbrev pub AreMarked : List Found → List Bool → ℕ → Type 0

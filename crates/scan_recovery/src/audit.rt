@@ -4,8 +4,8 @@
 ghost use Rattle.std.specs.Prelude.{◌≡◌, ◌↔◌, true, IsTrue, All, IfOk, length};
 ghost use Rattle.tx_types.specs.declared.config.Protocol.TheVariants.{Bpcc};
 ghost use Rattle.record_list.specs.Records.{IsScanned};
-ghost use Rattle.record_list.specs.SoundList.{PagesExist, CopiesAgree, LinksDiffer, CurrentIsPresent, LinkHasCounted, LooseIsShown, IsFirstBreach};
 ghost use Rattle.record_list.specs.Search.{FindsFirst};
+ghost use Rattle.record_list.specs.SoundList.{PagesExist, CopiesAgree, LinksDiffer, CurrentIsPresent, LinkHasCounted, LooseIsShown, IsFirstBreach};
 ghost use Rattle.sorted_records.specs.SortedRecords.{Sorts};
 ghost use Rattle.scan_recovery.specs.Searches.{KnowsOrbits, KeepsLaws, KeepLaws};
 

@@ -1,9 +1,9 @@
 //! Law 7, by the orbits of the links.
 ghost use Rattle.std.specs.Prelude.{◌↔◌, IsTrue};
-ghost use Rattle.record_list.specs.SoundList.{LooseEnds};
 ghost use Rattle.record_list.specs.Search.{FindsFirst};
-ghost use Rattle.sorted_records.specs.Orbits.{AreOrbits};
+ghost use Rattle.record_list.specs.SoundList.{LooseEnds};
 ghost use Rattle.sorted_records.specs.NameGraph.{name_graph};
+ghost use Rattle.sorted_records.specs.Orbits.{AreOrbits};
 ghost use Rattle.scan_recovery.specs.Searches.{KnowsOrbits, LeadsOut};
 
 use record_list::Found;

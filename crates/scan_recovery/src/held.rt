@@ -1,7 +1,7 @@
 //! Which records are responsible for loose ones.
 ghost use Rattle.std.specs.Prelude.{◌≡◌, ◌<◌, true, IfOk, length, slice_set};
-ghost use Rattle.record_list.specs.Records.{name_of, record_at};
 ghost use Rattle.record_list.specs.Current.{is_held};
+ghost use Rattle.record_list.specs.Records.{name_of, record_at};
 ghost use Rattle.scan_recovery.specs.Removable.{AreCopies, AreHeld, answerer_by};
 
 use sorted_records::CurrentVersions;
@@ -45,7 +45,7 @@ fn answerer(standing: &CurrentVersions, rec: Rec) -> Option<u32>
     }
 }
 
-/// Whether a record of the chart is responsible for a loose one.
+/// Whether one of the sorted records is responsible for a loose one.
 pub fn is_held(standing: &CurrentVersions, held: &[bool], at: usize) -> bool
     requires copies { AreCopies standing.now.list }
     requires held { AreHeld standing.now standing.now.list held.now }

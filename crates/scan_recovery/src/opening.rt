@@ -1,16 +1,16 @@
 ghost use Rattle.std.specs.Prelude.{◌≡◌, ◌+◌, ◌*◌, ◌<◌, ◌≤◌, All, List, map, length, Ok, OnOk, IfOk, IfErr, IsNone, false};
 ghost use Rattle.tx_types.specs.Config.{IsShape, checked, shape_of, slots_of, blocks_of};
+ghost use Rattle.record_list.specs.Counts.{HasCounts, IsFirstMiscount};
 ghost use Rattle.record_list.specs.Records.{IsScanned};
 ghost use Rattle.record_list.specs.SoundList.{PagesExist, CopiesAgree, IsSoundList};
 ghost use Rattle.record_list.specs.Written.{HasRemovable};
-ghost use Rattle.record_list.specs.Counts.{HasCounts, IsFirstMiscount};
-ghost use Rattle.sorted_records.specs.SortedRecords.{Sorts, list_of};
-ghost use Rattle.die_alloc.specs.BlocksState.{IsBlocksState};
-ghost use Rattle.version_index.specs.Notes.{complete_slots};
-ghost use Rattle.die_alloc.specs.Opening.{used_in, opening_table, with_slots};
 ghost use Rattle.record_list.specs.declared.found.Found.{Found};
+ghost use Rattle.sorted_records.specs.SortedRecords.{Sorts, list_of};
+ghost use Rattle.version_index.specs.Notes.{complete_slots};
 ghost use Rattle.version_index.specs.Opening.{IsChosenFrom};
 ghost use Rattle.version_index.specs.Scanned.{AreScanned};
+ghost use Rattle.die_alloc.specs.BlocksState.{IsBlocksState};
+ghost use Rattle.die_alloc.specs.Opening.{used_in, opening_table, with_slots};
 ghost use Rattle.scan_recovery.specs.Opening.{IsOpenedFrom, IsBroken};
 ghost use Rattle.scan_recovery.specs.Recovered.{IfUnsound, is_read_failure};
 ghost use Rattle.scan_recovery.specs.Searches.{KnowsOrbits};
@@ -60,8 +60,9 @@ pub fn open_tables<R: CommitRule>(
     open_current_versions(alloc, config, shape, seen, list, &standing)
 }
 
-/// The same, where it is known how the pages stand. The list, where the chart does not have it, is given back before
-/// the tables are made, which may have its place.
+/// The tables of slots and their records, or the first of laws 3 to 9 that the records break, where the current
+/// versions are known. A list that the sorted records do not have is given back before the tables are made, which may
+/// take its memory.
 fn open_current_versions<R: CommitRule>(
     alloc: Global,
     config: Config,
@@ -155,7 +156,8 @@ fn lawful_spare(
     spare_by_orbits(alloc, shape, seen, list, standing, &orbits)
 }
 
-/// The same, where it is known where the links of all records lead, if laws 7 and 9 ask for it.
+/// The block that becomes the spare, or the first of laws 3 to 9 that the records break, where the places to which all
+/// links lead are known, if laws 7 and 9 ask for them.
 fn spare_by_orbits(
     alloc: Global,
     shape: Shape,

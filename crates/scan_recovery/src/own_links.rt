@@ -1,5 +1,5 @@
-//! Whether each link is that of one name, by the places to which the links of charted records lead: those of one
-//! place have one link. Only links that lead to no record may have to be put in order.
+//! Whether each link is that of one name, by the places to which the links of sorted records lead: those of one place
+//! have one link. Only links that lead to no record may have to be put in order.
 
 ghost use Rattle.std.specs.Prelude.{◌≡◌, ℕ, ◌<◌, true, false, length, slice_index_or, slice_set, Some, None, IsNone, IfOk, Contains};
 ghost use Rattle.record_list.specs.Records.{name_of, record_at};

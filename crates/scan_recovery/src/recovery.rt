@@ -1,16 +1,16 @@
 ghost use Rattle.std.specs.Prelude.{◌≡◌, ◌<◌, ℕ, All, Ok, OnOk, IfOk, IfErr, length};
-ghost use Rattle.tx_types.specs.declared.config.Protocol.{Protocol};
 ghost use Rattle.tx_types.specs.Config.{checked, slots_of};
-ghost use Rattle.flash_model.specs.Flash.{FlashState, IsFlash};
+ghost use Rattle.tx_types.specs.declared.config.Protocol.{Protocol};
 ghost use Rattle.flash_model.specs.Calls.{Carries};
+ghost use Rattle.flash_model.specs.Flash.{FlashState, IsFlash};
 ghost use Rattle.flash_model.specs.Operations.{moment_of};
-ghost use Rattle.version_index.specs.Images.{IsSoundImage, written_in, IsLeastImageBreach};
 ghost use Rattle.record_list.specs.SoundList.{Copies};
 ghost use Rattle.record_list.specs.Written.{KeepsWritten};
 ghost use Rattle.sorted_records.specs.SortedRecords.{Sorts, list_of};
-ghost use Rattle.scan_recovery.specs.Scans.{IsScanOf, WasScanned};
+ghost use Rattle.version_index.specs.Images.{IsSoundImage, written_in, IsLeastImageBreach};
 ghost use Rattle.scan_recovery.specs.Opening.{IsOpened};
 ghost use Rattle.scan_recovery.specs.Recovered.{IfUnsound, is_read_failure, ReadsFor};
+ghost use Rattle.scan_recovery.specs.Scans.{IsScanOf, WasScanned};
 
 use crate::RecoverError;
 use crate::opening::open_tables;
@@ -56,7 +56,7 @@ pub fn recover<F: Flash, R: CommitRule>(
     ensures faultless { let faults = (F.state flash.old).faults in
         IfErr result (λ e. IfUnsound e (λ _. (F.state flash.new).faults ≡ faults)) }
 
-    // Nothing changes, and so many slots are read.
+    // Nothing changes, and this many slots are read.
     ensures moment { moment_of (F.state flash.new) ≡ moment_of (F.state flash.old) }
     ensures carries { Carries (F.state flash.old) (F.state flash.new) (is_read_failure result) }
     ensures reads { ReadsFor config.protocol (F.state flash.old) (F.state flash.new) result }
@@ -65,8 +65,8 @@ pub fn recover<F: Flash, R: CommitRule>(
     open_tables(alloc, config, flash.shape(), seen, charted)
 }
 
-/// Scans the flash, puts the records in order of their names, and tries laws 1 and 2. How the slots read, the chart,
-/// and the list of records where it is not in order.
+/// Scans the flash, puts the records in order of their names, and tries laws 1 and 2. It returns how the slots read,
+/// the sorted records, and the list of records where it is not in order.
 fn sound_scan<F: Flash>(
     alloc: Global,
     flash: &mut F,
@@ -89,7 +89,7 @@ fn sound_scan<F: Flash>(
     sound_scan_by(alloc, flash, config, &mut one, &mut two)
 }
 
-/// The same by two pages of memory.
+/// Scans the flash, sorts the records and tries laws 1 and 2, with two pages of memory to read into.
 fn sound_scan_by<F: Flash>(
     alloc: Global,
     flash: &mut F,
@@ -123,7 +123,7 @@ fn sound_scan_by<F: Flash>(
     }
 }
 
-/// Tries law 2 of records that were scanned and charted.
+/// Tries law 2 of records that were scanned and sorted.
 fn try_law_two<F: Flash>(
     flash: &mut F,
     charted: &SortedWithList,

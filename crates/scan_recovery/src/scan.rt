@@ -6,8 +6,8 @@ ghost use Rattle.flash_model.specs.Flash.{slot_at};
 ghost use Rattle.version_index.specs.Images.{IsFirstUnread};
 ghost use Rattle.version_index.specs.Notes.{seen_as, found_at};
 ghost use Rattle.scan_recovery.specs.Reading.{ReadsAll, ReadsSome};
-ghost use Rattle.scan_recovery.specs.Scans.{IsKeptRecord, IsNote, IsScanOf};
 ghost use Rattle.scan_recovery.specs.Recovered.{IfUnsound, ReadsTo};
+ghost use Rattle.scan_recovery.specs.Scans.{IsKeptRecord, IsNote, IsScanOf};
 
 use crate::RecoverError;
 use flash_model::{Broken, Flash, Seen};
@@ -48,7 +48,7 @@ pub fn scan<F: Flash>(
     Ok(Scanned { seen, list })
 }
 
-/// The same, where there is room for all: how the slots read and their records are put behind each other.
+/// Reads each slot once, the lowest first, and appends how it reads and its record. The lists have room for all.
 fn scan_slots<F: Flash>(
     flash: &mut F,
     config: Config,

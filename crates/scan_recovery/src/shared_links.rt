@@ -1,8 +1,8 @@
 //! Law 3, by the records in order of their links.
 ghost use Rattle.std.specs.Prelude.{◌≡◌, IfOk, length};
 ghost use Rattle.record_list.specs.Records.{IsScanned};
-ghost use Rattle.sorted_records.specs.SortedRecords.{Sorts};
 ghost use Rattle.record_list.specs.SoundList.{LinksDiffer};
+ghost use Rattle.sorted_records.specs.SortedRecords.{Sorts};
 ghost use Rattle.scan_recovery.specs.Searches.{FindsLowest, IsLowestSharer, lower, share_link};
 
 use crate::own_links::have_own_links;

@@ -1,11 +1,11 @@
 ghost use Rattle.std.specs.Prelude.{◌≡◌, ◌+◌, ◌*◌, ◌<◌, ◌≤◌, All, IfOk, map, length};
 ghost use Rattle.std.specs.List.{list_all};
 ghost use Rattle.tx_types.specs.Config.{IsShape, slots_of, blocks_of};
+ghost use Rattle.flash_model.specs.Readings.{reads_blank, seen_in_block};
 ghost use Rattle.record_list.specs.Records.{IsScanned};
 ghost use Rattle.record_list.specs.SoundList.{CopiesAgree};
 ghost use Rattle.sorted_records.specs.SortedRecords.{Sorts};
 ghost use Rattle.version_index.specs.Notes.{complete_slots};
-ghost use Rattle.flash_model.specs.Readings.{reads_blank, seen_in_block};
 ghost use Rattle.version_index.specs.Opening.{IsBlankBlock};
 ghost use Rattle.scan_recovery.specs.Opening.{FindsHighest, FindsSpare};
 

@@ -1,7 +1,7 @@
 ghost use Rattle.std.specs.Prelude.{◌≡◌, ℕ, suc, ◌*◌, ◌<◌, ◌↔◌, true, IsTrue, All, length, IfOk, MatchResult, if◌then◌else◌};
 ghost use Rattle.tx_types.specs.Config.{slots_of};
-ghost use Rattle.flash_model.specs.Flash.{slot_at};
 ghost use Rattle.flash_model.specs.Calls.{page_of};
+ghost use Rattle.flash_model.specs.Flash.{slot_at};
 ghost use Rattle.record_list.specs.Search.{FindsFirst};
 ghost use Rattle.sorted_records.specs.SortedRecords.{Sorts};
 ghost use Rattle.scan_recovery.specs.Reading.{ReadsAll, ReadsSome};
@@ -103,7 +103,7 @@ fn lowest_of(chart: &SortedRecords, rec: Rec) -> Option<Found>
     Some(chart.records()[place as usize])
 }
 
-/// Reads two slots, and tells whether they show the same bytes.
+/// Reads two slots, and returns whether they show the same bytes.
 fn same_bytes<F: Flash>(
     flash: &mut F,
     first: Slot,

@@ -1,9 +1,9 @@
-ghost use Rattle.record_list.proofs.OfCycles.SccPartial.{scc_partial_write};
-ghost use Rattle.record_list.proofs.OfCycles.SccCompleting.{scc_completing_write};
-ghost use Rattle.record_list.proofs.OfChanges.CopyLaw.{copy_law};
-ghost use Rattle.record_list.proofs.OfLosses.LossScc.{scc_loss};
-ghost use Rattle.record_list.proofs.OfChanges.WrittenChange.{written_partial_write, written_completing_write, written_copy, written_loss};
 ghost use Rattle.tx_types.specs.declared.config.Protocol.TheVariants.{Scc as SccRule};
+ghost use Rattle.record_list.proofs.OfChanges.CopyLaw.{copy_law};
+ghost use Rattle.record_list.proofs.OfChanges.WrittenChange.{written_partial_write, written_completing_write, written_copy, written_loss};
+ghost use Rattle.record_list.proofs.OfCycles.SccCompleting.{scc_completing_write};
+ghost use Rattle.record_list.proofs.OfCycles.SccPartial.{scc_partial_write};
+ghost use Rattle.record_list.proofs.OfLosses.LossScc.{scc_loss};
 
 use crate::audit::first_breach;
 use record_list::{

@@ -1,4 +1,4 @@
--- How a tally counts its marks.
+-- How block counts count its marks.
 use Rattle.std.specs.Prelude.{◌≡◌, ℕ, ◌*◌, ◌<◌, ◌≤◌, length, slice_index}
 use Rattle.slot_tables.specs.declared.block_counts.BlockCounts.TheInside.{Inside}
 use Rattle.slot_tables.specs.Counts.{BlockCountsState, marked_in}

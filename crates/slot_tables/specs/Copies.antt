@@ -11,7 +11,7 @@ Rises xs = AllPairs (λ x y. x < y) xs
 abbrev pub is_above : ℕ → ℕ → Bool
 is_above at other = nat_lt at other
 
--- the last of so many items at the front of a list, if there is one
+-- the last of this many items at the front of a list, if there is one
 abbrev pub last_of : List ℕ → ℕ → Option ℕ
 last_of xs zero = None
 last_of xs (suc n) = slice_get xs n

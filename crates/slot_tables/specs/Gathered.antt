@@ -4,7 +4,7 @@ use Rattle.std.specs.List.{AllPairs, Contains, flat_map}
 use Rattle.tx_types.specs.declared.config.Block.{Block}
 use Rattle.slot_tables.specs.TablesState.{TablesState, copies_of, links_below, record_at}
 
--- the block of a slot, where a block has so many
+-- the block of a slot, where a block has this many slots
 abbrev pub block_at : ℕ → ℕ → Block
 block_at size at = record { 0 = at / size }
 

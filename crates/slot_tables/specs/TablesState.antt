@@ -153,7 +153,7 @@ given_up k page number = record k {
       (remove (numbers_at k.pages page) (index_in (numbers_at k.pages page) number));
 }
 
--- nothing but blank slots, for so many pages
+-- nothing but blank slots, for this many pages
 abbrev pub blank_tables : Shape → ℕ → TablesState
 blank_tables its logical = record {
   shape = its;
@@ -180,7 +180,7 @@ abbrev pub first_below : TablesState → ℕ → ℕ → Option ℕ
 first_below k below number =
     if links_below below (record_at k.records number) then slice_get (copies_of k.slots number) 0 else None
 
--- the lower one of two slots, where there are such
+-- the lower one of two slots, if there are any
 abbrev pub lower : Option ℕ → Option ℕ → Option ℕ
 lower None other = other
 lower (Some at) None = Some at

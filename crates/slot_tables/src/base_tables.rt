@@ -3,11 +3,11 @@ ghost use Rattle.std.specs.Option.{option_map, option_and_then};
 ghost use Rattle.tx_types.specs.Config.{blocks_of};
 ghost use Rattle.tx_types.specs.declared.record.Rec.{Rec};
 ghost use Rattle.record_list.specs.Written.{is_slot};
-ghost use Rattle.slot_tables.specs.TablesState.{home, home_in, is_wanted, is_needed, first_below, links_below, record_at};
-ghost use Rattle.slot_tables.specs.Versions.{Names};
 ghost use Rattle.slot_tables.specs.BaseTables.{tables_state, refreshed, is_same_slot, marked, home_marked, moved_refreshed, IsSized, IsRefreshedFrom};
 ghost use Rattle.slot_tables.specs.Counts.{is_marked};
 ghost use Rattle.slot_tables.specs.Tables.{AreMarked};
+ghost use Rattle.slot_tables.specs.TablesState.{home, home_in, is_wanted, is_needed, first_below, links_below, record_at};
+ghost use Rattle.slot_tables.specs.Versions.{Names};
 
 use crate::block_counts::BlockCounts;
 use crate::current::Current;
@@ -129,7 +129,7 @@ impl BaseTables {
         }
     }
 
-    /// Says anew whether the home of the record of a number is needed.
+    /// Refreshes whether the home of the record of a number is needed.
     #[inline(always)]
     pub fn refresh_home(&self, live: &mut LiveSlots, number: Option<u32>)
         requires sized { IsSized self.now }
@@ -143,7 +143,7 @@ impl BaseTables {
         }
     }
 
-    /// Says anew of the home of the record of a number, if it has one, whether it is needed.
+    /// Refreshes whether the home of the record of a number is needed, if it has one.
     #[inline(always)]
     fn refresh_number(&self, live: &mut LiveSlots, number: u32)
         requires sized { IsSized self.now }
@@ -155,7 +155,8 @@ impl BaseTables {
         self.refresh_wanted(live, number, self.home_of(Some(number)));
     }
 
-    /// The same where the home is known: it is needed where the record is wanted.
+    /// Refreshes whether the home of the record of a number is needed, where the home is known: it is needed where the
+    /// record is wanted.
     #[inline(always)]
     fn refresh_wanted(&self, live: &mut LiveSlots, number: u32, at: Option<u32>)
         requires sized { IsSized self.now }
@@ -171,7 +172,7 @@ impl BaseTables {
         }
     }
 
-    /// Where the home of the record of a number is another slot than before, says anew whether each of the two is
+    /// Where the home of the record of a number is another slot than before, refreshes whether each of the two is
     /// needed.
     #[inline(always)]
     pub fn refresh_moved(&self, live: &mut LiveSlots, before: Option<u32>, number: Option<u32>)
@@ -193,7 +194,7 @@ impl BaseTables {
         }
     }
 
-    /// Says anew whether the home of a record before and the one now are needed.
+    /// Refreshes whether the home of a record before and the one now are needed.
     #[inline(always)]
     fn refresh_both(
         &self,
@@ -233,7 +234,7 @@ impl BaseTables {
         }
     }
 
-    /// Says anew whether a slot is needed, if there is one.
+    /// Refreshes whether a slot is needed, if there is one.
     #[inline(always)]
     pub fn refresh(&self, live: &mut LiveSlots, at: Option<u32>)
         requires sized { IsSized self.now }
@@ -289,8 +290,8 @@ impl BaseTables {
         }
     }
 
-    /// Where another slot than by an older spare is the home of a record with a slot in this block, says anew
-    /// whether each of the two is needed.
+    /// Where another slot than by an older spare is the home of a record with a slot in this block, refreshes whether
+    /// each of the two is needed.
     pub fn refresh_block(&self, live: &mut LiveSlots, older: Option<Block>, block: Block)
         requires sized { IsSized self.now }
         requires block { block.0 < blocks_of self.now.shape }

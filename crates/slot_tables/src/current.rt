@@ -49,7 +49,7 @@ impl Current {
         self.written
     }
 
-    /// Says which record of a page is current.
+    /// Sets which record of a page is current.
     pub fn set(&mut self, page: u32, to: Option<u32>)
         requires { page < length self.old }
         ensures { self.new ≡ slice_set self.old page to }

@@ -65,7 +65,7 @@ impl<T: Copy> LazyTable<T> {
     }
 }
 
-/// Adds such values up to so many.
+/// Adds values of this kind up to this many.
 fn reach<T: Copy>(first: &mut Vec<T>, end: usize, rest: &T)
     requires { end ≤ vec_capacity first.old }
     ensures items { first.new.items

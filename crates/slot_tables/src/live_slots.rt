@@ -1,8 +1,8 @@
 ghost use Rattle.std.specs.Prelude.{◌≡◌, ℕ, ◌+◌, ◌-◌, ◌*◌, ◌/◌, ◌<◌, ◌≤◌, ◌↔◌, length, map, replicate, slice_set, Some, None, false, IfOk, IfSome, IsNone};
 ghost use Rattle.std.specs.List.{All, range_with_len};
 ghost use Rattle.std.specs.Option.{option_map};
-ghost use Rattle.record_list.specs.Written.{is_slot};
 ghost use Rattle.dense_tables.specs.Greatest.{greatest, group_of, IsFirstGreatest};
+ghost use Rattle.record_list.specs.Written.{is_slot};
 ghost use Rattle.slot_tables.specs.Counts.{is_marked, unmarked_in, unmarked_numbers};
 
 use crate::block_counts::BlockCounts;
@@ -95,7 +95,7 @@ impl LiveSlots {
         self.unneeded.greatest_of_256(group as usize)
     }
 
-    /// Says whether a slot is needed.
+    /// Sets whether a slot is needed.
     pub fn set(&mut self, at: u32, needed: bool)
         requires { at < length self.old.needed }
         ensures { self.new ≡ record self.old { needed = slice_set self.old.needed at needed } }

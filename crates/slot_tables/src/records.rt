@@ -1,7 +1,7 @@
 ghost use Rattle.std.specs.Prelude.{◌≡◌, ℕ, ◌+◌, ◌<◌, ◌≤◌, ◌↔◌, ◌∷◌, [], length, replicate, slice_set, Some, None, IfOk, IfSome, IsSomeAnd};
 ghost use Rattle.std.specs.List.{remove, slice_get};
-ghost use Rattle.dense_tables.specs.LinkedLists.{index_in, next_in};
 ghost use Rattle.tx_types.specs.declared.record.Rec.{Rec};
+ghost use Rattle.dense_tables.specs.LinkedLists.{index_in, next_in};
 ghost use Rattle.slot_tables.specs.TablesState.{record_at, numbers_at, AreVersions, IsNewest};
 ghost use Rattle.slot_tables.specs.Versions.{Names, HasFree, IsTaken};
 

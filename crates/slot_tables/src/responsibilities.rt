@@ -54,7 +54,7 @@ impl Responsibilities {
         self.counts.get(number) > 0
     }
 
-    /// Says which record answers for a record.
+    /// Sets which record answers for a record.
     #[inline(always)]
     pub fn set(&mut self, number: u32, to: Option<u32>)
         requires number { number < length self.old }

@@ -1,13 +1,13 @@
 ghost use Rattle.std.specs.Prelude.{◌≡◌, ℕ, ◌+◌, ◌*◌, ◌/◌, ◌<◌, ◌≤◌, ◌++◌, nat_eq, length, map, replicate, slice_set, find, vec_len, vec_capacity, Some, IfOk};
 ghost use Rattle.std.specs.List.{insert, remove, position_or_len, slice_get};
 ghost use Rattle.std.specs.Option.{option_map};
-ghost use Rattle.record_list.specs.Written.{is_outside_spare};
 ghost use Rattle.tx_types.specs.Config.{IsShape};
 ghost use Rattle.dense_tables.specs.LinkedLists.{AreDisjoint, list_of, with_list, index_in, IsListed};
-ghost use Rattle.slot_tables.specs.declared.slots.SlotUse.TheVariants as slot;
-ghost use Rattle.slot_tables.specs.TablesState.{use_at, copies_of, home_in, number_in, is_blank};
-ghost use Rattle.slot_tables.specs.Gathered.{block_at};
+ghost use Rattle.record_list.specs.Written.{is_outside_spare};
 ghost use Rattle.slot_tables.specs.Copies.{is_above, last_of, HoldsNone, NumbersBelow, Rises};
+ghost use Rattle.slot_tables.specs.Gathered.{block_at};
+ghost use Rattle.slot_tables.specs.TablesState.{use_at, copies_of, home_in, number_in, is_blank};
+ghost use Rattle.slot_tables.specs.declared.slots.SlotUse.TheVariants as slot;
 
 use dense_tables::LinkedLists;
 use std::alloc::{AllocError, Global};
@@ -89,7 +89,7 @@ impl Slots {
         None
     }
 
-    /// Appends the block of each slot that holds the record of a number, where a block has so many slots.
+    /// Appends the block of each slot that holds the record of a number, where a block has this many slots.
     pub fn put_blocks(&self, size: u32, number: u32, into: &mut Vec<Block>)
         requires size { 0 < size }
         requires number { number < length self.now }
@@ -117,7 +117,7 @@ impl Slots {
         }
     }
 
-    /// Says what a slot holds. Where it is a record this goes through the copies below the slot.
+    /// Sets what a slot holds. Where it is a record this goes through the copies below the slot.
     #[inline(always)]
     pub fn set(&mut self, at: u32, to: SlotUse)
         requires slot { at < length self.old }
@@ -159,7 +159,7 @@ fn is_outside(shape: Shape, block: Option<Block>, at: u32) -> bool
     }
 }
 
-/// Whether a slot lies in a block, where a block has so many slots.
+/// Whether a slot lies in a block, where a block has this many slots.
 #[inline(always)]
 fn is_in_block(size: u32, block: Block, at: u32) -> bool
     requires { 0 < size }

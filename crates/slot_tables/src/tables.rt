@@ -37,7 +37,7 @@ impl Model for Tables {
 }
 
 impl Tables {
-    /// The tables of a flash with nothing but blank slots, for so many logical pages.
+    /// The tables of a flash with nothing but blank slots, for this many logical pages.
     pub fn new(alloc: Global, shape: Shape, logical: u32) -> Result<Tables, AllocError>
         requires shape { IsShape shape }
         requires pages { logical ≤ slots_of shape }

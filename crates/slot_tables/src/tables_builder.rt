@@ -1,11 +1,11 @@
 ghost use Rattle.std.specs.Prelude.{◌≡◌, ◌<◌, ◌≤◌, [], length, replicate, slice_set, Some, None, IfOk, IfSome};
 ghost use Rattle.std.specs.List.{slice_get};
 ghost use Rattle.tx_types.specs.Config.{IsShape, slots_of};
-ghost use Rattle.slot_tables.specs.declared.slots.SlotUse.TheVariants as slot;
 ghost use Rattle.slot_tables.specs.BaseTables.{tables_state};
+ghost use Rattle.slot_tables.specs.Copies.{NumbersBelow};
 ghost use Rattle.slot_tables.specs.TablesState.{record_at, numbers_at, added, blank_tables, IsTablesState, IsNewest};
 ghost use Rattle.slot_tables.specs.Versions.{HasFree};
-ghost use Rattle.slot_tables.specs.Copies.{NumbersBelow};
+ghost use Rattle.slot_tables.specs.declared.slots.SlotUse.TheVariants as slot;
 
 use crate::Tables;
 use crate::base_tables::BaseTables;
@@ -106,7 +106,7 @@ fn blank_base_tables(alloc: Global, shape: Shape, logical: u32) -> Result<BaseTa
 }
 
 impl TablesBuilder {
-    /// The tables of a flash with nothing but blank slots, for so many logical pages.
+    /// The tables of a flash with nothing but blank slots, for this many logical pages.
     pub fn new(alloc: Global, shape: Shape, logical: u32) -> Result<TablesBuilder, AllocError>
         requires shape { IsShape shape }
         requires pages { logical ≤ slots_of shape }
@@ -154,7 +154,7 @@ impl TablesBuilder {
         self.base.records.add(rec)
     }
 
-    /// Says what a slot holds. Where it is a record this goes through its copies below the slot.
+    /// Sets what a slot holds. Where it is a record this goes through its copies below the slot.
     pub fn set_slot(&mut self, at: Slot, to: SlotUse)
         requires slot { at.0 < slots_of self.old.shape }
         requires number { NumbersBelow (slots_of self.old.shape) to }
@@ -166,7 +166,7 @@ impl TablesBuilder {
         self.change_slot(at, to);
     }
 
-    /// The same where the slot is not to stay blank.
+    /// Sets what a slot holds, where it is not to stay blank.
     #[inline(always)]
     fn change_slot(&mut self, at: Slot, to: SlotUse)
         requires slot { at.0 < slots_of self.old.shape }
@@ -177,7 +177,7 @@ impl TablesBuilder {
         self.blanks.set(at.0, is_blank(to));
     }
 
-    /// Says which record of a page is current.
+    /// Sets which record of a page is current.
     pub fn set_current(&mut self, page: u32, to: Option<u32>)
         requires page { page < length self.old.pages }
         requires number { IfSome to (λ number. number < slots_of self.old.shape) }
@@ -186,7 +186,7 @@ impl TablesBuilder {
         self.base.current.set(page, to);
     }
 
-    /// Says which record answers for a record.
+    /// Sets which record answers for a record.
     pub fn set_answerer(&mut self, number: u32, to: Option<u32>)
         requires number { number < slots_of self.old.shape }
         requires answerer { IfSome to (λ other. other < slots_of self.old.shape) }
@@ -196,7 +196,7 @@ impl TablesBuilder {
         self.base.answers.set(number, to);
     }
 
-    /// Says for which page a record waits.
+    /// Sets for which page a record waits.
     pub fn set_waits(&mut self, number: u32, to: Option<u32>)
         requires number { number < slots_of self.old.shape }
         requires page { IfSome to (λ page. page < length self.old.pages) }

@@ -69,7 +69,7 @@ impl WaitList {
         &self.waiting
     }
 
-    /// Says for which page a record waits.
+    /// Sets for which page a record waits.
     #[inline(always)]
     pub fn set(&mut self, number: u32, to: Option<u32>)
         requires number { number < length self.old.waits }
@@ -84,7 +84,7 @@ impl WaitList {
         }
     }
 
-    /// Says that a record waits for no page.
+    /// Makes a record wait for no page.
     #[inline(always)]
     fn forget(&mut self, number: u32)
         requires { number < length self.old.waits }

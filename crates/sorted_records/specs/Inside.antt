@@ -1,4 +1,4 @@
--- What is so inside each chart.
+-- What is so inside each value of `SortedRecords`.
 use Rattle.std.specs.Prelude.{◌≡◌, ◌<◌, ◌^◌, [], IfSome, length}
 use Rattle.sorted_records.specs.declared.records.SortedRecords.TheInside.{Inside}
 use Rattle.sorted_records.specs.Orbits.{AreOrbits}

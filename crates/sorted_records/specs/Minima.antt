@@ -35,7 +35,7 @@ least_from list tops least at =
     && counts tops (record_at list (at + 1)) then min (record_at list at).back (slice_index_or least (at + 1) 0)
     else (record_at list at).back
 
--- the version of the last of so many records from a place on, where it is above one, else 0
+-- the version of the last of this many records from a place on, where it is above one, else 0
 abbrev pub last_above : List Found → ℕ → ℕ → ℕ → ℕ
 last_above list from zero version = 0
 last_above list from (suc count) version =

@@ -11,17 +11,17 @@ IsGraph graph = All (λ next. IfSome next (λ j. j < length graph)) graph
 abbrev pub next_of : List (Option ℕ) → ℕ → Option ℕ
 next_of graph i = slice_index_or graph i None
 
--- the node at which so many steps from this one lead, nothing where there are not so many
+-- the node to which this many steps from this one lead, nothing where there are fewer
 unfoldable pub steps : List (Option ℕ) → ℕ → ℕ → Option ℕ
 steps graph zero i = Some i
 steps graph (suc k) i = elim (next_of graph i) [ None ↦ None | Some j ↦ steps graph k j ]
 
--- after so many steps from this node one is at a node that nothing follows
+-- after this many steps from this node one is at a node that nothing follows
 pub record IsEnd (graph : List (Option ℕ)) (i after at : ℕ) : Type 0 where
   pub leads : steps graph after i ≡ Some at
   pub last : next_of graph at ≡ None
 
--- so many steps, and no fewer, lead back to this node
+-- this many steps, and no fewer, lead back to this node
 pub record IsRound (graph : List (Option ℕ)) (i turns : ℕ) : Type 0 where
   pub some : 0 < turns
   pub back : steps graph turns i ≡ Some i

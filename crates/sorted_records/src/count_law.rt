@@ -1,13 +1,13 @@
 //! Law 9, by the orbits of the links.
 ghost use Rattle.std.specs.Prelude.{◌≡◌, ℕ, ◌<◌, ◌^◌, ◌↔◌, true, false, IsTrue, All, IfOk, length, position, slice_index_or};
 ghost use Rattle.std.specs.List.{list_any};
-ghost use Rattle.record_list.specs.Records.{name_of, has_name, nothing, IsScanned};
-ghost use Rattle.record_list.specs.SoundList.{CopiesAgree};
-ghost use Rattle.record_list.specs.Search.{FindsFirst};
 ghost use Rattle.record_list.specs.Counts.{IsFirstReturn, KeepsCount, IsFirstMiscount};
-ghost use Rattle.sorted_records.specs.SortedRecords.{Sorts};
-ghost use Rattle.sorted_records.specs.Orbits.{AreOrbits};
+ghost use Rattle.record_list.specs.Records.{name_of, has_name, nothing, IsScanned};
+ghost use Rattle.record_list.specs.Search.{FindsFirst};
+ghost use Rattle.record_list.specs.SoundList.{CopiesAgree};
 ghost use Rattle.sorted_records.specs.NameGraph.{name_graph, NamesakesAgree};
+ghost use Rattle.sorted_records.specs.Orbits.{AreOrbits};
+ghost use Rattle.sorted_records.specs.SortedRecords.{Sorts};
 
 use crate::in_order::name_of;
 use crate::{Orbit, Orbits, SortedRecords};
@@ -51,7 +51,7 @@ pub fn name_orbits(alloc: Global, chart: &SortedRecords) -> Result<Orbits, Alloc
     Orbits::new(alloc, chart.targets())
 }
 
-/// Whether each charted record keeps law 9, tried in their order.
+/// Whether each of the sorted records keeps law 9, tried in their order.
 fn all_keep_count(chart: &SortedRecords, orbits: &Orbits) -> bool
     requires namesakes { NamesakesAgree chart.now }
     requires orbits { AreOrbits (name_graph chart.now) orbits.now }
@@ -79,7 +79,7 @@ fn keeps_count_at(chart: &SortedRecords, orbits: &Orbits, at: u32) -> bool
     keeps_count(chart, orbits, found, target, Some(own))
 }
 
-/// The index of the first record that breaks law 9, as the charted records have it.
+/// The index of the first record that breaks law 9, in the order of the names.
 fn first_miscount(chart: &SortedRecords, orbits: &Orbits, list: &[Found]) -> Option<usize>
     requires namesakes { NamesakesAgree chart.now }
     requires orbits { AreOrbits (name_graph chart.now) orbits.now }

@@ -1,17 +1,17 @@
 ghost use Rattle.std.specs.Prelude.{◌≡◌, IfOk, IfSome, map};
 ghost use Rattle.std.specs.List.{range_with_len};
-ghost use Rattle.record_list.specs.Records.{greatest};
 ghost use Rattle.record_list.specs.Current.{cur, responsible, is_loose, straddling_upto};
-ghost use Rattle.sorted_records.specs.Minima.{AreMinima};
+ghost use Rattle.record_list.specs.Records.{greatest};
 ghost use Rattle.sorted_records.specs.CurrentVersions.{CurrentVersionsState};
+ghost use Rattle.sorted_records.specs.Minima.{AreMinima};
 
 use crate::SortedRecords;
 use std::alloc::{AllocError, Global};
 use std::marker::Model;
 use tx_types::{Link, Protocol, Rec};
 
-/// A chart, and where its pages stand under a protocol: the current version of each, and under Back Pointer
-/// Cyclic Commit the least back versions of the records up to it.
+/// Sorted records, and the current version of each page under a protocol, and under Back Pointer Cyclic Commit the
+/// least back versions of the records up to it.
 #[derive(Drop)]
 pub struct CurrentVersions {
     chart: SortedRecords,
@@ -53,7 +53,7 @@ impl CurrentVersions {
         })
     }
 
-    /// The chart.
+    /// The sorted records.
     #[inline]
     pub fn sorted_records(&self) -> &SortedRecords
         ensures { result.now ≡ self.now.list }
@@ -81,7 +81,7 @@ impl CurrentVersions {
         }
     }
 
-    /// The current version of a page, 0 for none, by the chart alone.
+    /// The current version of a page, 0 for none, by the sorted records alone.
     #[cold]
     #[inline(never)]
     fn current_beyond(&self, page: u32) -> u64
@@ -106,7 +106,8 @@ impl CurrentVersions {
         self.responsible_near(name, &mut 0)
     }
 
-    /// The same, where the search may well end beside the place at which the last one ended.
+    /// The version of the record that is responsible for the loose records which link to this name, 0 for none, by a
+    /// search that begins where the last one ended.
     pub fn responsible_near(&self, name: Link, near: &mut usize) -> u64
         ensures { result ≡ responsible self.now.protocol self.now.list self.now.logical name }
     {
@@ -118,8 +119,8 @@ impl CurrentVersions {
         }
     }
 
-    /// The version of the record that is responsible for the loose records which link to this name, 0
-    /// for none, by the chart alone.
+    /// The version of the record that is responsible for the loose records which link to this name, 0 for none, by the
+    /// sorted records alone.
     #[cold]
     #[inline(never)]
     fn responsible_beyond(&self, name: Link) -> u64

@@ -64,7 +64,7 @@ fn orbit_at_once(graph: &[Option<u32>], node: u32, seen: &[Seen]) -> Option<Orbi
     }
 }
 
-/// The same along a path.
+/// Finds the orbit of a new node, and of each node on the path that it leads along. The path is empty before and after.
 #[inline(never)]
 fn find_along(
     graph: &[Option<u32>],

@@ -1,11 +1,11 @@
 //! The records of one page, in records that are in order of their names.
 ghost use Rattle.std.specs.Prelude.{◌≡◌, ◌≢◌, ℕ, ◌<◌, [], IfSome, length, slice_index_or};
 ghost use Rattle.tx_types.specs.declared.record.Rec.{Rec};
+ghost use Rattle.record_list.specs.Current.{straddling_upto};
 ghost use Rattle.record_list.specs.Records.{greatest};
 ghost use Rattle.record_list.specs.Verdict.{straddling};
-ghost use Rattle.record_list.specs.Current.{straddling_upto};
-ghost use Rattle.sorted_records.specs.SortedRecords.{IsInOrder};
 ghost use Rattle.sorted_records.specs.Minima.{AreMinima};
+ghost use Rattle.sorted_records.specs.SortedRecords.{IsInOrder};
 ghost use Rattle.sorted_records.specs.Starts.{AreStarts};
 
 use crate::in_order::{names_up_to, newest};
@@ -36,7 +36,8 @@ pub fn straddling(
     straddling_below_newest(records, starts, least, name, near)
 }
 
-/// The same by the least back versions of the records, where they are noted.
+/// The greatest version of a record that straddles this name, by the least back versions of the records, where they are
+/// noted.
 #[inline(never)]
 fn straddling_below_newest(
     records: &[Found],
@@ -80,7 +81,7 @@ fn greatest_straddling(group: &[Found], name: Link) -> u64
     best
 }
 
-/// The same by the least back versions of the records.
+/// The greatest version of one of these records that straddles this name, by their least back versions.
 fn straddling_by_minima(
     records: &[Found],
     starts: &[u32],
@@ -124,7 +125,8 @@ pub fn straddling_up_to_bound(
     }
 }
 
-/// The same by the least back versions of the records up to their bounds.
+/// The greatest version, up to the bound of its page, of a record that straddles this name, by the least back versions
+/// of the records up to their bounds.
 fn straddling_by_bounds(
     records: &[Found],
     starts: &[u32],

@@ -38,7 +38,7 @@ pub fn find(records: &[Found], starts: &[u32], name: Link) -> Option<u32>
     find_near(records, starts, name, &mut 0)
 }
 
-/// The same, where a search may well end beside the place at which the last one ended.
+/// The place of the first record with this name, by a search that begins where the last one ended.
 #[inline]
 pub fn find_near(records: &[Found], starts: &[u32], name: Link, near: &mut usize) -> Option<u32>
     requires order { IsInOrder records.now }
@@ -60,7 +60,7 @@ pub fn find_near(records: &[Found], starts: &[u32], name: Link, near: &mut usize
     }
 }
 
-/// The same by a search among the records of the page.
+/// The place of the first record with this name, by a search among the records of its page.
 #[inline(never)]
 fn find_by_search(records: &[Found], starts: &[u32], name: Link, near: &mut usize) -> Option<u32>
     requires order { IsInOrder records.now }

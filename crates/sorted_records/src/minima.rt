@@ -1,8 +1,8 @@
 //! Least back versions, by which the records that straddle a version are found.
 ghost use Rattle.std.specs.Prelude.{◌≡◌, ℕ, ◌+◌, ◌-◌, ◌<◌, ◌≤◌, true, IfOk, IfSome, length, slice_set, slice_index_or};
 ghost use Rattle.std.specs.List.Sorted.{IsPartitionPoint};
-ghost use Rattle.sorted_records.specs.SortedRecords.{IsInOrder};
 ghost use Rattle.sorted_records.specs.Minima.{counts, AreMinima, least_from, last_above};
+ghost use Rattle.sorted_records.specs.SortedRecords.{IsInOrder};
 
 use record_list::Found;
 use std::alloc::{AllocError, Global};
@@ -27,7 +27,7 @@ pub fn minima_of_many(
     Ok(Some(minima(alloc, records, tops)?))
 }
 
-/// Whether more than a few of so many records stand from one of these starts to the next.
+/// Whether more than a few of this many records stand from one of these starts to the next.
 fn has_many(count: usize, starts: &[u32]) -> bool {
     let mut before = 0;
     for start in starts {
@@ -102,7 +102,7 @@ pub fn count_below(least: &[u64], version: u64) -> usize
     least.partition_point(|back| *back < version)
 }
 
-/// The same, where it may well be one more than this number, or this.
+/// How many of these numbers are below a version, where one more than this number, and this number, are tried first.
 pub fn count_below_near(least: &[u64], version: u64, near: usize) -> usize
     requires { (i j : ℕ) → i ≤ j → j < length least.now →
         slice_index_or least.now i 0 ≤ slice_index_or least.now j 0 }
@@ -117,7 +117,7 @@ pub fn count_below_near(least: &[u64], version: u64, near: usize) -> usize
     count_below(least, version)
 }
 
-/// Whether so many of these numbers, which do not fall, are below a version.
+/// Whether this many of these numbers, which do not fall, are below a version.
 #[inline(always)]
 fn are_below(least: &[u64], version: u64, count: usize) -> bool
     requires { (i j : ℕ) → i ≤ j → j < length least.now →

@@ -1,12 +1,12 @@
 ghost use Rattle.std.specs.Prelude.{◌≡◌, ◌<◌, ◌^◌, [], Some, position, filter, IfOk, IfSome, length, slice_index_or};
 ghost use Rattle.tx_types.specs.declared.config.Protocol.TheVariants.{Bpcc};
+ghost use Rattle.record_list.specs.Current.{cur, responsible, straddling_upto};
 ghost use Rattle.record_list.specs.Records.{greatest, name_of, record_at, has_name, is_present, newest, next_older};
 ghost use Rattle.record_list.specs.Verdict.{link_of, back_of, straddling, why};
-ghost use Rattle.record_list.specs.Current.{cur, responsible, straddling_upto};
-ghost use Rattle.sorted_records.specs.SortedRecords.{IsInOrder, Sorts, list_of, link_graph, IsOrbitOfNewest};
 ghost use Rattle.sorted_records.specs.Minima.{AreMinima};
 ghost use Rattle.sorted_records.specs.NameGraph.{name_graph};
 ghost use Rattle.sorted_records.specs.Orbits.{IsGraph, AreOrbits};
+ghost use Rattle.sorted_records.specs.SortedRecords.{IsInOrder, Sorts, list_of, link_graph, IsOrbitOfNewest};
 ghost use Rattle.sorted_records.specs.Starts.{AreStarts};
 
 use crate::arrange::{is_in_order, sort_by_name};
@@ -33,7 +33,7 @@ pub struct SortedRecords {
     orbits: Orbits,
 }
 
-/// A chart of a list, and the list where it is not in order: where it is, the chart has it.
+/// The sorted records of a list, and the list where it is not in order: a list in order is their own.
 #[derive(Drop)]
 pub struct SortedWithList {
     pub chart: SortedRecords,
@@ -100,8 +100,8 @@ impl SortedRecords {
         SortedRecords::of_lent(alloc, list, Protocol::Bpcc)
     }
 
-    /// The same of a list that is handed over: the chart keeps it where it is in order, and else it is given back.
-    /// Straddlers are quick to find under Back Pointer Cyclic Commit alone, which asks for them.
+    /// Puts the records of a list that is handed over in order. A list in order is kept and not copied, any other is
+    /// given back. Straddlers are quick to find under Back Pointer Cyclic Commit alone, which asks for them.
     pub fn of_own(
         alloc: Global,
         list: Vec<Found>,
@@ -159,7 +159,7 @@ impl SortedRecords {
         })
     }
 
-    /// The list of which the chart was made: that which was given back, if one was.
+    /// The list that was sorted: that which was given back, if one was.
     pub fn list_of<'a>(&'a self, list: &'a Option<Vec<Found>>) -> &'a [Found]
         ensures { result.now ≡ list_of list.now self.now }
     {
@@ -197,7 +197,7 @@ impl SortedRecords {
         find(&self.records, &self.starts, name)
     }
 
-    /// The same, where a search may well end beside the place at which the last one ended.
+    /// The place of the first record with this name, by a search that begins where the last one ended.
     #[inline]
     pub fn find_near(&self, name: Link, near: &mut usize) -> Option<u32>
         ensures { result ≡ position (λ f. has_name name f.rec) self.now }
@@ -326,7 +326,7 @@ impl SortedRecords {
         self.current_near(protocol, logical, page, &mut 0)
     }
 
-    /// The same, where the search for a straddler may well end beside the place at which the last one ended.
+    /// The current version of a page, 0 for none, by a search for a straddler that begins where the last one ended.
     #[inline(always)]
     pub(crate) fn current_near(
         &self,

@@ -32,7 +32,7 @@ pub fn page_starts(alloc: Global, records: &[Found]) -> Result<Vec<u32>, AllocEr
     Ok(starts)
 }
 
-/// Adds a number as often as it takes to have so many.
+/// Adds a number as often as it takes to have this many.
 fn fill(numbers: &mut Vec<u32>, size: usize, number: u32) -> Result<(), AllocError>
     requires { length numbers.old.items ≤ size }
     ensures { OnOk result (numbers.new.items
@@ -61,7 +61,8 @@ pub fn pages_below(records: &[Found], starts: &[u32], page: u32) -> usize
     }
 }
 
-/// The same where the start of the page is not known: by a search among all, if it is not behind them.
+/// How many of the records are of pages below this one, where the start of the page is not known: a search among all
+/// records, if the page is not behind them.
 #[cold]
 #[inline(never)]
 fn pages_below_beyond(records: &[Found], page: u32) -> usize
@@ -110,7 +111,8 @@ pub fn names_below(records: &[Found], starts: &[u32], name: Link) -> usize
     from + count_below(&records[from..to], name)
 }
 
-/// The same, where it may well be one more than this number, or this.
+/// How many of the records have names below this one, where one more than this number, and this number, are tried
+/// first.
 pub fn names_below_near(records: &[Found], starts: &[u32], name: Link, near: usize) -> usize
     requires order { IsInOrder records.now }
     requires starts { AreStarts records.now starts.now }
@@ -126,7 +128,7 @@ pub fn names_below_near(records: &[Found], starts: &[u32], name: Link, near: usi
     names_below(records, starts, name)
 }
 
-/// Whether the records that have names below this one are so many.
+/// Whether the records that have names below this one are this many.
 #[inline(always)]
 fn are_names_below(records: &[Found], name: Link, count: usize) -> bool
     requires order { IsInOrder records.now }

@@ -1,15 +1,15 @@
 //! What holds of orbits and of sorted records. The functions do nothing: each is there for what it
 //! ensures.
 ghost use Rattle.std.specs.Prelude.{◌≡◌, ◌<◌, ℕ, Option, List, length};
-ghost use Rattle.sorted_records.specs.declared.orbit.Orbit.{Orbit};
-ghost use Rattle.tx_types.specs.declared.record.Link.{Link};
 ghost use Rattle.tx_types.specs.declared.config.Protocol.{Protocol};
-ghost use Rattle.record_list.specs.declared.found.Found.{Found};
+ghost use Rattle.tx_types.specs.declared.record.Link.{Link};
+ghost use Rattle.record_list.specs.Current.{cur, responsible};
 ghost use Rattle.record_list.specs.Records.{newest, next_older, is_present};
 ghost use Rattle.record_list.specs.Verdict.{link_of, back_of, straddling, why};
-ghost use Rattle.record_list.specs.Current.{cur, responsible};
-ghost use Rattle.sorted_records.specs.SortedRecords.{Sorts};
+ghost use Rattle.record_list.specs.declared.found.Found.{Found};
 ghost use Rattle.sorted_records.specs.Orbits.{IsGraph, IsOrbit};
+ghost use Rattle.sorted_records.specs.SortedRecords.{Sorts};
+ghost use Rattle.sorted_records.specs.declared.orbit.Orbit.{Orbit};
 
 /// Each node of a graph has one orbit, and no more.
 pub fn one_orbit()

@@ -3,9 +3,9 @@ ghost use Rattle.std.specs.Prelude.{◌≡◌, ◌<◌, ◌^◌, true, [], IfOk,
 ghost use Rattle.record_list.specs.Records.{has_name, record_at};
 ghost use Rattle.record_list.specs.Verdict.{why_below_newest};
 ghost use Rattle.sorted_records.specs.Minima.{AreMinima};
-ghost use Rattle.sorted_records.specs.SortedRecords.{IsInOrder, HaveOneVersion, EndsBelow, newest_target, link_graph, ending, why_from_orbit};
 ghost use Rattle.sorted_records.specs.NameGraph.{name_graph};
 ghost use Rattle.sorted_records.specs.Orbits.{AreOrbits};
+ghost use Rattle.sorted_records.specs.SortedRecords.{IsInOrder, HaveOneVersion, EndsBelow, newest_target, link_graph, ending, why_from_orbit};
 ghost use Rattle.sorted_records.specs.Starts.{AreStarts};
 
 use crate::group::straddling;

@@ -1,4 +1,5 @@
--- Back Pointer Cyclic Commit: which records are loose after a write that completes its cycle, and which answer for them.
+-- Back Pointer Cyclic Commit: which records are loose after a write that completes its cycle, and which answer for
+-- them.
 use Rattle.std.proofs.Common.{◌≡◌, ℕ, ◌<◌, ◌≤◌, true, List, zip, sym, ap, ◌∙◌, inl, inr, arith, Contains}
 use Rattle.std.proofs.lemmas.Bool.{cases_lt}
 use Rattle.std.proofs.lemmas.List.Elements.{All-contains}
@@ -26,21 +27,26 @@ name_back p l logical names begun a i here =
     let f = found_named l a here in
     let after = follows_of names a i in
     let asks = All-contains (λ g. IsAsked p l logical names g.rec) l f.0 begun.asked f.1 in
-    let pair = All-contains (IsAskedAt p l logical names f.0.rec) (zip names (next_names names)) (a, after.0) asks after.1 in
+    let pair = All-contains (IsAskedAt p l logical names f.0.rec) (zip names (next_names names)) (a, after.0)
+    asks after.1 in
     sym f.4 ∙ (pair f.2).1
 
-module _ (l l' : List Found) (logical : ℕ) (names : List Link) (f : Found) (s : IsStep l l' logical names f.rec) (m : IsSoundMap Bpcc l logical)
-    (back : f.rec.back ≡ cur Bpcc l logical f.rec.page) (old : OldLinks Bpcc l l' logical names f.rec) (all : (a : Link) → Contains names a →
+module _ (l l' : List Found) (logical : ℕ) (names : List Link) (f : Found) (s : IsStep l l' logical names f.rec)
+    (m : IsSoundMap Bpcc l logical)
+    (back : f.rec.back ≡ cur Bpcc l logical f.rec.page) (old : OldLinks Bpcc l l' logical names f.rec)
+    (all : (a : Link) → Contains names a →
     is_present l' a ≡ true)
     (backs : (a : Link) → Contains names a → is_present l a ≡ true → back_of l a ≡ cur Bpcc l logical a.page) where
   -- a loose record is an old one, of a page that is none of the names', and was loose
   pub was_loose : (u : Link) → is_present l' u ≡ true → cur Bpcc l' logical u.page < u.version →
-      ((a : Link) → Contains names a → a.page ≡ u.page → ⊥) × (is_present l u ≡ true) × (cur Bpcc l' logical u.page ≡ cur Bpcc l logical u.page)
+      ((a : Link) → Contains names a → a.page ≡ u.page → ⊥) × (is_present l u ≡ true)
+      × (cur Bpcc l' logical u.page ≡ cur Bpcc l logical u.page)
   was_loose u here at = elim (cases_page names u.page) [
     | inl of_page ↦ (
         let a = of_page.0 in
         let done = completed Bpcc l l' logical names f s m old all a of_page.1 in
-        let top = name_newest l' logical names (step_underway l l' logical names f.rec s) a of_page.1 (all a of_page.1) in
+        let top = name_newest l' logical names (step_underway l l' logical names f.rec s) a of_page.1
+        (all a of_page.1) in
         let bound = newest_bound l' u here in
         let level = ap (cur Bpcc l' logical) of_page.2 in
         let newest_level = ap (newest l') of_page.2 in
@@ -56,7 +62,8 @@ module _ (l l' : List Found) (logical : ℕ) (names : List Link) (f : Found) (s 
   ]
 
   -- at another page the same record answers
-  pub answer_elsewhere : (q : Link) → ((a : Link) → Contains names a → a.page ≡ q.page → ⊥) → responsible Bpcc l' logical q ≡ responsible Bpcc l logical q
+  pub answer_elsewhere : (q : Link) → ((a : Link) → Contains names a → a.page ≡ q.page → ⊥) →
+      responsible Bpcc l' logical q ≡ responsible Bpcc l logical q
   answer_elsewhere q out =
       let top = cur Bpcc l' logical q.page in
       let e = s.one.greatest_is (straddling_upto top q) in
@@ -65,12 +72,15 @@ module _ (l l' : List Found) (logical : ℕ) (names : List Link) (f : Found) (s 
       more ∙ ap (λ t. greatest (straddling_upto t q) l) (elsewhere Bpcc l l' logical names f s m old all q.page out)
 
   -- at a name's page, above the version that was current, the name's record answers
-  pub answer_name : (q a : Link) → Contains names a → a.page ≡ q.page → cur Bpcc l logical q.page < q.version → q.version < a.version →
+  pub answer_name : (q a : Link) → Contains names a → a.page ≡ q.page → cur Bpcc l logical q.page < q.version →
+      q.version < a.version →
       responsible Bpcc l' logical q ≡ a.version
   answer_name q a i e above below =
       let top = cur Bpcc l' logical q.page in
-      let level : cur Bpcc l' logical q.page ≡ a.version = ap (cur Bpcc l' logical) (sym e) ∙ completed Bpcc l l' logical names f s m old all a i in
-      let high : greatest (straddling_upto top q) l' ≤ top = greatest_least (straddling_upto top q) l' top (λ g j. upto_le top q g.rec) in
+      let level : cur Bpcc l' logical q.page ≡ a.version = ap (cur Bpcc l' logical) (sym e)
+      ∙ completed Bpcc l l' logical names f s m old all a i in
+      let high : greatest (straddling_upto top q) l' ≤ top =
+      greatest_least (straddling_upto top q) l' top (λ g j. upto_le top q g.rec) in
       let g = found_named l' a (all a i) in
       let version : g.0.rec.version ≡ a.version = ap (λ n. n.version) g.2 in
       let back_is : back_of l' a ≡ cur Bpcc l logical a.page = elim (s.one.cases a (all a i)) [
@@ -88,7 +98,8 @@ module _ (l l' : List Found) (logical : ℕ) (names : List Link) (f : Found) (s 
   answer_below q a i e below =
       let top = cur Bpcc l' logical q.page in
       let c = cur Bpcc l logical q.page in
-      let level : cur Bpcc l' logical q.page ≡ a.version = ap (cur Bpcc l' logical) (sym e) ∙ completed Bpcc l l' logical names f s m old all a i in
+      let level : cur Bpcc l' logical q.page ≡ a.version = ap (cur Bpcc l' logical) (sym e)
+      ∙ completed Bpcc l l' logical names f s m old all a i in
       let lower = was_lower Bpcc l l' logical names f s m old all a i in
       let c_is = ap (cur Bpcc l logical) e in
       let is = s.one.greatest_is (straddling_upto top q) in

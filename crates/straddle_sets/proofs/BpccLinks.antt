@@ -18,22 +18,28 @@ use Rattle.record_list.proofs.OfChanges.Untouched.{OldLinks}
 use Rattle.record_list.proofs.OfChanges.Completing.{clear_at_newest}
 use Rattle.straddle_sets.proofs.Straddle.{straddling_is, straddling_none, blocks}
 
--- an uncommitted newest record has the current version of its page as its back version, so it straddles what lies between
-pub clear_low : (l : List Found) (logical : ℕ) (q : Link) → q.version < newest l q.page → is_clear Bpcc l q ≡ true → q.version ≤ cur Bpcc l logical q.page
+-- an uncommitted newest record has the current version of its page as its back version, so it straddles what lies
+-- between
+pub clear_low : (l : List Found) (logical : ℕ) (q : Link) → q.version < newest l q.page → is_clear Bpcc l q ≡ true →
+    q.version ≤ cur Bpcc l logical q.page
 clear_low l logical q behind clear = elim (cases_lt (cur Bpcc l logical q.page) q.version) [
   | inl above ↦ elim (cases_Bool (is_committed (why Bpcc l logical q.page))) [
     | inl yes' ↦ (let e = cur_committed Bpcc l logical q.page yes' in absurd (omega arith))
     | inr not' ↦ (
         let e = cur_uncommitted Bpcc l logical q.page not' in
-        absurd (blocks l (newest_name l q.page) q (newest_present l q.page (omega arith)) refl (omega arith) behind (clear_gives l q clear)))
+        absurd (blocks l (newest_name l q.page) q (newest_present l q.page (omega arith)) refl (omega arith) behind
+        (clear_gives l q clear)))
   ]
   | inr at ↦ at
 ]
 
-module _ (l l' : List Found) (logical : ℕ) (names : List Link) (r : Rec) (s : IsStep l l' logical names r) (m : IsSoundMap Bpcc l logical)
+module _ (l l' : List Found) (logical : ℕ) (names : List Link) (r : Rec) (s : IsStep l l' logical names r)
+    (m : IsSoundMap Bpcc l logical)
     (back : r.back ≡ cur Bpcc l logical r.page) where
-  -- a link into the page that is written is clear afterwards exactly where it was clear and is at most the current version
-  clear_after : (q : Link) → q.page ≡ r.page → q.version < r.version → is_clear Bpcc l q ≡ true → q.version ≤ cur Bpcc l logical r.page →
+  -- a link into the page that is written is clear afterwards exactly where it was clear and is at most the current
+  -- version
+  clear_after : (q : Link) → q.page ≡ r.page → q.version < r.version → is_clear Bpcc l q ≡ true →
+      q.version ≤ cur Bpcc l logical r.page →
       is_clear Bpcc l' q ≡ true
   clear_after q into low clear le =
       let e = s.one.greatest_is (straddling_version q) in
@@ -42,7 +48,8 @@ module _ (l l' : List Found) (logical : ℕ) (names : List Link) (r : Rec) (s : 
       clear_from l' q (omega arith)
 
   -- the other way round
-  clear_before : (q : Link) → q.page ≡ r.page → q.version < r.version → is_clear Bpcc l' q ≡ true → (is_clear Bpcc l q ≡ true) ×
+  clear_before : (q : Link) → q.page ≡ r.page → q.version < r.version → is_clear Bpcc l' q ≡ true →
+      (is_clear Bpcc l q ≡ true) ×
       (q.version ≤ cur Bpcc l logical r.page)
   clear_before q into low clear =
       let e = s.one.greatest_is (straddling_version q) in
@@ -65,7 +72,8 @@ module _ (l l' : List Found) (logical : ℕ) (names : List Link) (r : Rec) (s : 
       let there = ap (newest l) into in
       let same = ap (cur Bpcc l logical) into in (
         λ goes. elim goes [
-          | inl passes ↦ (let le = clear_low l logical q passes.0 passes.1 in clear_after q into low passes.1 (omega arith))
+          | inl passes ↦ (let le = clear_low l logical q passes.0 passes.1 in
+              clear_after q into low passes.1 (omega arith))
           | inr on ↦ (
               let at = on.0 in
               let e = cur_committed Bpcc l logical q.page on.1.1 in
@@ -83,11 +91,15 @@ module _ (l l' : List Found) (logical : ℕ) (names : List Link) (r : Rec) (s : 
       )
 
   -- the page that is written keeps its current version while a name is absent: the new record's back version
-  pub bpcc_own_cur : (gone : Link) → Contains names gone → is_present l' gone ≡ false → cur Bpcc l' logical r.page ≡ cur Bpcc l logical r.page
+  pub bpcc_own_cur : (gone : Link) → Contains names gone → is_present l' gone ≡ false →
+      cur Bpcc l' logical r.page ≡ cur Bpcc l logical r.page
   bpcc_own_cur gone j absent' =
       let top = newest_own l l' logical names r s in
       let positive = (s.underway.range (name_of r) s.of_names).1 in
-      let not' : is_committed (why Bpcc l' logical r.page) ≡ false = false_from_ne_true (is_committed (why Bpcc l' logical r.page)) (λ h.
-      name_uncounted l' logical names (step_underway l l' logical names r s) Bpcc (step_linked l l' logical names r s m.linked) gone j absent'
+      let not' : is_committed (why Bpcc l' logical r.page) ≡ false =
+      false_from_ne_true (is_committed (why Bpcc l' logical r.page)) (λ h.
+      name_uncounted l' logical names (step_underway l l' logical names r s) Bpcc
+      (step_linked l l' logical names r s m.linked) gone j absent'
       (name_of r) s.of_names s.one.own (omega arith, h)) in
-      cur_uncommitted Bpcc l' logical r.page not' ∙ ap (back_of l') (same_name (newest_name l' r.page) (name_of r) refl top) ∙ its_back s.one ∙ back
+      cur_uncommitted Bpcc l' logical r.page not'
+      ∙ ap (back_of l') (same_name (newest_name l' r.page) (name_of r) refl top) ∙ its_back s.one ∙ back

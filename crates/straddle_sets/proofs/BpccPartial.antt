@@ -24,12 +24,15 @@ use Rattle.straddle_sets.proofs.Ending.{ends_out, ends_names}
 use Rattle.record_list.proofs.OfFacts.Held.{answer_of}
 use Rattle.record_list.proofs.OfLosses.LossCounted.{answered_below}
 
-module _ (l l' : List Found) (logical : ℕ) (names : List Link) (f : Found) (s : IsStep l l' logical names f.rec) (m : IsSoundMap Bpcc l logical)
-    (back : f.rec.back ≡ cur Bpcc l logical f.rec.page) (same : (page : ℕ) → cur Bpcc l' logical page ≡ cur Bpcc l logical page)
+module _ (l l' : List Found) (logical : ℕ) (names : List Link) (f : Found) (s : IsStep l l' logical names f.rec)
+    (m : IsSoundMap Bpcc l logical)
+    (back : f.rec.back ≡ cur Bpcc l logical f.rec.page) (same : (page : ℕ) →
+    cur Bpcc l' logical page ≡ cur Bpcc l logical page)
     (gone : Link) (j : Contains names gone) (absent' : is_present l' gone ≡ false) where
   -- each name is above the current version of its page, before and after
   above : (a : Link) → Contains names a → cur Bpcc l logical a.page < a.version
-  above a i = name_loose l logical names s.underway Bpcc m gone j (absent_before l l' logical names f.rec s gone absent') a i
+  above a i = name_loose l logical names s.underway Bpcc m gone j
+      (absent_before l l' logical names f.rec s gone absent') a i
 
   -- the new record answers for none
   same_responsible : (q : Link) → responsible Bpcc l' logical q ≡ responsible Bpcc l logical q
@@ -51,9 +54,11 @@ module _ (l l' : List Found) (logical : ℕ) (names : List Link) (f : Found) (s 
         let link : link_of l' u ≡ f.rec.next = ap (link_of l') e ∙ its_link s.one in
         let up = above f.rec.next (next_in l l' logical names f.rec s) in
         let level = same f.rec.next.page in (
-          ap (back_of l') e ∙ its_back s.one ∙ back ∙ sym (same f.rec.page) ∙ ap (λ n. cur Bpcc l' logical n.page) (sym e),
+          ap (back_of l') e ∙ its_back s.one ∙ back ∙ sym (same f.rec.page)
+              ∙ ap (λ n. cur Bpcc l' logical n.page) (sym e),
           subst (λ q. q.version ≡ cur Bpcc l' logical q.page → ⊥) (sym link) (λ x. omega arith),
-          subst (λ q. q.version < cur Bpcc l' logical q.page → responsible Bpcc l' logical q ≡ 0 → ⊥) (sym link) (λ x. absurd (omega arith)),
+          subst (λ q. q.version < cur Bpcc l' logical q.page → responsible Bpcc l' logical q ≡ 0 →
+              ⊥) (sym link) (λ x. absurd (omega arith)),
         ))
     | inr before ↦ (
         let level = same u.page in
@@ -83,19 +88,23 @@ module _ (l l' : List Found) (logical : ℕ) (names : List Link) (f : Found) (s 
   -- each record answers for the same ones
   same_answers : (x r : Rec) → answers_for Bpcc l' logical x r ≡ answers_for Bpcc l logical x r
   same_answers x r =
-      let g : ℕ → ℕ → Bool = λ c v. ltb c r.version && eqb x.page r.next.page && straddles x r.next.version && eqb x.version v in
-      ap (λ c. g c (responsible Bpcc l' logical r.next)) (same r.page) ∙ ap (g (cur Bpcc l logical r.page)) (same_responsible r.next)
+      let g : ℕ → ℕ → Bool = λ c v. ltb c r.version && eqb x.page r.next.page && straddles x r.next.version
+      && eqb x.version v in
+      ap (λ c. g c (responsible Bpcc l' logical r.next)) (same r.page)
+      ∙ ap (g (cur Bpcc l logical r.page)) (same_responsible r.next)
 
   -- so the same records are held
   partial_held : IsInserted l f l' → (x : Rec) → is_held Bpcc l' logical x ≡ is_held Bpcc l logical x
   partial_held ins x =
       let test : Found → Bool = λ g. answers_for Bpcc l' logical x g.rec in
-      let none : answers_for Bpcc l' logical x f.rec ≡ false = false_from_ne_true (answers_for Bpcc l' logical x f.rec) (λ h.
+      let none : answers_for Bpcc l' logical x f.rec ≡ false =
+      false_from_ne_true (answers_for Bpcc l' logical x f.rec) (λ h.
       let up = above f.rec.next (next_in l l' logical names f.rec s) in
       let below = answered_below l' logical x f.rec (answer_of l' logical x f.rec h) in
       let level = same f.rec.next.page in
       omega arith) in
-      inserted_any test l l' f ins ∙ ap (λ b. b || list_any test l) none ∙ any_same test (λ g. answers_for Bpcc l logical x g.rec) l (λ g. same_answers x g.rec)
+      inserted_any test l l' f ins ∙ ap (λ b. b || list_any test l) none
+      ∙ any_same test (λ g. answers_for Bpcc l logical x g.rec) l (λ g. same_answers x g.rec)
 
 -- the law of a write that leaves a name absent
 pub bpcc_partial_write : PartialWriteLaw Bpcc
@@ -108,11 +117,14 @@ bpcc_partial_write l l' logical names f sound w any =
     let own = bpcc_own_cur l l' logical names f.rec s m back gone.0 gone.1 gone.2 in
     let same = partial_cur Bpcc l l' logical names f s m old own gone.0 gone.1 gone.2 in
     record {
-      sound = sound_list Bpcc l' logical (partial_map Bpcc l l' logical names f s m old own gone.0 gone.1 gone.2 w.added back
-          (partial_loose l l' logical names f s m back same gone.0 gone.1 gone.2) (partial_ending l l' logical names f s m back same gone.0 gone.1 gone.2));
+      sound = sound_list Bpcc l' logical (partial_map Bpcc l l' logical names f s m old own gone.0 gone.1
+          gone.2 w.added back
+          (partial_loose l l' logical names f s m back same gone.0 gone.1 gone.2)
+          (partial_ending l l' logical names f s m back same gone.0 gone.1 gone.2));
       same_current = λ page below. same page;
       same_held = partial_held l l' logical names f s m back same gone.0 gone.1 gone.2 w.added;
-      responsible = all_from (λ g. IsLoose Bpcc l' logical g.rec → responsible Bpcc l' logical g.rec.next ≡ responsible Bpcc l logical g.rec.next) l'
+      responsible = all_from (λ g. IsLoose Bpcc l' logical g.rec →
+          responsible Bpcc l' logical g.rec.next ≡ responsible Bpcc l logical g.rec.next) l'
           (λ g i loose. same_responsible l l' logical names f s m back same gone.0 gone.1 gone.2 g.rec.next);
       in_progress = record { begun = begun_on Bpcc l l' logical names f w (λ a i. same a.page); absent = any };
       others = λ others share h. others_on Bpcc l l' logical names f w others share (λ b i. same b.page) h;

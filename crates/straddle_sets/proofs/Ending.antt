@@ -12,7 +12,7 @@ use Rattle.record_list.proofs.OfWalks.Rounds.{follows_in, round_back, follows_of
 use Rattle.record_list.proofs.OfChanges.OneMore.{links_else, IsStep, step_underway}
 use Rattle.record_list.proofs.OfChanges.Keeping.{absent_still}
 
--- so many links lead from a name to an absent one
+-- this many links lead from a name to an absent one
 abbrev pub Ends : List Found → Link → Type 0
 Ends l u = (n : ℕ) × (is_present l (follow l u n) ≡ false)
 
@@ -26,7 +26,8 @@ module _ (l l' : List Found) (logical : ℕ) (names : List Link) (r : Rec) (s : 
   out_new u out e = out (subst (Contains names) (sym e) s.of_names)
 
   -- links from a name that is none of the transaction's lead as far as before
-  follow_out : (n : ℕ) (u : Link) → (Contains names u → ⊥) → is_present l (follow l u n) ≡ false → is_present l' (follow l' u n) ≡ false
+  follow_out : (n : ℕ) (u : Link) → (Contains names u → ⊥) → is_present l (follow l u n) ≡ false →
+      is_present l' (follow l' u n) ≡ false
   follow_out zero u out h = absent_still l l' logical names r s u (out_new u out) h
   follow_out (suc n) u out h =
       let step = follow_out n in
@@ -38,7 +39,8 @@ module _ (l l' : List Found) (logical : ℕ) (names : List Link) (r : Rec) (s : 
       subst (λ z. is_present l' (follow l' z n) ≡ false) (sym e) (step (link_of l u) next_out h)
 
   -- from a record that is no name
-  pub ends_out : (u : Link) → is_present l u ≡ true → (Contains names u → ⊥) → Ends l (link_of l u) → Ends l' (link_of l' u)
+  pub ends_out : (u : Link) → is_present l u ≡ true → (Contains names u → ⊥) → Ends l (link_of l u) →
+      Ends l' (link_of l' u)
   ends_out u here out h = (
     h.0,
     subst (λ z. is_present l' (follow l' z h.0) ≡ false) (sym (links_else s.one u (out_new u out)))
@@ -46,7 +48,8 @@ module _ (l l' : List Found) (logical : ℕ) (names : List Link) (r : Rec) (s : 
   )
 
   -- from each name, where one is absent
-  pub ends_names : (gone : Link) → Contains names gone → is_present l' gone ≡ false → (a : Link) → Contains names a → is_present l' a ≡ true →
+  pub ends_names : (gone : Link) → Contains names gone → is_present l' gone ≡ false → (a : Link) → Contains names a →
+      is_present l' a ≡ true →
       Ends l' (link_of l' a)
   ends_names gone j absent' a i here =
       let t = step_underway l l' logical names r s in

@@ -15,10 +15,12 @@ use Rattle.record_list.specs.Current.{is_loose, responsible, answers_for}
 use Rattle.straddle_sets.specs.Responsible.{responsible_index}
 
 -- the first item that passes comes no later than one that does
-passes_within : (test : Found → Bool) (l : List Found) (f : Found) → Contains l f → test f ≡ true → position_or_len test l < length l
+passes_within : (test : Found → Bool) (l : List Found) (f : Found) → Contains l f → test f ≡ true →
+    position_or_len test l < length l
 passes_within test [] f i h = absurd (Contains-nil f i)
 passes_within test (x ∷ xs) f i h = elim (cases_Bool (test x)) [
-  | inl yes' ↦ (let first = cond-false (not (test x)) (1 + position_or_len test xs) 0 (not_from_true (test x) yes') in omega arith)
+  | inl yes' ↦ (let first = cond-false (not (test x)) (1 + position_or_len test xs) 0 (not_from_true (test x) yes') in
+      omega arith)
   | inr no' ↦ elim (Contains-cases x xs f i) [
     | inl same ↦ absurd (both_ways (test x) no' (ap test same ∙ h))
     | inr later ↦ (
@@ -41,7 +43,8 @@ none_within test (x ∷ xs) h =
 none_passes : (test : Found → Bool) (l : List Found) → list_any test l ≡ false → position test l ≡ None
 none_passes test l none =
     let all = none_within test l none in
-    cond-false (ltb (position_or_len test l) (length l)) (Some (position_or_len test l)) None (le-ltb (position_or_len test l) (length l) (omega arith))
+    cond-false (ltb (position_or_len test l) (length l)) (Some (position_or_len test l)) None
+    (le-ltb (position_or_len test l) (length l) (omega arith))
 
 -- and there is one exactly where an item passes
 pub some_passes : (test : Found → Bool) (l : List Found) → is_some (position test l) ≡ list_any test l
@@ -49,14 +52,17 @@ some_passes test l = elim (cases_Bool (list_any test l)) [
   | inl any ↦ (
       let f = any_of test l any in
       let within = passes_within test l f.0 f.1 f.2 in
-      ap is_some (cond-true (ltb (position_or_len test l) (length l)) (Some (position_or_len test l)) None (lt-ltb (position_or_len test l) (length l) within))
+      ap is_some (cond-true (ltb (position_or_len test l) (length l)) (Some (position_or_len test l)) None
+      (lt-ltb (position_or_len test l) (length l) within))
       ∙ sym any)
   | inr none ↦ ap is_some (none_passes test l none) ∙ sym none
 ]
 
 -- a record that is not loose has no responsible record
-pub unanswered : (list : List Found) (logical : ℕ) (r : Rec) → is_loose Bpcc list logical r ≡ false → responsible_index list logical r ≡ None
+pub unanswered : (list : List Found) (logical : ℕ) (r : Rec) → is_loose Bpcc list logical r ≡ false →
+    responsible_index list logical r ≡ None
 unanswered list logical r fixed =
     let test : Found → Bool = λ f. answers_for Bpcc list logical f.rec r in
     none_passes test list (list_any_none test list (all_from (λ f. test f ≡ false) list (λ f i.
-    ap (λ b. b && eqb f.rec.page r.next.page && straddles f.rec r.next.version && eqb f.rec.version (responsible Bpcc list logical r.next)) fixed)))
+    ap (λ b. b && eqb f.rec.page r.next.page && straddles f.rec r.next.version
+    && eqb f.rec.version (responsible Bpcc list logical r.next)) fixed)))

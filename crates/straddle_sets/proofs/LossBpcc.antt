@@ -22,7 +22,8 @@ module _ (l m : List Found) (n : ℕ) (r : IsLoss Bpcc l m n) where
   Wrong page = EndsLater Bpcc l m n page × Counts Bpcc m n page
 
   -- their newest records left link to one another
-  wrong_goes : (page : ℕ) → Wrong page → (top_link m page ≡ newest_name m (top_link m page).page) × Wrong (top_link m page).page
+  wrong_goes : (page : ℕ) → Wrong page → (top_link m page ≡ newest_name m (top_link m page).page)
+      × Wrong (top_link m page).page
   unfolding Wrong
   wrong_goes page w =
       let u : Link = newest_name m page in
@@ -32,21 +33,25 @@ module _ (l m : List Found) (n : ℕ) (r : IsLoss Bpcc l m n) where
       let q : Link = link_of l u in
       let in_range : q.page < n = link_low Bpcc l m n r u here in
       let least : cur Bpcc l n q.page ≤ newest m q.page = newest_left Bpcc l m n r q.page in_range in
-      let never : straddling m q ≡ 0 → q.version < newest m q.page → ⊥ = λ none behind. elim (cases_lt q.version (cur Bpcc l n q.page)) [
+      let never : straddling m q ≡ 0 → q.version < newest m q.page →
+      ⊥ = λ none behind. elim (cases_lt q.version (cur Bpcc l n q.page)) [
         | inl below ↦ (
             let answers = lost_responsible l m n r u was w.0 below (law.2 below) in
-            let bound : greatest (straddling_upto (cur Bpcc l n q.page) q) m ≤ straddling m q = upto_below (cur Bpcc l n q.page) q m in
+            let bound : greatest (straddling_upto (cur Bpcc l n q.page) q) m ≤ straddling m q =
+            upto_below (cur Bpcc l n q.page) q m in
             law.2 below (omega arith))
         | inr above ↦ (
             let v : Link = newest_name m q.page in
             let there : is_present m v ≡ true = newest_present m q.page (omega arith) in
-            let back : back_of l v ≡ cur Bpcc l n q.page = (r.sound.loose v (was_present Bpcc l m n r v there) (omega arith)).0 in
+            let back : back_of l v ≡ cur Bpcc l n q.page =
+            (r.sound.loose v (was_present Bpcc l m n r v there) (omega arith)).0 in
             let same : back_of l v ≡ back_of m v = back_was Bpcc l m n r v there in
             let other : q.version ≢ cur Bpcc l n q.page = law.1 in
             blocks m v q there refl (omega arith) behind none)
       ] in
       let goes : Goes Bpcc m (Counts Bpcc m n) q =
-      subst (λ k. Goes Bpcc m (Counts Bpcc m n) k) (sym (top_was Bpcc l m n r page w.1.0)) ((counts_safe Bpcc m n (lost_linked Bpcc l m n r)).goes page w.1) in
+      subst (λ k. Goes Bpcc m (Counts Bpcc m n) k) (sym (top_was Bpcc l m n r page w.1.0))
+      ((counts_safe Bpcc m n (lost_linked Bpcc l m n r)).goes page w.1) in
       subst (λ k. (k ≡ newest_name m k.page) × Wrong k.page) (top_was Bpcc l m n r page w.1.0) (elim goes [
         | inl passes ↦ absurd (never (clear_gives m q passes.1) passes.0)
         | inr on ↦ (
@@ -61,7 +66,8 @@ module _ (l m : List Found) (n : ℕ) (r : IsLoss Bpcc l m n) where
   wrong_follows zero page w = was_present Bpcc l m n r (newest_name m page) (newest_present m page w.1.0)
   wrong_follows (suc k) page w =
       let g = wrong_goes page w in
-      subst (λ u. is_present l (follow l u k) ≡ true) (sym (top_was Bpcc l m n r page w.1.0 ∙ g.0)) (wrong_follows k (top_link m page).page g.1)
+      subst (λ u. is_present l (follow l u k) ≡ true) (sym (top_was Bpcc l m n r page w.1.0 ∙ g.0))
+      (wrong_follows k (top_link m page).page g.1)
 
   -- a page that ends later does not count
   later_never : (page : ℕ) → page < n → EndsLater Bpcc l m n page → Counts Bpcc m n page → ⊥
@@ -82,4 +88,5 @@ module _ (l m : List Found) (n : ℕ) (r : IsLoss Bpcc l m n) where
 pub bpcc_loss : LossLaw Bpcc
 bpcc_loss l n keep sound scanned kept =
     let r : IsLoss Bpcc l (left keep l) n = loss_of Bpcc l n keep sound scanned kept in
-    loss_keeps Bpcc l (left keep l) n r (current_stays Bpcc l (left keep l) n r (later_never l (left keep l) n r) (later_falls l (left keep l) n r))
+    loss_keeps Bpcc l (left keep l) n r (current_stays Bpcc l (left keep l) n r (later_never l (left keep l) n r)
+    (later_falls l (left keep l) n r))

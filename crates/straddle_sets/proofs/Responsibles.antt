@@ -40,7 +40,8 @@ has_home l logical r =
     let parts = answer_of l logical f.0.rec r f.2 in
     let under = parts.under in
     let version = parts.version in
-    and_from a b (lt-ltb (cur Bpcc l logical r.page) r.version parts.loose) (lt-ltb 0 (responsible Bpcc l logical r.next) (omega arith)))
+    and_from a b (lt-ltb (cur Bpcc l logical r.page) r.version parts.loose)
+    (lt-ltb 0 (responsible Bpcc l logical r.next) (omega arith)))
     (λ both.
     let parts = and_parts a b both in
     let f = has_responsible l logical r.next (ltb-true 0 (responsible Bpcc l logical r.next) parts.1) in

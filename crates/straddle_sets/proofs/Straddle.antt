@@ -24,7 +24,8 @@ test_gives r q h =
 -- and what it takes
 test_from : (r : Rec) (q : Link) → Straddles r q → ((eqb r.page q.page) && straddles r q.version) ≡ true
 test_from r q h = and_from (eqb r.page q.page) (straddles r q.version) (eq-eqb r.page q.page h.0)
-    (and_from (ltb r.back q.version) (ltb q.version r.version) (lt-ltb r.back q.version h.1) (lt-ltb q.version r.version h.2))
+    (and_from (ltb r.back q.version) (ltb q.version r.version) (lt-ltb r.back q.version h.1)
+    (lt-ltb q.version r.version h.2))
 
 -- a record that straddles a name gives its version, and no other gives more than 0
 pub straddling_is : (r : Rec) (q : Link) → Straddles r q → straddling_version q r ≡ r.version
@@ -38,16 +39,18 @@ straddling_none r q out = elim (cases_Bool ((eqb r.page q.page) && straddles r q
 ]
 
 -- one or the other
-pub straddling_cases : (r : Rec) (q : Link) → (Straddles r q × (straddling_version q r ≡ r.version)) ⊎ (straddling_version q r ≡ 0)
+pub straddling_cases : (r : Rec) (q : Link) → (Straddles r q × (straddling_version q r ≡ r.version))
+    ⊎ (straddling_version q r ≡ 0)
 straddling_cases r q = elim (cases_Bool ((eqb r.page q.page) && straddles r q.version)) [
   | inl e ↦ inl (test_gives r q e, cond-true ((eqb r.page q.page) && straddles r q.version) r.version 0 e)
   | inr e ↦ inr (cond-false ((eqb r.page q.page) && straddles r q.version) r.version 0 e)
 ]
 
--- the same up to a version: a record that straddles gives its own
+-- up to a version a record that straddles gives its own version
 pub upto_is : (top : ℕ) (q : Link) (r : Rec) → Straddles r q → r.version ≤ top → straddling_upto top q r ≡ r.version
 upto_is top q r h le = cond-true (((eqb r.page q.page) && straddles r q.version) && leb r.version top) r.version 0
-    (and_from ((eqb r.page q.page) && straddles r q.version) (leb r.version top) (test_from r q h) (le-leb r.version top le))
+    (and_from ((eqb r.page q.page) && straddles r q.version) (leb r.version top) (test_from r q h)
+    (le-leb r.version top le))
 
 -- any other gives 0
 pub upto_none : (top : ℕ) (q : Link) (r : Rec) → (Straddles r q → r.version ≤ top → ⊥) → straddling_upto top q r ≡ 0
@@ -88,7 +91,8 @@ upto_more top top' q r le = elim (upto_cases top q r) [
 ]
 
 -- a greatest number is at most another where each record's is
-pub greatest_more : (of of' : Rec → ℕ) (l : List Found) → ((f : Found) → Contains l f → of f.rec ≤ of' f.rec) → greatest of l ≤ greatest of' l
+pub greatest_more : (of of' : Rec → ℕ) (l : List Found) → ((f : Found) → Contains l f → of f.rec ≤ of' f.rec) →
+    greatest of l ≤ greatest of' l
 greatest_more of of' l h = greatest_least of l (greatest of' l) (λ f i.
     let here = h f i in
     let bound = greatest_bound of' l f i in
@@ -96,10 +100,11 @@ greatest_more of of' l h = greatest_least of l (greatest of' l) (λ f i.
 
 -- what straddles a name up to some version straddles it
 pub upto_below : (top : ℕ) (q : Link) (l : List Found) → greatest (straddling_upto top q) l ≤ straddling l q
-upto_below top q l = greatest_more (straddling_upto top q) (straddling_version q) l (λ f i. elim (upto_cases top q f.rec) [
-  | inl h ↦ (let at = h.2 in let same = straddling_is f.rec q h.0 in omega arith)
-  | inr none ↦ omega arith
-])
+upto_below top q l = greatest_more (straddling_upto top q) (straddling_version q) l
+    (λ f i. elim (upto_cases top q f.rec) [
+      | inl h ↦ (let at = h.2 in let same = straddling_is f.rec q h.0 in omega arith)
+      | inr none ↦ omega arith
+    ])
 
 -- nothing straddles a version that is not below the newest
 pub none_above : (l : List Found) (q : Link) → newest l q.page ≤ q.version → straddling l q ≡ 0
@@ -111,7 +116,8 @@ none_above l q high =
     omega arith
 
 -- a name that is present and straddles another by its back version blocks it
-pub blocks : (l : List Found) (u q : Link) → is_present l u ≡ true → u.page ≡ q.page → back_of l u < q.version → q.version < u.version → straddling l q ≡ 0 → ⊥
+pub blocks : (l : List Found) (u q : Link) → is_present l u ≡ true → u.page ≡ q.page → back_of l u < q.version →
+    q.version < u.version → straddling l q ≡ 0 → ⊥
 blocks l u q here e low high none =
     let f = found_named l u here in
     let version = ap (λ n. n.version) f.2 in

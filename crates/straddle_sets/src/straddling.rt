@@ -1,8 +1,8 @@
 ghost use Rattle.std.specs.Prelude.{◌≡◌, ◌<◌, true, false, IfSome, IfNone, length, slice_index_or};
 ghost use Rattle.tx_types.specs.declared.config.Protocol.TheVariants.{Bpcc};
+ghost use Rattle.record_list.specs.Current.{answers_for, responsible, straddling_upto};
 ghost use Rattle.record_list.specs.Records.{greatest, nothing, record_at};
 ghost use Rattle.record_list.specs.Verdict.{straddles};
-ghost use Rattle.record_list.specs.Current.{answers_for, responsible, straddling_upto};
 ghost use Rattle.straddle_sets.specs.Responsible.{responsible_index, may_answer, IsBehind, FindsAnswer};
 
 use record_list::{Found, current_version, is_loose};

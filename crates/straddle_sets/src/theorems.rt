@@ -5,11 +5,11 @@ ghost use Rattle.std.specs.List.{list_any};
 ghost use Rattle.tx_types.specs.declared.config.Protocol.TheVariants.{Bpcc};
 ghost use Rattle.tx_types.specs.declared.record.Link.{Link};
 ghost use Rattle.tx_types.specs.declared.record.Rec.{Rec};
-ghost use Rattle.record_list.specs.declared.found.Found.{Found};
-ghost use Rattle.record_list.specs.Records.{newest, IsScanned};
-ghost use Rattle.record_list.specs.Verdict.{straddling};
 ghost use Rattle.record_list.specs.Current.{answers_for, cur, is_held, is_loose, responsible};
+ghost use Rattle.record_list.specs.Records.{newest, IsScanned};
 ghost use Rattle.record_list.specs.SoundList.{IsSoundList};
+ghost use Rattle.record_list.specs.Verdict.{straddling};
+ghost use Rattle.record_list.specs.declared.found.Found.{Found};
 ghost use Rattle.straddle_sets.specs.Responsible.{responsible_index};
 
 /// Whether a record of a sound list straddles a name goes by the current version of its page. Below

@@ -15,8 +15,8 @@ use Rattle.tx_engine.specs.DeviceState.{DeviceState, Stands}
 use Rattle.array_machine.specs.Step.{StepsAs, CutLeaves, IsAtLast, settled}
 use Rattle.array_machine.specs.declared.answers.StepError.TheVariants as failed
 
--- What holds of a device that is not dropped at every moment: of its flash, and of what a power cut leaves that was met in a
--- call which led here.
+-- What holds of a device that is not dropped at every moment: of its flash, and of what a power cut leaves that was met
+-- in a call which led here.
 pub record HoldsAlways {F : Type 0} (state : F → FlashState) (protocol : Protocol)
     (s : DeviceState F) : Type 0 where
   pub kept : s.dropped ≡ false
@@ -48,8 +48,8 @@ pub record IsSeen {F : Type 0} (seen : ℕ → ℕ) (s : DeviceState F) : Type 0
   pub mentions : (page : ℕ) → mention_of s.noted page ≤ seen page
   pub names : (page version : ℕ) → IsNamedAt s.namings page version → version ≤ seen page
 
--- What a device that stands for its array has on its flash: the image is sound, and its array is the device's, or that with
--- the pages of the transaction in doubt. Where nothing is unsure the image has the noted records.
+-- What a device that stands for its array has on its flash: the image is sound, and its array is the device's, or that
+-- with the pages of the transaction in doubt. Where nothing is unsure the image has the noted records.
 pub record DevicesStand {F : Type 0} (state : F → FlashState) (p : Protocol) : Type 0 where
   pub sound : (s : DeviceState F) → Stands state s → s.config.protocol ≡ p →
       IsSoundImage p s.config.logical (state s.flash).shape (state s.flash).image

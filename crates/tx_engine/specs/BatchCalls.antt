@@ -150,12 +150,13 @@ CanNoteEach n t O i (job ∷ jobs) =
     (with_transaction O i (with_next (transaction_at O i))) (i + 1) jobs
 
 -- Each of them is noted.
-pub record NotesEach {F : Type 0} (old new : StoreState F) (O O' : OpenTransactionsState) (jobs : List Job) : Type 0 where
+pub record NotesEach {F : Type 0} (old new : StoreState F) (O O' : OpenTransactionsState)
+    (jobs : List Job) : Type 0 where
   pub stored : new ≡ record old { noted = noted_each old.noted jobs; table = used_each old.table jobs }
   pub opens : O' ≡ nexts_noted 0 jobs O
 
--- The programs of the first transactions of a settled device may be done together: there is one, each is due, and they lie in
--- dies of their own.
+-- The programs of the first transactions of a settled device may be done together: there is one, each is due, and they
+-- lie in dies of their own.
 pub record CanWriteAll {F : Type 0} (state : F → FlashState) (p : Protocol) (S : StoreState F)
     (O : OpenTransactionsState) (jobs : List Job) : Type 0 where
   pub ready : IsReady state p S O
@@ -183,7 +184,8 @@ pub record WrittenAll {F : Type 0} (state : F → FlashState) (S S' : StoreState
   pub low : All (λ w. w.page < S.noted.config.logical)
       (flat_map taken_writes (take (length jobs) (entries_of O)))
 
--- Their fire was broken. The image is sound, and of the transactions that wrote their last page each was taken or not by itself.
+-- Their fire was broken. The image is sound, and of the transactions that wrote their last page each was taken or not
+-- by itself.
 pub record DroppedAll {F : Type 0} (state : F → FlashState) (S S' : StoreState F) (O : OpenTransactionsState)
     (jobs : List Job) : Type 0 where
   pub sound : IsSoundImage S.noted.config.protocol S.noted.config.logical (state S'.flash).shape (state S'.flash).image
@@ -202,7 +204,7 @@ pub record WritesAll {F : Type 0} (state : F → FlashState) (S S' : StoreState 
   pub broken : OnErr result (DroppedAll state S S' O jobs)
   pub kept : OnErr result (O' ≡ O)
 
--- So many of the first transactions go on without the flash.
+-- The first `moved` transactions go on without the flash.
 pub record CanCountAll {F : Type 0} (state : F → FlashState) (p : Protocol) (S : StoreState F)
     (O : OpenTransactionsState) (moved : ℕ) : Type 0 where
   pub ready : IsReady state p S O
@@ -276,8 +278,8 @@ pub record MovesChosen {F : Type 0} (state : F → FlashState) (S S' : StoreStat
   pub broken : OnErr result (DroppedAll state S S' O (jobs_of S.noted (chosen_now S O)))
   pub kept : OnErr result (O' ≡ O)
 
--- Open transactions of a settled device went on together. Where none is open nothing was done; where none is chosen the first
--- one took a step.
+-- Open transactions of a settled device went on together. Where none is open nothing was done; where none is chosen the
+-- first one took a step.
 pub record MovesAll {F : Type 0} (state : F → FlashState) (S S' : StoreState F) (O O' : OpenTransactionsState)
     (result : Result Moved Broken) : Type 0 where
   pub none : O.all ≡ [] → (result ≡ Ok no_moves) × (S' ≡ S) × (O' ≡ O)

@@ -62,8 +62,8 @@ is_ready n o =
 abbrev pub slots_next : BlocksState → List ℕ → List Slot
 slots_next t dies = filter_map (next_slot_in t) dies
 
--- The first transactions that are ready, each with the slot of a die of its own: the first one in the lowest die that has room,
--- and as many as there are such dies at most.
+-- The first transactions that are ready, each with the slot of a die of its own: the first one in the lowest die that
+-- has room, and as many as there are such dies at most.
 abbrev pub chosen_from : IndexState → BlocksState → List ℕ → List TransactionState → List (Slot × TransactionState)
 chosen_from n t dies os = zip (slots_next t dies) (take_while (is_ready n) os)
 
@@ -74,13 +74,14 @@ chosen_in n t os = chosen_from n t (range_with_len 0 t.shape.dies) os
 abbrev pub chosen_of : {F : Type 0} → (F → FlashState) → DeviceState F → List (Slot × TransactionState)
 chosen_of state s =
     let known = with_settlement state s in
-    chosen_in known.noted known.table (transactions_of (record known { machine = settled (is_there state s) s.machine }))
+    chosen_in known.noted known.table (transactions_of
+    (record known { machine = settled (is_there state s) s.machine }))
 
 -- the program of a transaction's next page in a slot: the slot and the record
 abbrev pub jobs_of : IndexState → List (Slot × TransactionState) → List Job
 jobs_of n chosen = map (λ (at, o). record { slot = at; rec = record_due n o }) chosen
 
--- the same with all that is programmed
+-- the program of a transaction's next page in a slot, with all that is programmed
 abbrev pub load_due : IndexState → Slot → TransactionState → Load
 load_due n at o = record {
   at = at.0;
@@ -110,8 +111,8 @@ abbrev pub takes_each : Pages → List Entry → Pages
 takes_each pages [] = pages
 takes_each pages (e ∷ es) = takes_each (put pages (taken_writes e)) es
 
--- The chosen transactions were written by one fire, which is all that was done to the flash, and their records are noted. Slots
--- were read to settle alone.
+-- The chosen transactions were written by one fire, which is all that was done to the flash, and their records are
+-- noted. Slots were read to settle alone.
 pub record WritesAtOnce {F : Type 0} (state : F → FlashState) (old new : DeviceState F)
     (chosen : List (Slot × TransactionState)) : Type 0 where
   pub does :
@@ -133,8 +134,8 @@ StepsFirst state old new answer [] = Unit {0}
 StepsFirst state old new answer (e ∷ es) =
     (answer.moved ≡ 1) × ((progress : Progress) × StepsDevice state old new e.tag (Ok progress))
 
--- Open transactions went on, as many as it says. Where some were chosen, all of them and no others were written at once; where
--- none was, the first one took a step.
+-- Open transactions went on, as many as it says. Where some were chosen, all of them and no others were written at
+-- once; where none was, the first one took a step.
 pub record MovesDevice {F : Type 0} (state : F → FlashState) (old new : DeviceState F)
     (answer : Moved) : Type 0 where
   pub steps : StepsAllAs (is_there state old) old.machine new.machine answer
@@ -148,8 +149,8 @@ pub record MovesDevice {F : Type 0} (state : F → FlashState) (old new : Device
   pub nothing : old.machine.entries ≡ [] →
       (moment_of (state new.flash) ≡ moment_of (state old.flash)) × WritesNothing state old new
 
--- A fault was met, and the device is not used any more. The image is sound, and its array is what a cut may leave. Where some
--- transactions were chosen, nothing was done to the flash but their fire, if it was started.
+-- A fault was met, and the device is not used any more. The image is sound, and its array is what a cut may leave.
+-- Where some transactions were chosen, nothing was done to the flash but their fire, if it was started.
 pub record DropsDevice {F : Type 0} (state : F → FlashState) (old new : DeviceState F) : Type 0 where
   pub dropped : new.dropped ≡ true
   pub config : new.config ≡ old.config

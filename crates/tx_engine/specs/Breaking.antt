@@ -28,8 +28,8 @@ pub record SeekingBreaks (old new : FlashState) (known_noted new_noted : IndexSt
   pub moves : FlashMoves old between false
   pub breaks : RoomBreaksOff cleared new_table between new new_noted u
 
--- The slot was found, and the program of the record was broken: it is not known what the slot holds. Slots are noted and blocks
--- are kept as they were when it was found.
+-- The slot was found, and the program of the record was broken: it is not known what the slot holds. Slots are noted
+-- and blocks are kept as they were when it was found.
 pub record RecordBreaks (known_noted new_noted : IndexState) (known_table new_table : BlocksState)
     (name : Link) (u : Unsure) : Type 0 where
   pub cleared : IndexState
@@ -66,8 +66,8 @@ pub record BreaksThen {F : Type 0} (state : F → FlashState) (old : DeviceState
       ≡ reads_after (slots_read old.noted old.unsure) (state old.flash).reads
   pub breaks : Broke between
 
--- By the tables that are known once the place was read the erase of the spare was broken, or the collection of the block with the
--- most garbage broke off.
+-- By the tables that are known once the place was read the erase of the spare was broken, or the collection of the
+-- block with the most garbage broke off.
 abbrev pub RoundBreaks : {F : Type 0} → (F → FlashState) → DeviceState F → DeviceState F → Type 0
 RoundBreaks state old new =
     BreaksThen state old

@@ -95,8 +95,8 @@ pub record CanUnpin (n : IndexState) (O : OpenTransactionsState) (i : ℕ) : Typ
   pub range : All (λ name. name.page < n.config.logical) (transaction_at O i).naming.names
   pub named : length (transaction_at O i).naming.names ≡ length (transaction_at O i).entry.writes
 
--- It became known what a broken operation left, and what that makes of the open transactions. After a failed read all is as
--- before but the count of reads.
+-- It became known what a broken operation left, and what that makes of the open transactions. After a failed read all
+-- is as before but the count of reads.
 pub record SettlesDevice {F : Type 0} (state : F → FlashState) (S S' : StoreState F)
     (O O' : OpenTransactionsState) (result : Result (Unit {0}) Broken) : Type 0 where
   pub stands : Stands state (device_in state S' O')
@@ -147,7 +147,8 @@ pub record FindsFor {F : Type 0} (state : F → FlashState) (p : Protocol) (S S'
   pub direct : (IsFull S.table → ⊥) → (is_err result ≡ false) × (S'.flash ≡ S.flash)
   pub slot : IfOk result (TakesSlot S.noted S.table S'.noted S'.table)
 
--- The next record of a transaction: it has the name of the next page, and is linked to the name after it, or to the first one.
+-- The next record of a transaction: it has the name of the next page, and is linked to the name after it, or to the
+-- first one.
 pub record IsRecordDue (n : IndexState) (O : OpenTransactionsState) (at : ℕ) (rec : Rec) : Type 0 where
   pub named : name_of rec ≡ name_due O at
   pub next : rec.next ≡ name_at (transaction_at O at).naming (link_place (transaction_at O at).entry)
@@ -156,7 +157,8 @@ pub record IsRecordDue (n : IndexState) (O : OpenTransactionsState) (at : ℕ) (
   pub discard : rec.discard
       ≡ is_none (write_at (transaction_at O at).entry (transaction_at O at).entry.done).value
 
--- The next page of a transaction was written, and its record is noted. Where it was not the transaction may be in doubt.
+-- The next page of a transaction was written, and its record is noted. Where it was not the transaction may be in
+-- doubt.
 pub record WritesPage {F : Type 0} (state : F → FlashState) (S S' : StoreState F) (O O' : OpenTransactionsState)
     (at : ℕ) (result : Result (Unit {0}) Broken) : Type 0 where
   pub stands : Stands state (device_in state S' O')

@@ -29,8 +29,8 @@ IsNewestOfOpen protocol image entries rec =
     Any (λ e. Any (λ w. w.page ≡ rec.page) e.writes) entries
     × (rec.version ≡ newest (records_in protocol image) rec.page)
 
--- There is nothing to collect on a flash: no slot is damaged, no record stands in two slots, and each record is current, or held,
--- or the newest of a page of an open transaction.
+-- There is nothing to collect on a flash: no slot is damaged, no record stands in two slots, and each record is
+-- current, or held, or the newest of a page of an open transaction.
 pub record HasNothingToCollect (protocol : Protocol) (logical : ℕ) (image : List Contents)
     (entries : List Entry) : Type 0 where
   pub whole : All (λ contents. contents ≢ damaged) image

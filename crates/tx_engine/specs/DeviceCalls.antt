@@ -76,8 +76,8 @@ pub record StepsDevice {F : Type 0} (state : F → FlashState) (old new : Device
       moment_of (state new.flash) ≡ moment_of (state old.flash))
   pub brings : OnOk result (IfSome (open_of old tag) (λ (e, x). BringsPage state old new e x))
   pub fresh : StepNotes state old new tag result
-  -- Where it failed: the place could not be read, or the writing of the record broke off, and the blocks are as they were
-  -- known then.
+  -- Where it failed: the place could not be read, or the writing of the record broke off, and the blocks are as they
+  -- were known then.
   pub failed : result ≡ Err error.Fault → StepBreaks state old new tag
 
 -- A transaction was given up, or it was too late for that, or a fault was met.

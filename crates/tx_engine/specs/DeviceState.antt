@@ -25,9 +25,10 @@ use Rattle.array_machine.specs.declared.mark.Mark.{Mark}
 use Rattle.array_machine.specs.declared.mark.Mark.TheVariants.{Plain, Doubt, Whole}
 use Rattle.array_machine.specs.Submit.{Limits}
 
--- A device: its flash, its configuration, the array machine that it stands for, the names of each open transaction in the
--- order of their opening, what is noted of its slots, what is kept of its blocks, and the place whose contents are not known.
--- One that is dropped met a fault that left more of its slots unknown: of its flash and tables nothing more is said.
+-- A device: its flash, its configuration, the array machine that it stands for, the names of each open transaction in
+-- the order of their opening, what is noted of its slots, what is kept of its blocks, and the place whose contents are
+-- not known. One that is dropped met a fault that left more of its slots unknown: of its flash and tables nothing more
+-- is said.
 pub record DeviceState (F : Type 0) : Type 0 where
   pub flash : F
   pub config : Config
@@ -57,8 +58,8 @@ pub record IsNamed (page_bytes logical : ℕ) (e : Entry) (x : Naming) : Type 0 
   pub whole : All (λ w. length (bytes_in page_bytes w) ≡ page_bytes) e.writes
   pub transaction : IsTransaction logical x.names
 
--- Of a transaction that is not whole: it is in progress; its first names are noted, as many as were written or one more, and
--- the flash has their texts.
+-- Of a transaction that is not whole: it is in progress; its first names are noted, as many as were written or one
+-- more, and the flash has their texts.
 pub record IsUnderWay (image : List Contents) (n : IndexState) (e : Entry) (x : Naming) : Type 0 where
   pub in_progress : InProgress n.config.protocol (found_in n.notes) n.config.logical x.names
   pub least : e.done ≤ x.noted_count
@@ -70,7 +71,8 @@ pub record IsUnderWay (image : List Contents) (n : IndexState) (e : Entry) (x : 
       text_at (written_in n.config.protocol image) (name_at x k)
       ≡ Some (text_in n.config.page_bytes (write_at e k))
 
--- what is so of a transaction with this mark: one in doubt was writing its last page, and the names of a whole one are current
+-- what is so of a transaction with this mark: one in doubt was writing its last page, and the names of a whole one are
+-- current
 abbrev pub IsAsMarked : List Contents → IndexState → Entry → Naming → Mark → Type 0
 IsAsMarked image n e x Plain = IsUnderWay image n e x
 IsAsMarked image n e x Doubt = IsUnderWay image n e x × (e.done + 1 ≡ length e.writes)

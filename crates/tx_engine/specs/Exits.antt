@@ -118,8 +118,8 @@ VersionsTell old new =
     ⊎ ((current_of new.noted page ≡ current_of old.noted page)
     × (page_at new.machine.pages page ≡ page_at old.machine.pages page))
 
--- What each call that works on the flash keeps of what is known: the configuration, the versions, the mentions, and that
--- no transaction is named anew. The device is not dropped.
+-- What each call that works on the flash keeps of what is known: the configuration, the versions, the mentions, and
+-- that no transaction is named anew. The device is not dropped.
 pub record ExitsTables {F : Type 0} (old new : DeviceState F) : Type 0 where
   pub config : new.config ≡ old.config
   pub versions : VersionsTell old new

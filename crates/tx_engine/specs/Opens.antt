@@ -17,12 +17,13 @@ use Rattle.tx_engine.specs.StoreState.{StoreState}
 use Rattle.tx_engine.specs.declared.device.MountError.{MountError}
 use Rattle.tx_engine.specs.declared.device.MountError.TheVariants as mount
 
--- how many slots a mount reads of which no read fails: each one once, and two for each record that is compared with another
--- one of its name
+-- how many slots a mount reads of which no read fails: each one once, and two for each record that is compared with
+-- another one of its name
 abbrev pub mount_reads : Config → FlashState → ℕ
 mount_reads its s = slots_of s.shape + 2 * compared (records_in its.protocol s.image)
 
--- The device stands for the array of the image, with nothing open. Its tables are those of the image, and it is not dropped.
+-- The device stands for the array of the image, with nothing open. Its tables are those of the image, and it is not
+-- dropped.
 pub record Mounts {F : Type 0} (state : F → FlashState) (flash : F) (its : Config)
     (s : DeviceState F) : Type 0 where
   pub config : s.config ≡ its
@@ -46,8 +47,8 @@ FailsToMount state flash its new (mount.Unsound law slot) =
 FailsToMount state flash its new mount.Memory =
     (moment_of (state new) ≡ moment_of (state flash)) × Carries (state flash) (state new) false
 
--- How many slots were read of a flash that was not mounted: where its image is not sound, as many as tell so, and else no
--- more than a mount reads.
+-- How many slots were read of a flash that was not mounted: where its image is not sound, as many as tell so, and else
+-- no more than a mount reads.
 abbrev pub ReadsUnmounted : {F : Type 0} → (F → FlashState) → F → Config → F → MountError → Type 0
 ReadsUnmounted state flash its new mount.Fault =
     (state new).reads ≤ (state flash).reads + mount_reads its (state flash)

@@ -15,8 +15,8 @@ use Rattle.array_machine.specs.declared.answers.ReadAnswer.TheVariants as answer
 use Rattle.array_machine.specs.declared.answers.ReadError.{ReadError}
 use Rattle.array_machine.specs.declared.answers.ReadError.TheVariants as failed
 
--- the slot of the current record of a page from which it is read: its home, and, while it is not known whether a collected
--- block was erased, its lowest slot outside that block
+-- the slot of the current record of a page from which it is read: its home, and, while it is not known whether a
+-- collected block was erased, its lowest slot outside that block
 abbrev pub current_place : IndexState → Unsure → ℕ → Option ℕ
 current_place n unsure.Nothing page = home_of n (current_name_of n page)
 current_place n (unsure.Own at rec) page = home_of n (current_name_of n page)
@@ -50,8 +50,8 @@ pub record ShowsKnown (s : FlashState) (n : IndexState) (page at : ℕ) : Type 0
   pub within : at < slots_of s.shape
   pub shows : page_known n s.image page ≡ Some (page_of s.shape.page_bytes (slot_at s.image at))
 
--- A read of the current record of a page: its bytes, by one read of its place; a page without one is answered without the
--- flash.
+-- A read of the current record of a page: its bytes, by one read of its place; a page without one is answered without
+-- the flash.
 abbrev pub ReadsKnown : {F : Type 0} → (F → FlashState) → StoreState F → StoreState F → ℕ → List ℕ →
     List ℕ → Result Bool Broken → Type 0
 ReadsKnown state old new page before after (Ok false) =

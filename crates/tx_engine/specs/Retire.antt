@@ -71,8 +71,9 @@ is_retire_fault (Err failed.Range) = false
 is_retire_fault (Err (failed.Worn allowance)) = false
 is_retire_fault (Err failed.Fault) = true
 
--- What was done to the flash. After Ok these operations, by the tables that are known once the place is settled, and then the
--- block was replaced. After a fault operations of which the last may be broken, or all of them and then a replacement that broke.
+-- What was done to the flash. After Ok these operations, by the tables that are known once the place is settled, and
+-- then the block was replaced. After a fault operations of which the last may be broken, or all of them and then a
+-- replacement that broke.
 abbrev pub RetireEnds : {F : Type 0} → (F → FlashState) → DeviceState F → DeviceState F → ℕ →
     Result (Unit {0}) RetireError → Type 0
 RetireEnds state old new block (Ok done) =
@@ -92,8 +93,8 @@ pub record RetireExits {F : Type 0} (state : F → FlashState) (old new : Device
   pub ends : RetireEnds state old new block result
   pub carries : CarriesRetiring (state old.flash) (state new.flash) (is_retire_fault result)
 
--- What retiring a block does to the tables that are known once the place was read, each of its slots once: as where the block is
--- collected, or erased where it is the spare. Each slot that is copied is read once.
+-- What retiring a block does to the tables that are known once the place was read, each of its slots once: as where the
+-- block is collected, or erased where it is the spare. Each slot that is copied is read once.
 pub record RetiresKnown {F : Type 0} (state : F → FlashState) (old new : DeviceState F)
     (block : ℕ) : Type 0 where
   pub treated : IsEvicted (settlement_of state old).noted (settlement_of state old).table block
@@ -102,8 +103,8 @@ pub record RetiresKnown {F : Type 0} (state : F → FlashState) (old new : Devic
       (length (moved_slots (settlement_of state old).noted (settlement_of state old).table.spare block))
       (reads_after (slots_read old.noted old.unsure) (state old.flash).reads)
 
--- The place was read, and by the tables that are known then retiring the block broke off. The blocks are as they were known, and
--- what was noted then is kept.
+-- The place was read, and by the tables that are known then retiring the block broke off. The blocks are as they were
+-- known, and what was noted then is kept.
 pub record RetiringFails {F : Type 0} (state : F → FlashState) (old new : DeviceState F)
     (block : ℕ) : Type 0 where
   pub breaks : BreaksThen state old (λ between.
@@ -112,7 +113,8 @@ pub record RetiringFails {F : Type 0} (state : F → FlashState) (old new : Devi
   pub table : new.table ≡ (settlement_of state old).table
   pub kept : Preserves (settlement_of state old).noted new.noted
 
--- What becomes of the tables. After a fault the place could not be read, or it was read and then retiring the block broke off.
+-- What becomes of the tables. After a fault the place could not be read, or it was read and then retiring the block
+-- broke off.
 abbrev pub RetireTables : {F : Type 0} → (F → FlashState) → DeviceState F → DeviceState F → ℕ →
     Result (Unit {0}) RetireError → Type 0
 RetireTables state old new block (Ok done) = RetiresKnown state old new block

@@ -34,8 +34,8 @@ pub record HasTables {F : Type 0} (found : Settlement) (s : DeviceState F) : Typ
   pub noted : s.noted ≡ record found.noted { pins = s.noted.pins }
   pub table : s.table ≡ found.table
 
--- The place could not be read: all is as before but the flash. Nothing was programmed or erased, and no more slots were read
--- than the place has.
+-- The place could not be read: all is as before but the flash. Nothing was programmed or erased, and no more slots were
+-- read than the place has.
 pub record StaysUnread {F : Type 0} (state : F → FlashState) (old new : DeviceState F) : Type 0 where
   pub stays : new ≡ record old { flash = new.flash }
   pub moment : moment_of (state new.flash) ≡ moment_of (state old.flash)
@@ -100,7 +100,8 @@ pub record WriteFails {F : Type 0} (old new : DeviceState F) (before after : Ope
       ⊎ (IsAtLast (transaction_at before at).entry
       × (after ≡ with_transaction before at (with_mark (transaction_at before at) Doubt)))
 
--- How an open transaction of a settled device goes on: it writes a page or is done, or a fault leaves it plain, or in doubt.
+-- How an open transaction of a settled device goes on: it writes a page or is done, or a fault leaves it plain, or in
+-- doubt.
 abbrev pub Advances : ArrayState → ℕ → Entry → Result Progress Broken → ArrayState → Type 0
 Advances s tag e (Ok progress) new = GoesOn s tag e progress new
 Advances s tag e (Err broken) new =
@@ -120,7 +121,8 @@ is_whole Plain = false
 is_whole Doubt = false
 is_whole Whole = true
 
--- whether the next page of a transaction is to be written: it is not whole, and no record more is noted than pages were written
+-- whether the next page of a transaction is to be written: it is not whole, and no record more is noted than pages were
+-- written
 abbrev pub must_program : TransactionState → Bool
 must_program o = not (is_whole o.entry.mark) && (o.naming.noted_count == o.entry.done)
 
@@ -134,8 +136,8 @@ Counts s tag e (progress.Wrote done all) new = GoesOn s tag e (progress.Wrote do
 Counts s tag e progress.Done new =
     (e.mark ≡ Whole) × (new ≡ record s { entries = without tag s.entries })
 
--- A collection that failed: the place could not be read; or the blocks are as they were known then, and what was noted then
--- is kept.
+-- A collection that failed: the place could not be read; or the blocks are as they were known then, and what was noted
+-- then is kept.
 abbrev pub CollectFails : {F : Type 0} → (F → FlashState) → DeviceState F → DeviceState F → Type 0
 CollectFails state old new =
     StaysUnread state old new

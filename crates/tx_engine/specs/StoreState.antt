@@ -25,7 +25,7 @@ pub record StoreState (F : Type 0) : Type 0 where
   pub table : BlocksState
   pub unsure : Unsure
 
--- the same, with the state of the flash
+-- the parts of a store, with the state of its flash
 abbrev pub store_in : {F : Type 0} → (F → FlashState) → StoreState F → StoreParts
 store_in state s = store_parts (state s.flash) s.noted s.table s.unsure
 

@@ -36,8 +36,8 @@ open_of s tag = find (λ (e, x). has_tag tag e) (zip s.machine.entries s.namings
 abbrev pub next_of : {F : Type 0} → DeviceState F → ℕ → Option Link
 next_of s tag = option_map (λ (e, x). name_at x e.done) (open_of s tag)
 
--- The record of the next page was there already: the tables are the settled ones but for the pins, and no slot was read but to
--- settle.
+-- The record of the next page was there already: the tables are the settled ones but for the pins, and no slot was read
+-- but to settle.
 pub record WritesNothing {F : Type 0} (state : F → FlashState) (old new : DeviceState F) : Type 0 where
   pub tables : HasTables (settlement_of state old) new
   pub reads : (state new.flash).reads
@@ -49,8 +49,8 @@ pub record TakesSlot (n : IndexState) (t : BlocksState) (n' : IndexState) (t' : 
   pub direct : (IsFull t → ⊥) → (next_slot t ≡ Some at) × (n' ≡ n) × (t' ≡ after_next_slot t)
   pub collects : IsFull t → CollectsForRoom n t n' t' at
 
--- what the record of the next page of a transaction is to say: its name, its link, how many pages the transaction has, and of
--- the page
+-- what the record of the next page of a transaction is to say: its name, its link, how many pages the transaction has,
+-- and of the page
 pub record DueRecord : Type 0 where
   pub name : Link
   pub link : Link
@@ -65,10 +65,10 @@ due_record page_bytes e x = record {
   text = text_in page_bytes (write_at e e.done);
 }
 
--- A settled device wrote a record. First the records went that had to, block after block, the lowest first: where none had to,
--- nothing was done. Then a slot was found. There the record was programmed that is asked for, with the bytes of its page, and it
--- is noted there. That program came last. Where nothing had to go and a block had room, it is all that was done to the
--- flash.
+-- A settled device wrote a record. First the records went that had to, block after block, the lowest first: where none
+-- had to, nothing was done. Then a slot was found. There the record was programmed that is asked for, with the bytes of
+-- its page, and it is noted there. That program came last. Where nothing had to go and a block had room, it is all that
+-- was done to the flash.
 pub record WritesRecord {F : Type 0} (state : F → FlashState) (known new : DeviceState F)
     (asked : DueRecord) : Type 0 where
   pub cleared : IndexState
@@ -102,7 +102,8 @@ pub record WritesRecord {F : Type 0} (state : F → FlashState) (known new : Dev
   pub noted : new.noted ≡ record (programmed open_noted at.0 rec) { pins = new.noted.pins }
   pub table : new.table ≡ with_slot open_table at.0
 
--- what a step did that answered, of a transaction with these names: the record of its next page was there, or was written
+-- what a step did that answered, of a transaction with these names: the record of its next page was there, or was
+-- written
 pub record BringsPage {F : Type 0} (state : F → FlashState) (old new : DeviceState F) (e : Entry)
     (x : Naming) : Type 0 where
   pub there : IsThere (settlement_of state old).noted (name_at x e.done) →
@@ -110,8 +111,8 @@ pub record BringsPage {F : Type 0} (state : F → FlashState) (old new : DeviceS
   pub absent : (IsThere (settlement_of state old).noted (name_at x e.done) → ⊥) →
       WritesRecord state (with_settlement state old) new (due_record old.config.page_bytes e x)
 
--- Which records a step notes: that of its next page at most. Where it failed the place could not be read, or what was known
--- then is kept, and no record is new.
+-- Which records a step notes: that of its next page at most. Where it failed the place could not be read, or what was
+-- known then is kept, and no record is new.
 abbrev pub StepNotes : {F : Type 0} → (F → FlashState) → DeviceState F → DeviceState F → ℕ →
     Result Progress StepError → Type 0
 StepNotes state old new tag (Ok progress) =

@@ -4,11 +4,11 @@ ghost use Rattle.open_table.specs.OpenTransactionsState.{transaction_at};
 ghost use Rattle.tx_engine.specs.Settling.{must_program};
 
 use crate::closing::close;
-use open_table::OpenTransactions;
 use crate::store::Store;
 use crate::writing::write_next;
 use array_machine::{Mark, Progress};
 use flash_model::{Broken, Flash};
+use open_table::OpenTransactions;
 use record_list::CommitRule;
 
 /// The transaction at an index of a settled device goes on: its next page is written where it is not

@@ -8,13 +8,13 @@ ghost use Rattle.tx_engine.specs.declared.jobs.TheConstants.{MOST_DIES};
 
 use crate::advancing::{acknowledge_page, advance, must_program};
 use crate::jobs::Job;
-use open_table::OpenTransactions;
 use crate::settling::note_next;
 use crate::store::Store;
 use crate::writing::next_record;
 use array_machine::{Moved, Progress};
 use collector::theorems;
 use flash_model::{Broken, Wide, loads_come_in_order};
+use open_table::OpenTransactions;
 use record_list::CommitRule;
 
 /// Open transactions of a settled device go on together.
@@ -163,7 +163,7 @@ fn note_all<F: Wide, R: CommitRule>(
     }
 }
 
-/// So many of the first transactions, whose next pages are noted, go on without the flash.
+/// Moves the first `moved` transactions, whose next pages are noted, on without the flash.
 fn count_all<F: Wide, R: CommitRule>(
     store: &mut Store<F, R>,
     transactions: &mut OpenTransactions,

@@ -1,12 +1,12 @@
 ghost use Rattle.tx_engine.specs.Calls.{CanClose, CanUnpin, Closes, Unpins};
 ghost use Rattle.open_table.specs.OpenTransactionsState.{transaction_at};
 
-use open_table::OpenTransactions;
 use crate::store::Store;
 use flash_model::Flash;
+use open_table::OpenTransactions;
 use record_list::CommitRule;
 
-/// The transaction at an index goes, and its pages are pinned no more.
+/// Removes the transaction at an index, and unpins its pages.
 pub(crate) fn close<F: Flash, R: CommitRule>(
     store: &mut Store<F, R>,
     transactions: &mut OpenTransactions,
@@ -19,7 +19,7 @@ pub(crate) fn close<F: Flash, R: CommitRule>(
     transactions.remove(at);
 }
 
-/// The pages of the transaction at an index are pinned no more.
+/// Unpins the pages of the transaction at an index.
 fn unpin<F: Flash, R: CommitRule>(
     store: &mut Store<F, R>,
     transactions: &OpenTransactions,

@@ -2,11 +2,11 @@ ghost use Rattle.std.specs.Prelude.{◌≡◌};
 ghost use Rattle.tx_engine.specs.Calls.{CollectsSettled, IsReady};
 ghost use Rattle.tx_engine.specs.Collections.{answer_of};
 
-use open_table::OpenTransactions;
 use crate::store::Store;
 use array_machine::Collected;
 use collector::theorems;
 use flash_model::{Broken, Flash};
+use open_table::OpenTransactions;
 use record_list::CommitRule;
 
 /// Collects the block with the most garbage of a device that settled, if there is any.

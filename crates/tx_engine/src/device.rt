@@ -13,13 +13,13 @@ use crate::advancing::advance;
 use crate::closing::close;
 use crate::collecting::collect_settled;
 use crate::jobs::JobBuffer;
-use open_table::OpenTransactions;
 use crate::settling::settle;
 use crate::store::Store;
 use array_machine::{
     Aborted, Collected, Fault, Mark, Progress, ReadAnswer, ReadError, StepError, SubmitError,
 };
 use flash_model::Flash;
+use open_table::OpenTransactions;
 use record_list::{CommitRule, Found};
 pub use retire::RetireError;
 use std::alloc::Global;
@@ -37,8 +37,8 @@ pub enum MountError {
     Memory,
 }
 
-/// A device over a flash: an array of logical pages, in which a transaction changes all its pages at once, whatever breaks.
-/// After a fault that drops the device only its flash is of use.
+/// A device over a flash: an array of logical pages, in which a transaction changes all its pages at once, whatever
+/// breaks. After a fault that drops the device only its flash is of use.
 #[derive(Drop)]
 pub struct Device<F: Flash, R: CommitRule> {
     pub(crate) store: Store<F, R>,

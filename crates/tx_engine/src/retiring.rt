@@ -1,9 +1,9 @@
 ghost use Rattle.tx_engine.specs.Retire.{CanRetireSettled, RetiresSettled};
 
-use open_table::OpenTransactions;
 use crate::store::Store;
 use collector::theorems;
 use flash_model::{Broken, Retire};
+use open_table::OpenTransactions;
 use record_list::CommitRule;
 use tx_types::Block;
 

@@ -7,10 +7,10 @@ ghost use Rattle.tx_engine.specs.Settling.{with_next, is_writing};
 ghost use Rattle.tx_engine.specs.Tables.{device_in};
 
 use crate::Mark;
-use open_table::OpenTransactions;
 use crate::store::Store;
 use collector::{Settled, Unsure, theorems};
 use flash_model::{Broken, Flash};
+use open_table::OpenTransactions;
 use record_list::CommitRule;
 
 /// Finds out what a broken operation left, and what that makes of the open transactions. The

@@ -181,8 +181,7 @@ impl<F: Flash, R: CommitRule> Store<F, R> {
         )
     }
 
-    /// Treats each block that holds a record which must go before the version `below` of a page is
-    /// programmed.
+    /// Evicts each block that holds a record which must go before the version `below` of a page is programmed.
     pub fn clear_superseded(&mut self, page: u32, below: u64) -> Result<(), Broken>
         requires { CanClear F.state R.protocol self.old
             (record { page = page; version = below }) }

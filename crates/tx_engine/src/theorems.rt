@@ -4,8 +4,8 @@ ghost use Rattle.tx_engine.specs.Always.{CutsLeave, DevicesStand};
 use flash_model::Flash;
 use record_list::CommitRule;
 
-/// What a device that stands for its array has on its flash: the image is sound, and its array is the device's, or that with
-/// the pages of the transaction in doubt. Where nothing is unsure the image has the noted records.
+/// What a device that stands for its array has on its flash: the image is sound, and its array is the device's, or that
+/// with the pages of the transaction in doubt. Where nothing is unsure the image has the noted records.
 pub fn device_invariant<F: Flash, R: CommitRule>()
     ensures { DevicesStand F.state R.protocol }
 {

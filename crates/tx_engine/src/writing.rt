@@ -7,11 +7,11 @@ ghost use Rattle.tx_engine.specs.Settling.{is_at_last};
 ghost use Rattle.tx_engine.specs.StoreState.{WritesOwn, store_in};
 
 use crate::Mark;
-use open_table::OpenTransactions;
 use crate::settling::note_next;
 use crate::store::Store;
 use collector::theorems;
 use flash_model::{Broken, Flash};
+use open_table::OpenTransactions;
 use record_list::CommitRule;
 use tx_types::{Link, Protocol, Rec, Slot};
 
@@ -40,8 +40,7 @@ pub(crate) fn write_next<F: Flash, R: CommitRule>(
     Ok(())
 }
 
-/// Treats each block that holds a record which must go before the next page of the transaction at an
-/// index is written.
+/// Evicts each block that holds a record which must go before the next page of the transaction at an index is written.
 fn clear_superseded<F: Flash, R: CommitRule>(
     store: &mut Store<F, R>,
     transactions: &OpenTransactions,

@@ -11,7 +11,8 @@ use Rattle.tx_types.specs.declared.config.Shape.{Shape}
 use Rattle.tx_types.specs.declared.config.ConfigError.{ConfigError}
 use Rattle.tx_types.specs.declared.config.ConfigError.TheVariants as rule
 
-after_ok : (b : Bool) (e : ConfigError) (rest : Result Shape ConfigError) (s : Shape) → cond b rest (Err e) ≡ Ok s → (b ≡ true) × (rest ≡ Ok s)
+after_ok : (b : Bool) (e : ConfigError) (rest : Result Shape ConfigError) (s : Shape) → cond b rest (Err e) ≡ Ok s →
+    (b ≡ true) × (rest ≡ Ok s)
 after_ok true e rest s h = (refl, h)
 after_ok false e rest s h = cc
 
@@ -32,8 +33,10 @@ checked_config c s h =
     let logical = after_ok (holds c rule.Logical) rule.Logical _ s slots.1 in
     let pending = after_ok (holds c rule.Pending) rule.Pending _ s logical.1 in
     let space = after_ok (holds c rule.Space) rule.Space _ s pending.1 in
-    let page_bytes = within page_unit max_page_bytes c.page_bytes (and_parts (is_within page_unit max_page_bytes c.page_bytes) _ page.0).0 in
-    let sizes = and_parts (nat_le (slots_of (shape_of c)) max_slots) (nat_le (image_bytes (shape_of c)) max_image_bytes) slots.0 in (
+    let page_bytes = within page_unit max_page_bytes c.page_bytes
+    (and_parts (is_within page_unit max_page_bytes c.page_bytes) _ page.0).0 in
+    let sizes = and_parts (nat_le (slots_of (shape_of c)) max_slots) (nat_le (image_bytes (shape_of c)) max_image_bytes)
+    slots.0 in (
       record {
         shape = record {
           page_least = page_bytes.0;

@@ -35,7 +35,7 @@ with_write w page discard bytes =
 abbrev pub write_of : List ℕ → PageWrite
 write_of cell = record { page = little_number 4 cell; value = value_if (is_discard cell) (drop 5 cell) }
 
--- so many writes, by the bytes of one entry behind another
+-- this many writes, by the bytes of one entry behind another
 abbrev pub writes_in : ℕ → ℕ → List ℕ → List PageWrite
 writes_in size count cells = map write_of (first_chunks (5 + size) count cells)
 

@@ -44,7 +44,7 @@ impl Batch {
         }
     }
 
-    /// A batch without entries, for pages of this many bytes, with room for so many entries.
+    /// A batch without entries, for pages of this many bytes, with room for this many entries.
     pub fn with_room(alloc: Global, page_bytes: u32, entries: usize) -> Result<Batch, Memory>
         ensures { IfOk result (λ b. b ≡ record { page_bytes = page_bytes; entries = [] }) }
     {

@@ -1,5 +1,4 @@
-//! The program: it serves files of commands on devices whose flash is a file or in memory, and says
-//! the replies.
+//! The program: it serves files of commands on devices whose flash is a file or in memory, and prints the replies.
 #![tactic(auto)]
 
 pub use command_line::{Kept, top};

@@ -3,7 +3,7 @@ use record_list::Found;
 use std::alloc::{AllocError, Global};
 use tx_types::{Link, Rec, Slot};
 
-/// A transaction over so many pages, whole: each page at version 1, in the slot of its number.
+/// A transaction over this many pages, whole: each page at version 1, in the slot of its number.
 pub fn cycle_of(alloc: Global, pages: u32) -> Result<Vec<Found>, AllocError> {
     let mut list = Vec::new(alloc);
     for page in 0..pages {

@@ -68,7 +68,7 @@ fn take_out(list: &mut Vec<u32>, number: u32) {
     }
 }
 
-/// Puts a number behind another one, or in front where that is not there. Tells whether there is memory.
+/// Puts a number behind another one, or in front where that is not there. Returns whether there is memory.
 fn put_behind(list: &mut Vec<u32>, prev: u32, number: u32) -> bool {
     let at = place_of(list, prev);
     let behind = if at < list.len() { at + 1 } else { 0 };
@@ -113,7 +113,7 @@ fn is_in_none(lists: &[Vec<u32>], number: u32) -> bool {
     true
 }
 
-/// Does the same with plain lists. Tells whether there is memory.
+/// Does the same with plain lists. Returns whether there is memory.
 fn plain_step(lists: &mut Vec<Vec<u32>>, key: u32, prev: u32, at: u32) -> bool
     requires lists { vec_len lists.old ≡ KEYS }
     requires key { key < KEYS }
@@ -167,7 +167,7 @@ fn has_numbers(alloc: Global, chains: &LinkedLists, key: u32, text: &str) -> boo
     }
 }
 
-/// Takes the step of a line. Tells whether the list of its key is as the line says.
+/// Takes the step of a line. Returns whether the list of its key is as the line says.
 fn is_linked(alloc: Global, chains: &mut LinkedLists, line: &str) -> bool
     requires keys { length chains.old.lists ≡ KEYS }
     requires places { chains.old.places ≡ PLACES }
@@ -199,7 +199,7 @@ fn are_linked(alloc: Global, chains: &mut LinkedLists) -> bool
     true
 }
 
-/// Whether they do so on new chains.
+/// Whether they do so on new lists.
 fn are_new_linked(alloc: Global) -> bool {
     match LinkedLists::new(alloc, KEYS, PLACES) {
         Ok(mut chains) => are_linked(alloc, &mut chains),
@@ -242,7 +242,7 @@ fn are_same(alloc: Global, chains: &LinkedLists, lists: &Vec<Vec<u32>>) -> bool
     true
 }
 
-/// Whether a step leaves chains that are the same as the plain lists.
+/// Whether a step leaves linked lists equal to the plain ones.
 fn stay_same(
     alloc: Global,
     chains: &mut LinkedLists,
@@ -328,7 +328,7 @@ fn plain_greatest(numbers: &[u32]) -> Option<usize> {
     best
 }
 
-/// The greatest of so many numbers from a place on.
+/// The greatest of this many numbers from a place on.
 fn plain_most(numbers: &[u32], from: usize, count: usize) -> u32 {
     let mut most = 0;
     for at in from..from.saturating_add(count).min(numbers.len()) {
@@ -337,7 +337,7 @@ fn plain_most(numbers: &[u32], from: usize, count: usize) -> u32 {
     most
 }
 
-/// Sets a number. Tells whether the peaks say of the numbers what plain loops do.
+/// Sets a number. Returns whether the tree agrees with plain loops over the numbers.
 fn is_peak(peaks: &mut MaxTree, numbers: &mut [u32], at: usize, to: u32) -> bool
     requires peaks { length peaks.old ≡ COUNT }
     requires numbers { length numbers.old ≡ COUNT }
@@ -353,7 +353,7 @@ fn is_peak(peaks: &mut MaxTree, numbers: &mut [u32], at: usize, to: u32) -> bool
         && peaks.greatest_of_256(group) == plain_most(numbers, 256 * group, 256)
 }
 
-/// Whether the peaks, which are 0, say the same as plain loops in 2000 changes.
+/// Whether a tree of numbers that are 0 agrees with plain loops in 2000 changes.
 fn follow(peaks: &mut MaxTree, numbers: &mut [u32]) -> bool
     requires peaks { length peaks.old ≡ COUNT }
     requires numbers { length numbers.old ≡ COUNT }
@@ -372,7 +372,7 @@ fn follow(peaks: &mut MaxTree, numbers: &mut [u32]) -> bool
     true
 }
 
-/// Whether peaks, which are 0, follow numbers that are 0.
+/// Whether a tree of zeros follows numbers that are 0.
 fn follow_zeros(alloc: Global, peaks: &mut MaxTree) -> bool
     requires { length peaks.old ≡ COUNT }
 {
@@ -382,7 +382,7 @@ fn follow_zeros(alloc: Global, peaks: &mut MaxTree) -> bool
     }
 }
 
-/// Whether peaks that were made follow.
+/// Whether a tree that was made follows.
 fn are_followed(alloc: Global, made: Result<MaxTree, AllocError>) -> bool
     requires { IfOk made (λ peaks. length peaks ≡ COUNT) }
 {

@@ -103,7 +103,7 @@ const SMALL: Shape = Shape {
     dies: 2,
 };
 
-/// Whether a block is kept so, and so many slots of it are used.
+/// Whether a block is kept so, and this many slots of it are used.
 fn is_kept(blocks: &Blocks, block: u32, state: BlockState, used: u32) -> bool
     requires { block < blocks_of blocks.now.shape }
 {

@@ -104,7 +104,7 @@ fn the_first_transactions_are_known(rt: HostRuntime) {
     assert!(rt; is_first_known(rt.alloc()));
 }
 
-/// Whether a list has so many commands, and their lines this digest.
+/// Whether a list has this many commands, and their lines this digest.
 fn is_made(alloc: Global, made: Result<Vec<Command>, Memory>, length: usize, want: u64) -> bool {
     match made {
         Ok(list) => list.len() == length && has_digest(alloc, &list, want),
@@ -120,7 +120,7 @@ fn has_digest(alloc: Global, list: &[Command], want: u64) -> bool {
     }
 }
 
-/// Whether the list of the usual device from this number, of so many transactions, is so.
+/// Whether the list of the usual device from this number, of this many transactions, is so.
 fn is_usual(alloc: Global, start: u64, count: u32, length: usize, want: u64) -> bool {
     is_made(alloc, list(alloc, start, count, USUAL), length, want)
 }
@@ -162,7 +162,7 @@ fn lists_are_as_a_second_program_makes_them(rt: HostRuntime) {
     );
 }
 
-/// Appends the text of a reply. Tells whether there is memory.
+/// Appends the text of a reply. Returns whether there is memory.
 fn add(alloc: Global, reply: Reply, all: &mut Vec<u8>) -> bool {
     reply_text(alloc, &reply, all).is_ok()
 }

@@ -121,7 +121,7 @@ fn writes_have_entries(rt: HostRuntime) {
     assert_lines::<Files>(&rt, rt.alloc(), WRITES);
 }
 
-/// A line, and then so many times a piece of text.
+/// A line, and then this many times a piece of text.
 fn repeated(alloc: Global, line: &[u8], piece: &[u8], times: usize) -> Result<Vec<u8>, AllocError> {
     let mut all = Vec::new(alloc);
     all.extend_from_slice(line)?;
@@ -131,7 +131,7 @@ fn repeated(alloc: Global, line: &[u8], piece: &[u8], times: usize) -> Result<Ve
     Ok(all)
 }
 
-/// Whether a file has so many commands, or this first bad line.
+/// Whether a file has this many commands, or this first bad line.
 fn has(alloc: Global, text: &[u8], want: Result<usize, u32>) -> bool {
     match read(alloc, text) {
         Ok(Ok(list)) => want == Ok(list.len()),
@@ -140,7 +140,7 @@ fn has(alloc: Global, text: &[u8], want: Result<usize, u32>) -> bool {
     }
 }
 
-/// Whether a file that has more text at its end has so many commands, or this first bad line.
+/// Whether a file that has more text at its end has this many commands, or this first bad line.
 fn has_more(alloc: Global, file: &mut Vec<u8>, more: &[u8], want: Result<usize, u32>) -> bool {
     file.extend_from_slice(more).is_ok() && has(alloc, file, want)
 }

@@ -90,7 +90,7 @@ fn written(alloc: Global, config: &Config) -> Option<Vec<u8>> {
     }
 }
 
-/// The image of a blank device of which so many blocks may be retired.
+/// The image of a blank device of which this many blocks may be retired.
 fn blank(alloc: Global, config: &Config, allowance: u32) -> Option<Vec<u8>>
     requires { allowance ≤ 1024 }
 {
@@ -163,7 +163,7 @@ const SMALL_SHAPE: Shape = Shape {
     dies: 2,
 };
 
-/// Programs a slot of a blank flash, and another one that meets a fault. Tells whether the first one was answered.
+/// Programs a slot of a blank flash, and another one that meets a fault. Returns whether the first one was answered.
 fn fill(flash: &mut MemFlash) -> bool
     requires { flash.old ≡ blank_flash SMALL_SHAPE }
     ensures { flash.new.shape ≡ SMALL_SHAPE }
@@ -274,7 +274,7 @@ fn bytes_that_are_handed_over_come_back(rt: HostRuntime) {
 /// The image of a small device of which 515 blocks may be retired and 2 are.
 const RETIRED: &str = "7=32 36=3 37=2 40=2";
 
-/// The same, as its flash is written.
+/// The image of that small device, as its flash is written.
 fn retired(alloc: Global) -> Option<Vec<u8>> {
     match new_flash(alloc, &SMALL) {
         Some(mut flash) => {
@@ -296,7 +296,7 @@ fn retired_blocks_are_written(rt: HostRuntime) {
     );
 }
 
-/// Whether so many blocks may be retired, and are.
+/// Whether this many blocks may be retired, and are.
 fn has_extras(image: Result<(Config, MemFlash), ImageError>, allowance: u32, retired: u32) -> bool {
     match image {
         Ok((_, flash)) => flash.allowance() == allowance && flash.retired() == retired,
@@ -326,7 +326,7 @@ fn retired_blocks_are_read(rt: HostRuntime) {
     assert!(rt; takes_none(rt.alloc()));
 }
 
-/// Whether a small device's image of so many bytes is read, or breaks the rule that it should.
+/// Whether a small device's image of this many bytes is read, or breaks the rule that it should.
 fn has_length(alloc: Global, image: &[u8], len: usize) -> bool
     requires { len ≤ length image.now }
 {

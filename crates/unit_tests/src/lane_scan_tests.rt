@@ -16,7 +16,7 @@ fn changed(bytes: [u8; 129], at: usize, byte: u8) -> [u8; 129]
     all
 }
 
-/// Whether a byte at this place counts where there are so many bytes.
+/// Whether a byte at this place counts where there are this many bytes.
 fn is_counted(at: usize, len: usize) -> bool
     requires at { at < len }
     requires len { len ≤ 129 }
@@ -25,7 +25,7 @@ fn is_counted(at: usize, len: usize) -> bool
     !all_equal(&other[..len], 7) && first_difference(&SEVENS[..len], &other[..len]) == Some(at)
 }
 
-/// Whether each byte counts where there are so many.
+/// Whether each byte counts where there are this many.
 fn are_counted(len: usize) -> bool
     requires { len ≤ 129 }
 {

@@ -85,7 +85,7 @@ fn outcome(name: &str) -> Outcome {
     }
 }
 
-/// Arms a flash, or turns power on. Tells whether the step is one of these.
+/// Arms a flash, or turns power on. Returns whether the step is one of these.
 fn arms(flash: &mut MemFlash, step: &str) -> bool
     requires shape { flash.old.shape ≡ SHAPE }
     requires loads { flash.old.registers ≡ no_loads SHAPE }

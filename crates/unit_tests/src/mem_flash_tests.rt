@@ -95,7 +95,7 @@ fn are_all(bytes: &[u8], number: u32) -> bool {
     true
 }
 
-/// Whether the last slot has bytes of its own number, and so many of them.
+/// Whether the last slot has bytes of its own number, and this many of them.
 fn has_last(flash: &MemFlash, last: u32, size: usize) -> bool
     requires { last < slots_of flash.now.shape }
 {

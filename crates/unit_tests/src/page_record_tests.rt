@@ -167,7 +167,7 @@ const BROKEN: &str = "\
     scc scc 0=ff 1=ff 2=ff 3=ff => mark -- nothing was programmed, or all bits were\n\
     scc scc 0=0 1=0 2=0 3=0 => mark";
 
-/// The same with the record that is read. The record of `wide` is `FAR`.
+/// Spare areas, and the record that is read from each. The record of `wide` is `FAR`.
 const READ: &str = "\
     scc scc => 0.1>1.1\n\
     bpcc bpcc => 1.3>1.3/2\n\

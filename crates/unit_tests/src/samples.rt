@@ -152,7 +152,7 @@ fn parts(text: &str, sign: char) -> (&str, &str) {
     text.split_once(sign).unwrap_or((text, "0"))
 }
 
-/// Makes the changes of a text, as `PLACE=BYTE` with the byte in hex. Tells whether each could be made.
+/// Makes the changes of a text, as `PLACE=BYTE` with the byte in hex. Returns whether each could be made.
 pub fn change(bytes: &mut [u8], text: &str) -> bool {
     for at in 0..word_count(text) {
         if !change_one(bytes, word(text, at)) {

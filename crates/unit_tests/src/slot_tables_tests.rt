@@ -199,7 +199,7 @@ fn is_recounted(tables: &Tables) -> bool
     tables.most_garbage() == place && tables.most_garbage_among(0) == most
 }
 
-/// Gives a page a record that is newer than those it has, where a number is free. Tells whether it is kept.
+/// Gives a page a record that is newer than those it has, where a number is free. Returns whether it is kept.
 fn is_added(tables: &mut Tables, page: u32, version: u64) -> bool
     requires shape { tables.old.shape ≡ SHAPE }
     requires pages { length tables.old.pages ≡ PAGES }
@@ -266,7 +266,7 @@ fn change_page(tables: &mut Tables, kind: u32, number: u32, page: u32)
     }
 }
 
-/// Makes one change, as far as it may be made. Tells whether the tables are right before and after it.
+/// Makes one change, as far as it may be made. Returns whether the tables are right before and after it.
 fn is_changed(tables: &mut Tables, kind: u32, at: u32, number: u32, page: u32) -> bool
     requires shape { tables.old.shape ≡ SHAPE }
     requires pages { length tables.old.pages ≡ PAGES }

@@ -69,7 +69,7 @@ fn are_slots(list: &[Found], want: &str) -> bool {
     word_count(want) == list.len()
 }
 
-/// The order of the records of a chart.
+/// The order of sorted records.
 struct Ordered;
 
 impl ListTest for Ordered {
@@ -101,7 +101,7 @@ fn begins(list: &[Found], slot: u32, text: &str) -> bool {
     }
 }
 
-/// Whether the records of the chart of `FEW` are found.
+/// Whether the sorted records of `FEW` are found.
 fn finds(chart: &SortedRecords) -> bool {
     begins(chart.records(), 2, "0.2>1.4")
         && chart.newest(1) == 4
@@ -112,7 +112,7 @@ fn finds(chart: &SortedRecords) -> bool {
         && chart.back_of(name(1, 4)) == 1
 }
 
-/// Whether the links of the chart of `FEW` lead where they should.
+/// Whether the links of the sorted records of `FEW` lead where they should.
 fn leads(chart: &SortedRecords) -> bool {
     chart.straddling(name(1, 3)) == 4
         && chart.orbit(0) == Some(Orbit::Round { length: 2 })
@@ -126,14 +126,14 @@ fn leads(chart: &SortedRecords) -> bool {
 /// Page 1 has the versions 2, 3 and two loose ones.
 const STRADDLERS: &str = "0:0.1>1.1 1:1.2>1.2 2:1.3>1.3/2 3:1.6>2.1/3 4:1.7>2.2";
 
-/// Whether the records of the chart of `STRADDLERS` straddle names, up to a version.
+/// Whether the sorted records of `STRADDLERS` straddle names, up to a version.
 fn straddles(chart: &SortedRecords) -> bool {
     chart.straddling_up_to(name(1, 1), 6) == 2
         && chart.straddling_up_to(name(1, 4), 6) == 6
         && chart.straddling_up_to(name(1, 4), 5) == 0
 }
 
-/// A chart whose records are found, with links that lead where they should.
+/// Sorted records that are found, with links that lead where they should.
 struct Few;
 
 impl ListTest for Few {
@@ -145,7 +145,7 @@ impl ListTest for Few {
     }
 }
 
-/// A chart whose records straddle.
+/// Sorted records that straddle.
 struct Straddlers;
 
 impl ListTest for Straddlers {
@@ -221,7 +221,7 @@ fn orbits_breach(alloc: Global, chart: &SortedRecords, list: &[Found], breach: &
     }
 }
 
-/// The same of the chart of a list.
+/// Whether the sorted records of a list name this breach of law 9.
 fn charts_breach(alloc: Global, list: &[Found], breach: &str) -> bool
     requires scanned { IsScanned list.now }
     requires copies { All (CopiesAgree list.now) list.now }

@@ -186,7 +186,7 @@ fn bytes_are_added_at_the_end(rt: HostRuntime) {
     assert!(rt; are_added(&mut bytes));
 }
 
-/// Adds three pages of four bytes, two of them not full, and a discard. Tells whether there is memory.
+/// Adds three pages of four bytes, two of them not full, and a discard. Returns whether there is memory.
 fn fill(batch: &mut Batch) -> bool
     requires { batch.old.page_bytes ≡ 4 }
 {

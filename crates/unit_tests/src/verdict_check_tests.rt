@@ -125,7 +125,7 @@ fn add_cycle_line(text: &mut String, page: u32, more: u32) -> Result<(), AllocEr
     writeln!(text, " more {more}")
 }
 
-/// Appends a text on a cycle of 17 pages, in which so many links are not named. Tells whether there is memory.
+/// Appends a text on a cycle of 17 pages, in which this many links are not named. Returns whether there is memory.
 fn add_cycle_text(text: &mut String, more: u32) -> bool {
     for page in 0..17 {
         if add_cycle_line(text, page, more).is_err() {

@@ -8,7 +8,7 @@ use scc_commit::Scc;
 use std::alloc::Global;
 use verdict_report::explain;
 
-/// Whether a report explains so many of `logical` pages, and is written behind a byte that was there before.
+/// Whether a report explains this many of `logical` pages, and is written behind a byte that was there before.
 fn explains<R: CommitRule>(
     alloc: Global,
     list: &[Found],
@@ -25,7 +25,7 @@ fn explains<R: CommitRule>(
     }
 }
 
-/// Whether the report on a list explains so many of `logical` pages, by this text.
+/// Whether the report on a list explains this many of `logical` pages, by this text.
 fn is_report<R: CommitRule>(
     alloc: Global,
     list: &[Found],
@@ -57,7 +57,7 @@ impl LineTest for SimpleReports {
     }
 }
 
-/// The same under Back Pointer Cyclic Commit.
+/// A list and the report on it under Back Pointer Cyclic Commit.
 struct BackPointerReports;
 
 impl LineTest for BackPointerReports {
@@ -132,7 +132,7 @@ fn is_walk_told(alloc: Global, list: &[Found], pages: u32, rest: &str, last: &st
     explains::<Scc>(alloc, list, pages, pages, &mut out) && has_ends(&out, rest, last)
 }
 
-/// Whether the report on a cycle of so many pages has a first line of this rest, and this last line.
+/// Whether the report on a cycle of this many pages has a first line of this rest, and this last line.
 fn is_walk_cut(alloc: Global, pages: u32, rest: &str, last: &str) -> bool {
     match cycle_of(alloc, pages) {
         Ok(list) => is_walk_told(alloc, &list, pages, rest, last),

@@ -6,14 +6,16 @@ use Rattle.record_list.proofs.OfFacts.Greatest.{greatest_step}
 use Rattle.verdict_check.specs.Older.{version_at}
 
 -- a version below the newest of its page is taken in
-pub noted_below : (older : List ℕ) (list : List Found) (r : Rec) (page : ℕ) → r.page < length older → r.version < newest list r.page →
+pub noted_below : (older : List ℕ) (list : List Found) (r : Rec) (page : ℕ) → r.page < length older →
+    r.version < newest list r.page →
     version_at (set older r.page (max (version_at older r.page) r.version)) page
     ≡ max (version_at older page) (version_below page (newest list page) r)
 noted_below older list r page within low = elim (cases_eq r.page page) [
   | inl own ↦ (let e = get_or-set_same older r.page (max (version_at older r.page) r.version) 0 within in
       let v : version_below r.page (newest list r.page) r ≡ r.version = grind (arith, nat_tests) in
       rw (← own) (e ∙ ap (λ n. max (version_at older r.page) n) (sym v)))
-  | inr other ↦ (let e = get_or-set_other older r.page page (max (version_at older r.page) r.version) 0 (λ same. other (sym same)) in
+  | inr other ↦ (let e = get_or-set_other older r.page page (max (version_at older r.page) r.version) 0
+      (λ same. other (sym same)) in
       let v : version_below page (newest list page) r ≡ 0 = grind (arith, nat_tests) in
       e ∙ sym (ap (λ n. max (version_at older page) n) v ∙ omega arith))
 ]
@@ -30,7 +32,8 @@ noted_not older list r page high = elim (cases_eq r.page page) [
 
 -- with one record more
 pub older_more : (list : List Found) (i : ℕ) (before after : List ℕ) → i < length list → AreOlder list i before →
-    ((page : ℕ) → version_at after page ≡ max (version_at before page) (version_below page (newest list page) (record_at list i))) →
+    ((page : ℕ) → version_at after page ≡ max (version_at before page)
+    (version_below page (newest list page) (record_at list i))) →
     AreOlder list (i + 1) after
 older_more list i before after within was now page =
     now page ∙ ap (λ n. max n (version_below page (newest list page) (record_at list i))) (was page)

@@ -21,24 +21,29 @@ ArePlain words = AllByRecursion (λ word. list_all is_plain word ≡ true) words
 plain_digit : (n : ℕ) → is_plain (digit_glyph false (n % 10)) ≡ true
 plain_digit n = let low : n % 10 < 10 = omega arith in grind (arith, nat_tests)
 
-plain_onto : (k n : ℕ) (acc : List ℕ) → list_all is_plain acc ≡ true → list_all is_plain (digits_onto k 10 false n acc) ≡ true
+plain_onto : (k n : ℕ) (acc : List ℕ) → list_all is_plain acc ≡ true →
+    list_all is_plain (digits_onto k 10 false n acc) ≡ true
 plain_onto zero n acc h = h
 plain_onto (suc k) n acc h =
     let more : list_all is_plain (digit_glyph false (n % 10) ∷ acc) ≡ true = and_from _ _ (plain_digit n) h in
     elim (cases_Bool (n / 10 == 0)) [
-      | inl t ↦ ap (list_all is_plain) (cond-true (n / 10 == 0) _ (digits_onto k 10 false (n / 10) (digit_glyph false (n % 10) ∷ acc)) t) ∙ more
-      | inr f ↦ ap (list_all is_plain) (cond-false (n / 10 == 0) (digit_glyph false (n % 10) ∷ acc) _ f) ∙ plain_onto k (n / 10) _ more
+      | inl t ↦ ap (list_all is_plain) (cond-true (n / 10 == 0)
+          _ (digits_onto k 10 false (n / 10) (digit_glyph false (n % 10) ∷ acc)) t) ∙ more
+      | inr f ↦ ap (list_all is_plain) (cond-false (n / 10 == 0) (digit_glyph false (n % 10) ∷ acc) _ f)
+          ∙ plain_onto k (n / 10) _ more
     ]
 
 pub plain_decimal : (n : ℕ) → list_all is_plain (decimal n) ≡ true
 unfolding digits
 plain_decimal n = plain_onto 64 n [] refl
 
-plain_both : (xs ys : List ℕ) → list_all is_plain xs ≡ true → list_all is_plain ys ≡ true → list_all is_plain (xs ++ ys) ≡ true
+plain_both : (xs ys : List ℕ) → list_all is_plain xs ≡ true → list_all is_plain ys ≡ true →
+    list_all is_plain (xs ++ ys) ≡ true
 plain_both xs ys h k = list_all-append is_plain xs ys ∙ and_from _ _ h k
 
 plain_link : (link : Link) → list_all is_plain (link_word link) ≡ true
-plain_link link = plain_both (decimal link.page) (58 ∷ decimal link.version) (plain_decimal link.page) (plain_decimal link.version)
+plain_link link = plain_both (decimal link.page) (58 ∷ decimal link.version) (plain_decimal link.page)
+    (plain_decimal link.version)
 
 plain_links : (n : ℕ) (links : List Link) → ArePlain (map link_word (take n links))
 plain_links zero links = tt
@@ -54,7 +59,8 @@ plain_more true n = (refl, (plain_decimal n, tt))
 plain_more false n = tt
 
 pub plain_walk : (links : List Link) → ArePlain (walk_words links)
-plain_walk links = all_both (map link_word (take most_links links)) (more_words (length links)) (plain_links most_links links) (plain_more _ _)
+plain_walk links = all_both (map link_word (take most_links links)) (more_words (length links))
+    (plain_links most_links links) (plain_more _ _)
 
 pub plain_reason : (why : Why) → ArePlain (reason_words why)
 plain_reason Cycle = (refl, tt)
@@ -72,7 +78,8 @@ page_words page version reason current walk =
     codes "verdict" ∷ decimal page ∷ codes "newest" ∷ decimal version ∷ verdict_word (verdict_of reason)
     ∷ (reason_words reason ++ codes "current" ∷ decimal current ∷ codes "walk" ∷ walk)
 
-pub plain_page : (page version : ℕ) (reason : Why) (current : ℕ) (walk : List (List ℕ)) → ArePlain walk → ArePlain (page_words page version reason current walk)
+pub plain_page : (page version : ℕ) (reason : Why) (current : ℕ) (walk : List (List ℕ)) → ArePlain walk →
+    ArePlain (page_words page version reason current walk)
 plain_page page version reason current walk h = (
   refl,
   (
@@ -105,19 +112,22 @@ inner_join : (words : List (List ℕ)) → ArePlain words → list_all is_inner 
 inner_join [] h = refl
 inner_join (word ∷ []) h = inner_plain word h.0
 inner_join (word ∷ next ∷ words) h =
-    list_all-append is_inner word (32 ∷ join_with_byte 32 (next ∷ words)) ∙ and_from _ _ (inner_plain word h.0) (inner_join (next ∷ words) h.1)
+    list_all-append is_inner word (32 ∷ join_with_byte 32 (next ∷ words))
+    ∙ and_from _ _ (inner_plain word h.0) (inner_join (next ∷ words) h.1)
 
 -- words without spaces and line feeds make a line
 pub line_of_words : (words : List (List ℕ)) → ArePlain words → IsLine (line_of words)
 line_of_words words h = record { body = join_with_byte 32 words; inner = inner_join words h; is = refl }
 
-pub verdict_is_line : (protocol : Protocol) (list : List Found) (logical page : ℕ) → IsLine (verdict_line protocol list logical page)
+pub verdict_is_line : (protocol : Protocol) (list : List Found) (logical page : ℕ) →
+    IsLine (verdict_line protocol list logical page)
 verdict_is_line protocol list logical page =
     let version = newest list page in
     let reason = why protocol list logical page in
     let current = cur protocol list logical page in
     let links = links_of list logical page in
-    line_of_words (page_words page version reason current (walk_words links)) (plain_page page version reason current (walk_words links) (plain_walk links))
+    line_of_words (page_words page version reason current (walk_words links))
+    (plain_page page version reason current (walk_words links) (plain_walk links))
 
 pub last_is_line : (count : ℕ) → IsLine (last_line count)
 last_is_line count = line_of_words (codes "explained" ∷ decimal count ∷ []) (refl, (plain_decimal count, tt))

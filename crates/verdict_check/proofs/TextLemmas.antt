@@ -45,15 +45,18 @@ behind_both (b ∷ bs) second (c ∷ cs) = elim (cases_Bool (b == c)) [
       ∙ sym (cond-false (b == c) (behind (bs ++ second) cs) None f)
 ]
 
-pub both : (first second : List ℕ) (o p q : Option (List ℕ)) → p ≡ left_behind first o → q ≡ left_behind second p → q ≡ left_behind (first ++ second) o
+pub both : (first second : List ℕ) (o p q : Option (List ℕ)) → p ≡ left_behind first o → q ≡ left_behind second p →
+    q ≡ left_behind (first ++ second) o
 both first second None p q e f = f ∙ ap (left_behind second) e
 both first second (Some text) p q e f = f ∙ ap (left_behind second) e ∙ behind_both first second text
 
 -- three pieces, and four
-pub three : (a b c : List ℕ) (o p q r : Option (List ℕ)) → p ≡ left_behind a o → q ≡ left_behind b p → r ≡ left_behind c q → r ≡ left_behind (a ++ (b ++ c)) o
+pub three : (a b c : List ℕ) (o p q r : Option (List ℕ)) → p ≡ left_behind a o → q ≡ left_behind b p →
+    r ≡ left_behind c q → r ≡ left_behind (a ++ (b ++ c)) o
 three a b c o p q r e f g = both a (b ++ c) o p r e (both b c p q r f g)
 
-pub four : (a b c d : List ℕ) (o p q r s : Option (List ℕ)) → p ≡ left_behind a o → q ≡ left_behind b p → r ≡ left_behind c q → s ≡ left_behind d r →
+pub four : (a b c d : List ℕ) (o p q r s : Option (List ℕ)) → p ≡ left_behind a o → q ≡ left_behind b p →
+    r ≡ left_behind c q → s ≡ left_behind d r →
     s ≡ left_behind (a ++ (b ++ (c ++ d))) o
 four a b c d o p q r s e f g h = both a (b ++ (c ++ d)) o p s e (three b c d p q r s f g h)
 

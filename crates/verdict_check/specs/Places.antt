@@ -20,13 +20,15 @@ place_at places page = slice_index_or places page None
 abbrev pub ArePlaces : List Found → List (Option ℕ) → Type 0
 ArePlaces list places = (page : ℕ) → place_at places page ≡ newest_place list page
 
--- among so many records of the list this is the first of the newest ones of a page, nothing where it has none there
+-- among this many records of the list this is the first of the newest ones of a page, nothing where it has none there
 abbrev pub IsNewestOf : List Found → ℕ → ℕ → Option ℕ → Type 0
 IsNewestOf list count page None = (k : ℕ) → k < count → (record_at list k).page ≢ page
 IsNewestOf list count page (Some place) =
     (place < count) × ((record_at list place).page ≡ page)
-    × ((k : ℕ) → k < count → (record_at list k).page ≡ page → (record_at list k).version ≤ (record_at list place).version)
-    × ((k : ℕ) → k < place → (record_at list k).page ≡ page → (record_at list k).version < (record_at list place).version)
+    × ((k : ℕ) → k < count → (record_at list k).page ≡ page →
+    (record_at list k).version ≤ (record_at list place).version)
+    × ((k : ℕ) → k < place → (record_at list k).page ≡ page →
+    (record_at list k).version < (record_at list place).version)
 
 -- a table says so of each page
 abbrev pub AreNewestOf : List Found → ℕ → List (Option ℕ) → Type 0

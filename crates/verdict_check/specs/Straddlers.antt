@@ -24,7 +24,7 @@ page_behind list page =
 
 -- ---- chains
 
--- the last of so many pages from which the newest record leads behind into this one; nothing where none does
+-- the last of this many pages from which the newest record leads behind into this one; nothing where none does
 abbrev pub IsLastInto : List Found → ℕ → ℕ → Option ℕ → Type 0
 IsLastInto list into count None = (page : ℕ) → page < count → page_behind list page ≢ Some into
 IsLastInto list into count (Some last) =
@@ -35,7 +35,7 @@ IsLastInto list into count (Some last) =
 abbrev pub AreLast : List Found → ℕ → List (Option ℕ) → Type 0
 AreLast list count last = (into : ℕ) → into < length last → IsLastInto list into count (place_at last into)
 
--- and another one has, of each of so many pages that leads behind, the last one before it that leads into the same
+-- and another one has, of each of this many pages that leads behind, the last one before it that leads into the same
 abbrev pub AreBefore : List Found → ℕ → List (Option ℕ) → Type 0
 AreBefore list count before =
     (page into : ℕ) → page < count → page_behind list page ≡ Some into →
@@ -43,7 +43,7 @@ AreBefore list count before =
 
 -- ---- versions
 
--- of each of so many pages a table has the greatest version, among so many records of the list, that straddles the
+-- of each of this many pages a table has the greatest version, among this many records of the list, that straddles the
 -- link of its newest record, 0 for none
 abbrev pub AreStraddlersOf : List Found → ℕ → ℕ → List ℕ → Type 0
 AreStraddlersOf list count logical straddlers =

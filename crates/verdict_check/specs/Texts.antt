@@ -13,7 +13,7 @@ unfoldable pub text_lines : List ℕ → List (List ℕ)
 text_lines [] = []
 text_lines (b ∷ bs) = if b == 10 then (b ∷ []) ∷ text_lines bs else with_first b (text_lines bs)
 
--- line `k` of a text, counted from 1, if it has so many
+-- line `k` of a text, counted from 1, if it has that many
 abbrev pub line_at : ℕ → List ℕ → Option (List ℕ)
 line_at k text = slice_get (text_lines text) (k - 1)
 

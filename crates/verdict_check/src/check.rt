@@ -33,7 +33,8 @@ pub fn check_report(
     requires few { logical ≤ 65536 }
     requires pages { All (λ f. f.rec.page < logical) list.now }
     requires scanned { IsScanned list.now }
-    ensures good { IfOk result (λ n. (report.now ≡ wanted protocol list.now logical) × (n ≡ length (pages list.now logical))) }
+    ensures good { IfOk result (λ n. (report.now ≡ wanted protocol list.now logical)
+        × (n ≡ length (pages list.now logical))) }
     ensures wrong { IfErr result (IsFirstDifference (wanted protocol list.now logical) report.now) }
 {
     let mut places = [None; MOST_PAGES];
@@ -64,7 +65,8 @@ fn read_report(judge: &Checker, courses: &mut [Option<WalkEnd>], report: &[u8]) 
     requires pages { All (λ f. f.rec.page < judge.now.logical) judge.now.records.list.now }
     requires scanned { IsScanned judge.now.records.list.now }
     requires older { AreOlder judge.now.records.list.now (length judge.now.records.list.now) judge.now.older.now }
-    requires straddlers { judge.now.protocol ≡ Bpcc → AreStraddlers judge.now.records.list.now judge.now.straddlers.now }
+    requires straddlers { judge.now.protocol ≡ Bpcc →
+        AreStraddlers judge.now.records.list.now judge.now.straddlers.now }
     requires empty { All (λ course. course ≡ None) courses.old }
     ensures good { IfOk result (λ n.
         (report.now ≡ wanted judge.now.protocol judge.now.records.list.now judge.now.logical)

@@ -1,14 +1,14 @@
 ghost use Rattle.std.specs.Prelude.{◌≡◌, ◌<◌, ◌≤◌, Some, All, if◌then◌else◌, length};
 ghost use Rattle.tx_types.specs.declared.config.Protocol.TheVariants.{Bpcc};
+ghost use Rattle.record_list.specs.Current.{fallback};
 ghost use Rattle.record_list.specs.Records.{record_at, IsScanned};
 ghost use Rattle.record_list.specs.Verdict.{is_committed};
-ghost use Rattle.record_list.specs.Current.{fallback};
 ghost use Rattle.sorted_records.specs.SortedRecords.{ending};
-ghost use Rattle.verdict_check.specs.Places.{newest_place, IsNewestAt};
+ghost use Rattle.verdict_check.specs.Expected.{IsExpected};
 ghost use Rattle.verdict_check.specs.Older.{version_at, AreOlder};
+ghost use Rattle.verdict_check.specs.Places.{newest_place, IsNewestAt};
 ghost use Rattle.verdict_check.specs.Straddlers.{AreStraddlers, behind_shows};
 ghost use Rattle.verdict_check.specs.WalkEnds.{AreWalkEnds, EndsWithin, IsCounted, shown_by, links_by};
-ghost use Rattle.verdict_check.specs.Expected.{IsExpected};
 
 use crate::expected::Expected;
 use crate::records::Records;
@@ -17,7 +17,7 @@ use crate::walk_ends::find_walk_end;
 use record_list::Why;
 use tx_types::{Protocol, Rec};
 
-/// What the verdict on a page is judged by.
+/// What decides the verdict on a page.
 #[derive(Clone, Copy)]
 pub struct Checker<'a> {
     pub records: Records<'a>,
@@ -38,7 +38,8 @@ impl<'a> Checker<'a> {
         requires pages { All (λ f. f.rec.page < length courses.old) self.now.records.list.now }
         requires scanned { IsScanned self.now.records.list.now }
         requires older { AreOlder self.now.records.list.now (length self.now.records.list.now) self.now.older.now }
-        requires straddlers { self.now.protocol ≡ Bpcc → AreStraddlers self.now.records.list.now self.now.straddlers.now }
+        requires straddlers { self.now.protocol ≡ Bpcc →
+            AreStraddlers self.now.records.list.now self.now.straddlers.now }
         requires known { AreWalkEnds self.now.records.list.now self.now.logical courses.old }
         ensures is { IsExpected self.now.protocol self.now.records.list.now self.now.logical result }
         ensures page { result.page ≡ page }
@@ -56,10 +57,11 @@ impl<'a> Checker<'a> {
         }
     }
 
-    /// What a course shows.
+    /// What a walk end shows.
     fn why(&self, course: WalkEnd) -> Why
         requires ends { EndsWithin self.now.records.list.now course }
-        requires straddlers { self.now.protocol ≡ Bpcc → AreStraddlers self.now.records.list.now self.now.straddlers.now }
+        requires straddlers { self.now.protocol ≡ Bpcc →
+            AreStraddlers self.now.records.list.now self.now.straddlers.now }
         ensures { result ≡ shown_by self.now.protocol self.now.records.list.now course }
     {
         match course {
@@ -69,7 +71,7 @@ impl<'a> Checker<'a> {
         }
     }
 
-    /// The number of links of a walk along a course.
+    /// The number of links of a walk to a walk end.
     fn links(&self, course: WalkEnd) -> u32
         requires logical { self.now.logical ≤ 65536 }
         requires counted { IsCounted self.now.logical course }
@@ -86,8 +88,10 @@ impl<'a> Checker<'a> {
     fn ending(&self, at: u32) -> Why
         requires within { at < length self.now.records.list.now }
         requires newest { IsNewestAt self.now.records.list.now at }
-        requires straddlers { self.now.protocol ≡ Bpcc → AreStraddlers self.now.records.list.now self.now.straddlers.now }
-        ensures { result ≡ ending self.now.protocol self.now.records.list.now (record_at self.now.records.list.now at).next }
+        requires straddlers { self.now.protocol ≡ Bpcc →
+            AreStraddlers self.now.records.list.now self.now.straddlers.now }
+        ensures { result ≡ ending self.now.protocol self.now.records.list.now
+            (record_at self.now.records.list.now at).next }
     {
         let Rec { page, next, .. } = self.records.list[at as usize].rec;
         if next.version < self.records.newest(next.page) {
@@ -117,7 +121,8 @@ impl<'a> Checker<'a> {
         requires newest { IsNewestAt self.now.records.list.now place }
         requires older { AreOlder self.now.records.list.now (length self.now.records.list.now) self.now.older.now }
         ensures { result ≡ (if is_committed why then (record_at self.now.records.list.now place).version
-            else fallback self.now.protocol self.now.records.list.now (record_at self.now.records.list.now place).page) }
+            else fallback self.now.protocol self.now.records.list.now
+            (record_at self.now.records.list.now place).page) }
     {
         let rec = self.records.list[place as usize].rec;
         match why {

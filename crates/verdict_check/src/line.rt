@@ -1,11 +1,11 @@
 ghost use Rattle.std.specs.Prelude.{◌≡◌, ℕ, ◌∷◌, ◌++◌, [], map, take, codes, decimal, length};
 ghost use Rattle.tx_types.specs.declared.config.Protocol.{Protocol};
 ghost use Rattle.record_list.specs.Verdict.{verdict_of};
-ghost use Rattle.verdict_report.specs.Walks.{links_of};
-ghost use Rattle.verdict_report.specs.Report.{verdict_word, reason_words, link_word, more_words, most_links, last_line, verdict_line};
 ghost use Rattle.verdict_report.specs.Lines.{after_spaces};
-ghost use Rattle.verdict_check.specs.Texts.{left, left_behind};
+ghost use Rattle.verdict_report.specs.Report.{verdict_word, reason_words, link_word, more_words, most_links, last_line, verdict_line};
+ghost use Rattle.verdict_report.specs.Walks.{links_of};
 ghost use Rattle.verdict_check.specs.Expected.{IsExpected};
+ghost use Rattle.verdict_check.specs.Texts.{left, left_behind};
 
 use crate::expected::Expected;
 use crate::reading::Reading;
@@ -19,7 +19,8 @@ const SHOWN_LINKS: u32 = 16;
 /// Reads the line of a page.
 pub fn read_line<'a>(reading: Reading<'a>, records: &Records, line: &Expected) -> Reading<'a>
     ensures { (protocol : Protocol) (logical : ℕ) → IsExpected protocol records.now.list.now logical line.now →
-        left result ≡ left_behind (verdict_line protocol records.now.list.now logical line.now.page) (left reading.entry) }
+        left result ≡ left_behind (verdict_line protocol records.now.list.now logical line.now.page)
+        (left reading.entry) }
 {
     let reading = read_page(reading, line.page, line.newest);
     let reading = read_verdict(reading, line.why);
@@ -32,7 +33,8 @@ pub fn read_line<'a>(reading: Reading<'a>, records: &Records, line: &Expected) -
 /// Reads the page and its newest version.
 fn read_page(reading: Reading, page: u32, newest: u64) -> Reading
     ensures { left result
-        ≡ left_behind (codes "verdict" ++ after_spaces (decimal page ∷ codes "newest" ∷ decimal newest ∷ [])) (left reading.entry) }
+        ≡ left_behind (codes "verdict" ++ after_spaces (decimal page ∷ codes "newest" ∷ decimal newest ∷ []))
+        (left reading.entry) }
 {
     reading
         .then(b"verdict ")
@@ -74,11 +76,12 @@ fn read_current(reading: Reading, current: u64) -> Reading
         .then(b" walk")
 }
 
-/// Reads the first links of the walk from the newest record of a page, which has so many.
+/// Reads the first links of the walk from the newest record of a page, which has this many.
 fn read_links<'a>(reading: Reading<'a>, records: &Records, page: u32, links: u32) -> Reading<'a>
     ensures { (logical : ℕ) → links ≡ length (links_of records.now.list.now logical page) →
         left result ≡ left_behind
-        (after_spaces (map link_word (take most_links (links_of records.now.list.now logical page)))) (left reading.entry) }
+        (after_spaces (map link_word (take most_links (links_of records.now.list.now logical page))))
+        (left reading.entry) }
 {
     let mut reading = reading;
     let mut link = records.newest_link(page);
@@ -100,7 +103,7 @@ fn read_link(reading: Reading, link: Link) -> Reading
         .then_number(link.version)
 }
 
-/// Reads how many of so many links are not named, where there are such.
+/// Reads how many of this many links are not named, if any are not.
 fn read_more(reading: Reading, links: u32) -> Reading
     ensures { left result ≡ left_behind (after_spaces (more_words links)) (left reading.entry) }
 {
@@ -112,7 +115,7 @@ fn read_more(reading: Reading, links: u32) -> Reading
         .then_number(u64::from(links - SHOWN_LINKS))
 }
 
-/// Reads the last line of a report on so many pages.
+/// Reads the last line of a report on this many pages.
 pub fn read_last(reading: Reading, pages: u32) -> Reading
     ensures { left result ≡ left_behind (last_line pages) (left reading.entry) }
 {

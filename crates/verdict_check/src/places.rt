@@ -39,7 +39,7 @@ fn place_in(slot: Slot, at: usize) -> u32
     requires { at ≤ slot.0 }
     ensures { result ≡ at }
 {
-    // at most the number of the slot
+    // For the proof: the range of the number.
     let _number = slot.0;
     at as u32
 }

@@ -1,14 +1,14 @@
 ghost use Rattle.std.specs.Prelude.{◌≡◌, ◌<◌, length};
 ghost use Rattle.record_list.specs.Records.{newest, record_at};
 ghost use Rattle.record_list.specs.Verdict.{newest_name, link_of};
-ghost use Rattle.sorted_records.specs.SortedRecords.{place_of, link_graph};
 ghost use Rattle.sorted_records.specs.Orbits.{next_of};
+ghost use Rattle.sorted_records.specs.SortedRecords.{place_of, link_graph};
 ghost use Rattle.verdict_check.specs.Places.{newest_place, ArePlaces};
 
 use record_list::Found;
 use tx_types::Link;
 
-/// The most pages that a report is checked of: the tables of pages have room for so many.
+/// The most pages that a report is checked of: the tables of pages have room for this many.
 pub const MOST_PAGES: usize = 65536;
 
 /// A list of records, and the place of the newest one of each page.

@@ -22,7 +22,8 @@ pub fn note_straddlers(records: &Records, protocol: Protocol, logical: u32, stra
     }
 }
 
-/// The same under Back Pointer Cyclic Commit. Each record is looked at once, with the links into its page.
+/// Notes the straddlers of the newest records under Back Pointer Cyclic Commit. It looks at each record once, with the
+/// links into its page.
 fn note_versions(records: &Records, logical: u32, straddlers: &mut [u64])
     requires few { logical ≤ 65536 }
     requires pages { All (λ f. f.rec.page < logical) records.now.list.now }

@@ -1,16 +1,16 @@
 ghost use Rattle.std.specs.Prelude.{◌≡◌, ◌<◌, ◌≤◌, ◌+◌, ℕ, All, Some, if◌then◌else◌, nat_le, length, slice_set};
 ghost use Rattle.record_list.specs.Records.{record_at};
-ghost use Rattle.sorted_records.specs.SortedRecords.{link_graph};
 ghost use Rattle.sorted_records.specs.Orbits.{IsEnd, IsRound};
-ghost use Rattle.verdict_check.specs.declared.walk_end.WalkEnd.TheVariants.{Ends, Long};
+ghost use Rattle.sorted_records.specs.SortedRecords.{link_graph};
 ghost use Rattle.verdict_check.specs.Places.{IsNewestAt};
 ghost use Rattle.verdict_check.specs.WalkEnds.{walk_end_at, IsWalkEnd, AreWalkEnds};
+ghost use Rattle.verdict_check.specs.declared.walk_end.WalkEnd.TheVariants.{Ends, Long};
 
 use crate::records::Records;
 use crate::walk_end::WalkEnd;
 
-/// The course from the newest record of a page, which stands at this place. What is known of courses is
-/// looked up; what is found is noted, of each page on the way.
+/// The walk end from the newest record of a page, which stands at this place. What is known of walk ends is looked up;
+/// what is found is noted, of each page on the way.
 pub fn find_walk_end(
     records: &Records,
     courses: &mut [Option<WalkEnd>],
@@ -39,14 +39,14 @@ pub fn find_walk_end(
     course
 }
 
-/// What is known of the course from the newest record of a page.
+/// What is known of the walk end from the newest record of a page.
 fn known_walk_end(courses: &[Option<WalkEnd>], page: u32) -> Option<WalkEnd>
     ensures { result ≡ walk_end_at courses.now page }
 {
     courses.get(page as usize).copied().flatten()
 }
 
-/// Finds the course from a newest record. It goes on with what is known to come to an end.
+/// Finds the walk end from a newest record. It goes on with what is known to come to an end.
 fn find(records: &Records, courses: &[Option<WalkEnd>], logical: u32, place: u32) -> WalkEnd
     requires logical { logical ≤ 65536 }
     requires pages { All (λ f. f.rec.page < length courses.now) records.now.list.now }
@@ -72,7 +72,7 @@ fn find(records: &Records, courses: &[Option<WalkEnd>], logical: u32, place: u32
     WalkEnd::Long
 }
 
-/// The course that comes to an end after so many links.
+/// The walk end of a walk that comes to an end after this many links.
 fn ending(logical: u32, after: u32, at: u32) -> WalkEnd
     ensures { result ≡ (if nat_le after logical then Ends after at else Long) }
 {
@@ -83,7 +83,7 @@ fn ending(logical: u32, after: u32, at: u32) -> WalkEnd
     }
 }
 
-/// Notes the courses on the way from a newest record to an end, as far as they are not known.
+/// Notes the walk ends on the way from a newest record to an end, as far as they are not known.
 fn note_ending(
     records: &Records,
     courses: &mut [Option<WalkEnd>],
@@ -119,7 +119,7 @@ fn note_ending(
     }
 }
 
-/// Notes the courses of the newest records of a cycle, from one of them on.
+/// Notes the walk ends of the newest records of a cycle, from one of them on.
 fn note_round(
     records: &Records,
     courses: &mut [Option<WalkEnd>],

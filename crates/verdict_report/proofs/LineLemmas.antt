@@ -12,7 +12,8 @@ use Rattle.verdict_report.specs.Report.{reason_words, more_words}
 use Rattle.verdict_report.specs.Lines.{IsWalk, shown_words}
 
 -- words with a space between each two are the first and the others with a space before each
-join_after_spaces : (word : List ℕ) (words : List (List ℕ)) → join_with_byte 32 (word ∷ words) ≡ word ++ after_spaces words
+join_after_spaces : (word : List ℕ) (words : List (List ℕ)) →
+    join_with_byte 32 (word ∷ words) ≡ word ++ after_spaces words
 join_after_spaces word [] = sym (append-nil word)
 join_after_spaces word (next ∷ words) = ap (λ text. word ++ 32 ∷ text) (join_after_spaces next words)
 
@@ -29,7 +30,8 @@ pub line_parts : (page version : ℕ) (why : Why) (current : ℕ) (links more : 
     page_line page version why current (links ++ more)
     ≡ (codes "verdict" ++ (after_spaces (decimal page ∷ codes "newest" ∷ decimal version ∷ [])
     ++ (after_spaces (verdict_word (verdict_of why) ∷ []) ++ (after_spaces (reason_words why)
-    ++ (after_spaces (codes "current" ∷ decimal current ∷ codes "walk" ∷ []) ++ (after_spaces links ++ after_spaces more)))))) ++ 10 ∷ []
+    ++ (after_spaces (codes "current" ∷ decimal current ∷ codes "walk" ∷ [])
+    ++ (after_spaces links ++ after_spaces more)))))) ++ 10 ∷ []
 line_parts page version why current links more =
     let first = codes "verdict" in
     let a = decimal page ∷ codes "newest" ∷ decimal version ∷ [] in
@@ -63,7 +65,8 @@ line_put page version why current links more t u v w x y z et eu ev ew ex ey ez 
     put first a b c d e f t u v w x y z et eu ev ew ex ey ez = rw (ez, ey, ex, ew, ev, eu, et) (simp append_assoc)
 
 -- a line whose parts are those of a page
-pub line_explained : (protocol : Protocol) (list : List Found) (logical page version : ℕ) (reason : Why) (current : ℕ) (walk : Walk) →
+pub line_explained : (protocol : Protocol) (list : List Found) (logical page version : ℕ) (reason : Why) (current : ℕ)
+    (walk : Walk) →
     version ≡ newest list page → IsWalk walk (links_of list logical page) → reason ≡ why protocol list logical page →
     current ≡ cond (is_committed reason) (newest list page) (fallback protocol list page) →
     page_line page version reason current (shown_words walk) ≡ verdict_line protocol list logical page

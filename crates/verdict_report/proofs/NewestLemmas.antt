@@ -20,7 +20,8 @@ present_page : (xs : List Found) (u : Link) → is_present xs u ≡ true → has
 present_page [] u here = absurd (false≢true here)
 present_page (g ∷ gs) u here = elim (cases_Bool (has_name u g.rec)) [
   | inl e ↦ or_left (eqb g.rec.page u.page) _ (and_parts (eqb g.rec.page u.page) (eqb g.rec.version u.version) e).0
-  | inr e ↦ or_right (eqb g.rec.page u.page) _ (present_page gs u (or_second (has_name u g.rec) (is_present gs u) e here))
+  | inr e ↦ or_right (eqb g.rec.page u.page) _ (present_page gs u
+      (or_second (has_name u g.rec) (is_present gs u) e here))
 ]
 
 -- what a name leads to in a list with one record more at its end
@@ -80,15 +81,19 @@ old_name (g ∷ gs) f u here = elim (cases_Bool (has_name u g.rec)) [
       })
 ]
 
-newest_push : (xs : List Found) (f : Found) (page : ℕ) → newest (xs ++ f ∷ []) page ≡ max (newest xs page) (version_of page f.rec)
+newest_push : (xs : List Found) (f : Found) (page : ℕ) →
+    newest (xs ++ f ∷ []) page ≡ max (newest xs page) (version_of page f.rec)
 newest_push xs f page = max_push (greatest (version_of page)) (λ g. version_of page g.rec) refl (λ _ _. refl) xs f
 
-record_push : (xs : List Found) (f : Found) (page : ℕ) → has_record (xs ++ f ∷ []) page ≡ (has_record xs page || (eqb f.rec.page page || false))
+record_push : (xs : List Found) (f : Found) (page : ℕ) → has_record (xs ++ f ∷ []) page
+    ≡ (has_record xs page || (eqb f.rec.page page || false))
 record_push xs f page = list_any-append (λ g. eqb g.rec.page page) xs (f ∷ [])
 
 -- what is kept where the names are known
-newest_from : (xs : List Found) (page version : ℕ) (kept : Option Rec) → newest xs page ≡ version → is_some kept ≡ has_record xs page →
-    version_in kept ≡ version → Leads xs (named page version) (is_some kept) (link_in (named page version) kept) (back_in kept) →
+newest_from : (xs : List Found) (page version : ℕ) (kept : Option Rec) → newest xs page ≡ version →
+    is_some kept ≡ has_record xs page →
+    version_in kept ≡ version → Leads xs (named page version) (is_some kept) (link_in (named page version) kept)
+    (back_in kept) →
     IsNewestRecord xs page kept
 newest_from xs page version kept e has is leads =
     let name : named page version ≡ newest_name xs page = ap (named page) (sym e) in
@@ -102,22 +107,29 @@ newest_from xs page version kept e has is leads =
 
 module _ (xs : List Found) (f : Found) (page : ℕ) where
   -- a record of another page
-  page_else : (kept : Option Rec) → IsNewestRecord xs page kept → eqb f.rec.page page ≡ false → IsNewestRecord (xs ++ f ∷ []) page kept
+  page_else : (kept : Option Rec) → IsNewestRecord xs page kept → eqb f.rec.page page ≡ false →
+      IsNewestRecord (xs ++ f ∷ []) page kept
   page_else kept was off =
       let none : version_of page f.rec ≡ 0 = cond-false (eqb f.rec.page page) f.rec.version 0 off in
       let leads = other_name xs f (newest_name xs page) (ap (λ b. b && eqb f.rec.version (newest xs page)) off) in
       newest_from (xs ++ f ∷ []) page (newest xs page) kept
       (newest_push xs f page ∙ ap (λ n. max (newest xs page) n) none ∙ max-eq_left (omega arith))
-      (was.found ∙ sym (record_push xs f page ∙ ap (λ b. has_record xs page || (b || false)) off ∙ or_none (has_record xs page)))
+      (was.found ∙ sym (record_push xs f page ∙ ap (λ b. has_record xs page || (b || false)) off
+      ∙ or_none (has_record xs page)))
       was.version
-      (record { present_is = leads.present_is ∙ sym was.present; link_is = leads.link_is ∙ sym was.link; back_is = leads.back_is ∙ sym was.back })
+      (record {
+        present_is = leads.present_is ∙ sym was.present;
+        link_is = leads.link_is ∙ sym was.link;
+        back_is = leads.back_is ∙ sym was.back;
+      })
     where
       or_none : (b : Bool) → (b || (false || false)) ≡ b
       or_none true = refl
       or_none false = refl
 
   -- a record of the page that becomes its newest one
-  page_new : eqb f.rec.page page ≡ true → is_present xs (named page f.rec.version) ≡ false → newest xs page ≤ f.rec.version →
+  page_new : eqb f.rec.page page ≡ true → is_present xs (named page f.rec.version) ≡ false →
+      newest xs page ≤ f.rec.version →
       IsNewestRecord (xs ++ f ∷ []) page (Some f.rec)
   page_new own out above =
       let version : version_of page f.rec ≡ f.rec.version = cond-true (eqb f.rec.page page) f.rec.version 0 own in
@@ -139,17 +151,24 @@ module _ (xs : List Found) (f : Found) (page : ℕ) where
       (newest_push xs f page ∙ ap (λ n. max (newest xs page) n) version ∙ max-eq_left (omega arith))
       (sym (record_push xs f page ∙ or_right (has_record xs page) _ (ap (λ b. b || false) own)))
       was.version
-      (record { present_is = leads.present_is; link_is = leads.link_is ∙ sym was.link; back_is = leads.back_is ∙ sym was.back })
+      (record {
+        present_is = leads.present_is;
+        link_is = leads.link_is ∙ sym was.link;
+        back_is = leads.back_is
+            ∙ sym was.back;
+      })
 
   -- a name above the newest version is absent
-  newer_out : (version : ℕ) → version ≡ newest xs page → version < f.rec.version → is_present xs (named page f.rec.version) ≡ false
+  newer_out : (version : ℕ) → version ≡ newest xs page → version < f.rec.version →
+      is_present xs (named page f.rec.version) ≡ false
   newer_out version e less = elim (cases_Bool (is_present xs (named page f.rec.version))) [
     | inl here ↦ (let bound = newest_bound xs (named page f.rec.version) here in absurd (omega arith))
     | inr out ↦ out
   ]
 
   -- a record of the page
-  page_own : (kept : Option Rec) → IsNewestRecord xs page kept → eqb f.rec.page page ≡ true → IsNewestRecord (xs ++ f ∷ []) page (newer kept f.rec)
+  page_own : (kept : Option Rec) → IsNewestRecord xs page kept → eqb f.rec.page page ≡ true →
+      IsNewestRecord (xs ++ f ∷ []) page (newer kept f.rec)
   page_own None was own = page_new own (nowhere f.rec.version) (let e = was.version in omega arith)
     where
       nowhere : (version : ℕ) → is_present xs (named page version) ≡ false
@@ -158,9 +177,12 @@ module _ (xs : List Found) (f : Found) (page : ℕ) where
         | inr out ↦ out
       ]
   page_own (Some r) was own = elim (cases_lt r.version f.rec.version) [
-    | inl less ↦ subst (IsNewestRecord (xs ++ f ∷ []) page) (sym (cond-true (ltb r.version f.rec.version) (Some f.rec) (Some r)
-        (lt-ltb r.version f.rec.version less))) (page_new own (newer_out r.version was.version less) (let e = was.version in omega arith))
-    | inr le ↦ subst (IsNewestRecord (xs ++ f ∷ []) page) (sym (cond-false (ltb r.version f.rec.version) (Some f.rec) (Some r)
+    | inl less ↦ subst (IsNewestRecord (xs ++ f ∷ []) page)
+        (sym (cond-true (ltb r.version f.rec.version) (Some f.rec) (Some r)
+        (lt-ltb r.version f.rec.version less))) (page_new own (newer_out r.version was.version less)
+        (let e = was.version in omega arith))
+    | inr le ↦ subst (IsNewestRecord (xs ++ f ∷ []) page)
+        (sym (cond-false (ltb r.version f.rec.version) (Some f.rec) (Some r)
         (le-ltb r.version f.rec.version le))) (page_old r was own le)
   ]
 
@@ -168,13 +190,17 @@ module _ (xs : List Found) (f : Found) (page : ℕ) where
   pub newest_record_push : (kept : Option Rec) → IsNewestRecord xs page kept → IsNewestRecord (xs ++ f ∷ []) page
       (cond (eqb f.rec.page page) (newer kept f.rec) kept)
   newest_record_push kept was = elim (cases_Bool (eqb f.rec.page page)) [
-    | inl own ↦ subst (IsNewestRecord (xs ++ f ∷ []) page) (sym (cond-true (eqb f.rec.page page) (newer kept f.rec) kept own)) (page_own kept was own)
-    | inr off ↦ subst (IsNewestRecord (xs ++ f ∷ []) page) (sym (cond-false (eqb f.rec.page page) (newer kept f.rec) kept off)) (page_else kept was off)
+    | inl own ↦ subst (IsNewestRecord (xs ++ f ∷ []) page)
+        (sym (cond-true (eqb f.rec.page page) (newer kept f.rec) kept own)) (page_own kept was own)
+    | inr off ↦ subst (IsNewestRecord (xs ++ f ∷ []) page)
+        (sym (cond-false (eqb f.rec.page page) (newer kept f.rec) kept off)) (page_else kept was off)
   ]
 
 -- a table goes on with one record more
-pub keeps_more : (xs : List Found) (i : ℕ) (before after : List (Option Rec)) → i < length xs → KeepsNewest (take i xs) before →
-    ((page : ℕ) → kept_at after page ≡ cond (eqb (get_or xs i nothing).rec.page page) (newer (kept_at before page) (get_or xs i nothing).rec)
+pub keeps_more : (xs : List Found) (i : ℕ) (before after : List (Option Rec)) → i < length xs →
+    KeepsNewest (take i xs) before →
+    ((page : ℕ) → kept_at after page ≡ cond (eqb (get_or xs i nothing).rec.page page)
+    (newer (kept_at before page) (get_or xs i nothing).rec)
     (kept_at before page)) →
     KeepsNewest (take (i + 1) xs) after
 keeps_more xs i before after h was is page =
@@ -185,14 +211,17 @@ keeps_more xs i before after h was is page =
 
 -- a table where the record of one page is replaced by the newer of it and another
 kept_at-set : (records : List (Option Rec)) (at : ℕ) (r : Rec) → at < length records → (page : ℕ) →
-    kept_at (set records at (newer (kept_at records at) r)) page ≡ cond (eqb at page) (newer (kept_at records page) r) (kept_at records page)
+    kept_at (set records at (newer (kept_at records at) r)) page ≡ cond (eqb at page) (newer (kept_at records page) r)
+    (kept_at records page)
 kept_at-set records at r h page = elim (cases_eq at page) [
-  | inl e ↦ subst (λ p. kept_at (set records at (newer (kept_at records at) r)) p ≡ cond (eqb at p) (newer (kept_at records p) r) (kept_at records p)) e
+  | inl e ↦ subst (λ p. kept_at (set records at (newer (kept_at records at) r)) p
+      ≡ cond (eqb at p) (newer (kept_at records p) r) (kept_at records p)) e
       (get_or-set_same records at _ None h ∙ sym (cond-true (eqb at at) _ _ (eq-eqb at at refl)))
-  | inr off ↦ get_or-set_other records at page _ None (λ e. off (sym e)) ∙ sym (cond-false (eqb at page) _ _ (ne_eqb at page off))
+  | inr off ↦ get_or-set_other records at page _ None (λ e. off (sym e))
+      ∙ sym (cond-false (eqb at page) _ _ (ne_eqb at page off))
 ]
 
--- the same where a table with more room keeps what the old one does
+-- a table with more room, which keeps the records of an old one, where the record of one page is replaced
 pub kept_after : (old records : List (Option Rec)) (at : ℕ) (r : Rec) (kept : Option Rec) → at < length records →
     ((page : ℕ) → kept_at records page ≡ kept_at old page) → kept ≡ kept_at records at → (page : ℕ) →
     kept_at (set records at (newer kept r)) page ≡ cond (eqb at page) (newer (kept_at old page) r) (kept_at old page)

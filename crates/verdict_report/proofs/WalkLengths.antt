@@ -17,7 +17,8 @@ use Rattle.sorted_records.proofs.OfWalk.WalkOrbits.{link_at, absent_at, same_as_
 use Rattle.verdict_report.proofs.WalkLemmas.{one_less}
 use Rattle.verdict_report.specs.Walks.{stays_at}
 
-module _ (list : List Found) (start : Link) (first : ℕ) (there : position (λ f. has_name start f.rec) list ≡ Some first) where
+module _ (list : List Found) (start : Link) (first : ℕ)
+    (there : position (λ f. has_name start f.rec) list ≡ Some first) where
   abbrev graph : List (Option ℕ)
   graph = link_graph list
 
@@ -44,19 +45,24 @@ module _ (list : List Found) (start : Link) (first : ℕ) (there : position (λ 
   not_start : (link : Link) → position (λ f. has_name link f.rec) list ≡ None → is_same link start ≡ false
   not_start link none = elim (cases_Bool (is_same link start)) [
     | inl t ↦ absurd (
-        let e : link ≡ start = has_name_true start (record (record_at list first) { page = link.page; version = link.version }) t in
+        let e : link ≡ start = has_name_true start (record (record_at list first) {
+          page = link.page;
+          version = link.version;
+        }) t in
         let p = ap (λ n. position (λ f. has_name n f.rec) list) e in
         cc)
     | inr f ↦ f
   ]
 
   -- where a walk stays, no record has the link's name
-  nowhere : (link : Link) → place_of list link ≡ None → newest list link.page ≡ link.version → position (λ f. has_name link f.rec) list ≡ None
+  nowhere : (link : Link) → place_of list link ≡ None → newest list link.page ≡ link.version →
+      position (λ f. has_name link f.rec) list ≡ None
   nowhere link none same =
       sym (cond-true (newest list link.page == link.version) (position (λ f. has_name link f.rec) list) None
       (eq-eqb (newest list link.page) link.version same)) ∙ none
 
-  stays : (turns : ℕ) (link : Link) → newest list link.page ≡ link.version → position (λ f. has_name link f.rec) list ≡ None → taken turns link ≡ turns
+  stays : (turns : ℕ) (link : Link) → newest list link.page ≡ link.version → position (λ f. has_name link f.rec) list
+      ≡ None → taken turns link ≡ turns
   stays zero link same none = refl
   stays (suc turns) link same none =
       rw (
@@ -78,14 +84,22 @@ module _ (list : List Found) (start : Link) (first : ℕ) (there : position (λ 
         let at = nowhere link none same in
         let absent : is_present list (newest_name list link.page) ≡ false =
         ap (λ v. is_present list (record { page = link.page; version = v })) same ∙ absent_at list link at in
-        let yes : stays_at list link ≡ true = rw (eq-eqb link.version (newest list link.page) (sym same), absent) refl in
+        let yes : stays_at list link ≡ true = rw (
+          eq-eqb link.version (newest list link.page) (sym same),
+          absent,
+        ) refl in
         stays (suc turns) link same at ∙ sym (cond-true (stays_at list link) (suc turns) (min (suc turns) 1) yes))
     | inr (inl ahead) ↦ (
         let no : stays_at list link ≡ false = rw (ne_eqb link.version (newest list link.page) (omega arith)) refl in
-        rw (no, lt-ltb (newest list link.page) link.version ahead) (sym (min-eq_right {n = 1} {m = suc turns} (omega arith))))
+        rw (no, lt-ltb (newest list link.page) link.version ahead)
+        (sym (min-eq_right {n = 1} {m = suc turns} (omega arith))))
     | inr (inr behind) ↦ (
         let no : stays_at list link ≡ false = rw (ne_eqb link.version (newest list link.page) (omega arith)) refl in
-        rw (no, le-ltb (newest list link.page) link.version (omega arith), lt-ltb link.version (newest list link.page) behind)
+        rw (
+          no,
+          le-ltb (newest list link.page) link.version (omega arith),
+          lt-ltb link.version (newest list link.page) behind,
+        )
         (sym (min-eq_right {n = 1} {m = suc turns} (omega arith))))
   ]
 
@@ -100,12 +114,15 @@ module _ (list : List Found) (start : Link) (first : ℕ) (there : position (λ 
   none_taken false n = sym (min-eq_left {n = 0} {m = n} (omega arith))
 
   -- one link more
-  one_more : (b : Bool) (turns n : ℕ) → suc (if b then turns else min turns n) ≡ (if b then suc turns else min (suc turns) (suc n))
+  one_more : (b : Bool) (turns n : ℕ) → suc (if b then turns else min turns n)
+      ≡ (if b then suc turns else min (suc turns) (suc n))
   one_more true turns n = refl
   one_more false turns n = one_less turns n
 
-  pub to_end : (turns x after at : ℕ) → x < length list → IsEnd graph x after at → ((k : ℕ) → 0 < k → steps graph k x ≢ Some first) →
-      taken turns (record_at list x).next ≡ (if stays_at list (record_at list at).next then turns else min turns (suc after))
+  pub to_end : (turns x after at : ℕ) → x < length list → IsEnd graph x after at →
+      ((k : ℕ) → 0 < k → steps graph k x ≢ Some first) →
+      taken turns (record_at list x).next ≡ (if stays_at list (record_at list at).next then turns
+      else min turns (suc after))
   to_end turns x zero at within end never =
       let here = end.leads in
       let z = steps_none graph x in
@@ -119,7 +136,8 @@ module _ (list : List Found) (start : Link) (first : ℕ) (there : position (λ 
     | inl none ↦ absurd (let e = steps_stop graph after x none in let f = end.leads in cc)
     | inr some ↦ (
         let (y, next) = some in
-        step_on turns x y within next (λ e. never 1 (omega arith) (steps_more graph 0 x y next ∙ steps_none graph y ∙ ap Some e))
+        step_on turns x y within next (λ e. never 1 (omega arith) (steps_more graph 0 x y next
+        ∙ steps_none graph y ∙ ap Some e))
         ∙ ap suc (to_end turns y after at (next_within Scc list start first there x y within next).1
         record { leads = sym (steps_more graph after x y next) ∙ end.leads; last = end.last }
         (λ k more e. never (suc k) (omega arith) (steps_more graph k x y next ∙ e)))
@@ -134,9 +152,11 @@ module _ (list : List Found) (start : Link) (first : ℕ) (there : position (λ 
     | inr some ↦ (
         let (y, next) = some in
         elim (cases_eq turns 0) [
-          | inl last ↦ (rw last (leads_on 0 (record_at list x).next y (next_within Scc list start first there x y within next).0
+          | inl last ↦ (rw last (leads_on 0 (record_at list x).next y
+              (next_within Scc list start first there x y within next).0
               ∙ ap suc (no_turn (y == first) y)))
-          | inr other ↦ step_on turns x y within next (λ e. never 1 (omega arith) (omega arith) (steps_more graph 0 x y next ∙ steps_none graph y ∙ ap Some e))
+          | inr other ↦ step_on turns x y within next
+              (λ e. never 1 (omega arith) (omega arith) (steps_more graph 0 x y next ∙ steps_none graph y ∙ ap Some e))
               ∙ ap suc (to_none turns y (next_within Scc list start first there x y within next).1
               (λ k low e. on (suc k) (omega arith) (steps_more graph k x y next ∙ e))
               (λ k some low e. never (suc k) (omega arith) (omega arith) (steps_more graph k x y next ∙ e)))
@@ -160,11 +180,13 @@ module _ (list : List Found) (start : Link) (first : ℕ) (there : position (λ 
           | inl last ↦ (
               let home : y ≡ first = home_now n y last rest in
               leads_on turns (record_at list x).next y (next_within Scc list start first there x y within next).0
-              ∙ ap suc (cond-true (y == first) 0 (taken turns (record_at list y).next) (eq-eqb y first home) ∙ sym last))
+              ∙ ap suc (cond-true (y == first) 0 (taken turns (record_at list y).next) (eq-eqb y first home)
+              ∙ sym last))
           | inr other ↦ step_on turns x y within next
               (λ e. never 1 (omega arith) (omega arith) (steps_more graph 0 x y next ∙ steps_none graph y ∙ ap Some e))
               ∙ ap suc (to_start turns y n (next_within Scc list start first there x y within next).1 (omega arith) rest
-              (λ k more low e. never (suc k) (omega arith) (omega arith) (steps_more graph k x y next ∙ e)) (omega arith))
+              (λ k more low e. never (suc k) (omega arith) (omega arith) (steps_more graph k x y next ∙ e))
+              (omega arith))
         ])
   ]
     where
@@ -172,15 +194,17 @@ module _ (list : List Found) (start : Link) (first : ℕ) (there : position (λ 
       home_now zero y e back = let z = steps_none graph y in cc
       home_now (suc n) y e back = absurd (omega arith)
 
--- how many links a walk looks at that may look at so many, from the orbit of the place at which it begins
+-- how many links a walk looks at that may look at this many, from the orbit of the place at which it begins
 abbrev pub length_by : List Found → ℕ → Orbit → ℕ
 length_by list most (Ends after at) = if stays_at list (record_at list at).next then most else min most (suc after)
 length_by list most (Round turns) = min most turns
 length_by list most Aside = most
 
 -- the number of links of a walk from a record
-counted : (list : List Found) (start : Link) (first turns : ℕ) (o : Orbit) → position (λ f. has_name start f.rec) list ≡ Some first → first < length list →
-    IsOrbit (link_graph list) first o → length (walk_links list start turns (record_at list first).next) ≡ length_by list turns o
+counted : (list : List Found) (start : Link) (first turns : ℕ) (o : Orbit) → position (λ f. has_name start f.rec) list
+    ≡ Some first → first < length list →
+    IsOrbit (link_graph list) first o → length (walk_links list start turns (record_at list first).next)
+    ≡ length_by list turns o
 counted list start first turns (Ends after at) there within end =
     to_end list start first there turns first after at within end (end_never (link_graph list) first after at end)
 counted list start first turns (Round n) there within round = elim (cases_lt turns n) [
@@ -216,21 +240,25 @@ walk_alone list logical page none =
 pub walk_stays : (list : List Found) (logical page after at : ℕ) → IsOrbitOfNewest list page (Some (Ends after at)) →
     stays_at list (record_at list at).next ≡ true → length (links_of list logical page) ≡ suc logical
 walk_stays list logical page after at orbit stays =
-    walk_length list logical page (Ends after at) orbit ∙ cond-true _ (suc logical) (min (suc logical) (suc after)) stays
+    walk_length list logical page (Ends after at) orbit
+    ∙ cond-true _ (suc logical) (min (suc logical) (suc after)) stays
 
 pub walk_stops : (list : List Found) (logical page after at : ℕ) → IsOrbitOfNewest list page (Some (Ends after at)) →
     stays_at list (record_at list at).next ≡ false → length (links_of list logical page) ≡ min (suc logical) (suc after)
 walk_stops list logical page after at orbit stops =
-    walk_length list logical page (Ends after at) orbit ∙ cond-false _ (suc logical) (min (suc logical) (suc after)) stops
+    walk_length list logical page (Ends after at) orbit
+    ∙ cond-false _ (suc logical) (min (suc logical) (suc after)) stops
 
--- the same counts, as they are computed
+-- the counts of links, as they are computed
 pub counted_most : (most logical n : ℕ) → most ≡ logical → n ≡ suc logical → most + 1 ≡ n
 counted_most most logical n m e = omega arith
 
-pub counted_least : (most logical fewer less result n : ℕ) → most ≡ logical → fewer ≡ less → result ≡ min (most + 1) fewer → n ≡ min (suc logical) less →
+pub counted_least : (most logical fewer less result n : ℕ) → most ≡ logical → fewer ≡ less →
+    result ≡ min (most + 1) fewer → n ≡ min (suc logical) less →
     result ≡ n
 counted_least most logical fewer less result n m f is e =
     let bound : most + 1 ≡ suc logical = omega arith in is ∙ ap₂ min bound f ∙ sym e
 
-pub orbit_is : (list : List Found) (page : ℕ) {a b : Orbit} → a ≡ b → IsOrbitOfNewest list page (Some a) → IsOrbitOfNewest list page (Some b)
+pub orbit_is : (list : List Found) (page : ℕ) {a b : Orbit} → a ≡ b → IsOrbitOfNewest list page (Some a) →
+    IsOrbitOfNewest list page (Some b)
 orbit_is list page same orbit = subst (λ o. IsOrbitOfNewest list page (Some o)) same orbit

@@ -46,7 +46,7 @@ link_word link = decimal link.page ++ 58 ∷ decimal link.version
 abbrev pub most_links : ℕ
 most_links = 16
 
--- the words for the others of so many links
+-- the words for the others of this many links
 abbrev pub more_words : ℕ → List (List ℕ)
 more_words count =
     if nat_lt most_links count then codes "more" ∷ decimal (count - most_links) ∷ [] else []

@@ -17,8 +17,7 @@ abbrev pub stays_at : List Found → Link → Bool
 stays_at list link =
     (link.version == newest list link.page) && not (is_present list (newest_name list link.page))
 
--- the links that a walk from the record `start` takes that has come to this link, and looks at so many
--- links yet
+-- the links that a walk from the record `start` takes that has come to this link, and looks at this many links yet
 abbrev pub walk_links : List Found → Link → ℕ → Link → List Link
 walk_links list start zero link = []
 walk_links list start (suc turns) link =

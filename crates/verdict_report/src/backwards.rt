@@ -4,7 +4,7 @@ ghost use Rattle.std.specs.Fmt.{decimal};
 
 use itoa::write_digits;
 
-/// Puts bytes before what begins at `end`, and answers where they begin.
+/// Puts bytes before what begins at `end`, and returns where they begin.
 #[inline(always)]
 pub fn put_bytes(bytes: &[u8], room: &mut [u8], end: usize) -> usize
     requires { (length bytes.now ≤ end) × (end ≤ length room.old) }
@@ -16,7 +16,7 @@ pub fn put_bytes(bytes: &[u8], room: &mut [u8], end: usize) -> usize
     start
 }
 
-/// Puts a number before what begins at `end`, and answers where it begins. It takes at most 20 bytes.
+/// Puts a number before what begins at `end`, and returns where it begins. It takes at most 20 bytes.
 #[inline(always)]
 pub fn put_number(number: u64, room: &mut [u8], end: usize) -> usize
     requires { (20 ≤ end) × (end ≤ length room.old) }

@@ -1,7 +1,7 @@
 ghost use Rattle.std.specs.Prelude.{◌≡◌, ◌∷◌, ◌++◌, ◌+◌, ◌*◌, ◌≤◌, [], OnOk, map, codes, length, drop};
 ghost use Rattle.std.specs.Fmt.{decimal};
-ghost use Rattle.verdict_report.specs.Report.{verdict_word, reason_words, link_word, more_words, most_links};
 ghost use Rattle.verdict_report.specs.Lines.{after_spaces, line_text};
+ghost use Rattle.verdict_report.specs.Report.{verdict_word, reason_words, link_word, more_words, most_links};
 
 use crate::backwards::{put_bytes, put_number};
 use crate::walk::{SHOWN_LINKS, Walk};
@@ -36,7 +36,7 @@ impl Line {
         text.extend_from_slice(&room[start..])
     }
 
-    /// Puts the line at the end of the room, and answers where it begins.
+    /// Puts the line at the end of the room, and returns where it begins.
     fn put(&self, room: &mut [u8; LINE_ROOM]) -> usize
         requires { length self.now.walk.shown.items ≤ most_links }
         ensures within { result ≤ 1024 }
@@ -136,7 +136,7 @@ fn put_link(link: Link, room: &mut [u8], end: usize) -> usize
     put_bytes(b" ", room, end)
 }
 
-/// Puts how many of so many links are not shown, where there are such.
+/// Puts how many of this many links are not shown, if any are not.
 fn put_more(count: u64, room: &mut [u8], end: usize) -> usize
     requires { (30 ≤ end) × (end ≤ length room.old) }
     ensures within { (result ≤ end) × (end ≤ result + 30) }

@@ -1,18 +1,18 @@
 ghost use Rattle.std.specs.Prelude.{◌≡◌, ℕ, ◌+◌, ◌^◌, ◌<◌, ◌==◌, if◌then◌else◌, length, Some, None, IfOk, OnOk};
+ghost use Rattle.record_list.specs.Current.{fallback};
 ghost use Rattle.record_list.specs.Records.{newest};
 ghost use Rattle.record_list.specs.Verdict.{newest_name, link_of, why, is_committed};
-ghost use Rattle.record_list.specs.Current.{fallback};
 ghost use Rattle.sorted_records.specs.SortedRecords.{Sorts};
-ghost use Rattle.verdict_report.specs.Walks.{is_end, stays_at, links_of};
 ghost use Rattle.verdict_report.specs.Newest.{IsNewestRecord, KeepsNewest, kept_at, newer};
+ghost use Rattle.verdict_report.specs.Walks.{is_end, stays_at, links_of};
 
 use record_list::{Found, Verdict, Why};
 use sorted_records::{Orbit, SortedRecords};
 use std::alloc::Global;
 use tx_types::{Link, Memory, Protocol, Rec};
 
-/// The chart of a list of records, with the newest record of each page at hand: where that stands in
-/// several slots, the one in the lowest.
+/// The sorted records of a list, with the newest record of each page at hand: where that stands in several slots, the
+/// one in the lowest.
 #[derive(Drop)]
 pub struct Records {
     chart: SortedRecords,

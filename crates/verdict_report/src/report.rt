@@ -1,7 +1,7 @@
 ghost use Rattle.std.specs.Prelude.{◌≡◌, ◌++◌, Some, IfOk, OnOk, OnErr, length, ◌≤◌};
-ghost use Rattle.verdict_report.specs.Report.{pages, verdict_line, last_line, report, most_links};
-ghost use Rattle.verdict_report.specs.Newest.{IsNewestRecord};
 ghost use Rattle.verdict_report.specs.Lines.{line_text};
+ghost use Rattle.verdict_report.specs.Newest.{IsNewestRecord};
+ghost use Rattle.verdict_report.specs.Report.{pages, verdict_line, last_line, report, most_links};
 
 use crate::line::{LINE_ROOM, Line};
 use crate::number::add_number;
@@ -15,8 +15,8 @@ use tx_types::{Memory, Protocol, Rec};
 /// used costs no memory, and a text that does not grow is not copied.
 const COMMON_LINE: usize = 256;
 
-/// Appends the report on a list of records, and answers the number of pages that it explains. After
-/// `Memory` the bytes are as before.
+/// Appends the report on a list of records, and returns the number of pages that it explains. After `Memory` the bytes
+/// are as before.
 ///
 /// Each page below `logical` that has a record has a line, in ascending order:
 /// `verdict P newest V WORD REASON current C walk LINKS`. V is the newest version of page P and C its
@@ -55,7 +55,7 @@ fn append(text: Vec<u8>, out: &mut Vec<u8>) -> Result<(), Memory>
     Ok(())
 }
 
-/// Appends the report, and answers the number of pages.
+/// Appends the report, and returns the number of pages.
 fn write_report(
     alloc: Global,
     protocol: Protocol,
@@ -71,7 +71,7 @@ fn write_report(
     write_lines(alloc, protocol, &records, logical, text)
 }
 
-/// Appends the lines of the report, and answers the number of pages.
+/// Appends the lines of the report, and returns the number of pages.
 fn write_lines(
     alloc: Global,
     protocol: Protocol,
@@ -96,7 +96,7 @@ fn write_lines(
     Ok(count)
 }
 
-/// Appends the last line of a report on so many pages.
+/// Appends the last line of a report on this many pages.
 fn write_last(count: u32, text: &mut Vec<u8>) -> Result<(), AllocError>
     ensures { OnOk result (text.new.items ≡ text.old.items ++ last_line count) }
 {

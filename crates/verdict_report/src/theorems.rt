@@ -1,14 +1,14 @@
 //! What holds of all reports. The functions do nothing: each is there for what it ensures.
 ghost use Rattle.std.specs.Prelude.{ℕ, ◌<◌, ◌≤◌, ◌↔◌, List, length, IsTrue, Contains};
 ghost use Rattle.std.specs.List.Sorted.{IsStrictlyIncreasing};
-ghost use Rattle.tx_types.specs.declared.record.Link.{Link};
 ghost use Rattle.tx_types.specs.declared.config.Protocol.{Protocol};
+ghost use Rattle.tx_types.specs.declared.record.Link.{Link};
 ghost use Rattle.record_list.specs.declared.found.Found.{Found};
 ghost use Rattle.record_list.specs.declared.found.Why.{Why};
-ghost use Rattle.verdict_report.specs.Walks.{links_of, IsDecidingWalk};
+ghost use Rattle.verdict_report.specs.Examples.{EmptyReport, StraddledReport, TwiceStraddledReport, EndlessReport};
 ghost use Rattle.verdict_report.specs.Lines.{FitTypes, max_report_line_bytes};
 ghost use Rattle.verdict_report.specs.Report.{has_record, page_line, pages, walk_words};
-ghost use Rattle.verdict_report.specs.Examples.{EmptyReport, StraddledReport, TwiceStraddledReport, EndlessReport};
+ghost use Rattle.verdict_report.specs.Walks.{links_of, IsDecidingWalk};
 
 /// The links that a report shows of a page are those of the walk that decides the verdict on it.
 pub fn walk_decides()

@@ -1,7 +1,7 @@
 ghost use Rattle.std.specs.Prelude.{◌≡◌, take, length, IfOk};
-ghost use Rattle.verdict_report.specs.Walks.{links_of};
-ghost use Rattle.verdict_report.specs.Report.{most_links};
 ghost use Rattle.verdict_report.specs.Lines.{IsWalk};
+ghost use Rattle.verdict_report.specs.Report.{most_links};
+ghost use Rattle.verdict_report.specs.Walks.{links_of};
 
 use crate::records::Records;
 use std::alloc::Global;
@@ -35,7 +35,7 @@ impl Walk {
     }
 }
 
-/// How many links the walk from the newest record of a page has, of which a report shows so many.
+/// How many links the walk from the newest record of a page has, of which a report shows this many.
 fn count_links(records: &Records, logical: u32, page: u32, shown: usize) -> u64
     requires { shown ≡ length (take most_links (links_of records.now.chart logical page)) }
     ensures { result ≡ length (links_of records.now.chart logical page) }

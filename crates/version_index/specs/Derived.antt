@@ -1,4 +1,4 @@
--- What is judged of the noted records: which are loose, which record answers for each, and which wait.
+-- What is derived from the noted records: which are loose, which record answers for each, and which wait.
 use Rattle.std.specs.Prelude.{◌≡◌, ◌≢◌, ℕ, ◌<◌, ◌≤◌, Bool, true, false, ◌&&◌, nat_lt, if◌then◌else◌, List, Option, Some, None, All, Any}
 use Rattle.tx_types.specs.declared.record.Link.{Link}
 use Rattle.tx_types.specs.declared.record.Rec.{Rec}
@@ -43,7 +43,7 @@ answerer_of n r = answerer n.config.protocol (found_in n.notes) n.config.logical
 unfoldable pub waits_of : IndexState → Rec → Bool
 waits_of n r = is_waiting n.config.protocol (found_in n.notes) n.config.logical r
 
--- a record is judged alike in two states
+-- what is derived of a record is alike in two states
 pub record IsDerivedAlike (n m : IndexState) (r : Rec) : Type 0 where
   pub loose : loose_of m r ≡ loose_of n r
   pub answerer : answerer_of m r ≡ answerer_of n r

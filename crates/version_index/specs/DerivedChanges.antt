@@ -1,4 +1,4 @@
--- How what is judged of the noted records moves when they change, and when a record completes its cycle.
+-- How what is derived from the noted records moves when they change, and when a record completes its cycle.
 use Rattle.std.specs.Prelude.{◌≡◌, ◌≢◌, ℕ, zero, suc, ◌+◌, ◌<◌, ◌≤◌, ◌==◌, Bool, true, false, not, ◌&&◌, ◌||◌, if◌then◌else◌, List, [], ◌∷◌, length}
 use Rattle.std.specs.Prelude.{slice_index_or, Option, Some, None, All, AllPairs, Contains, ◌↔◌}
 use Rattle.tx_types.specs.declared.record.Link.{Link}
@@ -17,8 +17,8 @@ abbrev pub SameCurrents : IndexState → IndexState → Type 0
 SameCurrents n m =
     (page : ℕ) → page < n.config.logical → current_of m page ≡ current_of n page
 
--- nothing that was judged moves: each current version stays, and each record that is noted afterwards is
--- judged alike
+-- nothing that was derived moves: each current version stays, and what is derived of each record that is noted
+-- afterwards is alike
 pub record NothingMoves (n m : IndexState) : Type 0 where
   pub currents : SameCurrents n m
   pub records : All (λ f. IsDerivedAlike n m f.rec) (found_in m.notes)
@@ -60,12 +60,12 @@ pub record IsWholeWrite (n m : IndexState) (names : List Link) : Type 0 where
   pub answered :
       All (λ f. IsOffPages names f.rec.page →
       All (λ name. AwaitsName n name f.rec → IsAnsweredBy n m name f.rec) names) (found_in m.notes)
-  -- and each other record of another page is judged as before
+  -- and what is derived of each other record of another page stays
   pub others :
       All (λ f. IsOffPages names f.rec.page →
       All (λ name. AwaitsName n name f.rec → ⊥) names → IsDerivedAlike n m f.rec) (found_in m.notes)
 
--- whether links lead back to this name, each to the newest record of its page, within so many of them
+-- whether links lead back to this name, each to the newest record of its page, within this many of them
 abbrev pub comes_back : List Found → Link → ℕ → Link → Bool
 comes_back list start zero link = false
 comes_back list start (suc turns) link =
@@ -109,7 +109,7 @@ pub record Derived : Type 0 where
 abbrev pub derived_of : IndexState → Derived
 derived_of n = record { current = current_of n; answerer = answerer_of n; waits = waits_of n }
 
--- what was noted is judged so
+-- what is derived from the notes
 pub record IsDerivedAs (n : IndexState) (j : Derived) : Type 0 where
   pub current : (page : ℕ) → page < n.config.logical → current_of n page ≡ j.current page
   pub answerer : All (λ f. answerer_of n f.rec ≡ j.answerer f.rec) (found_in n.notes)

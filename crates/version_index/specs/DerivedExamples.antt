@@ -1,4 +1,4 @@
--- A few slots, and what is judged of them.
+-- A few slots, and what is derived from them.
 use Rattle.std.specs.Prelude.{◌≡◌, true, false, Some, None, [], ◌∷◌}
 use Rattle.tx_types.specs.declared.record.Rec.{Rec}
 use Rattle.tx_types.specs.declared.config.Protocol.{Protocol}

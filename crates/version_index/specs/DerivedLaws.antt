@@ -1,4 +1,4 @@
--- The laws of what is judged of the noted records, for a protocol that keeps the commit laws.
+-- The laws of what is derived from the noted records, for a protocol that keeps the commit laws.
 use Rattle.std.specs.Prelude.{◌≡◌, ◌≢◌, ℕ, ◌+◌, ◌*◌, ◌/◌, ◌<◌, ◌==◌, true, false, ◌&&◌, ◌||◌, ◌↔◌, ◌⊎◌, List, slice_index, count_by, None, Some, IsSome, All}
 use Rattle.std.specs.List.{range_with_len}
 use Rattle.tx_types.specs.Config.{shape_of, slots_of, blocks_of}
@@ -38,7 +38,7 @@ OpenWriteLaw protocol =
     completes (programmed n at rec) rec ≡ false →
     IsOpenWrite n (programmed n at rec) rec
 
--- the names of the cycle that a record completed, in the order of their links, and what is judged then
+-- the names of the cycle that a record completed, in the order of their links, and what is derived then
 pub record IsCompleted (n m : IndexState) (names : List Link) (rec : Rec) : Type 0 where
   pub whole : IsWholeWrite n m names
   pub round : List Link

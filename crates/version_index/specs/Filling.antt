@@ -23,7 +23,7 @@ use Rattle.version_index.specs.Derived.{name_at, answerer, is_waiting}
 use Rattle.version_index.specs.DerivedChanges.{Derived}
 use Rattle.version_index.specs.Numbered.{awaited}
 
--- what is judged of a list of records
+-- what is derived from a list of records
 abbrev pub derived_by : Protocol → List Found → ℕ → Derived
 derived_by protocol list logical = record {
   current = cur protocol list logical;
@@ -96,7 +96,8 @@ UsesNote list numbers (note.Holds rec) slot.Damaged = ⊥
 UsesNote list numbers (note.Holds rec) (slot.Holds x) = IsNumberAt list numbers rec x
 
 -- slots that read so and hold these records are used so, by what is noted of them
-pub record AreUses (chart : List Found) (numbers : List ℕ) (how : List Seen) (list : List Found) (uses : List SlotUse) : Type 0 where
+pub record AreUses (chart : List Found) (numbers : List ℕ) (how : List Seen) (list : List Found)
+    (uses : List SlotUse) : Type 0 where
   pub notes : List Note
   pub reads : map seen_as notes ≡ how
   pub found : found_in notes ≡ list
@@ -112,11 +113,14 @@ first_use seen.Complete = slot.Damaged
 -- a slot holds the number of one of the first of these records, which stands in it, or none of them stands in it
 abbrev pub IsPut : List Found → List ℕ → List Seen → ℕ → ℕ → SlotUse → Type 0
 IsPut list numbers how count at u =
-    ((j : ℕ) × (j < count) × ((slice_index_or list j records.nothing).slot.0 ≡ at) × (u ≡ slot.Holds (slice_index numbers j)))
-    ⊎ (((j : ℕ) → j < count → (slice_index_or list j records.nothing).slot.0 ≢ at) × (u ≡ first_use (slice_index_or how at seen.Blank)))
+    ((j : ℕ) × (j < count) × ((slice_index_or list j records.nothing).slot.0 ≡ at)
+    × (u ≡ slot.Holds (slice_index numbers j)))
+    ⊎ (((j : ℕ) → j < count → (slice_index_or list j records.nothing).slot.0 ≢ at)
+    × (u ≡ first_use (slice_index_or how at seen.Blank)))
 
 -- each slot does
-pub record ArePut (list : List Found) (numbers : List ℕ) (how : List Seen) (count : ℕ) (uses : List SlotUse) : Type 0 where
+pub record ArePut (list : List Found) (numbers : List ℕ) (how : List Seen) (count : ℕ)
+    (uses : List SlotUse) : Type 0 where
   pub size : length uses ≡ length how
   pub each : (at : ℕ) → at < length how → IsPut list numbers how count at (use_at uses at)
 
@@ -126,27 +130,32 @@ number_by list numbers name =
     option_and_then (λ l. option_map (λ place. slice_index numbers place) (position (λ f. has_name l f.rec) list)) name
 
 -- each page has the number of its current record
-pub record AreCurrent (protocol : Protocol) (list : List Found) (numbers : List ℕ) (logical : ℕ) (k new : TablesState) : Type 0 where
+pub record AreCurrent (protocol : Protocol) (list : List Found) (numbers : List ℕ) (logical : ℕ)
+    (k new : TablesState) : Type 0 where
   pub rest : new ≡ record k { current = new.current }
   pub each :
       (page : ℕ) → page < logical →
       number_at new.current page ≡ number_by list numbers (name_at page (cur protocol list logical page))
 
 -- the numbers at the first places of a list wait and have answerers as their records do, and others as before
-pub record AreDecided (protocol : Protocol) (list : List Found) (numbers : List ℕ) (logical : ℕ) (k new : TablesState) (count : ℕ) : Type 0 where
+pub record AreDecided (protocol : Protocol) (list : List Found) (numbers : List ℕ) (logical : ℕ) (k new : TablesState)
+    (count : ℕ) : Type 0 where
   pub rest : new ≡ record k { answerers = new.answerers; waits = new.waits }
   pub answerers : length new.answerers ≡ length k.answerers
   pub waits : length new.waits ≡ length k.waits
   pub done :
       (j : ℕ) → j < count →
-      (number_at new.answerers (slice_index numbers j) ≡ number_by list numbers (answerer protocol list logical (records.record_at list j)))
-      × (number_at new.waits (slice_index numbers j) ≡ awaited (derived_by protocol list logical) (records.record_at list j))
+      (number_at new.answerers (slice_index numbers j) ≡ number_by list numbers
+      (answerer protocol list logical (records.record_at list j)))
+      × (number_at new.waits (slice_index numbers j) ≡ awaited (derived_by protocol list logical)
+      (records.record_at list j))
   pub others :
       (x : ℕ) → ((j : ℕ) → j < count → slice_index numbers j ≢ x) →
       (number_at new.answerers x ≡ number_at k.answerers x) × (number_at new.waits x ≡ number_at k.waits x)
 
 -- tables that are filled with the records of a list, in the order of their names
-pub record AreFilled (protocol : Protocol) (list : List Found) (its_shape : Shape) (logical : ℕ) (t : TablesState) : Type 0 where
+pub record AreFilled (protocol : Protocol) (list : List Found) (its_shape : Shape) (logical : ℕ)
+    (t : TablesState) : Type 0 where
   pub numbers : List ℕ
   pub whole : length numbers ≡ length list
   pub numbered : AreNumbered list numbers t
@@ -158,8 +167,10 @@ pub record AreFilled (protocol : Protocol) (list : List Found) (its_shape : Shap
       number_at t.current page ≡ number_by list numbers (name_at page (cur protocol list logical page))
   pub done :
       (j : ℕ) → j < length list →
-      (number_at t.answerers (slice_index numbers j) ≡ number_by list numbers (answerer protocol list logical (records.record_at list j)))
-      × (number_at t.waits (slice_index numbers j) ≡ awaited (derived_by protocol list logical) (records.record_at list j))
+      (number_at t.answerers (slice_index numbers j) ≡ number_by list numbers
+      (answerer protocol list logical (records.record_at list j)))
+      × (number_at t.waits (slice_index numbers j) ≡ awaited (derived_by protocol list logical)
+      (records.record_at list j))
   pub others :
       (x : ℕ) → ((j : ℕ) → j < length list → slice_index numbers j ≢ x) →
       (number_at t.answerers x ≡ None) × (number_at t.waits x ≡ None)

@@ -26,7 +26,7 @@ unfoldable pub written_in : Protocol → List Contents → List Written
 written_in protocol image =
     filter_map (λ (slot, contents). written_at protocol slot contents) (enumerate_from 0 image)
 
--- the same without bytes
+-- the records of an image without their bytes, in the order of their slots
 abbrev pub records_in : Protocol → List Contents → List Found
 records_in protocol image = records_of (written_in protocol image)
 

@@ -147,7 +147,7 @@ FindsMostGarbage n None =
     (block : ℕ) (shut : Bool) → block < blocks_of (shape_of n.config) → garbage_of n block shut ≡ 0
 FindsMostGarbage n (Some block) = HasMostGarbage n block.0
 
--- a block of a group of so many that follow one another
+-- a block of a group of this many that follow one another
 pub record IsAmong (n : IndexState) (size group block : ℕ) : Type 0 where
   pub first : size * group ≤ block
   pub last : block < size * group + size

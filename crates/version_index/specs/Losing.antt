@@ -29,7 +29,7 @@ without k (Some number) = bared k number
 abbrev pub used_so : TablesState → ℕ → SlotUse → TablesState
 used_so k at to = without (record k { slots = slice_set k.slots at to }) (number_in (use_at k.slots at))
 
--- so many slots from the first one on are
+-- this many slots from the first one on are
 unfoldable pub used_from : TablesState → ℕ → SlotUse → ℕ → TablesState
 used_from k first to zero = k
 used_from k first to (suc n) = used_so (used_from k first to n) (first + n) to

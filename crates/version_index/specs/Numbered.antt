@@ -1,4 +1,4 @@
--- What is kept of records by numbers, and when it is what is judged of them by names.
+-- What is kept of records by numbers, and when it is what is derived from them by names.
 use Rattle.std.specs.Prelude.{◌≡◌, ℕ, ◌<◌, if◌then◌else◌, List, slice_index_or, Option, Some, None}
 use Rattle.std.specs.Option.{option_map}
 use Rattle.tx_types.specs.declared.record.Link.{Link}
@@ -31,7 +31,7 @@ named records number = option_map (λ x. option_map name_of (rec_at records x)) 
 abbrev pub awaited : Derived → Rec → Option ℕ
 awaited j r = if j.waits r then Some r.next.page else None
 
--- what is kept by numbers is what is judged by names
+-- what is kept by numbers is what is derived by names
 pub record AreDerived (t : Numbered) (logical : ℕ) (j : Derived) : Type 0 where
   pub current :
       (page : ℕ) → page < logical →

@@ -15,7 +15,7 @@ use Rattle.version_index.specs.Notes.{notes_of}
 use Rattle.version_index.specs.IndexState.{IndexState}
 use Rattle.flash_model.specs.Readings.{seen_in, reads_blank_block}
 
--- of so many blocks this one is the highest of which the fact holds
+-- of this many blocks this one is the highest of which the fact holds
 pub record IsHighest (P : ℕ → Type 0) (blocks block : ℕ) : Type 0 where
   pub exists : block < blocks
   pub holds : P block
@@ -37,7 +37,7 @@ IsChosenFrom protocol logical shape slots list spare =
     ⊎ (HasNoBlankBlock shape slots
     × IsHighest (IsRemovable protocol list logical shape) (blocks_of shape) spare)
 
--- the same of an image
+-- this is the block that becomes the spare of an image
 abbrev pub IsChosenSpare : Config → List Contents → ℕ → Type 0
 IsChosenSpare config image spare =
     IsChosenFrom config.protocol config.logical (shape_of config) (seen_in image)

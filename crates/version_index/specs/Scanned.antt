@@ -1,5 +1,5 @@
--- What tables are made of: slots that read so, the list of the records that they hold, and the same records in the order of
--- their names, of which is known how they stand.
+-- What tables are made of: slots that read so, the list of the records that they hold, and the same records in the
+-- order of their names, of which is known how they stand.
 use Rattle.std.specs.Prelude.{◌≡◌, ℕ, Contains, List, length, map}
 use Rattle.tx_types.specs.declared.config.Config.{Config}
 use Rattle.tx_types.specs.declared.config.Protocol.{Protocol}
@@ -15,7 +15,8 @@ use Rattle.version_index.specs.Filling.{NamesAgree}
 use Rattle.version_index.specs.Notes.{complete_slots}
 
 -- the records of a sound list, which slots that read so hold, stand so
-pub record AreScanned (protocol : Protocol) (its : Config) (scanned : List Seen) (list : List Found) (judged : standing.CurrentVersionsState) : Type 0 where
+pub record AreScanned (protocol : Protocol) (its : Config) (scanned : List Seen) (list : List Found)
+    (judged : standing.CurrentVersionsState) : Type 0 where
   pub reads : length scanned ≡ slots_of (shape_of its)
   pub complete : map (λ f. f.slot.0) list ≡ complete_slots scanned
   pub slots : IsScanned list

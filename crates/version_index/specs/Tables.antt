@@ -64,7 +64,7 @@ pub record AreHeld (k : TablesState) : Type 0 where
   pub unused : (x : ℕ) → rec_at k.records x ≡ None →
       (number_at k.answerers x ≡ None) × (number_at k.waits x ≡ None)
 
--- the tables have what was noted, and what is judged of it
+-- the tables have what was noted, and what is derived from it
 pub record AreIndexed (protocol : Protocol) (its : Config) (its_mentions : List ℕ) (k : TablesState) : Type 0 where
   pub noted : IsNoted protocol (noted_by its its_mentions k)
   pub shape : k.shape ≡ shape_of its

@@ -3,8 +3,8 @@ ghost use Rattle.std.specs.Option.{option_map};
 ghost use Rattle.tx_types.specs.Config.{slots_of, blocks_of};
 ghost use Rattle.tx_types.specs.declared.config.Block.{Block};
 ghost use Rattle.tx_types.specs.declared.config.Protocol.TheVariants as its_protocol;
-ghost use Rattle.slot_tables.specs.TablesState.{lower, IsTablesState, WaitsBelow};
 ghost use Rattle.slot_tables.specs.Gathered.{AreGathered};
+ghost use Rattle.slot_tables.specs.TablesState.{lower, IsTablesState, WaitsBelow};
 ghost use Rattle.version_index.specs.Going.{IsWaitingBelow, IsTopBelow, Goes, IsLowestIn, SlotMustGo, BlockMustGo, IsNewestBeside, AreRising};
 
 use slot_tables::{SlotUse, Tables};
@@ -138,6 +138,7 @@ pub fn put_blocks_to_go(tables: &Tables, page: u32, below: u64, into: &mut Vec<B
     ensures gathered { AreGathered tables.now (Goes tables.now page below) into.new.items }
     ensures room { vec_capacity into.new ≡ vec_capacity into.old }
 {
+    // For the proof: the sizes of the tables.
     let _ = tables.shape();
     tables.put_waiting(page, below, into);
     if let Some(number) = newest_beside(tables, page, below) {
@@ -155,7 +156,7 @@ pub fn order_blocks(blocks: &mut Vec<Block>)
     blocks.dedup();
 }
 
-/// The lower one of two slots, where there are such.
+/// The lower one of two slots, if there are any.
 fn lower(at: Option<Slot>, other: Option<Slot>) -> Option<Slot>
     ensures { option_map (λ s. s.0) result
         ≡ lower (option_map (λ s. s.0) at) (option_map (λ s. s.0) other) }

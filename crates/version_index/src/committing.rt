@@ -80,6 +80,7 @@ fn completes(tables: &Tables, logical: u32, rec: Rec) -> bool
     ensures { (protocol : Protocol) (its : Config) (m : List ℕ) → MayComplete protocol its m tables.now rec →
         its.logical ≡ logical → result ≡ completes (noted_by its m tables.now) rec }
 {
+    // For the proof: the sizes of the tables.
     let _ = tables.shape();
     let mut link = rec.next;
     for _ in 0..logical {
@@ -103,7 +104,7 @@ fn has_name(rec: Rec, other: Rec) -> bool
     rec.page == other.page && rec.version == other.version
 }
 
-/// Where a record completes its cycle, the records of the cycle are current.
+/// Makes the records of a cycle current, where this record completes it.
 #[inline(always)]
 pub fn commit_if_complete(tables: &mut Tables, logical: u32, protocol: Protocol, rec: Rec)
     requires links { LinksExist tables.old }
@@ -113,6 +114,7 @@ pub fn commit_if_complete(tables: &mut Tables, logical: u32, protocol: Protocol,
     ensures judges { OnlyDerives tables.old tables.new }
     ensures settled { CommitsIfComplete protocol tables.old tables.new rec logical }
 {
+    // For the proof: the sizes of the tables.
     let _ = tables.shape();
     if !completes(tables, logical, rec) {
         return;
@@ -197,6 +199,7 @@ fn make_newest_current(tables: &mut Tables, page: u32)
     ensures judges { OnlyDerives tables.old tables.new }
     ensures taken { IsTaken tables.old tables.new page }
 {
+    // For the proof: the sizes of the tables.
     let _ = tables.shape();
     let current = current_version(tables, page);
     let newest = tables.newest(page);
@@ -204,11 +207,12 @@ fn make_newest_current(tables: &mut Tables, page: u32)
     tables.set_current(page, newest);
 }
 
-/// The records of a page above a version wait no more, and none answers for them.
+/// Releases the records of a page above a version: they wait no more, and none answers for them.
 fn release_above(tables: &mut Tables, page: u32, version: u64)
     requires { page < length tables.old.pages }
     ensures { AreReleased tables.old tables.new page version }
 {
+    // For the proof: the sizes of the tables.
     let _ = tables.shape();
     let mut next = tables.newest(page);
     while let Some(number) = next {
@@ -220,12 +224,13 @@ fn release_above(tables: &mut Tables, page: u32, version: u64)
     }
 }
 
-/// The newest record of a page answers for the records that wait for the page, which wait no more.
+/// Lets the newest record of a page answer for the records that wait for the page, which wait no more.
 fn resolve_waiting(tables: &mut Tables, page: u32)
     requires { page < length tables.old.pages }
     ensures judges { OnlyDerives tables.old tables.new }
     ensures answered { IsAnswered tables.old tables.new page }
 {
+    // For the proof: the sizes of the tables.
     let _ = tables.shape();
     let newest = tables.newest(page);
     while let Some(number) = tables.waiting(page) {

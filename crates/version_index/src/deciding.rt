@@ -1,7 +1,7 @@
 ghost use Rattle.std.specs.Prelude.{◌≡◌, ◌≤◌, ◌<◌, ℕ, All, length};
 ghost use Rattle.record_list.specs.SoundList.{PagesExist};
-ghost use Rattle.version_index.specs.Filling.{derived_by, number_by, AreNumbered, AreCurrent, AreDecided};
 ghost use Rattle.version_index.specs.Derived.{name_at, answerer, is_waiting};
+ghost use Rattle.version_index.specs.Filling.{derived_by, number_by, AreNumbered, AreCurrent, AreDecided};
 ghost use Rattle.version_index.specs.Numbered.{awaited};
 
 use slot_tables::TablesBuilder;
@@ -22,7 +22,7 @@ struct Near {
     place: usize,
 }
 
-/// Says of each page which record is current.
+/// Sets for each page which record is current.
 pub fn decide_current(
     tables: &mut TablesBuilder,
     logical: u32,
@@ -36,6 +36,7 @@ pub fn decide_current(
     ensures { AreCurrent standing.now.protocol standing.now.list numbers.now logical
         tables.old tables.new }
 {
+    // For the proof: the sizes of the tables.
     let _ = tables.shape();
     for page in 0..logical {
         let name = name_at(page, standing.current(page));
@@ -43,7 +44,7 @@ pub fn decide_current(
     }
 }
 
-/// Says of each record which one answers for it, and whether it waits.
+/// Sets for each record which one answers for it, and whether it waits.
 pub fn decide_records(
     tables: &mut TablesBuilder,
     logical: u32,
@@ -58,6 +59,7 @@ pub fn decide_records(
     ensures { AreDecided standing.now.protocol standing.now.list numbers.now logical
         tables.old tables.new (length standing.now.list) }
 {
+    // For the proof: the sizes of the tables.
     let _ = tables.shape();
     let records = standing.sorted_records().records();
     let mut near = Near {

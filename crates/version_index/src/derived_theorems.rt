@@ -1,8 +1,8 @@
-//! What is judged of the noted records, and how it moves when they change. The functions do nothing:
-//! each is there for what it ensures.
+//! What is derived from the noted records, and how it moves when they change. The functions do nothing: each is there
+//! for what it ensures.
 ghost use Rattle.tx_types.specs.declared.config.Protocol.{Protocol};
-ghost use Rattle.version_index.specs.DerivedLaws.{NextRecordLaw, CompletesLaw, RoundLaw, OpenWriteLaw, WholeWriteLaw, CopyMovesLaw, DamageMovesLaw, LossMovesLaw, PinMovesLaw, SpareMovesLaw, HeldReading, WantedReading, NeededReading, GoingReading, LowestReading, GarbageReading};
 ghost use Rattle.version_index.specs.DerivedExamples.{BegunWaits, WholeAnswers, StepsAnswer};
+ghost use Rattle.version_index.specs.DerivedLaws.{NextRecordLaw, CompletesLaw, RoundLaw, OpenWriteLaw, WholeWriteLaw, CopyMovesLaw, DamageMovesLaw, LossMovesLaw, PinMovesLaw, SpareMovesLaw, HeldReading, WantedReading, NeededReading, GoingReading, LowestReading, GarbageReading};
 
 use record_list::CommitRule;
 
@@ -18,7 +18,7 @@ pub fn open_write<R: CommitRule>()
     ensures { OpenWriteLaw R.protocol }
 {}
 
-/// A record that completes its cycle: which records are let go, and which are answered.
+/// A record that completes its cycle: which records are released, and which are answered.
 pub fn whole_write<R: CommitRule>()
     ensures { WholeWriteLaw R.protocol }
 {}
@@ -28,7 +28,7 @@ pub fn copy_moves<R: CommitRule>()
     ensures { CopyMovesLaw R.protocol }
 {}
 
-/// A block without its records: what is left is judged as before, and what goes answered for none.
+/// A block without its records: what is derived of those that are left stays, and what goes answered for none.
 pub fn loss_moves<R: CommitRule>()
     ensures { LossMovesLaw R.protocol }
 {}
@@ -40,7 +40,7 @@ pub fn others_move()
     ensures spare { SpareMovesLaw }
 {}
 
-/// What is read of the noted records, by what is judged of them.
+/// What is read of the noted records, by what is derived from them.
 pub fn readings()
     ensures held { (protocol : Protocol) → HeldReading protocol }
     ensures wanted { (protocol : Protocol) → WantedReading protocol }
@@ -50,7 +50,7 @@ pub fn readings()
     ensures garbage { GarbageReading }
 {}
 
-/// What is judged of a few slots.
+/// What is derived from a few slots.
 pub fn derived_examples()
     ensures begun { BegunWaits }
     ensures whole { WholeAnswers }

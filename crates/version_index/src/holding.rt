@@ -30,7 +30,7 @@ pub fn slot_uses(
     Ok(uses)
 }
 
-/// A slot holds the record of a number.
+/// Sets that a slot holds the record of a number.
 fn put(uses: &mut Vec<SlotUse>, at: Slot, number: u32)
     requires { at.0 < length uses.old.items }
     ensures { uses.new.items ≡ slice_set uses.old.items at.0 (slot.Holds number) }
@@ -61,6 +61,7 @@ pub fn hold_uses(tables: &mut TablesBuilder, uses: &[SlotUse])
     requires below { (at : ℕ) → NumbersBelow (slots_of tables.old.shape) (use_at uses.now at) }
     ensures { tables.new ≡ record tables.old { slots = uses.now } }
 {
+    // For the proof: the sizes of the tables.
     let _ = tables.shape();
     let count = uses.len();
     for i in 0..count {

@@ -1,7 +1,7 @@
 //! The commit laws stated of images. The functions do nothing: each is there for what it ensures.
+ghost use Rattle.tx_types.specs.declared.config.Protocol.{Protocol};
 ghost use Rattle.version_index.specs.ImageLaws.{ImagePartialLaw, ImageCompletingLaw, ImageCopyLaw, ImageLossLaw, ImageDamageLaw};
 ghost use Rattle.version_index.specs.SlotLosses.{ImageSlotLossLaw, AsksAfterLossLaw};
-ghost use Rattle.tx_types.specs.declared.config.Protocol.{Protocol};
 
 use record_list::CommitRule;
 

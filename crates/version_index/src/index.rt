@@ -1,10 +1,10 @@
 ghost use Rattle.std.specs.Prelude.{◌≡◌, List, length, map, IfOk, Ok};
 ghost use Rattle.tx_types.specs.Config.{checked, shape_of, slots_of};
 ghost use Rattle.record_list.specs.Records.{IsScanned};
-ghost use Rattle.record_list.specs.declared.found.Found.{Found};
 ghost use Rattle.record_list.specs.SoundList.{IsSoundList};
-ghost use Rattle.version_index.specs.Notes.{complete_slots};
+ghost use Rattle.record_list.specs.declared.found.Found.{Found};
 ghost use Rattle.version_index.specs.IndexState.{IsNoted, IsNotedFrom};
+ghost use Rattle.version_index.specs.Notes.{complete_slots};
 ghost use Rattle.version_index.specs.Scanned.{AreScanned};
 
 mod changing;
@@ -64,8 +64,8 @@ impl<R: CommitRule> Index<R> {
         Index::from_current_versions(alloc, config, seen, &standing)
     }
 
-    /// The same of records that were put in the order of their names before, where it is known how
-    /// their pages stand. The list in the order of the slots is no longer needed.
+    /// The tables of records that were put in the order of their names before, with the current versions of their
+    /// pages. The list in the order of the slots is no longer needed.
     pub fn from_current_versions(
         alloc: Global,
         config: Config,

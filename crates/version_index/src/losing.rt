@@ -1,7 +1,7 @@
 ghost use Rattle.std.specs.Prelude.{◌≡◌, ◌*◌, ◌<◌};
 ghost use Rattle.tx_types.specs.Config.{slots_of, blocks_of};
-ghost use Rattle.slot_tables.specs.TablesState.{IsTablesState};
 ghost use Rattle.slot_tables.specs.Copies.{HoldsNone};
+ghost use Rattle.slot_tables.specs.TablesState.{IsTablesState};
 ghost use Rattle.version_index.specs.Losing.{freed, bared, used_so, used_from};
 
 use slot_tables::{SlotUse, Tables};
@@ -51,7 +51,7 @@ fn give_up_bare(tables: &mut Tables, number: u32)
     tables.give_up(rec.page, number);
 }
 
-/// A record waits no more, and none answers for it.
+/// Releases a record: it waits no more, and none answers for it.
 #[inline(always)]
 pub fn release(tables: &mut Tables, number: u32)
     requires { number < slots_of tables.old.shape }

@@ -42,6 +42,7 @@ fn number_of(tables: &mut TablesBuilder, rec: &Rec) -> u32
     ensures within { result < slots_of tables.old.shape }
     ensures number { HasNumber tables.old tables.new rec.now result }
 {
+    // For the proof: the sizes of the tables.
     let _ = tables.shape();
     match known_number(tables, rec) {
         Some(number) => number,
@@ -57,6 +58,7 @@ fn known_number(tables: &TablesBuilder, rec: &Rec) -> Option<u32>
     ensures known { IfSome result (λ x. IsKnown tables.now rec.now x) }
     ensures none { IfNone result (IsNewest tables.now.records rec.now) }
 {
+    // For the proof: the sizes of the tables.
     let _ = tables.shape();
     match tables.newest(rec.page) {
         None => None,

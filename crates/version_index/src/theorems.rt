@@ -1,18 +1,18 @@
 //! What holds of all that can be noted. The functions do nothing: each is there for what it
 //! ensures.
 ghost use Rattle.std.specs.Prelude.{◌≡◌, ℕ, ◌<◌, max, true, List, length, slice_index, map, All};
+ghost use Rattle.tx_types.specs.Config.{shape_of, slots_of};
 ghost use Rattle.tx_types.specs.declared.config.Config.{Config};
 ghost use Rattle.tx_types.specs.declared.config.Protocol.{Protocol};
 ghost use Rattle.tx_types.specs.declared.record.Rec.{Rec};
-ghost use Rattle.tx_types.specs.Config.{shape_of, slots_of};
-ghost use Rattle.flash_model.specs.Flash.{Contents};
 ghost use Rattle.flash_model.specs.Calls.{seen_of};
+ghost use Rattle.flash_model.specs.Flash.{Contents};
 ghost use Rattle.record_list.specs.Records.{is_present, mention_at};
-ghost use Rattle.version_index.specs.declared.note.Note.TheVariants as note;
-ghost use Rattle.version_index.specs.Images.{records_in, SlotReads};
-ghost use Rattle.version_index.specs.Notes.{note_at, found_in, notes_of};
-ghost use Rattle.version_index.specs.IndexState.{IndexState, IsNoted, IsNotedFrom, IsNextRecord, IsCompleteCycle, raised, programmed};
 ghost use Rattle.version_index.specs.Examples.{DoubledHomes, DoubledGoes, DoubledGarbage, DoubledPinned, MentionsRaised, LeastSlots, WrittenArray, AbortedMayGo};
+ghost use Rattle.version_index.specs.Images.{records_in, SlotReads};
+ghost use Rattle.version_index.specs.IndexState.{IndexState, IsNoted, IsNotedFrom, IsNextRecord, IsCompleteCycle, raised, programmed};
+ghost use Rattle.version_index.specs.Notes.{note_at, found_in, notes_of};
+ghost use Rattle.version_index.specs.declared.note.Note.TheVariants as note;
 
 /// The noted records of an image are its records, and where each slot keeps law 1 a scan of the image
 /// gives its notes.

@@ -35,9 +35,11 @@ unfolding picture
 picture_said its notes marks desk = by_protocol its.protocol
   where
     by_protocol : (protocol : Protocol) →
-        after_text (heading (record its { protocol = protocol }) ++ map_text (shape_of its) (cells_of its notes) marks ++ walks_text its.protocol
+        after_text (heading (record its { protocol = protocol }) ++ map_text (shape_of its) (cells_of its notes) marks
+        ++ walks_text its.protocol
         (found_in notes) its.logical ++ breach_line marks.breach) desk
-        ≡ after_answer (with_said (heading (record its { protocol = protocol }) ++ map_text (shape_of its) (cells_of its notes) marks ++ walks_text its.protocol
+        ≡ after_answer (with_said (heading (record its { protocol = protocol })
+        ++ map_text (shape_of its) (cells_of its notes) marks ++ walks_text its.protocol
         (found_in notes) its.logical ++ breach_line marks.breach)) desk
     by_protocol Scc = refl
     by_protocol Bpcc = refl
@@ -48,19 +50,25 @@ svg_said : (its : Config) (notes : List Note) (marks : Marks) (desk : DeskState)
 unfolding svg above
 svg_said its notes marks desk = refl
 
--- each fate has a text
-said_whole : (fate : Ending) (desk : DeskState) → after_text (said fate) desk ≡ after_answer (with_said (said fate)) desk
+-- each ending has a text
+said_whole : (fate : Ending) (desk : DeskState) → after_text (said fate) desk
+    ≡ after_answer (with_said (said fate)) desk
 said_whole (Drawn Text its image marks) desk = picture_said its _ marks desk
 said_whole (Drawn Svg its image marks) desk = svg_said its _ marks desk
 said_whole (Refused why) desk = line_said why desk
 
 -- ---- the end
 
--- the text of a fate stops where the saying of it does
-say_stops : (error : SinkError) (task : Option Request) (old mid new : DeskState) (fate : Ending) (text : List ℕ) → IsEnding task old fate →
+-- the text of an ending stops where the saying of it does
+say_stops : (error : SinkError) (task : Option Request) (old mid new : DeskState) (fate : Ending) (text : List ℕ) →
+    IsEnding task old fate →
     mid ≡ after_load task old → text ≡ said fate → TextStops error text mid new → SayStops error task old new
-say_stops error task old mid new fate text is loaded text_is stops =
-    (fate, is, subst (λ t. TextStops error t (after_load task old) new) text_is (subst (λ d. TextStops error text d new) loaded stops))
+say_stops error task old mid new fate text is loaded text_is stops = (
+  fate,
+  is,
+  subst (λ t. TextStops error t (after_load task old) new) text_is
+      (subst (λ d. TextStops error text d new) loaded stops),
+)
 
 -- after a load, what is decided is said
 pub ends : (task : Option Request) (old mid new : DeskState) (fate : Ending) (text : List ℕ) (wanted answer : ℕ) →
@@ -71,11 +79,17 @@ ends task old mid new fate text wanted answer is loaded text_is wanted_is (inl (
 ends task old mid new fate text wanted answer is loaded text_is wanted_is (inr (inl (failed, stops, told))) =
     Faulted told.0 (failed, inr (say_stops sink.Failed task old mid failed fate text is loaded text_is stops), told.1)
 ends task old mid new fate text wanted answer is loaded text_is wanted_is (inr (inr (starved, stops, told))) =
-    Starved told.0 (starved, inr (inr (say_stops sink.Memory task old mid starved fate text is loaded text_is stops)), told.1)
+    Starved told.0 (
+      starved,
+      inr (inr (say_stops sink.Memory task old mid starved fate text is loaded text_is stops)),
+      told.1,
+    )
 
 -- so is a refusal, where there is memory for its line
-pub ends_refused : (task : Option Request) (old mid new : DeskState) (why : ImageEnding) (line : Result (String Global) AllocError) (wanted answer : ℕ) →
-    IsEnding task old (Refused why) → mid ≡ after_load task old → IfOk line (λ l. string_bytes l ≡ image_line why) → wanted ≡ image_status why →
+pub ends_refused : (task : Option Request) (old mid new : DeskState) (why : ImageEnding)
+    (line : Result (String Global) AllocError) (wanted answer : ℕ) →
+    IsEnding task old (Refused why) → mid ≡ after_load task old → IfOk line (λ l. string_bytes l ≡ image_line why) →
+    wanted ≡ image_status why →
     Refuses mid new line wanted answer → EndsCall task old new answer
 ends_refused task old mid new why (Ok text) wanted answer is loaded text_is wanted_is speaks =
     ends task old mid new (Refused why) (string_bytes text) wanted answer is loaded text_is wanted_is speaks
@@ -91,16 +105,19 @@ faults_loaded (Some a) desk = refl
 call_failed : (task : Option Request) (old mid : DeskState) → CallFails task old mid → mid.faults ≡ counted old.faults
 call_failed None old mid (inl fails) = absurd fails
 call_failed (Some a) old mid (inl fails) = ap (λ (d : DeskState). d.faults) fails
-call_failed task old mid (inr (fate, is, stops)) = ap (λ (d : DeskState). d.faults) stops.1.1 ∙ ap counted (faults_loaded task old)
+call_failed task old mid (inr (fate, is, stops)) = ap (λ (d : DeskState). d.faults) stops.1.1
+    ∙ ap counted (faults_loaded task old)
 
 no_fault : (fate : Ending) → 5 ≢ status fate
 no_fault (Drawn form its image marks) e = absurd (omega arith)
 no_fault (Refused why) e = never_fault why e
 
 -- the count of faults rose where the status is that of a fault
-pub only_fault : (task : Option Request) (old new : DeskState) (answer : ℕ) → EndsCall task old new answer → answer ≡ 5 → Rose old.faults new.faults
+pub only_fault : (task : Option Request) (old new : DeskState) (answer : ℕ) → EndsCall task old new answer →
+    answer ≡ 5 → Rose old.faults new.faults
 only_fault task old new answer (Decided fate is gives after) five = absurd (no_fault fate (sym five ∙ gives))
-only_fault task old new answer (Faulted five_is (mid, fails, tried)) five = faults_tried old.faults mid new _ (call_failed task old mid fails) tried
+only_fault task old new answer (Faulted five_is (mid, fails, tried)) five =
+    faults_tried old.faults mid new _ (call_failed task old mid fails) tried
 only_fault task old new answer (Starved six starved) five = absurd (omega arith)
 
 -- ---- no file changes
@@ -118,16 +135,23 @@ files_ran_out None old mid runs_out = absurd runs_out
 files_ran_out (Some a) old mid (inl starved) = ap files_in starved ∙ files_asked old
 files_ran_out (Some a) old mid (inr (bytes, finds, after)) = ap files_in after ∙ files_loaded (Some a) old
 
-files_stopped : (error : SinkError) (task : Option Request) (old mid : DeskState) → SayStops error task old mid → files_in mid ≡ files_in old
+files_stopped : (error : SinkError) (task : Option Request) (old mid : DeskState) → SayStops error task old mid →
+    files_in mid ≡ files_in old
 files_stopped error task old mid (fate, is, stops) =
     files_said (after_load task old) mid (said fate) (Err error) stops.1 ∙ files_loaded task old
 
-pub files_kept : (task : Option Request) (old new : DeskState) (answer : ℕ) → EndsCall task old new answer → files_in new ≡ files_in old
+pub files_kept : (task : Option Request) (old new : DeskState) (answer : ℕ) → EndsCall task old new answer →
+    files_in new ≡ files_in old
 files_kept task old new answer (Decided fate is gives after) =
-    ap files_in after ∙ same_files (with_said (said fate)) (after_load task old).told (λ c. refl) ∙ files_loaded task old
-files_kept task old new answer (Faulted five (mid, inl fails, tried)) = files_tried mid new _ tried ∙ files_failed task old mid fails
-files_kept task old new answer (Faulted five (mid, inr stops, tried)) = files_tried mid new _ tried ∙ files_stopped sink.Failed task old mid stops
-files_kept task old new answer (Starved six (mid, inl runs_out, tried)) = files_tried mid new _ tried ∙ files_ran_out task old mid runs_out
+    ap files_in after ∙ same_files (with_said (said fate)) (after_load task old).told (λ c. refl)
+    ∙ files_loaded task old
+files_kept task old new answer (Faulted five (mid, inl fails, tried)) = files_tried mid new _ tried
+    ∙ files_failed task old mid fails
+files_kept task old new answer (Faulted five (mid, inr stops, tried)) = files_tried mid new _ tried
+    ∙ files_stopped sink.Failed task old mid stops
+files_kept task old new answer (Starved six (mid, inl runs_out, tried)) = files_tried mid new _ tried
+    ∙ files_ran_out task old mid runs_out
 files_kept task old new answer (Starved six (mid, inr (inl (fate, is, some, loaded)), tried)) =
     files_tried mid new _ tried ∙ ap files_in loaded ∙ files_loaded task old
-files_kept task old new answer (Starved six (mid, inr (inr stops), tried)) = files_tried mid new _ tried ∙ files_stopped sink.Memory task old mid stops
+files_kept task old new answer (Starved six (mid, inr (inr stops), tried)) = files_tried mid new _ tried
+    ∙ files_stopped sink.Memory task old mid stops

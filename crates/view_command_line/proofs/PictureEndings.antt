@@ -18,22 +18,26 @@ use Rattle.view_command_line.specs.Ending.{Drawn, Refused, Drawing, Gives, IsOpe
 use Rattle.view_command_line.specs.Top.{Works}
 
 -- what is drawn of an opening that may be drawn
-pub opens_drawn : (form : Form) (unsound : Bool) (its : Config) (image : List Contents) (opened : Opening) (text : List ℕ) → IsOpening its image opened →
+pub opens_drawn : (form : Form) (unsound : Bool) (its : Config) (image : List Contents) (opened : Opening)
+    (text : List ℕ) → IsOpening its image opened →
     ending_of form unsound its image opened ≡ Drawn form its image (marks_of opened) →
-    text ≡ picture_in form its (notes_of its.protocol image) (marks_of opened) → Gives (Opens form unsound its image) text
+    text ≡ picture_in form its (notes_of its.protocol image) (marks_of opened) →
+    Gives (Opens form unsound its image) text
 opens_drawn form unsound its image opened text is drawn text_is =
     (Drawn form its image (marks_of opened), (opened, is, sym drawn), refl, text_is)
 
 -- ---- the work of a call
 
 -- a load gives no bytes
-unfetched_by : (a : Request) (old new : DeskState) (e : ImageStop) → Fetches old new a.image (Err e) → Works (Some a) old new (Err e)
+unfetched_by : (a : Request) (old new : DeskState) (e : ImageStop) → Fetches old new a.image (Err e) →
+    Works (Some a) old new (Err e)
 unfetched_by a old new (stop.Refused refusal) (after, inl (none, is)) = ((found.Missing, none, ap Refused is), after)
 unfetched_by a old new (stop.Refused refusal) (after, inr (much, is)) = ((found.TooLong, much, ap Refused is), after)
 unfetched_by a old new stop.Fault fault = fault
 unfetched_by a old new stop.Memory starved = inl starved
 
-pub unfetched : (a : Request) (old new : DeskState) (e : ImageStop) (result : Result (Vec ℕ Global) ImageStop) → IsErrAnd result (λ x. x ≡ e) →
+pub unfetched : (a : Request) (old new : DeskState) (e : ImageStop) (result : Result (Vec ℕ Global) ImageStop) →
+    IsErrAnd result (λ x. x ≡ e) →
     Fetches old new a.image (Err e) → Works (Some a) old new result
 unfetched a old new e (Ok text) same fetches = absurd same
 unfetched a old new e (Err x) same fetches = rw same (unfetched_by a old new e fetches)
@@ -41,9 +45,11 @@ unfetched a old new e (Err x) same fetches = rw same (unfetched_by a old new e f
 -- it gives bytes, and the work comes to what they come to
 pub fetched : (a : Request) (old new : DeskState) (bytes : List ℕ) (result : Result (Vec ℕ Global) ImageStop) →
     Finds old a.image (found.Bytes bytes) → new ≡ after_answer as_before old →
-    IfOk result (λ text. Gives (Drawing a.form a.unsound bytes) text.items) → IfErr result (ImageStops (λ why. Drawing a.form a.unsound bytes (Refused why))) →
+    IfOk result (λ text. Gives (Drawing a.form a.unsound bytes) text.items) →
+    IfErr result (ImageStops (λ why. Drawing a.form a.unsound bytes (Refused why))) →
     Works (Some a) old new result
-fetched a old new bytes (Ok text) finds after (fate, comes, done, said) none = ((fate, (found.Bytes bytes, finds, comes), done, said), after)
+fetched a old new bytes (Ok text) finds after (fate, comes, done, said) none =
+    ((fate, (found.Bytes bytes, finds, comes), done, said), after)
 fetched a old new bytes (Err (stop.Refused refusal)) finds after none why = ((found.Bytes bytes, finds, why), after)
 fetched a old new bytes (Err stop.Fault) finds after none fault = absurd fault
 fetched a old new bytes (Err stop.Memory) finds after none starved = inr (bytes, finds, after)

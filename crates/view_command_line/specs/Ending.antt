@@ -77,7 +77,7 @@ AfterReading form unsound (Err rule) fate = fate ≡ Refused (BadImage rule)
 abbrev pub Drawing : Form → Bool → List ℕ → Ending → Type 0
 Drawing form unsound bytes fate = AfterReading form unsound (reading bytes) fate
 
--- a picture is what a fate says that comes
+-- a picture is what an ending says that comes
 abbrev pub Gives : (Ending → Type 0) → List ℕ → Type 0
 Gives comes text = (fate : Ending) × comes fate × (status fate ≡ 0) × (text ≡ said fate)
 
@@ -88,7 +88,7 @@ AfterLoad a found.Missing fate = fate ≡ Refused (Missing a.image)
 AfterLoad a found.TooLong fate = fate ≡ Refused (TooLong a.image)
 AfterLoad a (found.Bytes bytes) fate = Drawing a.form a.unsound bytes fate
 
--- the fate of a call on a desk
+-- the ending of a call on a desk
 abbrev pub IsEnding : Option Request → DeskState → Ending → Type 0
 IsEnding None desk fate = fate ≡ Refused BadWords
 IsEnding (Some a) desk fate =

@@ -31,8 +31,8 @@ pub record RowsTell (its : Config) (image : List Contents) (marks : Marks) : Typ
   pub label : (block : ℕ) → LabelSaysSpare marks block ↔ IsChosenSpare its image block
   pub mark : (slot : ℕ) → SlotSays its image marks slot (codes "!") → ⊥
 
--- where an image is not sound no row begins with `spare`, the slot that its first broken law names is the one with a `!`,
--- and the last line is that of this law
+-- where an image is not sound no row begins with `spare`, the slot that its first broken law names is the one with a
+-- `!`, and the last line is that of this law
 pub record BreachTells (its : Config) (image : List Contents) (marks : Marks) (breach : Breach) : Type 0 where
   pub label : (block : ℕ) → LabelSaysSpare marks block → ⊥
   pub mark : (slot : ℕ) → SlotSays its image marks slot (codes "!") ↔ (breach.slot.0 ≡ slot)

@@ -7,8 +7,7 @@ use Rattle.view_command_line.specs.declared.words.Form.{Form}
 use Rattle.view_command_line.specs.declared.words.Form.TheVariants.{Text, Svg}
 use Rattle.view_command_line.specs.declared.words.View.{View}
 
--- the picture of the image file of this name, how it is said, and whether an image that is not sound is drawn all
--- the same
+-- the picture of the image file of this name, how it is said, and whether an image that is not sound is drawn too
 pub record Request : Type 0 where
   pub image : List ℕ
   pub form : Form

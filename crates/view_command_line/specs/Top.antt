@@ -30,7 +30,7 @@ WorkRunsOut (Some a) old new =
     (new ≡ after_memory old)
     ⊎ ((bytes : List ℕ) × Finds old a.image (Bytes bytes) × (new ≡ after_answer as_before old))
 
--- the work that a call asks for gives the text of its fate, or stops
+-- the work that a call asks for gives the text of its ending, or stops
 abbrev pub Works : Option Request → DeskState → DeskState → Result (Vec ℕ Global) ImageStop → Type 0
 Works task old new (Ok text) = Gives (IsEnding task old) text.items × (new ≡ after_load task old)
 Works task old new (Err (stop.Refused refusal)) =
@@ -40,7 +40,7 @@ Works task old new (Err stop.Memory) = WorkRunsOut task old new
 
 -- ---- how a call fails
 
--- the saying of a fate's text was answered by an error
+-- the saying of an ending's text was answered by an error
 abbrev pub SayStops : SinkError → Option Request → DeskState → DeskState → Type 0
 SayStops error task old new =
     (fate : Ending) × IsEnding task old fate × TextStops error (said fate) (after_load task old) new
@@ -59,7 +59,7 @@ abbrev pub LineStarves : Option Request → DeskState → DeskState → Type 0
 LineStarves task old new =
     (fate : Ending) × IsEnding task old fate × (status fate ≢ 0) × (new ≡ after_load task old)
 
--- memory ran out before a fate was decided, or for its line, or in the saying
+-- memory ran out before an ending was decided, or for its line, or in the saying
 abbrev pub RunsOutOfMemory : Option Request → DeskState → DeskState → Type 0
 RunsOutOfMemory task old new =
     WorkRunsOut task old new ⊎ (LineStarves task old new ⊎ SayStops sink.Memory task old new)
@@ -69,7 +69,7 @@ abbrev pub IsStarved : Option Request → DeskState → DeskState → Type 0
 IsStarved task old new =
     (mid : DeskState) × RunsOutOfMemory task old mid × Attempts mid new (line (codes "no memory"))
 
--- How a call of the program ends: its fate is said whole, and gives the status; or a call of the desk failed; or
+-- How a call of the program ends: its ending is said whole, and gives the status; or a call of the desk failed; or
 -- memory ran out.
 pub data EndsCall (task : Option Request) (old new : DeskState) (answer : ℕ) : Type 0 where
   Decided : (fate : Ending) → IsEnding task old fate → answer ≡ status fate →

@@ -11,10 +11,9 @@ use desk_io::Desk;
 use program_base::{ImageRefusal, ImageStop, desk_fault, load_file, no_memory, refuse, say};
 use std::alloc::Global;
 
-/// Says the picture that the words ask for, and answers the status: 0 where that is done, 1 for words that are
-/// not in the table, 2 for a file that is missing, 3 for bytes that are no image file, 5 for a fault of the
-/// desk, 6 for want of memory, 7 for an image that is not sound, and 9 for a file that is too long. No file
-/// changes.
+/// Prints the picture that the words ask for, and returns the status: 0 where that is done, 1 for words that are not in
+/// the table, 2 for a file that is missing, 3 for bytes that are no image file, 5 for a fault of the desk, 6 for want
+/// of memory, 7 for an image that is not sound, and 9 for a file that is too long. No file changes.
 pub fn top<D: Desk>(alloc: Global, words: &[String], desk: &mut D) -> u8
     ensures ends { EndsCall (request_by words.now) (D.state desk.old) (D.state desk.new) result }
     ensures fault { result ≡ 5 → Rose (D.state desk.old).faults (D.state desk.new).faults }
@@ -24,7 +23,7 @@ pub fn top<D: Desk>(alloc: Global, words: &[String], desk: &mut D) -> u8
     run(alloc, words, desk)
 }
 
-/// The same, by how it ends.
+/// Does what the words ask for, and returns the status. Its clause is how the call ends.
 fn run<D: Desk>(alloc: Global, words: &[String], desk: &mut D) -> u8
     ensures ends { EndsCall (request_by words.now) (D.state desk.old) (D.state desk.new) result }
     ensures disk { Rests (D.disk desk.old) (D.disk desk.new) }

@@ -1,5 +1,5 @@
-//! The command line of the program that draws the flash of an image file: what its words ask for, what it says
-//! and which status it answers, and what its pictures tell.
+//! The command line of the program that draws the flash of an image file: what its words ask for, what it prints, which
+//! status it returns, and what its pictures show.
 #![tactic(auto)]
 
 mod call;

@@ -1,7 +1,7 @@
 ghost use Rattle.std.specs.Prelude.{◌≡◌, ◌<◌, Ok, IfOk, length};
 ghost use Rattle.tx_types.specs.Config.{checked, shape_of, slots_of};
-ghost use Rattle.flash_model.specs.Flash.{slot_at};
 ghost use Rattle.flash_model.specs.Calls.{seen_of, spare_area_of};
+ghost use Rattle.flash_model.specs.Flash.{slot_at};
 ghost use Rattle.flash_model.specs.declared.flash.Seen.TheVariants as seen;
 ghost use Rattle.mem_flash.specs.MemFlashState.{loaded};
 ghost use Rattle.version_index.specs.Notes.{note_of, notes_of};
@@ -39,7 +39,7 @@ pub fn open(alloc: Global, config: Config, flash: &mut MemFlash) -> Result<Openi
     }
 }
 
-/// The same under a rule.
+/// Opens the device of a flash under a rule.
 fn open_by<R: CommitRule>(
     alloc: Global,
     config: Config,

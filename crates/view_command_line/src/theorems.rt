@@ -1,5 +1,4 @@
-//! What holds of all pictures that the program says. The functions do nothing: each is there for what
-//! it ensures.
+//! What holds of all pictures that the program prints. The functions do nothing: each is there for what it ensures.
 ghost use Rattle.std.specs.Prelude.{◌≡◌, ◌++◌, ◌<◌, ℕ, List, Option};
 ghost use Rattle.tx_types.specs.Config.{blocks_of, shape_of, slots_of};
 ghost use Rattle.tx_types.specs.declared.config.Config.{Config};
@@ -8,16 +7,16 @@ ghost use Rattle.flash_model.specs.Flash.{Contents};
 ghost use Rattle.record_list.specs.declared.found.Breach.{Breach};
 ghost use Rattle.version_index.specs.Images.{IsLeastImageBreach, IsSoundImage, records_in};
 ghost use Rattle.version_index.specs.Notes.{notes_of};
-ghost use Rattle.desk_io.specs.Desk.{DeskState};
-ghost use Rattle.flash_picture.specs.declared.marks.Marks.{Marks};
-ghost use Rattle.flash_picture.specs.Map.{map_text};
 ghost use Rattle.flash_picture.specs.Laws.{ArrowTells, SvgCellTells, SvgLabelTells, SvgWalkTells, WalkSays, WalkTells};
+ghost use Rattle.flash_picture.specs.Map.{map_text};
 ghost use Rattle.flash_picture.specs.Picture.{breach_line, cells_of, heading};
 ghost use Rattle.flash_picture.specs.Svg.{svg};
 ghost use Rattle.flash_picture.specs.Walks.{walks_text};
-ghost use Rattle.view_command_line.specs.Request.{Request};
+ghost use Rattle.flash_picture.specs.declared.marks.Marks.{Marks};
+ghost use Rattle.desk_io.specs.Desk.{DeskState};
 ghost use Rattle.view_command_line.specs.Ending.{Drawn, IsEnding, said};
 ghost use Rattle.view_command_line.specs.Laws.{BareSlotTells, BreachTells, HoldsRecord, RowsTell, SlotTells};
+ghost use Rattle.view_command_line.specs.Request.{Request};
 ghost use Rattle.view_command_line.specs.declared.words.Form.{Form};
 ghost use Rattle.view_command_line.specs.declared.words.Form.TheVariants.{Text, Svg};
 

@@ -24,10 +24,16 @@ counted false m n few = ne_eqb (0 + m) (suc n) (λ same. omega (arith, few))
 count_all : (p : ℕ → Bool) (a n : ℕ) → (count_by p (range_with_len a n) == n) ≡ list_all p (range_with_len a n)
 count_all p a zero = refl
 count_all p a (suc n) =
-    let few : count_by p (range_with_len (a + 1) n) ≤ n = omega (arith, count_by-le-length p (range_with_len (a + 1) n), length-range_with_len (a + 1) n) in
-    ap (λ k. k == suc n) (count_first p a n) ∙ counted (p a) (count_by p (range_with_len (a + 1) n)) n few ∙ ap (λ b. p a && b) (count_all p (a + 1) n)
+    let few : count_by p (range_with_len (a + 1) n) ≤ n = omega (
+      arith,
+      count_by-le-length p (range_with_len (a + 1) n),
+      length-range_with_len (a + 1) n,
+    ) in
+    ap (λ k. k == suc n) (count_first p a n) ∙ counted (p a) (count_by p (range_with_len (a + 1) n)) n few
+    ∙ ap (λ b. p a && b) (count_all p (a + 1) n)
 
 -- a block is noted as blank where as many of its slots are as it has
 pub all_blank : (n : IndexState) (block : ℕ) → (blanks_of n block == n.config.pages_per_block) ≡ is_noted_blank n block
 unfolding blanks_of
-all_blank n block = count_all (λ at. is_blank (note_at n.notes at)) (block * n.config.pages_per_block) n.config.pages_per_block
+all_blank n block = count_all (λ at. is_blank (note_at n.notes at)) (block * n.config.pages_per_block)
+    n.config.pages_per_block

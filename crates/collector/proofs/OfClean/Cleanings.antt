@@ -25,7 +25,8 @@ blank_as_noted p (complete bytes spare) = never (record_of p spare)
     never None = refl
     never (Some rec) = refl
 
-module _ (s : FlashState) (n : IndexState) (t : BlocksState) (u : Unsure) (nothing : u ≡ unsure.Nothing) (matches : Matches s n t u) where
+module _ (s : FlashState) (n : IndexState) (t : BlocksState) (u : Unsure) (nothing : u ≡ unsure.Nothing)
+    (matches : Matches s n t u) where
   m : Matches s n t unsure.Nothing
   m = subst (Matches s n t) nothing matches
 
@@ -38,13 +39,16 @@ module _ (s : FlashState) (n : IndexState) (t : BlocksState) (u : Unsure) (nothi
   -- the spare reads blank exactly where it is noted so
   pub blank_as_read : is_blank_block n s.image t.spare ≡ is_noted_blank n t.spare
   blank_as_read =
-      range_same (λ slot. is_blank_slot (slot_at s.image slot)) (λ slot. is_blank (note_at n.notes slot)) (t.spare * n.config.pages_per_block)
+      range_same (λ slot. is_blank_slot (slot_at s.image slot)) (λ slot. is_blank (note_at n.notes slot))
+      (t.spare * n.config.pages_per_block)
       n.config.pages_per_block
       (λ k low high.
-      sym (ap is_blank (noted_as_read s n t m k (omega (arith, high, fits, ap slots_of m.shape))) ∙ blank_as_noted n.config.protocol (slot_at s.image k)))
+      sym (ap is_blank (noted_as_read s n t m k (omega (arith, high, fits, ap slots_of m.shape)))
+      ∙ blank_as_noted n.config.protocol (slot_at s.image k)))
 
   -- where it is noted blank nothing is done
-  pub cleaned_already : is_noted_blank n t.spare ≡ true → Does s.shape (moment_of s) (cleaning n s.image t.spare) (moment_of s)
+  pub cleaned_already : is_noted_blank n t.spare ≡ true →
+      Does s.shape (moment_of s) (cleaning n s.image t.spare) (moment_of s)
   cleaned_already e =
       subst (λ l. Does s.shape (moment_of s) l (moment_of s))
       (sym (cond-true (is_blank_block n s.image t.spare) [] (erase t.spare ∷ []) (blank_as_read ∙ e))) refl
@@ -55,16 +59,19 @@ module _ (s : FlashState) (n : IndexState) (t : BlocksState) (u : Unsure) (nothi
       let some : 0 < n.config.pages_per_block = (let b = m.noted.bounds.shape.pages_least in omega arith) in
       let sh = shape_of n.config in
       let notes' = with_block_noted sh n.notes t.spare Blank in
-      let each : (k : ℕ) → k < length n.notes → note_at n.notes k ≡ note_at notes' k = λ k within. elim (cases_lt k (t.spare * n.config.pages_per_block)) [
+      let each : (k : ℕ) → k < length n.notes → note_at n.notes k ≡ note_at notes' k =
+      λ k within. elim (cases_lt k (t.spare * n.config.pages_per_block)) [
         | inl before ↦ sym (note_at-out sh some n.notes m.noted.slots t.spare below Blank k (inl before))
         | inr from ↦ elim (cases_lt k (t.spare * n.config.pages_per_block + n.config.pages_per_block)) [
           | inl to ↦ noted_blank (note_at n.notes k)
-              (all_range (λ slot. is_blank (note_at n.notes slot)) (t.spare * n.config.pages_per_block) n.config.pages_per_block e k from to)
+              (all_range (λ slot. is_blank (note_at n.notes slot)) (t.spare * n.config.pages_per_block)
+              n.config.pages_per_block e k from to)
               ∙ sym (note_at-in sh some n.notes m.noted.slots t.spare below Blank k from to)
           | inr behind ↦ sym (note_at-out sh some n.notes m.noted.slots t.spare below Blank k (inr behind))
         ]
       ] in
-      ap (λ notes. record n { notes = notes }) (ext_get_or Blank n.notes notes' (sym (length-noted sh some n.notes m.noted.slots t.spare below Blank)) each)
+      ap (λ notes. record n { notes = notes }) (ext_get_or Blank n.notes notes'
+      (sym (length-noted sh some n.notes m.noted.slots t.spare below Blank)) each)
 
 -- the call
 module _ (p : Protocol) (loss : LossLaw p) (written_loss : WrittenLossLaw p) (a : StoreParts) (k : IsSure p a) where
@@ -110,7 +117,8 @@ module _ (p : Protocol) (loss : LossLaw p) (written_loss : WrittenLossLaw p) (a 
         (block_noted a.noted.config.protocol a.noted matches.noted law a.table.spare Blank refl spare_below
         (can_be_lost a.noted a.table.spare matches.spared)));
     preserves = preserves a.noted matches.noted law a.table.spare spare_below matches.spared Blank refl;
-    array = at_rule s' (array_erased a.flash s' a.noted a.table matches law written_law a.table.spare spare_below matches.spared done.shape done.done);
+    array = at_rule s' (array_erased a.flash s' a.noted a.table matches law written_law a.table.spare spare_below
+        matches.spared done.shape done.done);
     sure = k.nothing;
     others = λ at rec own. (let e = sym k.nothing ∙ own in cc);
     records = erased_no_new a.noted some matches.noted.slots a.table.spare spare_below;
@@ -123,7 +131,8 @@ module _ (p : Protocol) (loss : LossLaw p) (written_loss : WrittenLossLaw p) (a 
     matches = spare_torn a.flash s' a.noted a.table matches law written_law x broken;
     preserves = preserves_same a.noted;
     array = at_rule s'
-        (left_torn a.flash s' a.noted a.table matches law written_law a.table.spare spare_below matches.spared broken.shape broken.torn.0 broken.torn.1).array;
+        (left_torn a.flash s' a.noted a.table matches law written_law a.table.spare spare_below matches.spared
+        broken.shape broken.torn.0 broken.torn.1).array;
     sure = tt;
     others = λ at rec own. (let e = own in cc);
     records = HasNoNewRecord-nothing a.noted;
@@ -139,14 +148,18 @@ module _ (p : Protocol) (loss : LossLaw p) (written_loss : WrittenLossLaw p) (a 
     can : CanDo a.flash.shape a.flash.image (erase a.table.spare)
     can = omega (arith, spare_below, ap blocks_of matches.shape)
 
-    pub cleans_erased : (x : Unit {0}) → Erases a.flash s' a.table.spare (Ok x) → Cleans p a (store_parts s' (erased a.noted a.table.spare) a.table a.unsure)
+    pub cleans_erased : (x : Unit {0}) → Erases a.flash s' a.table.spare (Ok x) →
+        Cleans p a (store_parts s' (erased a.noted a.table.spare) a.table a.unsure)
         (Ok tt)
     cleans_erased x e = record {
       keeps = keeps_of p a (store_parts s' (erased a.noted a.table.spare) a.table a.unsure) false
           (spare_emptied s' (erases_empties a.flash s' a.table.spare (Ok tt) e))
           (FlashMoves-operates a.flash s' (erase a.table.spare) (Ok x) tt can e) e.carries;
-      done = subst (λ l. Does a.flash.shape (moment_of a.flash) l (moment_of s')) (sym its_cleaning)
-          (can, same_moments (moment_of s') (after a.flash.shape (moment_of a.flash) (erase a.table.spare)) e.done.image e.done.programs e.done.erases);
+      done = subst (λ l. Does a.flash.shape (moment_of a.flash) l (moment_of s')) (sym its_cleaning) (
+        can,
+        same_moments (moment_of s') (after a.flash.shape (moment_of a.flash) (erase a.table.spare)) e.done.image
+            e.done.programs e.done.erases,
+      );
       noted = refl;
       broken = tt;
       torn = tt;
@@ -156,9 +169,11 @@ module _ (p : Protocol) (loss : LossLaw p) (written_loss : WrittenLossLaw p) (a 
       erases = omega (arith, e.done.erases);
     }
 
-    pub cleans_torn : (x : Broken) → Erases a.flash s' a.table.spare (Err x) → Cleans p a (store_parts s' a.noted a.table unsure.SpareErase) (Err x)
+    pub cleans_torn : (x : Broken) → Erases a.flash s' a.table.spare (Err x) →
+        Cleans p a (store_parts s' a.noted a.table unsure.SpareErase) (Err x)
     cleans_torn x e = record {
-      keeps = keeps_of p a (store_parts s' a.noted a.table unsure.SpareErase) true (spare_left s' x (erases_empties a.flash s' a.table.spare (Err x) e))
+      keeps = keeps_of p a (store_parts s' a.noted a.table unsure.SpareErase) true
+          (spare_left s' x (erases_empties a.flash s' a.table.spare (Err x) e))
           (FlashMoves-operates a.flash s' (erase a.table.spare) (Err x) tt can e) e.carries;
       done = tt;
       noted = tt;

@@ -13,10 +13,13 @@ use Rattle.collector.proofs.OfCopies.CopyingBlocks.{CopiedSoFar, needed_before, 
 use Rattle.collector.proofs.OfSettle.Looked.{reads_then}
 
 -- the next copy broke off
-module _ (p : Protocol) (a : StoreParts) (n : IndexState) (s : FlashState) (t : BlocksState) (u : Unsure) (first start at used block : ℕ)
+module _ (p : Protocol) (a : StoreParts) (n : IndexState) (s : FlashState) (t : BlocksState) (u : Unsure)
+    (first start at used block : ℕ)
     (h : CopiedSoFar p a n s t u first start at used) (low : first ≤ at)
-    (block_is : first ≡ block * a.noted.config.pages_per_block) (spare_is : start ≡ t.spare * a.noted.config.pages_per_block)
-    (high : at < first + a.noted.config.pages_per_block) (apart : block ≢ t.spare) (below : block < blocks_of (shape_of a.noted.config))
+    (block_is : first ≡ block * a.noted.config.pages_per_block)
+    (spare_is : start ≡ t.spare * a.noted.config.pages_per_block)
+    (high : at < first + a.noted.config.pages_per_block) (apart : block ≢ t.spare)
+    (below : block < blocks_of (shape_of a.noted.config))
     (needed : needed_of n at ≡ true) where
   abbrev n0 : IndexState
   n0 = a.noted
@@ -33,17 +36,20 @@ module _ (p : Protocol) (a : StoreParts) (n : IndexState) (s : FlashState) (t : 
   abbrev later : List ℕ
   later = filter (needed_of n0) (range_with_len (at + 1) (first + per - at - 1))
 
-  copied_before : (now : Moment) → moment_of s ≡ now → (n' : IndexState) → n' ≡ n → CopiedFirst n0 s0 [] t.spare block before (at ∷ later) now n'
+  copied_before : (now : Moment) → moment_of s ≡ now → (n' : IndexState) → n' ≡ n →
+      CopiedFirst n0 s0 [] t.spare block before (at ∷ later) now n'
   copied_before now is n' stays = record {
     order = ap (λ k. filter (needed_of n0) (range_with_len k per)) (sym block_is)
-        ∙ filter_parts (needed_of n0) first (at - first) (first + per - at - 1) per at (omega (arith, low)) (omega (arith, low, high))
+        ∙ filter_parts (needed_of n0) first (at - first) (first + per - at - 1) per at (omega (arith, low))
+        (omega (arith, low, high))
         (needed0 p a n s t u first start at used block h low block_is spare_is high apart below needed);
     done = subst (λ k. Does s0.shape (moment_of s0) (copies n0.config.page_bytes s0.image k before) now) spare_is
         (subst (Does s0.shape (moment_of s0) (copies n0.config.page_bytes s0.image start before)) is h.does);
     noted = stays ∙ h.noted ∙ ap (λ k. copied_from n0 k before) spare_is;
   }
 
-  pub copying_broke : (s' : FlashState) (n' : IndexState) (u' : Unsure) (from to : Slot) → from.0 ≡ at → to.0 ≡ start + used → n' ≡ n →
+  pub copying_broke : (s' : FlashState) (n' : IndexState) (u' : Unsure) (from to : Slot) → from.0 ≡ at →
+      to.0 ≡ start + used → n' ≡ n →
       CopyBreaksOff n s s' from to u' → CopiesBreakOff n0 s0 s' [] t.spare block n' u'
   copying_broke s' n' u' from to from_is to_is stays (inl read) =
       subst (CopiesBreakOff n0 s0 s' [] t.spare block n') (sym read.0) (record {
@@ -60,36 +66,47 @@ module _ (p : Protocol) (a : StoreParts) (n : IndexState) (s : FlashState) (t : 
         first = before;
         later = later;
         between = moment_of s;
-        copied = subst (λ k. CopiedFirst n0 s0 [] t.spare block before (k ∷ later) (moment_of s) n') (sym from_is) (copied_before (moment_of s) refl n' stays);
+        copied = subst (λ k. CopiedFirst n0 s0 [] t.spare block before (k ∷ later) (moment_of s) n') (sym from_is)
+            (copied_before (moment_of s) refl n' stays);
         place = to_is ∙ place ∙ ap (λ k. k + length before) spare_is;
         torn = subst (λ o. Torn s0.shape (moment_of s) o (moment_of s'))
-            (ap (λ k. copy_program n.config.page_bytes s.image k from.0) to_is ∙ ap (copy_program n.config.page_bytes s.image (start + used)) from_is
+            (ap (λ k. copy_program n.config.page_bytes s.image k from.0) to_is
+            ∙ ap (copy_program n.config.page_bytes s.image (start + used)) from_is
             ∙ its_program p a n s t u first start at used block h low block_is spare_is high apart below
             ∙ ap (λ k. copy_program n0.config.page_bytes s0.image k at) (sym (to_is ∙ place))
             ∙ ap (copy_program n0.config.page_bytes s0.image to.0) (sym from_is))
-            (subst (λ sh. Torn sh (moment_of s) (copy_program n.config.page_bytes s.image to.0 from.0) (moment_of s')) h.keeps.carries.shape torn.1);
-        reads = torn.2 ∙ ap counted h.reads ∙ reads_then used 1 s0.reads ∙ ap (λ k. reads_after (k + 1) s0.reads) h.count;
+            (subst (λ sh. Torn sh (moment_of s) (copy_program n.config.page_bytes s.image to.0 from.0) (moment_of s'))
+            h.keeps.carries.shape torn.1);
+        reads = torn.2 ∙ ap counted h.reads ∙ reads_then used 1 s0.reads
+            ∙ ap (λ k. reads_after (k + 1) s0.reads) h.count;
       })
 
 -- a collection of which the spare was made blank
-module _ (p : Protocol) (loss : LossLaw p) (s0 : FlashState) (n0 : IndexState) (t : BlocksState) (u0 : Unsure) (rule : n0.config.protocol ≡ p)
+module _ (p : Protocol) (loss : LossLaw p) (s0 : FlashState) (n0 : IndexState) (t : BlocksState) (u0 : Unsure)
+    (rule : n0.config.protocol ≡ p)
     (m : Matches s0 n0 t u0)
-    (s1 : FlashState) (n1 : IndexState) (t1 : BlocksState) (block : ℕ) (noted : n1 ≡ erased n0 t.spare) (table : t1 ≡ t) (apart : block ≢ t.spare)
-    (shape1 : s1.shape ≡ s0.shape) (cleans : Does s0.shape (moment_of s0) (cleaning n0 s0.image t.spare) (moment_of s1)) (unread : s1.reads ≡ s0.reads) where
+    (s1 : FlashState) (n1 : IndexState) (t1 : BlocksState) (block : ℕ) (noted : n1 ≡ erased n0 t.spare) (table : t1 ≡ t)
+    (apart : block ≢ t.spare)
+    (shape1 : s1.shape ≡ s0.shape) (cleans : Does s0.shape (moment_of s0) (cleaning n0 s0.image t.spare) (moment_of s1))
+    (unread : s1.reads ≡ s0.reads) where
   -- its copies are those that follow on making the spare blank
-  follows : (first rest : List ℕ) (now : Moment) (n2 : IndexState) → CopiedFirst n1 s1 [] t1.spare block first rest now n2 →
+  follows : (first rest : List ℕ) (now : Moment) (n2 : IndexState) →
+      CopiedFirst n1 s1 [] t1.spare block first rest now n2 →
       CopiedFirst (erased n0 t.spare) s0 (cleaning n0 s0.image t.spare) t.spare block first rest now n2
   follows first rest now n2 c =
-      let order : needed_slots (erased n0 t.spare) block ≡ first ++ rest = subst (λ (k : IndexState). needed_slots k block ≡ first ++ rest) noted c.order in
+      let order : needed_slots (erased n0 t.spare) block ≡ first ++ rest =
+      subst (λ (k : IndexState). needed_slots k block ≡ first ++ rest) noted c.order in
       record {
         order = order;
         done = copies_follow p loss s0 n0 t u0 rule m s1 n1 t1 block noted table apart shape1 cleans first
             (λ k i. subst (λ l. Contains l k) (sym order) (Contains-append_left first rest k i)) now c.done;
-        noted = subst (λ (k : BlocksState). n2 ≡ copied_from (erased n0 t.spare) (k.spare * n0.config.pages_per_block) first) table
+        noted = subst (λ (k : BlocksState). n2 ≡ copied_from (erased n0 t.spare)
+            (k.spare * n0.config.pages_per_block) first) table
             (subst (λ (k : IndexState). n2 ≡ copied_from k (t1.spare * k.config.pages_per_block) first) noted c.noted);
       }
 
-  pub copies_broke : s1.live ≡ s0.live → (s2 : FlashState) (n2 : IndexState) (u2 : Unsure) → CopiesBreakOff n1 s1 s2 [] t1.spare block n2 u2 →
+  pub copies_broke : s1.live ≡ s0.live → (s2 : FlashState) (n2 : IndexState) (u2 : Unsure) →
+      CopiesBreakOff n1 s1 s2 [] t1.spare block n2 u2 →
       BreaksOff n0 s0 s2 t.spare block n2 u2
   copies_broke lives s2 n2 unsure.Nothing b = record {
     first = b.first;
@@ -101,7 +118,8 @@ module _ (p : Protocol) (loss : LossLaw p) (s0 : FlashState) (n0 : IndexState) (
   copies_broke lives s2 n2 (unsure.Copy from to) b =
       let copied = follows b.first (from.0 ∷ b.later) b.between n2 b.copied in
       let same = same_slots p loss s0 n0 t u0 rule m s1 n1 t1 block noted table apart shape1 cleans from.0
-      (subst (λ l. Contains l from.0) (sym copied.order) (Contains-append_right b.first (from.0 ∷ b.later) from.0 (Contains-first from.0 b.later))) in
+      (subst (λ l. Contains l from.0) (sym copied.order) (Contains-append_right b.first (from.0 ∷ b.later) from.0
+      (Contains-first from.0 b.later))) in
       record {
         first = b.first;
         later = b.later;
@@ -109,9 +127,12 @@ module _ (p : Protocol) (loss : LossLaw p) (s0 : FlashState) (n0 : IndexState) (
         copied = copied;
         place = subst (λ (k : BlocksState). to.0 ≡ k.spare * n0.config.pages_per_block + length b.first) table
             (subst (λ (k : IndexState). to.0 ≡ t1.spare * k.config.pages_per_block + length b.first) noted b.place);
-        torn = subst (λ sh. Torn sh b.between (copy_program n0.config.page_bytes s0.image to.0 from.0) (moment_of s2)) shape1
-            (subst (λ c. Torn s1.shape b.between (program to.0 (page_of n0.config.page_bytes c) (spare_area_of c)) (moment_of s2)) same
-            (subst (λ (k : IndexState). Torn s1.shape b.between (copy_program k.config.page_bytes s1.image to.0 from.0) (moment_of s2)) noted b.torn));
+        torn = subst (λ sh. Torn sh b.between (copy_program n0.config.page_bytes s0.image to.0 from.0) (moment_of s2))
+            shape1
+            (subst (λ c. Torn s1.shape b.between (program to.0 (page_of n0.config.page_bytes c) (spare_area_of c))
+            (moment_of s2)) same
+            (subst (λ (k : IndexState). Torn s1.shape b.between (copy_program k.config.page_bytes s1.image to.0 from.0)
+            (moment_of s2)) noted b.torn));
         reads = b.reads ∙ ap (reads_after (length b.first + 1)) unread;
       }
   copies_broke lives s2 n2 (unsure.Own at rec) b = absurd b
@@ -120,8 +141,10 @@ module _ (p : Protocol) (loss : LossLaw p) (s0 : FlashState) (n0 : IndexState) (
 
   -- the erase of the block broke off
   module _ (s2 s3 : FlashState) (n2 : IndexState) (used : ℕ) (shape2 : s2.shape ≡ s0.shape)
-      (copied : CopiesDone n1 n2 s1 s2 t1.spare block used) (its : Block) (its_is : its.0 ≡ block) (n3 : IndexState) (u3 : Unsure) where
-    pub victim_broke : Torn s2.shape (moment_of s2) (erase block) (moment_of s3) → s3.reads ≡ s2.reads → u3 ≡ unsure.VictimErase its → n3 ≡ n2 →
+      (copied : CopiesDone n1 n2 s1 s2 t1.spare block used) (its : Block) (its_is : its.0 ≡ block) (n3 : IndexState)
+      (u3 : Unsure) where
+    pub victim_broke : Torn s2.shape (moment_of s2) (erase block) (moment_of s3) → s3.reads ≡ s2.reads →
+        u3 ≡ unsure.VictimErase its → n3 ≡ n2 →
         BreaksOff n0 s0 s3 t.spare block n3 u3
     victim_broke torn unread_still place stays =
         subst (BreaksOff n0 s0 s3 t.spare block n3) (sym place) (
@@ -130,14 +153,18 @@ module _ (p : Protocol) (loss : LossLaw p) (s0 : FlashState) (n0 : IndexState) (
             between = moment_of s2;
             copied = record {
               order = sym (append-nil (needed_slots (erased n0 t.spare) block));
-              done = all_copied p loss s0 n0 t u0 rule m s1 n1 t1 block noted table apart shape1 cleans s2 n2 used copied;
+              done = all_copied p loss s0 n0 t u0 rule m s1 n1 t1 block noted table apart shape1 cleans s2
+                  n2 used copied;
               noted = stays
-                  ∙ subst (λ (k : BlocksState). n2 ≡ copied_from (erased n0 t.spare) (k.spare * n0.config.pages_per_block)
+                  ∙ subst (λ (k : BlocksState). n2 ≡ copied_from (erased n0 t.spare)
+                  (k.spare * n0.config.pages_per_block)
                   (needed_slots (erased n0 t.spare) block)) table
-                  (subst (λ (k : IndexState). n2 ≡ copied_from k (t1.spare * k.config.pages_per_block) (needed_slots k block)) noted copied.noted);
+                  (subst (λ (k : IndexState). n2 ≡ copied_from k (t1.spare * k.config.pages_per_block)
+                  (needed_slots k block)) noted copied.noted);
             };
             torn = subst (λ sh. Torn sh (moment_of s2) (erase block) (moment_of s3)) shape2 torn;
             reads = unread_still ∙ copied.reads ∙ ap (reads_after used) unread
-                ∙ ap (λ k. reads_after k s0.reads) (copied.count ∙ ap (λ (k : IndexState). length (needed_slots k block)) noted);
+                ∙ ap (λ k. reads_after k s0.reads) (copied.count
+                ∙ ap (λ (k : IndexState). length (needed_slots k block)) noted);
           },
         )

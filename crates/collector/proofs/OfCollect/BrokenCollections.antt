@@ -5,25 +5,30 @@ use Rattle.collector.specs.Going.{CostsBroken, CostsCopying}
 use Rattle.collector.proofs.OfCopies.CopyingBlocks.{CopiedSoFar, needed_before}
 use Rattle.collector.proofs.OfCollect.RoundCosts.{copies_programs, copies_erases}
 
-module _ (p : Protocol) (a : StoreParts) (n : IndexState) (s : FlashState) (t : BlocksState) (u : Unsure) (first start at used : ℕ)
+module _ (p : Protocol) (a : StoreParts) (n : IndexState) (s : FlashState) (t : BlocksState) (u : Unsure)
+    (first start at used : ℕ)
     (h : CopiedSoFar p a n s t u first start at used) (few : used < a.noted.config.pages_per_block) where
   -- there were fewer copies than the block has slots
   pub copying_costs : CostsCopying a.noted.config.pages_per_block a.flash s
   copying_costs = record {
-    programs = (let low = copies_programs a.flash s a.noted.config.page_bytes a.flash.image start (needed_before a.noted first at) h.does in
+    programs = (let low = copies_programs a.flash s a.noted.config.page_bytes a.flash.image start
+        (needed_before a.noted first at) h.does in
         omega (arith, low, few, h.count));
-    erases = copies_erases a.flash s a.noted.config.page_bytes a.flash.image start (needed_before a.noted first at) h.does;
+    erases = copies_erases a.flash s a.noted.config.page_bytes a.flash.image start
+        (needed_before a.noted first at) h.does;
   }
 
   -- also where the next copy was broken
-  pub copying_costs_torn : (s' : FlashState) → (s'.programs ≡ s.programs) × (s'.erases ≡ s.erases) → CostsCopying a.noted.config.pages_per_block a.flash s'
+  pub copying_costs_torn : (s' : FlashState) → (s'.programs ≡ s.programs) × (s'.erases ≡ s.erases) →
+      CostsCopying a.noted.config.pages_per_block a.flash s'
   copying_costs_torn s' same = record {
     programs = (let low = copying_costs.programs in omega (arith, low, same.0));
     erases = (let low = copying_costs.erases in omega (arith, low, same.1));
   }
 
 -- the costs of making the spare blank and of copying
-pub broken_costs : (n0 n1 : IndexState) (s0 s1 s2 : FlashState) → n1.config ≡ n0.config → s1.programs ≡ s0.programs → s1.erases ≤ s0.erases + 1 →
+pub broken_costs : (n0 n1 : IndexState) (s0 s1 s2 : FlashState) → n1.config ≡ n0.config → s1.programs ≡ s0.programs →
+    s1.erases ≤ s0.erases + 1 →
     CostsCopying n1.config.pages_per_block s1 s2 → CostsBroken n0.config.pages_per_block s0 s2
 broken_costs n0 n1 s0 s1 s2 same programs erases copying =
     let its = subst (λ (k : Config). CostsCopying k.pages_per_block s1 s2) same copying in

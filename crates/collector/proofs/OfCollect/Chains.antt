@@ -3,14 +3,15 @@ use Rattle.collector.proofs.Common.{◌≡◌, ℕ, ◌+◌, ◌-◌, ◌*◌, �
 use Rattle.std.proofs.Common.{Any}
 use Rattle.std.proofs.Math.Nat.{mul-le-mul_right}
 
--- costs of so many rounds and of so many more
+-- costs of this many rounds and of this many more
 more_rounds : (d k j a b c : ℕ) → b ≤ a + k * d → c ≤ b + j * d → c ≤ a + (k + j) * d
 more_rounds d k j a b c low high = omega arith
 
 pub CostsAtMost-nothing : (pages : ℕ) (a : FlashState) → CostsAtMost pages 0 a a
 CostsAtMost-nothing pages a = record { programs = omega arith; erases = omega arith }
 
-pub CostsAtMost-then : (pages k j : ℕ) (a b c : FlashState) → CostsAtMost pages k a b → CostsAtMost pages j b c → CostsAtMost pages (k + j) a c
+pub CostsAtMost-then : (pages k j : ℕ) (a b c : FlashState) → CostsAtMost pages k a b → CostsAtMost pages j b c →
+    CostsAtMost pages (k + j) a c
 CostsAtMost-then pages k j a b c ab bc = record {
   programs = more_rounds (pages - 1) k j a.programs b.programs c.programs ab.programs bc.programs;
   erases = more_rounds 2 k j a.erases b.erases c.erases ab.erases bc.erases;
@@ -18,7 +19,8 @@ CostsAtMost-then pages k j a b c ab bc = record {
 
 pub CostsAtMost-more : (pages k j : ℕ) (a b : FlashState) → k ≤ j → CostsAtMost pages k a b → CostsAtMost pages j a b
 CostsAtMost-more pages k j a b le h = record {
-  programs = (let more : k * (pages - 1) ≤ j * (pages - 1) = mul-le-mul_right (pages - 1) le in let low = h.programs in omega arith);
+  programs = (let more : k * (pages - 1) ≤ j * (pages - 1) = mul-le-mul_right (pages - 1) le in
+      let low = h.programs in omega arith);
   erases = (let low = h.erases in omega arith);
 }
 

@@ -5,7 +5,8 @@ use Rattle.version_index.proofs.OfTables.FoundIn.{noted_in, holds_within}
 use Rattle.collector.proofs.OfCollect.Chains.{WasThere, no_new}
 use Rattle.collector.proofs.OfNotes.NotesLeft.{noted_left, length-noted}
 
-note_set : (notes : List Note) (at k : ℕ) (note : Note) → (note_at (set notes at note) k ≡ note) ⊎ (note_at (set notes at note) k ≡ note_at notes k)
+note_set : (notes : List Note) (at k : ℕ) (note : Note) → (note_at (set notes at note) k ≡ note)
+    ⊎ (note_at (set notes at note) k ≡ note_at notes k)
 note_set [] at k note = inr refl
 note_set (x ∷ xs) zero zero note = inl refl
 note_set (x ∷ xs) zero (suc k) note = inr refl
@@ -17,7 +18,8 @@ pub data ComesFrom (n : IndexState) (slots : List ℕ) (k : ℕ) (note : Note) :
   stays : note ≡ note_at n.notes k → ComesFrom n slots k note
   copy : (from : ℕ) → Contains slots from → note ≡ note_at n.notes from → ComesFrom n slots k note
 
-pub copied_notes : (n : IndexState) (to : ℕ) (slots : List ℕ) (k : ℕ) → ComesFrom n slots k (note_at (copied_from n to slots).notes k)
+pub copied_notes : (n : IndexState) (to : ℕ) (slots : List ℕ) (k : ℕ) →
+    ComesFrom n slots k (note_at (copied_from n to slots).notes k)
 copied_notes n to [] k = stays refl
 copied_notes n to (from ∷ rest) k = elim (copied_notes (copied n from to) (to + 1) rest k) [
   | stays e ↦ elim (note_set n.notes to k (note_at n.notes from)) [
@@ -36,7 +38,8 @@ copied_config n to (from ∷ rest) = copied_config (copied n from to) (to + 1) r
 
 pub copied_length : (n : IndexState) (to : ℕ) (slots : List ℕ) → length (copied_from n to slots).notes ≡ length n.notes
 copied_length n to [] = refl
-copied_length n to (from ∷ rest) = copied_length (copied n from to) (to + 1) rest ∙ length-set n.notes to (note_at n.notes from)
+copied_length n to (from ∷ rest) = copied_length (copied n from to) (to + 1) rest
+    ∙ length-set n.notes to (note_at n.notes from)
 
 -- no record is new where slots were copied
 pub copied_no_new : (n : IndexState) (to : ℕ) (slots : List ℕ) → HasNoNewRecord n (copied_from n to slots)
@@ -48,10 +51,15 @@ copied_no_new n to slots = no_new n (copied_from n to slots) (λ f i.
     ])
   where
     at : (f : Found) (k : ℕ) → note_at n.notes k ≡ Holds f.rec → WasThere n f
-    at f k is = record { was = found k f.rec; is_in = noted_in n.notes k f.rec (holds_within n.notes k f.rec is) is; same = refl }
+    at f k is = record {
+      was = found k f.rec;
+      is_in = noted_in n.notes k f.rec (holds_within n.notes k f.rec is) is;
+      same = refl;
+    }
 
 -- the records outside a block that is all blank now
-module _ (n : IndexState) (some : 0 < n.config.pages_per_block) (long : length n.notes ≡ slots_of (shape_of n.config)) (block : ℕ)
+module _ (n : IndexState) (some : 0 < n.config.pages_per_block) (long : length n.notes ≡ slots_of (shape_of n.config))
+    (block : ℕ)
     (below : block < blocks_of (shape_of n.config)) where
   pub erased_from : (f : Found) → Contains (found_in (erased n block).notes) f →
       Contains (found_in n.notes) f × (is_outside (shape_of n.config) block f.slot.0 ≡ true)
@@ -68,9 +76,11 @@ module _ (n : IndexState) (some : 0 < n.config.pages_per_block) (long : length n
 -- where a record of what was collected comes from
 pub data Origin (n : IndexState) (spare : ℕ) (f : Found) : Type 0 where
   in_place : Contains (found_in n.notes) f → is_outside (shape_of n.config) spare f.slot.0 ≡ true → Origin n spare f
-  in_copy : (from : ℕ) → Contains (found_in (noted_cleaned n spare).notes) (found from f.rec) → needed_of (noted_cleaned n spare) from ≡ true → Origin n spare f
+  in_copy : (from : ℕ) → Contains (found_in (noted_cleaned n spare).notes) (found from f.rec) →
+      needed_of (noted_cleaned n spare) from ≡ true → Origin n spare f
 
-module _ (n : IndexState) (some : 0 < n.config.pages_per_block) (long : length n.notes ≡ slots_of (shape_of n.config)) (spare block : ℕ)
+module _ (n : IndexState) (some : 0 < n.config.pages_per_block) (long : length n.notes ≡ slots_of (shape_of n.config))
+    (spare block : ℕ)
     (spare_below : spare < blocks_of (shape_of n.config)) (below : block < blocks_of (shape_of n.config)) where
   abbrev first : ℕ
   first = spare * n.config.pages_per_block
@@ -101,8 +111,10 @@ module _ (n : IndexState) (some : 0 < n.config.pages_per_block) (long : length n
   in_full f i = erased_from full full_some full_slots block full_below f i
 
   -- it lies outside the block
-  pub collected_outside : (f : Found) → Contains (found_in (collected n spare block).notes) f → is_outside (shape_of n.config) block f.slot.0 ≡ true
-  collected_outside f i = subst (λ (k : Config). is_outside (shape_of k) block f.slot.0 ≡ true) config_same (in_full f i).1
+  pub collected_outside : (f : Found) → Contains (found_in (collected n spare block).notes) f →
+      is_outside (shape_of n.config) block f.slot.0 ≡ true
+  collected_outside f i = subst (λ (k : Config). is_outside (shape_of k) block f.slot.0 ≡ true) config_same
+      (in_full f i).1
 
   pub collected_from : (f : Found) → Contains (found_in (collected n spare block).notes) f → Origin n spare f
   collected_from f i =
@@ -111,10 +123,12 @@ module _ (n : IndexState) (some : 0 < n.config.pages_per_block) (long : length n
         | stays e ↦ (
             let is = sym e ∙ there.1 in
             let was = erased_from n some long spare spare_below f
-            (noted_in (noted_cleaned n spare).notes f.slot.0 f.rec (holds_within (noted_cleaned n spare).notes f.slot.0 f.rec is) is) in
+            (noted_in (noted_cleaned n spare).notes f.slot.0 f.rec
+            (holds_within (noted_cleaned n spare).notes f.slot.0 f.rec is) is) in
             in_place was.0 was.1)
         | copy from j e ↦ (
             let is = sym e ∙ there.1 in
-            in_copy from (noted_in (noted_cleaned n spare).notes from f.rec (holds_within (noted_cleaned n spare).notes from f.rec is) is)
+            in_copy from (noted_in (noted_cleaned n spare).notes from f.rec
+            (holds_within (noted_cleaned n spare).notes from f.rec is) is)
             (from_filter (needed_of (noted_cleaned n spare)) from (slots_in (noted_cleaned n spare) block) j).1)
       ]

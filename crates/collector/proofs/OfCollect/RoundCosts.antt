@@ -45,12 +45,15 @@ counts shape a b (fire loads ∷ rest) does =
       erased = (let low = h.erased in omega arith);
     }
 
-programs-copies : (page_bytes : ℕ) (image : List Contents) (to : ℕ) (slots : List ℕ) → programs (copies page_bytes image to slots) ≡ length slots
+programs-copies : (page_bytes : ℕ) (image : List Contents) (to : ℕ) (slots : List ℕ) →
+    programs (copies page_bytes image to slots) ≡ length slots
 unfolding programs
 programs-copies page_bytes image to [] = refl
-programs-copies page_bytes image to (from ∷ rest) = (let h = programs-copies page_bytes image (to + 1) rest in omega arith)
+programs-copies page_bytes image to (from ∷ rest) = (let h = programs-copies page_bytes image (to + 1) rest in
+    omega arith)
 
-erases-copies : (page_bytes : ℕ) (image : List Contents) (to : ℕ) (slots : List ℕ) → erases (copies page_bytes image to slots) ≡ 0
+erases-copies : (page_bytes : ℕ) (image : List Contents) (to : ℕ) (slots : List ℕ) →
+    erases (copies page_bytes image to slots) ≡ 0
 unfolding erases
 erases-copies page_bytes image to [] = refl
 erases-copies page_bytes image to (from ∷ rest) = erases-copies page_bytes image (to + 1) rest

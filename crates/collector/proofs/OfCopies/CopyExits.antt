@@ -22,11 +22,13 @@ blank_noted p (complete bytes spare) e = absurd (never (record_of p spare) e)
     never None e = cc
     never (Some rec) e = cc
 
-module _ (s s' : FlashState) (n : IndexState) (t : BlocksState) (m : Matches s n t unsure.Nothing) (written_copy : WrittenCopyLaw n.config.protocol)
+module _ (s s' : FlashState) (n : IndexState) (t : BlocksState) (m : Matches s n t unsure.Nothing)
+    (written_copy : WrittenCopyLaw n.config.protocol)
     (from to : Slot) (rec : Rec) (bytes spare : List ℕ)
     (from_within : from.0 < slots_of (shape_of n.config)) (to_within : to.0 < slots_of (shape_of n.config))
     (in_spare : to.0 / n.config.pages_per_block ≡ t.spare)
-    (source : note_at n.notes from.0 ≡ Holds rec) (was : note_at n.notes to.0 ≡ Blank) (reads : slot_at s.image from.0 ≡ complete bytes spare)
+    (source : note_at n.notes from.0 ≡ Holds rec) (was : note_at n.notes to.0 ≡ Blank)
+    (reads : slot_at s.image from.0 ≡ complete bytes spare)
     (can : CanDo s.shape s.image (program to.0 bytes spare)) (same : s'.shape ≡ s.shape) where
   abbrev p : Protocol
   p = n.config.protocol
@@ -35,7 +37,8 @@ module _ (s s' : FlashState) (n : IndexState) (t : BlocksState) (m : Matches s n
   in_image k within = omega (arith, within, m.flash.slots, ap slots_of m.shape)
 
   blank_there : slot_at s.image to.0 ≡ blank
-  blank_there = blank_noted p (slot_at s.image to.0) (sym (noted_as_read s n t m to.0 (omega (arith, to_within, ap slots_of m.shape))) ∙ was)
+  blank_there = blank_noted p (slot_at s.image to.0)
+      (sym (noted_as_read s n t m to.0 (omega (arith, to_within, ap slots_of m.shape))) ∙ was)
 
   abbrev with_copy : List Contents
   with_copy = set s.image to.0 (complete bytes spare)
@@ -58,19 +61,23 @@ module _ (s s' : FlashState) (n : IndexState) (t : BlocksState) (m : Matches s n
     pub others : (slot : ℕ) → slot ≢ to.0 → slot_at s'.image slot ≡ slot_at s.image slot
     pub there : Q (slot_at s'.image to.0)
 
-  left_as : (Q : Contents → Type 0) (how : Outcome) (contents : Contents) → s'.image ≡ image_left s.shape s.image (program to.0 bytes spare) how →
-      image_left s.shape s.image (program to.0 bytes spare) how ≡ set s.image to.0 contents → SoundNow (set s.image to.0 contents) →
+  left_as : (Q : Contents → Type 0) (how : Outcome) (contents : Contents) →
+      s'.image ≡ image_left s.shape s.image (program to.0 bytes spare) how →
+      image_left s.shape s.image (program to.0 bytes spare) how ≡ set s.image to.0 contents →
+      SoundNow (set s.image to.0 contents) →
       KeepsArray p n.config.logical s.image (set s.image to.0 contents) → Q contents → Left Q
   left_as Q how contents is as_set sound array q =
       let now : s'.image ≡ set s.image to.0 contents = is ∙ as_set in
       record {
         sound = subst (λ i. IsSoundImage p n.config.logical s'.shape i) (sym now)
             (subst (λ sh. IsSoundImage p n.config.logical sh (set s.image to.0 contents)) (sym same) sound);
-        flash = subst (λ i. IsImage s'.shape i) (sym is) (subst (λ sh. IsImage sh (image_left s.shape s.image (program to.0 bytes spare) how)) (sym same)
+        flash = subst (λ i. IsImage s'.shape i) (sym is)
+            (subst (λ sh. IsImage sh (image_left s.shape s.image (program to.0 bytes spare) how)) (sym same)
             (IsImage-left s.shape s.image (program to.0 bytes spare) how m.flash can));
         array = subst (λ i. KeepsArray p n.config.logical s.image i) (sym now) array;
         others = λ slot other. ap (λ i. slot_at i slot) now ∙ get_or-set_other s.image to.0 slot contents blank other;
-        there = subst Q (sym (ap (λ i. slot_at i to.0) now ∙ get_or-set_same s.image to.0 contents blank (in_image to.0 to_within))) q;
+        there = subst Q (sym (ap (λ i. slot_at i to.0) now
+            ∙ get_or-set_same s.image to.0 contents blank (in_image to.0 to_within))) q;
       }
 
   copied_array : KeepsArray p n.config.logical s.image with_copy
@@ -80,20 +87,25 @@ module _ (s s' : FlashState) (n : IndexState) (t : BlocksState) (m : Matches s n
   harmed_array : KeepsArray p n.config.logical s.image (set s.image to.0 damaged)
   harmed_array = record { array = harmed.array; texts = λ name h. ap (λ l. text_at l name) harmed.written }
 
-  pub left_done : s'.image ≡ image_left s.shape s.image (program to.0 bytes spare) outcome.All → Left (λ contents. contents ≡ complete bytes spare)
-  left_done is = left_as (λ contents. contents ≡ complete bytes spare) outcome.All (complete bytes spare) is refl kept.sound copied_array refl
+  pub left_done : s'.image ≡ image_left s.shape s.image (program to.0 bytes spare) outcome.All →
+      Left (λ contents. contents ≡ complete bytes spare)
+  left_done is = left_as (λ contents. contents ≡ complete bytes spare) outcome.All (complete bytes spare) is refl
+      kept.sound copied_array refl
 
   abbrev MayHold : Contents → Type 0
   MayHold contents = (contents ≡ blank) ⊎ ((contents ≡ damaged) ⊎ (contents ≡ complete bytes spare))
 
   pub left_torn : (how : Outcome) → s'.image ≡ image_left s.shape s.image (program to.0 bytes spare) how → Left MayHold
   left_torn outcome.None is =
-      left_as MayHold outcome.None blank is (sym (set_same blank_there)) (subst SoundNow (sym (set_same blank_there)) m.sound)
-      (subst (λ i. KeepsArray p n.config.logical s.image i) (sym (set_same blank_there)) (record { array = refl; texts = λ name h. refl })) (inl refl)
+      left_as MayHold outcome.None blank is (sym (set_same blank_there))
+      (subst SoundNow (sym (set_same blank_there)) m.sound)
+      (subst (λ i. KeepsArray p n.config.logical s.image i) (sym (set_same blank_there))
+      (record { array = refl; texts = λ name h. refl })) (inl refl)
     where
       set_same : slot_at s.image to.0 ≡ blank → set s.image to.0 blank ≡ s.image
       set_same e = ap (set s.image to.0) (sym e) ∙ set-get_or s.image to.0 blank
-  left_torn outcome.All is = left_as MayHold outcome.All (complete bytes spare) is refl kept.sound copied_array (inr (inr refl))
+  left_torn outcome.All is = left_as MayHold outcome.All (complete bytes spare) is refl kept.sound copied_array
+      (inr (inr refl))
   left_torn outcome.Bad is = left_as MayHold outcome.Bad damaged is refl harmed.sound harmed_array (inr (inl refl))
 
   -- a free slot lies outside the spare
@@ -103,14 +115,17 @@ module _ (s s' : FlashState) (n : IndexState) (t : BlocksState) (m : Matches s n
       (ap (block_of_slot t.shape) e ∙ ap (λ (x : Shape). to.0 / x.pages_per_block) (m.blocks ∙ m.shape) ∙ in_spare)
 
   -- the copy was programmed
-  pub copy_done : Programs s s' to.0 bytes spare (Ok tt) → CopyLaw n.config.protocol → IsNoted p (copied n from.0 to.0) →
+  pub copy_done : Programs s s' to.0 bytes spare (Ok tt) → CopyLaw n.config.protocol →
+      IsNoted p (copied n from.0 to.0) →
       Matches s' (copied n from.0 to.0) t unsure.Nothing
   copy_done e law noted =
       let now = left_done e.done.image in
       let long : from.0 < length n.notes = omega (arith, from_within, m.noted.slots) in
       let long' : to.0 < length n.notes = omega (arith, to_within, m.noted.slots) in
-      let now_noted : (slot : ℕ) → slot < slots_of s'.shape → IsNotedAt s'.image (copied n from.0 to.0) slot = λ slot within. elim (cases_Bool (slot == to.0)) [
-        | inl here ↦ subst (λ k. note_at (copied n from.0 to.0).notes k ≡ note_of p (slot_at s'.image k)) (sym (eqb-true slot to.0 here))
+      let now_noted : (slot : ℕ) → slot < slots_of s'.shape → IsNotedAt s'.image (copied n from.0 to.0) slot =
+      λ slot within. elim (cases_Bool (slot == to.0)) [
+        | inl here ↦ subst (λ k. note_at (copied n from.0 to.0).notes k ≡ note_of p (slot_at s'.image k))
+            (sym (eqb-true slot to.0 here))
             (get_or-set_same n.notes to.0 (note_at n.notes from.0) Blank long'
             ∙ noted_as_read s n t m from.0 (omega (arith, from_within, ap slots_of m.shape))
             ∙ ap (note_of p) reads ∙ ap (note_of p) (sym now.there))
@@ -131,11 +146,13 @@ module _ (s s' : FlashState) (n : IndexState) (t : BlocksState) (m : Matches s n
         place = tt;
         spared = copy_spared n m.noted law from.0 to.0 rec source long long' was noted t.spare m.spared;
         victim = tt;
-        free = λ slot free. get_or-set_other n.notes to.0 slot (note_at n.notes from.0) Blank (free_other slot free) ∙ m.free slot free;
+        free = λ slot free. get_or-set_other n.notes to.0 slot (note_at n.notes from.0) Blank (free_other slot free)
+            ∙ m.free slot free;
       }
 
   -- the program of the copy was broken
-  pub copy_torn : (b : Broken) → Programs s s' to.0 bytes spare (Err b) → from.0 ≢ to.0 → Matches s' n t (unsure.Copy from to)
+  pub copy_torn : (b : Broken) → Programs s s' to.0 bytes spare (Err b) → from.0 ≢ to.0 →
+      Matches s' n t (unsure.Copy from to)
   copy_torn b e apart =
       let now = left_torn e.torn.left.0 e.torn.left.1 in
       record {
@@ -148,7 +165,8 @@ module _ (s s' : FlashState) (n : IndexState) (t : BlocksState) (m : Matches s n
         blocks = m.blocks ∙ sym same;
         spare = m.spare;
         sure = λ slot within sure.
-            noted_as_read s n t m slot (omega (arith, within, ap slots_of same)) ∙ ap (note_of p) (sym (now.others slot (eqb-false slot to.0 sure)));
+            noted_as_read s n t m slot (omega (arith, within, ap slots_of same))
+            ∙ ap (note_of p) (sym (now.others slot (eqb-false slot to.0 sure)));
         place = (
           to_within,
           in_spare,

@@ -4,8 +4,10 @@ use Rattle.record_list.specs.Changes.{CopyKeeps}
 use Rattle.record_list.proofs.OfChanges.OneMore.{inserted_in, in_inserted}
 use Rattle.version_index.proofs.OfTables.FoundIn.{noted_in}
 
-module _ (n : IndexState) (noted : IsNoted n.config.protocol n) (law : CopyLaw n.config.protocol) (from to : ℕ) (rec : Rec)
-    (source : note_at n.notes from ≡ Holds rec) (from_within : from < length n.notes) (within : to < length n.notes) (was : note_at n.notes to ≡ Blank)
+module _ (n : IndexState) (noted : IsNoted n.config.protocol n) (law : CopyLaw n.config.protocol)
+    (from to : ℕ) (rec : Rec)
+    (source : note_at n.notes from ≡ Holds rec) (from_within : from < length n.notes) (within : to < length n.notes)
+    (was : note_at n.notes to ≡ Blank)
     (noted' : IsNoted n.config.protocol (copied n from to)) where
   abbrev pub old : List Found
   old = found_in n.notes
@@ -14,7 +16,8 @@ module _ (n : IndexState) (noted : IsNoted n.config.protocol n) (law : CopyLaw n
   more = found_in (copied n from to).notes
 
   pub added : IsInserted old (found to rec) more
-  added = subst (λ note. IsInserted old (found to rec) (found_in (set n.notes to note))) (sym source) (found_in_programmed n.notes to rec within was)
+  added = subst (λ note. IsInserted old (found to rec) (found_in (set n.notes to note))) (sym source)
+      (found_in_programmed n.notes to rec within was)
 
   pub first : Contains old (found from rec)
   first = noted_in n.notes from rec from_within source
@@ -65,15 +68,19 @@ module _ (n : IndexState) (noted : IsNoted n.config.protocol n) (law : CopyLaw n
   }
 
   -- a wanted record was wanted
-  wanted_before : (f g : Found) → Contains old g → g.rec ≡ f.rec → is_wanted n.config.protocol more n.config.logical (pinned_names n.pins) f.rec ≡ true →
+  wanted_before : (f g : Found) → Contains old g → g.rec ≡ f.rec →
+      is_wanted n.config.protocol more n.config.logical (pinned_names n.pins) f.rec ≡ true →
       is_wanted n.config.protocol old n.config.logical (pinned_names n.pins) g.rec ≡ true
   wanted_before f g i e w =
-      let page_within : g.rec.page < n.config.logical = (All-contains (PagesExist n.config.logical) old g (noted.sound Pages) i).0 in
+      let page_within : g.rec.page < n.config.logical =
+      (All-contains (PagesExist n.config.logical) old g (noted.sound Pages) i).0 in
       subst (λ r. is_wanted n.config.protocol old n.config.logical (pinned_names n.pins) r ≡ true) (sym e)
       (elim (wanted_cases n.config.protocol more n.config.logical (pinned_names n.pins) f.rec w) [
         | inl current ↦ counted_wanted n.config.protocol old n.config.logical (pinned_names n.pins) f.rec
-            (inl (current ∙ kept.same_current f.rec.page (subst (λ (r : Rec). r.page < n.config.logical) e page_within)))
-        | inr (inl held) ↦ counted_wanted n.config.protocol old n.config.logical (pinned_names n.pins) f.rec (inr (sym (kept.same_held f.rec) ∙ held))
+            (inl (current ∙ kept.same_current f.rec.page
+            (subst (λ (r : Rec). r.page < n.config.logical) e page_within)))
+        | inr (inl held) ↦ counted_wanted n.config.protocol old n.config.logical (pinned_names n.pins) f.rec
+            (inr (sym (kept.same_held f.rec) ∙ held))
         | inr (inr pin) ↦ pinned_wanted n.config.protocol old n.config.logical (pinned_names n.pins) f.rec pin
       ])
 
@@ -86,9 +93,11 @@ module _ (n : IndexState) (noted : IsNoted n.config.protocol n) (law : CopyLaw n
       let g = was_there f i in
       let kept_there : is_present (left (is_outside (shape_of n.config) block) old) (name_of g.0.rec) ≡ true =
       All-contains (λ f. is_wanted n.config.protocol old n.config.logical (pinned_names n.pins) f.rec ≡ true →
-      is_present (left (is_outside (shape_of n.config) block) old) (name_of f.rec) ≡ true) old g.0 spared g.1 (wanted_before f g.0 g.1 g.2 w) in
+      is_present (left (is_outside (shape_of n.config) block) old) (name_of f.rec) ≡ true) old g.0 spared g.1
+      (wanted_before f g.0 g.1 g.2 w) in
       let h = found_named (left (is_outside (shape_of n.config) block) old) (name_of g.0.rec) kept_there in
       let parts = from_filter (λ f. is_outside (shape_of n.config) block f.slot.0) h.0 old h.1 in
       present_as (left (is_outside (shape_of n.config) block) more) h.0 (name_of f.rec)
-      (in_filter (λ f. is_outside (shape_of n.config) block f.slot.0) h.0 more (in_inserted old more (found to rec) added h.0 parts.0) parts.1)
+      (in_filter (λ f. is_outside (shape_of n.config) block f.slot.0) h.0 more
+      (in_inserted old more (found to rec) added h.0 parts.0) parts.1)
       (h.2 ∙ ap name_of g.2))

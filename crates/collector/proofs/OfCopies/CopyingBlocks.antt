@@ -28,44 +28,57 @@ Away start per slot = (slot < start) ⊎ (start + per ≤ slot)
 abbrev pub needed_before : IndexState → (first at : ℕ) → List ℕ
 needed_before n first at = filter (needed_of n) (range_with_len first (at - first))
 
--- What is so once the needed slots of a block before this one were copied to the spare, so many.
-pub record CopiedSoFar (p : Protocol) (a : StoreParts) (n : IndexState) (s : FlashState) (t : BlocksState) (u : Unsure) (first start at used : ℕ) : Type 0 where
+-- What is so once the needed slots of a block before this one were copied to the spare, this many.
+pub record CopiedSoFar (p : Protocol) (a : StoreParts) (n : IndexState) (s : FlashState) (t : BlocksState) (u : Unsure)
+    (first start at used : ℕ) : Type 0 where
   pub keeps : Keeps p a (store_parts s n t u) false
   pub within : used ≤ at - first
   pub count : used ≡ length (needed_before a.noted first at)
-  pub does : Does a.flash.shape (moment_of a.flash) (copies a.noted.config.page_bytes a.flash.image start (needed_before a.noted first at)) (moment_of s)
+  pub does : Does a.flash.shape (moment_of a.flash) (copies a.noted.config.page_bytes a.flash.image start
+      (needed_before a.noted first at)) (moment_of s)
   pub noted : n ≡ copied_from a.noted start (needed_before a.noted first at)
   pub reads : s.reads ≡ reads_after used a.flash.reads
   pub needs : (slot : ℕ) → Away start a.noted.config.pages_per_block slot → needed_of n slot ≡ needed_of a.noted slot
-  pub notes : (slot : ℕ) → Away start a.noted.config.pages_per_block slot → note_at n.notes slot ≡ note_at a.noted.notes slot
-  pub image : (slot : ℕ) → Away start a.noted.config.pages_per_block slot → slot_at s.image slot ≡ slot_at a.flash.image slot
+  pub notes : (slot : ℕ) → Away start a.noted.config.pages_per_block slot →
+      note_at n.notes slot ≡ note_at a.noted.notes slot
+  pub image : (slot : ℕ) → Away start a.noted.config.pages_per_block slot →
+      slot_at s.image slot ≡ slot_at a.flash.image slot
   pub records : (k : ℕ) → k < used → (rec : Rec) × (note_at n.notes (start + k) ≡ Holds rec)
-  pub tail : (slot : ℕ) → start + used ≤ slot → slot < start + a.noted.config.pages_per_block → note_at n.notes slot ≡ Blank
+  pub tail : (slot : ℕ) → start + used ≤ slot → slot < start + a.noted.config.pages_per_block →
+      note_at n.notes slot ≡ Blank
   pub there : (slot : ℕ) → first ≤ slot → slot < at → needed_of a.noted slot ≡ true →
       (k : ℕ) × (k < used) × (note_at n.notes (start + k) ≡ note_at a.noted.notes slot)
 
 -- the slots of one block are away from another block
-pub blocks_away : (per block spare slot : ℕ) → block ≢ spare → block * per ≤ slot → slot < block * per + per → Away (spare * per) per slot
+pub blocks_away : (per block spare slot : ℕ) → block ≢ spare → block * per ≤ slot → slot < block * per + per →
+    Away (spare * per) per slot
 blocks_away per block spare slot apart low high = elim (cases_order block spare) [
   | inl same ↦ absurd (apart same)
-  | inr (inl less) ↦ (let wide : (block + 1) * per ≤ spare * per = mul-le-mul_right per (omega arith) in inl (omega arith))
-  | inr (inr more) ↦ (let wide : (spare + 1) * per ≤ block * per = mul-le-mul_right per (omega arith) in inr (omega arith))
+  | inr (inl less) ↦ (let wide : (block + 1) * per ≤ spare * per = mul-le-mul_right per (omega arith) in
+      inl (omega arith))
+  | inr (inr more) ↦ (let wide : (spare + 1) * per ≤ block * per = mul-le-mul_right per (omega arith) in
+      inr (omega arith))
 ]
 
 -- a slot of a block, by its number, and one of another block
-pub is_inside : (shape : Shape) (block k : ℕ) → k < shape.pages_per_block → is_outside shape block (block * shape.pages_per_block + k) ≡ false
+pub is_inside : (shape : Shape) (block k : ℕ) → k < shape.pages_per_block →
+    is_outside shape block (block * shape.pages_per_block + k) ≡ false
 is_inside shape block k low = ap not
-    (eq-eqb ((block * shape.pages_per_block + k) / shape.pages_per_block) block (div-mul-add block shape.pages_per_block k low))
+    (eq-eqb ((block * shape.pages_per_block + k) / shape.pages_per_block) block
+    (div-mul-add block shape.pages_per_block k low))
 
-pub is_out : (shape : Shape) (block other slot : ℕ) → other ≢ block → slot / shape.pages_per_block ≡ other → is_outside shape block slot ≡ true
+pub is_out : (shape : Shape) (block other slot : ℕ) → other ≢ block → slot / shape.pages_per_block ≡ other →
+    is_outside shape block slot ≡ true
 is_out shape block other slot apart at = elim (cases_Bool ((slot / shape.pages_per_block) == block)) [
   | inl e ↦ absurd (apart (sym at ∙ eqb-true (slot / shape.pages_per_block) block e))
   | inr e ↦ ap not e
 ]
 
 -- nothing was copied
-pub copied_none : (p : Protocol) (a : StoreParts) → IsSure p a → (first start spare : ℕ) → start ≡ spare * a.noted.config.pages_per_block →
-    IsNextOfSpare a.noted spare (spare * a.noted.config.pages_per_block) → CopiedSoFar p a a.noted a.flash a.table a.unsure first start first 0
+pub copied_none : (p : Protocol) (a : StoreParts) → IsSure p a → (first start spare : ℕ) →
+    start ≡ spare * a.noted.config.pages_per_block →
+    IsNextOfSpare a.noted spare (spare * a.noted.config.pages_per_block) →
+    CopiedSoFar p a a.noted a.flash a.table a.unsure first start first 0
 copied_none p a k first start spare is next =
     let n = a.noted in
     let s = a.flash in
@@ -75,7 +88,8 @@ copied_none p a k first start spare is next =
       keeps = keeps_same p a k;
       within = omega arith;
       count = ap length empty;
-      does = subst (λ l. Does s.shape (moment_of s) (copies n.config.page_bytes s.image start l) (moment_of s)) empty refl;
+      does = subst (λ l. Does s.shape (moment_of s) (copies n.config.page_bytes s.image start l) (moment_of s)) empty
+          refl;
       noted = ap (copied_from n start) empty;
       reads = refl;
       needs = λ slot away. refl;
@@ -87,10 +101,13 @@ copied_none p a k first start spare is next =
     }
 
 -- one more slot of the block
-module _ (p : Protocol) (a : StoreParts) (n : IndexState) (s : FlashState) (t : BlocksState) (u : Unsure) (first start at used block : ℕ)
+module _ (p : Protocol) (a : StoreParts) (n : IndexState) (s : FlashState) (t : BlocksState) (u : Unsure)
+    (first start at used block : ℕ)
     (h : CopiedSoFar p a n s t u first start at used) (low : first ≤ at)
-    (block_is : first ≡ block * a.noted.config.pages_per_block) (spare_is : start ≡ t.spare * a.noted.config.pages_per_block)
-    (high : at < first + a.noted.config.pages_per_block) (apart : block ≢ t.spare) (below : block < blocks_of (shape_of a.noted.config)) where
+    (block_is : first ≡ block * a.noted.config.pages_per_block)
+    (spare_is : start ≡ t.spare * a.noted.config.pages_per_block)
+    (high : at < first + a.noted.config.pages_per_block) (apart : block ≢ t.spare)
+    (below : block < blocks_of (shape_of a.noted.config)) where
   abbrev n0 : IndexState
   n0 = a.noted
 
@@ -120,12 +137,14 @@ module _ (p : Protocol) (a : StoreParts) (n : IndexState) (s : FlashState) (t : 
   copied_passed fail =
       let fail0 : needed_of n0 at ≡ false = sym (h.needs at away) ∙ fail in
       let same : needed_before n0 first at ≡ needed_before n0 first (at + 1) =
-      sym (filter_passed (needed_of n0) first (at - first) at here fail0) ∙ ap (λ k. filter (needed_of n0) (range_with_len first k)) next_at in
+      sym (filter_passed (needed_of n0) first (at - first) at here fail0)
+      ∙ ap (λ k. filter (needed_of n0) (range_with_len first k)) next_at in
       record {
         keeps = h.keeps;
         within = omega (arith, h.within);
         count = h.count ∙ ap length same;
-        does = subst (λ l. Does s0.shape (moment_of s0) (copies n0.config.page_bytes s0.image start l) (moment_of s)) same h.does;
+        does = subst (λ l. Does s0.shape (moment_of s0) (copies n0.config.page_bytes s0.image start l) (moment_of s))
+            same h.does;
         noted = h.noted ∙ ap (copied_from n0 start) same;
         reads = h.reads;
         needs = h.needs;
@@ -135,14 +154,17 @@ module _ (p : Protocol) (a : StoreParts) (n : IndexState) (s : FlashState) (t : 
         tail = h.tail;
         there = λ slot from to needed. elim (cases_lt slot at) [
           | inl before ↦ h.there slot from before needed
-          | inr not_before ↦ (let is : slot ≡ at = omega arith in absurd (both_ways (needed_of n0 at) fail0 (subst (λ k. needed_of n0 k ≡ true) is needed)))
+          | inr not_before ↦ (let is : slot ≡ at = omega arith in
+              absurd (both_ways (needed_of n0 at) fail0 (subst (λ k. needed_of n0 k ≡ true) is needed)))
         ];
       }
 
   at_block : at / n.config.pages_per_block ≡ block
   at_block =
-      let is : at ≡ block * n.config.pages_per_block + (at - first) = omega (arith, block_is, ap (λ k. block * k) same_per) in
-      ap (λ k. k / n.config.pages_per_block) is ∙ div-mul-add block n.config.pages_per_block (at - first) (omega (arith, same_per))
+      let is : at ≡ block * n.config.pages_per_block + (at - first) =
+      omega (arith, block_is, ap (λ k. block * k) same_per) in
+      ap (λ k. k / n.config.pages_per_block) is ∙ div-mul-add block n.config.pages_per_block (at - first)
+      (omega (arith, same_per))
 
   -- the slot of the spare that comes next
   abbrev to : ℕ
@@ -152,7 +174,12 @@ module _ (p : Protocol) (a : StoreParts) (n : IndexState) (s : FlashState) (t : 
   fits = (let le = h.within in omega arith)
 
   spare_below : t.spare < blocks_of (shape_of n.config)
-  spare_below = omega (arith, h.keeps.matches.table.spare_within, ap blocks_of h.keeps.matches.blocks, ap blocks_of h.keeps.matches.shape)
+  spare_below = omega (
+    arith,
+    h.keeps.matches.table.spare_within,
+    ap blocks_of h.keeps.matches.blocks,
+    ap blocks_of h.keeps.matches.shape,
+  )
 
   to_is : to ≡ t.spare * n.config.pages_per_block + used
   to_is = ap (λ k. k + used) spare_is ∙ ap (λ k. t.spare * k + used) (sym same_per)
@@ -166,20 +193,24 @@ module _ (p : Protocol) (a : StoreParts) (n : IndexState) (s : FlashState) (t : 
   pub next_of_spare : IsNextOfSpare n t.spare to
   next_of_spare = record {
     within = to_within;
-    in_spare = ap (λ k. k / n.config.pages_per_block) to_is ∙ div-mul-add t.spare n.config.pages_per_block used fits_now;
-    blank_on = λ k from before. h.tail k from (subst (λ q. k < q) (ap (λ q. t.spare * q + q) same_per ∙ ap (λ q. q + per) (sym spare_is)) before);
+    in_spare = ap (λ k. k / n.config.pages_per_block) to_is
+        ∙ div-mul-add t.spare n.config.pages_per_block used fits_now;
+    blank_on = λ k from before. h.tail k from (subst (λ q. k < q) (ap (λ q. t.spare * q + q) same_per
+        ∙ ap (λ q. q + per) (sym spare_is)) before);
   }
 
   pub at_within : at < slots_of (shape_of n.config)
   at_within =
       let end = block_within (shape_of n0.config) block below in
-      let same : slots_of (shape_of n.config) ≡ slots_of (shape_of n0.config) = ap (λ c. slots_of (shape_of c)) same_config in
+      let same : slots_of (shape_of n.config) ≡ slots_of (shape_of n0.config) =
+      ap (λ c. slots_of (shape_of c)) same_config in
       omega (arith, end, same, high, block_is)
 
   pub to_at : to ≡ start + length (needed_before n0 first at)
   to_at = ap (λ k. start + k) h.count
 
-  pub its_program : copy_program n.config.page_bytes s.image to at ≡ copy_program n0.config.page_bytes s0.image (start + length (needed_before n0 first at)) at
+  pub its_program : copy_program n.config.page_bytes s.image to at ≡ copy_program n0.config.page_bytes s0.image
+      (start + length (needed_before n0 first at)) at
   its_program =
       ap (λ (k : Config). copy_program k.page_bytes s.image to at) same_config
       ∙ ap (λ c. program to (page_of n0.config.page_bytes c) (spare_area_of c)) (h.image at away)
@@ -203,7 +234,8 @@ module _ (p : Protocol) (a : StoreParts) (n : IndexState) (s : FlashState) (t : 
     pub needed0 : needed_of n0 at ≡ true
     needed0 = sym (h.needs at away) ∙ needed
 
-    module _ (law : CopyLaw n.config.protocol) (n' : IndexState) (s' : FlashState) (u' : Unsure) (from_slot to_slot : Slot) (from_is : from_slot.0 ≡ at)
+    module _ (law : CopyLaw n.config.protocol) (n' : IndexState) (s' : FlashState) (u' : Unsure)
+        (from_slot to_slot : Slot) (from_is : from_slot.0 ≡ at)
         (to_is_slot : to_slot.0 ≡ to)
         (copy : CopiesRecord p (store_parts s n t u) (store_parts s' n' t u') from_slot to_slot (Ok tt)) where
       done : CopyDone n s s' at to
@@ -230,38 +262,48 @@ module _ (p : Protocol) (a : StoreParts) (n : IndexState) (s : FlashState) (t : 
       at_out = is_out (shape_of n.config) t.spare block at apart at_block
 
       to_in : is_outside (shape_of n.config) t.spare to ≡ false
-      to_in = subst (λ k. is_outside (shape_of n.config) t.spare k ≡ false) (sym to_is) (is_inside (shape_of n.config) t.spare used fits_now)
+      to_in = subst (λ k. is_outside (shape_of n.config) t.spare k ≡ false) (sym to_is)
+          (is_inside (shape_of n.config) t.spare used fits_now)
 
       needs_now : (slot : ℕ) → Away start per slot → needed_of n' slot ≡ needed_of n0 slot
       needs_now slot a =
           ap (λ k. needed_of k slot) changed
-          ∙ copy_needs n h.keeps.matches.noted law at to source.rec source.is (omega (arith, at_within, h.keeps.matches.noted.slots)) long was noted' t.spare
+          ∙ copy_needs n h.keeps.matches.noted law at to source.rec source.is
+          (omega (arith, at_within, h.keeps.matches.noted.slots)) long was noted' t.spare
           h.keeps.matches.spare at_out to_in slot (not_to slot a)
           ∙ h.needs slot a
 
       note_other : (slot : ℕ) → to ≢ slot → note_at n'.notes slot ≡ note_at n.notes slot
-      note_other slot other = ap (λ k. note_at k.notes slot) changed ∙ get_or-set_other n.notes to slot (note_at n.notes at) Blank (λ e. other (sym e))
+      note_other slot other = ap (λ k. note_at k.notes slot) changed
+          ∙ get_or-set_other n.notes to slot (note_at n.notes at) Blank (λ e. other (sym e))
 
       note_to : note_at n'.notes to ≡ note_at n.notes at
       note_to = ap (λ k. note_at k.notes to) changed ∙ get_or-set_same n.notes to (note_at n.notes at) Blank long
 
-      image_now : s'.image ≡ set s.image to (complete (page_of n.config.page_bytes (slot_at s.image at)) (spare_area_of (slot_at s.image at)))
+      image_now : s'.image ≡ set s.image to (complete (page_of n.config.page_bytes (slot_at s.image at))
+          (spare_area_of (slot_at s.image at)))
       image_now = ap (λ (m : Moment). m.image) (done.programmed.1)
 
       image_other : (slot : ℕ) → to ≢ slot → slot_at s'.image slot ≡ slot_at s.image slot
-      image_other slot other = ap (λ i. slot_at i slot) image_now ∙ get_or-set_other s.image to slot _ blank (λ e. other (sym e))
+      image_other slot other = ap (λ i. slot_at i slot) image_now
+          ∙ get_or-set_other s.image to slot _ blank (λ e. other (sym e))
 
       so_far : needed_before n0 first (at + 1) ≡ needed_before n0 first at ++ at ∷ []
-      so_far = ap (λ k. filter (needed_of n0) (range_with_len first k)) (sym next_at) ∙ filter_taken (needed_of n0) first (at - first) at here needed0
+      so_far = ap (λ k. filter (needed_of n0) (range_with_len first k)) (sym next_at)
+          ∙ filter_taken (needed_of n0) first (at - first) at here needed0
 
-      does_now : Does s0.shape (moment_of s0) (copies n0.config.page_bytes s0.image start (needed_before n0 first (at + 1))) (moment_of s')
+      does_now : Does s0.shape (moment_of s0) (copies n0.config.page_bytes s0.image start
+          (needed_before n0 first (at + 1))) (moment_of s')
       does_now =
           subst (λ l. Does s0.shape (moment_of s0) l (moment_of s'))
-          (sym (ap (copies n0.config.page_bytes s0.image start) so_far ∙ copies_more n0.config.page_bytes s0.image start (needed_before n0 first at) at))
-          (Does-append s0.shape (moment_of s0) (moment_of s) (moment_of s') (copies n0.config.page_bytes s0.image start (needed_before n0 first at))
+          (sym (ap (copies n0.config.page_bytes s0.image start) so_far
+          ∙ copies_more n0.config.page_bytes s0.image start (needed_before n0 first at) at))
+          (Does-append s0.shape (moment_of s0) (moment_of s) (moment_of s')
+          (copies n0.config.page_bytes s0.image start (needed_before n0 first at))
           (copy_program n0.config.page_bytes s0.image (start + length (needed_before n0 first at)) at ∷ []) h.does
           (subst (λ o. Does s0.shape (moment_of s) (o ∷ []) (moment_of s')) its_program
-          (subst (λ sh. Does sh (moment_of s) (copy_program n.config.page_bytes s.image to at ∷ []) (moment_of s')) h.keeps.carries.shape done.programmed)))
+          (subst (λ sh. Does sh (moment_of s) (copy_program n.config.page_bytes s.image to at ∷ []) (moment_of s'))
+          h.keeps.carries.shape done.programmed)))
 
       pub copied_taken : CopiedSoFar p a n' s' t u' first start (at + 1) (used + 1)
       copied_taken = record {
@@ -269,27 +311,34 @@ module _ (p : Protocol) (a : StoreParts) (n : IndexState) (s : FlashState) (t : 
         within = omega (arith, h.within, low);
         count = ap (λ k. k + 1) h.count ∙ sym (ap length so_far ∙ length_push (needed_before n0 first at) at);
         does = does_now;
-        noted = changed ∙ ap (λ k. copied n at k) to_at ∙ ap (λ k. copied k at (start + length (needed_before n0 first at))) h.noted
+        noted = changed ∙ ap (λ k. copied n at k) to_at
+            ∙ ap (λ k. copied k at (start + length (needed_before n0 first at))) h.noted
             ∙ sym (ap (copied_from n0 start) so_far ∙ copied_more n0 start (needed_before n0 first at) at);
         reads = done.reads ∙ ap counted h.reads ∙ reads_then used 1 s0.reads;
         needs = needs_now;
         notes = λ slot a. note_other slot (not_to slot a) ∙ h.notes slot a;
         image = λ slot a. image_other slot (not_to slot a) ∙ h.image slot a;
         records = λ k lt. elim (cases_lt k used) [
-          | inl before ↦ (let r = h.records k before in (r.0, note_other (start + k) (λ e. omega (arith, e, before)) ∙ r.1))
-          | inr last ↦ (let is : start + k ≡ to = omega arith in (source.rec, ap (note_at n'.notes) is ∙ note_to ∙ source.is))
+          | inl before ↦ (let r = h.records k before in
+              (r.0, note_other (start + k) (λ e. omega (arith, e, before)) ∙ r.1))
+          | inr last ↦ (let is : start + k ≡ to = omega arith in
+              (source.rec, ap (note_at n'.notes) is ∙ note_to ∙ source.is))
         ];
         tail = λ slot from before. note_other slot (λ e. omega (arith, e, from)) ∙ h.tail slot (omega arith) before;
         there = λ slot from before wanted. elim (cases_lt slot at) [
-          | inl earlier ↦ (let c = h.there slot from earlier wanted in (c.0, omega (arith, c.1), note_other (start + c.0) (λ e. omega (arith, e, c.1)) ∙ c.2))
-          | inr last ↦ (let is : slot ≡ at = omega arith in (used, omega arith, note_to ∙ h.notes at away ∙ ap (note_at n0.notes) (sym is)))
+          | inl earlier ↦ (let c = h.there slot from earlier wanted in
+              (c.0, omega (arith, c.1), note_other (start + c.0) (λ e. omega (arith, e, c.1)) ∙ c.2))
+          | inr last ↦ (let is : slot ≡ at = omega arith in
+              (used, omega arith, note_to ∙ h.notes at away ∙ ap (note_at n0.notes) (sym is)))
         ];
       }
 
 -- all was copied
-module _ (p : Protocol) (a : StoreParts) (n : IndexState) (s : FlashState) (t : BlocksState) (u : Unsure) (first start at used block : ℕ)
+module _ (p : Protocol) (a : StoreParts) (n : IndexState) (s : FlashState) (t : BlocksState) (u : Unsure)
+    (first start at used block : ℕ)
     (h : CopiedSoFar p a n s t u first start at used)
-    (block_is : first ≡ block * a.noted.config.pages_per_block) (spare_is : start ≡ t.spare * a.noted.config.pages_per_block)
+    (block_is : first ≡ block * a.noted.config.pages_per_block)
+    (spare_is : start ≡ t.spare * a.noted.config.pages_per_block)
     (end : at ≡ first + a.noted.config.pages_per_block) (apart : block ≢ t.spare) where
   abbrev old_noted : IndexState
   old_noted = a.noted
@@ -308,7 +357,8 @@ module _ (p : Protocol) (a : StoreParts) (n : IndexState) (s : FlashState) (t : 
 
   all_needed : needed_before old_noted first at ≡ needed_slots old_noted block
   all_needed =
-      ap (λ k. filter (needed_of old_noted) (range_with_len first k)) (let count : at - first ≡ pages = omega (arith, end) in count)
+      ap (λ k. filter (needed_of old_noted) (range_with_len first k))
+      (let count : at - first ≡ pages = omega (arith, end) in count)
       ∙ ap (λ k. filter (needed_of old_noted) (range_with_len k pages)) block_is
 
   count_is : used ≡ length (needed_slots old_noted block)
@@ -319,21 +369,30 @@ module _ (p : Protocol) (a : StoreParts) (n : IndexState) (s : FlashState) (t : 
 
   -- and fewer where one is not needed
   pub fewer_slots : HasUnneeded old_noted block → used < pages
-  fewer_slots unneeded = (let less = filter_fewer (needed_of old_noted) (block * pages) pages unneeded in omega (arith, less, count_is))
+  fewer_slots unneeded = (let less = filter_fewer (needed_of old_noted) (block * pages) pages unneeded in
+      omega (arith, less, count_is))
 
   start_is : t.spare * n.config.pages_per_block ≡ start
   start_is = ap (λ k. t.spare * k) pages_are ∙ sym spare_is
 
-  has_copy : (slot : ℕ) → is_outside (shape_of n.config) block slot ≡ false → needed_of n slot ≡ true → HasCopy n block slot
+  has_copy : (slot : ℕ) → is_outside (shape_of n.config) block slot ≡ false → needed_of n slot ≡ true →
+      HasCopy n block slot
   has_copy slot inside needed =
-      let some : 0 < n.config.pages_per_block = (let b = h.keeps.matches.noted.bounds.shape.pages_least in omega arith) in
+      let some : 0 < n.config.pages_per_block = (let b = h.keeps.matches.noted.bounds.shape.pages_least in
+      omega arith) in
       let place = inside_block n.config.pages_per_block block slot some (in_it (shape_of n.config) block slot inside) in
       let low : block * pages ≤ slot = subst (λ k. block * k ≤ slot) pages_are place.0 in
       let high : slot < block * pages + pages = subst (λ k. slot < block * k + k) pages_are place.1 in
       let away = subst (λ k. Away k pages slot) (sym spare_is) (blocks_away pages block t.spare slot apart low high) in
-      let c = h.there slot (omega (arith, low, block_is)) (omega (arith, high, block_is, end)) (sym (h.needs slot away) ∙ needed) in
+      let c = h.there slot (omega (arith, low, block_is)) (omega (arith, high, block_is, end))
+      (sym (h.needs slot away) ∙ needed) in
       let below : t.spare < blocks_of (shape_of n.config) =
-      omega (arith, h.keeps.matches.table.spare_within, ap blocks_of h.keeps.matches.blocks, ap blocks_of h.keeps.matches.shape) in
+      omega (
+        arith,
+        h.keeps.matches.table.spare_within,
+        ap blocks_of h.keeps.matches.blocks,
+        ap blocks_of h.keeps.matches.shape,
+      ) in
       let room = block_within (shape_of n.config) t.spare below in
       let lt : c.0 < n.config.pages_per_block = omega (arith, c.1, no_more_slots, pages_are) in
       let its : start + c.0 ≡ t.spare * n.config.pages_per_block + c.0 = ap (λ k. k + c.0) (sym start_is) in (
@@ -347,17 +406,22 @@ module _ (p : Protocol) (a : StoreParts) (n : IndexState) (s : FlashState) (t : 
   pub copied_all : CopiesDone old_noted n old_flash s t.spare block used
   copied_all = record {
     count = count_is;
-    programmed = subst (λ k. Does old_flash.shape (moment_of old_flash) (copies old_noted.config.page_bytes old_flash.image k (needed_slots old_noted block))
+    programmed = subst (λ k. Does old_flash.shape (moment_of old_flash)
+        (copies old_noted.config.page_bytes old_flash.image k (needed_slots old_noted block))
         (moment_of s)) spare_is
-        (subst (λ l. Does old_flash.shape (moment_of old_flash) (copies old_noted.config.page_bytes old_flash.image start l) (moment_of s)) all_needed h.does);
-    noted = h.noted ∙ ap (copied_from old_noted start) all_needed ∙ ap (λ k. copied_from old_noted k (needed_slots old_noted block)) spare_is;
+        (subst (λ l. Does old_flash.shape (moment_of old_flash)
+        (copies old_noted.config.page_bytes old_flash.image start l) (moment_of s)) all_needed h.does);
+    noted = h.noted ∙ ap (copied_from old_noted start) all_needed
+        ∙ ap (λ k. copied_from old_noted k (needed_slots old_noted block)) spare_is;
     filled = record {
       within = omega (arith, no_more_slots, pages_are);
       records = λ k lt. (let r = h.records k lt in (r.0, ap (λ q. note_at n.notes (q + k)) start_is ∙ r.1));
-      tail = λ k from before. ap (λ q. note_at n.notes (q + k)) start_is ∙ h.tail (start + k) (omega (arith, from)) (omega (arith, before, pages_are));
+      tail = λ k from before. ap (λ q. note_at n.notes (q + k)) start_is
+          ∙ h.tail (start + k) (omega (arith, from)) (omega (arith, before, pages_are));
     };
     spared = spared_by_copies n t.spare block
-        (one_each n.config.protocol (found_in n.notes) n.config.logical (noted_map n.config.protocol n h.keeps.matches.noted)) h.keeps.matches.spare
+        (one_each n.config.protocol (found_in n.notes) n.config.logical
+        (noted_map n.config.protocol n h.keeps.matches.noted)) h.keeps.matches.spare
         h.keeps.matches.spared has_copy;
     reads = h.reads;
   }

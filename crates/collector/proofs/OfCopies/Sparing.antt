@@ -10,23 +10,29 @@ use Rattle.collector.proofs.OfCopies.Homes.{first_of, stands_off, home_off, home
 -- a needed slot of the block has its note in a slot outside the block too
 abbrev pub HasCopy : IndexState → ℕ → ℕ → Type 0
 HasCopy n block slot =
-    (other : ℕ) × (other < length n.notes) × (is_outside (shape_of n.config) block other ≡ true) × (note_at n.notes other ≡ note_at n.notes slot)
+    (other : ℕ) × (other < length n.notes) × (is_outside (shape_of n.config) block other ≡ true)
+    × (note_at n.notes other ≡ note_at n.notes slot)
 
-module _ (n : IndexState) (spare block : ℕ) (one : IsOneEach (found_in n.notes)) (is_spare : n.spare ≡ Some spare) (spared : CanSpare n spare)
-    (copies : (slot : ℕ) → is_outside (shape_of n.config) block slot ≡ false → needed_of n slot ≡ true → HasCopy n block slot) where
+module _ (n : IndexState) (spare block : ℕ) (one : IsOneEach (found_in n.notes)) (is_spare : n.spare ≡ Some spare)
+    (spared : CanSpare n spare)
+    (copies : (slot : ℕ) → is_outside (shape_of n.config) block slot ≡ false → needed_of n slot ≡ true →
+    HasCopy n block slot) where
   abbrev all : List Found
   all = found_in n.notes
 
   -- the record of a name that has its home in the block has a copy outside
-  copy_there : (f : Found) → Contains all f → is_outside (shape_of n.config) block f.slot.0 ≡ false → needed_of n f.slot.0 ≡ true →
+  copy_there : (f : Found) → Contains all f → is_outside (shape_of n.config) block f.slot.0 ≡ false →
+      needed_of n f.slot.0 ≡ true →
       is_present (left (is_outside (shape_of n.config) block) all) (name_of f.rec) ≡ true
   copy_there f i inside needed =
       let c = copies f.slot.0 inside needed in
       let holds = c.3 ∙ (noted_from n.notes f i).1 in
       present_as (left (is_outside (shape_of n.config) block) all) (found c.0 f.rec) (name_of f.rec)
-      (in_filter (λ g. is_outside (shape_of n.config) block g.slot.0) (found c.0 f.rec) all (noted_in n.notes c.0 f.rec c.1 holds) c.2) refl
+      (in_filter (λ g. is_outside (shape_of n.config) block g.slot.0) (found c.0 f.rec) all
+      (noted_in n.notes c.0 f.rec c.1 holds) c.2) refl
 
-  wanted_there : (f : Found) → Contains all f → is_wanted n.config.protocol all n.config.logical (pinned_names n.pins) f.rec ≡ true →
+  wanted_there : (f : Found) → Contains all f → is_wanted n.config.protocol all n.config.logical (pinned_names n.pins)
+      f.rec ≡ true →
       is_present (left (is_outside (shape_of n.config) block) all) (name_of f.rec) ≡ true
   unfolding home_of
   wanted_there f i wanted =
@@ -37,13 +43,17 @@ module _ (n : IndexState) (spare block : ℕ) (one : IsOneEach (found_in n.notes
       let g = found_named (left (is_outside (shape_of n.config) spare) all) name off in
       let parts = from_filter (λ f. is_outside (shape_of n.config) spare f.slot.0) g.0 all g.1 in
       let first = first_of (stands_off (shape_of n.config) n.spare name) all g.0 parts.0
-      (and_from (has_name name g.0.rec) (is_outside_spare (shape_of n.config) n.spare g.0.slot.0) (has_own_name name g.0.rec g.2)
+      (and_from (has_name name g.0.rec) (is_outside_spare (shape_of n.config) n.spare g.0.slot.0)
+      (has_own_name name g.0.rec g.2)
       (ap (λ o. is_outside_spare (shape_of n.config) o g.0.slot.0) is_spare ∙ parts.1)) in
       let q = first_stands (stands_off (shape_of n.config) n.spare name) all first.0 first.1 in
       let named : name_of q.found.rec ≡ name =
-      has_name_true name q.found.rec (and_parts (has_name name q.found.rec) (is_outside_spare (shape_of n.config) n.spare q.found.slot.0) q.passes).0 in
-      let at_home : home_of n (name_of q.found.rec) ≡ Some first.0 = ap (home_of n) named ∙ home_off (shape_of n.config) n.spare all name first.0 first.1 in
-      let its_wanted = subst (λ r. is_wanted n.config.protocol all n.config.logical (pinned_names n.pins) r ≡ true) (sym (one.same q.found f q.is_in i named))
+      has_name_true name q.found.rec (and_parts (has_name name q.found.rec)
+      (is_outside_spare (shape_of n.config) n.spare q.found.slot.0) q.passes).0 in
+      let at_home : home_of n (name_of q.found.rec) ≡ Some first.0 = ap (home_of n) named
+      ∙ home_off (shape_of n.config) n.spare all name first.0 first.1 in
+      let its_wanted = subst (λ r. is_wanted n.config.protocol all n.config.logical (pinned_names n.pins) r ≡ true)
+      (sym (one.same q.found f q.is_in i named))
       wanted in
       let needed : needed_of n q.found.slot.0 ≡ true = subst (λ k. needed_of n k ≡ true) (sym q.its_slot)
       (home_is_needed n q.found first.0 q.is_in q.its_slot at_home its_wanted) in

@@ -11,13 +11,15 @@ pub record Empties (old new : FlashState) (block : ℕ) (result : Result (Unit {
   pub torn : OnErr result ((how : Outcome) × (new.image ≡ image_left old.shape old.image (erase block) how))
 
 -- an erase does that
-pub erases_empties : (old new : FlashState) (block : ℕ) (result : Result (Unit {0}) Broken) → Erases old new block result
+pub erases_empties : (old new : FlashState) (block : ℕ) (result : Result (Unit {0}) Broken) →
+    Erases old new block result
     → Empties old new block result
 erases_empties old new block (Ok x) e = record { shape = e.carries.shape; done = e.done.image; torn = tt }
 erases_empties old new block (Err x) e = record { shape = e.carries.shape; done = tt; torn = e.torn.left }
 
 -- and so does replacing it: a broken call did all of it, or nothing
-pub retires_empties : (old new : FlashState) (block : ℕ) (result : Result (Unit {0}) Broken) → Retires old new block result
+pub retires_empties : (old new : FlashState) (block : ℕ) (result : Result (Unit {0}) Broken) →
+    Retires old new block result
     → Empties old new block result
 retires_empties old new block (Ok x) e = record { shape = e.carries.carries.shape; done = e.done.image; torn = tt }
 retires_empties old new block (Err x) e = record {
@@ -34,6 +36,9 @@ pub retires_torn : (old new : FlashState) (block : ℕ) (x : Broken) → Retires
     → Torn old.shape (moment_of old) (erase block) (moment_of new)
 retires_torn old new block x e = record {
   left = (retires_empties old new block (Err x) e).torn;
-  programs = elim e.torn [ inl still ↦ ap (λ (m : Moment). m.programs) still.moment | inr replaced ↦ replaced.programs ];
+  programs = elim e.torn [
+    | inl still ↦ ap (λ (m : Moment). m.programs) still.moment
+    | inr replaced ↦ replaced.programs
+  ];
   erases = elim e.torn [ inl still ↦ ap (λ (m : Moment). m.erases) still.moment | inr replaced ↦ replaced.erases ];
 }

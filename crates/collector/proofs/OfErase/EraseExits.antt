@@ -38,7 +38,8 @@ module _ (s : FlashState) (n : IndexState) (t : BlocksState) (m : Matches s n t 
   -- the image without the block's records, whatever the block holds now
   lost_image : KeepsLost p n.config.logical s.shape s.image (with_block s.shape s.image block blank)
       × KeepsLost p n.config.logical s.shape s.image (with_block s.shape s.image block damaged)
-  lost_image = image_loss_law p written_loss n.config.logical s.shape s.image block m.sound m.flash below' (image_can_lose s n t m block spared)
+  lost_image = image_loss_law p written_loss n.config.logical s.shape s.image block m.sound m.flash below'
+      (image_can_lose s n t m block spared)
 
   -- a slot of the block, and one outside it, with these contents in the block and this note
   module _ (contents : Contents) (note : Note) (fits : note ≡ note_of p contents) where
@@ -54,7 +55,8 @@ module _ (s : FlashState) (n : IndexState) (t : BlocksState) (m : Matches s n t 
         slot_at-with_block_in s.shape s.image m.flash block below' contents slot here.0 here.1
 
     new_out : (slot : ℕ) → is_outside s.shape block slot ≡ true → slot_at image' slot ≡ slot_at s.image slot
-    new_out slot e = slot_at-with_block_out s.shape s.image m.flash block below' contents slot (outside_it s.shape block slot e)
+    new_out slot e = slot_at-with_block_out s.shape s.image m.flash block below' contents slot
+        (outside_it s.shape block slot e)
 
     some_noted : 0 < n.config.pages_per_block
     some_noted = omega (arith, some, same_per)
@@ -67,31 +69,37 @@ module _ (s : FlashState) (n : IndexState) (t : BlocksState) (m : Matches s n t 
 
     mirrors : (slot : ℕ) → slot < slots_of s.shape → note_at notes' slot ≡ note_of p (slot_at image' slot)
     mirrors slot within = elim (cases_Bool (is_outside s.shape block slot)) [
-      | inl out ↦ noted_out s n t unsure.Nothing m block below note slot out ∙ noted_as_read s n t m slot within ∙ ap (note_of p) (sym (new_out slot out))
+      | inl out ↦ noted_out s n t unsure.Nothing m block below note slot out ∙ noted_as_read s n t m slot within
+          ∙ ap (note_of p) (sym (new_out slot out))
       | inr ins ↦ noted_in slot ins ∙ fits ∙ ap (note_of p) (sym (new_in slot ins))
     ]
 
   -- a slot that was free is noted blank still
-  free_still : (slot : ℕ) → IsFree t slot → note_at (with_block_noted (shape_of n.config) n.notes block Blank) slot ≡ Blank
+  free_still : (slot : ℕ) → IsFree t slot → note_at (with_block_noted (shape_of n.config) n.notes block Blank) slot
+      ≡ Blank
   free_still slot free = elim (cases_Bool (is_outside s.shape block slot)) [
     | inl out ↦ noted_out s n t unsure.Nothing m block below Blank slot out ∙ m.free slot free
     | inr ins ↦ noted_in blank Blank refl slot ins
   ]
 
   -- the array stays, and the text of each name that is still there
-  pub array_stays : (contents : Contents) → KeepsLost p n.config.logical s.shape s.image (with_block s.shape s.image block contents) →
+  pub array_stays : (contents : Contents) → KeepsLost p n.config.logical s.shape s.image
+      (with_block s.shape s.image block contents) →
       KeepsArray p n.config.logical s.image (with_block s.shape s.image block contents)
   array_stays contents k = record { array = k.array; texts = λ name h. sym (k.texts name h) }
 
 module _ (s s' : FlashState) (n : IndexState) (t : BlocksState) (m : Matches s n t unsure.Nothing)
     (loss : LossLaw n.config.protocol) (written_loss : WrittenLossLaw n.config.protocol)
-    (block : ℕ) (below : block < blocks_of (shape_of n.config)) (spared : CanSpare n block) (same : s'.shape ≡ s.shape) where
-  abbrev kept_image : KeepsLost n.config.protocol n.config.logical s.shape s.image (with_block s.shape s.image block blank)
+    (block : ℕ) (below : block < blocks_of (shape_of n.config)) (spared : CanSpare n block)
+    (same : s'.shape ≡ s.shape) where
+  abbrev kept_image : KeepsLost n.config.protocol n.config.logical s.shape s.image
+      (with_block s.shape s.image block blank)
       × KeepsLost n.config.protocol n.config.logical s.shape s.image (with_block s.shape s.image block damaged)
   kept_image = lost_image s n t m loss written_loss block below spared
 
   -- an image of the flash's shape
-  sound_as : (image : List Contents) → s'.image ≡ image → IsSoundImage n.config.protocol n.config.logical s.shape image →
+  sound_as : (image : List Contents) → s'.image ≡ image →
+      IsSoundImage n.config.protocol n.config.logical s.shape image →
       IsSoundImage n.config.protocol n.config.logical s'.shape s'.image
   sound_as image is sound =
       subst (λ i. IsSoundImage n.config.protocol n.config.logical s'.shape i) (sym is)
@@ -112,8 +120,10 @@ module _ (s s' : FlashState) (n : IndexState) (t : BlocksState) (m : Matches s n
 
     pub mirrors_erased : (slot : ℕ) → slot < slots_of s'.shape → IsNotedAt s'.image (blocked n block Blank) slot
     mirrors_erased slot within =
-        subst (λ i. note_at (blocked n block Blank).notes slot ≡ note_of n.config.protocol (slot_at i slot)) (sym erased_image)
-        (mirrors s n t m loss written_loss block below spared blank Blank refl slot (omega (arith, within, ap slots_of same)))
+        subst (λ i. note_at (blocked n block Blank).notes slot ≡ note_of n.config.protocol (slot_at i slot))
+        (sym erased_image)
+        (mirrors s n t m loss written_loss block below spared blank Blank refl slot
+        (omega (arith, within, ap slots_of same)))
 
     pub array_erased : KeepsArray n.config.protocol n.config.logical s.image s'.image
     array_erased =
@@ -131,14 +141,16 @@ module _ (s s' : FlashState) (n : IndexState) (t : BlocksState) (m : Matches s n
   -- the slots of a block by number
   in_block : (slot : ℕ) → slot / n.config.pages_per_block ≡ block → is_outside s.shape block slot ≡ false
   in_block slot e =
-      let same_number : slot / s.shape.pages_per_block ≡ slot / n.config.pages_per_block = ap (λ (x : Shape). slot / x.pages_per_block) m.shape in
+      let same_number : slot / s.shape.pages_per_block ≡ slot / n.config.pages_per_block =
+      ap (λ (x : Shape). slot / x.pages_per_block) m.shape in
       ap not (eq-eqb (slot / s.shape.pages_per_block) block (same_number ∙ e))
 
   pub left_torn : (how : Outcome) → s'.image ≡ image_left s.shape s.image (erase block) how → LeftTorn
   left_torn outcome.None is = record {
     sound = sound_as s.image is m.sound;
     flash = flash_as s.image is m.flash;
-    array = subst (λ i. KeepsArray n.config.protocol n.config.logical s.image i) (sym is) (record { array = refl; texts = λ name h. refl });
+    array = subst (λ i. KeepsArray n.config.protocol n.config.logical s.image i) (sym is)
+        (record { array = refl; texts = λ name h. refl });
     outside = λ slot e. ap (λ i. slot_at i slot) is;
     erasing = inl (λ slot within e. noted_as_read s n t m slot (omega (arith, within, ap slots_of m.shape)) ∙ ap
         (λ i. note_of n.config.protocol (slot_at i slot)) (sym is));
@@ -147,8 +159,10 @@ module _ (s s' : FlashState) (n : IndexState) (t : BlocksState) (m : Matches s n
     sound = sound_erased is;
     flash = flash_erased is;
     array = array_erased is;
-    outside = λ slot e. ap (λ i. slot_at i slot) is ∙ new_out s n t m loss written_loss block below spared blank Blank refl slot e;
-    erasing = inr (inr (λ slot within e. ap (λ i. slot_at i slot) is ∙ new_in s n t m loss written_loss block below spared blank Blank refl slot
+    outside = λ slot e. ap (λ i. slot_at i slot) is ∙ new_out s n t m loss written_loss block below spared blank
+        Blank refl slot e;
+    erasing = inr (inr (λ slot within e. ap (λ i. slot_at i slot) is
+        ∙ new_in s n t m loss written_loss block below spared blank Blank refl slot
         (in_block slot e)));
   }
   left_torn outcome.Bad is = record {
@@ -157,8 +171,10 @@ module _ (s s' : FlashState) (n : IndexState) (t : BlocksState) (m : Matches s n
         (IsImage-with_block s.shape s.image m.flash block (omega (arith, below, ap blocks_of m.shape)) damaged tt);
     array = subst (λ i. KeepsArray n.config.protocol n.config.logical s.image i) (sym is)
         (array_stays s n t m loss written_loss block below spared damaged kept_image.1);
-    outside = λ slot e. ap (λ i. slot_at i slot) is ∙ new_out s n t m loss written_loss block below spared damaged Damaged refl slot e;
-    erasing = inr (inl (λ slot within e. ap (λ i. slot_at i slot) is ∙ new_in s n t m loss written_loss block below spared damaged Damaged refl slot
+    outside = λ slot e. ap (λ i. slot_at i slot) is ∙ new_out s n t m loss written_loss block below spared damaged
+        Damaged refl slot e;
+    erasing = inr (inl (λ slot within e. ap (λ i. slot_at i slot) is
+        ∙ new_in s n t m loss written_loss block below spared damaged Damaged refl slot
         (in_block slot e)));
   }
 
@@ -168,19 +184,23 @@ module _ (s s' : FlashState) (n : IndexState) (t : BlocksState) (m : Matches s n
   spare_below = omega (arith, m.table.spare_within, ap blocks_of m.blocks, ap blocks_of m.shape)
 
   -- the spare was erased
-  pub spare_erased : Empties s s' t.spare (Ok tt) → IsNoted n.config.protocol (erased n t.spare) → Matches s' (erased n t.spare) t unsure.Nothing
+  pub spare_erased : Empties s s' t.spare (Ok tt) → IsNoted n.config.protocol (erased n t.spare) →
+      Matches s' (erased n t.spare) t unsure.Nothing
   spare_erased e noted = record {
     shape = e.shape ∙ m.shape;
     flash = flash_erased s s' n t m loss written_loss t.spare spare_below m.spared e.shape e.done;
     sound = sound_erased s s' n t m loss written_loss t.spare spare_below m.spared e.shape e.done;
     noted = noted;
-    counts = sure_counts s' (erased n t.spare) (e.shape ∙ m.shape) (flash_erased s s' n t m loss written_loss t.spare spare_below m.spared e.shape e.done)
+    counts = sure_counts s' (erased n t.spare) (e.shape ∙ m.shape)
+        (flash_erased s s' n t m loss written_loss t.spare spare_below m.spared e.shape e.done)
         (sound_erased s s' n t m loss written_loss t.spare spare_below m.spared e.shape e.done) noted.slots
-        (λ slot within. mirrors_erased s s' n t m loss written_loss t.spare spare_below m.spared e.shape e.done slot within);
+        (λ slot within. mirrors_erased s s' n t m loss written_loss t.spare spare_below m.spared e.shape
+        e.done slot within);
     table = m.table;
     blocks = m.blocks ∙ sym e.shape;
     spare = m.spare;
-    sure = λ slot within sure. mirrors_erased s s' n t m loss written_loss t.spare spare_below m.spared e.shape e.done slot within;
+    sure = λ slot within sure. mirrors_erased s s' n t m loss written_loss t.spare spare_below m.spared e.shape
+        e.done slot within;
     place = tt;
     spared = spared_still n m.noted loss t.spare spare_below m.spared Blank refl;
     victim = tt;
@@ -203,7 +223,8 @@ module _ (s s' : FlashState) (n : IndexState) (t : BlocksState) (m : Matches s n
         sure = λ slot within sure.
             noted_as_read s n t m slot (omega (arith, within, ap slots_of e.shape))
             ∙ ap (note_of n.config.protocol)
-            (sym (torn.outside slot (not-false (is_outside s.shape t.spare slot) (ap (λ sh. not (is_outside sh t.spare slot)) (sym e.shape) ∙ sure))));
+            (sym (torn.outside slot (not-false (is_outside s.shape t.spare slot)
+            (ap (λ sh. not (is_outside sh t.spare slot)) (sym e.shape) ∙ sure))));
         place = (torn.erasing, λ slot within here. calm_spelled s n t m slot within);
         spared = m.spared;
         victim = tt;
@@ -211,7 +232,8 @@ module _ (s s' : FlashState) (n : IndexState) (t : BlocksState) (m : Matches s n
       }
 
   -- the erase of a collected block was broken
-  pub victim_torn : (block : Block) → block.0 < blocks_of (shape_of n.config) → block.0 ≢ t.spare → CanSpare n block.0 → IsFilledTo n t.spare →
+  pub victim_torn : (block : Block) → block.0 < blocks_of (shape_of n.config) → block.0 ≢ t.spare → CanSpare n block.0 →
+      IsFilledTo n t.spare →
       (b : Broken) → Empties s s' block.0 (Err b) → Matches s' n t (unsure.VictimErase block)
   victim_torn block below other spared filled b e =
       let torn = left_torn s s' n t m loss written_loss block.0 below spared e.shape e.torn.0 e.torn.1 in
@@ -227,7 +249,8 @@ module _ (s s' : FlashState) (n : IndexState) (t : BlocksState) (m : Matches s n
         sure = λ slot within sure.
             noted_as_read s n t m slot (omega (arith, within, ap slots_of e.shape))
             ∙ ap (note_of n.config.protocol)
-            (sym (torn.outside slot (not-false (is_outside s.shape block.0 slot) (ap (λ sh. not (is_outside sh block.0 slot)) (sym e.shape) ∙ sure))));
+            (sym (torn.outside slot (not-false (is_outside s.shape block.0 slot)
+            (ap (λ sh. not (is_outside sh block.0 slot)) (sym e.shape) ∙ sure))));
         place = (below, other, torn.erasing, filled, λ slot within here. calm_spelled s n t m slot within);
         spared = m.spared;
         victim = spared;
@@ -235,13 +258,15 @@ module _ (s s' : FlashState) (n : IndexState) (t : BlocksState) (m : Matches s n
       }
 
   -- the collected block was erased: it is the spare, and the old one has its copies
-  pub victim_erased : (block : ℕ) → block < blocks_of (shape_of n.config) → block ≢ t.spare → CanSpare n block → (filled : IsFilledTo n t.spare) →
+  pub victim_erased : (block : ℕ) → block < blocks_of (shape_of n.config) → block ≢ t.spare → CanSpare n block →
+      (filled : IsFilledTo n t.spare) →
       Empties s s' block (Ok tt) → IsNoted n.config.protocol (with_spare (erased n block) block) →
       IsBlocksState (table_with_spare t block) → IsBlocksState (swapped t block filled.0) →
       Matches s' (with_spare (erased n block) block) (swapped t block filled.0) unsure.Nothing
   victim_erased block below other spared filled e noted mid table =
       let below_table : block < blocks_of t.shape = omega (arith, below, ap blocks_of m.blocks, ap blocks_of m.shape) in
-      let same_per : t.shape.pages_per_block ≡ n.config.pages_per_block = ap (λ (x : Shape). x.pages_per_block) (m.blocks ∙ m.shape) in
+      let same_per : t.shape.pages_per_block ≡ n.config.pages_per_block =
+      ap (λ (x : Shape). x.pages_per_block) (m.blocks ∙ m.shape) in
       let some : 0 < n.config.pages_per_block = (let b = m.noted.bounds.shape.pages_least in omega arith) in
       record {
         shape = e.shape ∙ m.shape;
@@ -255,7 +280,8 @@ module _ (s s' : FlashState) (n : IndexState) (t : BlocksState) (m : Matches s n
         table = table;
         blocks = m.blocks ∙ sym e.shape;
         spare = refl;
-        sure = λ slot within sure. mirrors_erased s s' n t m loss written_loss block below spared e.shape e.done slot within;
+        sure = λ slot within sure. mirrors_erased s s' n t m loss written_loss block below spared e.shape
+            e.done slot within;
         place = tt;
         spared = spared_still n m.noted loss block below spared Blank refl;
         victim = tt;

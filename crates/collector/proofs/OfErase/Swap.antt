@@ -10,19 +10,22 @@ slot_in per block slot e =
     let whole = div-add-mod slot per in
     subst (λ b. b * per + slot % per ≡ slot) e (omega (arith, whole, mul_comm per (slot / per)))
 
--- a block of the exchanged table that has room is the old spare, or one that had it
-module _ (t : BlocksState) (h : IsBlocksState t) (block : ℕ) (below : block < blocks_of t.shape) (other : block ≢ t.spare)
+-- a block of the swapped table that has room is the old spare, or one that had it
+module _ (t : BlocksState) (h : IsBlocksState t) (block : ℕ) (below : block < blocks_of t.shape)
+    (other : block ≢ t.spare)
     (mid : IsBlocksState (table_with_spare t block)) (used : ℕ) where
   abbrev after : BlocksState
   after = swapped t block used
 
   use_block : use_of after block ≡ record { state = Spare; used = 0 }
   use_block =
-      use_of-with_use_other (table_with_spare t block) t.spare block (open_state t.shape.pages_per_block used) used other
+      use_of-with_use_other (table_with_spare t block) t.spare block
+      (open_state t.shape.pages_per_block used) used other
       ∙ use_of-with_spare_same t h block below
 
   use_old : use_of after t.spare ≡ record { state = open_state t.shape.pages_per_block used; used = used }
-  use_old = use_of-with_use_same (table_with_spare t block) mid t.spare (open_state t.shape.pages_per_block used) used h.spare_within
+  use_old = use_of-with_use_same (table_with_spare t block) mid t.spare (open_state t.shape.pages_per_block used) used
+      h.spare_within
 
   use_other : (b : ℕ) → b ≢ block → b ≢ t.spare → use_of after b ≡ use_of t b
   use_other b away apart =
@@ -56,7 +59,8 @@ module _ (t : BlocksState) (h : IsBlocksState t) (block : ℕ) (below : block < 
       eqb-true (block_of_slot t.shape slot) t.spare old,
       (let is = ap (λ (u : BlockUse). u.used) use_old in
           subst (λ u. u ≤ slot % t.shape.pages_per_block) is
-          (subst (λ b. used_of after b ≤ slot % t.shape.pages_per_block) (eqb-true (block_of_slot t.shape slot) t.spare old) free.unused)),
+          (subst (λ b. used_of after b ≤ slot % t.shape.pages_per_block)
+          (eqb-true (block_of_slot t.shape slot) t.spare old) free.unused)),
     )
     | inr apart ↦
         (let away = free_away slot free in
@@ -64,13 +68,15 @@ module _ (t : BlocksState) (h : IsBlocksState t) (block : ℕ) (below : block < 
         inr (record {
           within = free.within;
           room = room_other (block_of_slot t.shape slot) away no_spare free.room;
-          unused = subst (λ u. u ≤ slot % t.shape.pages_per_block) (ap (λ (u : BlockUse). u.used) (use_other (block_of_slot t.shape slot) away no_spare))
+          unused = subst (λ u. u ≤ slot % t.shape.pages_per_block)
+              (ap (λ (u : BlockUse). u.used) (use_other (block_of_slot t.shape slot) away no_spare))
               free.unused;
         }))
   ]
 
 -- in a block that is filled to a slot, those behind it are blank
-pub tail_blank : (n : IndexState) (block : ℕ) (filled : IsFilledTo n block) (slot : ℕ) → slot / n.config.pages_per_block ≡ block → 0 < n.config.pages_per_block →
+pub tail_blank : (n : IndexState) (block : ℕ) (filled : IsFilledTo n block) (slot : ℕ) →
+    slot / n.config.pages_per_block ≡ block → 0 < n.config.pages_per_block →
     filled.0 ≤ slot % n.config.pages_per_block → note_at n.notes slot ≡ Blank
 tail_blank n block filled slot here some behind =
     subst (λ k. note_at n.notes k ≡ Blank) (slot_in n.config.pages_per_block block slot here)

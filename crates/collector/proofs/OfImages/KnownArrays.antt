@@ -19,7 +19,8 @@ array_is_known p n image rule current =
 
 -- tables with the same current versions know the same array of an image, or of two whose current records say the same
 pub same_known : (n n' : IndexState) (image image' : List Contents) → n'.config ≡ n.config →
-    ((page : ℕ) → page < n.config.logical → page_known n' image' page ≡ page_known n image page) → array_known n' image' ≡ array_known n image
+    ((page : ℕ) → page < n.config.logical → page_known n' image' page ≡ page_known n image page) →
+    array_known n' image' ≡ array_known n image
 unfolding array_known
 same_known n n' image image' config same =
     ap (λ l. map (page_known n' image') (range_with_len 0 l)) (ap (λ c. c.logical) config)

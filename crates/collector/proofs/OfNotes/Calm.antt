@@ -14,11 +14,16 @@ module _ (s : FlashState) (n : IndexState) (t : BlocksState) (m : Matches s n t 
       (λ slot within. noted_as_read slot (omega (arith, m.flash.slots)))
 
   -- a block that can be spared can be lost
-  pub can_lose : (block : ℕ) → CanSpare n block → IsRemovable n.config.protocol (found_in n.notes) n.config.logical (shape_of n.config) block
+  pub can_lose : (block : ℕ) → CanSpare n block → IsRemovable n.config.protocol (found_in n.notes) n.config.logical
+      (shape_of n.config) block
   can_lose block spared =
-      dispensable_removable n.config.protocol (found_in n.notes) n.config.logical (pinned_names n.pins) (shape_of n.config) block spared
+      dispensable_removable n.config.protocol (found_in n.notes) n.config.logical (pinned_names n.pins)
+      (shape_of n.config) block spared
 
-  pub image_can_lose : (block : ℕ) → CanSpare n block → IsRemovable n.config.protocol (records_in n.config.protocol s.image) n.config.logical s.shape block
+  pub image_can_lose : (block : ℕ) → CanSpare n block →
+      IsRemovable n.config.protocol (records_in n.config.protocol s.image) n.config.logical s.shape block
   image_can_lose block spared =
-      subst (λ sh. IsRemovable n.config.protocol (records_in n.config.protocol s.image) n.config.logical sh block) (sym m.shape)
-      (subst (λ l. IsRemovable n.config.protocol l n.config.logical (shape_of n.config) block) same_records (can_lose block spared))
+      subst (λ sh. IsRemovable n.config.protocol (records_in n.config.protocol s.image) n.config.logical sh block)
+      (sym m.shape)
+      (subst (λ l. IsRemovable n.config.protocol l n.config.logical (shape_of n.config) block) same_records
+      (can_lose block spared))

@@ -17,31 +17,37 @@ preserves_then a b c ab bc =
       pinned = λ name pin there.
           bc.pinned name (subst (λ p. Contains (pinned_names p) name) (sym ab.pins) pin) (ab.pinned name pin there);
       present = λ page low there.
-          let same : current_name_of b page ≡ current_name_of a page = ap (λ v. record { page = page; version = v }) (ab.current page low) in
-          subst (IsThere c) same (bc.present page (low_too page low) (subst (IsThere b) (sym same) (ab.present page low there)));
+          let same : current_name_of b page ≡ current_name_of a page =
+          ap (λ v. record { page = page; version = v }) (ab.current page low) in
+          subst (IsThere c) same (bc.present page (low_too page low)
+          (subst (IsThere b) (sym same) (ab.present page low there)));
       held = λ name h. ab.held name (bc.held name h);
       in_progress = λ names h.
           subst (λ (k : Config). InProgress k.protocol (found_in c.notes) k.logical names) ab.config
-          (bc.in_progress names (subst (λ (k : Config). InProgress k.protocol (found_in b.notes) k.logical names) (sym ab.config) (ab.in_progress names h)));
+          (bc.in_progress names (subst (λ (k : Config). InProgress k.protocol (found_in b.notes) k.logical names)
+          (sym ab.config) (ab.in_progress names h)));
     }
 
 -- a name has a text exactly where it is present
 pub has_text : (list : List Written) (name : Link) → is_some (text_at list name) ≡ is_present (records_of list) name
 has_text [] name = refl
 has_text (w ∷ ws) name =
-    first (has_name name w.rec) (find (λ v. has_name name v.rec) ws) (is_present (records_of ws) name) (has_text ws name)
+    first (has_name name w.rec) (find (λ v. has_name name v.rec) ws) (is_present (records_of ws) name)
+    (has_text ws name)
   where
     first : (b : Bool) (o : Option Written) (r : Bool) → is_some (option_map text_of o) ≡ r →
         is_some (option_map text_of (cond b (Some w) o)) ≡ (b || r)
     first true o r h = refl
     first false o r h = h
 
-pub keeps_array_then : (p : Protocol) (logical : ℕ) (a b c : List Contents) → KeepsArray p logical a b → KeepsArray p logical b c → KeepsArray p logical a c
+pub keeps_array_then : (p : Protocol) (logical : ℕ) (a b c : List Contents) → KeepsArray p logical a b →
+    KeepsArray p logical b c → KeepsArray p logical a c
 keeps_array_then p logical a b c ab bc = record {
   array = bc.array ∙ ab.array;
   texts = λ name there.
       let later = bc.texts name there in
-      later ∙ ab.texts name (sym (has_text (written_in p b) name) ∙ ap is_some (sym later) ∙ has_text (written_in p c) name ∙ there);
+      later ∙ ab.texts name (sym (has_text (written_in p b) name) ∙ ap is_some (sym later)
+      ∙ has_text (written_in p c) name ∙ there);
 }
 
 pub keeps_array_same : (p : Protocol) (logical : ℕ) (a b : List Contents) → b ≡ a → KeepsArray p logical a b

@@ -34,7 +34,8 @@ tables_of p a b broken h = record {
   records = h.records;
 }
 
-pub keeps_of : (p : Protocol) (a b : StoreParts) (broken : Bool) → KeepsStore p a b broken → FlashMoves a.flash b.flash broken →
+pub keeps_of : (p : Protocol) (a b : StoreParts) (broken : Bool) → KeepsStore p a b broken →
+    FlashMoves a.flash b.flash broken →
     Carries a.flash b.flash broken → Keeps p a b broken
 keeps_of p a b broken h moves carries = record {
   matches = h.matches;
@@ -55,7 +56,8 @@ keeps_retiring p a b broken h = record {
 }
 
 -- what both keep, the whole keeps
-pub tables_then : (p : Protocol) (a b c : StoreParts) (broken : Bool) → KeepsStore p a b false → KeepsStore p b c broken → KeepsStore p a c broken
+pub tables_then : (p : Protocol) (a b c : StoreParts) (broken : Bool) → KeepsStore p a b false →
+    KeepsStore p b c broken → KeepsStore p a c broken
 tables_then p a b c broken ab bc = record {
   matches = bc.matches;
   preserves = preserves_then a.noted b.noted c.noted ab.preserves bc.preserves;
@@ -66,10 +68,12 @@ tables_then p a b c broken ab bc = record {
   records = HasNoNewRecord-then a.noted b.noted c.noted ab.records bc.records;
 }
 
-pub keeps_then : (p : Protocol) (a b c : StoreParts) (broken : Bool) → Keeps p a b false → Keeps p b c broken → Keeps p a c broken
+pub keeps_then : (p : Protocol) (a b c : StoreParts) (broken : Bool) → Keeps p a b false → Keeps p b c broken →
+    Keeps p a c broken
 keeps_then p a b c broken ab bc =
     keeps_of p a c broken (tables_then p a b c broken (tables_of p a b false ab) (tables_of p b c broken bc))
-    (FlashMoves-then a.flash b.flash c.flash broken ab.carries.shape ab.moves bc.moves) (Carries-then a.flash b.flash c.flash broken ab.carries bc.carries)
+    (FlashMoves-then a.flash b.flash c.flash broken ab.carries.shape ab.moves bc.moves)
+    (Carries-then a.flash b.flash c.flash broken ab.carries bc.carries)
 
 -- and nothing is unsure between the two
 pub sure_then : (p : Protocol) (a b : StoreParts) → IsSure p a → Keeps p a b false → IsSure p b
@@ -80,6 +84,7 @@ sure_then p a b k ab = record {
 }
 
 -- what is so of each error is so of a result that is one
-pub by_err : {X : Type 0} (r : Result X Broken) (P : Result X Broken → Type 0) → is_err r ≡ true → ((x : Broken) → P (Err x)) → P r
+pub by_err : {X : Type 0} (r : Result X Broken) (P : Result X Broken → Type 0) → is_err r ≡ true →
+    ((x : Broken) → P (Err x)) → P r
 by_err (Ok x) P e h = absurd (let k = e in cc)
 by_err (Err x) P e h = h x

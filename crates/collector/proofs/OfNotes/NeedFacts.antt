@@ -10,7 +10,8 @@ pub record IsHome (n : IndexState) (at : ℕ) : Type 0 where
   pub slot : found.slot.0 ≡ at
   pub home : home_of n (name_of found.rec) ≡ Some at
   pub wanted : IsCurrent n.config.protocol (found_in n.notes) n.config.logical found.rec
-      ⊎ ((is_held n.config.protocol (found_in n.notes) n.config.logical found.rec ≡ true) ⊎ Contains (pinned_names n.pins) (name_of found.rec))
+      ⊎ ((is_held n.config.protocol (found_in n.notes) n.config.logical found.rec ≡ true)
+      ⊎ Contains (pinned_names n.pins) (name_of found.rec))
 
 slot_is : (at : ℕ) (o : Option ℕ) → is_slot at o ≡ true → o ≡ Some at
 slot_is at None e = cc
@@ -38,12 +39,14 @@ home_needed n at h =
     }
 
 -- two slots that are homes of one name are one
-pub one_home : (n : IndexState) (a b : ℕ) (x : IsHome n a) (y : IsHome n b) → name_of x.found.rec ≡ name_of y.found.rec → a ≡ b
+pub one_home : (n : IndexState) (a b : ℕ) (x : IsHome n a) (y : IsHome n b) →
+    name_of x.found.rec ≡ name_of y.found.rec → a ≡ b
 one_home n a b x y same = some_same a b (sym x.home ∙ ap (home_of n) same ∙ y.home)
   where
     some_same : (a b : ℕ) → Some a ≡ Some b → a ≡ b
     some_same a b e = same_Some a b e
 
 -- the record of a home is the one that stands in the slot
-pub found_home : (n : IndexState) → IsNoted n.config.protocol n → (f : Found) → Contains (found_in n.notes) f → (x : IsHome n f.slot.0) → x.found ≡ f
+pub found_home : (n : IndexState) → IsNoted n.config.protocol n → (f : Found) → Contains (found_in n.notes) f →
+    (x : IsHome n f.slot.0) → x.found ≡ f
 found_home n noted f i x = one_in_slot (found_in n.notes) x.found f noted.scanned.ascending x.is_in i x.slot

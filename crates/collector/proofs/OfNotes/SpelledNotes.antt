@@ -11,17 +11,24 @@ pub record ReadsAs (p : Protocol) (rec : Rec) (contents : Contents) : Type 0 whe
   pub is : contents ≡ complete bytes spare
   pub spells : record_of p spare ≡ Some rec
 
-pub noted_record : (p : Protocol) (rec : Rec) (contents : Contents) → Holds rec ≡ note_of p contents → ReadsAs p rec contents
+pub noted_record : (p : Protocol) (rec : Rec) (contents : Contents) → Holds rec ≡ note_of p contents →
+    ReadsAs p rec contents
 noted_record p rec blank e = cc
 noted_record p rec damaged e = cc
-noted_record p rec (complete bytes spare) e = record { bytes = bytes; spare = spare; is = refl; spells = by_record (record_of p spare) e }
+noted_record p rec (complete bytes spare) e = record {
+  bytes = bytes;
+  spare = spare;
+  is = refl;
+  spells = by_record (record_of p spare) e;
+}
   where
     by_record : (o : Option Rec) → Holds rec ≡ option_map_or Holds o Damaged → o ≡ Some rec
     by_record None h = cc
     by_record (Some r) h = ap Some (let same : r ≡ rec = cc in same)
 
 -- where nothing is unsure, each noted record can be spelled
-pub calm_spelled : (s : FlashState) (n : IndexState) (t : BlocksState) → Matches s n t unsure.Nothing → (slot : ℕ) → slot < slots_of (shape_of n.config) →
+pub calm_spelled : (s : FlashState) (n : IndexState) (t : BlocksState) → Matches s n t unsure.Nothing → (slot : ℕ) →
+    slot < slots_of (shape_of n.config) →
     (rec : Rec) → note_at n.notes slot ≡ Holds rec → CanBeSpelled n.config.protocol rec
 calm_spelled s n t m slot within rec holds =
     let reads = noted_record n.config.protocol rec (slot_at s.image slot)

@@ -4,9 +4,11 @@ use Rattle.std.specs.Prelude.{if◌then◌else◌}
 use Rattle.version_index.proofs.OfTables.BaseTables.{given_from}
 use Rattle.version_index.proofs.OfChanges.Pins.{numbered_pin}
 
-its_page : (page version : ℕ) (name : Link) (b : Bool) → (if b then None else Some (record { page = page; version = version })) ≡ Some name → name.page ≡ page
+its_page : (page version : ℕ) (name : Link) (b : Bool) →
+    (if b then None else Some (record { page = page; version = version })) ≡ Some name → name.page ≡ page
 its_page page version name true e = absurd (none-some name e)
-its_page page version name false e = ap (λ (y : Link). y.page) (sym (same_Some (record { page = page; version = version }) name e))
+its_page page version name false e = ap (λ (y : Link). y.page)
+    (sym (same_Some (record { page = page; version = version }) name e))
 
 -- a pinned name is of a page of the pins
 pub pinned_page : (pins : List ℕ) (name : Link) → Contains (pinned_names pins) name → name.page < length pins
@@ -20,7 +22,8 @@ module _ (n n' : IndexState) (names : List Link) (kept : Preserves n n') where
   -- a transaction in progress stays
   in_progress_stays : (others : List Link) → InProgress n.config.protocol (found_in n.notes) n.config.logical others →
       InProgress n'.config.protocol (found_in n'.notes) n'.config.logical others
-  in_progress_stays others h = subst (λ (c : Config). InProgress c.protocol (found_in n'.notes) c.logical others) (sym kept.config) (kept.in_progress others h)
+  in_progress_stays others h = subst (λ (c : Config). InProgress c.protocol (found_in n'.notes) c.logical others)
+      (sym kept.config) (kept.in_progress others h)
 
   beside_stays : (name : Link) → name.page < n.config.logical → IsPinBeside n names name → IsPinBeside n' names name
   beside_stays name within beside = elim beside [
@@ -34,13 +37,15 @@ module _ (n n' : IndexState) (names : List Link) (kept : Preserves n n') where
     }))
   ]
 
-  absent_stays : (name : Link) → is_present (found_in n.notes) name ≡ false → is_present (found_in n'.notes) name ≡ false
+  absent_stays : (name : Link) → is_present (found_in n.notes) name ≡ false →
+      is_present (found_in n'.notes) name ≡ false
   absent_stays name absent = elim (cases_Bool (is_present (found_in n'.notes) name)) [
     | inl there ↦ absurd (both_ways (is_present (found_in n.notes) name) absent (kept.fewer name there))
     | inr gone ↦ gone
   ]
 
-pub next_stays : (n n' : IndexState) (names : List Link) (name : Link) → length n.pins ≡ n.config.logical → Preserves n n' → IsNextName n names name →
+pub next_stays : (n n' : IndexState) (names : List Link) (name : Link) → length n.pins ≡ n.config.logical →
+    Preserves n n' → IsNextName n names name →
     IsNextName n' names name
 next_stays n n' names name pages kept h = record {
   in_progress = in_progress_stays n n' names kept names h.in_progress;
@@ -50,7 +55,8 @@ next_stays n n' names name pages kept h = record {
   beside = subst (λ l. All (IsPinBeside n' names) (pinned_names l)) (sym kept.pins)
       (all_from (IsPinBeside n' names) (pinned_names n.pins) (λ pin i.
       let page = pinned_page n.pins pin i in
-      beside_stays n n' names kept pin (omega (arith, page)) (All-contains (IsPinBeside n names) (pinned_names n.pins) pin h.beside i)));
+      beside_stays n n' names kept pin (omega (arith, page))
+      (All-contains (IsPinBeside n names) (pinned_names n.pins) pin h.beside i)));
   few = subst (λ l. length (pinned_names l) ≤ n'.config.pending) (sym kept.pins)
       (subst (λ (c : Config). length (pinned_names n.pins) ≤ c.pending) (sym kept.config) h.few);
 }

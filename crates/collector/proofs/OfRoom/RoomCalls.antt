@@ -10,11 +10,13 @@ use Rattle.collector.proofs.OfRoom.RoomMade.{blank_erased, spare_within, victim_
 use Rattle.list_lemmas.proofs.Ranges.{filter_fewer}
 
 -- what making the spare blank costs, done or broken
-costs_cleaning : (p : Protocol) (a b : StoreParts) (r : Result (Unit {0}) Broken) → Cleans p a b r → CostsAtMost a.noted.config.pages_per_block 1 a.flash b.flash
+costs_cleaning : (p : Protocol) (a b : StoreParts) (r : Result (Unit {0}) Broken) → Cleans p a b r →
+    CostsAtMost a.noted.config.pages_per_block 1 a.flash b.flash
 costs_cleaning p a b r c = record { programs = omega (arith, c.programs); erases = omega (arith, c.erases) }
 
 -- the spare could not be made blank
-pub most_unclean : (p : Protocol) (a b : StoreParts) (x y : Broken) → Cleans p a b (Err x) → CollectsVictim p a b (Err y)
+pub most_unclean : (p : Protocol) (a b : StoreParts) (x y : Broken) → Cleans p a b (Err x) →
+    CollectsVictim p a b (Err y)
 most_unclean p a b x y c = record {
   keeps = c.keeps;
   done = tt;
@@ -33,14 +35,16 @@ module _ (p : Protocol) (loss : LossLaw p) (a m : StoreParts) (k : IsSure p a) (
 
   -- the first slot of the blank spare comes next
   pub blank_spare : IsNextOfSpare m.noted m.table.spare (m.table.spare * m.noted.config.pages_per_block)
-  blank_spare = first_of_spare p loss a.flash a.noted a.table a.unsure k.rule k.matches m.noted m.table cleaned.noted cleaned.blocks
+  blank_spare = first_of_spare p loss a.flash a.noted a.table a.unsure k.rule k.matches m.noted m.table cleaned.noted
+      cleaned.blocks
 
   -- there is no garbage
   pub most_none : HasNoGarbage m.noted m.table → CollectsVictim p a m (Ok false)
   most_none none = record {
     keeps = cleaned.keeps;
     done = record {
-      none = subst (HasNoGarbage (noted_cleaned a.noted a.table.spare)) cleaned.blocks (subst (λ (n : IndexState). HasNoGarbage n m.table) cleaned.noted none);
+      none = subst (HasNoGarbage (noted_cleaned a.noted a.table.spare)) cleaned.blocks
+          (subst (λ (n : IndexState). HasNoGarbage n m.table) cleaned.noted none);
       does = cleaned.done;
       noted = cleaned.noted;
       table = cleaned.blocks;
@@ -62,9 +66,11 @@ module _ (p : Protocol) (loss : LossLaw p) (a m : StoreParts) (k : IsSure p a) (
     its = subst (λ (t : BlocksState). IsVictim (noted_cleaned a.noted a.table.spare) t block.0) cleaned.blocks
         (subst (λ (n : IndexState). IsVictim n m.table block.0) cleaned.noted v)
 
-    collected_so : (b : StoreParts) (r : Result (Unit {0}) Broken) → CollectsClean p m b block r → Collects p a b block.0 r
+    collected_so : (b : StoreParts) (r : Result (Unit {0}) Broken) → CollectsClean p m b block r →
+        Collects p a b block.0 r
     collected_so =
-        collects_cleaned p loss a m k cleaned block (subst (λ (x : Config). block.0 < blocks_of (shape_of x)) cleaned.keeps.preserves.config v.exists)
+        collects_cleaned p loss a m k cleaned block (subst (λ (x : Config). block.0 < blocks_of (shape_of x))
+        cleaned.keeps.preserves.config v.exists)
         (λ same. chosen_apart (same ∙ ap (λ (t : BlocksState). t.spare) (sym cleaned.blocks))) unneeded
 
     -- the collection broke off
@@ -82,9 +88,11 @@ module _ (p : Protocol) (loss : LossLaw p) (a m : StoreParts) (k : IsSure p a) (
 
     few : length (needed_slots (noted_cleaned a.noted a.table.spare) block.0) < a.table.shape.pages_per_block
     few =
-        let less : length (needed_slots m.noted block.0) < m.noted.config.pages_per_block = filter_fewer (needed_of m.noted)
+        let less : length (needed_slots m.noted block.0) < m.noted.config.pages_per_block =
+        filter_fewer (needed_of m.noted)
         (block.0 * m.noted.config.pages_per_block) m.noted.config.pages_per_block unneeded in
-        subst (λ (x : Shape). length (needed_slots (noted_cleaned a.noted a.table.spare) block.0) < x.pages_per_block) (sym (calm0.blocks ∙ calm0.shape))
+        subst (λ (x : Shape). length (needed_slots (noted_cleaned a.noted a.table.spare) block.0) < x.pages_per_block)
+        (sym (calm0.blocks ∙ calm0.shape))
         (subst (λ (n : IndexState). length (needed_slots n block.0) < n.config.pages_per_block) cleaned.noted less)
 
     -- it was done, and leaves room in the old spare
@@ -101,7 +109,8 @@ module _ (p : Protocol) (loss : LossLaw p) (a m : StoreParts) (k : IsSure p a) (
         }
 
 -- where no block has room there is garbage
-pub full_collects : (p : Protocol) (a b : StoreParts) → IsSure p a → IsFull a.table → ((names : List Link) × (name : Link) × IsNextName a.noted names name) →
+pub full_collects : (p : Protocol) (a b : StoreParts) → IsSure p a → IsFull a.table →
+    ((names : List Link) × (name : Link) × IsNextName a.noted names name) →
     (any : _) →
     CollectsVictim p a b (Ok any) → any ≡ true
 full_collects p a b k full next true c = refl
@@ -113,6 +122,7 @@ full_collects p a b k full next false c =
     let none : HasNoGarbage b.noted b.table =
     subst (λ (n : IndexState). HasNoGarbage n b.table) (sym c.done.noted)
     (subst (HasNoGarbage (noted_cleaned a.noted a.table.spare)) (sym c.done.table) c.done.none) in
-    absurd (some_garbage b.flash b.noted b.table (subst (Matches b.flash b.noted b.table) c.keeps.sure c.keeps.matches) blanked
+    absurd (some_garbage b.flash b.noted b.table (subst (Matches b.flash b.noted b.table) c.keeps.sure c.keeps.matches)
+    blanked
     (subst IsFull (sym c.done.table) full) next.0 next.1
     (next_stays a.noted b.noted next.0 next.1 k.matches.noted.pages c.keeps.preserves next.2) none)

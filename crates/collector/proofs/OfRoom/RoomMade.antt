@@ -1,4 +1,5 @@
--- Where no block has room and the spare is blank, some block has garbage; and once it was collected the old spare has room.
+-- Where no block has room and the spare is blank, some block has garbage; and once it was collected the old spare has
+-- room.
 use Rattle.collector.proofs.Common.{◌≡◌, ◌≢◌, ◌⊎◌, ℕ, ◌*◌, ◌/◌, ◌<◌, Bool, true, false, ◌||◌, eqb, eq-eqb, List, count_by, Contains, refl, sym, ap, ◌∙◌, subst, inl, inr, arith, if◌then◌else◌, ap₂, range_with_len, mul_comm, not-true, get_or-set_same, All-contains, in_range, all_range, shape_of, slots_of, blocks_of, Shape, Link, FlashState, Found, name_of, IsCurrent, InProgress, is_outside, is_slot, Blank, note_at, found_in, IndexState, IsNoted, current_of, needed_of, pinned_names, erased, is_blank, in_it, inside_block, BlocksState, IsBlocksState, IsFull, use_of, block_state, table_with_spare, BlockUse, is_noted_blank, swapped, open_state, HasUnneeded, IsNextName, IsPinBeside, Matches, IsVictim, HasNoGarbage, is_shut}
 use Rattle.std.proofs.Common.{ne_eqb, zip}
 use Rattle.std.proofs.Math.ListN.{length-set}
@@ -25,33 +26,42 @@ use Rattle.collector.proofs.OfClean.BlankNotes.{noted_blank}
 use Rattle.collector.proofs.OfRoom.Space.{IsFilled, slots_few}
 
 -- a garbage slot is not needed
-garbage_unneeded : (n : IndexState) (shut : Bool) (slot : ℕ) → is_garbage_at n (shut_or_part shut) slot ≡ true → needed_of n slot ≡ false
+garbage_unneeded : (n : IndexState) (shut : Bool) (slot : ℕ) → is_garbage_at n (shut_or_part shut) slot ≡ true →
+    needed_of n slot ≡ false
 garbage_unneeded n true slot e = not-true (needed_of n slot) e
 garbage_unneeded n false slot e =
-    (or_parts (is_blank (note_at n.notes slot)) (needed_of n slot) (not-true (is_blank (note_at n.notes slot) || needed_of n slot) e)).1
+    (or_parts (is_blank (note_at n.notes slot)) (needed_of n slot)
+    (not-true (is_blank (note_at n.notes slot) || needed_of n slot) e)).1
 
 -- the slots of a block that is all blank
-pub blank_erased : (n : IndexState) → IsNoted n.config.protocol n → (block : ℕ) → block < blocks_of (shape_of n.config) →
+pub blank_erased : (n : IndexState) → IsNoted n.config.protocol n → (block : ℕ) →
+    block < blocks_of (shape_of n.config) →
     is_noted_blank (erased n block) block ≡ true
 blank_erased n noted block below =
-    range_all (λ slot. is_blank (note_at (erased n block).notes slot)) (block * n.config.pages_per_block) n.config.pages_per_block
+    range_all (λ slot. is_blank (note_at (erased n block).notes slot)) (block * n.config.pages_per_block)
+    n.config.pages_per_block
     (λ k low high. ap is_blank
-    (note_at-in (shape_of n.config) (let b = noted.bounds.shape.pages_least in omega arith) n.notes noted.slots block below Blank k low high))
+    (note_at-in (shape_of n.config) (let b = noted.bounds.shape.pages_least in omega arith) n.notes noted.slots block
+    below Blank k low high))
 
 -- a name of a transaction in progress that is there has nobody responsible
-unanswered : (n : IndexState) → IsNoted n.config.protocol n → (ts : List Link) → InProgress n.config.protocol (found_in n.notes) n.config.logical ts →
-    (f : Found) → Contains (found_in n.notes) f → Contains ts (name_of f.rec) → responsible n.config.protocol (found_in n.notes) n.config.logical f.rec.next ≡ 0
+unanswered : (n : IndexState) → IsNoted n.config.protocol n → (ts : List Link) →
+    InProgress n.config.protocol (found_in n.notes) n.config.logical ts →
+    (f : Found) → Contains (found_in n.notes) f → Contains ts (name_of f.rec) →
+    responsible n.config.protocol (found_in n.notes) n.config.logical f.rec.next ≡ 0
 unanswered n noted ts h f i own =
     let p = n.config.protocol in
     let list = found_in n.notes in
     let logical = n.config.logical in
     let after = follows_of ts (name_of f.rec) own in
-    let asks = All-contains (λ g. IsAsked n.config.protocol (found_in n.notes) n.config.logical ts g.rec) (found_in n.notes) f h.begun.asked i in
+    let asks = All-contains (λ g. IsAsked n.config.protocol (found_in n.notes) n.config.logical ts g.rec)
+    (found_in n.notes) f h.begun.asked i in
     let pair = All-contains (IsAskedAt n.config.protocol (found_in n.notes) n.config.logical ts f.rec)
     (zip ts (next_names ts)) (name_of f.rec, after.0) asks after.1 in
     let link = (pair refl).0 in
     let gone = absent_name list ts h.absent in
-    let loose = name_loose list logical ts (underway_of p list logical ts h.begun) p (sound_map p list logical noted.sound noted.scanned) gone.0 gone.1 gone.2
+    let loose = name_loose list logical ts (underway_of p list logical ts h.begun) p
+    (sound_map p list logical noted.sound noted.scanned) gone.0 gone.1 gone.2
     f.rec.next (subst (Contains ts) (sym link) (follows_in ts (name_of f.rec) after.0 after.1).1) in
     responsible_high p list logical f.rec.next (omega arith)
 
@@ -71,7 +81,8 @@ module _ (s : FlashState) (n : IndexState) (t : BlocksState) (m : Matches s n t 
   -- the block with the most garbage is not the spare
   pub victim_apart : (block : ℕ) → IsVictim n t block → block ≢ t.spare
   victim_apart block v same =
-      let none = spare_garbage n block (is_shut (block_state t block)) (ap (is_slot block) m.spare ∙ eq-eqb t.spare block (sym same)) in
+      let none = spare_garbage n block (is_shut (block_state t block)) (ap (is_slot block) m.spare
+      ∙ eq-eqb t.spare block (sym same)) in
       let more = v.some in absurd (omega arith)
 
   -- and has a slot that is not needed
@@ -80,32 +91,43 @@ module _ (s : FlashState) (n : IndexState) (t : BlocksState) (m : Matches s n t 
       let shut = is_shut (block_state t block) in
       let more : 0 < count_by (is_garbage_at n (shut_or_part (is_shut (block_state t block))))
       (range_with_len (block * n.config.pages_per_block) n.config.pages_per_block) =
-      subst (λ k. 0 < k) (other_garbage n block (is_shut (block_state t block)) (not_its_spare block (victim_apart block v))) v.some in
-      let one = count_some (is_garbage_at n (shut_or_part (is_shut (block_state t block)))) (block * n.config.pages_per_block) n.config.pages_per_block more in
-      has_unneeded n block one.at (in_range (block * n.config.pages_per_block) n.config.pages_per_block one.at one.low one.high)
+      subst (λ k. 0 < k) (other_garbage n block (is_shut (block_state t block))
+      (not_its_spare block (victim_apart block v))) v.some in
+      let one = count_some (is_garbage_at n (shut_or_part (is_shut (block_state t block))))
+      (block * n.config.pages_per_block) n.config.pages_per_block more in
+      has_unneeded n block one.at (in_range (block * n.config.pages_per_block) n.config.pages_per_block one.at
+      one.low one.high)
       (garbage_unneeded n (is_shut (block_state t block)) one.at one.passes)
 
-  module _ (blanked : is_noted_blank n t.spare ≡ true) (full : IsFull t) (names : List Link) (name : Link) (next : IsNextName n names name) where
+  module _ (blanked : is_noted_blank n t.spare ≡ true) (full : IsFull t) (names : List Link) (name : Link)
+      (next : IsNextName n names name) where
     spare_blank : (slot : ℕ) → is_outside (shape_of n.config) t.spare slot ≡ false → note_at n.notes slot ≡ Blank
     spare_blank slot out =
-        let inside = inside_block n.config.pages_per_block t.spare slot some (in_it (shape_of n.config) t.spare slot out) in
+        let inside = inside_block n.config.pages_per_block t.spare slot some
+        (in_it (shape_of n.config) t.spare slot out) in
         noted_blank (note_at n.notes slot)
-        (all_range (λ k. is_blank (note_at n.notes k)) (t.spare * n.config.pages_per_block) n.config.pages_per_block blanked slot inside.0 inside.1)
+        (all_range (λ k. is_blank (note_at n.notes k)) (t.spare * n.config.pages_per_block) n.config.pages_per_block
+        blanked slot inside.0 inside.1)
 
     -- a slot outside the spare that is not garbage is needed
-    all_needed : HasNoGarbage n t → (slot : ℕ) → slot < slots_of (shape_of n.config) → is_outside (shape_of n.config) t.spare slot ≡ true →
+    all_needed : HasNoGarbage n t → (slot : ℕ) → slot < slots_of (shape_of n.config) →
+        is_outside (shape_of n.config) t.spare slot ≡ true →
         needed_of n slot ≡ true
     all_needed none slot within out =
         let per = n.config.pages_per_block in
         let block = slot / n.config.pages_per_block in
         let below : block < blocks_of (shape_of n.config) = div_below slot per (blocks_of (shape_of n.config)) some
         (omega (arith, within, mul_comm per (blocks_of (shape_of n.config)))) in
-        let apart = other_block (slot / n.config.pages_per_block) t.spare (eqb (slot / n.config.pages_per_block) t.spare) refl out in
-        let shut = shut_where_full t m.table full block (subst (λ (k : Shape). block < blocks_of k) (sym shape_same) below) apart in
-        let zero : garbage_of n block true ≡ 0 = ap (λ q. garbage_of n block (is_shut q)) (sym shut) ∙ none block below in
+        let apart = other_block (slot / n.config.pages_per_block) t.spare
+        (eqb (slot / n.config.pages_per_block) t.spare) refl out in
+        let shut = shut_where_full t m.table full block (subst (λ (k : Shape). block < blocks_of k) (sym shape_same)
+        below) apart in
+        let zero : garbage_of n block true ≡ 0 = ap (λ q. garbage_of n block (is_shut q)) (sym shut)
+        ∙ none block below in
         let count = sym (other_garbage n block true (not_its_spare block apart)) ∙ zero in
         let inside = inside_block per block slot some refl in
-        not-false (needed_of n slot) (none_in_range (is_garbage_at n (shut_or_part true)) (block * per) per count slot inside.0 inside.1)
+        not-false (needed_of n slot) (none_in_range (is_garbage_at n (shut_or_part true)) (block * per) per count slot
+        inside.0 inside.1)
 
     pin_unanswered : (f : Found) → Contains (found_in n.notes) f → IsPinBeside n names (name_of f.rec) →
         IsCurrent n.config.protocol (found_in n.notes) n.config.logical f.rec
@@ -121,7 +143,8 @@ module _ (s : FlashState) (n : IndexState) (t : BlocksState) (m : Matches s n t 
       below = spare_within;
       blank = spare_blank;
       needed = all_needed none;
-      pins = λ f i pin. pin_unanswered f i (All-contains (IsPinBeside n names) (pinned_names n.pins) (name_of f.rec) next.beside pin);
+      pins = λ f i pin. pin_unanswered f i (All-contains (IsPinBeside n names) (pinned_names n.pins) (name_of f.rec)
+          next.beside pin);
       absent = name;
       is_pinned = (All-contains (λ own. Contains (pinned_names n.pins) own) names name next.pinned next.named);
       is_absent = next.absent;
@@ -135,15 +158,19 @@ module _ (s : FlashState) (n : IndexState) (t : BlocksState) (m : Matches s n t 
         let space = m.noted.bounds.space in
         absurd (omega (arith, count, few, space))
 
--- the old spare once it was exchanged for a block
+-- the old spare once it was swapped for a block
 use_old : (t : BlocksState) → IsBlocksState t → (block used : ℕ)
     → use_of (swapped t block used) t.spare ≡ record { state = open_state t.shape.pages_per_block used; used = used }
 use_old t h block used =
-    get_or-set_same (table_with_spare t block).blocks t.spare (record { state = open_state t.shape.pages_per_block used; used = used }) no_block
+    get_or-set_same (table_with_spare t block).blocks t.spare (record {
+      state = open_state t.shape.pages_per_block used;
+      used = used;
+    }) no_block
     (rw (length-set, length-set, h.count) h.spare_within)
 
 -- it has room where not all of it is used
-pub room_made : (t : BlocksState) → IsBlocksState t → (block used : ℕ) → used < t.shape.pages_per_block → IsFull (swapped t block used) → ⊥
+pub room_made : (t : BlocksState) → IsBlocksState t → (block used : ℕ) → used < t.shape.pages_per_block →
+    IsFull (swapped t block used) → ⊥
 room_made t h block used few full = by (eqb used 0) refl
   where
     its_state : block_state (swapped t block used) t.spare ≡ open_state t.shape.pages_per_block used
@@ -154,7 +181,8 @@ room_made t h block used few full = by (eqb used 0) refl
 
     by : (b : Bool) → eqb used 0 ≡ b → ⊥
     by true e = full t.spare h.spare_within
-        (inl (its_state ∙ ap (λ b. if b then state.Clean else (if eqb used t.shape.pages_per_block then state.Shut else state.Part)) e))
+        (inl (its_state ∙ ap (λ b. if b then state.Clean else (if eqb used t.shape.pages_per_block then state.Shut
+        else state.Part)) e))
     by false e =
         full t.spare h.spare_within
         (inr (its_state ∙ ap₂ (λ b c. if b then state.Clean else (if c then state.Shut else state.Part)) e more))

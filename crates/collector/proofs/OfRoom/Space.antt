@@ -1,5 +1,5 @@
--- Where nothing outside the spare is garbage, the needed records fill it: so there is garbage where the space rule holds and a
--- record of an open transaction is absent.
+-- Where nothing outside the spare is garbage, the needed records fill it: so there is garbage where the space rule
+-- holds and a record of an open transaction is absent.
 use Rattle.collector.proofs.Common.{◌≡◌, ◌≢◌, ◌⊎◌, ℕ, ◌+◌, ◌-◌, ◌*◌, ◌<◌, ◌≤◌, Bool, true, false, if◌then◌else◌, eqb, eq-eqb, eqb-true, List, [], ◌∷◌, length, map, get_or, AllPairs, Contains, Some, refl, sym, ap, ◌∙◌, subst, inl, inr, arith, ◌==◌, range_with_len, length-map, same_Some, Pages, PagesExist, inside_block, in_it, cases_Bool, cases_lt, both_ways, cond-true, cond-false, and_parts, and_from, All-contains, Contains-cases, Contains-nil, any_of, Protocol, Scc, Bpcc, Link, Rec, Found, name_of, cur, IsCurrent, is_held, present_as, shape_of, slots_of, blocks_of, is_present, is_outside, Note, Blank, Holds, note_at, found_in, IndexState, IsNoted, needed_of, home_of, pinned_names, found, noted_from}
 use Rattle.std.proofs.Common.{lt-ltb, ltb-true}
 use Rattle.std.specs.Prelude.{nat_lt}
@@ -38,7 +38,13 @@ pub answered_one : (l : List Found) (n : ℕ) (s : Rec) → is_held Bpcc l n s �
 answered_one l n s h =
     let any = any_of (λ f. answers_for Bpcc l n s f.rec) l h in
     let a = answer_of l n s any.0.rec any.2 in
-    record { found = any.0; is_in = any.1; loose = a.loose; answered = (let v = a.version in let under = a.under in omega arith) }
+    record {
+      found = any.0;
+      is_in = any.1;
+      loose = a.loose;
+      answered = (let v = a.version in let under = a.under in
+          omega arith);
+    }
 
 -- the place of a name in a list
 place : List Link → Link → ℕ
@@ -60,10 +66,11 @@ unfolding place
 place_low [] u i = absurd (Contains-nil u i)
 place_low (v ∷ vs) u i = elim (cases_Bool (is_same v u)) [
   | inl e ↦ subst (λ k. k < length (v ∷ vs)) (sym (cond-true (is_same v u) 0 (place vs u + 1) e)) (omega arith)
-  | inr e ↦ subst (λ k. k < length (v ∷ vs)) (sym (cond-false (is_same v u) 0 (place vs u + 1) e)) (elim (Contains-cases v vs u i) [
-    | inl same ↦ absurd (both_ways (is_same v u) e (itself v u same))
-    | inr j ↦ (let low = place_low vs u j in omega arith)
-  ])
+  | inr e ↦ subst (λ k. k < length (v ∷ vs)) (sym (cond-false (is_same v u) 0 (place vs u + 1) e))
+      (elim (Contains-cases v vs u i) [
+        | inl same ↦ absurd (both_ways (is_same v u) e (itself v u same))
+        | inr j ↦ (let low = place_low vs u j in omega arith)
+      ])
 ]
 
 -- two names of a list with one place are one
@@ -73,9 +80,14 @@ place_one [] u w i j e = absurd (Contains-nil u i)
 place_one (v ∷ vs) u w i j e = by (λ x y z. place_one vs u w x y z) (is_same v u) (is_same v w) refl refl e
   where
     in_rest : (x : Link) → is_same v x ≡ false → Contains (v ∷ vs) x → Contains vs x
-    in_rest x other k = elim (Contains-cases v vs x k) [ inl same ↦ absurd (both_ways (is_same v x) other (itself v x same)) | inr r ↦ r ]
+    in_rest x other k = elim (Contains-cases v vs x k) [
+      | inl same ↦
+          absurd (both_ways (is_same v x) other (itself v x same))
+      | inr r ↦ r
+    ]
 
-    by : (Contains vs u → Contains vs w → place vs u ≡ place vs w → u ≡ w) → (a b : Bool) → is_same v u ≡ a → is_same v w ≡ b →
+    by : (Contains vs u → Contains vs w → place vs u ≡ place vs w → u ≡ w) → (a b : Bool) → is_same v u ≡ a →
+        is_same v w ≡ b →
         (if a then 0 else place vs u + 1) ≡ (if b then 0 else place vs w + 1) → u ≡ w
     by next true true x y h = sym (same_link v u x) ∙ same_link v w y
     by next true false x y h = absurd (omega (arith, h))
@@ -86,7 +98,8 @@ place_one (v ∷ vs) u w i j e = by (λ x y z. place_one vs u w x y z) (is_same 
 skip : (per block k : ℕ) → ℕ
 skip per block k = if nat_lt k (block * per) then k else k + per
 
-skip_cases : (per block k : ℕ) → ((k < block * per) × (skip per block k ≡ k)) ⊎ ((block * per ≤ k) × (skip per block k ≡ k + per))
+skip_cases : (per block k : ℕ) → ((k < block * per) × (skip per block k ≡ k))
+    ⊎ ((block * per ≤ k) × (skip per block k ≡ k + per))
 unfolding skip
 skip_cases per block k = elim (cases_Bool (nat_lt k (block * per))) [
   | inl e ↦ inl (ltb-true k (block * per) e, cond-true (nat_lt k (block * per)) k (k + per) e)
@@ -101,26 +114,34 @@ skip_cases per block k = elim (cases_Bool (nat_lt k (block * per))) [
 
 skip_one : (per block j k : ℕ) → skip per block j ≡ skip per block k → j ≡ k
 skip_one per block j k e = elim (skip_cases per block j) [
-  | inl a ↦ elim (skip_cases per block k) [ inl b ↦ omega (arith, e, a.1, b.1) | inr b ↦ omega (arith, e, a.0, a.1, b.0, b.1) ]
-  | inr a ↦ elim (skip_cases per block k) [ inl b ↦ omega (arith, e, a.0, a.1, b.0, b.1) | inr b ↦ omega (arith, e, a.1, b.1) ]
+  | inl a ↦ elim (skip_cases per block k) [
+    | inl b ↦ omega (arith, e, a.1, b.1)
+    | inr b ↦ omega (arith, e, a.0, a.1, b.0, b.1)
+  ]
+  | inr a ↦ elim (skip_cases per block k) [
+    | inl b ↦ omega (arith, e, a.0, a.1, b.0, b.1)
+    | inr b ↦ omega (arith, e, a.1, b.1)
+  ]
 ]
 
 skip_low : (per block k blocks : ℕ) → block < blocks → k < (blocks - 1) * per → skip per block k < per * blocks
 skip_low per block k blocks below within =
     let one : blocks ≡ blocks - 1 + 1 = omega (arith, below) in
-    let whole : (blocks - 1) * per + per ≡ per * blocks = subst (λ b. (blocks - 1) * per + per ≡ per * b) (sym one) (omega arith) in
+    let whole : (blocks - 1) * per + per ≡ per * blocks = subst (λ b. (blocks - 1) * per + per ≡ per * b) (sym one)
+    (omega arith) in
     elim (skip_cases per block k) [
       | inl a ↦ omega (arith, whole, within, a.1)
       | inr a ↦ omega (arith, whole, within, a.1)
     ]
 
--- What the lemma is about: every slot outside the spare is needed, the spare is blank, and a pinned name is absent. Each pinned
--- record is current, or has no responsible one.
+-- What the lemma is about: every slot outside the spare is needed, the spare is blank, and a pinned name is absent.
+-- Each pinned record is current, or has no responsible one.
 pub record IsFilled (n : IndexState) (spare : ℕ) : Type 0 where
   pub noted : IsNoted n.config.protocol n
   pub below : spare < blocks_of (shape_of n.config)
   pub blank : (slot : ℕ) → is_outside (shape_of n.config) spare slot ≡ false → note_at n.notes slot ≡ Blank
-  pub needed : (slot : ℕ) → slot < slots_of (shape_of n.config) → is_outside (shape_of n.config) spare slot ≡ true → needed_of n slot ≡ true
+  pub needed : (slot : ℕ) → slot < slots_of (shape_of n.config) → is_outside (shape_of n.config) spare slot ≡ true →
+      needed_of n slot ≡ true
   pub pins : (f : Found) → Contains (found_in n.notes) f → Contains (pinned_names n.pins) (name_of f.rec) →
       IsCurrent n.config.protocol (found_in n.notes) n.config.logical f.rec
       ⊎ (responsible n.config.protocol (found_in n.notes) n.config.logical f.rec.next ≡ 0)
@@ -142,7 +163,8 @@ module _ (n : IndexState) (spare : ℕ) (h : IsFilled n spare) where
   record_home : (f : Found) → Contains list f → IsHome n f.slot.0
   record_home f i =
       let there = noted_from n.notes f i in
-      home_needed n f.slot.0 (h.needed f.slot.0 (omega (arith, there.0, h.noted.slots)) (out (is_outside (shape_of n.config) spare f.slot.0) refl there.1))
+      home_needed n f.slot.0 (h.needed f.slot.0 (omega (arith, there.0, h.noted.slots))
+      (out (is_outside (shape_of n.config) spare f.slot.0) refl there.1))
     where
       out : (b : Bool) → is_outside (shape_of n.config) spare f.slot.0 ≡ b → note_at n.notes f.slot.0 ≡ Holds f.rec →
           is_outside (shape_of n.config) spare f.slot.0 ≡ true
@@ -160,17 +182,19 @@ module _ (n : IndexState) (spare : ℕ) (h : IsFilled n spare) where
             (let low = held_low list logical y.found.rec (subst (λ q. is_held q list logical y.found.rec ≡ true) rule
             (subst (λ (f : Found). is_held n.config.protocol list logical f.rec ≡ true) same held)) in
             let loose = y.loose in absurd (omega arith))
-        | inr (inr pin) ↦ elim (h.pins y.found y.is_in (subst (λ (f : Found). Contains pinned (name_of f.rec)) same pin)) [
-          | inl current ↦ current_not current
-          | inr none ↦
-              (let zero = subst (λ q. responsible q list logical y.found.rec.next ≡ 0) rule none in
-              let some = y.answered in absurd (omega arith))
-        ]
+        | inr (inr pin) ↦ elim (h.pins y.found y.is_in
+            (subst (λ (f : Found). Contains pinned (name_of f.rec)) same pin)) [
+              | inl current ↦ current_not current
+              | inr none ↦
+                  (let zero = subst (λ q. responsible q list logical y.found.rec.next ≡ 0) rule none in
+                  let some = y.answered in absurd (omega arith))
+            ]
       ]
     where
       current_not : IsCurrent n.config.protocol list logical y.found.rec → ⊥
       current_not c =
-          let is : y.found.rec.version ≡ cur Bpcc list logical y.found.rec.page = subst (λ q. y.found.rec.version ≡ cur q list logical y.found.rec.page) rule
+          let is : y.found.rec.version ≡ cur Bpcc list logical y.found.rec.page =
+          subst (λ q. y.found.rec.version ≡ cur q list logical y.found.rec.page) rule
           c in
           let loose = y.loose in absurd (omega arith)
 
@@ -186,7 +210,8 @@ module _ (n : IndexState) (spare : ℕ) (h : IsFilled n spare) where
     pub home : home_of n (name_of rec) ≡ Some slot
     pub why : IsCurrent n.config.protocol list logical rec ⊎ Contains pinned (name_of rec)
 
-  holder : (slot : ℕ) → slot < slots_of (shape_of n.config) → is_outside (shape_of n.config) spare slot ≡ true → CurrentOrPinned slot
+  holder : (slot : ℕ) → slot < slots_of (shape_of n.config) → is_outside (shape_of n.config) spare slot ≡ true →
+      CurrentOrPinned slot
   holder slot within out =
       let x = home_needed n slot (h.needed slot within out) in
       let there = noted_from n.notes x.found x.is_in in
@@ -221,13 +246,16 @@ module _ (n : IndexState) (spare : ℕ) (h : IsFilled n spare) where
     where
       by : (b : Bool) → (x.rec.version == cur n.config.protocol list logical x.rec.page) ≡ b →
           ((IsCurrent n.config.protocol list logical x.rec)
-          × ((if x.rec.version == cur n.config.protocol list logical x.rec.page then x.rec.page else logical + place pinned (name_of x.rec)) ≡ x.rec.page))
+          × ((if x.rec.version == cur n.config.protocol list logical x.rec.page then x.rec.page
+          else logical + place pinned (name_of x.rec)) ≡ x.rec.page))
           ⊎ (Contains pinned (name_of x.rec)
-          × ((if x.rec.version == cur n.config.protocol list logical x.rec.page then x.rec.page else logical + place pinned (name_of x.rec)) ≡ logical + place
+          × ((if x.rec.version == cur n.config.protocol list logical x.rec.page then x.rec.page
+          else logical + place pinned (name_of x.rec)) ≡ logical + place
           pinned (name_of x.rec)))
       by true e = inl (
         eqb-true x.rec.version (cur n.config.protocol list logical x.rec.page) e,
-        cond-true (x.rec.version == cur n.config.protocol list logical x.rec.page) x.rec.page (logical + place pinned (name_of x.rec)) e,
+        cond-true (x.rec.version == cur n.config.protocol list logical x.rec.page) x.rec.page
+            (logical + place pinned (name_of x.rec)) e,
       )
       by false e = inr (
         elim x.why [
@@ -236,14 +264,16 @@ module _ (n : IndexState) (spare : ℕ) (h : IsFilled n spare) where
               (eq-eqb x.rec.version (cur n.config.protocol list logical x.rec.page) current))
           | inr pin ↦ pin
         ],
-        cond-false (x.rec.version == cur n.config.protocol list logical x.rec.page) x.rec.page (logical + place pinned (name_of x.rec)) e,
+        cond-false (x.rec.version == cur n.config.protocol list logical x.rec.page) x.rec.page
+            (logical + place pinned (name_of x.rec)) e,
       )
 
   page_low : (slot : ℕ) (x : CurrentOrPinned slot) → x.rec.page < logical
   page_low slot x = (All-contains (PagesExist logical) list (found slot x.rec) (h.noted.sound Pages) x.is_in).0
 
   -- two slots with one number are one
-  one_number : (a b : ℕ) (x : CurrentOrPinned a) (y : CurrentOrPinned b) → number (name_of x.rec) ≡ number (name_of y.rec) → a ≡ b
+  one_number : (a b : ℕ) (x : CurrentOrPinned a) (y : CurrentOrPinned b) →
+      number (name_of x.rec) ≡ number (name_of y.rec) → a ≡ b
   one_number a b x y e =
       elim (number_cases a x) [
         | inl cx ↦ elim (number_cases b y) [
@@ -252,17 +282,20 @@ module _ (n : IndexState) (spare : ℕ) (h : IsFilled n spare) where
         ]
         | inr px ↦ elim (number_cases b y) [
           | inl cy ↦ (let low = page_low b y in absurd (omega (arith, e, px.1, cy.1)))
-          | inr py ↦ one_slot (place_one pinned (name_of x.rec) (name_of y.rec) px.0 py.0 (omega (arith, e, px.1, py.1)))
+          | inr py ↦ one_slot (place_one pinned (name_of x.rec) (name_of y.rec) px.0 py.0
+              (omega (arith, e, px.1, py.1)))
         ]
       ]
     where
       one_slot : name_of x.rec ≡ name_of y.rec → a ≡ b
       one_slot same = same_Some a b (sym x.home ∙ ap (home_of n) same ∙ y.home)
 
-      same_current : x.rec.page ≡ y.rec.page → IsCurrent n.config.protocol list logical x.rec → IsCurrent n.config.protocol list logical y.rec →
+      same_current : x.rec.page ≡ y.rec.page → IsCurrent n.config.protocol list logical x.rec →
+          IsCurrent n.config.protocol list logical y.rec →
           name_of x.rec ≡ name_of y.rec
       same_current page cx cy =
-          ap (λ v. record { page = x.rec.page; version = v }) (cx ∙ ap (cur n.config.protocol list logical) page ∙ sym cy)
+          ap (λ v. record { page = x.rec.page; version = v }) (cx
+          ∙ ap (cur n.config.protocol list logical) page ∙ sym cy)
           ∙ ap (λ q. record { page = q; version = y.rec.version }) page
 
   -- the absent name's number is that of no slot
@@ -273,7 +306,8 @@ module _ (n : IndexState) (spare : ℕ) (h : IsFilled n spare) where
         | inr px ↦
             (let same = place_one pinned (name_of x.rec) h.absent px.0 h.is_pinned (omega (arith, e, px.1)) in
             both_ways (is_present list h.absent) h.is_absent
-            (subst (λ u. is_present list u ≡ true) same (present_as list (found slot x.rec) (name_of x.rec) x.is_in refl)))
+            (subst (λ u. is_present list u ≡ true) same (present_as list (found slot x.rec) (name_of x.rec)
+            x.is_in refl)))
       ]
 
   number_low : (slot : ℕ) (x : CurrentOrPinned slot) → number (name_of x.rec) < logical + length pinned
@@ -294,12 +328,16 @@ module _ (n : IndexState) (spare : ℕ) (h : IsFilled n spare) where
   skip_out : (k : ℕ) → is_outside (shape_of n.config) spare (at k) ≡ true
   skip_out k = by (is_outside (shape_of n.config) spare (at k)) refl
     where
-      by : (b : Bool) → is_outside (shape_of n.config) spare (at k) ≡ b → is_outside (shape_of n.config) spare (at k) ≡ true
+      by : (b : Bool) → is_outside (shape_of n.config) spare (at k) ≡ b →
+          is_outside (shape_of n.config) spare (at k) ≡ true
       by true e = e
       by false e =
           let some : 0 < per = (let b = h.noted.bounds.shape.pages_least in omega arith) in
           let here = inside_block per spare (at k) some (in_it (shape_of n.config) spare (at k) e) in
-          elim (skip_cases per spare k) [ inl a ↦ absurd (omega (arith, here.0, a.0, a.1)) | inr a ↦ absurd (omega (arith, here.1, a.0, a.1)) ]
+          elim (skip_cases per spare k) [
+            | inl a ↦ absurd (omega (arith, here.0, a.0, a.1))
+            | inr a ↦ absurd (omega (arith, here.1, a.0, a.1))
+          ]
 
   held_by : (k : ℕ) → k < count → CurrentOrPinned (at k)
   held_by k within = holder (at k) (skip_low per spare k (blocks_of (shape_of n.config)) h.below within) (skip_out k)
@@ -312,7 +350,8 @@ module _ (n : IndexState) (spare : ℕ) (h : IsFilled n spare) where
   number_is k x = ap number_of x.holds
 
   numbers_at : (k d : ℕ) → (within : k < count) → get_or numbers k d ≡ number (name_of (held_by k within).rec)
-  numbers_at k d within = get_or-map-range_with_len (λ k. number_of (note_at n.notes (at k))) 0 count k k d within (omega arith)
+  numbers_at k d within = get_or-map-range_with_len (λ k. number_of (note_at n.notes (at k))) 0 count k k d
+      within (omega arith)
       ∙ number_is k (held_by k within)
 
   long : length numbers ≡ count
@@ -322,7 +361,8 @@ module _ (n : IndexState) (spare : ℕ) (h : IsFilled n spare) where
   apart i j d before within =
       let low_j : j < count = omega (arith, within, long) in
       let low_i : i < count = omega (arith, before, low_j) in
-      λ e. (let one = one_number (at i) (at j) (held_by i low_i) (held_by j low_j) (sym (numbers_at i d low_i) ∙ e ∙ numbers_at j d low_j) in
+      λ e. (let one = one_number (at i) (at j) (held_by i low_i) (held_by j low_j) (sym (numbers_at i d low_i) ∙ e
+      ∙ numbers_at j d low_j) in
       let same = skip_one per spare i j one in absurd (omega (arith, same, before)))
 
   -- so the slots outside the spare are fewer than the pages and the pinned names
@@ -331,16 +371,20 @@ module _ (n : IndexState) (spare : ℕ) (h : IsFilled n spare) where
       let extra = logical + place pinned h.absent in
       let all : AllPairs (λ x y. x ≢ y) (extra ∷ numbers) =
       AllPairs-cons (λ x y. x ≢ y) extra numbers
-      (λ k d within. λ e. not_absent (at k) (held_by k (omega (arith, within, long))) (sym (numbers_at k d (omega (arith, within, long))) ∙ sym e)) apart in
-      let most = length-le_from_distinct_below (extra ∷ numbers) (logical + length pinned) (IsDistinct-from_AllPairs Decides-eqb (extra ∷ numbers) all) below in
+      (λ k d within. λ e. not_absent (at k) (held_by k (omega (arith, within, long)))
+      (sym (numbers_at k d (omega (arith, within, long))) ∙ sym e)) apart in
+      let most = length-le_from_distinct_below (extra ∷ numbers) (logical + length pinned)
+      (IsDistinct-from_AllPairs Decides-eqb (extra ∷ numbers) all) below in
       omega (arith, most, long)
     where
       numbers_low : (x : ℕ) → Contains numbers x → x < logical + length pinned
       numbers_low x i =
           let low : i.0 < count = omega (arith, i.1, long) in
-          subst (λ y. y < logical + length pinned) (sym (numbers_at i.0 x low) ∙ i.2) (number_low (at i.0) (held_by i.0 low))
+          subst (λ y. y < logical + length pinned) (sym (numbers_at i.0 x low) ∙ i.2)
+          (number_low (at i.0) (held_by i.0 low))
 
-      below : (q : ℕ) → list_any (eqb q) ((logical + place pinned h.absent) ∷ numbers) ≡ true → q < logical + length pinned
+      below : (q : ℕ) → list_any (eqb q) ((logical + place pinned h.absent) ∷ numbers) ≡ true →
+          q < logical + length pinned
       below q e =
           let any = any_of (eqb q) ((logical + place pinned h.absent) ∷ numbers) e in
           let same : q ≡ any.0 = eqb-true q any.0 any.2 in

@@ -16,7 +16,8 @@ pub looks_none : (s : FlashState) → Looks s s 0 false
 looks_none s = record { moment = refl; carries = Carries-nothing s; all = refl; some = tt }
 
 -- one read that was done
-pub looks_once : (s s1 : FlashState) (at : ℕ) (bytes spare : List ℕ) (r : Result Seen Broken) (how : Seen) → Reads s s1 at bytes spare r → r ≡ Ok how →
+pub looks_once : (s s1 : FlashState) (at : ℕ) (bytes spare : List ℕ) (r : Result Seen Broken) (how : Seen) →
+    Reads s s1 at bytes spare r → r ≡ Ok how →
     Looks s s1 1 false
 looks_once s s1 at bytes spare r how e ok =
     let done : Reads s s1 at bytes spare (Ok how) = subst (Reads s s1 at bytes spare) ok e in
@@ -32,7 +33,8 @@ one_or_none true n m e = (1, omega arith, e)
 one_or_none false n m e = (0, omega arith, e)
 
 -- and one that was broken
-pub looks_broken : (s s1 : FlashState) (at : ℕ) (bytes spare : List ℕ) (r : Result Seen Broken) (x : Broken) → Reads s s1 at bytes spare r → r ≡ Err x →
+pub looks_broken : (s s1 : FlashState) (at : ℕ) (bytes spare : List ℕ) (r : Result Seen Broken) (x : Broken) →
+    Reads s s1 at bytes spare r → r ≡ Err x →
     Looks s s1 1 true
 looks_broken s s1 at bytes spare r x e err =
     let done : Reads s s1 at bytes spare (Err x) = subst (Reads s s1 at bytes spare) err e in
@@ -44,12 +46,18 @@ looks_broken s s1 at bytes spare r x e err =
     }
 
 -- reads one after another
-looks_then : (a b c : FlashState) (k : ℕ) (broken : Bool) → Looks a b k false → Looks b c 1 broken → Looks a c (k + 1) broken
+looks_then : (a b c : FlashState) (k : ℕ) (broken : Bool) → Looks a b k false → Looks b c 1 broken →
+    Looks a c (k + 1) broken
 looks_then a b c k true ab bc = record {
   moment = bc.moment ∙ ab.moment;
   carries = Carries-then a b c true ab.carries bc.carries;
   all = tt;
-  some = (k + bc.some.0, omega (arith, bc.some.1), bc.some.2 ∙ ap (reads_after bc.some.0) ab.all ∙ reads_then k bc.some.0 a.reads);
+  some = (
+    k + bc.some.0,
+    omega (arith, bc.some.1),
+    bc.some.2 ∙ ap (reads_after bc.some.0) ab.all
+        ∙ reads_then k bc.some.0 a.reads,
+  );
 }
 looks_then a b c k false ab bc = record {
   moment = bc.moment ∙ ab.moment;
@@ -105,15 +113,18 @@ read_none n s first =
       blanks = ap (λ k. list_all (test_blank s.image) (range_with_len first k)) (sym none);
     }
 
-module _ (n : IndexState) (old now : FlashState) (first at : ℕ) (x y : Bool) (h : ReadSoFar n old now first at x y) (c : FlashState) (bytes spare : List ℕ)
+module _ (n : IndexState) (old now : FlashState) (first at : ℕ) (x y : Bool) (h : ReadSoFar n old now first at x y)
+    (c : FlashState) (bytes spare : List ℕ)
     (r : Result Seen Broken) (reads : Reads now c at bytes spare r) where
   -- a read that is broken ends it
   pub read_broken : (most : ℕ) (e : Broken) → r ≡ Err e → first ≤ at → at < first + most → Looks old c most true
   read_broken most e is low high =
-      looks_fewer old c (at - first + 1) most (omega arith) (looks_then old now c (at - first) true h.looks (looks_broken now c at bytes spare r e reads is))
+      looks_fewer old c (at - first + 1) most (omega arith)
+      (looks_then old now c (at - first) true h.looks (looks_broken now c at bytes spare r e reads is))
 
   -- and one that is done goes on
-  pub read_more : (how : Seen) → r ≡ Ok how → first ≤ at → (e b : Bool) → e ≡ reads_alike how (seen_as (note_at n.notes at)) → b ≡ reads_blank how →
+  pub read_more : (how : Seen) → r ≡ Ok how → first ≤ at → (e b : Bool) →
+      e ≡ reads_alike how (seen_as (note_at n.notes at)) → b ≡ reads_blank how →
       ReadSoFar n old c first (at + 1) (x && e) (y && b)
   read_more how is low e b same none =
       let done : Reads now c at bytes spare (Ok how) = subst (Reads now c at bytes spare) is reads in
@@ -122,12 +133,15 @@ module _ (n : IndexState) (old now : FlashState) (first at : ℕ) (x y : Bool) (
       let here : first + (at - first) ≡ at = omega arith in
       let next : at - first + 1 ≡ at + 1 - first = omega arith in
       let e_is : e ≡ test_noted n old.image (first + (at - first)) =
-      same ∙ ap (λ q. reads_alike q (seen_as (note_at n.notes at))) shows ∙ alike (note_at n.notes at) (slot_at old.image at)
+      same ∙ ap (λ q. reads_alike q (seen_as (note_at n.notes at))) shows
+      ∙ alike (note_at n.notes at) (slot_at old.image at)
       ∙ ap (test_noted n old.image) (sym here) in
-      let b_is : b ≡ test_blank old.image (first + (at - first)) = none ∙ ap reads_blank shows ∙ blank_reads (slot_at old.image at)
+      let b_is : b ≡ test_blank old.image (first + (at - first)) = none ∙ ap reads_blank shows
+      ∙ blank_reads (slot_at old.image at)
       ∙ ap (test_blank old.image) (sym here) in
       record {
-        looks = subst (λ k. Looks old c k false) next (looks_then old now c (at - first) false h.looks (looks_once now c at bytes spare r how reads is));
+        looks = subst (λ k. Looks old c k false) next (looks_then old now c (at - first) false h.looks
+            (looks_once now c at bytes spare r how reads is));
         noted = ap₂ (λ p q. p && q) h.noted e_is ∙ sym (range_push (test_noted n old.image) first (at - first))
             ∙ ap (λ k. list_all (test_noted n old.image) (range_with_len first k)) next;
         blanks = ap₂ (λ p q. p && q) h.blanks b_is ∙ sym (range_push (test_blank old.image) first (at - first))
@@ -139,10 +153,12 @@ pub record AllRead (n : IndexState) (old now : FlashState) (block : ℕ) (x y : 
   pub read : ReadsBlock n old.image block (record { as_noted = x; blank = y })
   pub looks : Looks old now n.config.pages_per_block false
 
-pub read_all : (n : IndexState) (old now : FlashState) (block at : ℕ) (x y : Bool) (pages : ℕ) → pages ≡ n.config.pages_per_block → at ≡ block * pages + pages →
+pub read_all : (n : IndexState) (old now : FlashState) (block at : ℕ) (x y : Bool) (pages : ℕ) →
+    pages ≡ n.config.pages_per_block → at ≡ block * pages + pages →
     ReadSoFar n old now (block * pages) at x y → AllRead n old now block x y
 read_all n old now block at x y pages same =
-    subst (λ k. at ≡ block * k + k → ReadSoFar n old now (block * k) at x y → AllRead n old now block x y) (sym same) (λ end h.
+    subst (λ k. at ≡ block * k + k → ReadSoFar n old now (block * k) at x y → AllRead n old now block x y)
+    (sym same) (λ end h.
     let per = n.config.pages_per_block in
     let count : at - block * per ≡ per = omega arith in
     record {
@@ -154,11 +170,13 @@ read_all n old now block at x y pages same =
     })
 
 -- a slot of the block is a slot of the flash
-pub in_block : (n : IndexState) (block at pages : ℕ) → block < blocks_of (shape_of n.config) → pages ≡ n.config.pages_per_block → at < block * pages + pages →
+pub in_block : (n : IndexState) (block at pages : ℕ) → block < blocks_of (shape_of n.config) →
+    pages ≡ n.config.pages_per_block → at < block * pages + pages →
     at < slots_of (shape_of n.config)
 in_block n block at pages below same high =
     let within = block_within (shape_of n.config) block below in
-    let low : at < block * n.config.pages_per_block + n.config.pages_per_block = subst (λ k. at < block * k + k) same high in
+    let low : at < block * n.config.pages_per_block + n.config.pages_per_block =
+    subst (λ k. at < block * k + k) same high in
     omega (arith, within, low)
 
 -- a slot that is noted as complete holds a record

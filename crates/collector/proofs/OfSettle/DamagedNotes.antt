@@ -3,7 +3,8 @@ use Rattle.collector.proofs.Common.{◌≡◌, ℕ, ◌<◌, true, length, refl,
 use Rattle.version_index.proofs.OfTables.FoundIn.{found_in_damaged}
 
 -- a damaged slot that was blank changes nothing of what is preserved
-pub damaged_preserves : (n : IndexState) (at : ℕ) → at < length n.notes → note_at n.notes at ≡ Blank → Preserves n (damaged_at n at)
+pub damaged_preserves : (n : IndexState) (at : ℕ) → at < length n.notes → note_at n.notes at ≡ Blank →
+    Preserves n (damaged_at n at)
 unfolding current_of held_of
 damaged_preserves n at within was =
     let same = found_in_damaged n.notes at within was in

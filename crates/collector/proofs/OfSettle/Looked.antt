@@ -15,5 +15,6 @@ pub reads_then : (k j reads : ℕ) → reads_after j (reads_after k reads) ≡ r
 reads_then zero j reads = ap (λ m. reads_after m reads) (let e : j ≡ 0 + j = omega arith in e)
 reads_then (suc k) zero reads = ap (λ m. reads_after m reads) (let e : suc k ≡ suc k + 0 = omega arith in e)
 reads_then (suc k) (suc j) reads =
-    reads_some (suc j) (reads_after (suc k) reads) (omega arith) ∙ ap (counted_by (suc j)) (reads_some (suc k) reads (omega arith))
+    reads_some (suc j) (reads_after (suc k) reads) (omega arith)
+    ∙ ap (counted_by (suc j)) (reads_some (suc k) reads (omega arith))
     ∙ counted_by-twice (suc k) (suc j) reads ∙ sym (reads_some (suc k + suc j) reads (omega arith))

@@ -39,7 +39,8 @@ are_there l (n ∷ ns) = elim (cases_Bool (is_present l n)) [
   ]
 ]
 
-module _ (n : IndexState) (noted : IsNoted n.config.protocol n) (partial : PartialWriteLaw n.config.protocol) (completing : CompletingWriteLaw n.config.protocol)
+module _ (n : IndexState) (noted : IsNoted n.config.protocol n) (partial : PartialWriteLaw n.config.protocol)
+    (completing : CompletingWriteLaw n.config.protocol)
     (at : ℕ) (rec : Rec) (within : at < length n.notes) (was : note_at n.notes at ≡ Blank)
     (t : BlocksState) (take : CanTakeOwn n t rec) (out : is_outside (shape_of n.config) t.spare at ≡ true)
     (noted' : IsNoted n.config.protocol (programmed n at rec)) where
@@ -78,7 +79,8 @@ module _ (n : IndexState) (noted : IsNoted n.config.protocol n) (partial : Parti
   stays_out name h =
       let f = found_named (left keep old) name h in
       let parts = from_filter (λ f. keep f.slot.0) f.0 old f.1 in
-      present_as (left keep more) f.0 name (in_filter (λ f. keep f.slot.0) f.0 more (in_inserted old more (found at rec) added f.0 parts.0) parts.1) f.2
+      present_as (left keep more) f.0 name (in_filter (λ f. keep f.slot.0) f.0 more
+      (in_inserted old more (found at rec) added f.0 parts.0) parts.1) f.2
 
   -- the new record is outside it
   new_out : is_present (left keep more) (name_of rec) ≡ true
@@ -86,17 +88,21 @@ module _ (n : IndexState) (noted : IsNoted n.config.protocol n) (partial : Parti
       (in_filter (λ f. keep f.slot.0) (found at rec) more (new_in old more (found at rec) added) out) refl
 
   -- a record of the transaction that was there has a slot outside
-  own_out : (f : Found) → Contains old f → Contains names (name_of f.rec) → is_present (left keep more) (name_of f.rec) ≡ true
+  own_out : (f : Found) → Contains old f → Contains names (name_of f.rec) →
+      is_present (left keep more) (name_of f.rec) ≡ true
   own_out f i named =
       stays_out (name_of f.rec)
-      (All-contains (λ name. is_present old name ≡ true → is_present (left keep old) name ≡ true) names (name_of f.rec) take.outside named
+      (All-contains (λ name. is_present old name ≡ true → is_present (left keep old) name ≡ true) names (name_of f.rec)
+      take.outside named
       (present_as old f (name_of f.rec) i refl))
 
-  old_out : (f : Found) → Contains old f → CanSpare n t.spare → is_wanted p old n.config.logical (pinned_names n.pins) f.rec ≡ true →
+  old_out : (f : Found) → Contains old f → CanSpare n t.spare →
+      is_wanted p old n.config.logical (pinned_names n.pins) f.rec ≡ true →
       is_present (left keep more) (name_of f.rec) ≡ true
   old_out f i spared w =
       stays_out (name_of f.rec)
-      (All-contains (λ f. is_wanted p old n.config.logical (pinned_names n.pins) f.rec ≡ true → is_present (left keep old) (name_of f.rec) ≡ true) old f spared
+      (All-contains (λ f. is_wanted p old n.config.logical (pinned_names n.pins) f.rec ≡ true →
+      is_present (left keep old) (name_of f.rec) ≡ true) old f spared
       i w)
 
   page_within : (f : Found) → Contains old f → f.rec.page < n.config.logical
@@ -104,16 +110,22 @@ module _ (n : IndexState) (noted : IsNoted n.config.protocol n) (partial : Parti
 
   -- where the cycle stays open
   open_case : PartialWriteKeeps p old more n.config.logical names → CanSpare n t.spare → (f : Found) → Contains old f →
-      is_wanted p more n.config.logical (pinned_names n.pins) f.rec ≡ true → is_present (left keep more) (name_of f.rec) ≡ true
-  open_case kept spared f i w = old_out f i spared (elim (wanted_cases p more n.config.logical (pinned_names n.pins) f.rec w) [
-    | inl current ↦ counted_wanted p old n.config.logical (pinned_names n.pins) f.rec (inl (current ∙ kept.same_current f.rec.page (page_within f i)))
-    | inr (inl held) ↦ counted_wanted p old n.config.logical (pinned_names n.pins) f.rec (inr (sym (kept.same_held f.rec) ∙ held))
-    | inr (inr pin) ↦ pinned_wanted p old n.config.logical (pinned_names n.pins) f.rec pin
-  ])
+      is_wanted p more n.config.logical (pinned_names n.pins) f.rec ≡ true →
+      is_present (left keep more) (name_of f.rec) ≡ true
+  open_case kept spared f i w = old_out f i spared
+      (elim (wanted_cases p more n.config.logical (pinned_names n.pins) f.rec w) [
+        | inl current ↦ counted_wanted p old n.config.logical (pinned_names n.pins) f.rec
+            (inl (current ∙ kept.same_current f.rec.page (page_within f i)))
+        | inr (inl held) ↦ counted_wanted p old n.config.logical (pinned_names n.pins) f.rec
+            (inr (sym (kept.same_held f.rec) ∙ held))
+        | inr (inr pin) ↦ pinned_wanted p old n.config.logical (pinned_names n.pins) f.rec pin
+      ])
 
   -- where it is completed, and the record is current then
-  current_case : CompletingWriteKeeps p old more n.config.logical names → CanSpare n t.spare → (f : Found) → Contains old f →
-      IsCurrent p more n.config.logical f.rec → OfPages names f.rec.page → is_present (left keep more) (name_of f.rec) ≡ true
+  current_case : CompletingWriteKeeps p old more n.config.logical names → CanSpare n t.spare → (f : Found) →
+      Contains old f →
+      IsCurrent p more n.config.logical f.rec → OfPages names f.rec.page →
+      is_present (left keep more) (name_of f.rec) ≡ true
   current_case kept spared f i current (one name named is) =
       let version : f.rec.version ≡ name.version =
       current ∙ ap (cur p more n.config.logical) (sym is)
@@ -123,30 +135,43 @@ module _ (n : IndexState) (noted : IsNoted n.config.protocol n) (partial : Parti
       own_out f i (subst (Contains names) (sym same) named)
   current_case kept spared f i current (none other) =
       let away = all_from (λ name. name.page ≢ f.rec.page) names other in
-      old_out f i spared (counted_wanted p old n.config.logical (pinned_names n.pins) f.rec (inl (current ∙ kept.elsewhere f.rec.page (page_within f i) away)))
+      old_out f i spared (counted_wanted p old n.config.logical (pinned_names n.pins) f.rec
+      (inl (current ∙ kept.elsewhere f.rec.page (page_within f i) away)))
 
-  whole_case : CompletingWriteKeeps p old more n.config.logical names → CanSpare n t.spare → (f : Found) → Contains old f →
-      is_wanted p more n.config.logical (pinned_names n.pins) f.rec ≡ true → is_present (left keep more) (name_of f.rec) ≡ true
+  whole_case : CompletingWriteKeeps p old more n.config.logical names → CanSpare n t.spare → (f : Found) →
+      Contains old f →
+      is_wanted p more n.config.logical (pinned_names n.pins) f.rec ≡ true →
+      is_present (left keep more) (name_of f.rec) ≡ true
   whole_case kept spared f i w = elim (wanted_cases p more n.config.logical (pinned_names n.pins) f.rec w) [
     | inl current ↦ current_case kept spared f i current (of_pages names f.rec.page)
     | inr (inl held) ↦ elim (kept.held f.rec held) [
-      | inl was_held ↦ old_out f i spared (counted_wanted p old n.config.logical (pinned_names n.pins) f.rec (inr was_held))
+      | inl was_held ↦ old_out f i spared (counted_wanted p old n.config.logical (pinned_names n.pins) f.rec
+          (inr was_held))
       | inr named ↦ own_out f i named
     ]
     | inr (inr pin) ↦ old_out f i spared (pinned_wanted p old n.config.logical (pinned_names n.pins) f.rec pin)
   ]
 
   each_out : AreThere more names → CanSpare n t.spare → (f : Found) → Contains old f →
-      is_wanted p more n.config.logical (pinned_names n.pins) f.rec ≡ true → is_present (left keep more) (name_of f.rec) ≡ true
+      is_wanted p more n.config.logical (pinned_names n.pins) f.rec ≡ true →
+      is_present (left keep more) (name_of f.rec) ≡ true
   each_out (all there) spared =
-      whole_case (completing old more n.config.logical names (found at rec) noted.sound write (all_from (λ name. is_present more name ≡ true) names there))
+      whole_case (completing old more n.config.logical names (found at rec) noted.sound write
+      (all_from (λ name. is_present more name ≡ true) names there))
       spared
   each_out (missing name named absent) spared =
-      open_case (partial old more n.config.logical names (found at rec) noted.sound write (named.0, name, named.1, named.2, absent)) spared
+      open_case (partial old more n.config.logical names (found at rec) noted.sound write (
+        named.0,
+        name,
+        named.1,
+        named.2,
+        absent,
+      )) spared
 
   pub programmed_spared : CanSpare n t.spare → CanSpare (programmed n at rec) t.spare
   programmed_spared spared =
-      all_from (λ f. is_wanted p more n.config.logical (pinned_names n.pins) f.rec ≡ true → is_present (left keep more) (name_of f.rec) ≡ true) more
+      all_from (λ f. is_wanted p more n.config.logical (pinned_names n.pins) f.rec ≡ true →
+      is_present (left keep more) (name_of f.rec) ≡ true) more
       (λ f i w. elim (inserted_in old more (found at rec) added f i) [
         | inl new ↦ subst (λ (g : Found). is_present (left keep more) (name_of g.rec) ≡ true) new new_out
         | inr j ↦ each_out (are_there more names) spared f j w

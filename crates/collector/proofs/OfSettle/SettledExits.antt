@@ -8,7 +8,8 @@ use Rattle.collector.specs.Matches.{IsPlace}
 use Rattle.collector.proofs.OfNotes.SureCounts.{sure_counts}
 
 -- a call that leaves image and shape leaves what matches
-pub matches_still : (s s' : FlashState) (n : IndexState) (t : BlocksState) (u : Unsure) → s'.shape ≡ s.shape → s'.image ≡ s.image → Matches s n t u → Matches s' n t u
+pub matches_still : (s s' : FlashState) (n : IndexState) (t : BlocksState) (u : Unsure) → s'.shape ≡ s.shape →
+    s'.image ≡ s.image → Matches s n t u → Matches s' n t u
 matches_still s s' n t u shape image m = record {
   shape = shape ∙ m.shape;
   flash = subst (λ i. IsImage s'.shape i) (sym image) (subst (λ sh. IsImage sh s.image) (sym shape) m.flash);
@@ -21,7 +22,8 @@ matches_still s s' n t u shape image m = record {
   spare = m.spare;
   sure = λ slot within sure.
       subst (λ i. IsNotedAt i n slot) (sym image)
-      (m.sure slot (omega (arith, within, ap slots_of shape)) (ap (λ sh. is_unsure sh t.spare u slot) (sym shape) ∙ sure));
+      (m.sure slot (omega (arith, within, ap slots_of shape)) (ap (λ sh. is_unsure sh t.spare u slot) (sym shape)
+      ∙ sure));
   place = subst (λ i. IsPlace i n t u) (sym image) m.place;
   spared = m.spared;
   victim = m.victim;
@@ -51,33 +53,40 @@ matches_surely s n t u m place = record {
   free = m.free;
 }
 
-pub damaged_spared : (n : IndexState) (at block : ℕ) → at < length n.notes → note_at n.notes at ≡ Blank → CanSpare n block → CanSpare (damaged_at n at) block
+pub damaged_spared : (n : IndexState) (at block : ℕ) → at < length n.notes → note_at n.notes at ≡ Blank →
+    CanSpare n block → CanSpare (damaged_at n at) block
 damaged_spared n at block within was spared =
     subst (λ l. IsDispensable n.config.protocol l n.config.logical (pinned_names n.pins) (shape_of n.config) block)
     (sym (found_in_damaged n.notes at within was)) spared
 
 -- the one slot that was unsure is noted as it reads
-module _ (s : FlashState) (n : IndexState) (t t' : BlocksState) (u : Unsure) (m : Matches s n t u) (at : ℕ) (within : at < slots_of s.shape)
+module _ (s : FlashState) (n : IndexState) (t t' : BlocksState) (u : Unsure) (m : Matches s n t u) (at : ℕ)
+    (within : at < slots_of s.shape)
     (only : (slot : ℕ) → is_unsure s.shape t.spare u slot ≡ true → slot ≡ at)
-    (note : Note) (ms : List ℕ) (noted : IsNoted n.config.protocol (record n { notes = set n.notes at note; mentions = ms }))
+    (note : Note) (ms : List ℕ) (noted : IsNoted n.config.protocol
+    (record n { notes = set n.notes at note; mentions = ms }))
     (reads : note ≡ note_of n.config.protocol (slot_at s.image at)) where
   long : at < length n.notes
   long = omega (arith, within, m.noted.slots, ap slots_of m.shape)
 
-  sure_now : (slot : ℕ) → slot < slots_of s.shape → IsNotedAt s.image (record n { notes = set n.notes at note; mentions = ms }) slot
+  sure_now : (slot : ℕ) → slot < slots_of s.shape →
+      IsNotedAt s.image (record n { notes = set n.notes at note; mentions = ms }) slot
   sure_now slot low = elim (cases_Bool (slot == at)) [
-    | inl here ↦ subst (λ k. note_at (set n.notes at note) k ≡ note_of n.config.protocol (slot_at s.image k)) (sym (eqb-true slot at here))
+    | inl here ↦ subst (λ k. note_at (set n.notes at note) k ≡ note_of n.config.protocol (slot_at s.image k))
+        (sym (eqb-true slot at here))
         (get_or-set_same n.notes at note Blank long ∙ reads)
     | inr other ↦ get_or-set_other n.notes at slot note Blank (eqb-false slot at other)
         ∙ sure_other slot low (cases_Bool (is_unsure s.shape t.spare u slot)) other
   ]
     where
-      sure_other : (slot : ℕ) → slot < slots_of s.shape → (is_unsure s.shape t.spare u slot ≡ true) ⊎ (is_unsure s.shape t.spare u slot ≡ false) →
+      sure_other : (slot : ℕ) → slot < slots_of s.shape → (is_unsure s.shape t.spare u slot ≡ true)
+          ⊎ (is_unsure s.shape t.spare u slot ≡ false) →
           (slot == at) ≡ false → IsNotedAt s.image n slot
       sure_other slot low (inl un) other = absurd (eqb-false slot at other (only slot un))
       sure_other slot low (inr sure) other = m.sure slot low sure
 
-  pub settled_slot : IsBlocksState t' → t'.shape ≡ t.shape → t'.spare ≡ t.spare → ((slot : ℕ) → IsFree t' slot → IsFree t slot × (slot ≢ at)) →
+  pub settled_slot : IsBlocksState t' → t'.shape ≡ t.shape → t'.spare ≡ t.spare →
+      ((slot : ℕ) → IsFree t' slot → IsFree t slot × (slot ≢ at)) →
       CanSpare (record n { notes = set n.notes at note; mentions = ms }) t.spare →
       Matches s (record n { notes = set n.notes at note; mentions = ms }) t' unsure.Nothing
   settled_slot table shape spare free spared = record {
@@ -85,7 +94,8 @@ module _ (s : FlashState) (n : IndexState) (t t' : BlocksState) (u : Unsure) (m 
     flash = m.flash;
     sound = m.sound;
     noted = noted;
-    counts = sure_counts s (record n { notes = set n.notes at note; mentions = ms }) m.shape m.flash m.sound noted.slots (λ slot low. sure_now slot low);
+    counts = sure_counts s (record n { notes = set n.notes at note; mentions = ms }) m.shape m.flash m.sound noted.slots
+        (λ slot low. sure_now slot low);
     table = table;
     blocks = shape ∙ m.blocks;
     spare = m.spare ∙ ap Some (sym spare);
@@ -97,7 +107,8 @@ module _ (s : FlashState) (n : IndexState) (t t' : BlocksState) (u : Unsure) (m 
   }
 
 -- a slot that is used is free no more, and those that are free were free
-pub free_with_slot : (t : BlocksState) → IsBlocksState t → (at : ℕ) → IsFree t at → (slot : ℕ) → IsFree (with_slot t at) slot → IsFree t slot × (slot ≢ at)
+pub free_with_slot : (t : BlocksState) → IsBlocksState t → (at : ℕ) → IsFree t at → (slot : ℕ) →
+    IsFree (with_slot t at) slot → IsFree t slot × (slot ≢ at)
 free_with_slot t h at free slot f = elim (cases_Bool (block_of_slot t.shape slot == block_of_slot t.shape at)) [
   | inr other ↦
       (let apart = eqb-false (block_of_slot t.shape slot) (block_of_slot t.shape at) other in
@@ -113,9 +124,11 @@ free_with_slot t h at free slot f = elim (cases_Bool (block_of_slot t.shape slot
         λ e. apart (ap (block_of_slot t.shape) e),
       ))
   | inl here ↦
-      (let block : block_of_slot t.shape slot ≡ block_of_slot t.shape at = eqb-true (block_of_slot t.shape slot) (block_of_slot t.shape at) here in
+      (let block : block_of_slot t.shape slot ≡ block_of_slot t.shape at = eqb-true (block_of_slot t.shape slot)
+      (block_of_slot t.shape at) here in
       let same = use_of-with_slot_same t h at free.within in
-      let used : used_of (with_slot t at) (block_of_slot t.shape slot) ≡ at % t.shape.pages_per_block + 1 = ap (used_of (with_slot t at)) block
+      let used : used_of (with_slot t at) (block_of_slot t.shape slot) ≡ at % t.shape.pages_per_block + 1 =
+      ap (used_of (with_slot t at)) block
       ∙ ap (λ (x : BlockUse). x.used) same in
       let behind : at % t.shape.pages_per_block + 1 ≤ slot % t.shape.pages_per_block = omega (arith, f.unused, used) in (
         record {
@@ -124,7 +137,8 @@ free_with_slot t h at free slot f = elim (cases_Bool (block_of_slot t.shape slot
           unused = (let low : used_of t (block_of_slot t.shape at) ≤ at % t.shape.pages_per_block = free.unused in
               subst (λ b. used_of t b ≤ slot % t.shape.pages_per_block) (sym block) (omega (arith, low, behind)));
         },
-        λ e. (let eq : slot % t.shape.pages_per_block ≡ at % t.shape.pages_per_block = ap (λ k. k % t.shape.pages_per_block) e in absurd
+        λ e. (let eq : slot % t.shape.pages_per_block
+            ≡ at % t.shape.pages_per_block = ap (λ k. k % t.shape.pages_per_block) e in absurd
             (omega (arith, eq, behind))),
       ))
 ]

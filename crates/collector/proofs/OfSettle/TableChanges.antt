@@ -24,16 +24,19 @@ slot_table t h at free =
     apart : (a b : ℕ) → (a == b) ≡ false → a ≢ b
     apart a b e same = let yes = eq-eqb a b same in cc
 
-    may : ((at % t.shape.pages_per_block + 1 == t.shape.pages_per_block) ≡ true) ⊎ ((at % t.shape.pages_per_block + 1 == t.shape.pages_per_block) ≡ false) →
+    may : ((at % t.shape.pages_per_block + 1 == t.shape.pages_per_block) ≡ true)
+        ⊎ ((at % t.shape.pages_per_block + 1 == t.shape.pages_per_block) ≡ false) →
         at % t.shape.pages_per_block < t.shape.pages_per_block →
-        MayHave t.shape.pages_per_block (if at % t.shape.pages_per_block + 1 == t.shape.pages_per_block then Shut else Part) (at % t.shape.pages_per_block + 1)
+        MayHave t.shape.pages_per_block (if at % t.shape.pages_per_block + 1 == t.shape.pages_per_block then Shut
+        else Part) (at % t.shape.pages_per_block + 1)
     may (inl full) low = rw full (omega arith)
     may (inr more) low =
         (let other = apart (at % t.shape.pages_per_block + 1) t.shape.pages_per_block more in
         rw more (omega arith, omega arith))
 
 -- a block whose first slots are used is no spare, and has as many used slots as its state allows
-may_open : (pages used : ℕ) → used ≤ pages → (open_state pages used ≢ Spare) × MayHave pages (open_state pages used) used
+may_open : (pages used : ℕ) → used ≤ pages → (open_state pages used ≢ Spare)
+    × MayHave pages (open_state pages used) used
 may_open pages used within = by (cases_Bool (used == 0)) (cases_Bool (used == pages))
   where
     apart : (a b : ℕ) → (a == b) ≡ false → a ≢ b
@@ -48,8 +51,9 @@ may_open pages used within = by (cases_Bool (used == 0)) (cases_Bool (used == pa
         let other = apart used pages more in
         rw (some, more) ((λ e. cc), (omega (arith, one), omega (arith, within, other)))
 
--- and the old spare has so many used slots
-pub table_swapped : (t : BlocksState) → IsBlocksState t → (block : ℕ) → block < blocks_of t.shape → block ≢ t.spare → (used : ℕ) →
+-- and the old spare has this many used slots
+pub table_swapped : (t : BlocksState) → IsBlocksState t → (block : ℕ) → block < blocks_of t.shape →
+    block ≢ t.spare → (used : ℕ) →
     used ≤ t.shape.pages_per_block →
     IsBlocksState (swapped t block used)
 table_swapped t h block within apart used most =

@@ -111,7 +111,7 @@ fn lost_block<R: CommitRule>(kept: &Kept<R>) -> Block {
     }
 }
 
-/// The first byte of a page in a slot, where the page is in one. Tells whether it could be said.
+/// The first byte of a page in a slot, where the page is in one. Returns whether it could be said.
 fn write_byte<R: CommitRule>(kept: &Kept<R>, at: Option<Slot>, text: &mut String) -> bool {
     match at {
         Some(at) if has_slot(kept, at) => {
@@ -123,7 +123,7 @@ fn write_byte<R: CommitRule>(kept: &Kept<R>, at: Option<Slot>, text: &mut String
     }
 }
 
-/// The first byte of each page as it reads while a block may be lost. Tells whether all could be said.
+/// The first byte of each page as it reads while a block may be lost. Returns whether all could be said.
 pub fn write_array<R: CommitRule>(kept: &Kept<R>, text: &mut String) -> bool {
     let lost = lost_block(kept);
     if !has_block(&kept.index, lost) {

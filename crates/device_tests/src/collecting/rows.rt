@@ -21,7 +21,7 @@ fn reads_as<R: CommitRule>(alloc: Global, kept: &Kept<R>, before: &str) -> bool 
     write_array(kept, &mut now) && now.as_str() == before
 }
 
-/// Takes steps one after another, and says how each was answered. Tells whether the pages read the same all the
+/// Takes steps one after another, and says how each was answered. Returns whether the pages read the same all the
 /// while.
 fn are_taken<R: CommitRule>(
     alloc: Global,

@@ -2,9 +2,9 @@
 
 ghost use Rattle.std.specs.Prelude.{◌≡◌, ◌<◌, IfSome, IsTrue, Ok};
 ghost use Rattle.tx_types.specs.Config.{checked, shape_of, blocks_of};
+ghost use Rattle.mem_flash.specs.MemFlashState.{state_of};
 ghost use Rattle.version_index.specs.IndexState.{IndexState};
 ghost use Rattle.die_alloc.specs.BlocksState.{BlocksState};
-ghost use Rattle.mem_flash.specs.MemFlashState.{state_of};
 ghost use Rattle.collector.specs.Collecting.{HasUnneeded};
 ghost use Rattle.collector.specs.Matches.{Matches, CanTake};
 
@@ -38,7 +38,7 @@ pub fn opened<R: CommitRule>(alloc: Global, mut flash: MemFlash, config: Config)
     ensures config { IfSome result (λ kept. kept.index.config ≡ config) }
 {
     theorems::opened_tables_match();
-    // The proof reads from this use that the flash is whole.
+    // For the proof: the flash is whole.
     let _ = flash.shape();
     match recover::<MemFlash, R>(alloc, &mut flash, config) {
         Ok((index, blocks)) => Some(Kept {
@@ -93,7 +93,7 @@ fn told(answered: bool) -> char {
     if answered { '+' } else { '-' }
 }
 
-/// Sets the arm that a step says, with its count from 1: `cut 1 bad`, `fault 2 all`, `badread 1`. Tells whether it
+/// Sets the arm that a step says, with its count from 1: `cut 1 bad`, `fault 2 all`, `badread 1`. Returns whether it
 /// says one.
 fn is_armed(flash: &mut MemFlash, step: &str) -> bool
     ensures shape { flash.new.shape ≡ flash.old.shape }
@@ -134,8 +134,8 @@ fn answer<R: CommitRule>(alloc: Global, kept: &mut Kept<R>, step: &str) -> char
     }
 }
 
-/// Takes one step. Says of a call whether it was answered (`+`) or broken (`-`), or what, and of one that can't be
-/// made that it can't. Tells whether there was memory.
+/// Takes one step. Says of a call whether it was answered (`+`) or broken (`-`), or what, and of one that can't be made
+/// that it can't. Returns whether there was memory.
 pub fn take<R: CommitRule>(alloc: Global, kept: &mut Kept<R>, step: &str, text: &mut String) -> bool
     requires matches { Matches (state_of kept.old.flash)
         kept.old.index kept.old.blocks kept.old.unsure }

@@ -32,7 +32,7 @@ const BY_CYCLES: &str =
     "0 0.1 4.1 0 1, 1 1.1 1.1 0 2, 2 2.1 2.1 0 3, 3 3.1 3.1 0 4, 4 1.1 1.1 0 2, \
     5 damaged, 6 2.2 2.2 0 5, 8 2.1 2.1 0 3";
 
-/// The same with a record that is held: version 2 of page 1, which says that version 1 of page 0
+/// Slots as `BY_CYCLES` has them, with a record that is held: version 2 of page 1, which says that version 1 of page 0
 /// counts for nothing.
 const BY_BACK_POINTERS: &str =
     "0 0.1 1.1 0 1, 1 1.2 1.2 0 2, 2 2.1 2.1 0 3, 3 3.1 3.1 0 4, 4 1.3 1.3 2 6, \

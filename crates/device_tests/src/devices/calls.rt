@@ -23,7 +23,7 @@ fn fault_word<F: Flash, R: CommitRule>(device: &Device<F, R>) -> &'static str {
 }
 
 /// Adds to a batch the page and the first byte that a word says, as `3=255` does. The rest of the page is zeros.
-/// Tells whether it could.
+/// Returns whether it could.
 fn is_added(batch: &mut Batch, word: &str) -> bool {
     let (page, byte) = word.split_once('=').unwrap_or((word, ""));
     match byte.parse::<u8>() {
@@ -32,7 +32,7 @@ fn is_added(batch: &mut Batch, word: &str) -> bool {
     }
 }
 
-/// Adds to a batch the pages that a text says. Tells whether it could.
+/// Adds to a batch the pages that a text says. Returns whether it could.
 fn are_added(batch: &mut Batch, pages: &str) -> bool {
     if pages.is_empty() {
         return true;
@@ -155,7 +155,7 @@ fn answer_with<F: Retire, R: CommitRule>(
     }
 }
 
-/// Sets an arm with its count from 1, where the call is one. Tells whether it is.
+/// Sets an arm with its count from 1, where the call is one. Returns whether it is.
 fn is_armed<F: Arms, R: CommitRule>(device: &mut Device<F, R>, name: &str, words: &str) -> bool
     requires kept { device.old.dropped ≡ false }
     ensures kept { device.new.dropped ≡ false }

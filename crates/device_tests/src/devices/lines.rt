@@ -15,7 +15,7 @@ use scc_commit::Scc;
 use std::alloc::Global;
 use tx_types::{Config, Protocol};
 
-/// A device over a new flash that allows so many blocks to be retired serves calls. Tells whether it could.
+/// A device over a new flash that allows this many blocks to be retired serves calls. Returns whether it could.
 fn is_served<R: CommitRule>(
     alloc: Global,
     config: Config,
@@ -38,7 +38,7 @@ fn is_served<R: CommitRule>(
     }
 }
 
-/// Whether the calls of a line, of a device over a new flash that allows so many blocks to be retired, are answered
+/// Whether the calls of a line, of a device over a new flash that allows this many blocks to be retired, are answered
 /// as it says behind `=>`.
 fn are_answered(alloc: Global, config: Config, allowance: u32, line: &str) -> bool
     requires { checked config ≡ Ok (shape_of config) }

@@ -62,7 +62,7 @@ fn again<F: Power + Drop, R: CommitRule>(
     }
 }
 
-/// All open transactions go on together. Tells whether that met no power cut and no fault.
+/// All open transactions go on together. Returns whether that met no power cut and no fault.
 fn go_on<F: Wide, R: CommitRule>(device: &mut Device<F, R>, answers: &mut Answers) -> bool
     requires kept { device.old.dropped ≡ false }
     ensures kept { IsTrue result → device.new.dropped ≡ false }
@@ -79,7 +79,7 @@ fn go_on<F: Wide, R: CommitRule>(device: &mut Device<F, R>, answers: &mut Answer
     }
 }
 
-/// Makes one call. Tells whether the device goes on: power is on, and it was neither dropped nor ended.
+/// Makes one call. Returns whether the device goes on: power is on, and it was neither dropped nor ended.
 fn goes_on<F: Arms + Retire + Wide, R: CommitRule>(
     alloc: Global,
     device: &mut Device<F, R>,
@@ -119,7 +119,7 @@ fn next<F: Arms + Power + Retire + Wide + Drop, R: CommitRule>(
 }
 
 /// Makes the calls of a text, and says what they answer. `stepall` has all open transactions go on together, and
-/// `mount` ends the device and mounts its flash. Tells whether the device could always be mounted.
+/// `mount` ends the device and mounts its flash. Returns whether the device could always be mounted.
 pub fn serve<F: Arms + Power + Retire + Wide + Drop, R: CommitRule>(
     alloc: Global,
     device: Device<F, R>,

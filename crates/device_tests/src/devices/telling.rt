@@ -40,7 +40,7 @@ impl Answers {
         }
     }
 
-    /// Says an answer, or the first word of it.
+    /// Appends an answer, or the first word of it.
     pub fn say(&mut self, answer: &str) {
         if !self.text.is_empty() {
             self.push("; ");
@@ -56,7 +56,7 @@ impl Answers {
     }
 }
 
-/// Says why a transaction was not opened.
+/// Appends why a transaction was not opened.
 pub fn say_refusal(answers: &mut Answers, refusal: SubmitError) {
     match refusal {
         SubmitError::Empty => answers.say("empty"),
@@ -72,13 +72,13 @@ pub fn say_refusal(answers: &mut Answers, refusal: SubmitError) {
     }
 }
 
-/// Says a word and a number.
+/// Appends a word and a number.
 fn say_number(answers: &mut Answers, word: &str, number: u32) {
     answers.say(word);
     answers.put(" ", u64::from(number));
 }
 
-/// Says what a step answered. A fault is told by the word given.
+/// Appends what a step answered. A fault is told by the word given.
 pub fn say_step(answers: &mut Answers, answer: Result<Progress, StepError>, fault: &str) {
     match answer {
         Ok(Progress::Wrote { done, all }) => {
@@ -91,7 +91,7 @@ pub fn say_step(answers: &mut Answers, answer: Result<Progress, StepError>, faul
     }
 }
 
-/// Says what an abort answered.
+/// Appends what an abort answered.
 pub fn say_aborted(answers: &mut Answers, answer: Result<Aborted, StepError>, fault: &str) {
     answers.say(match answer {
         Ok(Aborted::Gone) => "gone",
@@ -101,7 +101,7 @@ pub fn say_aborted(answers: &mut Answers, answer: Result<Aborted, StepError>, fa
     });
 }
 
-/// Says what a collection answered.
+/// Appends what a collection answered.
 pub fn say_collected(answers: &mut Answers, answer: Result<Collected, Fault>, fault: &str) {
     answers.say(match answer {
         Ok(Collected::One) => "collected",
@@ -110,7 +110,7 @@ pub fn say_collected(answers: &mut Answers, answer: Result<Collected, Fault>, fa
     });
 }
 
-/// Says what retiring a block answered.
+/// Appends what retiring a block answered.
 pub fn say_retired(answers: &mut Answers, answer: Result<(), RetireError>, fault: &str) {
     match answer {
         Ok(()) => answers.say("retired"),
@@ -120,13 +120,13 @@ pub fn say_retired(answers: &mut Answers, answer: Result<(), RetireError>, fault
     }
 }
 
-/// Says how many transactions went on and were finished.
+/// Appends how many transactions went on and were finished.
 pub fn say_moved(answers: &mut Answers, moved: Moved) {
     say_number(answers, "moved", moved.moved);
     answers.put(" finished ", u64::from(moved.finished));
 }
 
-/// Says the first byte of a page whose other bytes are zeros.
+/// Appends the first byte of a page whose other bytes are zeros.
 pub fn say_page(answers: &mut Answers, page: &[u8; 16]) {
     if page[1..] == [0; 15] {
         say_number(answers, "page", u32::from(page[0]));
@@ -135,7 +135,7 @@ pub fn say_page(answers: &mut Answers, page: &[u8; 16]) {
     }
 }
 
-/// Says the numbers of a device.
+/// Appends the numbers of a device.
 pub fn say_stats(answers: &mut Answers, stats: Stats) {
     answers.say("stats");
     answers.put(" written ", u64::from(stats.written));
@@ -146,7 +146,7 @@ pub fn say_stats(answers: &mut Answers, stats: Stats) {
     answers.put(" garbage ", u64::from(stats.garbage));
 }
 
-/// Says the records that a device knows: their slots, pages and versions.
+/// Appends the records that a device knows: their slots, pages and versions.
 pub fn say_found(answers: &mut Answers, list: &[Found]) {
     answers.say("records");
     for found in list {

@@ -7,7 +7,7 @@ use record_list::CommitRule;
 use tx_types::{Block, Slot};
 use version_index::Index;
 
-/// Copies the record of a slot into a blank one. Tells whether that could be.
+/// Copies the record of a slot into a blank one. Returns whether that could be.
 fn copy<R: CommitRule>(index: &mut Index<R>, from: Slot, to: Slot) -> bool {
     if !has_slot(index, from) || !is_blank(index, to) || index.rec(from).is_none() {
         return false;
@@ -16,7 +16,7 @@ fn copy<R: CommitRule>(index: &mut Index<R>, from: Slot, to: Slot) -> bool {
     true
 }
 
-/// A program into a blank slot was broken. Tells whether that could be.
+/// A program into a blank slot was broken. Returns whether that could be.
 fn damage<R: CommitRule>(index: &mut Index<R>, at: Slot) -> bool {
     if !is_blank(index, at) {
         return false;
@@ -25,7 +25,7 @@ fn damage<R: CommitRule>(index: &mut Index<R>, at: Slot) -> bool {
     true
 }
 
-/// Pins a page at a version. Tells whether there is such a page.
+/// Pins a page at a version. Returns whether there is such a page.
 fn pin<R: CommitRule>(index: &mut Index<R>, page: u32, version: u32) -> bool {
     if !has_page(index, page) {
         return false;
@@ -34,7 +34,7 @@ fn pin<R: CommitRule>(index: &mut Index<R>, page: u32, version: u32) -> bool {
     true
 }
 
-/// Unpins a page. Tells whether there is such a page.
+/// Unpins a page. Returns whether there is such a page.
 fn unpin<R: CommitRule>(index: &mut Index<R>, page: u32) -> bool {
     if !has_page(index, page) {
         return false;
@@ -43,7 +43,7 @@ fn unpin<R: CommitRule>(index: &mut Index<R>, page: u32) -> bool {
     true
 }
 
-/// Another block is the spare. Tells whether there is such a block.
+/// Another block is the spare. Returns whether there is such a block.
 fn set_spare<R: CommitRule>(index: &mut Index<R>, block: Block) -> bool {
     if !has_block(index, block) {
         return false;
@@ -52,7 +52,7 @@ fn set_spare<R: CommitRule>(index: &mut Index<R>, block: Block) -> bool {
     true
 }
 
-/// A block without records is lost, or erased. Tells whether that could be.
+/// A block without records is lost, or erased. Returns whether that could be.
 fn clear<R: CommitRule>(index: &mut Index<R>, block: Block, is_lost: bool) -> bool {
     if !has_no_record(index) || !has_block(index, block) {
         return false;
@@ -66,7 +66,7 @@ fn clear<R: CommitRule>(index: &mut Index<R>, block: Block, is_lost: bool) -> bo
 }
 
 /// Makes the change that words say, if they say one: `copy 6 9`, `damage 10`, `pin 1 3`, `unpin 1`, `spare 3`, `lost
-/// 3`, `erased 3`. Tells whether it was made.
+/// 3`, `erased 3`. Returns whether it was made.
 pub fn change<R: CommitRule>(index: &mut Index<R>, name: &str, words: &str) -> bool {
     let (first, second) = (number(words, 0), number(words, 1));
     match name {

@@ -209,7 +209,7 @@ fn is_part_right<R: CommitRule>(alloc: Global, index: &mut Index<R>, part: &str)
     change(index, name, words) || is_said(alloc, index, name, words)
 }
 
-/// Makes the changes of a line to the tables. Tells whether they are at each place as the line says there.
+/// Makes the changes of a line to the tables. Returns whether they are at each place as the line says there.
 fn is_right<R: CommitRule>(alloc: Global, index: &mut Index<R>, line: &str) -> bool {
     for part in line.split("; ") {
         if !is_part_right(alloc, index, part) {

@@ -2,9 +2,9 @@
 
 ghost use Rattle.std.specs.Prelude.{◌≡◌, ◌<◌, [], ◌∷◌, length, map, IsTrue, IfOk, Ok};
 ghost use Rattle.tx_types.specs.Config.{checked, shape_of, slots_of};
-ghost use Rattle.version_index.specs.declared.note.Note.TheVariants as note;
-ghost use Rattle.version_index.specs.Notes.{note_at, found_in, complete_slots};
 ghost use Rattle.version_index.specs.IndexState.{IsNextRecord, IsCompleteCycle};
+ghost use Rattle.version_index.specs.Notes.{note_at, found_in, complete_slots};
+ghost use Rattle.version_index.specs.declared.note.Note.TheVariants as note;
 
 use super::lines::wrong_line;
 use crate::building::{BACK_POINTER, found, has_slot, is_scanned, rec, slot_count};
@@ -184,7 +184,7 @@ fn changes_beside_it(rt: HostRuntime) {
     assert_none(&rt, wrong_in(rt.alloc(), doubled(rt.alloc()), CHANGED));
 }
 
-/// Takes a record into the array that is the only one. Tells whether that could be.
+/// Takes a record into the array that is the only one. Returns whether that could be.
 fn is_taken(index: &mut Index<Scc>, list: &[Found], name: Link) -> bool
     requires { list.now ≡ found_in index.old.notes }
 {
@@ -196,7 +196,7 @@ fn is_taken(index: &mut Index<Scc>, list: &[Found], name: Link) -> bool
 }
 
 /// Programs a first record, of page 2 at version 5, which discards its page or not, and takes it into the array.
-/// Tells whether that could be.
+/// Returns whether that could be.
 fn is_written(alloc: Global, index: &mut Index<Scc>, discard: bool) -> bool {
     let name = link(2, 5);
     let first = Rec {

@@ -1,8 +1,8 @@
 //! Recovery beside the plain audit of its records, on flashes with a few records as they come.
 ghost use Rattle.std.specs.Prelude.{◌≡◌, ◌<◌, All, IsTrue, Ok};
+ghost use Rattle.tx_types.specs.Config.{checked, shape_of};
 ghost use Rattle.record_list.specs.Records.{IsScanned};
 ghost use Rattle.record_list.specs.SoundList.{OwnPageExists};
-ghost use Rattle.tx_types.specs.Config.{checked, shape_of};
 
 use super::flashes::refused;
 use crate::building::{BACK_POINTER, SIMPLE, blank_flash, found, is_scanned, put_record, rec};
@@ -227,7 +227,7 @@ fn is_right<R: CommitRule>(
     }
 }
 
-/// Programs items. Tells whether that could be done.
+/// Programs items. Returns whether that could be done.
 fn are_put(flash: &mut MemFlash, protocol: Protocol, items: &[Placed]) -> bool
     requires { flash.old.shape.page_bytes ≡ 16 }
     ensures { flash.new.shape ≡ flash.old.shape }
@@ -295,7 +295,7 @@ fn is_judged(
     agrees(alloc, config, items, refusal)
 }
 
-/// Places records: as they come, or in blocks that are mostly full. Tells whether there was memory.
+/// Places records: as they come, or in blocks that are mostly full. Returns whether there was memory.
 fn are_placed(seed: &mut u64, protocol: Protocol, is_full: bool, items: &mut Vec<Placed>) -> bool {
     if is_full {
         place_full(seed, protocol, items).is_ok()

@@ -30,7 +30,7 @@ fn may_write(rt: &HostRuntime) -> bool {
     OpenOptions::new().write(true).open(rt, FILE).is_ok()
 }
 
-/// Whether a save of the file answers Ok where it may be written, and leaves the old bytes where it may not.
+/// Whether a save of the file returns Ok where it may be written, and leaves the old bytes where it may not.
 fn is_saved_by_leave<D: Desk>(desk: &mut D, may_write: bool) -> bool {
     let left = if may_write { NEW } else { OLD };
     is_saved(desk, FILE, NEW) == may_write && loads(desk, FILE, left)

@@ -130,7 +130,7 @@ struct Saved {
     calls: String,
 }
 
-/// Whether a save over a system answers Ok.
+/// Whether a save over a system returns Ok.
 fn is_saved_over<R: Files + Print + AllocGlobal>(system: &R, name: &str) -> bool
 where
     R::File: LockFile,
@@ -140,7 +140,7 @@ where
         .is_ok()
 }
 
-/// Whether a save answers Ok whose calls are noted.
+/// Whether a save returns Ok whose calls are noted.
 fn is_saved(rt: &HostRuntime, name: &str, log: &Log) -> bool {
     is_saved_over(&Recorder { rt, log }, name)
 }
@@ -188,14 +188,14 @@ fn stay_others(rt: &HostRuntime, it: &Case) -> bool {
         && (!it.had("other") || has_two_names(rt, "saves/f"))
 }
 
-/// Whether a save that answers Ok leaves the new bytes, with the mode of the old file.
+/// Whether a save that returns Ok leaves the new bytes, with the mode of the old file.
 fn is_new(rt: &HostRuntime, it: &Case) -> bool {
     has(rt, "saves/f", NEW)
         && (!it.had("f") || has_mode(rt, "saves/f", 0o640))
         && stay_others(rt, it)
 }
 
-/// Whether a save answers Ok and makes the calls that it should.
+/// Whether a save returns Ok and makes the calls that it should.
 fn makes_calls(rt: &HostRuntime, it: &Case) -> bool {
     match save(rt, it, 0, ErrorKind::Other) {
         Some(saved) => saved.is_ok && saved.calls.as_str().trim_ascii_end() == it.calls,

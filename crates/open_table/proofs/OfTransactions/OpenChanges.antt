@@ -28,7 +28,8 @@ pub record IsTakenAway (t u : Inside) (k : ℕ) (x : Transaction) (list : Vec Pe
   pub pending : u.pending ≡ t.pending
   pub within : k < length t.all.items
   pub its : x ≡ get_or t.all.items k x
-  pub apart : AllPairs (λ (a b : Naming). ShareNoPage a.names b.names) (map (λ (o : TransactionState). o.naming) (map transaction_of t.all.items))
+  pub apart : AllPairs (λ (a b : Naming). ShareNoPage a.names b.names)
+      (map (λ (o : TransactionState). o.naming) (map transaction_of t.all.items))
   pub all : u.all.items ≡ remove t.all.items k
   pub capacity : vec_capacity u.all ≡ vec_capacity t.all
   pub owners : u.owners.items ≡ with_owner t.owners.items None x.pages.items
@@ -40,12 +41,14 @@ same_long : (t u : Inside) (k : ℕ) (x : Transaction) (list : Vec PendingWrite 
     length u.owners.items ≡ length t.owners.items
 same_long t u k x list away = ap length away.owners ∙ length-with_owner t.owners.items None x.pages.items
 
-pub its_kept : (t : Inside) (k : ℕ) (x : Transaction) → OpenTransactionsInvariant t → k < length t.all.items → x ≡ get_or t.all.items k x →
+pub its_kept : (t : Inside) (k : ℕ) (x : Transaction) → OpenTransactionsInvariant t → k < length t.all.items →
+    x ≡ get_or t.all.items k x →
     TransactionInvariant t.page_bytes (length t.owners.items) t.pending x
 its_kept t k x kept within its =
     subst (TransactionInvariant t.page_bytes (length t.owners.items) t.pending) (sym its) (kept.each k x within)
 
-pub kept_after_removal : (t u : Inside) (k : ℕ) (x : Transaction) (list : Vec PendingWrite Global) → OpenTransactionsInvariant t → IsTakenAway t u k x list → OpenTransactionsInvariant u
+pub kept_after_removal : (t u : Inside) (k : ℕ) (x : Transaction) (list : Vec PendingWrite Global) →
+    OpenTransactionsInvariant t → IsTakenAway t u k x list → OpenTransactionsInvariant u
 kept_after_removal t u k x list kept away =
     let os = t.all.items in
     let one = its_kept t k x kept away.within away.its in
@@ -58,36 +61,45 @@ kept_after_removal t u k x list kept away =
     let long = same_long t u k x list away in
     record {
       few = rw away.pending kept.few;
-      each = rw (away.page_bytes, away.pending, long, away.all) (all_remove (TransactionInvariant t.page_bytes (length t.owners.items) t.pending) os k kept.each);
-      owned = rw (away.owners, away.all) (owned_without t.owners.items os k x kept.owned away.within away.its away.apart);
+      each = rw (away.page_bytes, away.pending, long, away.all)
+          (all_remove (TransactionInvariant t.page_bytes (length t.owners.items) t.pending) os k kept.each);
+      owned = rw (away.owners, away.all) (owned_without t.owners.items os k x kept.owned away.within
+          away.its away.apart);
       rooms = omega (arith, kept.rooms, away.freed.more, away.pending);
       sizes = rw away.page_bytes (away.freed.sizes t.page_bytes kept.sizes one.whole);
       lists = omega (arith, kept.lists, away.pending);
       empty = rw (away.pending, away.lists)
-          (All-push (λ (l : Vec PendingWrite Global). (l.items ≡ []) × (t.pending ≤ vec_capacity l)) t.lists.items list kept.empty
+          (All-push (λ (l : Vec PendingWrite Global). (l.items ≡ []) × (t.pending ≤ vec_capacity l)) t.lists.items
+          list kept.empty
           (away.freed.none, omega (arith, away.freed.capacity, one.capacity)));
       all_capacity = omega (arith, kept.all_capacity, away.capacity, away.pending);
       rooms_capacity = omega (arith, kept.rooms_capacity, away.freed.rooms_capacity, away.pending);
       lists_capacity = omega (arith, kept.lists_capacity, away.lists_capacity, away.pending);
     }
 
-removed_transactions : (os : List Transaction) (k : ℕ) → map transaction_of (remove os k) ≡ remove (map transaction_of os) k
-removed_transactions os k = map-append transaction_of (take k os) (drop (suc k) os) ∙ ap₂ (λ a b. a ++ b) (sym (take-map transaction_of k os))
+removed_transactions : (os : List Transaction) (k : ℕ) → map transaction_of (remove os k)
+    ≡ remove (map transaction_of os) k
+removed_transactions os k = map-append transaction_of (take k os) (drop (suc k) os)
+    ∙ ap₂ (λ a b. a ++ b) (sym (take-map transaction_of k os))
     (sym (drop-map transaction_of (suc k) os))
 
-pub table_after_removal : (t u : Inside) (k : ℕ) (x : Transaction) (list : Vec PendingWrite Global) → IsTakenAway t u k x list →
+pub table_after_removal : (t u : Inside) (k : ℕ) (x : Transaction) (list : Vec PendingWrite Global) →
+    IsTakenAway t u k x list →
     table_of u ≡ record (table_of t) { all = remove (map transaction_of t.all.items) k }
 table_after_removal t u k x list away =
-    rw (away.page_bytes, away.pending, same_long t u k x list away, away.all) (ap (as_table t) (removed_transactions t.all.items k))
+    rw (away.page_bytes, away.pending, same_long t u k x list away, away.all)
+    (ap (as_table t) (removed_transactions t.all.items k))
 
 -- one is opened: the parts of what is kept, before and after
-pub record IsTakenIn (n : IndexState) (t u : Inside) (batch : Writes) (x : Transaction) (list : Vec PendingWrite Global) (held : List PendingWrite) : Type 0 where
+pub record IsTakenIn (n : IndexState) (t u : Inside) (batch : Writes) (x : Transaction) (list : Vec PendingWrite Global)
+    (held : List PendingWrite) : Type 0 where
   pub page_bytes : u.page_bytes ≡ t.page_bytes
   pub pending : u.pending ≡ t.pending
   pub size : batch.page_bytes ≡ t.page_bytes
   pub some : 0 < length batch.entries
   pub exist : All (λ w. w.page < length t.owners.items) batch.entries
-  pub apart : All (λ w. All (λ (e : Entry). All (λ (v : PageWrite). v.page ≢ w.page) e.writes) (entries_in t.all.items)) batch.entries
+  pub apart : All (λ w. All (λ (e : Entry). All (λ (v : PageWrite). v.page ≢ w.page) e.writes) (entries_in t.all.items))
+      batch.entries
   pub all : u.all.items ≡ t.all.items ++ x ∷ []
   pub capacity : vec_capacity t.all ≤ vec_capacity u.all
   pub owners : u.owners.items ≡ with_owner t.owners.items (Some x.tag) x.pages.items
@@ -96,32 +108,41 @@ pub record IsTakenIn (n : IndexState) (t u : Inside) (batch : Writes) (x : Trans
   pub lists_capacity : vec_capacity u.lists ≡ vec_capacity t.lists
 
 -- the list that is taken for its pages is empty, and there is room
-pub list_empty : (t : Inside) (rest : List (Vec PendingWrite Global)) (list : Vec PendingWrite Global) → OpenTransactionsInvariant t → t.lists.items ≡ rest ++ list ∷ [] →
+pub list_empty : (t : Inside) (rest : List (Vec PendingWrite Global)) (list : Vec PendingWrite Global) →
+    OpenTransactionsInvariant t → t.lists.items ≡ rest ++ list ∷ [] →
     (list.items ≡ []) × (t.pending ≤ vec_capacity list)
 list_empty t rest list kept popped =
-    (All-pop (λ (l : Vec PendingWrite Global). (l.items ≡ []) × (t.pending ≤ vec_capacity l)) t.lists.items rest (Some list) popped kept.empty).1
+    (All-pop (λ (l : Vec PendingWrite Global). (l.items ≡ []) × (t.pending ≤ vec_capacity l)) t.lists.items rest
+    (Some list) popped kept.empty).1
 
 -- there is such a list
-pub list_left : (t : Inside) → OpenTransactionsInvariant t → sum_by pages_of t.all.items < t.pending → 0 < length t.lists.items
+pub list_left : (t : Inside) → OpenTransactionsInvariant t → sum_by pages_of t.all.items < t.pending →
+    0 < length t.lists.items
 list_left t kept free =
     let few = length-le-pages t.all.items (λ k d within. (kept.each k d within).some) in
     omega (arith, kept.lists)
 
 -- the pages exist that are taken in
-pub pages_low : (n : IndexState) (old new : Vec PendingWrite Global) (rooms rooms' : Vec (Vec ℕ Global) Global) (batch : Writes) (held : List PendingWrite)
+pub pages_low : (n : IndexState) (old new : Vec PendingWrite Global) (rooms rooms' : Vec (Vec ℕ Global) Global)
+    (batch : Writes) (held : List PendingWrite)
     (logical : ℕ) →
-    StoresPages n old new rooms rooms' batch held → old.items ≡ [] → All (λ w. w.page < logical) batch.entries → All (λ p. p.name.page < logical) new.items
+    StoresPages n old new rooms rooms' batch held → old.items ≡ [] → All (λ w. w.page < logical) batch.entries →
+    All (λ p. p.name.page < logical) new.items
 pages_low n old new rooms rooms' batch held logical h none low =
     subst (λ ps. All (λ p. p.name.page < logical) ps) (sym (h.behind ∙ ap (λ l. l ++ held) none))
-    (all_mapped (λ (w : PageWrite). w.page < logical) write_held held (subst (λ ws. All (λ (w : PageWrite). w.page < logical) ws) (sym h.writes) low))
+    (all_mapped (λ (w : PageWrite). w.page < logical) write_held held
+    (subst (λ ws. All (λ (w : PageWrite). w.page < logical) ws) (sym h.writes) low))
 
-module _ (n : IndexState) (t u : Inside) (batch : Writes) (x : Transaction) (list : Vec PendingWrite Global) (held : List PendingWrite)
+module _ (n : IndexState) (t u : Inside) (batch : Writes) (x : Transaction) (list : Vec PendingWrite Global)
+    (held : List PendingWrite)
     (kept : OpenTransactionsInvariant t) (taken : IsTakenIn n t u batch x list held) where
   h : StoresPages n list x.pages t.rooms u.rooms batch held
   h = taken.holds
 
-  left : All (λ l. (l.items ≡ []) × (t.pending ≤ vec_capacity l)) u.lists.items × ((list.items ≡ []) × (t.pending ≤ vec_capacity list))
-  left = All-pop (λ (l : Vec PendingWrite Global). (l.items ≡ []) × (t.pending ≤ vec_capacity l)) t.lists.items u.lists.items (Some list) taken.lists kept.empty
+  left : All (λ l. (l.items ≡ []) × (t.pending ≤ vec_capacity l)) u.lists.items
+      × ((list.items ≡ []) × (t.pending ≤ vec_capacity list))
+  left = All-pop (λ (l : Vec PendingWrite Global). (l.items ≡ []) × (t.pending ≤ vec_capacity l)) t.lists.items
+      u.lists.items (Some list) taken.lists kept.empty
 
   pages_are : x.pages.items ≡ held
   pages_are = h.behind ∙ ap (λ l. l ++ held) left.1.0
@@ -135,7 +156,8 @@ module _ (n : IndexState) (t u : Inside) (batch : Writes) (x : Transaction) (lis
   own_kept : TransactionInvariant t.page_bytes (length t.owners.items) t.pending x
   own_kept = record {
     some = omega (arith, many, taken.some);
-    exist = all_mapped (λ (w : PageWrite). w.page < length t.owners.items) write_held x.pages.items (rw writes_are taken.exist);
+    exist = all_mapped (λ (w : PageWrite). w.page < length t.owners.items) write_held x.pages.items
+        (rw writes_are taken.exist);
     whole = rw (pages_are, ← taken.size) h.whole;
     capacity = let list_capacity = left.1.1 in omega (arith, h.capacity);
   }
@@ -168,16 +190,19 @@ module _ (n : IndexState) (t u : Inside) (batch : Writes) (x : Transaction) (lis
   pub table_after_transaction : x.done ≡ 0 → x.noted_count ≡ 0 → x.mark ≡ Plain →
       table_of u ≡ record (table_of t) { all = map transaction_of t.all.items ++ begun n x.tag batch.entries ∷ [] }
   table_after_transaction done there mark =
-      let names_are : map (λ (p : PendingWrite). p.name) x.pages.items ≡ _ = ap (map (λ (p : PendingWrite). p.name)) pages_are ∙ h.names in
+      let names_are : map (λ (p : PendingWrite). p.name) x.pages.items ≡ _ =
+      ap (map (λ (p : PendingWrite). p.name)) pages_are ∙ h.names in
       let its : transaction_of x ≡ begun n x.tag batch.entries = rw (writes_are, names_are, done, there, mark) refl in
       rw (taken.page_bytes, taken.pending, long, taken.all)
       (ap (as_table t) (map_push transaction_of t.all.items x ∙ ap (λ o. map transaction_of t.all.items ++ o ∷ []) its))
 
 -- one with the same pages in the place of another
-module _ (t : Inside) (k : ℕ) (x y : Transaction) (kept : OpenTransactionsInvariant t) (within : k < length t.all.items) (is : x ≡ get_or t.all.items k x)
+module _ (t : Inside) (k : ℕ) (x y : Transaction) (kept : OpenTransactionsInvariant t) (within : k < length t.all.items)
+    (is : x ≡ get_or t.all.items k x)
     (pages : y.pages ≡ x.pages) (tag : y.tag ≡ x.tag) where
   same_writes : (transaction_of y).entry.writes ≡ (transaction_of (get_or t.all.items k x)).entry.writes
-  same_writes = ap (λ (l : Vec PendingWrite Global). map write_held l.items) pages ∙ ap (λ (o : Transaction). (transaction_of o).entry.writes) is
+  same_writes = ap (λ (l : Vec PendingWrite Global). map write_held l.items) pages
+      ∙ ap (λ (o : Transaction). (transaction_of o).entry.writes) is
 
   same_tag : y.tag ≡ (get_or t.all.items k x).tag
   same_tag = tag ∙ ap (λ (o : Transaction). o.tag) is
@@ -187,7 +212,8 @@ module _ (t : Inside) (k : ℕ) (x y : Transaction) (kept : OpenTransactionsInva
       let its = its_kept t k x kept within is in
       record {
         some = subst (λ (l : Vec PendingWrite Global). 0 < length l.items) (sym pages) its.some;
-        exist = subst (λ (l : Vec PendingWrite Global). All (λ p. p.name.page < length t.owners.items) l.items) (sym pages) its.exist;
+        exist = subst (λ (l : Vec PendingWrite Global). All (λ p. p.name.page < length t.owners.items) l.items)
+            (sym pages) its.exist;
         whole = subst (λ (l : Vec PendingWrite Global). All (IsWhole t.page_bytes) l.items) (sym pages) its.whole;
         capacity = subst (λ (l : Vec PendingWrite Global). t.pending ≤ vec_capacity l) (sym pages) its.capacity;
       }
@@ -212,9 +238,11 @@ module _ (t : Inside) (k : ℕ) (x y : Transaction) (kept : OpenTransactionsInva
         lists_capacity = kept.lists_capacity;
       }
 
-pub table_with : (t : Inside) (k : ℕ) (x y : Transaction) (f : TransactionState → TransactionState) → k < length t.all.items → x ≡ get_or t.all.items k x →
+pub table_with : (t : Inside) (k : ℕ) (x y : Transaction) (f : TransactionState → TransactionState) →
+    k < length t.all.items → x ≡ get_or t.all.items k x →
     transaction_of y ≡ f (transaction_of x) →
-    table_of (record t { all = with_item t.all k y }) ≡ with_transaction (table_of t) k (f (transaction_at (table_of t) k))
+    table_of (record t { all = with_item t.all k y }) ≡ with_transaction (table_of t) k
+    (f (transaction_at (table_of t) k))
 table_with t k x y f within is same =
     ap (as_table t) (
     map-set transaction_of t.all.items k y

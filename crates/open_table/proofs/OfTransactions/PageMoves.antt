@@ -10,8 +10,9 @@ use Rattle.tx_types.specs.Entries.{value_if}
 use Rattle.open_table.specs.OpenTransactionsState.{next_name}
 use Rattle.open_table.specs.PendingWrites.{FreesPages, HasRoom}
 
--- so many pages of a batch are taken in
-pub record HoldsFirst (n : IndexState) (old new : Vec PendingWrite Global) (rooms rooms' : Vec (Vec ℕ Global) Global) (batch : Writes) (count : ℕ)
+-- this many pages of a batch are taken in
+pub record HoldsFirst (n : IndexState) (old new : Vec PendingWrite Global) (rooms rooms' : Vec (Vec ℕ Global) Global)
+    (batch : Writes) (count : ℕ)
     (held : List PendingWrite) : Type 0 where
   pub behind : new.items ≡ old.items ++ held
   pub writes : map write_held held ≡ take count batch.entries
@@ -24,13 +25,15 @@ pub record HoldsFirst (n : IndexState) (old new : Vec PendingWrite Global) (room
   pub sizes : All (λ r. length r.items ≡ batch.page_bytes) rooms'.items
 
 -- the contents of a slot tell the value of which they are, with the flag
-pub value_held : (size : ℕ) (value : Option (List ℕ)) (discard : Bool) (bytes : List ℕ) → discard ≡ is_none value → bytes ≡ contents_of size value →
+pub value_held : (size : ℕ) (value : Option (List ℕ)) (discard : Bool) (bytes : List ℕ) → discard ≡ is_none value →
+    bytes ≡ contents_of size value →
     value_if discard bytes ≡ value
 value_held size None discard bytes flag is = ap (λ d. value_if d bytes) flag
 value_held size (Some its) discard bytes flag is = ap (λ d. value_if d bytes) flag ∙ ap Some is
 
 -- one more page of the batch is taken in
-pub holds_more : (n : IndexState) (old pages pages' : Vec PendingWrite Global) (rooms rooms' rooms'' : Vec (Vec ℕ Global) Global)
+pub holds_more : (n : IndexState) (old pages pages' : Vec PendingWrite Global)
+    (rooms rooms' rooms'' : Vec (Vec ℕ Global) Global)
     (batch : Writes) (count : ℕ) (held : List PendingWrite) (room : Vec ℕ Global) (p : PendingWrite) →
     HoldsFirst n old pages rooms rooms' batch count held → count < length batch.entries →
     rooms'.items ≡ rooms''.items ++ room ∷ [] → vec_capacity rooms'' ≡ vec_capacity rooms' →
@@ -38,7 +41,8 @@ pub holds_more : (n : IndexState) (old pages pages' : Vec PendingWrite Global) (
     p.name ≡ next_name n (entry_at batch count) → p.discard ≡ is_none (entry_at batch count).value →
     p.bytes.items ≡ bytes_in batch.page_bytes (entry_at batch count) → length p.bytes.items ≡ batch.page_bytes →
     HoldsFirst n old pages' rooms rooms'' batch (count + 1) (held ++ p ∷ [])
-holds_more n old pages pages' rooms rooms' rooms'' batch count held room p h lt popped kept pushed wide name discard bytes whole =
+holds_more n old pages pages' rooms rooms' rooms'' batch count held room p h lt popped kept pushed wide name
+    discard bytes whole =
     let push = length-append held (p ∷ []) in
     let pop = length-append rooms''.items (room ∷ []) in
     let less = ap length popped in
@@ -57,20 +61,26 @@ holds_more n old pages pages' rooms rooms' rooms'' batch count held room p h lt 
       many = omega (arith, h.many);
       capacity = omega (arith, h.capacity);
       rooms_capacity = kept ∙ h.rooms_capacity;
-      sizes = (All-pop (λ (r : Vec ℕ Global). length r.items ≡ batch.page_bytes) rooms'.items rooms''.items (Some room) popped h.sizes).0;
+      sizes = (All-pop (λ (r : Vec ℕ Global). length r.items ≡ batch.page_bytes) rooms'.items rooms''.items (Some room)
+          popped h.sizes).0;
     }
 
 -- one more page is taken away, and its room is free
-pub record FreesFirst (old now : Vec PendingWrite Global) (rooms rooms' : Vec (Vec ℕ Global) Global) (count : ℕ) : Type 0 where
+pub record FreesFirst (old now : Vec PendingWrite Global) (rooms rooms' : Vec (Vec ℕ Global) Global)
+    (count : ℕ) : Type 0 where
   pub left : length now.items + count ≡ length old.items
   pub more : length rooms'.items ≡ length rooms.items + count
   pub capacity : vec_capacity now ≡ vec_capacity old
   pub rooms_capacity : vec_capacity rooms ≤ vec_capacity rooms'
-  pub sizes : (size : ℕ) → All (HasRoom size) rooms.items → All (IsWhole size) old.items → All (IsWhole size) now.items × All (HasRoom size) rooms'.items
+  pub sizes : (size : ℕ) → All (HasRoom size) rooms.items → All (IsWhole size) old.items → All (IsWhole size) now.items
+      × All (HasRoom size) rooms'.items
 
-pub frees_more : (old pages pages' : Vec PendingWrite Global) (rooms rooms' rooms'' : Vec (Vec ℕ Global) Global) (count : ℕ) (p : PendingWrite) →
-    FreesFirst old pages rooms rooms' count → pages.items ≡ pages'.items ++ p ∷ [] → vec_capacity pages' ≡ vec_capacity pages →
-    rooms''.items ≡ rooms'.items ++ p.bytes ∷ [] → vec_capacity rooms' ≤ vec_capacity rooms'' → FreesFirst old pages' rooms rooms'' (count + 1)
+pub frees_more : (old pages pages' : Vec PendingWrite Global) (rooms rooms' rooms'' : Vec (Vec ℕ Global) Global)
+    (count : ℕ) (p : PendingWrite) →
+    FreesFirst old pages rooms rooms' count → pages.items ≡ pages'.items ++ p ∷ [] →
+    vec_capacity pages' ≡ vec_capacity pages →
+    rooms''.items ≡ rooms'.items ++ p.bytes ∷ [] → vec_capacity rooms' ≤ vec_capacity rooms'' →
+    FreesFirst old pages' rooms rooms'' (count + 1)
 frees_more old pages pages' rooms rooms' rooms'' count p f popped kept pushed wide =
     let less = ap length popped ∙ length-append pages'.items (p ∷ []) in
     let push = ap length pushed ∙ length-append rooms'.items (p.bytes ∷ []) in
@@ -85,7 +95,8 @@ frees_more old pages pages' rooms rooms' rooms'' count p f popped kept pushed wi
           (last.0, rw pushed (All-push (HasRoom size) rooms'.items p.bytes so.1 last.1.long));
     }
 
-pub frees_all : (old new : Vec PendingWrite Global) (rooms rooms' : Vec (Vec ℕ Global) Global) → FreesFirst old new rooms rooms' (length old.items) →
+pub frees_all : (old new : Vec PendingWrite Global) (rooms rooms' : Vec (Vec ℕ Global) Global) →
+    FreesFirst old new rooms rooms' (length old.items) →
     FreesPages old new rooms rooms'
 frees_all old new rooms rooms' f = record {
   none = empty new.items (omega (arith, f.left));

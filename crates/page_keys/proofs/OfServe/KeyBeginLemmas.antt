@@ -101,7 +101,7 @@ module _ {F R : Type 0} (state : F → FlashState) (its : Config) (flash : F) wh
   steady_begun (session.Unmounted new) meets steady =
       absurd (none_spent (state flash).told (state new).told (state new).live steady.none meets.spends)
 
-  -- the same of each result
+  -- how a session begins, of each result
   module _ {E : Type 0} where
     pub begins_all : (result : Result (KeySession F R) E) → (state flash).live ≡ true →
         IfOk result (Mounts state its flash) → IsKeyImage its (state flash) →

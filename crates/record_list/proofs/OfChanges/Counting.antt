@@ -34,14 +34,16 @@ returns_of l h f i = (All-contains (KeepsCount l) l f h i).1
 -- ---- links that are the same on a round
 
 -- where the names that links lead to are no name that has another link, they lead to the same names
-same_follow : (l m : List Found) (u : Link) (n : ℕ) → ((k : ℕ) → k < n → link_of l (follow l u k) ≡ link_of m (follow l u k)) → follow l u n ≡ follow m u n
+same_follow : (l m : List Found) (u : Link) (n : ℕ) →
+    ((k : ℕ) → k < n → link_of l (follow l u k) ≡ link_of m (follow l u k)) → follow l u n ≡ follow m u n
 same_follow l m u zero same = refl
 same_follow l m u (suc n) same =
     let before = same_follow l m u n (λ k less. same k (omega arith)) in
     follow_last l u n ∙ same n (omega arith) ∙ ap (link_of m) before ∙ sym (follow_last m u n)
 
 -- so a round of the one is a round of the other
-same_return : (l m : List Found) (u : Link) (n : ℕ) → ((k : ℕ) → k < n → link_of l (follow l u k) ≡ link_of m (follow l u k)) →
+same_return : (l m : List Found) (u : Link) (n : ℕ) →
+    ((k : ℕ) → k < n → link_of l (follow l u k) ≡ link_of m (follow l u k)) →
     IsFirstReturn l u n → IsFirstReturn m u n
 same_return l m u n same r = record {
   some = r.some;
@@ -64,10 +66,12 @@ module _ (l m : List Found) (fewer : IsAmong l m) (o : IsOneEach m) where
       (all_from (λ g. name_of g.rec ≡ f.rec.next → g.rec.count ≡ f.rec.count) l (λ g j e.
       let y : IsEqual m g.rec = fewer.among g j in
       ap (λ (r : Rec). r.count) (sym y.is)
-      ∙ All-contains (λ (h : Found). name_of h.rec ≡ f.rec.next → h.rec.count ≡ f.rec.count) m y.at passes y.is_in (ap name_of y.is ∙ e)))
+      ∙ All-contains (λ (h : Found). name_of h.rec ≡ f.rec.next → h.rec.count ≡ f.rec.count) m y.at passes y.is_in
+      (ap name_of y.is ∙ e)))
       (λ some n r.
       returns some n (same_return l m (name_of f.rec) n (λ k less.
-      links_from l m _ _ (among_record l m fewer o (follow l (name_of f.rec) k) (all_present l (name_of f.rec) n k r (present_in l f i)))) r))
+      links_from l m _ _ (among_record l m fewer o (follow l (name_of f.rec) k)
+      (all_present l (name_of f.rec) n k r (present_in l f i)))) r))
 
   -- so law 9 stays
   pub among_counts : HasCounts m → HasCounts l
@@ -80,7 +84,8 @@ pub none_counted : (l : List Found) → All (λ f. f.rec.count ≡ 0) l → HasC
 none_counted l none = all_from (KeepsCount l) l (λ f i.
     let zero' = All-contains (λ (g : Found). g.rec.count ≡ 0) l f none i in
     keeps_from l f
-    (all_from (λ g. name_of g.rec ≡ f.rec.next → g.rec.count ≡ f.rec.count) l (λ g j e. All-contains (λ (h : Found). h.rec.count ≡ 0) l g none j ∙ sym zero'))
+    (all_from (λ g. name_of g.rec ≡ f.rec.next → g.rec.count ≡ f.rec.count) l
+    (λ g j e. All-contains (λ (h : Found). h.rec.count ≡ 0) l g none j ∙ sym zero'))
     (λ some. absurd (some zero')))
 
 -- law 2: records of one name are equal
@@ -97,26 +102,32 @@ one_each_of l agree scanned = record {
 
 -- a copy keeps law 9
 pub copy_keeps_counts : CopyKeepsCounts
-copy_keeps_counts l l' f agree c counts = among_counts l' l (copied_among l l' f c) (one_each_of l agree c.scanned) counts
+copy_keeps_counts l l' f agree c counts = among_counts l' l (copied_among l l' f c)
+    (one_each_of l agree c.scanned) counts
 
 -- so does a loss
 pub loss_keeps_counts : LossKeepsCounts
 loss_keeps_counts l keep agree scanned counts =
-    among_counts (left keep l) l (among_of (left keep l) l (λ g i. (from_filter (λ (x : Found). keep x.slot.0) g l i).0)) (one_each_of l agree scanned) counts
+    among_counts (left keep l) l (among_of (left keep l) l
+    (λ g i. (from_filter (λ (x : Found). keep x.slot.0) g l i).0)) (one_each_of l agree scanned) counts
 
 -- ---- the names of a transaction, first to last and round
 
 -- links from the first name lead to the others
-to_rest : (l : List Found) (x : Link) (xs : List Link) (end : Link) → ((a b : Link) → Contains (chain x xs end) (a, b) → link_of l a ≡ b) →
+to_rest : (l : List Found) (x : Link) (xs : List Link) (end : Link) →
+    ((a b : Link) → Contains (chain x xs end) (a, b) → link_of l a ≡ b) →
     (i : ℕ) → i < length xs → Contains xs (follow l x (suc i))
 to_rest l x [] end step i less = absurd (omega arith)
-to_rest l x (y ∷ ys) end step zero less = subst (Contains (y ∷ ys)) (sym (step x y (Contains-first (x, y) (chain y ys end)))) (Contains-first y ys)
+to_rest l x (y ∷ ys) end step zero less = subst (Contains (y ∷ ys))
+    (sym (step x y (Contains-first (x, y) (chain y ys end)))) (Contains-first y ys)
 to_rest l x (y ∷ ys) end step (suc i) less =
     let on = to_rest l y ys end (λ a b k. step a b (Contains-rest (x, y) (chain y ys end) (a, b) k)) i (omega arith) in
-    Contains-rest y ys (follow l x (suc (suc i))) (subst (λ z. Contains ys (follow l z (suc i))) (sym (step x y (Contains-first (x, y) (chain y ys end)))) on)
+    Contains-rest y ys (follow l x (suc (suc i))) (subst (λ z. Contains ys (follow l z (suc i)))
+    (sym (step x y (Contains-first (x, y) (chain y ys end)))) on)
 
 -- and one more to the end
-to_end : (l : List Found) (x : Link) (xs : List Link) (end : Link) → ((a b : Link) → Contains (chain x xs end) (a, b) → link_of l a ≡ b) →
+to_end : (l : List Found) (x : Link) (xs : List Link) (end : Link) →
+    ((a b : Link) → Contains (chain x xs end) (a, b) → link_of l a ≡ b) →
     follow l x (suc (length xs)) ≡ end
 to_end l x [] end step = step x end (Contains-first (x, end) [])
 to_end l x (y ∷ ys) end step =
@@ -124,14 +135,16 @@ to_end l x (y ∷ ys) end step =
     ∙ to_end l y ys end (λ a b k. step a b (Contains-rest (x, y) (chain y ys end) (a, b) k))
 
 -- so the first name returns after as many links as there are names
-first_round : (l : List Found) (x : Link) (xs : List Link) → Apart (x ∷ xs) → ((a b : Link) → Follows (x ∷ xs) a b → link_of l a ≡ b) →
+first_round : (l : List Found) (x : Link) (xs : List Link) → Apart (x ∷ xs) →
+    ((a b : Link) → Follows (x ∷ xs) a b → link_of l a ≡ b) →
     IsFirstReturn l x (length (x ∷ xs))
 first_round l x xs apart step = record {
   some = omega arith;
   back = to_end l x xs x step;
   first = λ m some less e.
       let m_is : suc (m - 1) ≡ m = omega arith in
-      head_apart x xs x apart (subst (Contains xs) (ap (follow l x) m_is ∙ e) (to_rest l x xs x step (m - 1) (omega arith))) refl;
+      head_apart x xs x apart (subst (Contains xs) (ap (follow l x) m_is ∙ e)
+      (to_rest l x xs x step (m - 1) (omega arith))) refl;
 }
 
 -- where a name of it is present and returns, it does so after as many links as there are names
@@ -141,14 +154,17 @@ round_length l logical [] t a i here n r = absurd (Contains-nil a i)
 round_length l logical (x ∷ xs) t a i here n r =
     let P : Link → Type 0 = λ u. (is_present l u ≡ true) × IsFirstReturn l u n in
     let all : (c : Link) → Contains (x ∷ xs) c → P c = round_on P (x ∷ xs) (λ u v k h.
-    let e = t.asked u v k h.0 in
-    (subst (λ z. is_present l z ≡ true) e (next_present l u n h.1 h.0), subst (λ z. IsFirstReturn l z n) e (next_returns l u n h.1))) a i (here, r) in
+    let e = t.asked u v k h.0 in (
+      subst (λ z. is_present l z ≡ true) e (next_present l u n h.1 h.0),
+      subst (λ z. IsFirstReturn l z n) e (next_returns l u n h.1),
+    )) a i (here, r) in
     one_return l x n (length (x ∷ xs)) (all x (Contains-first x xs)).1
     (first_round l x xs t.apart (λ u v k. t.asked u v k (all u (follows_in (x ∷ xs) u v k).0).0))
 
 -- a present name that is none of them leads to none of them
 other_round : (l : List Found) (logical : ℕ) (names : List Link) → IsUnderway l logical names →
-    (k : ℕ) (u : Link) → is_present l u ≡ true → (Contains names u → ⊥) → (n : ℕ) → IsFirstReturn l u n → Contains names (follow l u k) → ⊥
+    (k : ℕ) (u : Link) → is_present l u ≡ true → (Contains names u → ⊥) → (n : ℕ) → IsFirstReturn l u n →
+    Contains names (follow l u k) → ⊥
 other_round l logical names t zero u here out n r i = out i
 other_round l logical names t (suc k) u here out n r i =
     other_round l logical names t k (link_of l u) (next_present l u n r here)
@@ -156,17 +172,22 @@ other_round l logical names t (suc k) u here out n r i =
 
 -- ---- a record of a transaction is written
 
-module _ (p : Protocol) (l l' : List Found) (logical : ℕ) (names : List Link) (f : Found) (w : IsWrite p l l' logical names f)
+module _ (p : Protocol) (l l' : List Found) (logical : ℕ) (names : List Link) (f : Found)
+    (w : IsWrite p l l' logical names f)
     (counts : HasCounts l) where
   -- a record of the transaction links to a name of it, and counts its names
-  its_parts : (g : Found) → Contains l' g → Contains names (name_of g.rec) → Contains names g.rec.next × (g.rec.count ≡ length names)
+  its_parts : (g : Found) → Contains l' g → Contains names (name_of g.rec) → Contains names g.rec.next
+      × (g.rec.count ≡ length names)
   its_parts g i own =
       let asks : IsAsked p l logical names g.rec = elim (inserted_in l l' f w.added g i) [
         | inl e ↦ subst (λ (x : Found). IsAsked p l logical names x.rec) e w.asked
         | inr old ↦ All-contains (λ (x : Found). IsAsked p l logical names x.rec) l g w.in_progress.begun.asked old
       ] in
       let after = follows_of names (name_of g.rec) own in
-      let pair = All-contains (IsAskedAt p l logical names g.rec) (zip names (next_names names)) (name_of g.rec, after.0) asks after.1 in
+      let pair = All-contains (IsAskedAt p l logical names g.rec) (zip names (next_names names)) (
+        name_of g.rec,
+        after.0,
+      ) asks after.1 in
       (subst (Contains names) (sym (pair refl).0) (follows_in names (name_of g.rec) after.0 after.1).1, (pair refl).2)
 
   its_next : (g : Found) → Contains l' g → Contains names (name_of g.rec) → Contains names g.rec.next
@@ -185,20 +206,24 @@ module _ (p : Protocol) (l l' : List Found) (logical : ℕ) (names : List Link) 
   -- and links to none
   other_link : (g : Found) → Contains l g → (Contains names (name_of g.rec) → ⊥) → Contains names g.rec.next → ⊥
   other_link g old out j =
-      let others = All-contains (λ h. (Contains names (name_of h.rec) → ⊥) → All (λ n. mention_at n.page h.rec < n.version) names)
+      let others = All-contains (λ h. (Contains names (name_of h.rec) → ⊥) →
+      All (λ n. mention_at n.page h.rec < n.version) names)
       l g w.in_progress.begun.others old out in
-      let low = (mention_parts g.rec g.rec.next (All-contains (λ n. mention_at n.page g.rec < n.version) names g.rec.next others j)).1 refl in
+      let low = (mention_parts g.rec g.rec.next (All-contains (λ n. mention_at n.page g.rec < n.version) names
+      g.rec.next others j)).1 refl in
       omega arith
 
   -- the first half of the law
   write_passes : (g : Found) → Contains l' g → PassesCount l' g.rec
-  write_passes g i = all_from (λ h. name_of h.rec ≡ g.rec.next → h.rec.count ≡ g.rec.count) l' (λ h j e. elim (cases_in names (name_of g.rec)) [
-    | inl own ↦ its_count h j (subst (Contains names) (sym e) (its_next g i own)) ∙ sym (its_count g i own)
-    | inr out ↦ (
-        let old = other_old g i out in
-        let was = other_old h j (λ k. other_link g old out (subst (Contains names) e k)) in
-        All-contains (λ (x : Found). name_of x.rec ≡ g.rec.next → x.rec.count ≡ g.rec.count) l h (passes_of l counts g old) was e)
-  ])
+  write_passes g i = all_from (λ h. name_of h.rec ≡ g.rec.next → h.rec.count ≡ g.rec.count) l'
+      (λ h j e. elim (cases_in names (name_of g.rec)) [
+        | inl own ↦ its_count h j (subst (Contains names) (sym e) (its_next g i own)) ∙ sym (its_count g i own)
+        | inr out ↦ (
+            let old = other_old g i out in
+            let was = other_old h j (λ k. other_link g old out (subst (Contains names) e k)) in
+            All-contains (λ (x : Found). name_of x.rec ≡ g.rec.next → x.rec.count ≡ g.rec.count) l h
+            (passes_of l counts g old) was e)
+      ])
 
   -- the second
   write_returns : (g : Found) → Contains l' g → ReturnsByCount l' g.rec
@@ -209,13 +234,16 @@ module _ (p : Protocol) (l l' : List Found) (logical : ℕ) (names : List Link) 
       elim (cases_in names (name_of g.rec)) [
         | inl own ↦ round_length l' logical names now (name_of g.rec) own here n r ∙ sym (its_count g i own)
         | inr out ↦ (
-            let same : (k : ℕ) → k < n → link_of l' (follow l' (name_of g.rec) k) ≡ link_of l (follow l' (name_of g.rec) k) = λ k less.
+            let same : (k : ℕ) → k < n → link_of l' (follow l' (name_of g.rec) k)
+            ≡ link_of l (follow l' (name_of g.rec) k) = λ k less.
             links_else step.one (follow l' (name_of g.rec) k)
-            (λ e. other_round l' logical names now k (name_of g.rec) here out n r (subst (Contains names) (sym e) w.named)) in
+            (λ e. other_round l' logical names now k (name_of g.rec) here out n r
+            (subst (Contains names) (sym e) w.named)) in
             returns_of l counts g (other_old g i out) some n (same_return l' l (name_of g.rec) n same r))
       ]
 
 -- law 9 stays
 pub write_keeps_counts : WriteKeepsCounts
 write_keeps_counts p l l' logical names f w counts = all_from (KeepsCount l') l' (λ g i.
-    keeps_from l' g (write_passes p l l' logical names f w counts g i) (write_returns p l l' logical names f w counts g i))
+    keeps_from l' g (write_passes p l l' logical names f w counts g i)
+    (write_returns p l l' logical names f w counts g i))

@@ -7,22 +7,30 @@ use Rattle.record_list.proofs.OfChanges.Progress.{underway_of}
 use Rattle.record_list.proofs.OfChanges.OneMore.{inserted_all, one_more, IsStep, next_in}
 
 -- a write is a step of its transaction
-pub step_of : (p : Protocol) (l l' : List Found) (logical : ℕ) (names : List Link) (f : Found) → IsWrite p l l' logical names f →
+pub step_of : (p : Protocol) (l l' : List Found) (logical : ℕ) (names : List Link) (f : Found) →
+    IsWrite p l l' logical names f →
     IsStep l l' logical names f.rec
 step_of p l l' logical names f w = record {
   one = one_more l l' f w.added w.fresh;
   underway = underway_of p l logical names w.in_progress.begun;
   of_names = w.named;
   next = λ b i.
-      let pair = All-contains (IsAskedAt p l logical names f.rec) (zip names (next_names names)) (name_of f.rec, b) w.asked i in
+      let pair = All-contains (IsAskedAt p l logical names f.rec) (zip names (next_names names)) (
+        name_of f.rec,
+        b,
+      ) w.asked i in
       (pair refl).0;
 }
 
 -- its back version is the one that was asked for
-pub back_of_step : (p : Protocol) (l l' : List Found) (logical : ℕ) (names : List Link) (f : Found) → IsWrite p l l' logical names f →
+pub back_of_step : (p : Protocol) (l l' : List Found) (logical : ℕ) (names : List Link) (f : Found) →
+    IsWrite p l l' logical names f →
     (b : Link) → Follows names (name_of f.rec) b → f.rec.back ≡ back_version p l logical f.rec.page
 back_of_step p l l' logical names f w b i =
-    let pair = All-contains (IsAskedAt p l logical names f.rec) (zip names (next_names names)) (name_of f.rec, b) w.asked i in
+    let pair = All-contains (IsAskedAt p l logical names f.rec) (zip names (next_names names)) (
+      name_of f.rec,
+      b,
+    ) w.asked i in
     (pair refl).1
 
 -- the back version asked for stays with the current version
@@ -59,25 +67,31 @@ absent_before l l' logical names r s a gone = elim (cases_Bool (is_present l a))
   | inr still ↦ still
 ]
 
-module _ (p : Protocol) (l l' : List Found) (logical : ℕ) (names : List Link) (f : Found) (w : IsWrite p l l' logical names f) where
+module _ (p : Protocol) (l l' : List Found) (logical : ℕ) (names : List Link) (f : Found)
+    (w : IsWrite p l l' logical names f) where
   -- the transaction of the write stays begun
-  pub begun_on : ((a : Link) → Contains names a → cur p l' logical a.page ≡ cur p l logical a.page) → IsBegun p l' logical names
+  pub begun_on : ((a : Link) → Contains names a → cur p l' logical a.page ≡ cur p l logical a.page) →
+      IsBegun p l' logical names
   begun_on same = record {
     transaction = w.in_progress.begun.transaction;
     asked = inserted_all (λ g. IsAsked p l' logical names g.rec) l l' f w.added
         (all_from (λ g. IsAsked p l' logical names g.rec) l (λ g i. asked_same p l l' logical names same g.rec
         (All-contains (λ h. IsAsked p l logical names h.rec) l g w.in_progress.begun.asked i)))
         (asked_same p l l' logical names same f.rec w.asked);
-    others = inserted_all (λ g. (Contains names (name_of g.rec) → ⊥) → All (λ a. mention_at a.page g.rec < a.version) names) l l' f w.added
+    others = inserted_all (λ g. (Contains names (name_of g.rec) → ⊥) →
+        All (λ a. mention_at a.page g.rec < a.version) names) l l' f w.added
         w.in_progress.begun.others (λ out. absurd (out w.named));
   }
 
   -- a page of another transaction is no page of this one
-  pub page_apart : (others : List Link) → ShareNoPage names others → (a b : Link) → Contains names a → Contains others b → a.page ≡ b.page → ⊥
-  page_apart others share a b i j = All-contains (λ c. a.page ≢ c.page) others b (All-contains (λ c. All (λ d. c.page ≢ d.page) others) names a share i) j
+  pub page_apart : (others : List Link) → ShareNoPage names others → (a b : Link) → Contains names a →
+      Contains others b → a.page ≡ b.page → ⊥
+  page_apart others share a b i j = All-contains (λ c. a.page ≢ c.page) others b
+      (All-contains (λ c. All (λ d. c.page ≢ d.page) others) names a share i) j
 
   -- the new record mentions no page of another transaction
-  no_mention : (others : List Link) → ShareNoPage names others → (b : Link) → Contains others b → mention_at b.page f.rec ≡ 0
+  no_mention : (others : List Link) → ShareNoPage names others → (b : Link) → Contains others b →
+      mention_at b.page f.rec ≡ 0
   no_mention others share b j =
       let s = step_of p l l' logical names f w in
       let own : version_of b.page f.rec ≡ 0 = cond-false (eqb f.rec.page b.page) f.rec.version 0
@@ -87,11 +101,13 @@ module _ (p : Protocol) (l l' : List Found) (logical : ℕ) (names : List Link) 
       omega arith
 
   -- another transaction that shares no page stays in progress
-  pub others_on : (others : List Link) → ShareNoPage names others → ((b : Link) → Contains others b → cur p l' logical b.page ≡ cur p l logical b.page) →
+  pub others_on : (others : List Link) → ShareNoPage names others →
+      ((b : Link) → Contains others b → cur p l' logical b.page ≡ cur p l logical b.page) →
       InProgress p l logical others → InProgress p l' logical others
   others_on others share same h =
       let s = step_of p l l' logical names f w in
-      let own_out : Contains others (name_of f.rec) → ⊥ = λ i. page_apart others share (name_of f.rec) (name_of f.rec) s.of_names i refl in
+      let own_out : Contains others (name_of f.rec) → ⊥ = λ i. page_apart others share (name_of f.rec) (name_of f.rec)
+      s.of_names i refl in
       record {
         begun = record {
           transaction = h.begun.transaction;
@@ -100,15 +116,23 @@ module _ (p : Protocol) (l l' : List Found) (logical : ℕ) (names : List Link) 
               (All-contains (λ x. IsAsked p l logical others x.rec) l g h.begun.asked i)))
               (all_from (IsAskedAt p l' logical others f.rec) (zip others (next_names others)) (λ x i e.
               absurd (own_out (subst (Contains others) (sym e) (follows_in others x.0 x.1 i).0))));
-          others = inserted_all (λ g. (Contains others (name_of g.rec) → ⊥) → All (λ a. mention_at a.page g.rec < a.version) others) l l' f w.added
+          others = inserted_all (λ g. (Contains others (name_of g.rec) → ⊥) →
+              All (λ a. mention_at a.page g.rec < a.version) others) l l' f w.added
               h.begun.others (λ out. all_from (λ a. mention_at a.page f.rec < a.version) others (λ b j.
               let none = no_mention others share b j in
-              let range = All-contains (λ c. (c.page < logical) × (1 ≤ c.version) × (c.version ≤ 2 ^ 62)) others b h.begun.transaction.in_range j in
+              let range = All-contains (λ c. (c.page < logical) × (1 ≤ c.version) × (c.version ≤ 2 ^ 62)) others b
+              h.begun.transaction.in_range j in
               let positive = range.1 in
               omega arith));
         };
         absent =
             let any = h.absent in
-            let i : Contains others any.1 = (any.0, any.2, any.3) in
-            (any.0, any.1, any.2, any.3, absent_still l l' logical names f.rec s any.1 (λ e. own_out (subst (Contains others) e i)) any.4);
+            let i : Contains others any.1 = (any.0, any.2, any.3) in (
+              any.0,
+              any.1,
+              any.2,
+              any.3,
+              absent_still l l' logical names f.rec s any.1
+                  (λ e. own_out (subst (Contains others) e i)) any.4,
+            );
       }

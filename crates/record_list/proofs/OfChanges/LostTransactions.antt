@@ -12,9 +12,11 @@ use Rattle.record_list.proofs.OfChanges.Arrays.{partial_write_leaves_array, comp
 use Rattle.record_list.proofs.OfChanges.LostWrites.{write_after_loss}
 
 -- a record that is added to a sound list is a partial or a completing write, and the list is sound in either case
-added : (p : Protocol) → PartialWriteLaw p → CompletingWriteLaw p → (a b : List Written) (n : ℕ) (shape : Shape) (names : List Link) (w : Written) →
+added : (p : Protocol) → PartialWriteLaw p → CompletingWriteLaw p → (a b : List Written) (n : ℕ) (shape : Shape)
+    (names : List Link) (w : Written) →
     IsSoundWritten p a n shape → IsInserted a w b → IsWrite p (records_of a) (records_of b) n names (found_of w) →
-    (All (λ name. is_present (records_of b) name ≡ true) names → HasRoomAround p (records_of a) (records_of b) n shape names) →
+    (All (λ name. is_present (records_of b) name ≡ true) names →
+    HasRoomAround p (records_of a) (records_of b) n shape names) →
     WriteAfterLossKeeps p a b n shape names w
 added p partial completing a b n shape names w sound i write room = record {
   sound = elim (cases_present (records_of b) names) [
@@ -42,16 +44,20 @@ lost_transaction p loss partial completing l m n shape names w keep sound i writ
     let here : IsWrite p (left keep (records_of l)) (left keep (records_of m)) n names (found_of w) =
     write_after_loss p loss (records_of l) (records_of m) n names (found_of w) keep sound.records write counted stays in
     let removable : KeepsCounted p (left keep (records_of l)) n out =
-    counted_second p (records_of l) n keep out spared.counted (loss (records_of l) n keep sound.records write.scanned counted) in
-    let room : All (λ name. is_present (records_of b) name ≡ true) names → HasRoomAround p (records_of a) (records_of b) n shape names = λ all.
+    counted_second p (records_of l) n keep out spared.counted
+    (loss (records_of l) n keep sound.records write.scanned counted) in
+    let room : All (λ name. is_present (records_of b) name ≡ true) names →
+    HasRoomAround p (records_of a) (records_of b) n shape names = λ all.
     subst (λ x. HasRoomAround p x (records_of b) n shape names) was
     (subst (λ y. HasRoomAround p (left keep (records_of l)) y n shape names) now (record {
       block = spared.block;
       exists = spared.exists;
       removable = removable;
       outside = all_from (λ name. is_present (left out (left keep (records_of m))) name ≡ true) names (λ name c.
-          All-contains (λ u. is_present (left keep (records_of m)) u ≡ true → is_present (left out (left keep (records_of m))) u ≡ true) names name outside c
-          (subst (λ y. is_present y name ≡ true) (sym now) (All-contains (λ u. is_present (records_of b) u ≡ true) names name all c)));
+          All-contains (λ u. is_present (left keep (records_of m)) u ≡ true →
+          is_present (left out (left keep (records_of m))) u ≡ true) names name outside c
+          (subst (λ y. is_present y name ≡ true) (sym now) (All-contains (λ u. is_present (records_of b) u ≡ true) names
+          name all c)));
     })) in
     added p partial completing a b n shape names w (written_left p loss l n shape keep sound write.scanned spared).0
     (inserted_filter (λ v. keep v.slot.0) l m w i stays)

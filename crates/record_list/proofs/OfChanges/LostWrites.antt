@@ -15,10 +15,13 @@ from_left : (keep : ℕ → Bool) (l : List Found) (f : Found) → Contains (lef
 from_left keep l f i = (from_filter (λ g. keep g.slot.0) f l i).0
 
 -- of what is left nothing must go that need not go before
-nothing_goes : (p : Protocol) (l : List Found) (n : ℕ) (r : Rec) (keep : ℕ → Bool) → LossKeeps p l (left keep l) n → NothingMustGo p l n r →
+nothing_goes : (p : Protocol) (l : List Found) (n : ℕ) (r : Rec) (keep : ℕ → Bool) → LossKeeps p l (left keep l) n →
+    NothingMustGo p l n r →
     NothingMustGo p (left keep l) n r
-nothing_goes Bpcc l n r keep k none = all_from (λ f. must_go Bpcc (left keep l) n r.page r.version f.rec ≡ false) (left keep l) (λ f i. refl)
-nothing_goes Scc l n r keep k none = all_from (λ f. must_go Scc (left keep l) n r.page r.version f.rec ≡ false) (left keep l) (λ f i.
+nothing_goes Bpcc l n r keep k none = all_from (λ f. must_go Bpcc (left keep l) n r.page r.version f.rec ≡ false)
+    (left keep l) (λ f i. refl)
+nothing_goes Scc l n r keep k none = all_from (λ f. must_go Scc (left keep l) n r.page r.version f.rec ≡ false)
+    (left keep l) (λ f i.
     ap (λ v. nat_lt v f.rec.version && mentions_below r.page r.version f.rec)
     (k.same_current f.rec.page (All-contains (PagesExist n) (left keep l) f (k.sound Pages) i).0)
     ∙ All-contains (λ g. must_go Scc l n r.page r.version g.rec ≡ false) l f none (from_left keep l f i))
@@ -34,7 +37,8 @@ write_after_loss p law l m n names f keep sound write counted stays =
       named = write.named;
       fresh = among_absent (left keep l) l (among_of (left keep l) l (from_left keep l)) (name_of f.rec) write.fresh;
       asked = asked_same p l (left keep l) n names
-          (λ a i. k.same_current a.page (All-contains (λ (x : Link). (x.page < n) × (1 ≤ x.version) × (x.version ≤ max_version)) names a
+          (λ a i. k.same_current a.page (All-contains (λ (x : Link). (x.page < n) × (1 ≤ x.version)
+          × (x.version ≤ max_version)) names a
           write.in_progress.begun.transaction.in_range i).0) f.rec write.asked;
       clear = nothing_goes p l n f.rec keep k write.clear;
     }

@@ -40,19 +40,24 @@ module _ {l l' : List Found} {r : Rec} (one : IsOneMore l l' r) where
 
 module _ (f : Found) (after : List Found) where
   -- the records of other names
-  others_more : (before : List Found) (u : Link) → has_name u f.rec ≡ false → record_named (before ++ f ∷ after) u ≡ record_named (before ++ after) u
+  others_more : (before : List Found) (u : Link) → has_name u f.rec ≡ false →
+      record_named (before ++ f ∷ after) u ≡ record_named (before ++ after) u
   others_more [] u h = cond-false (has_name u f.rec) f.rec (record_named after u) h
   others_more (x ∷ xs) u h = ap (λ r. if has_name u x.rec then x.rec else r) (others_more xs u h)
 
   -- the record of the new name
-  its_more : (before : List Found) → is_present (before ++ after) (name_of f.rec) ≡ false → record_named (before ++ f ∷ after) (name_of f.rec) ≡ f.rec
-  its_more [] h = cond-true (has_name (name_of f.rec) f.rec) f.rec (record_named after (name_of f.rec)) (has_own_name (name_of f.rec) f.rec refl)
+  its_more : (before : List Found) → is_present (before ++ after) (name_of f.rec) ≡ false →
+      record_named (before ++ f ∷ after) (name_of f.rec) ≡ f.rec
+  its_more [] h = cond-true (has_name (name_of f.rec) f.rec) f.rec (record_named after (name_of f.rec))
+      (has_own_name (name_of f.rec) f.rec refl)
   its_more (x ∷ xs) h =
       let parts = or_parts (has_name (name_of f.rec) x.rec) (is_present (xs ++ after) (name_of f.rec)) h in
-      cond-false (has_name (name_of f.rec) x.rec) x.rec (record_named (xs ++ f ∷ after) (name_of f.rec)) parts.0 ∙ its_more xs parts.1
+      cond-false (has_name (name_of f.rec) x.rec) x.rec (record_named (xs ++ f ∷ after) (name_of f.rec)) parts.0
+      ∙ its_more xs parts.1
 
   -- greatest numbers
-  greatest_more : (of : Rec → ℕ) (before : List Found) → greatest of (before ++ f ∷ after) ≡ max (of f.rec) (greatest of (before ++ after))
+  greatest_more : (of : Rec → ℕ) (before : List Found) → greatest of (before ++ f ∷ after)
+      ≡ max (of f.rec) (greatest of (before ++ after))
   greatest_more of [] = refl
   greatest_more of (x ∷ xs) = let ih = greatest_more of xs in omega arith
 
@@ -64,14 +69,17 @@ module _ {X : Type 0} where
   ]
 
   pub in_inserted : (l l' : List X) (x : X) → IsInserted l x l' → (y : X) → Contains l y → Contains l' y
-  in_inserted l l' x ins y i = subst (λ zs. Contains zs y) (sym ins.now) (in_more ins.before ins.after x y (subst (λ zs. Contains zs y) ins.was i))
+  in_inserted l l' x ins y i = subst (λ zs. Contains zs y) (sym ins.now)
+      (in_more ins.before ins.after x y (subst (λ zs. Contains zs y) ins.was i))
 
   -- and the new one is there
   pub new_in : (l l' : List X) (x : X) → IsInserted l x l' → Contains l' x
-  new_in l l' x ins = subst (λ zs. Contains zs x) (sym ins.now) (Contains-append_right ins.before (x ∷ ins.after) x (Contains-first x ins.after))
+  new_in l l' x ins = subst (λ zs. Contains zs x) (sym ins.now)
+      (Contains-append_right ins.before (x ∷ ins.after) x (Contains-first x ins.after))
 
   -- where it passes a test, it is one more of those that pass
-  pub inserted_filter : (test : X → Bool) (l l' : List X) (x : X) → IsInserted l x l' → test x ≡ true → IsInserted (filter test l) x (filter test l')
+  pub inserted_filter : (test : X → Bool) (l l' : List X) (x : X) → IsInserted l x l' → test x ≡ true →
+      IsInserted (filter test l) x (filter test l')
   inserted_filter test l l' x ins passes = record {
     before = filter test ins.before;
     after = filter test ins.after;
@@ -88,20 +96,26 @@ inserted_all P l l' f ins all own = all_from P l' (λ g i. elim (inserted_in l l
 ])
 
 -- a test passes for some record of the longer list where it does for the new one or an old one
-pub inserted_any : (test : Found → Bool) (l l' : List Found) (f : Found) → IsInserted l f l' → list_any test l' ≡ (test f || list_any test l)
+pub inserted_any : (test : Found → Bool) (l l' : List Found) (f : Found) → IsInserted l f l' →
+    list_any test l' ≡ (test f || list_any test l)
 inserted_any test l l' f ins =
-    ap (list_any test) ins.now ∙ any_more test f ins.before ins.after ∙ ap (λ x. test f || list_any test x) (sym ins.was)
+    ap (list_any test) ins.now ∙ any_more test f ins.before ins.after
+    ∙ ap (λ x. test f || list_any test x) (sym ins.was)
 
 -- an inserted record of a fresh name is one record more
-pub one_more : (l l' : List Found) (f : Found) → IsInserted l f l' → is_present l (name_of f.rec) ≡ false → IsOneMore l l' f.rec
+pub one_more : (l l' : List Found) (f : Found) → IsInserted l f l' → is_present l (name_of f.rec) ≡ false →
+    IsOneMore l l' f.rec
 one_more l l' f ins fresh =
     let b = ins.before in
     let a = ins.after in
-    let fresh' : is_present (b ++ a) (name_of f.rec) ≡ false = subst (λ x. is_present x (name_of f.rec) ≡ false) ins.was fresh in
+    let fresh' : is_present (b ++ a) (name_of f.rec) ≡ false = subst (λ x. is_present x (name_of f.rec) ≡ false)
+    ins.was fresh in
     let present : (u : Link) → is_present l' u ≡ (has_name u f.rec || is_present l u) = λ u.
     subst (λ x. is_present x u ≡ (has_name u f.rec || is_present l u)) (sym ins.now)
-    (subst (λ x. is_present (b ++ f ∷ a) u ≡ (has_name u f.rec || is_present x u)) (sym ins.was) (any_more (λ g. has_name u g.rec) f b a)) in
-    let other : (u : Link) → (u ≡ name_of f.rec → ⊥) → has_name u f.rec ≡ false = λ u off. elim (cases_Bool (has_name u f.rec)) [
+    (subst (λ x. is_present (b ++ f ∷ a) u ≡ (has_name u f.rec || is_present x u)) (sym ins.was)
+    (any_more (λ g. has_name u g.rec) f b a)) in
+    let other : (u : Link) → (u ≡ name_of f.rec → ⊥) → has_name u f.rec ≡ false =
+    λ u off. elim (cases_Bool (has_name u f.rec)) [
       | inl e ↦ absurd (off (sym (has_name_true u f.rec e)))
       | inr e ↦ e
     ] in
@@ -112,10 +126,13 @@ one_more l l' f ins fresh =
         | inl e ↦ inl (sym (has_name_true u f.rec e))
         | inr e ↦ inr e
       ];
-      own = present (name_of f.rec) ∙ or_left (has_name (name_of f.rec) f.rec) (is_present l (name_of f.rec)) (has_own_name (name_of f.rec) f.rec refl);
-      others = λ u off. ap (λ x. record_named x u) ins.now ∙ others_more f a b u (other u off) ∙ ap (λ x. record_named x u) (sym ins.was);
+      own = present (name_of f.rec) ∙ or_left (has_name (name_of f.rec) f.rec) (is_present l (name_of f.rec))
+          (has_own_name (name_of f.rec) f.rec refl);
+      others = λ u off. ap (λ x. record_named x u) ins.now ∙ others_more f a b u (other u off)
+          ∙ ap (λ x. record_named x u) (sym ins.was);
       its = ap (λ x. record_named x (name_of f.rec)) ins.now ∙ its_more f a b fresh';
-      greatest_is = λ of. ap (greatest of) ins.now ∙ greatest_more f a of b ∙ ap (λ x. max (of f.rec) (greatest of x)) (sym ins.was);
+      greatest_is = λ of. ap (greatest of) ins.now ∙ greatest_more f a of b
+          ∙ ap (λ x. max (of f.rec) (greatest of x)) (sym ins.was);
     }
 
 -- the new record is one that a transaction asks for
@@ -130,7 +147,8 @@ module _ (l l' : List Found) (logical : ℕ) (names : List Link) (r : Rec) (s : 
   pub newest_own : newest l' r.page ≡ r.version
   newest_own =
       let e = s.one.greatest_is (version_of r.page) in
-      let at : version_of r.page r ≡ r.version = cond-true (eqb r.page r.page) r.version 0 (eq-eqb r.page r.page refl) in
+      let at : version_of r.page r ≡ r.version = cond-true (eqb r.page r.page) r.version 0
+      (eq-eqb r.page r.page refl) in
       let ahead = name_ahead l logical names s.underway (name_of r) s.of_names s.one.fresh in
       omega arith
 
@@ -138,7 +156,8 @@ module _ (l l' : List Found) (logical : ℕ) (names : List Link) (r : Rec) (s : 
   pub newest_else : (page : ℕ) → (page ≡ r.page → ⊥) → newest l' page ≡ newest l page
   newest_else page off =
       let e = s.one.greatest_is (version_of page) in
-      let at : version_of page r ≡ 0 = cond-false (eqb r.page page) r.version 0 (ne_eqb r.page page (λ x. off (sym x))) in
+      let at : version_of page r ≡ 0 = cond-false (eqb r.page page) r.version 0
+      (ne_eqb r.page page (λ x. off (sym x))) in
       omega arith
 
   -- and their next older versions
@@ -155,11 +174,13 @@ module _ (l l' : List Found) (logical : ℕ) (names : List Link) (r : Rec) (s : 
 
   -- and their newest link
   pub top_else : (page : ℕ) → (page ≡ r.page → ⊥) → top_link l' page ≡ top_link l page
-  top_else page off = ap (link_of l') (name_else page off) ∙ links_else s.one (newest_name l page) (λ e. off (ap (λ n. n.page) e))
+  top_else page off = ap (link_of l') (name_else page off)
+      ∙ links_else s.one (newest_name l page) (λ e. off (ap (λ n. n.page) e))
 
   -- and its back version
   pub back_else : (page : ℕ) → (page ≡ r.page → ⊥) → back_of l' (newest_name l' page) ≡ back_of l (newest_name l page)
-  back_else page off = ap (back_of l') (name_else page off) ∙ backs_else s.one (newest_name l page) (λ e. off (ap (λ n. n.page) e))
+  back_else page off = ap (back_of l') (name_else page off)
+      ∙ backs_else s.one (newest_name l page) (λ e. off (ap (λ n. n.page) e))
 
   -- the new record straddles no name of another page
   pub straddling_else : (q : Link) → (q.page ≡ r.page → ⊥) → straddling l' q ≡ straddling l q
@@ -201,7 +222,8 @@ module _ (l l' : List Found) (logical : ℕ) (names : List Link) (r : Rec) (s : 
     range = s.underway.range;
     asked = λ a b i here. elim (s.one.cases a here) [
       | inl e ↦ ap (link_of l') e ∙ its_link s.one ∙ s.next b (subst (λ n. Follows names n b) e i)
-      | inr old ↦ links_else s.one a (λ e. false≢true (sym s.one.fresh ∙ subst (λ n. is_present l n ≡ true) e old)) ∙ s.underway.asked a b i old
+      | inr old ↦ links_else s.one a (λ e. false≢true (sym s.one.fresh ∙ subst (λ n. is_present l n ≡ true) e old))
+          ∙ s.underway.asked a b i old
     ];
     lower = λ u here out a i. elim (s.one.cases u here) [
       | inl e ↦ absurd (out (subst (Contains names) (sym e) s.of_names))
@@ -245,13 +267,17 @@ module _ (l l' : List Found) (logical : ℕ) (names : List Link) (r : Rec) (s : 
   pub step_linked : IsLinked l logical → IsLinked l' logical
   step_linked linked = record {
     pages = λ u here. elim (s.one.cases u here) [
-      | inl e ↦ subst (λ n. (n.page < logical) × ((link_of l' n).page < logical)) (sym e)
-          ((s.underway.range (name_of r) s.of_names).0, subst (λ n. n.page < logical) (sym (its_link s.one)) (s.underway.range r.next next_in).0)
+      | inl e ↦ subst (λ n. (n.page < logical) × ((link_of l' n).page < logical)) (sym e) (
+        (s.underway.range (name_of r) s.of_names).0,
+        subst (λ n. n.page < logical) (sym (its_link s.one)) (s.underway.range r.next next_in).0,
+      )
       | inr old ↦ (let h = linked.pages u old in (h.0, subst (λ n. n.page < logical) (sym (old_link u old)) h.1))
     ];
     versions = λ u here. elim (s.one.cases u here) [
-      | inl e ↦ subst (λ n. (1 ≤ n.version) × (1 ≤ (link_of l' n).version)) (sym e)
-          ((s.underway.range (name_of r) s.of_names).1, subst (λ n. 1 ≤ n.version) (sym (its_link s.one)) (s.underway.range r.next next_in).1)
+      | inl e ↦ subst (λ n. (1 ≤ n.version) × (1 ≤ (link_of l' n).version)) (sym e) (
+        (s.underway.range (name_of r) s.of_names).1,
+        subst (λ n. 1 ≤ n.version) (sym (its_link s.one)) (s.underway.range r.next next_in).1,
+      )
       | inr old ↦ (let h = linked.versions u old in (h.0, subst (λ n. 1 ≤ n.version) (sym (old_link u old)) h.1))
     ];
     once = λ u v hu hv same. elim (s.one.cases u hu) [

@@ -11,7 +11,8 @@ use Rattle.record_list.proofs.OfChanges.Untouched.{OldLinks, untouched_cur, bare
 use Rattle.record_list.proofs.OfChanges.Keeping.{absent_before}
 
 -- the new record straddles no link that is at most the current version of its page
-pub clear_stays : (p : Protocol) (l l' : List Found) (logical : ℕ) (names : List Link) (r : Rec) → IsStep l l' logical names r →
+pub clear_stays : (p : Protocol) (l l' : List Found) (logical : ℕ) (names : List Link) (r : Rec) →
+    IsStep l l' logical names r →
     r.back ≡ back_version p l logical r.page →
     (q : Link) → is_clear p l q ≡ true → q.version ≤ cur p l logical q.page → is_clear p l' q ≡ true
 clear_stays Scc l l' logical names r s back q clear le = refl
@@ -28,14 +29,17 @@ clear_stays Bpcc l l' logical names r s back q clear le = elim (cases_eq q.page 
 ]
 
 -- each record of the longer list agrees with its name
-pub step_copies : (l l' : List Found) (logical : ℕ) (names : List Link) (f : Found) → IsInserted l f l' → IsStep l l' logical names f.rec →
-    ((g : Found) → Contains l g → g.rec ≡ record_named l (name_of g.rec)) → (g : Found) → Contains l' g → g.rec ≡ record_named l' (name_of g.rec)
+pub step_copies : (l l' : List Found) (logical : ℕ) (names : List Link) (f : Found) → IsInserted l f l' →
+    IsStep l l' logical names f.rec →
+    ((g : Found) → Contains l g → g.rec ≡ record_named l (name_of g.rec)) → (g : Found) → Contains l' g →
+    g.rec ≡ record_named l' (name_of g.rec)
 step_copies l l' logical names f ins s copies g i = elim (inserted_in l l' f ins g i) [
   | inl e ↦ subst (λ x. x.rec ≡ record_named l' (name_of x.rec)) e (sym s.one.its)
   | inr j ↦ copies g j ∙ sym (old_record l l' logical names f.rec s (name_of g.rec) (present_in l g j))
 ]
 
-module _ (p : Protocol) (l l' : List Found) (logical : ℕ) (names : List Link) (f : Found) (s : IsStep l l' logical names f.rec) (m : IsSoundMap p l logical)
+module _ (p : Protocol) (l l' : List Found) (logical : ℕ) (names : List Link) (f : Found)
+    (s : IsStep l l' logical names f.rec) (m : IsSoundMap p l logical)
     (old : OldLinks p l l' logical names f.rec) (own : cur p l' logical f.rec.page ≡ cur p l logical f.rec.page)
     (gone : Link) (j : Contains names gone) (absent' : is_present l' gone ≡ false) where
   -- every current version stays
@@ -47,7 +51,8 @@ module _ (p : Protocol) (l l' : List Found) (logical : ℕ) (names : List Link) 
       | inr some ↦ (
           let n = newest_name l page in
           elim (cases_in names n) [
-            | inl i ↦ named_cur p l l' logical names f.rec s m.linked old gone j absent' n i (newest_present l page (omega arith)) off refl
+            | inl i ↦ named_cur p l l' logical names f.rec s m.linked old gone j absent' n i
+                (newest_present l page (omega arith)) off refl
                 (absent_before l l' logical names f.rec s gone absent')
             | inr out ↦ untouched_cur p l l' logical names f.rec s m.linked old page (omega arith, off, out)
           ])
@@ -55,18 +60,21 @@ module _ (p : Protocol) (l l' : List Found) (logical : ℕ) (names : List Link) 
   ]
 
   -- and the laws hold, where the last two do
-  pub partial_map : IsInserted l f l' → f.rec.back ≡ back_version p l logical f.rec.page → LooseNames p l' logical → EndingNames p l' logical →
+  pub partial_map : IsInserted l f l' → f.rec.back ≡ back_version p l logical f.rec.page → LooseNames p l' logical →
+      EndingNames p l' logical →
       IsSoundMap p l' logical
   partial_map ins back loose ending = record {
     copies = step_copies l l' logical names f ins s m.copies;
     linked = step_linked l l' logical names f.rec s m.linked;
     present = λ page has. elim (cur_present p l logical m page) [
       | inl none ↦ inl (partial_cur page ∙ none)
-      | inr here ↦ inr (subst (λ v. is_present l' (named page v) ≡ true) (sym (partial_cur page)) (s.one.kept (current_name p l logical page) here))
+      | inr here ↦ inr (subst (λ v. is_present l' (named page v) ≡ true) (sym (partial_cur page))
+          (s.one.kept (current_name p l logical page) here))
     ];
     counted = λ u here at. elim (s.one.cases u here) [
       | inl e ↦ (
-          let below = name_loose l logical names s.underway p m gone j (absent_before l l' logical names f.rec s gone absent') (name_of f.rec) s.of_names in
+          let below = name_loose l logical names s.underway p m gone j
+          (absent_before l l' logical names f.rec s gone absent') (name_of f.rec) s.of_names in
           let version = ap (λ n. n.version) e in
           let page = ap (λ n. cur p l' logical n.page) e in
           let same = partial_cur f.rec.page in
@@ -76,7 +84,8 @@ module _ (p : Protocol) (l l' : List Found) (logical : ℕ) (names : List Link) 
           let link = link_of l u in
           let same = partial_cur link.page in
           let low = law.0 in
-          subst (λ q. (q.version ≤ cur p l' logical q.page) × (is_clear p l' q ≡ true)) (sym (old_link l l' logical names f.rec s u before))
+          subst (λ q. (q.version ≤ cur p l' logical q.page) × (is_clear p l' q ≡ true))
+          (sym (old_link l l' logical names f.rec s u before))
           (omega arith, clear_stays p l l' logical names f.rec s back link law.1 law.0))
     ];
     loose = loose;

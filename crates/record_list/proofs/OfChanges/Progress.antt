@@ -19,22 +19,27 @@ pub record IsUnderway (l : List Found) (logical : ℕ) (names : List Link) : Typ
   pub apart : Apart names
   pub range : (a : Link) → Contains names a → (a.page < logical) × (1 ≤ a.version)
   pub asked : (a b : Link) → Follows names a b → is_present l a ≡ true → link_of l a ≡ b
-  pub lower : (u : Link) → is_present l u ≡ true → (Contains names u → ⊥) → (a : Link) → Contains names a → IsLower u (link_of l u) a
+  pub lower : (u : Link) → is_present l u ≡ true → (Contains names u → ⊥) → (a : Link) → Contains names a →
+      IsLower u (link_of l u) a
 
 -- a mention below a version, of either kind
 pub mention_parts : (r : Rec) (a : Link) → mention_at a.page r < a.version → IsLower (name_of r) r.next a
 mention_parts r a h = (
   λ e. (let left = le-max_left (version_of a.page r) (linked_at a.page r) in
-      let at : version_of a.page r ≡ r.version = cond-true (eqb r.page a.page) r.version 0 (eq-eqb r.page a.page e) in omega arith),
+      let at : version_of a.page r ≡ r.version = cond-true (eqb r.page a.page) r.version 0 (eq-eqb r.page a.page e) in
+      omega arith),
   λ e. (let right = le-max_right (version_of a.page r) (linked_at a.page r) in
-      let at : linked_at a.page r ≡ r.next.version = cond-true (eqb r.next.page a.page) r.next.version 0 (eq-eqb r.next.page a.page e) in omega arith),
+      let at : linked_at a.page r ≡ r.next.version = cond-true (eqb r.next.page a.page) r.next.version 0
+      (eq-eqb r.next.page a.page e) in omega arith),
 )
 
 -- a transaction that has begun is so by names
-pub underway_of : (p : Protocol) (l : List Found) (logical : ℕ) (names : List Link) → IsBegun p l logical names → IsUnderway l logical names
+pub underway_of : (p : Protocol) (l : List Found) (logical : ℕ) (names : List Link) → IsBegun p l logical names →
+    IsUnderway l logical names
 underway_of p l logical names begun = record {
   apart = begun.transaction.distinct;
-  range = λ a i. (let h = All-contains (λ b. (b.page < logical) × (1 ≤ b.version) × (b.version ≤ 2 ^ 62)) names a begun.transaction.in_range i in (h.0, h.1));
+  range = λ a i. (let h = All-contains (λ b. (b.page < logical) × (1 ≤ b.version) × (b.version ≤ 2 ^ 62)) names a
+      begun.transaction.in_range i in (h.0, h.1));
   asked = λ a b i here.
       let f = found_named l a here in
       let asks = All-contains (λ g. IsAsked p l logical names g.rec) l f.0 begun.asked f.1 in
@@ -42,7 +47,8 @@ underway_of p l logical names begun = record {
       sym f.3 ∙ (pair f.2).0;
   lower = λ u here out a i.
       let f = found_named l u here in
-      let other = All-contains (λ g. (Contains names (name_of g.rec) → ⊥) → All (λ n. mention_at n.page g.rec < n.version) names) l f.0 begun.others f.1
+      let other = All-contains (λ g. (Contains names (name_of g.rec) → ⊥) →
+      All (λ n. mention_at n.page g.rec < n.version) names) l f.0 begun.others f.1
       (λ c. out (subst (Contains names) f.2 c)) in
       let low = mention_parts f.0.rec a (All-contains (λ n. mention_at n.page f.0.rec < n.version) names a other i) in
       subst (λ n. IsLower n (link_of l u) a) f.2 (subst (λ n. IsLower (name_of f.0.rec) n a) f.3 low);
@@ -76,7 +82,8 @@ module _ (l : List Found) (logical : ℕ) (names : List Link) (t : IsUnderway l 
 
   -- the newest record of its page links to the next name
   pub name_top : (a b : Link) → Follows names a b → is_present l a ≡ true → top_link l a.page ≡ b
-  name_top a b i here = ap (link_of l) (same_name (newest_name l a.page) a refl (name_newest a (follows_in names a b i).0 here)) ∙ t.asked a b i here
+  name_top a b i here = ap (link_of l) (same_name (newest_name l a.page) a refl
+      (name_newest a (follows_in names a b i).0 here)) ∙ t.asked a b i here
 
   -- an absent name is above the newest of its page
   pub name_ahead : (a : Link) → Contains names a → is_present l a ≡ false → newest l a.page < a.version
@@ -99,11 +106,13 @@ module _ (l : List Found) (logical : ℕ) (names : List Link) (t : IsUnderway l 
             let after = follows_of names u j in
             let same : after.0 ≡ b = sym (t.asked u after.0 after.1 here) ∙ e in
             follows_once names u a b t.apart (subst (λ n. Follows names u n) same after.1) i)
-        | inr out ↦ (let low = (t.lower u here out b ends.1).1 (ap (λ n. n.page) e) in let v = ap (λ n. n.version) e in absurd (omega arith))
+        | inr out ↦ (let low = (t.lower u here out b ends.1).1 (ap (λ n. n.page) e) in let v = ap (λ n. n.version) e in
+            absurd (omega arith))
       ]
 
   -- while a name is absent, a present name's page is in no safe set
-  pub name_unsafe : (p : Protocol) (X : ℕ → Type 0) → IsSafe p l logical X → (gone : Link) → Contains names gone → is_present l gone ≡ false →
+  pub name_unsafe : (p : Protocol) (X : ℕ → Type 0) → IsSafe p l logical X → (gone : Link) → Contains names gone →
+      is_present l gone ≡ false →
       (a : Link) → Contains names a → is_present l a ≡ true → X a.page → ⊥
   name_unsafe p X safe gone j absent a i here x =
       let Q : Link → Type 0 = λ n. (is_present l n ≡ true) × X n.page in
@@ -121,12 +130,15 @@ module _ (l : List Found) (logical : ℕ) (names : List Link) (t : IsUnderway l 
       false≢true (sym absent ∙ all.0)
 
   -- so it is not committed
-  pub name_uncounted : (p : Protocol) → IsLinked l logical → (gone : Link) → Contains names gone → is_present l gone ≡ false →
+  pub name_uncounted : (p : Protocol) → IsLinked l logical → (gone : Link) → Contains names gone →
+      is_present l gone ≡ false →
       (a : Link) → Contains names a → is_present l a ≡ true → Counts p l logical a.page → ⊥
-  name_uncounted p linked gone j absent a i here c = name_unsafe p (Counts p l logical) (counts_safe p l logical linked) gone j absent a i here c
+  name_uncounted p linked gone j absent a i here c = name_unsafe p (Counts p l logical) (counts_safe p l logical linked)
+      gone j absent a i here c
 
   -- while a name is absent, each name is above the current version of its page
-  pub name_loose : (p : Protocol) → IsSoundMap p l logical → (gone : Link) → Contains names gone → is_present l gone ≡ false →
+  pub name_loose : (p : Protocol) → IsSoundMap p l logical → (gone : Link) → Contains names gone →
+      is_present l gone ≡ false →
       (a : Link) → Contains names a → cur p l logical a.page < a.version
   name_loose p m gone j absent a i =
       let le = cur_le p l logical m a.page in
@@ -136,7 +148,8 @@ module _ (l : List Found) (logical : ℕ) (names : List Link) (t : IsUnderway l 
           | inl at ↦ (
               let top = name_newest a i here in
               let positive = (t.range a i).1 in
-              absurd (name_uncounted p m.linked gone j absent a i here (current_counts p l logical m a.page (omega arith) (omega arith))))
+              absurd (name_uncounted p m.linked gone j absent a i here
+              (current_counts p l logical m a.page (omega arith) (omega arith))))
           | inr off ↦ omega arith
         ]
         | inr not' ↦ (let ahead = name_ahead a i not' in omega arith)
@@ -146,7 +159,8 @@ module _ (l : List Found) (logical : ℕ) (names : List Link) (t : IsUnderway l 
   pub names_safe : (p : Protocol) → ((a : Link) → Contains names a → is_present l a ≡ true) →
       IsSafe p l logical (λ page. (a : Link) × Contains names a × (a.page ≡ page))
   names_safe p all = record {
-    written = λ page x. (let top = name_newest x.0 x.1 (all x.0 x.1) in let positive = (t.range x.0 x.1).1 in subst (λ q. 0 < newest l q) x.2 (omega arith));
+    written = λ page x. (let top = name_newest x.0 x.1 (all x.0 x.1) in let positive = (t.range x.0 x.1).1 in
+        subst (λ q. 0 < newest l q) x.2 (omega arith));
     goes = λ page x.
         let after = follows_of names x.0 x.1 in
         let ends = follows_in names x.0 after.0 after.1 in
@@ -156,5 +170,6 @@ module _ (l : List Found) (logical : ℕ) (names : List Link) (t : IsUnderway l 
   }
 
 -- a name that a list lacks
-pub absent_name : (l : List Found) (names : List Link) → Any (λ a. is_present l a ≡ false) names → (a : Link) × Contains names a × (is_present l a ≡ false)
+pub absent_name : (l : List Found) (names : List Link) → Any (λ a. is_present l a ≡ false) names →
+    (a : Link) × Contains names a × (is_present l a ≡ false)
 absent_name l names any = (any.1, (any.0, any.2, any.3), any.4)

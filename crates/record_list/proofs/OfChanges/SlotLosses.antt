@@ -11,6 +11,7 @@ written_slot_loss p law l n shape keep sound scanned spared =
     record {
       sound = kept.0;
       records = kept.1;
-      array = array_left p l n keep sound.records scanned sound.bytes (counted_first p (records_of l) n keep (is_outside shape spared.block) spared.counted)
+      array = array_left p l n keep sound.records scanned sound.bytes
+          (counted_first p (records_of l) n keep (is_outside shape spared.block) spared.counted)
           (kept.1).same_current;
     }

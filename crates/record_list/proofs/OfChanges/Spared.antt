@@ -6,11 +6,14 @@ use Rattle.record_list.proofs.OfChanges.WrittenLists.{left_both}
 
 module _ (p : Protocol) (l : List Found) (n : ℕ) where
   -- what one test keeps of the records that count is in each list that has what the test leaves
-  kept_in : (keep : ℕ → Bool) (m : List Found) → KeepsCounted p l n keep → ((f : Found) → Contains (left keep l) f → Contains m f) →
-      (f : Found) → Contains l f → IsCurrent p l n f.rec ⊎ (is_held p l n f.rec ≡ true) → is_present m (name_of f.rec) ≡ true
+  kept_in : (keep : ℕ → Bool) (m : List Found) → KeepsCounted p l n keep →
+      ((f : Found) → Contains (left keep l) f → Contains m f) →
+      (f : Found) → Contains l f → IsCurrent p l n f.rec ⊎ (is_held p l n f.rec ≡ true) →
+      is_present m (name_of f.rec) ≡ true
   kept_in keep m counted sub f i counts =
       among_present (left keep l) m (among_of (left keep l) m sub) (name_of f.rec)
-      (All-contains (λ g. IsCurrent p l n g.rec ⊎ (is_held p l n g.rec ≡ true) → is_present (left keep l) (name_of g.rec) ≡ true) l f counted i counts)
+      (All-contains (λ g. IsCurrent p l n g.rec ⊎ (is_held p l n g.rec ≡ true) →
+      is_present (left keep l) (name_of g.rec) ≡ true) l f counted i counts)
 
   -- what a test keeps it keeps twice
   pub counted_twice : (keep : ℕ → Bool) → KeepsCounted p l n keep → KeepsCounted p l n (λ s. keep s && keep s)
@@ -23,14 +26,17 @@ module _ (p : Protocol) (l : List Found) (n : ℕ) where
   module _ (keep out : ℕ → Bool) (counted : KeepsCounted p l n (λ s. keep s && out s)) where
     -- what two tests keep together the first keeps
     pub counted_first : KeepsCounted p l n keep
-    counted_first = all_from (λ f. IsCurrent p l n f.rec ⊎ (is_held p l n f.rec ≡ true) → is_present (left keep l) (name_of f.rec) ≡ true) l
-        (kept_in (λ s. keep s && out s) (left keep l) counted (λ f c. (from_filter (λ g. out g.slot.0) f (left keep l) (left_both keep out l f c)).0))
+    counted_first = all_from (λ f. IsCurrent p l n f.rec ⊎ (is_held p l n f.rec ≡ true) →
+        is_present (left keep l) (name_of f.rec) ≡ true) l
+        (kept_in (λ s. keep s && out s) (left keep l) counted
+        (λ f c. (from_filter (λ g. out g.slot.0) f (left keep l) (left_both keep out l f c)).0))
 
     -- and the second keeps it of what the first leaves
     pub counted_second : LossKeeps p l (left keep l) n → KeepsCounted p (left keep l) n out
     counted_second k = all_from (λ f. IsCurrent p (left keep l) n f.rec ⊎ (is_held p (left keep l) n f.rec ≡ true) →
         is_present (left out (left keep l)) (name_of f.rec) ≡ true) (left keep l) (λ f c counts.
-        kept_in (λ s. keep s && out s) (left out (left keep l)) counted (left_both keep out l) f (from_filter (λ g. keep g.slot.0) f l c).0
+        kept_in (λ s. keep s && out s) (left out (left keep l)) counted (left_both keep out l) f
+        (from_filter (λ g. keep g.slot.0) f l c).0
         (⊎_elim
         (λ e. inl (e ∙ k.same_current f.rec.page (All-contains (PagesExist n) (left keep l) f (k.sound Pages) c).0))
         (λ held. inr (k.held f.rec held))

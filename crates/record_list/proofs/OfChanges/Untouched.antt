@@ -17,10 +17,12 @@ OldLinks p l l' logical names r = (page : ℕ) → IsUntouched l names r page �
     (Goes p l (Counts p l logical) (top_link l page) → is_clear p l' (top_link l page) ≡ true)
     × (is_clear p l' (top_link l page) ≡ true → Goes p l (Counts p l logical) (top_link l page))
 
-module _ (p : Protocol) (l l' : List Found) (logical : ℕ) (names : List Link) (r : Rec) (s : IsStep l l' logical names r) (linked : IsLinked l logical)
+module _ (p : Protocol) (l l' : List Found) (logical : ℕ) (names : List Link) (r : Rec)
+    (s : IsStep l l' logical names r) (linked : IsLinked l logical)
     (old : OldLinks p l l' logical names r) where
   -- its link is lower than the transaction at each of its pages
-  link_lower : (page : ℕ) → IsUntouched l names r page → (a : Link) → Contains names a → (top_link l page).page ≡ a.page → (top_link l page).version < a.version
+  link_lower : (page : ℕ) → IsUntouched l names r page → (a : Link) → Contains names a →
+      (top_link l page).page ≡ a.page → (top_link l page).version < a.version
   link_lower page k a i e = (s.underway.lower (newest_name l page) (newest_present l page k.0) k.2 a i).1 e
 
   -- a page that it leads to at the newest version is untouched too
@@ -49,14 +51,16 @@ module _ (p : Protocol) (l l' : List Found) (logical : ℕ) (names : List Link) 
           | inr off ↦ (
               let e = newest_else l l' logical names r s q.page off in
               elim goes [
-                | inl passes ↦ (let less = passes.0 in inl (omega arith, clear_else l l' logical names r s p q off ∙ passes.1))
+                | inl passes ↦ (let less = passes.0 in
+                    inl (omega arith, clear_else l l' logical names r s p q off ∙ passes.1))
                 | inr on ↦ inr (on.0 ∙ sym e, (next_untouched page k off on.0, on.1))
               ])
         ]);
   }
 
   -- from after to before
-  was_safe : IsSafe p l logical (λ page. (IsUntouched l names r page × Counts p l' logical page) ⊎ Counts p l logical page)
+  was_safe : IsSafe p l logical (λ page. (IsUntouched l names r page × Counts p l' logical page)
+      ⊎ Counts p l logical page)
   was_safe =
       let X : ℕ → Type 0 = λ z. (IsUntouched l names r z × Counts p l' logical z) ⊎ Counts p l logical z in
       record {
@@ -65,7 +69,8 @@ module _ (p : Protocol) (l l' : List Found) (logical : ℕ) (names : List Link) 
           | inl both ↦ (
               let k = both.0 in
               let q = top_link l page in
-              let goes : Goes p l' (Counts p l' logical) q = subst (Goes p l' (Counts p l' logical)) (top_else l l' logical names r s page k.1)
+              let goes : Goes p l' (Counts p l' logical) q =
+              subst (Goes p l' (Counts p l' logical)) (top_else l l' logical names r s page k.1)
               ((counts_safe p l' logical (step_linked l l' logical names r s linked)).goes page both.1) in
               elim (cases_eq q.page r.page) [
                 | inl into ↦ (
@@ -73,17 +78,24 @@ module _ (p : Protocol) (l l' : List Found) (logical : ℕ) (names : List Link) 
                     let own = newest_own l l' logical names r s in
                     let there = ap (newest l') into in
                     elim goes [
-                      | inl passes ↦ elim ((old page k into).1 passes.1) [ inl g ↦ inl g | inr on ↦ inr (on.0, inr on.1) ]
+                      | inl passes ↦ elim ((old page k into).1 passes.1) [
+                        | inl g ↦ inl g
+                        | inr on ↦ inr (on.0, inr on.1)
+                      ]
                       | inr on ↦ (let at = on.0 in absurd (omega arith))
                     ])
                 | inr off ↦ (
                     let e = newest_else l l' logical names r s q.page off in
                     elim goes [
-                      | inl passes ↦ (let less = passes.0 in inl (omega arith, sym (clear_else l l' logical names r s p q off) ∙ passes.1))
+                      | inl passes ↦ (let less = passes.0 in
+                          inl (omega arith, sym (clear_else l l' logical names r s p q off) ∙ passes.1))
                       | inr on ↦ inr (on.0 ∙ e, inl (next_untouched page k off (on.0 ∙ e), on.1))
                     ])
               ])
-          | inr c ↦ elim ((counts_safe p l logical linked).goes page c) [ inl passes ↦ inl passes | inr on ↦ inr (on.0, inr on.1) ]
+          | inr c ↦ elim ((counts_safe p l logical linked).goes page c) [
+            | inl passes ↦ inl passes
+            | inr on ↦ inr (on.0, inr on.1)
+          ]
         ];
       }
 
@@ -94,14 +106,18 @@ module _ (p : Protocol) (l l' : List Found) (logical : ℕ) (names : List Link) 
 
   -- and one that counts afterwards counted
   pub was : (page : ℕ) → IsUntouched l names r page → Counts p l' logical page → Counts p l logical page
-  was page k c = counts_from p l logical linked (λ z. (IsUntouched l names r z × Counts p l' logical z) ⊎ Counts p l logical z) was_safe page (inl (k, c))
+  was page k c = counts_from p l logical linked (λ z. (IsUntouched l names r z × Counts p l' logical z)
+      ⊎ Counts p l logical z) was_safe page (inl (k, c))
 
   -- where the verdict on another page is as before, so is its current version
-  same_cur : (page : ℕ) → (page ≡ r.page → ⊥) → is_committed (why p l' logical page) ≡ is_committed (why p l logical page) →
+  same_cur : (page : ℕ) → (page ≡ r.page → ⊥) → is_committed (why p l' logical page)
+      ≡ is_committed (why p l logical page) →
       cur p l' logical page ≡ cur p l logical page
   same_cur page off e = elim (cases_Bool (is_committed (why p l logical page))) [
-    | inl yes' ↦ cur_committed p l' logical page (e ∙ yes') ∙ newest_else l l' logical names r s page off ∙ sym (cur_committed p l logical page yes')
-    | inr not' ↦ cur_uncommitted p l' logical page (e ∙ not') ∙ same_fallback p page off ∙ sym (cur_uncommitted p l logical page not')
+    | inl yes' ↦ cur_committed p l' logical page (e ∙ yes') ∙ newest_else l l' logical names r s page off
+        ∙ sym (cur_committed p l logical page yes')
+    | inr not' ↦ cur_uncommitted p l' logical page (e ∙ not') ∙ same_fallback p page off
+        ∙ sym (cur_uncommitted p l logical page not')
   ]
     where
       same_fallback : (q : Protocol) (page : ℕ) → (page ≡ r.page → ⊥) → fallback q l' page ≡ fallback q l page
@@ -120,17 +136,20 @@ module _ (p : Protocol) (l l' : List Found) (logical : ℕ) (names : List Link) 
   -- so does a page without records
   pub bare_cur : (page : ℕ) → newest l page ≡ 0 → (page ≡ r.page → ⊥) → cur p l' logical page ≡ cur p l logical page
   bare_cur page none off =
-      bare_page p l' logical (step_linked l l' logical names r s linked) page (newest_else l l' logical names r s page off ∙ none) ∙
+      bare_page p l' logical (step_linked l l' logical names r s linked) page
+      (newest_else l l' logical names r s page off ∙ none) ∙
       sym (bare_page p l logical linked page none)
 
   -- and a page of a present name, where some name stays absent
-  pub named_cur : (gone : Link) → Contains names gone → is_present l' gone ≡ false → (a : Link) → Contains names a → is_present l a ≡ true →
+  pub named_cur : (gone : Link) → Contains names gone → is_present l' gone ≡ false → (a : Link) → Contains names a →
+      is_present l a ≡ true →
       (a.page ≡ r.page → ⊥) →
       newest l a.page ≡ a.version → is_present l gone ≡ false → cur p l' logical a.page ≡ cur p l logical a.page
   named_cur gone j absent' a i here off top absent =
       let e = newest_else l l' logical names r s a.page off in
       let positive = (s.underway.range a i).1 in
       same_cur a.page off (one_test (is_committed (why p l' logical a.page)) (is_committed (why p l logical a.page))
-      (λ h. absurd (name_uncounted l' logical names (step_underway l l' logical names r s) p (step_linked l l' logical names r s linked) gone j absent' a i
+      (λ h. absurd (name_uncounted l' logical names (step_underway l l' logical names r s) p
+      (step_linked l l' logical names r s linked) gone j absent' a i
       (s.one.kept a here) (omega arith, h)))
       (λ h. absurd (name_uncounted l logical names s.underway p linked gone j absent a i here (omega arith, h))))

@@ -18,23 +18,28 @@ use Rattle.record_list.proofs.OfWalks.Rounds.{cases_page}
 use Rattle.record_list.proofs.OfFacts.Names.{same_name, present_as, named_name}
 
 -- a held record of a name is that of the longer list
-held_more : (p : Protocol) (l m : List Found) (n : ℕ) → IsSoundMap p m n → ((f : Found) → Contains l f → Contains m f) → (name : Link) →
+held_more : (p : Protocol) (l m : List Found) (n : ℕ) → IsSoundMap p m n → ((f : Found) → Contains l f → Contains m f) →
+    (name : Link) →
     is_held p l n (record_named m name) ≡ true → is_held p l n (record_named l name) ≡ true
 held_more p l m n sound sub name held =
-    let here : is_present l name ≡ true = subst (λ u. is_present l u ≡ true) (named_name m name) (held_present p l n (record_named m name) held) in
-    subst (λ r. is_held p l n r ≡ true) (sym (among_record l m (among_of l m sub) (one_each p m n sound) name here)) held
+    let here : is_present l name ≡ true = subst (λ u. is_present l u ≡ true) (named_name m name)
+    (held_present p l n (record_named m name) held) in
+    subst (λ r. is_held p l n r ≡ true) (sym (among_record l m (among_of l m sub) (one_each p m n sound) name here))
+    held
 
 -- with more records the same block is removable, where each name that counts then counted before or lies outside it
 counted_grows : (p : Protocol) (l m : List Found) (n : ℕ) (keep : ℕ → Bool) →
     IsSoundList p l n → IsScanned l → IsScanned m → IsSoundList p m n → ((f : Found) → Contains l f → Contains m f) →
-    ((name : Link) → name.page < n → IsCounted p m n name → IsCounted p l n name ⊎ (is_present (left keep m) name ≡ true)) →
+    ((name : Link) → name.page < n → IsCounted p m n name → IsCounted p l n name
+    ⊎ (is_present (left keep m) name ≡ true)) →
     KeepsCounted p l n keep → KeepsCounted p m n keep
 counted_grows p l m n keep sl scanned s sm sub was k =
     let b : IsCountedKept p l n keep = counted_names p l n keep (sound_map p l n sl scanned) k in
     counted_records p m n keep s sm (record {
       kept = λ name low h c.
           ⊎_elim
-          (λ old. among_present (left keep l) (left keep m) (among_of (left keep l) (left keep m) (left_more keep l m sub)) name (b.kept name low h old))
+          (λ old. among_present (left keep l) (left keep m)
+          (among_of (left keep l) (left keep m) (left_more keep l m sub)) name (b.kept name low h old))
           (λ there. there)
           (was name low c);
     })
@@ -48,7 +53,8 @@ fresh_bytes l w fresh v c e = absurd (both_ways (is_present (records_of l) (name
 -- a write that leaves a name absent: the same block stays removable
 pub written_partial_write : (p : Protocol) → PartialWriteLaw p → WrittenPartialWriteLaw p
 written_partial_write p law l m n shape names w sound i write some =
-    let k : PartialWriteKeeps p (records_of l) (records_of m) n names = law (records_of l) (records_of m) n names (found_of w) sound.records write some in (
+    let k : PartialWriteKeeps p (records_of l) (records_of m) n names =
+    law (records_of l) (records_of m) n names (found_of w) sound.records write some in (
       record {
         records = k.sound;
         bytes = bytes_inserted l m w i sound.bytes (fresh_bytes l w write.fresh);
@@ -56,12 +62,15 @@ written_partial_write p law l m n shape names w sound i write some =
         removable = record {
           block = sound.removable.block;
           exists = sound.removable.exists;
-          removable = counted_grows p (records_of l) (records_of m) n (is_outside shape sound.removable.block) sound.records write.scanned write.scanned'
+          removable = counted_grows p (records_of l) (records_of m) n (is_outside shape sound.removable.block)
+              sound.records write.scanned write.scanned'
               k.sound
               (in_inserted (records_of l) (records_of m) (found_of w) write.added)
               (λ name low c. inl (⊎_elim (λ e. inl (e ∙ k.same_current name.page low))
-              (λ h. inr (held_more p (records_of l) (records_of m) n (sound_map p (records_of m) n k.sound write.scanned')
-              (in_inserted (records_of l) (records_of m) (found_of w) write.added) name (sym (k.same_held (record_named (records_of m) name)) ∙ h))) c))
+              (λ h. inr (held_more p (records_of l) (records_of m) n
+              (sound_map p (records_of m) n k.sound write.scanned')
+              (in_inserted (records_of l) (records_of m) (found_of w) write.added) name
+              (sym (k.same_held (record_named (records_of m) name)) ∙ h))) c))
               sound.removable.removable;
         };
       },
@@ -71,7 +80,8 @@ written_partial_write p law l m n shape names w sound i write some =
 -- a write that completes its cycle: the block that has room around it is removable
 pub written_completing_write : (p : Protocol) → CompletingWriteLaw p → WrittenCompletingWriteLaw p
 written_completing_write p law l m n shape names w sound i write all room =
-    let k : CompletingWriteKeeps p (records_of l) (records_of m) n names = law (records_of l) (records_of m) n names (found_of w) sound.records write all in (
+    let k : CompletingWriteKeeps p (records_of l) (records_of m) n names =
+    law (records_of l) (records_of m) n names (found_of w) sound.records write all in (
       record {
         records = k.sound;
         bytes = bytes_inserted l m w i sound.bytes (fresh_bytes l w write.fresh);
@@ -79,20 +89,27 @@ written_completing_write p law l m n shape names w sound i write all room =
         removable = record {
           block = room.block;
           exists = room.exists;
-          removable = counted_grows p (records_of l) (records_of m) n (is_outside shape room.block) sound.records write.scanned write.scanned' k.sound
+          removable = counted_grows p (records_of l) (records_of m) n (is_outside shape room.block) sound.records
+              write.scanned write.scanned' k.sound
               (in_inserted (records_of l) (records_of m) (found_of w) write.added)
               (λ name low c. elim c [
                 | inl e ↦ elim (cases_page names name.page) [
                   | inl t ↦ inr (subst (λ a. is_present (left (is_outside shape room.block) (records_of m)) a ≡ true)
-                      (same_name t.0 name t.2 (sym (All-contains (λ a. cur p (records_of m) n a.page ≡ a.version) names t.0 k.committed t.1) ∙
+                      (same_name t.0 name t.2
+                      (sym (All-contains (λ a. cur p (records_of m) n a.page ≡ a.version) names t.0 k.committed t.1)
+                      ∙
                       (ap (cur p (records_of m) n) t.2 ∙ sym e)))
-                      (All-contains (λ a. is_present (left (is_outside shape room.block) (records_of m)) a ≡ true) names t.0 room.outside t.1))
-                  | inr other ↦ inl (inl (e ∙ k.elsewhere name.page low (all_from (λ a. a.page ≢ name.page) names other)))
+                      (All-contains (λ a. is_present (left (is_outside shape room.block) (records_of m)) a ≡ true) names
+                      t.0 room.outside t.1))
+                  | inr other ↦ inl (inl (e ∙ k.elsewhere name.page low
+                      (all_from (λ a. a.page ≢ name.page) names other)))
                 ]
                 | inr h ↦ elim (k.held (record_named (records_of m) name) h) [
-                  | inl old ↦ inl (inr (held_more p (records_of l) (records_of m) n (sound_map p (records_of m) n k.sound write.scanned')
+                  | inl old ↦ inl (inr (held_more p (records_of l) (records_of m) n
+                      (sound_map p (records_of m) n k.sound write.scanned')
                       (in_inserted (records_of l) (records_of m) (found_of w) write.added) name old))
-                  | inr t ↦ inr (All-contains (λ a. is_present (left (is_outside shape room.block) (records_of m)) a ≡ true) names name room.outside
+                  | inr t ↦ inr (All-contains (λ a. is_present (left (is_outside shape room.block) (records_of m)) a
+                      ≡ true) names name room.outside
                       (subst (Contains names) (named_name (records_of m) name) t))
                 ]
               ])
@@ -109,20 +126,27 @@ module _ (l m : List Written) (w : Written) (i : IsInserted l w m) (scanned : Is
   copied scanned' =
       let v = source.1 in
       let at : Contains (records_of l) (found_of v) = in_records l v (source.0, source.2, source.3) in
-      record { scanned = scanned; scanned' = scanned'; added = inserted_records l m w i; source = (at.0, found_of v, at.1, at.2, source.4.0) }
+      record {
+        scanned = scanned;
+        scanned' = scanned';
+        added = inserted_records l m w i;
+        source = (at.0, found_of v, at.1, at.2, source.4.0);
+      }
 
   -- and the bytes agree
   pub bytes_copied : All (BytesAgree l) l → All (BytesAgree m) m
   bytes_copied bytes =
       let v = source.1 in
       let there : Contains l v = (source.0, source.2, source.3) in
-      bytes_inserted l m w i bytes (λ u c e. same_bytes l scanned bytes u v c there (e ∙ sym (ap name_of source.4.0)) ∙ source.4.1)
+      bytes_inserted l m w i bytes (λ u c e. same_bytes l scanned bytes u v c there (e ∙ sym (ap name_of source.4.0))
+      ∙ source.4.1)
 
 -- a copy: the same block stays removable
 pub written_copy : (p : Protocol) → CopyLaw p → WrittenCopyLaw p
 written_copy p law l m n shape w sound i scanned scanned' source =
     let copy : IsCopy (records_of l) (records_of m) (found_of w) = copied l m w i scanned source scanned' in
-    let k : CopyKeeps p (records_of l) (records_of m) n = law (records_of l) (records_of m) n (found_of w) sound.records copy in (
+    let k : CopyKeeps p (records_of l) (records_of m) n = law (records_of l) (records_of m) n (found_of w)
+    sound.records copy in (
       record {
         records = k.sound;
         bytes = bytes_copied l m w i scanned source sound.bytes;
@@ -130,11 +154,13 @@ written_copy p law l m n shape w sound i scanned scanned' source =
         removable = record {
           block = sound.removable.block;
           exists = sound.removable.exists;
-          removable = counted_grows p (records_of l) (records_of m) n (is_outside shape sound.removable.block) sound.records scanned scanned' k.sound
+          removable = counted_grows p (records_of l) (records_of m) n (is_outside shape sound.removable.block)
+              sound.records scanned scanned' k.sound
               (in_inserted (records_of l) (records_of m) (found_of w) copy.added)
               (λ name low c. inl (⊎_elim (λ e. inl (e ∙ k.same_current name.page low))
               (λ h. inr (held_more p (records_of l) (records_of m) n (sound_map p (records_of m) n k.sound scanned')
-              (in_inserted (records_of l) (records_of m) (found_of w) copy.added) name (sym (k.same_held (record_named (records_of m) name)) ∙ h))) c))
+              (in_inserted (records_of l) (records_of m) (found_of w) copy.added) name
+              (sym (k.same_held (record_named (records_of m) name)) ∙ h))) c))
               sound.removable.removable;
         };
       },
@@ -142,7 +168,8 @@ written_copy p law l m n shape w sound i scanned scanned' source =
     )
 
 -- a loss of any slots: the block outside which the list is spared is removable
-pub written_left : (p : Protocol) → LossLaw p → (l : List Written) (n : ℕ) (shape : Shape) (keep : ℕ → Bool) → IsSoundWritten p l n shape →
+pub written_left : (p : Protocol) → LossLaw p → (l : List Written) (n : ℕ) (shape : Shape) (keep : ℕ → Bool) →
+    IsSoundWritten p l n shape →
     IsScanned (records_of l) → IsSpared p (records_of l) n shape keep →
     IsSoundWritten p (left_written keep l) n shape × LossKeeps p (records_of l) (records_of (left_written keep l)) n
 written_left p law l n shape keep sound scanned spared =
@@ -151,7 +178,8 @@ written_left p law l n shape keep sound scanned spared =
     let is : fewer ≡ records_of (left_written keep l) = sym (records_left keep l) in
     let k : LossKeeps p (records_of l) fewer n =
     law (records_of l) n keep sound.records scanned (counted_first p (records_of l) n keep out spared.counted) in
-    let k' : LossKeeps p (records_of l) (records_of (left_written keep l)) n = subst (λ z. LossKeeps p (records_of l) z n) is k in (
+    let k' : LossKeeps p (records_of l) (records_of (left_written keep l)) n =
+    subst (λ z. LossKeeps p (records_of l) z n) is k in (
       record {
         records = k'.sound;
         bytes = bytes_filtered (λ w. keep w.slot.0) l sound.bytes;
@@ -159,7 +187,8 @@ written_left p law l n shape keep sound scanned spared =
         removable = record {
           block = spared.block;
           exists = spared.exists;
-          removable = subst (λ z. KeepsCounted p z n out) is (counted_second p (records_of l) n keep out spared.counted k);
+          removable = subst (λ z. KeepsCounted p z n out) is
+              (counted_second p (records_of l) n keep out spared.counted k);
         };
       },
       k',

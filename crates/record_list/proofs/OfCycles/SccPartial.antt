@@ -14,16 +14,19 @@ use Rattle.record_list.proofs.OfChanges.Keeping.{step_of, back_of_step, begun_on
 use Rattle.record_list.proofs.OfChanges.Partial.{partial_cur, partial_map}
 
 -- where nothing must go, no loose name mentions the page below the new version, by itself or by its link
-pub none_below : (l : List Found) (logical : ℕ) (r : Rec) → NothingMustGo Scc l logical r → (u : Link) → is_present l u ≡ true →
+pub none_below : (l : List Found) (logical : ℕ) (r : Rec) → NothingMustGo Scc l logical r → (u : Link) →
+    is_present l u ≡ true →
     cur Scc l logical u.page < u.version →
-    (u.page ≡ r.page → u.version < r.version → ⊥) × ((link_of l u).page ≡ r.page → (link_of l u).version < r.version → ⊥)
+    (u.page ≡ r.page → u.version < r.version → ⊥) × ((link_of l u).page ≡ r.page →
+    (link_of l u).version < r.version → ⊥)
 none_below l logical r clear u here loose =
     let f = found_named l u here in
     let stays = All-contains (λ g. must_go Scc l logical r.page r.version g.rec ≡ false) l f.0 clear f.1 in
     let page : f.0.rec.page ≡ u.page = ap (λ n. n.page) f.2 in
     let version : f.0.rec.version ≡ u.version = ap (λ n. n.version) f.2 in
     let current = ap (cur Scc l logical) page in
-    let is : is_loose Scc l logical f.0.rec ≡ true = lt-ltb (cur Scc l logical f.0.rec.page) f.0.rec.version (omega arith) in
+    let is : is_loose Scc l logical f.0.rec ≡ true = lt-ltb (cur Scc l logical f.0.rec.page) f.0.rec.version
+    (omega arith) in
     let refused : mentions_below r.page r.version f.0.rec ≡ true → ⊥ = λ m. false≢true (sym stays ∙
     and_from (is_loose Scc l logical f.0.rec) (mentions_below r.page r.version f.0.rec) is m) in (
       λ e less. refused (or_left ((eqb f.0.rec.page r.page) && (ltb f.0.rec.version r.version))
@@ -35,11 +38,13 @@ none_below l logical r clear u here loose =
           let next_version : f.0.rec.next.version ≡ (link_of l u).version = ap (λ n. n.version) f.3 in
           refused (or_right ((eqb f.0.rec.page r.page) && (ltb f.0.rec.version r.version))
           ((eqb f.0.rec.next.page r.page) && (ltb f.0.rec.next.version r.version))
-          (and_from (eqb f.0.rec.next.page r.page) (ltb f.0.rec.next.version r.version) (eq-eqb f.0.rec.next.page r.page next_page)
+          (and_from (eqb f.0.rec.next.page r.page) (ltb f.0.rec.next.version r.version)
+          (eq-eqb f.0.rec.next.page r.page next_page)
           (lt-ltb f.0.rec.next.version r.version (omega arith)))),
     )
 
-module _ (l l' : List Found) (logical : ℕ) (names : List Link) (r : Rec) (s : IsStep l l' logical names r) (m : IsSoundMap Scc l logical)
+module _ (l l' : List Found) (logical : ℕ) (names : List Link) (r : Rec) (s : IsStep l l' logical names r)
+    (m : IsSoundMap Scc l logical)
     (clear : NothingMustGo Scc l logical r) where
   -- the newest version of the page that is written was current
   pub newest_current : newest l r.page ≡ cur Scc l logical r.page
@@ -49,7 +54,8 @@ module _ (l l' : List Found) (logical : ℕ) (names : List Link) (r : Rec) (s : 
         let le = cur_le Scc l logical m r.page in
         let ahead = name_ahead l logical names s.underway (name_of r) s.of_names s.one.fresh in
         elim (cases_lt (cur Scc l logical r.page) (newest l r.page)) [
-          | inl loose ↦ absurd ((none_below l logical r clear (newest_name l r.page) (newest_present l r.page (omega arith)) loose).0 refl ahead)
+          | inl loose ↦ absurd ((none_below l logical r clear (newest_name l r.page)
+              (newest_present l r.page (omega arith)) loose).0 refl ahead)
           | inr at ↦ omega arith
         ])
   ]
@@ -66,13 +72,18 @@ module _ (l l' : List Found) (logical : ℕ) (names : List Link) (r : Rec) (s : 
         let positive = (m.linked.versions n here).1 in
         let there = ap (newest l) into in
         elim (cases_order q.version (newest l q.page)) [
-          | inl at ↦ inr (at, subst (λ z. Counts Scc l logical z) (sym into) (current_counts Scc l logical m r.page (omega arith) (sym newest_current)))
+          | inl at ↦ inr (
+            at,
+            subst (λ z. Counts Scc l logical z) (sym into)
+                (current_counts Scc l logical m r.page (omega arith) (sym newest_current)),
+          )
           | inr (inl behind) ↦ inl (behind, refl)
           | inr (inr ahead) ↦ absurd (elim (cases_lt (cur Scc l logical page) (newest l page)) [
             | inl loose ↦ (none_below l logical r clear n here loose).1 into low
             | inr at ↦ (
                 let le = cur_le Scc l logical m page in
-                elim ((counts_safe Scc l logical m.linked).goes page (current_counts Scc l logical m page k.0 (omega arith))) [
+                elim ((counts_safe Scc l logical m.linked).goes page
+                (current_counts Scc l logical m page k.0 (omega arith))) [
                   | inl passes ↦ (let less = passes.0 in omega arith)
                   | inr on ↦ (let same = on.0 in omega arith)
                 ])
@@ -81,14 +92,18 @@ module _ (l l' : List Found) (logical : ℕ) (names : List Link) (r : Rec) (s : 
   )
 
   -- the page that is written keeps its current version while a name is absent
-  pub scc_own_cur : (gone : Link) → Contains names gone → is_present l' gone ≡ false → cur Scc l' logical r.page ≡ cur Scc l logical r.page
+  pub scc_own_cur : (gone : Link) → Contains names gone → is_present l' gone ≡ false →
+      cur Scc l' logical r.page ≡ cur Scc l logical r.page
   scc_own_cur gone j absent' =
       let top = newest_own l l' logical names r s in
       let positive = (s.underway.range (name_of r) s.of_names).1 in
-      let not' : is_committed (why Scc l' logical r.page) ≡ false = false_from_ne_true (is_committed (why Scc l' logical r.page)) (λ h.
-      name_uncounted l' logical names (step_underway l l' logical names r s) Scc (step_linked l l' logical names r s m.linked) gone j absent'
+      let not' : is_committed (why Scc l' logical r.page) ≡ false =
+      false_from_ne_true (is_committed (why Scc l' logical r.page)) (λ h.
+      name_uncounted l' logical names (step_underway l l' logical names r s) Scc
+      (step_linked l l' logical names r s m.linked) gone j absent'
       (name_of r) s.of_names s.one.own (omega arith, h)) in
-      cur_uncommitted Scc l' logical r.page not' ∙ ap (next_older l' r.page) top ∙ older_own l l' logical names r s ∙ newest_current
+      cur_uncommitted Scc l' logical r.page not' ∙ ap (next_older l' r.page) top ∙ older_own l l' logical names r s
+      ∙ newest_current
 
 -- the law of a write that leaves a name absent
 pub scc_partial_write : PartialWriteLaw Scc

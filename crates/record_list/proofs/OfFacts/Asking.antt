@@ -18,10 +18,12 @@ following names k = if k + 1 == length names then 0 else k + 1
 zip_within : (xs ys : List Link) (i : ℕ) → i < length (zip xs ys) → (i < length xs) × (i < length ys)
 zip_within xs ys i h = let shorter = length-zip xs ys in (omega arith, omega arith)
 
--- a record is as a transaction asks where it has the k-th name, the link to the one that follows, the back version and the
--- count
-pub asked_at : (p : Protocol) (l : List Found) (logical : ℕ) (names : List Link) (k : ℕ) (r : Rec) (d : Link) → IsTransaction logical names →
-    k < length names → name_of r ≡ get_or names k d → r.next ≡ get_or (next_names names) k d → r.back ≡ back_version p l logical r.page →
+-- a record is as a transaction asks where it has the k-th name, the link to the one that follows, the back version and
+-- the count
+pub asked_at : (p : Protocol) (l : List Found) (logical : ℕ) (names : List Link) (k : ℕ) (r : Rec) (d : Link) →
+    IsTransaction logical names →
+    k < length names → name_of r ≡ get_or names k d → r.next ≡ get_or (next_names names) k d →
+    r.back ≡ back_version p l logical r.page →
     r.count ≡ length names → IsAsked p l logical names r
 asked_at p l logical names k r d transaction within named next back count i dd inside =
     let both = zip_within names (next_names names) i inside in
@@ -43,17 +45,20 @@ asked_at p l logical names k r d transaction within named next back count i dd i
     ))
 
 -- the name that follows, by its place
-pub rounded_at : (names : List Link) (k : ℕ) (d : Link) → k < length names → get_or (next_names names) k d ≡ get_or names (following names k) d
+pub rounded_at : (names : List Link) (k : ℕ) (d : Link) → k < length names →
+    get_or (next_names names) k d ≡ get_or names (following names k) d
 rounded_at [] k d within = absurd (omega arith)
 rounded_at (a ∷ rest) k d within = elim (cases_eq (k + 1) (length (a ∷ rest))) [
   | inl last ↦
       (let at : length rest ≡ k = omega arith in
       get_or_push rest a d k at
-      ∙ sym (ap (λ n. get_or (a ∷ rest) n d) (cond-true (k + 1 == length (a ∷ rest)) 0 (k + 1) (eq-eqb (k + 1) (length (a ∷ rest)) last))))
+      ∙ sym (ap (λ n. get_or (a ∷ rest) n d) (cond-true (k + 1 == length (a ∷ rest)) 0 (k + 1)
+      (eq-eqb (k + 1) (length (a ∷ rest)) last))))
   | inr more ↦
       (let inside : k < length rest = omega arith in
       get_or_append_left rest (a ∷ []) d k inside
-      ∙ sym (ap (λ n. get_or (a ∷ rest) n d) (cond-false (k + 1 == length (a ∷ rest)) 0 (k + 1) (ne_eqb (k + 1) (length (a ∷ rest)) more) ∙ add-one k)))
+      ∙ sym (ap (λ n. get_or (a ∷ rest) n d) (cond-false (k + 1 == length (a ∷ rest)) 0 (k + 1)
+      (ne_eqb (k + 1) (length (a ∷ rest)) more) ∙ add-one k)))
 ]
 
 -- a fact that holds of each name of a list that is not empty holds of some
@@ -62,10 +67,12 @@ some_of_all P [] some all = absurd (omega arith)
 some_of_all P (a ∷ rest) some all = (0, a, some, refl, all 0 a some)
 
 -- a transaction whose pages are mentioned only below its versions is in progress: no record of it is written yet
-pub begins : (p : Protocol) (l : List Found) (logical : ℕ) (names : List Link) → IsTransaction logical names → 0 < length names →
+pub begins : (p : Protocol) (l : List Found) (logical : ℕ) (names : List Link) → IsTransaction logical names →
+    0 < length names →
     All (λ a. mention l a.page < a.version) names → InProgress p l logical names
 begins p l logical names transaction some below =
-    let lower : (f : Found) → Contains l f → (a : Link) → Contains names a → mention_at a.page f.rec < a.version = λ f i a j.
+    let lower : (f : Found) → Contains l f → (a : Link) → Contains names a →
+    mention_at a.page f.rec < a.version = λ f i a j.
     let bound = greatest_bound (mention_at a.page) l f i in
     let less = All-contains (λ b. mention l b.page < b.version) names a below j in
     omega arith in
@@ -82,10 +89,12 @@ begins p l logical names transaction some below =
             let is : (get_or (zip names (next_names names)) k dd).0 ≡ a = ap (λ (pair : Link × Link). pair.0)
             (get_or-zip names (next_names names) k dd both.0 both.1) in
             absurd (no_record f i a (k, both.0, get_or_default names k a dd.0 both.0) (same ∙ is)));
-        others = all_from (λ f. (Contains names (name_of f.rec) → ⊥) → All (λ a. mention_at a.page f.rec < a.version) names) l
+        others = all_from (λ f. (Contains names (name_of f.rec) → ⊥) →
+            All (λ a. mention_at a.page f.rec < a.version) names) l
             (λ f i none. all_from (λ a. mention_at a.page f.rec < a.version) names (lower f i));
       };
-      absent = some_of_all (λ a. is_present l a ≡ false) names some (all_from (λ a. is_present l a ≡ false) names (λ a j.
+      absent = some_of_all (λ a. is_present l a ≡ false) names some
+          (all_from (λ a. is_present l a ≡ false) names (λ a j.
           elim (cases_Bool (is_present l a)) [
             | inl there ↦ (let f = found_named l a there in absurd (no_record f.0 f.1 a j f.2))
             | inr gone ↦ gone

@@ -29,9 +29,16 @@ least_slot : (P : Found → Type 0) (list : List Found) (i slot : ℕ) → IsSca
     slot ≡ (get_or list i nothing).slot.0 →
     Any (λ f. (f.slot.0 ≡ slot) × (P f → ⊥)) list × All (λ f. f.slot.0 < slot → P f) list
 least_slot P list i slot scanned (inside, fails, before) at = (
-  (i, get_or list i nothing, inside, get_or_default list i (get_or list i nothing) nothing inside, (sym at, fails nothing)),
+  (
+    i,
+    get_or list i nothing,
+    inside,
+    get_or_default list i (get_or list i nothing) nothing inside,
+    (sym at, fails nothing),
+  ),
   λ k d within below.
-      let same : (get_or list i d).slot.0 ≡ slot = ap (λ f. f.slot.0) (get_or_default list i d nothing inside) ∙ sym at in
+      let same : (get_or list i d).slot.0 ≡ slot = ap (λ f. f.slot.0) (get_or_default list i d nothing inside)
+      ∙ sym at in
       let above : (get_or list k d).slot.0 < (get_or list i d).slot.0 = omega arith in
       before k d (earlier_index list k i d scanned within above),
 )
@@ -94,7 +101,8 @@ before_links P pages copies = one_law_more P Copies (before_copies P pages) copi
 pub before_present : (P : Law → Type 0) → P Pages → P Copies → P Links → (l : Law) → number l < number Present → P l
 before_present P pages copies links = one_law_more P Links (before_links P pages copies) links
 
-pub before_counted : (P : Law → Type 0) → P Pages → P Copies → P Links → P Present → (l : Law) → number l < number Counted → P l
+pub before_counted : (P : Law → Type 0) → P Pages → P Copies → P Links → P Present → (l : Law) →
+    number l < number Counted → P l
 before_counted P pages copies links present = one_law_more P Present (before_present P pages copies links) present
 
 -- the breach of a law by the record at an index
@@ -102,7 +110,8 @@ abbrev pub breach : ℕ → List Found → ℕ → Breach
 breach law list at = record { law = law; slot = (get_or list at nothing).slot }
 
 -- the least breach of law 9
-pub miscount_at : (list : List Found) (at : ℕ) → IsScanned list → FindsFirst (KeepsCount list) list (Some at) → IsLeastMiscount list (breach 9 list at)
+pub miscount_at : (list : List Found) (at : ℕ) → IsScanned list → FindsFirst (KeepsCount list) list (Some at) →
+    IsLeastMiscount list (breach 9 list at)
 miscount_at list at scanned finds =
     let least = least_slot (KeepsCount list) list at (get_or list at nothing).slot.0 scanned finds refl in
     record { law = refl; breaks = least.0; earlier_slots = least.1 }
@@ -111,26 +120,35 @@ miscount_at list at scanned finds =
 pub breach_of_pages : (p : Protocol) (list : List Found) (logical at : ℕ) → IsScanned list →
     FindsFirst (PagesExist logical) list (Some at) → IsLeastBreach p list logical (breach 1 list at)
 breach_of_pages p list logical at scanned finds =
-    least_breach p list logical Pages at (breach 1 list at) scanned finds refl refl (no_law_before (λ l. All (Keeps p list logical l) list))
+    least_breach p list logical Pages at (breach 1 list at) scanned finds refl refl
+    (no_law_before (λ l. All (Keeps p list logical l) list))
 
-pub breach_of_copies : (p : Protocol) (list : List Found) (logical at : ℕ) → IsScanned list → All (PagesExist logical) list →
+pub breach_of_copies : (p : Protocol) (list : List Found) (logical at : ℕ) → IsScanned list →
+    All (PagesExist logical) list →
     FindsFirst (CopiesAgree list) list (Some at) → IsLeastBreach p list logical (breach 2 list at)
 breach_of_copies p list logical at scanned pages finds =
-    least_breach p list logical Copies at (breach 2 list at) scanned finds refl refl (before_copies (λ l. All (Keeps p list logical l) list) pages)
+    least_breach p list logical Copies at (breach 2 list at) scanned finds refl refl
+    (before_copies (λ l. All (Keeps p list logical l) list) pages)
 
-pub breach_of_links : (p : Protocol) (list : List Found) (logical at : ℕ) → IsScanned list → All (PagesExist logical) list →
-    All (CopiesAgree list) list → FindsFirst (LinksDiffer list) list (Some at) → IsLeastBreach p list logical (breach 3 list at)
+pub breach_of_links : (p : Protocol) (list : List Found) (logical at : ℕ) → IsScanned list →
+    All (PagesExist logical) list →
+    All (CopiesAgree list) list → FindsFirst (LinksDiffer list) list (Some at) →
+    IsLeastBreach p list logical (breach 3 list at)
 breach_of_links p list logical at scanned pages copies finds =
-    least_breach p list logical Links at (breach 3 list at) scanned finds refl refl (before_links (λ l. All (Keeps p list logical l) list) pages copies)
+    least_breach p list logical Links at (breach 3 list at) scanned finds refl refl
+    (before_links (λ l. All (Keeps p list logical l) list) pages copies)
 
-pub breach_of_current : (p : Protocol) (list : List Found) (logical at : ℕ) → IsScanned list → All (PagesExist logical) list →
-    All (CopiesAgree list) list → All (LinksDiffer list) list → FindsFirst (CurrentIsPresent p list logical) list (Some at) →
+pub breach_of_current : (p : Protocol) (list : List Found) (logical at : ℕ) → IsScanned list →
+    All (PagesExist logical) list →
+    All (CopiesAgree list) list → All (LinksDiffer list) list →
+    FindsFirst (CurrentIsPresent p list logical) list (Some at) →
     IsLeastBreach p list logical (breach 4 list at)
 breach_of_current p list logical at scanned pages copies links finds =
     least_breach p list logical Present at (breach 4 list at) scanned finds refl refl
     (before_present (λ l. All (Keeps p list logical l) list) pages copies links)
 
-pub breach_of_counted : (p : Protocol) (list : List Found) (logical at : ℕ) → IsScanned list → All (PagesExist logical) list →
+pub breach_of_counted : (p : Protocol) (list : List Found) (logical at : ℕ) → IsScanned list →
+    All (PagesExist logical) list →
     All (CopiesAgree list) list → All (LinksDiffer list) list → All (CurrentIsPresent p list logical) list →
     FindsFirst (LinkHasCounted p list logical) list (Some at) → IsLeastBreach p list logical (breach 5 list at)
 breach_of_counted p list logical at scanned pages copies links current finds =

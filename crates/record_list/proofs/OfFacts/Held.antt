@@ -11,7 +11,8 @@ pub record IsAnswer (l : List Found) (logical : ℕ) (s r : Rec) : Type 0 where
   pub version : responsible Bpcc l logical r.next ≡ s.version
 
 -- from the test to its parts
-pub answer_of : (l : List Found) (logical : ℕ) (s r : Rec) → answers_for Bpcc l logical s r ≡ true → IsAnswer l logical s r
+pub answer_of : (l : List Found) (logical : ℕ) (s r : Rec) → answers_for Bpcc l logical s r ≡ true →
+    IsAnswer l logical s r
 answer_of l logical s r h =
     let a = is_loose Bpcc l logical r in
     let b = eqb s.page r.next.page in
@@ -29,7 +30,8 @@ answer_of l logical s r h =
     }
 
 -- and back
-pub answers : (l : List Found) (logical : ℕ) (s r : Rec) → IsAnswer l logical s r → answers_for Bpcc l logical s r ≡ true
+pub answers : (l : List Found) (logical : ℕ) (s r : Rec) → IsAnswer l logical s r →
+    answers_for Bpcc l logical s r ≡ true
 answers l logical s r h =
     let a = is_loose Bpcc l logical r in
     let b = eqb s.page r.next.page in
@@ -37,5 +39,6 @@ answers l logical s r h =
     and_from (a && b && c) (eqb s.version (responsible Bpcc l logical r.next))
     (and_from (a && b) c
     (and_from a b (lt-ltb (cur Bpcc l logical r.page) r.version h.loose) (eq-eqb s.page r.next.page (sym h.page)))
-    (and_from (ltb s.back r.next.version) (ltb r.next.version s.version) (lt-ltb s.back r.next.version h.from) (lt-ltb r.next.version s.version h.under)))
+    (and_from (ltb s.back r.next.version) (ltb r.next.version s.version) (lt-ltb s.back r.next.version h.from)
+    (lt-ltb r.next.version s.version h.under)))
     (eq-eqb s.version (responsible Bpcc l logical r.next) (sym h.version))

@@ -23,7 +23,8 @@ is_same_true a b h =
 
 -- and a name passes its own
 pub is_same_own : (a b : Link) → a ≡ b → is_same a b ≡ true
-is_same_own a b e = and_from (eqb a.page b.page) (eqb a.version b.version) (eq-eqb _ _ (ap (λ n. n.page) e)) (eq-eqb _ _ (ap (λ n. n.version) e))
+is_same_own a b e = and_from (eqb a.page b.page) (eqb a.version b.version) (eq-eqb _ _ (ap (λ n. n.page) e))
+    (eq-eqb _ _ (ap (λ n. n.version) e))
 
 -- a record that passes the test for a name has it
 pub has_name_true : (u : Link) (r : Rec) → has_name u r ≡ true → name_of r ≡ u
@@ -33,7 +34,8 @@ has_name_true u r h =
 
 -- and a record that has a name passes its test
 pub has_own_name : (u : Link) (r : Rec) → name_of r ≡ u → has_name u r ≡ true
-has_own_name u r e = and_from (eqb r.page u.page) (eqb r.version u.version) (eq-eqb _ _ (ap (λ n. n.page) e)) (eq-eqb _ _ (ap (λ n. n.version) e))
+has_own_name u r e = and_from (eqb r.page u.page) (eqb r.version u.version) (eq-eqb _ _ (ap (λ n. n.page) e))
+    (eq-eqb _ _ (ap (λ n. n.version) e))
 
 -- a part of a choice is a choice of parts
 part_of : {X : Type 0} (of : Rec → X) (b : Bool) (r s : Rec) (x : X) → of s ≡ x → of (cond b r s) ≡ cond b (of r) x
@@ -43,12 +45,14 @@ part_of of false r s x e = e
 -- the link of a name is that of its record
 pub named_link : (l : List Found) (u : Link) → (record_named l u).next ≡ link_of l u
 named_link [] u = refl
-named_link (f ∷ fs) u = part_of (λ r. r.next) (has_name u f.rec) f.rec (record_named fs u) (link_of fs u) (named_link fs u)
+named_link (f ∷ fs) u = part_of (λ r. r.next) (has_name u f.rec) f.rec (record_named fs u) (link_of fs u)
+    (named_link fs u)
 
 -- and its back version
 pub named_back : (l : List Found) (u : Link) → (record_named l u).back ≡ back_of l u
 named_back [] u = refl
-named_back (f ∷ fs) u = part_of (λ r. r.back) (has_name u f.rec) f.rec (record_named fs u) (back_of fs u) (named_back fs u)
+named_back (f ∷ fs) u = part_of (λ r. r.back) (has_name u f.rec) f.rec (record_named fs u) (back_of fs u)
+    (named_back fs u)
 
 -- two lists with one record of a name have one link of it
 pub links_from : (l m : List Found) (u v : Link) → record_named l u ≡ record_named m v → link_of l u ≡ link_of m v
@@ -75,12 +79,15 @@ greatest_bound of (g ∷ gs) f c = elim (Contains-cases g gs f c) [
 ]
 
 -- what bounds each record bounds the greatest
-pub greatest_least : (of : Rec → ℕ) (l : List Found) (m : ℕ) → ((f : Found) → Contains l f → of f.rec ≤ m) → greatest of l ≤ m
+pub greatest_least : (of : Rec → ℕ) (l : List Found) (m : ℕ) → ((f : Found) → Contains l f → of f.rec ≤ m) →
+    greatest of l ≤ m
 greatest_least of [] m h = omega arith
-greatest_least of (g ∷ gs) m h = max-le (h g (Contains-first g gs)) (greatest_least of gs m (λ f i. h f (Contains-rest g gs f i)))
+greatest_least of (g ∷ gs) m h = max-le (h g (Contains-first g gs))
+    (greatest_least of gs m (λ f i. h f (Contains-rest g gs f i)))
 
 -- a record has the greatest number, where this is not 0
-pub greatest_attained : (of : Rec → ℕ) (l : List Found) → 0 < greatest of l → (f : Found) × Contains l f × (of f.rec ≡ greatest of l)
+pub greatest_attained : (of : Rec → ℕ) (l : List Found) → 0 < greatest of l → (f : Found) × Contains l f
+    × (of f.rec ≡ greatest of l)
 greatest_attained of [] h = absurd (omega arith)
 greatest_attained of (g ∷ gs) h = elim (cases_lt (of g.rec) (greatest of gs)) [
   | inl less ↦ (let ih = greatest_attained of gs (omega arith) in
@@ -93,9 +100,19 @@ first_named : (l : List Found) (u : Link) → is_present l u ≡ true →
     (f : Found) × Contains l f × (name_of f.rec ≡ u) × (f.rec ≡ record_named l u)
 first_named [] u h = absurd (false≢true h)
 first_named (f ∷ fs) u h = elim (cases_Bool (has_name u f.rec)) [
-  | inl e ↦ (f, Contains-first f fs, has_name_true u f.rec e, sym (cond-true (has_name u f.rec) f.rec (record_named fs u) e))
-  | inr e ↦ (let ih = first_named fs u (present_rest (has_name u f.rec) (is_present fs u) e h) in
-      (ih.0, Contains-rest f fs ih.0 ih.1, ih.2, ih.3 ∙ sym (cond-false (has_name u f.rec) f.rec (record_named fs u) e)))
+  | inl e ↦ (
+    f,
+    Contains-first f fs,
+    has_name_true u f.rec e,
+    sym (cond-true (has_name u f.rec) f.rec (record_named fs u) e),
+  )
+  | inr e ↦ (let ih = first_named fs u (present_rest (has_name u f.rec) (is_present fs u) e h) in (
+    ih.0,
+    Contains-rest f fs ih.0 ih.1,
+    ih.2,
+    ih.3
+        ∙ sym (cond-false (has_name u f.rec) f.rec (record_named fs u) e),
+  ))
 ]
   where
     present_rest : (a b : Bool) → a ≡ false → (a || b) ≡ true → b ≡ true
@@ -104,7 +121,8 @@ first_named (f ∷ fs) u h = elim (cases_Bool (has_name u f.rec)) [
 
 -- it, its link and its back version
 pub found_named : (l : List Found) (u : Link) → is_present l u ≡ true →
-    (f : Found) × Contains l f × (name_of f.rec ≡ u) × (f.rec.next ≡ link_of l u) × (f.rec.back ≡ back_of l u) × (f.rec ≡ record_named l u)
+    (f : Found) × Contains l f × (name_of f.rec ≡ u) × (f.rec.next ≡ link_of l u) × (f.rec.back ≡ back_of l u)
+    × (f.rec ≡ record_named l u)
 found_named l u h =
     let f = first_named l u h in
     (f.0, f.1, f.2, ap (λ r. r.next) f.3 ∙ named_link l u, ap (λ r. r.back) f.3 ∙ named_back l u, f.3)
@@ -113,12 +131,14 @@ found_named l u h =
 pub present_in : (l : List Found) (f : Found) → Contains l f → is_present l (name_of f.rec) ≡ true
 present_in [] f c = absurd (Contains-nil f c)
 present_in (g ∷ gs) f c = elim (Contains-cases g gs f c) [
-  | inl e ↦ or_left (has_name (name_of f.rec) g.rec) (is_present gs (name_of f.rec)) (has_own_name (name_of f.rec) g.rec (ap (λ x. name_of x.rec) e))
+  | inl e ↦ or_left (has_name (name_of f.rec) g.rec) (is_present gs (name_of f.rec))
+      (has_own_name (name_of f.rec) g.rec (ap (λ x. name_of x.rec) e))
   | inr i ↦ or_right (has_name (name_of f.rec) g.rec) (is_present gs (name_of f.rec)) (present_in gs f i)
 ]
 
 -- a name that a record has is present
-pub present_as : (l : List Found) (f : Found) (name : Link) → Contains l f → name_of f.rec ≡ name → is_present l name ≡ true
+pub present_as : (l : List Found) (f : Found) (name : Link) → Contains l f → name_of f.rec ≡ name →
+    is_present l name ≡ true
 present_as l f name i e = subst (λ u. is_present l u ≡ true) e (present_in l f i)
 
 -- an absent name has the record of an empty list
@@ -141,7 +161,8 @@ pub newest_bound : (l : List Found) (u : Link) → is_present l u ≡ true → u
 newest_bound l u h =
     let f = found_named l u h in
     let bound = greatest_bound (version_of u.page) l f.0 f.1 in
-    let at_page : version_of u.page f.0.rec ≡ f.0.rec.version = cond-true (eqb f.0.rec.page u.page) f.0.rec.version 0 (eq-eqb _ _ (ap (λ n. n.page) f.2)) in
+    let at_page : version_of u.page f.0.rec ≡ f.0.rec.version = cond-true (eqb f.0.rec.page u.page) f.0.rec.version 0
+    (eq-eqb _ _ (ap (λ n. n.page) f.2)) in
     let version : f.0.rec.version ≡ u.version = ap (λ n. n.version) f.2 in
     omega arith
 
@@ -151,18 +172,21 @@ newest_present l page h =
     let f = greatest_attained (version_of page) l h in
     let h' : 0 < version_of page f.0.rec = omega arith in
     let at = if_positive (eqb f.0.rec.page page) f.0.rec.version h' in
-    let name : name_of f.0.rec ≡ newest_name l page = same_name (name_of f.0.rec) (newest_name l page) (eqb-true f.0.rec.page page at.0) (sym at.1 ∙ f.2) in
+    let name : name_of f.0.rec ≡ newest_name l page = same_name (name_of f.0.rec) (newest_name l page)
+    (eqb-true f.0.rec.page page at.0) (sym at.1 ∙ f.2) in
     subst (λ u. is_present l u ≡ true) name (present_in l f.0 f.1)
 
 -- a present version below another is at most the next older one
-pub older_bound : (l : List Found) (u : Link) (below : ℕ) → is_present l u ≡ true → u.version < below → u.version ≤ next_older l u.page below
+pub older_bound : (l : List Found) (u : Link) (below : ℕ) → is_present l u ≡ true → u.version < below →
+    u.version ≤ next_older l u.page below
 older_bound l u below h less =
     let f = found_named l u h in
     let bound = greatest_bound (version_below u.page below) l f.0 f.1 in
     let version : f.0.rec.version ≡ u.version = ap (λ n. n.version) f.2 in
     let at : version_below u.page below f.0.rec ≡ f.0.rec.version =
     cond-true (eqb f.0.rec.page u.page && ltb f.0.rec.version below) f.0.rec.version 0
-    (and_from (eqb f.0.rec.page u.page) (ltb f.0.rec.version below) (eq-eqb _ _ (ap (λ n. n.page) f.2)) (lt-ltb f.0.rec.version below (omega arith))) in
+    (and_from (eqb f.0.rec.page u.page) (ltb f.0.rec.version below) (eq-eqb _ _ (ap (λ n. n.page) f.2))
+    (lt-ltb f.0.rec.version below (omega arith))) in
     omega arith
 
 -- the next older version is present and is older, where it is not 0
@@ -175,12 +199,14 @@ older_name l page below h =
     let tests = and_parts (eqb f.0.rec.page page) (ltb f.0.rec.version below) at.0 in
     let less : f.0.rec.version < below = ltb-true f.0.rec.version below tests.1 in
     let version : f.0.rec.version ≡ next_older l page below = sym at.1 ∙ f.2 in
-    let name : name_of f.0.rec ≡ named page (next_older l page below) = same_name (name_of f.0.rec) (named page (next_older l page below))
+    let name : name_of f.0.rec ≡ named page (next_older l page below) =
+    same_name (name_of f.0.rec) (named page (next_older l page below))
     (eqb-true f.0.rec.page page tests.0) version in
     (subst (λ u. is_present l u ≡ true) name (present_in l f.0 f.1), omega arith)
 
 -- a name of a list is absent, or all are present
-pub cases_present : (list : List Found) (names : List Link) → Any (λ name. is_present list name ≡ false) names ⊎ All (λ name. is_present list name ≡ true) names
+pub cases_present : (list : List Found) (names : List Link) → Any (λ name. is_present list name ≡ false) names
+    ⊎ All (λ name. is_present list name ≡ true) names
 cases_present list names = elim (cases_names names) [
   | inl gone ↦ inl (any_in (λ name. is_present list name ≡ false) names gone.0 gone.1 gone.2)
   | inr here ↦ inr (all_from (λ name. is_present list name ≡ true) names here)

@@ -1,6 +1,6 @@
 -- A page counts exactly where a safe set of pages contains it: from each page of the set the link of its newest record
--- passes, or leads to the newest record of a page of the set. So no other proof speaks of the turns of a walk. And a walk
--- that may look at more links than there are pages ends as it does.
+-- passes, or leads to the newest record of a page of the set. So no other proof speaks of the turns of a walk. And a
+-- walk that may look at more links than there are pages ends as it does.
 use Rattle.record_list.proofs.Common.{◌≡◌, ℕ, zero, suc, ◌+◌, ◌<◌, ◌≤◌, Bool, true, false, eqb, ◌⊎◌, List, [], ◌∷◌, length, refl, sym, ap, ◌∙◌, subst, inl, inr, arith, if◌then◌else◌, eqb-true, eq-eqb, ne_eqb, lt-ltb, le-ltb, ltb-true, false≢true, cases_lt, cases_eq, and_parts, and_from, Link, Protocol, Found, Cycle, Absent, newest, is_present, is_same, newest_name, link_of, why_below_newest, is_ahead, is_behind, walk, why, is_committed}
 use Rattle.std.proofs.Common.{ltb-false}
 use Rattle.std.specs.List.{AllByRecursion, IsDistinct}
@@ -37,7 +37,8 @@ abbrev pub Counts : Protocol → List Found → ℕ → ℕ → Type 0
 Counts p l logical page = (0 < newest l page) × (is_committed (why p l logical page) ≡ true)
 
 -- one turn of a walk over its three tests
-turn_says : (a b c : Bool) (w x : Why) → is_committed (if a then Absent else if b then w else if c then Cycle else x) ≡ true →
+turn_says : (a b c : Bool) (w x : Why) → is_committed (if a then Absent else if b then w else if c then Cycle
+    else x) ≡ true →
     (a ≡ false) × (((b ≡ true) × (is_committed w ≡ true)) ⊎ ((b ≡ false) × ((c ≡ true) ⊎ (is_committed x ≡ true))))
 turn_says true b c w x h = absurd (false≢true h)
 turn_says false true c w x h = (refl, inl (refl, h))
@@ -69,7 +70,8 @@ turn_goes false false false w x e f h = h
 
 -- two turns at one link that go on alike
 turn_same : (a b c : Bool) (w x y : Why) → (a ≡ false → b ≡ false → c ≡ false → x ≡ y) →
-    (if a then Absent else if b then w else if c then Cycle else x) ≡ (if a then Absent else if b then w else if c then Cycle else y)
+    (if a then Absent else if b then w else if c then Cycle else x) ≡ (if a then Absent else if b then w else if c
+    then Cycle else y)
 turn_same true b c w x y h = refl
 turn_same false true c w x y h = refl
 turn_same false false true w x y h = refl
@@ -83,11 +85,13 @@ Reaches p l start page =
 module _ (p : Protocol) (l : List Found) (logical : ℕ) (linked : IsLinked l logical) where
   -- the next link from such a page goes on within them
   reaches_on : (start page : ℕ) → Reaches p l start start → 0 < newest l page → (turns : ℕ) →
-      is_committed (walk p l (newest_name l start) turns (top_link l page)) ≡ true → Goes p l (Reaches p l start) (top_link l page)
+      is_committed (walk p l (newest_name l start) turns (top_link l page)) ≡ true →
+      Goes p l (Reaches p l start) (top_link l page)
   reaches_on start page own has zero h = absurd (false≢true h)
   reaches_on start page own has (suc n) h =
       let q = top_link l page in
-      let says = turn_says (is_ahead l q) (is_behind l q) (is_same q (newest_name l start)) (why_below_newest p l q) (walk p l (newest_name l start) n (link_of l q)) h in
+      let says = turn_says (is_ahead l q) (is_behind l q) (is_same q (newest_name l start)) (why_below_newest p l q)
+      (walk p l (newest_name l start) n (link_of l q)) h in
       elim says.1 [
         | inl passes ↦ inl (ltb-true q.version (newest l q.page) passes.0, passes.1)
         | inr on ↦ (
@@ -122,7 +126,7 @@ module _ (p : Protocol) (l : List Found) (logical : ℕ) (linked : IsLinked l lo
     goes = λ page x. reaches_on start page (own.0, (suc logical, own.1)) x.0 x.1.0 x.1.1;
   }
 
--- the page that so many links lead to, each from the newest record of a page
+-- the page that this many links lead to, each from the newest record of a page
 abbrev trail : List Found → ℕ → ℕ → ℕ
 trail l start zero = start
 trail l start (suc n) = (top_link l (trail l start n)).page
@@ -144,7 +148,8 @@ trails_length l start zero = refl
 trails_length l start (suc n) = ap suc (trails_length l start n)
 
 -- what is so of each page of the trail
-along_trails : (Q : ℕ → Type 0) (l : List Found) (start n : ℕ) → ((j : ℕ) → j ≤ n → Q (trail l start j)) → AllByRecursion Q (trails l start n)
+along_trails : (Q : ℕ → Type 0) (l : List Found) (start n : ℕ) → ((j : ℕ) → j ≤ n → Q (trail l start j)) →
+    AllByRecursion Q (trails l start n)
 along_trails Q l start zero h = (h zero (omega arith), tt)
 along_trails Q l start (suc n) h = (h (suc n) (omega arith), along_trails Q l start n (λ j le. h j (omega arith)))
 
@@ -165,7 +170,8 @@ module _ (l : List Found) (logical : ℕ) (linked : IsLinked l logical) (start :
   unfolding IsDistinct
   distinct n zero t le = (tt, tt)
   distinct n (suc m) t le = (
-    along_trails (λ y. eqb (trail l start (suc m)) y ≡ false) l start m (λ j lj. ne_eqb (trail l start (suc m)) (trail l start j)
+    along_trails (λ y. eqb (trail l start (suc m)) y ≡ false) l start m
+        (λ j lj. ne_eqb (trail l start (suc m)) (trail l start j)
         (λ e. apart n t j (suc m) (omega arith) le (sym e))),
     distinct n m t (omega arith),
   )
@@ -182,7 +188,8 @@ module _ (l : List Found) (logical : ℕ) (linked : IsLinked l logical) (start :
 
   -- one page more on the trail
   longer : (n : ℕ) → IsTrail l start n → 0 < newest l (trail l start (suc n)) →
-      top_link l (trail l start n) ≡ newest_name l (trail l start (suc n)) → (trail l start (suc n) ≡ start → ⊥) → IsTrail l start (suc n)
+      top_link l (trail l start n) ≡ newest_name l (trail l start (suc n)) → (trail l start (suc n) ≡ start → ⊥) →
+      IsTrail l start (suc n)
   longer n t has e away = record {
     written = λ j le. elim (cases_lt n j) [
       | inl more ↦ (let at : suc n ≡ j = omega arith in subst (λ i. 0 < newest l (trail l start i)) at has)
@@ -190,7 +197,8 @@ module _ (l : List Found) (logical : ℕ) (linked : IsLinked l logical) (start :
     ];
     joined = λ j le. elim (cases_lt j n) [
       | inl less ↦ t.joined j less
-      | inr more ↦ (let at : n ≡ j = omega arith in subst (λ i. top_link l (trail l start i) ≡ newest_name l (trail l start (suc i))) at e)
+      | inr more ↦ (let at : n ≡ j = omega arith in
+          subst (λ i. top_link l (trail l start i) ≡ newest_name l (trail l start (suc i))) at e)
     ];
     away = λ j le. elim (cases_lt j n) [
       | inl less ↦ t.away j less
@@ -209,25 +217,31 @@ module _ (l : List Found) (logical : ℕ) (linked : IsLinked l logical) (start :
 module _ (p : Protocol) (l : List Found) (logical : ℕ) (linked : IsLinked l logical) (start : ℕ) where
   -- walks along a trail that may look at as many links as there are pages end alike
   walk_alike : (few many n : ℕ) → logical ≤ n + few → logical ≤ n + many → IsTrail l start n →
-      walk p l (newest_name l start) few (top_link l (trail l start n)) ≡ walk p l (newest_name l start) many (top_link l (trail l start n))
+      walk p l (newest_name l start) few (top_link l (trail l start n))
+      ≡ walk p l (newest_name l start) many (top_link l (trail l start n))
   walk_alike zero many n enough too t = let short = trail_short l logical linked start n t in absurd (omega arith)
   walk_alike (suc a) zero n enough too t = let short = trail_short l logical linked start n t in absurd (omega arith)
   walk_alike (suc a) (suc b) n enough too t =
       let q = top_link l (trail l start n) in
       let step = walk_alike a b (suc n) (omega arith) (omega arith) in
-      let positive = (linked.versions (newest_name l (trail l start n)) (newest_present l (trail l start n) (t.written n (omega arith)))).1 in
-      turn_same (is_ahead l q) (is_behind l q) (is_same q (newest_name l start)) (why_below_newest p l q) (walk p l (newest_name l start) a (link_of l q))
+      let positive = (linked.versions (newest_name l (trail l start n))
+      (newest_present l (trail l start n) (t.written n (omega arith)))).1 in
+      turn_same (is_ahead l q) (is_behind l q) (is_same q (newest_name l start)) (why_below_newest p l q)
+      (walk p l (newest_name l start) a (link_of l q))
       (walk p l (newest_name l start) b (link_of l q)) (λ ahead behind other.
       let high : q.version ≤ newest l q.page = ltb-false (newest l q.page) q.version ahead in
       let low : newest l q.page ≤ q.version = ltb-false q.version (newest l q.page) behind in
       let at : q.version ≡ newest l q.page = omega arith in
       let name : q ≡ newest_name l q.page = same_name q (newest_name l q.page) refl at in
       let away : q.page ≡ start → ⊥ = λ e. false≢true (sym other
-      ∙ and_from (eqb q.page start) (eqb q.version (newest l start)) (eq-eqb q.page start e) (eq-eqb q.version (newest l start) (at ∙ ap (newest l) e))) in
-      subst (λ x. walk p l (newest_name l start) a (link_of l x) ≡ walk p l (newest_name l start) b (link_of l x)) (sym name)
+      ∙ and_from (eqb q.page start) (eqb q.version (newest l start)) (eq-eqb q.page start e)
+      (eq-eqb q.version (newest l start) (at ∙ ap (newest l) e))) in
+      subst (λ x. walk p l (newest_name l start) a (link_of l x) ≡ walk p l (newest_name l start) b (link_of l x))
+      (sym name)
       (step (longer l logical linked start n t (omega arith) name away)))
 
-module _ (p : Protocol) (l : List Found) (logical : ℕ) (linked : IsLinked l logical) (X : ℕ → Type 0) (safe : IsSafe p l logical X) (start : ℕ) where
+module _ (p : Protocol) (l : List Found) (logical : ℕ) (linked : IsLinked l logical) (X : ℕ → Type 0)
+    (safe : IsSafe p l logical X) (start : ℕ) where
   -- a walk that stays in a safe set says yes
   safe_walk : (turns n : ℕ) → logical ≤ n + turns → IsTrail l start n → X (trail l start n) →
       is_committed (walk p l (newest_name l start) turns (top_link l (trail l start n))) ≡ true
@@ -236,7 +250,8 @@ module _ (p : Protocol) (l : List Found) (logical : ℕ) (linked : IsLinked l lo
       let q = top_link l (trail l start n) in
       let step = safe_walk m (suc n) (omega arith) in
       elim (safe.goes (trail l start n) x) [
-        | inl passes ↦ turn_passes (is_ahead l q) (is_behind l q) (is_same q (newest_name l start)) (why_below_newest p l q)
+        | inl passes ↦ turn_passes (is_ahead l q) (is_behind l q) (is_same q (newest_name l start))
+            (why_below_newest p l q)
             (walk p l (newest_name l start) m (link_of l q))
             (le-ltb (newest l q.page) q.version (omega arith)) (lt-ltb q.version (newest l q.page) passes.0) passes.1
         | inr on ↦ (
@@ -244,11 +259,13 @@ module _ (p : Protocol) (l : List Found) (logical : ℕ) (linked : IsLinked l lo
             let behind : is_behind l q ≡ false = le-ltb q.version (newest l q.page) (omega arith) in
             let name : q ≡ newest_name l q.page = same_name q (newest_name l q.page) refl on.0 in
             elim (cases_eq q.page start) [
-              | inl back ↦ turn_closes (is_ahead l q) (is_behind l q) (is_same q (newest_name l start)) (why_below_newest p l q)
+              | inl back ↦ turn_closes (is_ahead l q) (is_behind l q) (is_same q (newest_name l start))
+                  (why_below_newest p l q)
                   (walk p l (newest_name l start) m (link_of l q)) ahead behind
                   (and_from (eqb q.page start) (eqb q.version (newest l start)) (eq-eqb q.page start back)
                   (eq-eqb q.version (newest l start) (on.0 ∙ ap (newest l) back)))
-              | inr off ↦ turn_goes (is_ahead l q) (is_behind l q) (is_same q (newest_name l start)) (why_below_newest p l q)
+              | inr off ↦ turn_goes (is_ahead l q) (is_behind l q) (is_same q (newest_name l start))
+                  (why_below_newest p l q)
                   (walk p l (newest_name l start) m (link_of l q)) ahead behind
                   (subst (λ x. is_committed (walk p l (newest_name l start) m (link_of l x)) ≡ true) (sym name)
                   (step (longer l logical linked start n t (safe.written q.page on.1) name off) on.1))
@@ -260,7 +277,8 @@ module _ (p : Protocol) (l : List Found) (logical : ℕ) (linked : IsLinked l lo
   pub counts_from : (X : ℕ → Type 0) → IsSafe p l logical X → (page : ℕ) → X page → Counts p l logical page
   counts_from X safe page x = (
     safe.written page x,
-    safe_walk p l logical linked X safe page (suc logical) zero (omega arith) (begins l logical linked page (safe.written page x)) x,
+    safe_walk p l logical linked X safe page (suc logical) zero (omega arith)
+        (begins l logical linked page (safe.written page x)) x,
   )
 
   -- the pages that count are a safe set
@@ -276,5 +294,7 @@ module _ (p : Protocol) (l : List Found) (logical : ℕ) (linked : IsLinked l lo
   }
 
   -- as many links as there are pages decide the verdict
-  pub walk_ends : (page turns : ℕ) → 0 < newest l page → logical ≤ turns → walk p l (newest_name l page) turns (top_link l page) ≡ why p l logical page
-  walk_ends page turns has enough = walk_alike p l logical linked page turns (suc logical) zero (omega arith) (omega arith) (begins l logical linked page has)
+  pub walk_ends : (page turns : ℕ) → 0 < newest l page → logical ≤ turns →
+      walk p l (newest_name l page) turns (top_link l page) ≡ why p l logical page
+  walk_ends page turns has enough = walk_alike p l logical linked page turns (suc logical) zero (omega arith)
+      (omega arith) (begins l logical linked page has)

@@ -28,18 +28,21 @@ own_pages l logical all = All-weaker (PagesExist logical) (OwnPageExists logical
 pub record IsSoundMap (p : Protocol) (l : List Found) (logical : ℕ) : Type 0 where
   pub copies : (f : Found) → Contains l f → f.rec ≡ record_named l (name_of f.rec)
   pub linked : IsLinked l logical
-  pub present : (page : ℕ) → 0 < newest l page → (cur p l logical page ≡ 0) ⊎ (is_present l (current_name p l logical page) ≡ true)
+  pub present : (page : ℕ) → 0 < newest l page → (cur p l logical page ≡ 0)
+      ⊎ (is_present l (current_name p l logical page) ≡ true)
   pub counted : (u : Link) → is_present l u ≡ true → u.version ≡ cur p l logical u.page →
       ((link_of l u).version ≤ cur p l logical (link_of l u).page) × (is_clear p l (link_of l u) ≡ true)
   pub loose : LooseNames p l logical
   pub ending : EndingNames p l logical
 
 -- each record has the link of its name
-pub map_link : {p : Protocol} {l : List Found} {logical : ℕ} → IsSoundMap p l logical → (f : Found) → Contains l f → f.rec.next ≡ link_of l (name_of f.rec)
+pub map_link : {p : Protocol} {l : List Found} {logical : ℕ} → IsSoundMap p l logical → (f : Found) → Contains l f →
+    f.rec.next ≡ link_of l (name_of f.rec)
 map_link {l = l} m f i = ap (λ r. r.next) (m.copies f i) ∙ named_link l (name_of f.rec)
 
 -- and its back version
-pub map_back : {p : Protocol} {l : List Found} {logical : ℕ} → IsSoundMap p l logical → (f : Found) → Contains l f → f.rec.back ≡ back_of l (name_of f.rec)
+pub map_back : {p : Protocol} {l : List Found} {logical : ℕ} → IsSoundMap p l logical → (f : Found) → Contains l f →
+    f.rec.back ≡ back_of l (name_of f.rec)
 map_back {l = l} m f i = ap (λ r. r.back) (m.copies f i) ∙ named_back l (name_of f.rec)
 
 -- under Back Pointer Cyclic Commit a name is clear exactly where no record straddles it
@@ -87,18 +90,22 @@ module _ (p : Protocol) (l : List Found) (logical : ℕ) (sound : IsSoundList p 
         let f = found_named l u hu in
         let g = found_named l v hv in
         let links : f.0.rec.next ≡ g.0.rec.next = f.3 ∙ e ∙ sym g.3 in
-        let names : name_of f.0.rec ≡ name_of g.0.rec = elim (in_order (λ x y. x.slot.0 < y.slot.0) l f.0 g.0 scanned.ascending f.1 g.1) [
+        let names : name_of f.0.rec ≡ name_of g.0.rec =
+        elim (in_order (λ x y. x.slot.0 < y.slot.0) l f.0 g.0 scanned.ascending f.1 g.1) [
           | inl same ↦ ap (λ x. name_of x.rec) same
           | inr (inl less) ↦ All-contains (λ h. h.slot.0 < g.0.slot.0 → h.rec.next ≡ g.0.rec.next →
-              name_of h.rec ≡ name_of g.0.rec) l f.0 (All-contains (LinksDiffer l) l g.0 (sound Links) g.1) f.1 less links
+              name_of h.rec ≡ name_of g.0.rec) l f.0 (All-contains (LinksDiffer l) l g.0 (sound Links) g.1)
+              f.1 less links
           | inr (inr more) ↦ sym (All-contains (λ h. h.slot.0 < f.0.slot.0 → h.rec.next ≡ f.0.rec.next →
-              name_of h.rec ≡ name_of f.0.rec) l g.0 (All-contains (LinksDiffer l) l f.0 (sound Links) f.1) g.1 more (sym links))
+              name_of h.rec ≡ name_of f.0.rec) l g.0 (All-contains (LinksDiffer l) l f.0 (sound Links) f.1) g.1
+              more (sym links))
         ] in
         sym f.2 ∙ names ∙ g.2;
   }
 
   -- law 4 by names
-  present_of : (page : ℕ) → 0 < newest l page → (cur p l logical page ≡ 0) ⊎ (is_present l (current_name p l logical page) ≡ true)
+  present_of : (page : ℕ) → 0 < newest l page → (cur p l logical page ≡ 0)
+      ⊎ (is_present l (current_name p l logical page) ≡ true)
   present_of page has =
       let f = found_named l (newest_name l page) (newest_present l page has) in
       let law = All-contains (CurrentIsPresent p l logical) l f.0 (sound Present) f.1 in
@@ -107,9 +114,11 @@ module _ (p : Protocol) (l : List Found) (logical : ℕ) (sound : IsSoundList p 
       subst (λ q. (cur p l logical q ≡ 0) ⊎ (is_present l (current_name p l logical q) ≡ true)) at_page (law at)
 
 -- law 5 by names, from a record of the name
-counted_at : (p : Protocol) (l : List Found) (logical : ℕ) (u : Link) (f : Found) → LinkHasCounted p l logical f → name_of f.rec ≡ u →
+counted_at : (p : Protocol) (l : List Found) (logical : ℕ) (u : Link) (f : Found) → LinkHasCounted p l logical f →
+    name_of f.rec ≡ u →
     f.rec.next ≡ link_of l u →
-    u.version ≡ cur p l logical u.page → ((link_of l u).version ≤ cur p l logical (link_of l u).page) × (is_clear p l (link_of l u) ≡ true)
+    u.version ≡ cur p l logical u.page → ((link_of l u).version ≤ cur p l logical (link_of l u).page)
+    × (is_clear p l (link_of l u) ≡ true)
 unfolding LinkHasCounted
 counted_at Scc l logical u f law e k at = (
   subst (λ q. q.version ≤ cur Scc l logical q.page) k
@@ -117,12 +126,15 @@ counted_at Scc l logical u f law e k at = (
   refl,
 )
 counted_at Bpcc l logical u f law e k at =
-    let h = law (subst (λ n. n.version ≡ cur Bpcc l logical n.page) (sym e) at) in
-    (subst (λ q. q.version ≤ cur Bpcc l logical q.page) k h.0, clear_from l (link_of l u) (subst (λ q. straddling l q ≡ 0) k h.1))
+    let h = law (subst (λ n. n.version ≡ cur Bpcc l logical n.page) (sym e) at) in (
+      subst (λ q. q.version ≤ cur Bpcc l logical q.page) k h.0,
+      clear_from l (link_of l u) (subst (λ q. straddling l q ≡ 0) k h.1),
+    )
 
 -- and back to a record
 counted_back : (p : Protocol) (l : List Found) (logical : ℕ) (f : Found) → f.rec.next ≡ link_of l (name_of f.rec) →
-    (f.rec.version ≡ cur p l logical f.rec.page → ((link_of l (name_of f.rec)).version ≤ cur p l logical (link_of l (name_of f.rec)).page) ×
+    (f.rec.version ≡ cur p l logical f.rec.page →
+    ((link_of l (name_of f.rec)).version ≤ cur p l logical (link_of l (name_of f.rec)).page) ×
     (is_clear p l (link_of l (name_of f.rec)) ≡ true)) →
     LinkHasCounted p l logical f
 unfolding LinkHasCounted
@@ -134,7 +146,8 @@ counted_back Bpcc l logical f k law = λ at. (
 )
 
 -- law 6
-loose_names : (p : Protocol) (l : List Found) (logical : ℕ) → ((f : Found) → Contains l f → LooseIsShown p l logical f) → LooseNames p l logical
+loose_names : (p : Protocol) (l : List Found) (logical : ℕ) →
+    ((f : Found) → Contains l f → LooseIsShown p l logical f) → LooseNames p l logical
 unfolding LooseIsShown
 loose_names Scc l logical h = tt
 loose_names Bpcc l logical h = λ u here at.
@@ -158,12 +171,14 @@ loose_back Bpcc l logical h f i k b = λ at.
     )
 
 -- law 7
-ending_names : (p : Protocol) (l : List Found) (logical : ℕ) → ((f : Found) → Contains l f → LooseEnds p l logical f) → EndingNames p l logical
+ending_names : (p : Protocol) (l : List Found) (logical : ℕ) → ((f : Found) → Contains l f → LooseEnds p l logical f) →
+    EndingNames p l logical
 unfolding LooseEnds
 ending_names Scc l logical h = tt
 ending_names Bpcc l logical h = λ u here at.
     let f = found_named l u here in
-    subst (λ q. ((n : ℕ) × (is_present l (follow l q n) ≡ false))) f.3 (h f.0 f.1 (subst (λ n. cur Bpcc l logical n.page < n.version) (sym f.2) at))
+    subst (λ q. ((n : ℕ) × (is_present l (follow l q n) ≡ false))) f.3
+    (h f.0 f.1 (subst (λ n. cur Bpcc l logical n.page < n.version) (sym f.2) at))
 
 -- and back to a record
 ending_back : (p : Protocol) (l : List Found) (logical : ℕ) → EndingNames p l logical → (f : Found) → Contains l f →
@@ -174,7 +189,8 @@ ending_back Bpcc l logical h f i k = λ at.
     subst (λ q. ((n : ℕ) × (is_present l (follow l q n) ≡ false))) (sym k) (h (name_of f.rec) (present_in l f i) at)
 
 -- a sound list is sound by names
-pub sound_map : (p : Protocol) (l : List Found) (logical : ℕ) → IsSoundList p l logical → IsScanned l → IsSoundMap p l logical
+pub sound_map : (p : Protocol) (l : List Found) (logical : ℕ) → IsSoundList p l logical → IsScanned l →
+    IsSoundMap p l logical
 sound_map p l logical sound scanned = record {
   copies = copies_of p l logical sound scanned;
   linked = linked_of p l logical sound scanned;
@@ -196,7 +212,8 @@ sound_list p l logical m Copies = all_from (CopiesAgree l) l (λ f i.
     m.copies g j ∙ ap (record_named l) e ∙ sym (m.copies f i)))
 sound_list p l logical m Links = all_from (LinksDiffer l) l (λ f i.
     all_from (λ g. g.slot.0 < f.slot.0 → g.rec.next ≡ f.rec.next → name_of g.rec ≡ name_of f.rec) l (λ g j less e.
-    m.linked.once (name_of g.rec) (name_of f.rec) (present_in l g j) (present_in l f i) (sym (map_link m g j) ∙ e ∙ (map_link m f i))))
+    m.linked.once (name_of g.rec) (name_of f.rec) (present_in l g j) (present_in l f i) (sym (map_link m g j) ∙ e
+    ∙ (map_link m f i))))
 sound_list p l logical m Present = all_from (CurrentIsPresent p l logical) l (λ f i at.
     let positive = (m.linked.versions (name_of f.rec) (present_in l f i)).0 in
     m.present f.rec.page (omega arith))

@@ -1,5 +1,5 @@
--- Lists of which one has its records among those of the other: what the other shares with it. A list counts as the set of
--- its records, where records of one name are equal.
+-- Lists of which one has its records among those of the other: what the other shares with it. A list counts as the set
+-- of its records, where records of one name are equal.
 use Rattle.record_list.proofs.Common.{◌≡◌, ℕ, ◌≤◌, true, false, List, refl, sym, ap, ◌∙◌, ⊎_elim, arith, Contains, cases_Bool, false_from_ne_true, both_ways, Link, Rec, Protocol, Found, greatest, name_of, is_present, record_named, link_of, back_of}
 use Rattle.record_list.specs.Changes.{IsCopy}
 use Rattle.record_list.proofs.OfFacts.SoundNames.{IsSoundMap}
@@ -24,7 +24,12 @@ among_of l m sub = record { among = λ f i. record { at = f; is_in = sub f i; is
 pub copied_among : (l l' : List Found) (f : Found) → IsCopy l l' f → IsAmong l' l
 copied_among l l' f c = record {
   among = λ g i. ⊎_elim
-      (λ e. record { at = c.source.1; is_in = (c.source.0, c.source.2, c.source.3); is = c.source.4 ∙ ap (λ (x : Found). x.rec) e })
+      (λ e. record {
+        at = c.source.1;
+        is_in = (c.source.0, c.source.2, c.source.3);
+        is = c.source.4
+            ∙ ap (λ (x : Found). x.rec) e;
+      })
       (λ old. record { at = g; is_in = old; is = refl })
       (inserted_in l l' f c.added g i);
 }
@@ -50,7 +55,8 @@ one_each_among l m a o = record {
 }
 
 -- records of one name in both lists are equal
-pub among_named : (l m : List Found) → IsAmong m l → IsOneEach l → (name : Link) (f g : Found) → Contains m f → name_of f.rec ≡ name → Contains l g →
+pub among_named : (l m : List Found) → IsAmong m l → IsOneEach l → (name : Link) (f g : Found) → Contains m f →
+    name_of f.rec ≡ name → Contains l g →
     name_of g.rec ≡ name → f.rec ≡ g.rec
 among_named l m a o name f g cf ef cg eg =
     let x : IsEqual l f.rec = a.among f cf in
@@ -73,7 +79,8 @@ module _ (l m : List Found) (a : IsAmong l m) where
 
   -- absent names
   pub among_absent : (name : Link) → is_present m name ≡ false → is_present l name ≡ false
-  among_absent name h = false_from_ne_true (is_present l name) (λ t. both_ways (is_present m name) h (among_present name t))
+  among_absent name h = false_from_ne_true (is_present l name)
+      (λ t. both_ways (is_present m name) h (among_present name t))
 
   -- the records of present names
   pub among_record : IsOneEach m → (name : Link) → is_present l name ≡ true → record_named l name ≡ record_named m name
@@ -84,7 +91,7 @@ module _ (l m : List Found) (a : IsAmong l m) where
       let e : x.at.rec ≡ g.0.rec = o.same x.at g.0 x.is_in g.1 (ap name_of x.is ∙ (f.2 ∙ sym g.2)) in
       sym f.5 ∙ (sym x.is ∙ (e ∙ g.5))
 
--- the same, of two lists with the same records
+-- each of two lists has the records of the other
 pub record IsSame (l m : List Found) : Type 0 where
   pub there : IsAmong l m
   pub back : IsAmong m l

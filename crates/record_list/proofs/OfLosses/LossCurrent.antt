@@ -1,5 +1,5 @@
--- Each current version stays in a loss: a page whose newest record left is the current one counts, and where a page with
--- a later record left does not count, its current version is that of before.
+-- Each current version stays in a loss: a page whose newest record left is the current one counts, and where a page
+-- with a later record left does not count, its current version is that of before.
 use Rattle.record_list.proofs.Common.{◌≡◌, ℕ, ◌<◌, ◌≤◌, Bool, true, List, ◌∙◌, subst, inl, inr, ⊎_elim, arith, cases_Bool, cases_lt, from_filter, Link, Protocol, Found, newest, is_present, IsScanned, newest_name, link_of, why, is_committed, cur, fallback, IsSoundList, SameCurrent, left, KeepsCounted, LossKeeps}
 use Rattle.std.proofs.lemmas.List.Elements.{All-filter}
 use Rattle.std.proofs.lemmas.List.Kept.{AllPairs-filter}
@@ -43,7 +43,8 @@ module _ (p : Protocol) (l m : List Found) (n : ℕ) (r : IsLoss p l m n) where
 
   -- a page whose newest record left is its current one counts
   pub current_counts : (page : ℕ) → EndsCurrent p l m n page → Counts p m n page
-  current_counts page ends = counts_from p m n (lost_linked p l m n r) (EndsCurrent p l m n) (record { written = λ q x. x.0; goes = ends_goes }) page ends
+  current_counts page ends = counts_from p m n (lost_linked p l m n r) (EndsCurrent p l m n)
+      (record { written = λ q x. x.0; goes = ends_goes }) page ends
 
   -- each current version stays, where no page that ends later counts
   pub current_stays : ((page : ℕ) → page < n → EndsLater p l m n page → Counts p m n page → ⊥) →
@@ -56,8 +57,10 @@ module _ (p : Protocol) (l m : List Found) (n : ℕ) (r : IsLoss p l m n) where
           | inr e ↦ cur_uncommitted p m n page e ∙ falls page in_range later
         ]
         | inr ends ↦ elim (cases_lt 0 (newest m page)) [
-          | inl some ↦ (let same : newest m page ≡ cur p l n page = omega arith in cur_committed p m n page (current_counts page (some, same)).1 ∙ same)
-          | inr none ↦ (let z : cur p m n page ≡ 0 = bare_page p m n (lost_linked p l m n r) page (omega arith) in omega arith)
+          | inl some ↦ (let same : newest m page ≡ cur p l n page = omega arith in
+              cur_committed p m n page (current_counts page (some, same)).1 ∙ same)
+          | inr none ↦ (let z : cur p m n page ≡ 0 = bare_page p m n (lost_linked p l m n r) page (omega arith) in
+              omega arith)
         ]
       ]
 
@@ -69,7 +72,8 @@ left_scanned keep l scanned = record {
 }
 
 -- and are a loss
-pub loss_of : (p : Protocol) (l : List Found) (n : ℕ) (keep : ℕ → Bool) → IsSoundList p l n → IsScanned l → KeepsCounted p l n keep → IsLoss p l (left keep l) n
+pub loss_of : (p : Protocol) (l : List Found) (n : ℕ) (keep : ℕ → Bool) → IsSoundList p l n → IsScanned l →
+    KeepsCounted p l n keep → IsLoss p l (left keep l) n
 loss_of p l n keep sound scanned k = record {
   sound = sound_map p l n sound scanned;
   among = among_of (left keep l) l (λ f c. (from_filter (λ g. keep g.slot.0) f l c).0);

@@ -9,8 +9,10 @@ use Rattle.record_list.proofs.OfFacts.Names.{newest_present, older_bound}
 
 module _ (l m : List Found) (n : ℕ) (r : IsLoss Scc l m n) where
   -- the newest record left of a page that ends later was its newest, and not committed
-  later_newest : (page : ℕ) → EndsLater Scc l m n page → (newest m page ≡ newest l page) × (is_committed (why Scc l n page) ≡ false)
-  later_newest page later = scc_loose l n (newest_name m page) (was_present Scc l m n r (newest_name m page) (newest_present m page (omega arith))) later
+  later_newest : (page : ℕ) → EndsLater Scc l m n page → (newest m page ≡ newest l page)
+      × (is_committed (why Scc l n page) ≡ false)
+  later_newest page later = scc_loose l n (newest_name m page)
+      (was_present Scc l m n r (newest_name m page) (newest_present m page (omega arith))) later
 
   -- pages that count after the loss and kept their newest record counted before it
   Kept : ℕ → Type 0
@@ -47,10 +49,12 @@ module _ (l m : List Found) (n : ℕ) (r : IsLoss Scc l m n) where
       let top = later_newest page later in
       let was : cur Scc l n page ≡ next_older l page (newest l page) = cur_uncommitted Scc l n page top.1 in
       let at : next_older m page (newest m page) ≡ next_older m page (newest l page) = ap (next_older m page) top.0 in
-      let fewer : next_older m page (newest l page) ≤ next_older l page (newest l page) = among_greatest m l r.among (version_below page (newest l page)) in
+      let fewer : next_older m page (newest l page) ≤ next_older l page (newest l page) =
+      among_greatest m l r.among (version_below page (newest l page)) in
       let some : cur Scc l n page ≤ next_older m page (newest l page) =
       ⊎_elim
-      (λ h. older_bound m (current_name Scc l n page) (newest l page) (r.kept (current_name Scc l n page) in_range h (inl refl)) (omega arith))
+      (λ h. older_bound m (current_name Scc l n page) (newest l page)
+      (r.kept (current_name Scc l n page) in_range h (inl refl)) (omega arith))
       (λ none. omega arith)
       (cases_lt 0 (cur Scc l n page)) in
       omega arith
@@ -59,4 +63,5 @@ module _ (l m : List Found) (n : ℕ) (r : IsLoss Scc l m n) where
 pub scc_loss : LossLaw Scc
 scc_loss l n keep sound scanned kept =
     let r : IsLoss Scc l (left keep l) n = loss_of Scc l n keep sound scanned kept in
-    loss_keeps Scc l (left keep l) n r (current_stays Scc l (left keep l) n r (later_never l (left keep l) n r) (later_falls l (left keep l) n r))
+    loss_keeps Scc l (left keep l) n r (current_stays Scc l (left keep l) n r (later_never l (left keep l) n r)
+    (later_falls l (left keep l) n r))

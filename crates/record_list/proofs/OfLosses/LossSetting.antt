@@ -39,8 +39,10 @@ module _ (p : Protocol) (l m : List Found) (n : ℕ) (r : IsLoss p l m n) where
   pub lost_linked : IsLinked m n
   lost_linked = record {
     pages = λ u h. (low u h, subst (λ q. q.page < n) (link_was u h) (link_low u h));
-    versions = λ u h. let v = r.sound.linked.versions u (was_present u h) in (v.0, subst (λ q. 1 ≤ q.version) (link_was u h) v.1);
-    once = λ u v hu hv e. r.sound.linked.once u v (was_present u hu) (was_present v hv) (link_was u hu ∙ (e ∙ sym (link_was v hv)));
+    versions = λ u h. let v = r.sound.linked.versions u (was_present u h) in
+        (v.0, subst (λ q. 1 ≤ q.version) (link_was u h) v.1);
+    once = λ u v hu hv e. r.sound.linked.once u v (was_present u hu) (was_present v hv) (link_was u hu
+        ∙ (e ∙ sym (link_was v hv)));
   }
 
   -- the records left are as their names say
@@ -93,11 +95,13 @@ module _ (l m : List Found) (n : ℕ) (r : IsLoss Bpcc l m n) where
         loose = subst (λ (y : Link). cur Bpcc l n y.page < y.version) (sym f.2) loose;
         page = ap (λ (y : Link). y.page) f.3 ∙ sym x.page;
         from = subst (λ (y : Link). x.at.rec.back < y.version) (sym f.3) (ltb-true x.at.rec.back q.version between.0);
-        under = subst (λ (y : Link). y.version < x.at.rec.version) (sym f.3) (ltb-true q.version x.at.rec.version between.1);
+        under = subst (λ (y : Link). y.version < x.at.rec.version) (sym f.3)
+            (ltb-true q.version x.at.rec.version between.1);
         version = ap (responsible Bpcc l n) f.3 ∙ sym x.version;
       })) in
       let held : is_held Bpcc l n (record_named l name) ≡ true =
-      subst (λ y. is_held Bpcc l n y ≡ true) (r.sound.copies x.at x.is_in ∙ ap (record_named l) (same_name (name_of x.at.rec) name x.page x.version)) holds in
+      subst (λ y. is_held Bpcc l n y ≡ true) (r.sound.copies x.at x.is_in
+      ∙ ap (record_named l) (same_name (name_of x.at.rec) name x.page x.version)) holds in
       let g = found_named m name (r.kept name low (omega arith) (inr held)) in
       let one : g.0.rec ≡ x.at.rec = among_named l m r.among (one_each Bpcc l n r.sound) name g.0 x.at g.1 g.2 x.is_in
       (same_name (name_of x.at.rec) name x.page x.version) in

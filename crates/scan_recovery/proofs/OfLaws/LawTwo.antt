@@ -20,7 +20,8 @@ record FindsBefore (list : List Found) (test : Found → Bool) (f : Found) : Typ
   pub found : find test list ≡ Some lowest
   pub before : lowest.slot.0 ≤ f.slot.0
 
-finds_before : (list : List Found) (test : Found → Bool) (f : Found) → AllPairs (λ g h. g.slot.0 < h.slot.0) list → Contains list f → test f ≡ true →
+finds_before : (list : List Found) (test : Found → Bool) (f : Found) → AllPairs (λ g h. g.slot.0 < h.slot.0) list →
+    Contains list f → test f ≡ true →
     FindsBefore list test f
 finds_before [] test f up i passes = absurd (Contains-nil f i)
 finds_before (g ∷ gs) test f up i passes = elim (cases_Bool (test g)) [
@@ -29,7 +30,8 @@ finds_before (g ∷ gs) test f up i passes = elim (cases_Bool (test g)) [
     found = cond-true (test g) (Some g) (find test gs) here;
     before = elim (Contains-cases g gs f i) [
       | inl same ↦ (let at : g.slot.0 ≡ f.slot.0 = ap (λ (h : Found). h.slot.0) same in omega arith)
-      | inr later ↦ (let less : g.slot.0 < f.slot.0 = pairs_head (λ g h. g.slot.0 < h.slot.0) g gs f up later in omega arith)
+      | inr later ↦ (let less : g.slot.0 < f.slot.0 = pairs_head (λ g h. g.slot.0 < h.slot.0) g gs f up later in
+          omega arith)
     ];
   }
   | inr gone ↦
@@ -67,24 +69,31 @@ module _ (p : Protocol) (logical n : ℕ) (image : List Contents) where
   shown w i = let r = (is_read p image w i).reads in ap (page_of n) r.is ∙ sym r.page
 
   lowest : (w : Written) → Contains ws w → FindsBefore list (λ g. has_name (name_of w.rec) g.rec) (found_of w)
-  lowest w i = finds_before list (λ g. has_name (name_of w.rec) g.rec) (found_of w) (records_scanned p image).ascending (in_records ws w i)
+  lowest w i = finds_before list (λ g. has_name (name_of w.rec) g.rec) (found_of w) (records_scanned p image).ascending
+      (in_records ws w i)
       (has_own_name (name_of w.rec) w.rec refl)
 
   -- two records of one name that agree with the lowest agree
-  agree : (v w : Written) → Contains ws v → Contains ws w → Agrees v → Agrees w → name_of v.rec ≡ name_of w.rec → (v.rec ≡ w.rec) × (v.bytes ≡ w.bytes)
+  agree : (v w : Written) → Contains ws v → Contains ws w → Agrees v → Agrees w → name_of v.rec ≡ name_of w.rec →
+      (v.rec ≡ w.rec) × (v.bytes ≡ w.bytes)
   agree v w i j av aw same =
       let low = lowest w j in
-      let as_w = subst (λ o. IfSome o (λ g. (g.rec ≡ w.rec) × (bytes_shown n image g ≡ bytes_shown n image (found_of w)))) low.found aw in
-      let as_v = subst (λ o. IfSome o (λ g. (g.rec ≡ v.rec) × (bytes_shown n image g ≡ bytes_shown n image (found_of v))))
+      let as_w = subst (λ o. IfSome o (λ g. (g.rec ≡ w.rec)
+      × (bytes_shown n image g ≡ bytes_shown n image (found_of w)))) low.found aw in
+      let as_v = subst (λ o. IfSome o (λ g. (g.rec ≡ v.rec)
+      × (bytes_shown n image g ≡ bytes_shown n image (found_of v))))
       (ap (λ u. find (λ g. has_name u g.rec) list) same ∙ low.found) av in
       (sym as_v.0 ∙ as_w.0, sym (shown v i) ∙ sym as_v.1 ∙ as_w.1 ∙ shown w j)
 
   -- so law 2 holds of a record where it agrees, and each lower one does
-  keeps_two : (w : Written) → Contains ws w → Agrees w → ((v : Written) → Contains ws v → v.slot.0 < w.slot.0 → Agrees v) → KeepsTwo w
+  keeps_two : (w : Written) → Contains ws w → Agrees w → ((v : Written) → Contains ws v → v.slot.0 < w.slot.0 →
+      Agrees v) → KeepsTwo w
   keeps_two w j aw below = (
     All-map (λ g. g.slot.0 < w.slot.0 → name_of g.rec ≡ name_of w.rec → g.rec ≡ w.rec) found_of ws
-        (all_from (λ v. v.slot.0 < w.slot.0 → name_of v.rec ≡ name_of w.rec → v.rec ≡ w.rec) ws (λ v i less same. (agree v w i j (below v i less) aw same).0)),
-    all_from (λ v. v.slot.0 < w.slot.0 → name_of v.rec ≡ name_of w.rec → v.bytes ≡ w.bytes) ws (λ v i less same. (agree v w i j (below v i less) aw same).1),
+        (all_from (λ v. v.slot.0 < w.slot.0 → name_of v.rec ≡ name_of w.rec → v.rec ≡ w.rec) ws
+        (λ v i less same. (agree v w i j (below v i less) aw same).0)),
+    all_from (λ v. v.slot.0 < w.slot.0 → name_of v.rec ≡ name_of w.rec → v.bytes ≡ w.bytes) ws
+        (λ v i less same. (agree v w i j (below v i less) aw same).1),
   )
 
   -- and where law 2 holds of a record, it agrees with the lowest of its name
@@ -93,23 +102,29 @@ module _ (p : Protocol) (logical n : ℕ) (image : List Contents) where
       let low = lowest w j in
       let stands = find_stands (λ g. has_name (name_of w.rec) g.rec) list low.lowest low.found in
       let v = in_map found_of ws low.lowest stands.0 in
-      let same : name_of v.0.rec ≡ name_of w.rec = ap (λ (g : Found). name_of g.rec) v.2 ∙ has_name_true (name_of w.rec) low.lowest.rec stands.1 in
+      let same : name_of v.0.rec ≡ name_of w.rec = ap (λ (g : Found). name_of g.rec) v.2
+      ∙ has_name_true (name_of w.rec) low.lowest.rec stands.1 in
       let at : v.0.slot.0 ≤ w.slot.0 = subst (λ (g : Found). g.slot.0 ≤ w.slot.0) (sym v.2) low.before in
       let parts : (v.0.rec ≡ w.rec) × (v.0.bytes ≡ w.bytes) =
-      elim (in_order (λ (x y : Written). x.slot.0 < y.slot.0) ws v.0 w (ascending_written ws (records_scanned p image)) v.1 j) [
+      elim (in_order (λ (x y : Written). x.slot.0 < y.slot.0) ws v.0 w (ascending_written ws (records_scanned p image))
+      v.1 j) [
         | inl e ↦ (ap (λ (x : Written). x.rec) e, ap (λ (x : Written). x.bytes) e)
         | inr (inl less) ↦ (
-          All-contains (λ g. g.slot.0 < w.slot.0 → name_of g.rec ≡ name_of w.rec → g.rec ≡ w.rec) list (found_of v.0) kept.0 (in_records ws v.0 v.1) less same,
-          All-contains (λ x. x.slot.0 < w.slot.0 → name_of x.rec ≡ name_of w.rec → x.bytes ≡ w.bytes) ws v.0 kept.1 v.1 less same,
+          All-contains (λ g. g.slot.0 < w.slot.0 → name_of g.rec ≡ name_of w.rec → g.rec ≡ w.rec) list (found_of v.0)
+              kept.0 (in_records ws v.0 v.1) less same,
+          All-contains (λ x. x.slot.0 < w.slot.0 → name_of x.rec ≡ name_of w.rec → x.bytes ≡ w.bytes) ws v.0 kept.1
+              v.1 less same,
         )
         | inr (inr more) ↦ absurd (omega arith)
       ] in
-      subst (λ o. IfSome o (λ g. (g.rec ≡ w.rec) × (bytes_shown n image g ≡ bytes_shown n image (found_of w)))) (sym low.found)
+      subst (λ o. IfSome o (λ g. (g.rec ≡ w.rec) × (bytes_shown n image g ≡ bytes_shown n image (found_of w))))
+      (sym low.found)
       (subst (λ (g : Found). (g.rec ≡ w.rec) × (bytes_shown n image g ≡ bytes_shown n image (found_of w))) v.2
       (parts.0, shown v.0 v.1 ∙ parts.1 ∙ sym (shown w j)))
 
   pub two_holds : All (AgreesWithLowest n image list) list → All KeepsTwo ws
-  two_holds all = all_from KeepsTwo ws (λ w j. keeps_two w j (All-contains (AgreesWithLowest n image list) list (found_of w) all (in_records ws w j))
+  two_holds all = all_from KeepsTwo ws (λ w j. keeps_two w j
+      (All-contains (AgreesWithLowest n image list) list (found_of w) all (in_records ws w j))
       (λ v i less. All-contains (AgreesWithLowest n image list) list (found_of v) all (in_records ws v i)))
 
   -- law 1 holds of the records of an image whose slots keep it
@@ -129,7 +144,8 @@ module _ (p : Protocol) (logical n : ℕ) (image : List Contents) where
   laws_before reads Ending h = absurd (omega arith)
 
   -- the first record that does not agree breaks law 2, which names its slot
-  pub two_broken : (shape : Shape) (i : ℕ) (b : Breach) → All (SlotReads p logical) image → FindsFirst (AgreesWithLowest n image list) list (Some i) →
+  pub two_broken : (shape : Shape) (i : ℕ) (b : Breach) → All (SlotReads p logical) image →
+      FindsFirst (AgreesWithLowest n image list) list (Some i) →
       b.law ≡ 2 → b.slot ≡ (get_or list i nothing).slot → IsLeastImageBreach p logical shape image b
   two_broken shape i b reads (inside, fails, before) law slot =
       let long : length list ≡ length ws = length-map ws found_of in
@@ -153,7 +169,8 @@ module _ (p : Protocol) (logical n : ℕ) (image : List Contents) where
             ),
           );
           earlier_laws = laws_before reads;
-          earlier_slots = all_from (λ v. v.slot.0 < b.slot.0 → KeepsTwo v) ws (λ v j below. keeps_two v j (agrees_below v j below)
+          earlier_slots = all_from (λ v. v.slot.0 < b.slot.0 →
+              KeepsTwo v) ws (λ v j below. keeps_two v j (agrees_below v j below)
               (λ u k less. agrees_below u k (omega arith)));
         });
       })
@@ -164,9 +181,12 @@ module _ (p : Protocol) (logical n : ℕ) (image : List Contents) where
           let long : length list ≡ length ws = length-map ws found_of in
           let k_inside : j.0 < length list = (let h = j.1 in omega arith) in
           let here : get_or list j.0 f ≡ f = get_or-map found_of ws j.0 v f j.1 ∙ ap found_of j.2 in
-          let there : (get_or list i f).slot.0 ≡ b.slot.0 = ap (λ (g : Found). g.slot.0) (get_or_default list i f nothing inside) ∙ sym (ap (λ s. s.0) slot) in
-          let low : (get_or list j.0 f).slot.0 < (get_or list i f).slot.0 = (let at = ap (λ (g : Found). g.slot.0) here in omega arith) in
-          subst (AgreesWithLowest n image list) here (before j.0 f (earlier_index list j.0 i f (records_scanned p image) k_inside low))
+          let there : (get_or list i f).slot.0 ≡ b.slot.0 =
+          ap (λ (g : Found). g.slot.0) (get_or_default list i f nothing inside) ∙ sym (ap (λ s. s.0) slot) in
+          let low : (get_or list j.0 f).slot.0 < (get_or list i f).slot.0 =
+          (let at = ap (λ (g : Found). g.slot.0) here in omega arith) in
+          subst (AgreesWithLowest n image list) here
+          (before j.0 f (earlier_index list j.0 i f (records_scanned p image) k_inside low))
 
 -- the slots of the records are slots of the image
 pub records_within : (p : Protocol) (image : List Contents) → All (λ f. f.slot.0 < length image) (records_in p image)

@@ -9,7 +9,8 @@ use Rattle.scan_recovery.proofs.OfLaws.LawsAlike.{finds_alike, current_same, cou
 
 module _ (p : Protocol) (list sorted : List Found) (logical : ℕ) (scanned : IsScanned list) (sorts : Sorts list sorted)
     (pages : All (PagesExist logical) list) (copies : All (CopiesAgree list) list) where
-  pub least_links : (slot : Slot) → FindsLowest (LinksDiffer list) list (Some slot) → IsLeastBreach p list logical (record { law = 3; slot = slot })
+  pub least_links : (slot : Slot) → FindsLowest (LinksDiffer list) list (Some slot) →
+      IsLeastBreach p list logical (record { law = 3; slot = slot })
   least_links slot finds = record {
     law = Links;
     law_number = refl;
@@ -18,16 +19,20 @@ module _ (p : Protocol) (list sorted : List Found) (logical : ℕ) (scanned : Is
     earlier_slots = finds.1;
   }
 
-  pub least_current : (at : ℕ) → FindsLowest (LinksDiffer list) list None → FindsFirst (CurrentIsPresent p sorted logical) list (Some at) →
+  pub least_current : (at : ℕ) → FindsLowest (LinksDiffer list) list None →
+      FindsFirst (CurrentIsPresent p sorted logical) list (Some at) →
       IsLeastBreach p list logical (breach 4 list at)
   least_current at links finds =
-      breach_of_current p list logical at scanned pages copies links (finds_alike _ _ list (Some at) (current_same list sorted logical sorts p) finds)
+      breach_of_current p list logical at scanned pages copies links
+      (finds_alike _ _ list (Some at) (current_same list sorted logical sorts p) finds)
 
-  module _ (links : FindsLowest (LinksDiffer list) list None) (present : FindsFirst (CurrentIsPresent p sorted logical) list None) where
+  module _ (links : FindsLowest (LinksDiffer list) list None)
+      (present : FindsFirst (CurrentIsPresent p sorted logical) list None) where
     present_too : All (CurrentIsPresent p list logical) list
     present_too = finds_alike _ _ list None (current_same list sorted logical sorts p) present
 
-    pub least_counted : (at : ℕ) → FindsFirst (LinkHasCounted p sorted logical) list (Some at) → IsLeastBreach p list logical (breach 5 list at)
+    pub least_counted : (at : ℕ) → FindsFirst (LinkHasCounted p sorted logical) list (Some at) →
+        IsLeastBreach p list logical (breach 5 list at)
     least_counted at finds =
         breach_of_counted p list logical at scanned pages copies links present_too
         (finds_alike _ _ list (Some at) (counted_same list sorted logical sorts p) finds)
@@ -36,7 +41,8 @@ module _ (p : Protocol) (list sorted : List Found) (logical : ℕ) (scanned : Is
       counted_too : All (LinkHasCounted p list logical) list
       counted_too = finds_alike _ _ list None (counted_same list sorted logical sorts p) counted
 
-      pub least_loose : (at : ℕ) → FindsFirst (LooseIsShown p sorted logical) list (Some at) → IsLeastBreach p list logical (breach 6 list at)
+      pub least_loose : (at : ℕ) → FindsFirst (LooseIsShown p sorted logical) list (Some at) →
+          IsLeastBreach p list logical (breach 6 list at)
       least_loose at finds =
           breach_of_loose p list logical at scanned pages copies links present_too counted_too
           (finds_alike _ _ list (Some at) (shown_same list sorted logical sorts p) finds)
@@ -45,7 +51,8 @@ module _ (p : Protocol) (list sorted : List Found) (logical : ℕ) (scanned : Is
         loose_too : All (LooseIsShown p list logical) list
         loose_too = finds_alike _ _ list None (shown_same list sorted logical sorts p) loose
 
-        pub least_ending : (at : ℕ) → FindsFirst (LooseEnds p sorted logical) list (Some at) → IsLeastBreach p list logical (breach 7 list at)
+        pub least_ending : (at : ℕ) → FindsFirst (LooseEnds p sorted logical) list (Some at) →
+            IsLeastBreach p list logical (breach 7 list at)
         least_ending at finds =
             breach_of_ending p list logical at scanned pages copies links present_too counted_too loose_too
             (finds_alike _ _ list (Some at) (ends_same list sorted logical sorts p) finds)

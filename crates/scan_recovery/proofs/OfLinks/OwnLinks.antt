@@ -15,7 +15,8 @@ module _ (list : List Found) (at place : ℕ) (here : get_or (name_graph list) a
   same_place k p e link = same_Some p place (sym link ∙ ap (λ n. get_or (name_graph list) n None) e ∙ here)
 
   -- a record whose link leads to a place that is not marked
-  once_new : (old : List Bool) → AreMarked list old at → AreLinkedOnce list at → get_or old place false ≡ false → AreLinkedOnce list (at + 1)
+  once_new : (old : List Bool) → AreMarked list old at → AreLinkedOnce list at → get_or old place false ≡ false →
+      AreLinkedOnce list (at + 1)
   once_new old marked once free i j p link_i low_i link_j low_j = elim (cases_order i at) [
     | inl e ↦ elim (cases_order j at) [
       | inl e' ↦ ap (λ n. name_of (record_at list n)) (e ∙ sym e')
@@ -41,7 +42,8 @@ module _ (list : List Found) (at place : ℕ) (here : get_or (name_graph list) a
       name_m ∙ once m n p there_m low_m there_n low_n ∙ sym name_n
     where
       earlier : (k : ℕ) → k < at + 1 → get_or (name_graph list) k None ≡ Some p →
-          (m : ℕ) × (m < at) × (get_or (name_graph list) m None ≡ Some p) × (name_of (record_at list k) ≡ name_of (record_at list m))
+          (m : ℕ) × (m < at) × (get_or (name_graph list) m None ≡ Some p)
+          × (name_of (record_at list k) ≡ name_of (record_at list m))
       earlier k low link = elim (cases_order k at) [
         | inl e ↦ (let some = before.some in (
           at - 1,
@@ -55,13 +57,15 @@ module _ (list : List Found) (at place : ℕ) (here : get_or (name_graph list) a
       ]
 
   -- a place that is marked now, or was before
-  marked_more : (old : List Bool) → AreMarked list old at → place < length old → AreMarked list (set old place true) (at + 1)
+  marked_more : (old : List Bool) → AreMarked list old at → place < length old →
+      AreMarked list (set old place true) (at + 1)
   marked_more old marked room k p low link = elim (cases_order p place) [
     | inl e ↦ ap (λ n. get_or (set old place true) n false) e ∙ get_or-set_same old place true false room
     | inr other ↦ elim (cases_order k at) [
       | inl e ↦ absurd (let f = same_place k p e link in elim other [ inl less ↦ omega arith | inr more ↦ omega arith ])
       | inr (inl less) ↦
-          get_or-set_other old place p true false (λ e. elim other [ inl low ↦ omega arith | inr high ↦ omega arith ]) ∙ marked k p less link
+          get_or-set_other old place p true false (λ e. elim other [ inl low ↦ omega arith | inr high ↦ omega arith ])
+          ∙ marked k p less link
       | inr (inr more) ↦ absurd (omega arith)
     ]
   ]
@@ -74,7 +78,8 @@ module _ (list : List Found) (at place : ℕ) (here : get_or (name_graph list) a
   ]
 
   -- one more record whose link leads to a place
-  pub linked : (old new : List Bool) (was : Bool) → get_or old place false ≡ was → length old ≡ length list → AreMarked list old at →
+  pub linked : (old new : List Bool) (was : Bool) → get_or old place false ≡ was → length old ≡ length list →
+      AreMarked list old at →
       AreLinkedOnce list at → place < length list → NotesLink list (name_graph list) old new place at was true →
       (length new ≡ length list) × AreMarked list new (at + 1) × AreLinkedOnce list (at + 1)
   linked old new false is size marked once room notes = (
@@ -89,7 +94,8 @@ module _ (list : List Found) (at place : ℕ) (here : get_or (name_graph list) a
   )
 
 -- and one whose link leads to none
-pub unlinked : (list : List Found) (old : List Bool) (at : ℕ) → AreMarked list old at → AreLinkedOnce list at → get_or (name_graph list) at None ≡ None →
+pub unlinked : (list : List Found) (old : List Bool) (at : ℕ) → AreMarked list old at → AreLinkedOnce list at →
+    get_or (name_graph list) at None ≡ None →
     AreMarked list old (at + 1) × AreLinkedOnce list (at + 1)
 unlinked list old at marked once none = (
   λ k p low link. marked k p (earlier k p low link) link,
@@ -104,15 +110,19 @@ unlinked list old at marked once none = (
     ]
 
 -- the place to which a link leads is one of a record
-pub place_within : (list : List Found) (at place : ℕ) → IsGraph (name_graph list) → get_or (name_graph list) at None ≡ Some place → at < length list →
+pub place_within : (list : List Found) (at place : ℕ) → IsGraph (name_graph list) →
+    get_or (name_graph list) at None ≡ Some place → at < length list →
     place < length list
 place_within list at place graph here low =
-    let size : length (name_graph list) ≡ length list = length-map list (λ f. position (λ g. has_name f.rec.next g.rec) list) in
-    let inside : place < length (name_graph list) = subst (λ o. IfSome o (λ j. j < length (name_graph list))) here (graph at None (omega arith)) in
+    let size : length (name_graph list) ≡ length list =
+    length-map list (λ f. position (λ g. has_name f.rec.next g.rec) list) in
+    let inside : place < length (name_graph list) = subst (λ o. IfSome o (λ j. j < length (name_graph list))) here
+    (graph at None (omega arith)) in
     omega arith
 
 -- records that were put in order of their links, and show no neighbours with one link and two names
-module _ (list : List Found) (absent sorted : List Found) (has : HasAbsent list (length list) absent) (is : SortsByLink absent sorted)
+module _ (list : List Found) (absent sorted : List Found) (has : HasAbsent list (length list) absent)
+    (is : SortsByLink absent sorted)
     (none : IsLowestSharer sorted (length sorted) None) where
   -- have one name where they have one link
   pub absent_own : AreAbsentOnce list (length list)
@@ -131,10 +141,12 @@ module _ (list : List Found) (absent sorted : List Found) (has : HasAbsent list 
       ∙ ap (λ f. name_of f.rec) b_is
 
 -- with those whose links lead to one place, any two records of one link have one name
-pub own_links : (list : List Found) → AreLinkedOnce list (length list) → AreAbsentOnce list (length list) → HaveOwnLinks list
+pub own_links : (list : List Found) → AreLinkedOnce list (length list) → AreAbsentOnce list (length list) →
+    HaveOwnLinks list
 own_links list once apart i j within_i within_j same = by (get_or (name_graph list) i None) refl
   where
-    target : (k : ℕ) → k < length list → get_or (name_graph list) k None ≡ position (λ g. has_name (record_at list k).next g.rec) list
+    target : (k : ℕ) → k < length list → get_or (name_graph list) k None
+        ≡ position (λ g. has_name (record_at list k).next g.rec) list
     target k within = get_or-map (λ f. position (λ g. has_name f.rec.next g.rec) list) list k nothing None within
 
     both : get_or (name_graph list) j None ≡ get_or (name_graph list) i None
@@ -145,7 +157,8 @@ own_links list once apart i j within_i within_j same = by (get_or (name_graph li
     by (Some place) is = once i j place is within_i (both ∙ is) within_j
 
 -- so each record of the list that was put in order keeps law 3
-pub own_links_differ : (list sorted : List Found) → Sorts list sorted → HaveOwnLinks sorted → (f : Found) → Contains list f → LinksDiffer list f
+pub own_links_differ : (list sorted : List Found) → Sorts list sorted → HaveOwnLinks sorted → (f : Found) →
+    Contains list f → LinksDiffer list f
 own_links_differ list sorted is own f c =
     all_from (λ g. g.slot.0 < f.slot.0 → g.rec.next ≡ f.rec.next → name_of g.rec ≡ name_of f.rec) list
     (λ g d less same.

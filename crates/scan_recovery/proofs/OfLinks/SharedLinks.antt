@@ -11,7 +11,8 @@ use Rattle.sorted_records.proofs.OfSort.Order.{below_false}
 use Rattle.scan_recovery.specs.Searches.{FindsLowest, lower, share_link, IsLowestBelow, NextShares, next_slot}
 
 -- a search for the lowest slot, one number more
-pub lowest_yes : (P : ℕ → Type 0) (slot_of : ℕ → Slot) (n m : ℕ) (lowest : Option Slot) → m ≡ n + 1 → IsLowestBelow n P slot_of lowest → P n →
+pub lowest_yes : (P : ℕ → Type 0) (slot_of : ℕ → Slot) (n m : ℕ) (lowest : Option Slot) → m ≡ n + 1 →
+    IsLowestBelow n P slot_of lowest → P n →
     IsLowestBelow m P slot_of (lower lowest (slot_of n))
 lowest_yes P slot_of n m None sum is here = (
   (n, omega arith, here, refl),
@@ -24,21 +25,25 @@ lowest_yes P slot_of n m None sum is here = (
 lowest_yes P slot_of n m (Some slot) sum is here = elim (cases_lt slot.0 (slot_of n).0) [
   | inl less ↦
       let (k, low, p, at) = is.0 in
-      subst (IsLowestBelow m P slot_of) (sym (cond-true (nat_lt slot.0 (slot_of n).0) (Some slot) (Some (slot_of n)) (lt-ltb slot.0 (slot_of n).0 less)))
+      subst (IsLowestBelow m P slot_of) (sym (cond-true (nat_lt slot.0 (slot_of n).0) (Some slot) (Some (slot_of n))
+      (lt-ltb slot.0 (slot_of n).0 less)))
       ((k, omega arith, p, at), more slot.0 is.1 (omega arith))
   | inr high ↦
-      subst (IsLowestBelow m P slot_of) (sym (cond-false (nat_lt slot.0 (slot_of n).0) (Some slot) (Some (slot_of n)) (le-ltb slot.0 (slot_of n).0 high)))
+      subst (IsLowestBelow m P slot_of) (sym (cond-false (nat_lt slot.0 (slot_of n).0) (Some slot) (Some (slot_of n))
+      (le-ltb slot.0 (slot_of n).0 high)))
       ((n, omega arith, here, refl), more (slot_of n).0 (λ k low p. let b = is.1 k low p in omega arith) (omega arith))
 ]
   where
-    more : (low : ℕ) → ((k : ℕ) → k < n → P k → low ≤ (slot_of k).0) → low ≤ (slot_of n).0 → (k : ℕ) → k < m → P k → low ≤ (slot_of k).0
+    more : (low : ℕ) → ((k : ℕ) → k < n → P k → low ≤ (slot_of k).0) → low ≤ (slot_of n).0 → (k : ℕ) → k < m → P k →
+        low ≤ (slot_of k).0
     more low before last k within p = elim (cases_order k n) [
       | inl e ↦ (let f : (slot_of k).0 ≡ (slot_of n).0 = ap (λ i. (slot_of i).0) e in omega arith)
       | inr (inl less) ↦ before k less p
       | inr (inr high) ↦ absurd (omega arith)
     ]
 
-pub lowest_no : (P : ℕ → Type 0) (slot_of : ℕ → Slot) (n m : ℕ) (lowest : Option Slot) → m ≡ n + 1 → IsLowestBelow n P slot_of lowest → (P n → ⊥) →
+pub lowest_no : (P : ℕ → Type 0) (slot_of : ℕ → Slot) (n m : ℕ) (lowest : Option Slot) → m ≡ n + 1 →
+    IsLowestBelow n P slot_of lowest → (P n → ⊥) →
     IsLowestBelow m P slot_of lowest
 lowest_no P slot_of n m None sum is here = λ k low p. elim (cases_order k n) [
   | inl e ↦ here (subst P e p)
@@ -56,16 +61,19 @@ lowest_no P slot_of n m (Some slot) sum is here =
     )
 
 -- a relation along the items that pass is one of any two of them
-kept_pairs : {X : Type 0} (R : X → X → Type 0) (p : X → Bool) (xs : List X) → AllPairs R (filter p xs) → (i j : ℕ) (d : X) → i < j → j < length xs →
+kept_pairs : {X : Type 0} (R : X → X → Type 0) (p : X → Bool) (xs : List X) → AllPairs R (filter p xs) →
+    (i j : ℕ) (d : X) → i < j → j < length xs →
     p (get_or xs i d) ≡ true → p (get_or xs j d) ≡ true → R (get_or xs i d) (get_or xs j d)
 kept_pairs R p [] all i j d less within first second = absurd (omega arith)
 kept_pairs R p (x ∷ xs) all i zero d less within first second = absurd (omega arith)
 kept_pairs R p (x ∷ xs) all zero (suc j) d less within first second =
-    pairs_head R x (filter p xs) (get_or xs j d) (subst (AllPairs R) (cond-true (p x) (x ∷ filter p xs) (filter p xs) first) all)
+    pairs_head R x (filter p xs) (get_or xs j d)
+    (subst (AllPairs R) (cond-true (p x) (x ∷ filter p xs) (filter p xs) first) all)
     (in_filter p (get_or xs j d) xs (Contains-get_or xs j d (omega arith)) second)
 kept_pairs R p (x ∷ xs) all (suc i) (suc j) d less within first second =
     kept_pairs R p xs (elim (cases_Bool (p x)) [
-      | inl yes_here ↦ pairs_tail R x (filter p xs) (subst (AllPairs R) (cond-true (p x) (x ∷ filter p xs) (filter p xs) yes_here) all)
+      | inl yes_here ↦ pairs_tail R x (filter p xs)
+          (subst (AllPairs R) (cond-true (p x) (x ∷ filter p xs) (filter p xs) yes_here) all)
       | inr no_here ↦ subst (AllPairs R) (cond-false (p x) (x ∷ filter p xs) (filter p xs) no_here) all
     ]) i j d (omega arith) (omega arith) first second
 
@@ -93,7 +101,8 @@ module _ (s : List Found) (order : AllPairs (λ f g. is_below g.rec.next f.rec.n
   in_order k = get_or s k nothing
 
   -- the records between two of one link have it
-  pub between : (i k j : ℕ) → i ≤ k → k < j → j < length s → (in_order i).rec.next ≡ (in_order j).rec.next → (in_order k).rec.next ≡ (in_order j).rec.next
+  pub between : (i k j : ℕ) → i ≤ k → k < j → j < length s → (in_order i).rec.next ≡ (in_order j).rec.next →
+      (in_order k).rec.next ≡ (in_order j).rec.next
   between i k j low high within same = elim (cases_order i k) [
     | inl e ↦ ap (λ n. (in_order n).rec.next) (sym e) ∙ same
     | inr (inr more) ↦ absurd (omega arith)
@@ -125,7 +134,8 @@ module _ (s : List Found) (order : AllPairs (λ f g. is_below g.rec.next f.rec.n
       ∙ elim (cases_Bool (has_name (name_of (in_order j).rec) (in_order m).rec)) [
         | inl yes_here ↦ has_name_true (name_of (in_order j).rec) (in_order m).rec yes_here
         | inr other ↦ absurd (none m (omega arith)
-            (subst (λ k. share_link (in_order m).rec (in_order k).rec ≡ true) (sym next) (share_true (in_order m).rec (in_order j).rec link other)))
+            (subst (λ k. share_link (in_order m).rec (in_order k).rec ≡ true) (sym next)
+            (share_true (in_order m).rec (in_order j).rec link other)))
       ]
 
 module _ (list s : List Found) (scanned : IsScanned list) (is : SortsByLink list s) where
@@ -143,7 +153,10 @@ module _ (list s : List Found) (scanned : IsScanned list) (is : SortsByLink list
       i j nothing less within (same_links (at i).rec.next link same) (same_links link link refl)
     where
       same_links : (a b : Link) → a ≡ b → is_same a b ≡ true
-      same_links a b e = rw (eq-eqb a.page b.page (ap (λ n. n.page) e), eq-eqb a.version b.version (ap (λ n. n.version) e)) refl
+      same_links a b e = rw (
+        eq-eqb a.page b.page (ap (λ n. n.page) e),
+        eq-eqb a.version b.version (ap (λ n. n.version) e),
+      ) refl
 
   -- where no record up to a slot has its neighbour's link and another name, two of one link have one name
   one_name : (top n i j : ℕ) → j ≡ i + n → j < length s → (at i).rec.next ≡ (at j).rec.next → (at j).slot.0 ≤ top →
@@ -158,14 +171,16 @@ module _ (list s : List Found) (scanned : IsScanned list) (is : SortsByLink list
       ∙ elim (cases_Bool (has_name (name_of (at j).rec) (at m).rec)) [
         | inl yes_here ↦ has_name_true (name_of (at j).rec) (at m).rec yes_here
         | inr other ↦ absurd (
-            let shared : NextShares s m = subst (λ k. share_link (at m).rec (at k).rec ≡ true) (sym next) (share_true (at m).rec (at j).rec link other) in
+            let shared : NextShares s m = subst (λ k. share_link (at m).rec (at k).rec ≡ true) (sym next)
+            (share_true (at m).rec (at j).rec link other) in
             let high = none m (omega arith) shared in
             let slot : (next_slot s m).0 ≡ (at j).slot.0 = ap (λ k. (at k).slot.0) next in
             omega arith)
       ]
 
   -- and so each record up to the slot keeps the law
-  keeps : (top : ℕ) → ((k : ℕ) → k < length s - 1 → NextShares s k → top < (next_slot s k).0) → (f : Found) → Contains list f → f.slot.0 ≤ top →
+  keeps : (top : ℕ) → ((k : ℕ) → k < length s - 1 → NextShares s k → top < (next_slot s k).0) → (f : Found) →
+      Contains list f → f.slot.0 ≤ top →
       LinksDiffer list f
   keeps top none f c low =
       all_from (λ g. g.slot.0 < f.slot.0 → g.rec.next ≡ f.rec.next → name_of g.rec ≡ name_of f.rec) list
@@ -174,7 +189,8 @@ module _ (list s : List Found) (scanned : IsScanned list) (is : SortsByLink list
       let b = Contains-permutation list s f is.records c in
       let g_is : at a.0 ≡ g = get_or_default s a.0 nothing g a.1 ∙ a.2 in
       let f_is : at b.0 ≡ f = get_or_default s b.0 nothing f b.1 ∙ b.2 in
-      let link : (at a.0).rec.next ≡ (at b.0).rec.next = ap (λ h. h.rec.next) g_is ∙ same ∙ sym (ap (λ h. h.rec.next) f_is) in
+      let link : (at a.0).rec.next ≡ (at b.0).rec.next = ap (λ h. h.rec.next) g_is ∙ same
+      ∙ sym (ap (λ h. h.rec.next) f_is) in
       let f_slot : (at b.0).slot.0 ≡ f.slot.0 = ap (λ h. h.slot.0) f_is in
       let g_slot : (at a.0).slot.0 ≡ g.slot.0 = ap (λ h. h.slot.0) g_is in
       elim (cases_order a.0 b.0) [
@@ -186,14 +202,17 @@ module _ (list s : List Found) (scanned : IsScanned list) (is : SortsByLink list
             ∙ ap (λ h. name_of h.rec) f_is
       ])
 
-  pub finds_lowest : (lowest : Option Slot) → IsLowestSharer s (length s) lowest → FindsLowest (LinksDiffer list) list lowest
+  pub finds_lowest : (lowest : Option Slot) → IsLowestSharer s (length s) lowest →
+      FindsLowest (LinksDiffer list) list lowest
   finds_lowest None none =
-      all_from (LinksDiffer list) list (λ f c. keeps f.slot.0 (λ k low shared. absurd (none k low shared)) f c (omega arith))
+      all_from (LinksDiffer list) list (λ f c. keeps f.slot.0 (λ k low shared. absurd (none k low shared)) f c
+      (omega arith))
   finds_lowest (Some slot) is_lowest =
       let (k, low, shared, here) = is_lowest.0 in
       let within : suc k < length s = omega arith in
       let both = shares (at k).rec (at (suc k)).rec shared in
-      let inside = (λ (n : ℕ) (less : n < length s). Contains-permutation s list (at n) (IsPermutation-sym list s is.records)
+      let inside = (λ (n : ℕ) (less : n < length s). Contains-permutation s list (at n)
+      (IsPermutation-sym list s is.records)
       (Contains-get_or s n nothing less)) in (
         any_in (λ f. (f.slot.0 ≡ slot.0) × (LinksDiffer list f → ⊥)) list (at (suc k)) (inside (suc k) within) (
           ap (λ n. n.0) here,
@@ -204,5 +223,6 @@ module _ (list s : List Found) (scanned : IsScanned list) (is : SortsByLink list
               (slots_rise k (suc k) (omega arith) within both.link) both.link),
         ),
         all_from (λ f. f.slot.0 < slot.0 → LinksDiffer list f) list
-            (λ f c less. keeps f.slot.0 (λ j within_j shared_j. let high = is_lowest.1 j within_j shared_j in omega arith) f c (omega arith)),
+            (λ f c less. keeps f.slot.0 (λ j within_j shared_j. let high = is_lowest.1 j within_j shared_j in
+            omega arith) f c (omega arith)),
       )

@@ -5,7 +5,8 @@ use Rattle.std.proofs.lemmas.List.Folds.{list_all_at}
 use Rattle.die_alloc.specs.Opening.{used_in}
 
 -- each slot is blank
-pub all_blank : (slots : List Seen) → ((k : ℕ) → k < length slots → reads_blank (get_or slots k Blank) ≡ true) → list_all reads_blank slots ≡ true
+pub all_blank : (slots : List Seen) → ((k : ℕ) → k < length slots → reads_blank (get_or slots k Blank) ≡ true) →
+    list_all reads_blank slots ≡ true
 all_blank [] h = refl
 all_blank (x ∷ xs) h =
     let first : reads_blank x ≡ true = h 0 (omega arith) in
@@ -26,18 +27,22 @@ used_more x xs h = ap (λ b. cond b 0 (suc (used_in xs))) h
 pub count_used_is : (slots : List Seen) (n : ℕ) → n ≤ length slots →
     ((k : ℕ) → n ≤ k → k < length slots → reads_blank (get_or slots k Blank) ≡ true) →
     (n ≡ 0) ⊎ (reads_blank (get_or slots (n - 1) Blank) ≡ false) → used_in slots ≡ n
-count_used_is slots zero within behind last = used_blank slots (all_blank slots (λ k inside. behind k (omega arith) inside))
+count_used_is slots zero within behind last = used_blank slots
+    (all_blank slots (λ k inside. behind k (omega arith) inside))
 count_used_is slots (suc m) within behind (inl none) = absurd (omega arith)
 count_used_is [] (suc m) within behind (inr last) = absurd (omega arith)
 count_used_is (x ∷ xs) (suc zero) within behind (inr last) =
     used_more x xs (list_all_at reads_blank (x ∷ xs) 0 Blank (omega arith) last)
-    ∙ ap (λ n. suc n) (count_used_is xs 0 (omega arith) (λ k low inside. behind (suc k) (omega arith) (omega arith)) (inl refl))
+    ∙ ap (λ n. suc n) (count_used_is xs 0 (omega arith) (λ k low inside. behind (suc k) (omega arith) (omega arith))
+    (inl refl))
 count_used_is (x ∷ xs) (suc (suc m)) within behind (inr last) =
     let at : suc (suc m) - 1 ≡ suc m = omega arith in
-    let here : reads_blank (get_or xs m Blank) ≡ false = subst (λ k. reads_blank (get_or (x ∷ xs) k Blank) ≡ false) at last in
+    let here : reads_blank (get_or xs m Blank) ≡ false =
+    subst (λ k. reads_blank (get_or (x ∷ xs) k Blank) ≡ false) at last in
     let under : m ≡ suc m - 1 = omega arith in
     used_more x xs (list_all_at reads_blank (x ∷ xs) (suc m) Blank (omega arith) here)
-    ∙ ap (λ n. suc n) (count_used_is xs (suc m) (omega arith) (λ k low inside. behind (suc k) (omega arith) (omega arith))
+    ∙ ap (λ n. suc n) (count_used_is xs (suc m) (omega arith)
+    (λ k low inside. behind (suc k) (omega arith) (omega arith))
     (inr (subst (λ k. reads_blank (get_or xs k Blank) ≡ false) under here)))
 
 -- where a slot is not blank, some are used

@@ -13,7 +13,8 @@ first_compared list at = count_by (is_compared list) (take at list)
 abbrev pub reads_at : List Found → ℕ → ℕ
 reads_at list at = cond (is_compared list (get_or list at nothing)) 2 0
 
-compared_more : (list : List Found) (at : ℕ) → at < length list → 2 * first_compared list at + reads_at list at ≡ 2 * first_compared list (at + 1)
+compared_more : (list : List Found) (at : ℕ) → at < length list → 2 * first_compared list at + reads_at list at
+    ≡ 2 * first_compared list (at + 1)
 compared_more list at within = elim (cases_Bool (is_compared list (get_or list at nothing))) [
   | inl yes_here ↦
       let two : reads_at list at ≡ 2 = ap (λ b. cond b 2 0) yes_here in
@@ -33,10 +34,12 @@ compared_most : (list : List Found) (at : ℕ) → first_compared list at ≤ co
 unfolding compared
 compared_most list at = sum_by-take-le (λ f. cond (is_compared list f) 1 0) list at
 
-module _ (a b c : FlashState) (list : List Found) (at : ℕ) (within : at < length list) (before : ReadsAll a b (2 * first_compared list at)) where
+module _ (a b c : FlashState) (list : List Found) (at : ℕ) (within : at < length list)
+    (before : ReadsAll a b (2 * first_compared list at)) where
   pub compared_next : ReadsAll b c (reads_at list at) → ReadsAll a c (2 * first_compared list (at + 1))
   compared_next here =
-      subst (ReadsAll a c) (compared_more list at within) (reads_all_then a b c (2 * first_compared list at) (reads_at list at) before here)
+      subst (ReadsAll a c) (compared_more list at within)
+      (reads_all_then a b c (2 * first_compared list at) (reads_at list at) before here)
 
   pub compared_fault : ReadsSome b c true (reads_at list at) → ReadsSome a c true (2 * compared list)
   compared_fault here =
@@ -44,12 +47,14 @@ module _ (a b c : FlashState) (list : List Found) (at : ℕ) (within : at < leng
       (reads_some_then a b c (2 * first_compared list at) (reads_at list at) true before here)
       (omega (arith, compared_more list at within, compared_most list (at + 1)))
 
-pub compared_whole : (a b : FlashState) (list : List Found) (at : ℕ) → length list ≤ at → ReadsAll a b (2 * first_compared list at) →
+pub compared_whole : (a b : FlashState) (list : List Found) (at : ℕ) → length list ≤ at →
+    ReadsAll a b (2 * first_compared list at) →
     ReadsAll a b (2 * compared list)
 compared_whole a b list at all before = subst (λ n. ReadsAll a b (2 * n)) (compared_all list at all) before
 
 -- a fact on the shape and the image is one on those of before
-pub as_before : (a b : FlashState) (count : ℕ) (P : Shape → List Contents → Type 0) → ReadsAll a b count → P b.shape b.image → P a.shape a.image
+pub as_before : (a b : FlashState) (count : ℕ) (P : Shape → List Contents → Type 0) → ReadsAll a b count →
+    P b.shape b.image → P a.shape a.image
 as_before a b count P ab p =
     let image : b.image ≡ a.image = ap (λ (m : Moment). m.image) ab.moment in
     subst (λ s. P s a.image) ab.carries.shape (subst (P b.shape) image p)
@@ -63,5 +68,6 @@ agree_more page_bytes image list at within before here k d below = elim (cases_l
   | inl less ↦ before k d less
   | inr high ↦
       let same : at ≡ k = omega arith in
-      subst (AgreesWithLowest page_bytes image list) (get_or_default list at nothing d within ∙ ap (λ j. get_or list j d) same) here
+      subst (AgreesWithLowest page_bytes image list) (get_or_default list at nothing d within
+      ∙ ap (λ j. get_or list j d) same) here
 ]

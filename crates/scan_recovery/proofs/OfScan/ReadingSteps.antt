@@ -29,15 +29,17 @@ module _ (a b c : FlashState) (first then : ℕ) where
     reads = bc.reads ∙ ap (read_more then) ab.reads ∙ read_more-twice first then a.reads;
   }
 
-  pub reads_some_then : (broken : Bool) → ReadsAll a b first → ReadsSome b c broken then → ReadsSome a c broken (first + then)
+  pub reads_some_then : (broken : Bool) → ReadsAll a b first → ReadsSome b c broken then →
+      ReadsSome a c broken (first + then)
   reads_some_then broken ab bc = record {
     carries = Carries-then a b c broken ab.carries bc.carries;
     moment = bc.moment ∙ ab.moment;
     reads = omega (arith, ab.reads, bc.reads, read_more-most first a.reads);
   }
 
--- at most so many, and so at most more
-pub reads_some_within : (a b : FlashState) (broken : Bool) (most more : ℕ) → ReadsSome a b broken most → most ≤ more → ReadsSome a b broken more
+-- at most this many, and so at most more
+pub reads_some_within : (a b : FlashState) (broken : Bool) (most more : ℕ) → ReadsSome a b broken most → most ≤ more →
+    ReadsSome a b broken more
 reads_some_within a b broken most more ab within = record {
   carries = ab.carries;
   moment = ab.moment;

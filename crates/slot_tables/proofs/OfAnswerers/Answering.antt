@@ -15,8 +15,10 @@ any_counted p (x ∷ xs) = first (any_counted p xs) (p x) refl
     positive : (n k : ℕ) → n ≡ 1 + k → ltb 0 n ≡ true
     positive n k e = grind (arith, nat_tests)
 
-    first : list_any p xs ≡ ltb 0 (count_by p xs) → (b : Bool) → p x ≡ b → (b || list_any p xs) ≡ ltb 0 (count_by p (x ∷ xs))
-    first rest true is = sym (positive (count_by p (x ∷ xs)) (count_by p xs) (counted ∙ ap (λ c. one_of c + count_by p xs) is))
+    first : list_any p xs ≡ ltb 0 (count_by p xs) → (b : Bool) → p x ≡ b →
+        (b || list_any p xs) ≡ ltb 0 (count_by p (x ∷ xs))
+    first rest true is = sym (positive (count_by p (x ∷ xs)) (count_by p xs) (counted
+        ∙ ap (λ c. one_of c + count_by p xs) is))
     first rest false is = rest ∙ ap (ltb 0) (sym (counted ∙ ap (λ c. one_of c + count_by p xs) is ∙ (omega arith)))
 
 -- a number that an entry has is counted there
@@ -26,9 +28,11 @@ is_counted x = let same : eqb x x ≡ true = grind (arith, nat_tests) in rw same
 not_counted : (x y : ℕ) → x ≢ y → one_of (is_number x (Some y)) ≡ 0
 not_counted x y other = let no : eqb y x ≡ false = grind (arith, nat_tests) in rw no refl
 
-module _ (its : List (Option ℕ)) (counts : List ℕ) (h : AreCounted its counts) (number : ℕ) (low : number < length its) where
+module _ (its : List (Option ℕ)) (counts : List ℕ) (h : AreCounted its counts) (number : ℕ)
+    (low : number < length its) where
   -- what an entry changes in each count
-  changed : (to : Option ℕ) (x : ℕ) → count_by (is_number x) (set its number to) + one_of (is_number x (number_at its number)) ≡ count_by
+  changed : (to : Option ℕ) (x : ℕ) → count_by (is_number x) (set its number to) + one_of
+      (is_number x (number_at its number)) ≡ count_by
       (is_number x) its + one_of (is_number x to)
   changed to x = sum_by-set (λ a. one_of (is_number x a)) its number to None low
 
@@ -40,7 +44,8 @@ module _ (its : List (Option ℕ)) (counts : List ℕ) (h : AreCounted its count
       omega (arith, gone, one, h.counts x (h.within number x is))
 
   -- it is taken away
-  pub taken : (x count : ℕ) → number_at its number ≡ Some x → count + 1 ≡ get_or counts x 0 → AreCounted (set its number None) (set counts x count)
+  pub taken : (x count : ℕ) → number_at its number ≡ Some x → count + 1 ≡ get_or counts x 0 →
+      AreCounted (set its number None) (set counts x count)
   taken x count is less = record {
     small = rw (length-set its number None) h.small;
     sizes = length-set counts x count ∙ h.sizes ∙ sym (length-set its number None);
@@ -52,7 +57,8 @@ module _ (its : List (Option ℕ)) (counts : List ℕ) (h : AreCounted its count
         elim (cases_eq z x) [
           | inl here ↦
               let one : one_of (is_number z (number_at its number)) ≡ 1 = rw (is, here) (is_counted x) in
-              let new : get_or (set counts x count) z 0 ≡ count = rw here (get_or-set_same counts x count 0 (rw h.sizes (rw here at zlies))) in
+              let new : get_or (set counts x count) z 0 ≡ count =
+              rw here (get_or-set_same counts x count 0 (rw h.sizes (rw here at zlies))) in
               let less_here : count + 1 ≡ get_or counts z 0 = rw here less in
               omega (arith, gone, was, one, new, less_here)
           | inr other ↦
@@ -64,7 +70,8 @@ module _ (its : List (Option ℕ)) (counts : List ℕ) (h : AreCounted its count
     where
       left : (y z : ℕ) → number_at (set its number None) y ≡ Some z → z < length its
       left y z e = elim (cases_eq y number) [
-        | inl here ↦ absurd (let none : None ≡ Some z = sym (get_or-set_same its number None None low) ∙ rw here at e in cc)
+        | inl here ↦ absurd (let none : None ≡ Some z = sym (get_or-set_same its number None None low)
+            ∙ rw here at e in cc)
         | inr other ↦ h.within y z (sym (get_or-set_other its number y None None other) ∙ e)
       ]
 
@@ -83,7 +90,8 @@ module _ (its : List (Option ℕ)) (counts : List ℕ) (h : AreCounted its count
         elim (cases_eq z x) [
           | inl here ↦
               let one : one_of (is_number z (Some x)) ≡ 1 = rw here (is_counted x) in
-              let new : get_or (set counts x count) z 0 ≡ count = rw here (get_or-set_same counts x count 0 (rw h.sizes xlies)) in
+              let new : get_or (set counts x count) z 0 ≡ count =
+              rw here (get_or-set_same counts x count 0 (rw h.sizes xlies)) in
               let more_here : count ≡ get_or counts z 0 + 1 = rw here more in
               omega (arith, come, was, none, one, new, more_here)
           | inr other ↦
@@ -105,7 +113,8 @@ module _ (its : List (Option ℕ)) (counts : List ℕ) (h : AreCounted its count
   count_most x lies = omega (arith, h.counts x lies, h.small, count_by-le-length (is_number x) its)
 
 -- an answerer is one of the numbers
-pub entry_within : (its : List (Option ℕ)) (counts : List ℕ) → AreCounted its counts → (number : ℕ) → IfSome (number_at its number)
+pub entry_within : (its : List (Option ℕ)) (counts : List ℕ) → AreCounted its counts → (number : ℕ) →
+    IfSome (number_at its number)
     (λ x. x < length its)
 entry_within its counts h number = by (number_at its number) refl
   where

@@ -68,7 +68,8 @@ module _ (s : Inside) (h : SlotsInvariant s) where
     where
       still : (k x : ℕ) → use_at (set uses at Blank) k ≡ Holds x → x < length uses
       still k x e = elim (cases_eq k at) [
-        | inl own ↦ absurd (let no : Blank ≡ Holds x = sym (get_or-set_same uses at Blank Blank low) ∙ rw own at e in cc)
+        | inl own ↦ absurd (let no : Blank ≡ Holds x = sym (get_or-set_same uses at Blank Blank low)
+            ∙ rw own at e in cc)
         | inr other ↦ h.held k x (sym (get_or-set_other uses at k Blank Blank other) ∙ e)
       ]
 
@@ -87,7 +88,8 @@ module _ (s : Inside) (h : SlotsInvariant s) where
     where
       still : (k x : ℕ) → use_at (set uses at to) k ≡ Holds x → x < length uses
       still k x e = elim (cases_eq k at) [
-        | inl own ↦ absurd (let is : to ≡ Holds x = sym (get_or-set_same uses at to Blank low) ∙ rw own at e in rw is at now)
+        | inl own ↦ absurd (let is : to ≡ Holds x = sym (get_or-set_same uses at to Blank low)
+            ∙ rw own at e in rw is at now)
         | inr other ↦ h.held k x (sym (get_or-set_other uses at k to Blank other) ∙ e)
       ]
 
@@ -95,7 +97,8 @@ module _ (s : Inside) (h : SlotsInvariant s) where
   pub placed : (at number : ℕ) → at < length uses → HoldsNone (use_at uses at) → number < length uses
       → SlotsInvariant (record s {
         uses = with_item s.uses at (Holds number);
-        copies = with_list s.copies number (insert (list_of s.copies number) (position_or_len (is_above at) (list_of s.copies number)) at);
+        copies = with_list s.copies number (insert (list_of s.copies number)
+            (position_or_len (is_above at) (list_of s.copies number)) at);
       })
   placed at number low none numbered = record {
     small = rw (length-set uses at (Holds number)) h.small;
@@ -109,10 +112,12 @@ module _ (s : Inside) (h : SlotsInvariant s) where
               rw own
               (get_or-set_same s.copies.lists number _ [] (rw h.keys numbered)
               ∙ ap (λ xs. insert xs (position_or_len (is_above at) xs) at) (h.copies number numbered)
-              ∙ sym (copies_put uses at low (Holds number) number (none_holds number (use_at uses at) none) (holds_own number)))
+              ∙ sym (copies_put uses at low (Holds number) number (none_holds number (use_at uses at) none)
+              (holds_own number)))
           | inr other ↦
               get_or-set_other s.copies.lists number x _ [] other ∙ h.copies x lies
-              ∙ sym (copies_stay uses at low (Holds number) x (holds_other x number other ∙ sym (none_holds x (use_at uses at) none)))
+              ∙ sym (copies_stay uses at low (Holds number) x (holds_other x number other
+              ∙ sym (none_holds x (use_at uses at) none)))
         ];
   }
     where

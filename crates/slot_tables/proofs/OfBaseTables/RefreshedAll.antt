@@ -12,10 +12,12 @@ use Rattle.slot_tables.proofs.OfLiveSlots.Needing.{needed_none, home_wanted, hom
 -- what is marked is needed, and the homes of the wanted records of the first numbers are marked
 pub record AreHomes (k : TablesState) (upto : ℕ) (marks : List Bool) : Type 0 where
   pub needed : (at : ℕ) → is_marked marks at ≡ true → is_needed k at ≡ true
-  pub homes : (number at : ℕ) → number < upto → home k number ≡ Some at → is_wanted k number ≡ true → is_marked marks at ≡ true
+  pub homes : (number at : ℕ) → number < upto → home k number ≡ Some at → is_wanted k number ≡ true →
+      is_marked marks at ≡ true
 
 -- the home of one more record is marked
-marked_more : (k : TablesState) (upto at : ℕ) (marks : List Bool) → AreHomes k upto marks → home k upto ≡ Some at → is_wanted k upto ≡ true → at < length marks
+marked_more : (k : TablesState) (upto at : ℕ) (marks : List Bool) → AreHomes k upto marks → home k upto ≡ Some at →
+    is_wanted k upto ≡ true → at < length marks
     → AreHomes k (upto + 1) (set marks at true)
 marked_more k upto at marks h is wanted low = record {
   needed = λ s marked_s. elim (cases_eq s at) [
@@ -32,7 +34,8 @@ marked_more k upto at marks h is wanted low = record {
 }
 
 -- one number more
-pub one_more : (k : TablesState) (upto : ℕ) (marks : List Bool) → AreHomes k upto marks → length marks ≡ length k.slots →
+pub one_more : (k : TablesState) (upto : ℕ) (marks : List Bool) → AreHomes k upto marks →
+    length marks ≡ length k.slots →
     AreHomes k (upto + 1) (home_marked k marks upto)
 one_more k upto marks h size = by (is_wanted k upto) refl (home k upto) refl (home_lies k (Some upto))
   where
@@ -57,7 +60,8 @@ unmarked zero at = refl
 unmarked (suc n) zero = refl
 unmarked (suc n) (suc at) = unmarked n at
 
-pub marked_length : (k : TablesState) (marks : List Bool) (number : ℕ) → length (home_marked k marks number) ≡ length marks
+pub marked_length : (k : TablesState) (marks : List Bool) (number : ℕ) →
+    length (home_marked k marks number) ≡ length marks
 marked_length k marks number = by (is_wanted k number) (home k number)
   where
     by : (w : Bool) (o : Option ℕ) → length (cond w (marked marks o) marks) ≡ length marks
@@ -91,7 +95,8 @@ needed_home k at is = by (use_at k.slots at) refl is
         (number, e, is_there (home k number) parts.0, parts.1)
 
 -- once the homes of all are marked, the marks are those of the needed slots
-pub all_marked : (k : TablesState) (marks : List Bool) → IsTablesState k → AreHomes k (length k.slots) marks → (at : ℕ) → is_marked marks at ≡ is_needed k at
+pub all_marked : (k : TablesState) (marks : List Bool) → IsTablesState k → AreHomes k (length k.slots) marks →
+    (at : ℕ) → is_marked marks at ≡ is_needed k at
 all_marked k marks kept h at = by (is_marked marks at) refl (is_needed k at) refl
   where
     by : (m : Bool) → is_marked marks at ≡ m → (n : Bool) → is_needed k at ≡ n → m ≡ n
@@ -130,4 +135,8 @@ right_marked k slots = record {
 }
 
 pub are_tables : (f : Inside) → TablesBuilderInvariant f → TablesInvariant (as_tables f)
-are_tables f h = record { sized = h.sized; blanks = h.blanks; live = right_marked (tables_state f.base) h.sized.kept.slots }
+are_tables f h = record {
+  sized = h.sized;
+  blanks = h.blanks;
+  live = right_marked (tables_state f.base) h.sized.kept.slots;
+}

@@ -1,4 +1,4 @@
--- The tables after a change of what was given, once the homes of the records that it touches are settled.
+-- The tables after a change of what was given, once the homes of the records that it touches are refreshed.
 use Rattle.slot_tables.proofs.Common.{◌≡◌, ◌≢◌, ℕ, ◌<◌, ◌⊎◌, Bool, inl, inr, Option, Some, None, List, [], length, get_or, set, refl, sym, ◌∙◌, ap, length-set, IfSome, IsSomeAnd, option_and_then, with_item, cases_eq, cases_lt, get_or-set_same, get_or-set_other, get_or_past, Contains-nil, slots_of, Rec, Inside, BaseTables, TablesState, number_at, record_at, home, copies_of, is_wanted, is_needed, LiveSlotsState, tables_state, refreshed, IsSized, TablesInvariant, AreMarked}
 use Rattle.slot_tables.specs.TablesState.{AreVersions}
 use Rattle.slot_tables.specs.Versions.{RecordsState, Names}
@@ -9,12 +9,13 @@ use Rattle.slot_tables.proofs.OfLiveSlots.Needing.{record_wanted}
 abbrev pub home_at : TablesState → Option ℕ → Option ℕ
 home_at k number = option_and_then (home k) number
 
--- the marks once the homes of two records are settled
+-- the marks once the homes of two records are refreshed
 abbrev pub two_refreshed : TablesState → List Bool → Option ℕ → Option ℕ → List Bool
 two_refreshed k needed a b = refreshed k (refreshed k needed (home_at k a)) (home_at k b)
 
 -- they are right where they were so elsewhere
-marked_twice : (k k' : TablesState) (n : LiveSlotsState) (a b : Option ℕ) → AreMarked k n → length k'.slots ≡ slots_of k.shape → k'.shape ≡ k.shape
+marked_twice : (k k' : TablesState) (n : LiveSlotsState) (a b : Option ℕ) → AreMarked k n →
+    length k'.slots ≡ slots_of k.shape → k'.shape ≡ k.shape
     → k'.spare ≡ k.spare
     → ((at : ℕ) → (home_at k' a ≡ Some at → ⊥) → (home_at k' b ≡ Some at → ⊥) → is_needed k' at ≡ is_needed k at)
     → AreMarked k' (record n { needed = two_refreshed k' n.needed a b })
@@ -24,7 +25,8 @@ marked_twice k k' n a b m slots shape spare still = record {
   blocks = m.blocks ∙ rw shape refl;
   spare = m.spare ∙ sym spare;
   needed = λ at.
-      refreshed_at k' (refreshed k' n.needed (home_at k' a)) (home_at k' b) at (rw (long, ← slots) (home_lies k' b)) (λ off_b.
+      refreshed_at k' (refreshed k' n.needed (home_at k' a)) (home_at k' b) at
+      (rw (long, ← slots) (home_lies k' b)) (λ off_b.
       refreshed_at k' n.needed (home_at k' a) at (rw (m.slots, ← slots) (home_lies k' a)) (λ off_a.
       m.needed at ∙ sym (still at off_a off_b)));
 }
@@ -32,12 +34,14 @@ marked_twice k k' n a b m slots shape spare still = record {
     long : length (refreshed k' n.needed (home_at k' a)) ≡ slots_of k.shape
     long = refreshed_long k' n.needed (home_at k' a) ∙ m.slots
 
--- where another number is looked at than one that is settled
-other_number : (k : TablesState) (o : Option ℕ) (number at : ℕ) → (home_at k o ≡ Some at → ⊥) → home k number ≡ Some at → o ≡ Some number → ⊥
+-- where another number is looked at than one that is refreshed
+other_number : (k : TablesState) (o : Option ℕ) (number at : ℕ) → (home_at k o ≡ Some at → ⊥) →
+    home k number ≡ Some at → o ≡ Some number → ⊥
 other_number k o number at off is e = off (ap (option_and_then (home k)) e ∙ is)
 
 -- the need of a slot stays where only what is wanted changes, and its record is none of two
-wants_stay : (k k' : TablesState) (at : ℕ) (a b : Option ℕ) → k'.slots ≡ k.slots → k'.shape ≡ k.shape → k'.spare ≡ k.spare
+wants_stay : (k k' : TablesState) (at : ℕ) (a b : Option ℕ) → k'.slots ≡ k.slots → k'.shape ≡ k.shape →
+    k'.spare ≡ k.spare
     → ((number : ℕ) → (a ≡ Some number → ⊥) → (b ≡ Some number → ⊥) → is_wanted k' number ≡ is_wanted k number)
     → (home_at k' a ≡ Some at → ⊥) → (home_at k' b ≡ Some at → ⊥) → is_needed k' at ≡ is_needed k at
 wants_stay k k' at a b slots shape spare still off_a off_b =
@@ -51,12 +55,19 @@ wants_stay k k' at a b slots shape spare still off_a off_b =
       where
         decide : (o : Option ℕ) → (o ≡ Some at) ⊎ (o ≡ Some at → ⊥)
         decide None = inr (λ e. cc)
-        decide (Some x) = elim (cases_eq x at) [ inl e ↦ inl (ap Some e) | inr other ↦ inr (λ e. other (let same : x ≡ at = cc in same)) ]
+        decide (Some x) = elim (cases_eq x at) [
+          | inl e ↦ inl (ap Some e)
+          | inr other ↦ inr (λ e. other (let same : x ≡ at = cc in same))
+        ]
 
     by : (number : ℕ) → (home k' number ≡ Some at) ⊎ (home k' number ≡ Some at → ⊥)
         → ((home k' number ≡ home k number) × (is_wanted k' number ≡ is_wanted k number)) ⊎ ((home k number ≡ Some at
         → ⊥) × (home k' number ≡ Some at → ⊥))
-    by number (inl is) = inl (same_home number, still number (other_number k' a number at off_a is) (other_number k' b number at off_b is))
+    by number (inl is) = inl (
+      same_home number,
+      still number (other_number k' a number at off_a is)
+          (other_number k' b number at off_b is),
+    )
     by number (inr off) = inr ((λ e. off (same_home number ∙ e)), off)
 
 module _ (t : Inside) (h : TablesInvariant t) where
@@ -71,7 +82,9 @@ module _ (t : Inside) (h : TablesInvariant t) where
 
   -- another page that a record waits for
   pub waits_set : (number : ℕ) (to : Option ℕ)
-      → TablesInvariant (record t { base = record g { waits = record g.waits { waits = set g.waits.waits number to } } })
+      → TablesInvariant (record t {
+        base = record g { waits = record g.waits { waits = set g.waits.waits number to } };
+      })
   waits_set number to = record {
     sized = record {
       kept = record {
@@ -96,7 +109,8 @@ module _ (t : Inside) (h : TablesInvariant t) where
       blocks = h.live.blocks;
       spare = h.live.spare;
       needed = λ at. h.live.needed at ∙ sym (wants_stay k (tables_state
-          (record g { waits = record g.waits { waits = set g.waits.waits number to } })) at None None refl refl refl (λ x a b. refl)
+          (record g { waits = record g.waits { waits = set g.waits.waits number to } })) at None None refl refl refl
+          (λ x a b. refl)
           (λ e. cc) (λ e. cc));
     };
   }
@@ -104,7 +118,10 @@ module _ (t : Inside) (h : TablesInvariant t) where
   -- another current record of a page
   pub current_set : (page : ℕ) (to : Option ℕ) → page < length g.current → IfSome to (λ x. x < length k.slots)
       → let g' = record g { current = set g.current page to } in
-      TablesInvariant (record t { base = g'; live = record t.live { needed = two_refreshed (tables_state g') t.live.needed (number_at g.current page) to } })
+      TablesInvariant (record t {
+        base = g';
+        live = record t.live { needed = two_refreshed (tables_state g') t.live.needed (number_at g.current page) to };
+      })
   current_set page to low within =
       let g' = record g { current = set g.current page to } in
       record {
@@ -140,7 +157,10 @@ module _ (t : Inside) (h : TablesInvariant t) where
   -- another answerer of a record
   pub answerer_set : (y : ℕ) (to : Option ℕ) → y < length g.answers
       → let g' = record g { answers = set g.answers y to } in
-      TablesInvariant (record t { base = g'; live = record t.live { needed = two_refreshed (tables_state g') t.live.needed (number_at g.answers y) to } })
+      TablesInvariant (record t {
+        base = g';
+        live = record t.live { needed = two_refreshed (tables_state g') t.live.needed (number_at g.answers y) to };
+      })
   answerer_set y to low =
       let g' = record g { answers = set g.answers y to } in
       record {
@@ -168,10 +188,15 @@ module _ (t : Inside) (h : TablesInvariant t) where
 
   -- another pin of a page
   pub pin_set : (page version : ℕ) (old new : Option ℕ) → page < length g.pins.items
-      → ((number : ℕ) (r : Rec) → record_at g.records.records number ≡ Some r → Names page (get_or g.pins.items page 0) r → old ≡ Some number)
-      → ((number : ℕ) (r : Rec) → record_at g.records.records number ≡ Some r → Names page version r → new ≡ Some number)
+      → ((number : ℕ) (r : Rec) → record_at g.records.records number ≡ Some r →
+      Names page (get_or g.pins.items page 0) r → old ≡ Some number)
+      → ((number : ℕ) (r : Rec) → record_at g.records.records number ≡ Some r → Names page version r →
+      new ≡ Some number)
       → let g' = record g { pins = with_item g.pins page version } in
-      TablesInvariant (record t { base = g'; live = record t.live { needed = two_refreshed (tables_state g') t.live.needed old new } })
+      TablesInvariant (record t {
+        base = g';
+        live = record t.live { needed = two_refreshed (tables_state g') t.live.needed old new };
+      })
   pin_set page version old new low was is =
       let g' = record g { pins = with_item g.pins page version } in
       record {
@@ -243,7 +268,7 @@ module _ (t : Inside) (h : TablesInvariant t) where
           (λ number a b. renewed_wanted number (λ e. a (ap Some (sym e)))) off_a off_b);
     }
 
-    -- where no slot holds it nothing is to be settled
+    -- where no slot holds it nothing is to be refreshed
     pub record_gone : copies_of k.slots x ≡ [] → TablesInvariant (record t { base = renewed })
     record_gone none = record {
       sized = renewed_sized;

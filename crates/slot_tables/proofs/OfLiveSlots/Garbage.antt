@@ -9,7 +9,8 @@ use Rattle.slot_tables.specs.Tables.{AreBlanks}
 use Rattle.slot_tables.proofs.OfLiveSlots.Counting.{count_same}
 
 -- those that pass and those that do not are all
-count_not : (f : ℕ → Bool) (a n : ℕ) → count_by (λ k. not (f k)) (range_with_len a n) + count_by f (range_with_len a n) ≡ n
+count_not : (f : ℕ → Bool) (a n : ℕ) → count_by (λ k. not (f k)) (range_with_len a n) + count_by f (range_with_len a n)
+    ≡ n
 count_not f a zero = omega arith
 count_not f a (suc n) =
     let rest = count_not f (a + 1) n in
@@ -22,7 +23,8 @@ count_not f a (suc n) =
 
 -- those that pass one of two tests that exclude each other, and those that pass neither, are all
 count_apart : (f g : ℕ → Bool) (a n : ℕ) → ((k : ℕ) → f k ≡ true → g k ≡ false)
-    → count_by (λ k. not (f k || g k)) (range_with_len a n) + count_by f (range_with_len a n) + count_by g (range_with_len a n) ≡ n
+    → count_by (λ k. not (f k || g k)) (range_with_len a n) + count_by f (range_with_len a n) + count_by g
+    (range_with_len a n) ≡ n
 count_apart f g a zero apart = omega arith
 count_apart f g a (suc n) apart =
     let rest = count_apart f g (a + 1) n apart in
@@ -47,7 +49,8 @@ blank_unneeded k at h = by (use_at k.slots at) refl
 module _ (k : TablesState) (h : IsTablesState k) (n : LiveSlotsState) (m : AreMarked k n) where
   needed_count : (block : ℕ) → marked_in n.needed n.size block ≡ count_by (is_needed k) (slots_in k.shape block)
   unfolding marked_in
-  needed_count block = rw m.size (count_same (is_marked n.needed) (is_needed k) (block * k.shape.pages_per_block) k.shape.pages_per_block
+  needed_count block = rw m.size (count_same (is_marked n.needed) (is_needed k) (block * k.shape.pages_per_block)
+      k.shape.pages_per_block
       (λ at low high. m.needed at))
 
   -- of a block that is shut it is what is not needed
@@ -61,7 +64,8 @@ module _ (k : TablesState) (h : IsTablesState k) (n : LiveSlotsState) (m : AreMa
       (slots_in k.shape block) = omega (arith, all) in left))
 
   pub garbage_numbers_are : garbage_numbers k ≡ unmarked_numbers n
-  garbage_numbers_are = rw m.blocks (map_range (garbage_of k true) (unmarked_in n) 0 (blocks_of k.shape) (λ block low high. garbage_shut block))
+  garbage_numbers_are = rw m.blocks (map_range (garbage_of k true) (unmarked_in n) 0 (blocks_of k.shape)
+      (λ block low high. garbage_shut block))
 
   -- where it is not shut the blank slots are not garbage; of the spare there is none
   pub garbage_part : (block : ℕ) → garbage_of k false block ≡ unmarked_in n block - blanks_of k block
@@ -71,20 +75,24 @@ module _ (k : TablesState) (h : IsTablesState k) (n : LiveSlotsState) (m : AreMa
       blank : ℕ → Bool
       blank at = is_blank (use_at k.slots at)
 
-      all : count_by (λ at. not (blank at || is_needed k at)) (slots_in k.shape block) + count_by blank (slots_in k.shape block)
+      all : count_by (λ at. not (blank at || is_needed k at)) (slots_in k.shape block) + count_by blank
+          (slots_in k.shape block)
           + count_by (is_needed k) (slots_in k.shape block) ≡ k.shape.pages_per_block
       all = count_apart blank (is_needed k) (block * k.shape.pages_per_block) k.shape.pages_per_block (blank_unneeded k)
 
       by_spare : (b : Bool) → cond b 0 (count_by (λ at. not (blank at || is_needed k at)) (slots_in k.shape block))
-          ≡ cond b 0 (k.shape.pages_per_block - count_by (is_needed k) (slots_in k.shape block)) - count_by blank (slots_in k.shape block)
+          ≡ cond b 0 (k.shape.pages_per_block - count_by (is_needed k) (slots_in k.shape block)) - count_by blank
+          (slots_in k.shape block)
       by_spare true = omega arith
       by_spare false = omega (arith, all)
 
 -- the blank slots are counted
-module _ (k : TablesState) (h : IsTablesState k) (m : BlockCountsState) (b : AreBlanks k m) (block : ℕ) (low : block < blocks_of k.shape) where
+module _ (k : TablesState) (h : IsTablesState k) (m : BlockCountsState) (b : AreBlanks k m) (block : ℕ)
+    (low : block < blocks_of k.shape) where
   block_fits : block * k.shape.pages_per_block + k.shape.pages_per_block ≤ length k.slots
   block_fits =
-      let whole = row_fits block k.shape.pages_per_block (blocks_of k.shape) k.shape.pages_per_block low (omega arith) in
+      let whole = row_fits block k.shape.pages_per_block (blocks_of k.shape) k.shape.pages_per_block low
+      (omega arith) in
       omega (arith, whole, h.slots)
 
   pub blank_fits : block * m.size + m.size ≤ length m.marks
@@ -94,5 +102,6 @@ module _ (k : TablesState) (h : IsTablesState k) (m : BlockCountsState) (b : Are
   unfolding marked_in blanks_of
   blank_count =
       rw (b.size, b.marks)
-      (count_same (is_marked (map is_blank k.slots)) (λ at. is_blank (use_at k.slots at)) (block * k.shape.pages_per_block) k.shape.pages_per_block
+      (count_same (is_marked (map is_blank k.slots)) (λ at. is_blank (use_at k.slots at))
+      (block * k.shape.pages_per_block) k.shape.pages_per_block
       (λ at first last. let fits = block_fits in get_or-map is_blank k.slots at Blank false (omega arith)))

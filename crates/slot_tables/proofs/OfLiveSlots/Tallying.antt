@@ -25,7 +25,8 @@ group_of size group at low high =
 
 module _ (marks : List Bool) (size at : ℕ) (mark : Bool) (some : 0 < size) (low : at < length marks) where
   -- in its own group
-  pub marked_here : marked_in (set marks at mark) size (at / size) + one_of (get_or marks at false) ≡ marked_in marks size (at / size) + one_of mark
+  pub marked_here : marked_in (set marks at mark) size (at / size) + one_of (get_or marks at false)
+      ≡ marked_in marks size (at / size) + one_of mark
   unfolding marked_in
   marked_here =
       let first = div-mul-le_self at size in
@@ -36,17 +37,21 @@ module _ (marks : List Bool) (size at : ℕ) (mark : Bool) (some : 0 < size) (lo
       rw here at changed
 
   -- and in the others
-  pub marked_there : (group : ℕ) → group ≢ at / size → marked_in (set marks at mark) size group ≡ marked_in marks size group
+  pub marked_there : (group : ℕ) → group ≢ at / size → marked_in (set marks at mark) size group
+      ≡ marked_in marks size group
   unfolding marked_in
   marked_there group other =
       count_same (is_marked (set marks at mark)) (is_marked marks) (group * size) size
-      (λ k first last. get_or-set_other marks at k mark false (λ e. other (sym (group_of size group at (omega arith) (omega arith)))))
+      (λ k first last. get_or-set_other marks at k mark false
+      (λ e. other (sym (group_of size group at (omega arith) (omega arith)))))
 
 -- where there is a place, a group is small
 pub size_fits : (t : Inside) (at : ℕ) → BlockCountsInvariant t → at < length t.marks.items → t.size ≤ 65536
 size_fits t at h low = elim (cases_lt 0 (length t.counts.items)) [
-  | inl some ↦ let one : 1 * t.size ≤ length t.counts.items * t.size = mul-le-mul_right t.size some in omega (arith, h.groups, h.small)
-  | inr none ↦ absurd (let zero : length t.counts.items ≡ 0 = omega arith in let e = rw zero at h.groups in omega (arith, e))
+  | inl some ↦ let one : 1 * t.size ≤ length t.counts.items * t.size = mul-le-mul_right t.size some in
+      omega (arith, h.groups, h.small)
+  | inr none ↦ absurd (let zero : length t.counts.items ≡ 0 = omega arith in let e = rw zero at h.groups in
+      omega (arith, e))
 ]
 
 -- where all marks are the same
@@ -68,19 +73,24 @@ marked_none groups size group low =
     filled_count (is_marked (replicate (groups * size) false)) (group * size) size 0 (omega arith)
     (λ k l. absurd (omega arith)) (λ k above below. within groups size group false low k below)
 
--- a group of a tally is one of those that it counts
-pub group_lies : (t : Inside) (group : ℕ) → BlockCountsInvariant t → group * t.size + t.size ≤ length t.marks.items → group < length t.counts.items
+-- a group of block counts is one of those that it counts
+pub group_lies : (t : Inside) (group : ℕ) → BlockCountsInvariant t → group * t.size + t.size ≤ length t.marks.items →
+    group < length t.counts.items
 group_lies t group h within =
     let positive = h.size in
     lt_of_mul-lt-mul_right t.size (omega (arith, h.groups))
 
-pub group_at : (t : Inside) (at : ℕ) → BlockCountsInvariant t → at < length t.marks.items → at / t.size < length t.counts.items
+pub group_at : (t : Inside) (at : ℕ) → BlockCountsInvariant t → at < length t.marks.items →
+    at / t.size < length t.counts.items
 group_at t at h low = div_below at t.size (length t.counts.items) h.size (omega (arith, h.groups))
 
 -- a mark is set or taken away, and counted so
 pub tallied : (t : Inside) (at count : ℕ) (mark : Bool) → BlockCountsInvariant t → at < length t.marks.items
     → count + one_of (get_or t.marks.items at false) ≡ get_or t.counts.items (at / t.size) 0 + one_of mark
-    → BlockCountsInvariant (record t { marks = with_item t.marks at mark; counts = with_item t.counts (at / t.size) count })
+    → BlockCountsInvariant (record t {
+      marks = with_item t.marks at mark;
+      counts = with_item t.counts (at / t.size) count;
+    })
 tallied t at count mark h low counted = record {
   size = h.size;
   groups = length-set {A = Bool} t.marks.items at mark ∙ h.groups ∙ ap
@@ -101,7 +111,8 @@ tallied t at count mark h low counted = record {
 }
 
 -- a mark that is there is counted
-pub counted : (t : Inside) (at : ℕ) → BlockCountsInvariant t → at < length t.marks.items → get_or t.marks.items at false ≡ true
+pub counted : (t : Inside) (at : ℕ) → BlockCountsInvariant t → at < length t.marks.items →
+    get_or t.marks.items at false ≡ true
     → 1 ≤ get_or t.counts.items (at / t.size) 0
 counted t at h low is =
     let own = marked_here t.marks.items t.size at false h.size low in
@@ -131,8 +142,15 @@ module _ (t : Inside) (at number : ℕ) (was mark : Bool) (h : BlockCountsInvari
   mark_is = sym (get_or_read t.marks.items at was low read false)
 
   -- it is set
-  pub risen : mark ≡ true → BlockCountsInvariant (record t { marks = with_item t.marks at mark; counts = with_item t.counts (at / t.size) (number + 1) })
-  risen is = tallied t at (number + 1) mark h low (rw (mark_is, differ_from_true was mark differ is, is) (omega (arith, number_is)))
+  pub risen : mark ≡ true → BlockCountsInvariant (record t {
+    marks = with_item t.marks at mark;
+    counts = with_item t.counts (at / t.size) (number + 1);
+  })
+  risen is = tallied t at (number + 1) mark h low (rw (
+    mark_is,
+    differ_from_true was mark differ is,
+    is,
+  ) (omega (arith, number_is)))
 
   pub risen_fits : mark ≡ true → number + 1 ≤ t.size
   risen_fits is =
@@ -149,7 +167,14 @@ module _ (t : Inside) (at number : ℕ) (was mark : Bool) (h : BlockCountsInvari
       let some = counted t at h low (mark_is ∙ differ_from_false was mark differ is) in
       omega (arith, some, number_is)
 
-  pub fallen : mark ≡ false → BlockCountsInvariant (record t { marks = with_item t.marks at mark; counts = with_item t.counts (at / t.size) (number - 1) })
+  pub fallen : mark ≡ false → BlockCountsInvariant (record t {
+    marks = with_item t.marks at mark;
+    counts = with_item t.counts (at / t.size) (number - 1);
+  })
   fallen is =
       let some = fallen_fits is in
-      tallied t at (number - 1) mark h low (rw (mark_is, differ_from_false was mark differ is, is) (omega (arith, number_is, some)))
+      tallied t at (number - 1) mark h low (rw (
+        mark_is,
+        differ_from_false was mark differ is,
+        is,
+      ) (omega (arith, number_is, some)))

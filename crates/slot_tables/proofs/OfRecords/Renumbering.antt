@@ -20,7 +20,8 @@ key_of r None = r.pages
 key_of r (Some rec) = rec.page
 
 -- pairs of members stay in order where their records stay
-pairs_stay : (records records' : List (Option Rec)) (xs : List ℕ) → ((y : ℕ) → Contains xs y → record_at records' y ≡ record_at records y)
+pairs_stay : (records records' : List (Option Rec)) (xs : List ℕ) →
+    ((y : ℕ) → Contains xs y → record_at records' y ≡ record_at records y)
     → AllPairs (IsNewer records) xs → AllPairs (IsNewer records') xs
 pairs_stay records records' xs same h i j d less low r s r_is s_is =
     h i j d less low r s
@@ -28,10 +29,12 @@ pairs_stay records records' xs same h i j d less low r s r_is s_is =
     (sym (same (get_or xs j d) (Contains-get_or xs j d low)) ∙ s_is)
 
 -- a number gets another record, or none, and stands in the list of that one alone
-module _ (r : Inside) (h : RecordsInvariant r) (number : ℕ) (new : Option Rec) (lists : LinkedListsState) (within : number < length r.records)
+module _ (r : Inside) (h : RecordsInvariant r) (number : ℕ) (new : Option Rec) (lists : LinkedListsState)
+    (within : number < length r.records)
     (places : lists.places ≡ r.lists.places) (disjoint : AreDisjoint lists) (keys : length lists.lists ≡ r.pages + 1)
     (used : ℕ) (most : used ≤ length r.records) (grows : (y : ℕ) → (y < used) ↔ ((y < r.unused) ⊎ (y ≡ number)))
-    (has : (k y : ℕ) → Contains (list_of lists k) y ↔ (((k ≡ key_of r new) × (y ≡ number)) ⊎ (Contains (list_of r.lists k) y × (y ≢ number))))
+    (has : (k y : ℕ) → Contains (list_of lists k) y ↔ (((k ≡ key_of r new) × (y ≡ number))
+    ⊎ (Contains (list_of r.lists k) y × (y ≢ number))))
     (key_low : (rec : Rec) → new ≡ Some rec → rec.page < r.pages)
     (falls : (p : ℕ) → p < r.pages → AllPairs (IsNewer (set r.records number new)) (list_of lists p)) where
   abbrev records : List (Option Rec)
@@ -52,17 +55,20 @@ module _ (r : Inside) (h : RecordsInvariant r) (number : ℕ) (new : Option Rec)
   no_list : (p : ℕ) → r.pages ≤ p → numbers_at (take r.pages lists.lists) p ≡ []
   no_list p past = get_or_past (take r.pages lists.lists) p [] (rw long past)
 
-  its_page : (p y : ℕ) → p < r.pages → Contains (list_of lists p) y → (rec : Rec) × (record_at records y ≡ Some rec) × (rec.page ≡ p)
+  its_page : (p y : ℕ) → p < r.pages → Contains (list_of lists p) y → (rec : Rec) × (record_at records y ≡ Some rec)
+      × (rec.page ≡ p)
   its_page p y low is = elim ((has p y).0 is) [
     | inl both ↦ by new refl both.0 both.1
     | inr old ↦ (let found = listed_record r p y h low old.0 in (found.0, others y old.1 ∙ found.1, found.2))
   ]
     where
-      by : (n : Option Rec) → new ≡ n → p ≡ key_of r new → y ≡ number → (rec : Rec) × (record_at records y ≡ Some rec) × (rec.page ≡ p)
+      by : (n : Option Rec) → new ≡ n → p ≡ key_of r new → y ≡ number → (rec : Rec) × (record_at records y ≡ Some rec)
+          × (rec.page ≡ p)
       by None e key is_own = absurd (let at : p ≡ r.pages = rw e at key in omega (arith, low, at))
       by (Some rec) e key is_own = (rec, rw is_own (own ∙ e), sym (rw e at key))
 
-  its_listed : (y : ℕ) (rec : Rec) → record_at records y ≡ Some rec → (rec.page < r.pages) × Contains (list_of lists rec.page) y
+  its_listed : (y : ℕ) (rec : Rec) → record_at records y ≡ Some rec → (rec.page < r.pages)
+      × Contains (list_of lists rec.page) y
   its_listed y rec is = elim (cases_eq y number) [
     | inl is_own ↦
         let e : new ≡ Some rec = sym own ∙ rw is_own at is in
@@ -83,13 +89,15 @@ module _ (r : Inside) (h : RecordsInvariant r) (number : ℕ) (new : Option Rec)
         where
           by : (n : Option Rec) → new ≡ n → r.pages ≡ key_of r new → y ≡ number → record_at records y ≡ None
           by None e key is_own = rw is_own (own ∙ e)
-          by (Some rec) e key is_own = absurd (let at : r.pages ≡ rec.page = rw e at key in omega (arith, key_low rec e, at))
+          by (Some rec) e key is_own = absurd (let at : r.pages ≡ rec.page = rw e at key in
+              omega (arith, key_low rec e, at))
 
       back : (y < used) × (record_at records y ≡ None) → Contains (list_of lists r.pages) y
       back (low, none) = elim ((grows y).0 low) [
         | inr is_own ↦ (let e : new ≡ None = sym own ∙ rw is_own at none in (has r.pages y).1 (inl (rw e refl, is_own)))
         | inl old ↦ elim (cases_eq y number) [
-          | inl is_own ↦ (let e : new ≡ None = sym own ∙ rw is_own at none in (has r.pages y).1 (inl (rw e refl, is_own)))
+          | inl is_own ↦ (let e : new ≡ None = sym own ∙ rw is_own at none in
+              (has r.pages y).1 (inl (rw e refl, is_own)))
           | inr other ↦ (has r.pages y).1 (inr ((h.free y).1 (old, sym (others y other) ∙ none), other))
         ]
       ]
@@ -97,7 +105,11 @@ module _ (r : Inside) (h : RecordsInvariant r) (number : ℕ) (new : Option Rec)
   its_fresh : (y : ℕ) → used ≤ y → record_at records y ≡ None
   its_fresh y past =
       let other : y ≢ number = λ e. (let low = (grows y).1 (inr e) in omega arith) in
-      let old : r.unused ≤ y = elim (cases_lt y r.unused) [ inl low ↦ absurd (let less = (grows y).1 (inl low) in omega arith) | inr high ↦ high ] in
+      let old : r.unused ≤ y = elim (cases_lt y r.unused) [
+        | inl low ↦ absurd (let less = (grows y).1 (inl low) in
+            omega arith)
+        | inr high ↦ high
+      ] in
       others y other ∙ h.fresh y old
 
   pub renumbered : RecordsInvariant (record r { records = set r.records number new; lists = lists; unused = used })
@@ -153,12 +165,14 @@ module _ (r : Inside) (h : RecordsInvariant r) where
         (let no : None ≡ Some found.0 = sym (h.fresh r.unused (omega arith)) ∙ found.1 in cc)
     | inr past ↦ elim (cases_eq k r.pages) [
       | inl here ↦ Contains-nil r.unused (rw (here, empty) at has)
-      | inr other ↦ Contains-nil r.unused (rw (get_or_past r.lists.lists k [] (let keys = h.keys in omega arith)) at has)
+      | inr other ↦ Contains-nil r.unused (rw (get_or_past r.lists.lists k [] (let keys = h.keys in omega arith)) at
+          has)
     ]
   ]
 
   -- such a number is taken
-  pub loose : (rest : LinkedListsState) (used number : ℕ) → HasFree r.records → IsTaken r.lists rest r.pages r.unused used number → IsLoose r rest used number
+  pub loose : (rest : LinkedListsState) (used number : ℕ) → HasFree r.records →
+      IsTaken r.lists rest r.pages r.unused used number → IsLoose r rest used number
   loose rest used number free taken = elim taken [
     | inl old ↦ (
         let its = (h.free number).0 old.0 in
@@ -196,7 +210,8 @@ module _ (r : Inside) (h : RecordsInvariant r) where
   ]
 
 -- such a number gets a record that is newer than those of its page
-module _ (r : Inside) (h : RecordsInvariant r) (rest : LinkedListsState) (used number : ℕ) (l : IsLoose r rest used number) (rec : Rec)
+module _ (r : Inside) (h : RecordsInvariant r) (rest : LinkedListsState) (used number : ℕ)
+    (l : IsLoose r rest used number) (rec : Rec)
     (low : rec.page < r.pages) (newest : IsNewest r.records rec) where
   abbrev with_it : LinkedListsState
   with_it = with_first rest rec.page number
@@ -204,7 +219,8 @@ module _ (r : Inside) (h : RecordsInvariant r) (rest : LinkedListsState) (used n
   apart : rec.page ≢ r.pages
   apart e = omega (arith, low)
 
-  has_it : (k y : ℕ) → Contains (list_of with_it k) y ↔ (((k ≡ rec.page) × (y ≡ number)) ⊎ (Contains (list_of r.lists k) y × (y ≢ number)))
+  has_it : (k y : ℕ) → Contains (list_of with_it k) y
+      ↔ (((k ≡ rec.page) × (y ≡ number)) ⊎ (Contains (list_of r.lists k) y × (y ≢ number)))
   has_it k y =
       let first = in_with_first rest rec.page number (omega (arith, l.keys)) k y in
       let old = l.has k y in (
@@ -242,12 +258,15 @@ module _ (r : Inside) (h : RecordsInvariant r) (rest : LinkedListsState) (used n
             rw (← one) newer)
             (rw here at old))
         | inr other ↦
-            let same = get_or-set_other rest.lists rec.page p (number ∷ list_of rest rec.page) [] other ∙ l.lists p (λ e. omega (arith, p_low)) in
+            let same = get_or-set_other rest.lists rec.page p (number ∷ list_of rest rec.page) [] other
+            ∙ l.lists p (λ e. omega (arith, p_low)) in
             rw same old
       ]
 
-  pub numbered : AreDisjoint with_it → RecordsInvariant (record r { records = set r.records number (Some rec); lists = with_it; unused = used })
-  numbered its_disjoint = renumbered r h number (Some rec) with_it l.within l.places its_disjoint (length-set rest.lists rec.page _ ∙ l.keys) used l.most
+  pub numbered : AreDisjoint with_it →
+      RecordsInvariant (record r { records = set r.records number (Some rec); lists = with_it; unused = used })
+  numbered its_disjoint = renumbered r h number (Some rec) with_it l.within l.places its_disjoint
+      (length-set rest.lists rec.page _ ∙ l.keys) used l.most
       l.grows has_it (λ its e. rw (← same_record rec its e) low) its_falls
 
   pub numbered_pages : take r.pages with_it.lists ≡ set (take r.pages r.lists.lists) rec.page (number ∷ numbers_at
@@ -255,7 +274,8 @@ module _ (r : Inside) (h : RecordsInvariant r) (rest : LinkedListsState) (used n
   numbered_pages =
       take_set r.pages rest.lists rec.page (number ∷ list_of rest rec.page)
       ∙ ap (λ xs. set xs rec.page (number ∷ list_of rest rec.page)) l.front
-      ∙ ap (λ xs. set (take r.pages r.lists.lists) rec.page (number ∷ xs)) (l.lists rec.page apart ∙ sym (page_list r rec.page low))
+      ∙ ap (λ xs. set (take r.pages r.lists.lists) rec.page (number ∷ xs)) (l.lists rec.page apart
+      ∙ sym (page_list r rec.page low))
 
 -- a number loses its record
 module _ (r : Inside) (h : RecordsInvariant r) (number : ℕ) (rec : Rec) (is : record_at r.records number ≡ Some rec)
@@ -272,7 +292,8 @@ module _ (r : Inside) (h : RecordsInvariant r) (number : ℕ) (rec : Rec) (is : 
   left_keys : length left.lists ≡ r.pages + 1
   left_keys = length-set r.lists.lists rec.page _ ∙ h.keys
 
-  has_left : (k y : ℕ) → Contains (list_of freed k) y ↔ (((k ≡ r.pages) × (y ≡ number)) ⊎ (Contains (list_of r.lists k) y × (y ≢ number)))
+  has_left : (k y : ℕ) → Contains (list_of freed k) y
+      ↔ (((k ≡ r.pages) × (y ≡ number)) ⊎ (Contains (list_of r.lists k) y × (y ≢ number)))
   has_left k y =
       let first = in_with_first left r.pages number (omega (arith, left_keys)) k y in
       let old = in_without r.lists rec.page number h.disjoint listed.1 k y in (
@@ -289,7 +310,10 @@ module _ (r : Inside) (h : RecordsInvariant r) (number : ℕ) (rec : Rec) (is : 
       (λ y has. get_or-set_other r.records number y None None (other y has)) old
     where
       other : (y : ℕ) → Contains (list_of freed p) y → y ≢ number
-      other y has = elim ((has_left p y).0 has) [ inl both ↦ absurd (let at = both.0 in omega (arith, low, at)) | inr both ↦ both.1 ]
+      other y has = elim ((has_left p y).0 has) [
+        | inl both ↦ absurd (let at = both.0 in omega (arith, low, at))
+        | inr both ↦ both.1
+      ]
 
       old : AllPairs (IsNewer r.records) (list_of freed p)
       old = rw (freed_list p low) (elim (cases_eq p rec.page) [
@@ -297,7 +321,8 @@ module _ (r : Inside) (h : RecordsInvariant r) (number : ℕ) (rec : Rec) (is : 
             let own = get_or-set_same r.lists.lists rec.page (remove (list_of r.lists rec.page) (index_in
             (list_of r.lists rec.page) number)) [] (omega (arith, h.keys, listed.0)) in
             rw (here, own)
-            (all_pairs_remove (IsNewer r.records) (list_of r.lists rec.page) (index_in (list_of r.lists rec.page) number)
+            (all_pairs_remove (IsNewer r.records) (list_of r.lists rec.page)
+            (index_in (list_of r.lists rec.page) number)
             (index_reads (list_of r.lists rec.page) number listed.1).0 (list_falls r rec.page h listed.0))
         | inr apart ↦
             let same = get_or-set_other r.lists.lists rec.page p (remove (list_of r.lists rec.page) (index_in
@@ -311,30 +336,37 @@ module _ (r : Inside) (h : RecordsInvariant r) (number : ℕ) (rec : Rec) (is : 
     | inr past ↦ absurd (let no : None ≡ Some rec = sym (h.fresh number past) ∙ is in cc)
   ]
 
-  pub unnumbered : AreDisjoint freed → RecordsInvariant (record r { records = set r.records number None; lists = freed })
-  unnumbered its_disjoint = renumbered r h number None freed within refl its_disjoint (length-set left.lists r.pages _ ∙ left_keys) r.unused h.unused
-      (λ y. (λ low. inl low, λ either. elim either [ inl low ↦ low | inr e ↦ rw e used ])) has_left (λ its e. absurd (cc)) left_falls
+  pub unnumbered : AreDisjoint freed →
+      RecordsInvariant (record r { records = set r.records number None; lists = freed })
+  unnumbered its_disjoint = renumbered r h number None freed within refl its_disjoint
+      (length-set left.lists r.pages _ ∙ left_keys) r.unused h.unused
+      (λ y. (λ low. inl low, λ either. elim either [ inl low ↦ low | inr e ↦ rw e used ])) has_left
+      (λ its e. absurd (cc)) left_falls
 
   pub unnumbered_pages : take r.pages freed.lists
-      ≡ set (take r.pages r.lists.lists) rec.page (remove (numbers_at (take r.pages r.lists.lists) rec.page) (index_in (numbers_at
+      ≡ set (take r.pages r.lists.lists) rec.page (remove (numbers_at (take r.pages r.lists.lists) rec.page)
+      (index_in (numbers_at
       (take r.pages r.lists.lists) rec.page) number))
   unnumbered_pages =
       take-set-le r.pages left.lists r.pages _ (omega arith)
       ∙ take_set r.pages r.lists.lists rec.page _
-      ∙ ap (λ xs. set (take r.pages r.lists.lists) rec.page (remove xs (index_in xs number))) (sym (page_list r rec.page listed.0))
+      ∙ ap (λ xs. set (take r.pages r.lists.lists) rec.page (remove xs (index_in xs number)))
+      (sym (page_list r rec.page listed.0))
 
 -- where all lists are empty, no number has a record
 module _ (r : Inside) (count : ℕ) (lists : r.lists ≡ empty_lists (r.pages + 1) count) where
   empty : (k : ℕ) → list_of r.lists k ≡ []
   empty k = rw lists (elim (cases_lt k (r.pages + 1)) [
     | inl low ↦ get_or-replicate {A = List ℕ} (r.pages + 1) k [] [] low
-    | inr past ↦ get_or_past {X = List ℕ} (replicate (r.pages + 1) []) k [] (rw (length-replicate {A = List ℕ} (r.pages + 1) []) past)
+    | inr past ↦ get_or_past {X = List ℕ} (replicate (r.pages + 1) []) k []
+        (rw (length-replicate {A = List ℕ} (r.pages + 1) []) past)
   ])
 
   keys : length r.lists.lists ≡ r.pages + 1
   keys = rw lists (length-replicate {A = List ℕ} (r.pages + 1) [])
 
-  pub none_numbered : r.records ≡ replicate count None → r.unused ≡ 0 → count ≤ 65536 → r.pages ≤ 65536 → RecordsInvariant r
+  pub none_numbered : r.records ≡ replicate count None → r.unused ≡ 0 → count ≤ 65536 → r.pages ≤ 65536 →
+      RecordsInvariant r
   none_numbered none unused small few = record {
     small = rw long small;
     few = few;
@@ -352,7 +384,10 @@ module _ (r : Inside) (count : ℕ) (lists : r.lists ≡ empty_lists (r.pages + 
     };
     unused = omega (arith, unused);
     fresh = λ y past. no_record y;
-    free = λ y. (λ has. absurd (Contains-nil y (rw (empty r.pages) at has)), λ both. absurd (let low = both.0 in omega arith));
+    free = λ y. (
+      λ has. absurd (Contains-nil y (rw (empty r.pages) at has)),
+      λ both. absurd (let low = both.0 in omega arith),
+    );
   }
     where
       long : length r.records ≡ count
@@ -361,18 +396,21 @@ module _ (r : Inside) (count : ℕ) (lists : r.lists ≡ empty_lists (r.pages + 
       no_record : (y : ℕ) → record_at r.records y ≡ None
       no_record y = rw none (elim (cases_lt y count) [
         | inl low ↦ get_or-replicate {A = Option Rec} count y None None low
-        | inr past ↦ get_or_past {X = Option Rec} (replicate count None) y None (rw (length-replicate {A = Option Rec} count None) past)
+        | inr past ↦ get_or_past {X = Option Rec} (replicate count None) y None
+            (rw (length-replicate {A = Option Rec} count None) past)
       ])
 
       no_list : (p : ℕ) → numbers_at (take r.pages r.lists.lists) p ≡ []
       no_list p = elim (cases_lt p r.pages) [
         | inl low ↦ page_list r p low ∙ empty p
-        | inr past ↦ get_or_past (take r.pages r.lists.lists) p [] (rw (length-take r.pages r.lists.lists) (omega (arith, keys)))
+        | inr past ↦ get_or_past (take r.pages r.lists.lists) p []
+            (rw (length-take r.pages r.lists.lists) (omega (arith, keys)))
       ]
 
   pub none_pages : take r.pages r.lists.lists ≡ replicate r.pages []
   none_pages =
-      ext_get_or [] (take r.pages r.lists.lists) (replicate r.pages []) (long ∙ sym (length-replicate {A = List ℕ} r.pages []))
+      ext_get_or [] (take r.pages r.lists.lists) (replicate r.pages []) (long
+      ∙ sym (length-replicate {A = List ℕ} r.pages []))
       (λ p low.
       let lies : p < r.pages = rw long at low in
       page_list r p lies ∙ empty p ∙ sym (get_or-replicate {A = List ℕ} r.pages p [] [] lies))
@@ -381,6 +419,7 @@ module _ (r : Inside) (count : ℕ) (lists : r.lists ≡ empty_lists (r.pages + 
       long = length-take r.pages r.lists.lists ∙ omega (arith, keys)
 
 -- a number that has a record of a page
-pub some_record : (o : Option Rec) (page : ℕ) → IsSomeAnd o (λ r. r.page ≡ page) → (rec : Rec) × (o ≡ Some rec) × (rec.page ≡ page)
+pub some_record : (o : Option Rec) (page : ℕ) → IsSomeAnd o (λ r. r.page ≡ page) → (rec : Rec) × (o ≡ Some rec)
+    × (rec.page ≡ page)
 some_record None page h = absurd h
 some_record (Some rec) page h = (rec, refl, h)

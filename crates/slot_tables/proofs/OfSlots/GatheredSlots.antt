@@ -22,7 +22,8 @@ pairs_append R (x ∷ xs) ys own others across =
     pairs_cons R x (xs ++ ys) (λ y has. elim (Contains-append_cases xs ys y has) [
       | inl near ↦ pairs_head R x xs y own near
       | inr far ↦ across x y (Contains-first x xs) far
-    ]) (pairs_append R xs ys (pairs_tail R x xs own) others (λ u y near far. across u y (Contains-rest x xs u near) far))
+    ]) (pairs_append R xs ys (pairs_tail R x xs own) others
+    (λ u y near far. across u y (Contains-rest x xs u near) far))
 
 -- the numbers of a rising list differ
 pub rising_once : (xs : List ℕ) → Rises xs → AllPairs (λ x y. x ≢ y) xs
@@ -31,10 +32,12 @@ rising_once xs rises i j d less within same = let lower = rises i j d less withi
 
 module _ (k : TablesState) where
   -- a slot is gathered where it holds one of the records
-  pub in_all : (numbers : List ℕ) (x at : ℕ) → Contains numbers x → Contains (copies_of k.slots x) at → Contains (copies_of_all k numbers) at
+  pub in_all : (numbers : List ℕ) (x at : ℕ) → Contains numbers x → Contains (copies_of k.slots x) at →
+      Contains (copies_of_all k numbers) at
   in_all [] x at has own = absurd (Contains-nil x has)
   in_all (y ∷ ys) x at has own = elim (Contains-cases y ys x has) [
-    | inl same ↦ Contains-append_left (copies_of k.slots y) (copies_of_all k ys) at (subst (λ z. Contains (copies_of k.slots z) at) (sym same) own)
+    | inl same ↦ Contains-append_left (copies_of k.slots y) (copies_of_all k ys) at
+        (subst (λ z. Contains (copies_of k.slots z) at) (sym same) own)
     | inr later ↦ Contains-append_right (copies_of k.slots y) (copies_of_all k ys) at (in_all ys x at later own)
   ]
 
@@ -58,12 +61,15 @@ module _ (k : TablesState) where
   all_once : (numbers : List ℕ) → AllPairs (λ x y. x ≢ y) numbers → AllPairs (λ a b. a ≢ b) (copies_of_all k numbers)
   all_once [] once = λ i j d less within. absurd (omega arith)
   all_once (x ∷ xs) once =
-      pairs_append (λ a b. a ≢ b) (copies_of k.slots x) (copies_of_all k xs) (rising_once (copies_of k.slots x) (copies_rise k.slots x))
+      pairs_append (λ a b. a ≢ b) (copies_of k.slots x) (copies_of_all k xs)
+      (rising_once (copies_of k.slots x) (copies_rise k.slots x))
       (all_once xs (pairs_tail (λ a b. a ≢ b) x xs once)) (λ a b own other same.
       let f = from_all xs b other in
-      pairs_head (λ a b. a ≢ b) x xs f.0 once f.1 (only_one x f.0 b (subst (Contains (copies_of k.slots x)) same own) f.2))
+      pairs_head (λ a b. a ≢ b) x xs f.0 once f.1
+      (only_one x f.0 b (subst (Contains (copies_of k.slots x)) same own) f.2))
 
-  pub few_gathered : (numbers : List ℕ) → AllPairs (λ x y. x ≢ y) numbers → length (copies_of_all k numbers) ≤ length k.slots
+  pub few_gathered : (numbers : List ℕ) → AllPairs (λ x y. x ≢ y) numbers →
+      length (copies_of_all k numbers) ≤ length k.slots
   few_gathered numbers once =
       let all = copies_of_all k numbers in
       length-le_from_distinct_below all (length k.slots)
@@ -89,7 +95,8 @@ module _ (k : TablesState) where
   abbrev below_test : ℕ → ℕ → Bool
   below_test below x = links_below below (record_at k.records x)
 
-  below_all : (below : ℕ) (xs : List ℕ) → flat_map (copies_below k below) xs ≡ copies_of_all k (filter (below_test below) xs)
+  below_all : (below : ℕ) (xs : List ℕ) → flat_map (copies_below k below) xs
+      ≡ copies_of_all k (filter (below_test below) xs)
   below_all below [] = refl
   below_all below (x ∷ xs) = by_test (below_test below x) (below_all below xs)
     where
@@ -99,19 +106,22 @@ module _ (k : TablesState) where
       by_test true rest = ap (λ r. copies_of k.slots x ++ r) rest
       by_test false rest = rest
 
-  pub few_below : (below : ℕ) (xs : List ℕ) → AllPairs (λ x y. x ≢ y) xs → length (flat_map (copies_below k below) xs) ≤ length k.slots
+  pub few_below : (below : ℕ) (xs : List ℕ) → AllPairs (λ x y. x ≢ y) xs →
+      length (flat_map (copies_below k below) xs) ≤ length k.slots
   few_below below xs once =
       subst (λ ys. length ys ≤ length k.slots) (sym (below_all below xs))
       (few_gathered (filter (below_test below) xs) (AllPairs-filter (λ x y. x ≢ y) (below_test below) xs once))
 
-  pub gathered : (page below : ℕ) (xs : List ℕ) → AllPairs (λ x y. x ≢ y) xs → ((x : ℕ) → Contains xs x ↔ (number_at k.waits x ≡ Some page))
+  pub gathered : (page below : ℕ) (xs : List ℕ) → AllPairs (λ x y. x ≢ y) xs →
+      ((x : ℕ) → Contains xs x ↔ (number_at k.waits x ≡ Some page))
       → (blocks : List Block) → blocks ≡ map (block_at k.shape.pages_per_block) (flat_map (copies_below k below) xs)
       → AreGathered k (WaitsBelow k page below) blocks
   gathered page below xs once waiting blocks are = record {
     numbers = filter (below_test below) xs;
     once = AllPairs-filter (λ x y. x ≢ y) (below_test below) xs once;
     such = λ x. (
-      λ has. (let f = from_filter (below_test below) x xs has in ((waiting x).0 f.0, links below (record_at k.records x) f.1)),
+      λ has. (let f = from_filter (below_test below) x xs has in
+          ((waiting x).0 f.0, links below (record_at k.records x) f.1)),
       λ waits. in_filter (below_test below) x xs ((waiting x).1 waits.0) (linked below (record_at k.records x) waits.1),
     );
     are = are ∙ ap (map (block_at k.shape.pages_per_block)) (below_all below xs);

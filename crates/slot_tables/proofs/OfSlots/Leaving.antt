@@ -6,11 +6,16 @@ use Rattle.list_lemmas.proofs.Tests.{find_more}
 
 -- an item that passes is the first one, or there is one before it
 find_on : (p : ℕ → Bool) (at : ℕ) (front back : List ℕ) → p at ≡ true
-    → (find p (front ++ at ∷ back) ≡ Some at) ⊎ ((z : ℕ) × (find p (front ++ at ∷ back) ≡ Some z) × (find p (front ++ back) ≡ Some z))
+    → (find p (front ++ at ∷ back) ≡ Some at) ⊎ ((z : ℕ) × (find p (front ++ at ∷ back) ≡ Some z)
+    × (find p (front ++ back) ≡ Some z))
 find_on p at [] back on = inl (cond-true (p at) (Some at) (find p back) on)
 find_on p at (z ∷ zs) back on = elim (cases_Bool (p z)) [
   | inl passes ↦
-      inr (z, cond-true (p z) (Some z) (find p (zs ++ at ∷ back)) passes, cond-true (p z) (Some z) (find p (zs ++ back)) passes)
+      inr (
+        z,
+        cond-true (p z) (Some z) (find p (zs ++ at ∷ back)) passes,
+        cond-true (p z) (Some z) (find p (zs ++ back)) passes,
+      )
   | inr fails ↦
       let out = cond-false (p z) (Some z) (find p (zs ++ at ∷ back)) fails in
       elim (find_on p at zs back on) [
@@ -36,7 +41,8 @@ chosen_left p at front back off = elim (cases_Bool (p at)) [
       elim (cases_Option (find p (front ++ back))) [
         | inr some ↦ without (Some some.0) some.1 ∙ sym (with_it (Some some.0) (same ∙ some.1))
         | inl none ↦
-            without None none ∙ first_left front (λ e. off (with_it None (same ∙ none) ∙ e)) ∙ sym (with_it None (same ∙ none))
+            without None none ∙ first_left front (λ e. off (with_it None (same ∙ none) ∙ e))
+            ∙ sym (with_it None (same ∙ none))
       ]
 ]
   where
@@ -44,7 +50,8 @@ chosen_left p at front back off = elim (cases_Bool (p at)) [
         → chosen p (front ++ at ∷ back) ≡ option_or o (slice_get (front ++ at ∷ back) 0)
     with_it o e = ap (λ x. option_or x (slice_get (front ++ at ∷ back) 0)) e
 
-    without : (o : Option ℕ) → find p (front ++ back) ≡ o → chosen p (front ++ back) ≡ option_or o (slice_get (front ++ back) 0)
+    without : (o : Option ℕ) → find p (front ++ back) ≡ o →
+        chosen p (front ++ back) ≡ option_or o (slice_get (front ++ back) 0)
     without o e = ap (λ x. option_or x (slice_get (front ++ back) 0)) e
 
     first_left : (l : List ℕ) → (slice_get (l ++ at ∷ back) 0 ≡ Some at → ⊥)

@@ -50,15 +50,19 @@ marked_long : (marks : List Bool) (o : Option ℕ) → length (marked marks o) �
 marked_long marks None = refl
 marked_long marks (Some s) = length-set marks s true
 
-marked_there : (marks : List Bool) (o : Option ℕ) (s : ℕ) → IfSome o (λ x. x < length marks) → o ≡ Some s → is_marked (marked marks o) s ≡ true
+marked_there : (marks : List Bool) (o : Option ℕ) (s : ℕ) → IfSome o (λ x. x < length marks) → o ≡ Some s →
+    is_marked (marked marks o) s ≡ true
 marked_there marks None s low e = absurd (cc)
-marked_there marks (Some x) s low e = let same : x ≡ s = cc in rw same (get_or-set_same marks s true false (rw (← same) low))
+marked_there marks (Some x) s low e = let same : x ≡ s = cc in
+    rw same (get_or-set_same marks s true false (rw (← same) low))
 
-marked_else : (marks : List Bool) (o : Option ℕ) (s : ℕ) → (o ≡ Some s → ⊥) → is_marked (marked marks o) s ≡ is_marked marks s
+marked_else : (marks : List Bool) (o : Option ℕ) (s : ℕ) → (o ≡ Some s → ⊥) →
+    is_marked (marked marks o) s ≡ is_marked marks s
 marked_else marks None s other = refl
 marked_else marks (Some x) s other = get_or-set_other marks x s true false (λ e. other (ap Some (sym e)))
 
-module _ (t : Inside) (h : TablesInvariant t) (at : ℕ) (to : SlotUse) (low : at < length t.base.slots) (numbered : NumbersBelow
+module _ (t : Inside) (h : TablesInvariant t) (at : ℕ) (to : SlotUse) (low : at < length t.base.slots)
+    (numbered : NumbersBelow
     (slots_of t.base.shape) to) where
   abbrev k : TablesState
   k = tables_state t.base
@@ -113,50 +117,72 @@ module _ (t : Inside) (h : TablesInvariant t) (at : ℕ) (to : SlotUse) (low : a
   -- a number that the slot did not hold and does not hold has its home as before
   home_stays : (x : ℕ) → (left ≡ Some x → ⊥) → (joined ≡ Some x → ⊥) → home k' x ≡ home k x
   home_stays x off now =
-      let same = copies_stay t.base.slots at low to x (other_holds x to now ∙ sym (other_holds x (use_at k.slots at) off)) in
+      let same = copies_stay t.base.slots at low to x (other_holds x to now
+      ∙ sym (other_holds x (use_at k.slots at) off)) in
       rw same refl
 
   -- each slot that is not the home of the old or the new record, before or after, is needed as it was
-  needs_stay : (s : ℕ) → (home_at k left ≡ Some s → ⊥) → (home_at k joined ≡ Some s → ⊥) → (home_at k' left ≡ Some s → ⊥)
+  needs_stay : (s : ℕ) → (home_at k left ≡ Some s → ⊥) → (home_at k joined ≡ Some s → ⊥) →
+      (home_at k' left ≡ Some s → ⊥)
       → (home_at k' joined ≡ Some s → ⊥)
       → is_needed k' s ≡ is_needed k s
   needs_stay s old_l old_j new_l new_j = elim (cases_eq s at) [
-    | inl here ↦ rw here (after at (cases_Option joined) (rw here at new_j) ∙ sym (before at (cases_Option left) (rw here at old_l)))
+    | inl here ↦ rw here (after at (cases_Option joined) (rw here at new_j)
+        ∙ sym (before at (cases_Option left) (rw here at old_l)))
     | inr other ↦ need_stays k k' s (ap number_in (other_use s other)) (λ x is. by x (decide left x) (decide joined x))
   ]
     where
       decide : (o : Option ℕ) (x : ℕ) → (o ≡ Some x) ⊎ (o ≡ Some x → ⊥)
       decide None x = inr (λ e. cc)
-      decide (Some y) x = elim (cases_eq y x) [ inl e ↦ inl (ap Some e) | inr other ↦ inr (λ e. other (let same : y ≡ x = cc in same)) ]
+      decide (Some y) x = elim (cases_eq y x) [
+        | inl e ↦ inl (ap Some e)
+        | inr other ↦ inr (λ e. other (let same : y ≡ x = cc in same))
+      ]
 
       by : (x : ℕ) → (left ≡ Some x) ⊎ (left ≡ Some x → ⊥) → (joined ≡ Some x) ⊎ (joined ≡ Some x → ⊥)
-          → ((home k' x ≡ home k x) × (is_wanted k' x ≡ is_wanted k x)) ⊎ ((home k x ≡ Some s → ⊥) × (home k' x ≡ Some s → ⊥))
-      by x (inl e) j = inr ((λ is. old_l (ap (option_and_then (home k)) e ∙ is)), (λ is. new_l (ap (option_and_then (home k')) e ∙ is)))
-      by x (inr off) (inl e) = inr ((λ is. old_j (ap (option_and_then (home k)) e ∙ is)), (λ is. new_j (ap (option_and_then (home k')) e ∙ is)))
+          → ((home k' x ≡ home k x) × (is_wanted k' x ≡ is_wanted k x))
+          ⊎ ((home k x ≡ Some s → ⊥) × (home k' x ≡ Some s → ⊥))
+      by x (inl e) j = inr (
+        (λ is. old_l (ap (option_and_then (home k)) e ∙ is)),
+        (λ is. new_l (ap (option_and_then (home k')) e ∙ is)),
+      )
+      by x (inr off) (inl e) = inr (
+        (λ is. old_j (ap (option_and_then (home k)) e ∙ is)),
+        (λ is. new_j (ap (option_and_then (home k')) e ∙ is)),
+      )
       by x (inr off) (inr now) = inl (home_stays x off now, refl)
 
-      after : (q : ℕ) → (joined ≡ None) ⊎ ((x : ℕ) × (joined ≡ Some x)) → (home_at k' joined ≡ Some at → ⊥) → is_needed k' at ≡ false
+      after : (q : ℕ) → (joined ≡ None) ⊎ ((x : ℕ) × (joined ≡ Some x)) → (home_at k' joined ≡ Some at → ⊥) →
+          is_needed k' at ≡ false
       after q (inl none) off = needed_none k' at (ap number_in own_use ∙ none)
       after q (inr some) off =
           needed_some k' at some.0 (ap number_in own_use ∙ some.1)
-          ∙ ap (λ b. b && is_wanted k' some.0) (not_slot at (home k' some.0) (λ e. off (ap (option_and_then (home k')) some.1 ∙ e)))
+          ∙ ap (λ b. b && is_wanted k' some.0) (not_slot at (home k' some.0)
+          (λ e. off (ap (option_and_then (home k')) some.1 ∙ e)))
 
-      before : (q : ℕ) → (left ≡ None) ⊎ ((x : ℕ) × (left ≡ Some x)) → (home_at k left ≡ Some at → ⊥) → is_needed k at ≡ false
+      before : (q : ℕ) → (left ≡ None) ⊎ ((x : ℕ) × (left ≡ Some x)) → (home_at k left ≡ Some at → ⊥) →
+          is_needed k at ≡ false
       before q (inl none) off = needed_none k at none
       before q (inr some) off =
           needed_some k at some.0 some.1
-          ∙ ap (λ b. b && is_wanted k some.0) (not_slot at (home k some.0) (λ e. off (ap (option_and_then (home k)) some.1 ∙ e)))
+          ∙ ap (λ b. b && is_wanted k some.0) (not_slot at (home k some.0)
+          (λ e. off (ap (option_and_then (home k)) some.1 ∙ e)))
 
   decide_slot : (o : Option ℕ) (s : ℕ) → (o ≡ Some s) ⊎ (o ≡ Some s → ⊥)
   decide_slot None s = inr (λ e. cc)
-  decide_slot (Some y) s = elim (cases_eq y s) [ inl e ↦ inl (ap Some e) | inr other ↦ inr (λ e. other (let same : y ≡ s = cc in same)) ]
+  decide_slot (Some y) s = elim (cases_eq y s) [
+    | inl e ↦ inl (ap Some e)
+    | inr other ↦ inr (λ e. other (let same : y ≡ s = cc in same))
+  ]
 
   -- a slot that is the home of a record before and after is needed as it was
   keeps : (o : Option ℕ) (s : ℕ) → home_at k o ≡ Some s → home_at k' o ≡ Some s → is_needed k' s ≡ is_needed k s
   keeps None s here there = absurd (cc)
   keeps (Some x) s here there =
-      let was = ap number_in (holds_number x (use_at k.slots s) ((copies_have k.slots x s).0 (home_copy k x s here)).1) in
-      let is = ap number_in (holds_number x (use_at k'.slots s) ((copies_have k'.slots x s).0 (home_copy k' x s there)).1) in
+      let was = ap number_in (holds_number x (use_at k.slots s)
+      ((copies_have k.slots x s).0 (home_copy k x s here)).1) in
+      let is = ap number_in (holds_number x (use_at k'.slots s)
+      ((copies_have k'.slots x s).0 (home_copy k' x s there)).1) in
       need_stays k k' s (is ∙ sym was) (λ y e.
       let both : Some x ≡ Some y = sym was ∙ e in
       let same : x ≡ y = cc in
@@ -193,11 +219,14 @@ module _ (t : Inside) (h : TablesInvariant t) (at : ℕ) (to : SlotUse) (low : a
   marked_first s j =
       moved_at k' t.live.needed (home_at k left) (home_at k' left) s (rw (h.live.slots, ← slots_long) (old_lies left))
       (rw (h.live.slots, ← slots_long) (home_lies k' left))
-      (λ same. h.live.needed s ∙ sym (calm_needs s (inl same) j)) (λ off away. h.live.needed s ∙ sym (calm_needs s (inr (off, away)) j))
+      (λ same. h.live.needed s ∙ sym (calm_needs s (inl same) j)) (λ off away. h.live.needed s
+      ∙ sym (calm_needs s (inr (off, away)) j))
 
-  blanks_set : (mark : Bool) → mark ≡ is_blank to → AreBlanks k' (record t.blanks { marks = set t.blanks.marks at mark })
+  blanks_set : (mark : Bool) → mark ≡ is_blank to →
+      AreBlanks k' (record t.blanks { marks = set t.blanks.marks at mark })
   blanks_set mark is = record {
-    marks = ap (λ ms. set ms at mark) h.blanks.marks ∙ ap (set (map is_blank t.base.slots) at) is ∙ sym (map-set is_blank t.base.slots at to);
+    marks = ap (λ ms. set ms at mark) h.blanks.marks ∙ ap (set (map is_blank t.base.slots) at) is
+        ∙ sym (map-set is_blank t.base.slots at to);
     size = h.blanks.size;
   }
 
@@ -220,7 +249,8 @@ module _ (t : Inside) (h : TablesInvariant t) (at : ℕ) (to : SlotUse) (low : a
       spare = h.live.spare;
       needed = λ s.
           moved_at k' first (home_at k joined) (home_at k' joined) s (rw (first_long, ← slots_long) (old_lies joined))
-          (rw (first_long, ← slots_long) (home_lies k' joined)) (λ same. marked_first s (inl same)) (λ off away. marked_first s (inr (off, away)));
+          (rw (first_long, ← slots_long) (home_lies k' joined)) (λ same. marked_first s (inl same))
+          (λ off away. marked_first s (inr (off, away)));
     };
   }
 
@@ -254,8 +284,10 @@ module _ (t : Inside) (h : TablesInvariant t) (at : ℕ) (to : SlotUse) (low : a
       ]
     ]
       where
-        by : (x : ℕ) → (left ≡ Some x) ⊎ (left ≡ Some x → ⊥) → (is_slot s (home k' x) && is_wanted k x) ≡ (is_slot s (home k x) && is_wanted k x)
-        by x (inr apart) = ap (λ o. is_slot s o && is_wanted k x) (home_stays x apart (λ e. let no : None ≡ Some x = sym joined_none ∙ e in cc))
+        by : (x : ℕ) → (left ≡ Some x) ⊎ (left ≡ Some x → ⊥) → (is_slot s (home k' x) && is_wanted k x)
+            ≡ (is_slot s (home k x) && is_wanted k x)
+        by x (inr apart) = ap (λ o. is_slot s o && is_wanted k x)
+            (home_stays x apart (λ e. let no : None ≡ Some x = sym joined_none ∙ e in cc))
         by x (inl is) = elim (decide_slot (home k x) at) [
           | inr away ↦ ap (λ o. is_slot s o && is_wanted k x) (home_kept x is away)
           | inl own ↦
@@ -268,7 +300,8 @@ module _ (t : Inside) (h : TablesInvariant t) (at : ℕ) (to : SlotUse) (low : a
     was_home on = elim (cases_Option left) [
       | inl empty ↦ absurd (false≢true (sym (needed_none k at empty) ∙ on))
       | inr some ↦
-          let both = and_true (is_slot at (home k some.0)) (is_wanted k some.0) (sym (needed_some k at some.0 some.1) ∙ on) in
+          let both = and_true (is_slot at (home k some.0)) (is_wanted k some.0)
+          (sym (needed_some k at some.0 some.1) ∙ on) in
           (some.0, some.1, slot_is at (home k some.0) both.0, both.1)
     ]
 
@@ -276,7 +309,8 @@ module _ (t : Inside) (h : TablesInvariant t) (at : ℕ) (to : SlotUse) (low : a
     moved = marked (set t.live.needed at false) (home_at k' left)
 
     pub moved_lies : length moved ≡ slots_of k.shape
-    moved_lies = marked_long (set t.live.needed at false) (home_at k' left) ∙ length-set t.live.needed at false ∙ h.live.slots
+    moved_lies = marked_long (set t.live.needed at false) (home_at k' left) ∙ length-set t.live.needed at false
+        ∙ h.live.slots
 
     pub needs_moved : is_needed k at ≡ true → (s : ℕ) → is_marked moved s ≡ is_needed k' s
     needs_moved on s = elim (decide_slot (home_at k' left) s) [
@@ -288,7 +322,8 @@ module _ (t : Inside) (h : TablesInvariant t) (at : ℕ) (to : SlotUse) (low : a
       | inr away ↦
           marked_else (set t.live.needed at false) (home_at k' left) s away
           ∙ elim (cases_eq s at) [
-            | inl here ↦ rw here (get_or-set_same t.live.needed at false false (rw h.live.slots (omega arith)) ∙ sym bare)
+            | inl here ↦ rw here (get_or-set_same t.live.needed at false false (rw h.live.slots (omega arith))
+                ∙ sym bare)
             | inr other ↦
                 get_or-set_other t.live.needed at s false false other ∙ h.live.needed s
                 ∙ sym (calm_needs s (inr (

@@ -4,7 +4,8 @@ use Rattle.std.proofs.Common.{IfSome}
 use Rattle.std.proofs.lemmas.Option.{none-some}
 
 module _ (k : TablesState) (h : IsTablesState k) where
-  pub newest_below : (page : ℕ) (o : Option ℕ) → o ≡ slice_get (numbers_at k.pages page) 0 → IfSome o (λ x. x < slots_of k.shape)
+  pub newest_below : (page : ℕ) (o : Option ℕ) → o ≡ slice_get (numbers_at k.pages page) 0 →
+      IfSome o (λ x. x < slots_of k.shape)
   newest_below page None e = tt
   newest_below page (Some x) e =
       let r = h.versions.page page x (got_within (numbers_at k.pages page) 0 x (sym e)) in
@@ -14,7 +15,8 @@ module _ (k : TablesState) (h : IsTablesState k) where
         | inr past ↦ absurd (none-some r.0 (sym (get_or_past k.records x None past) ∙ r.1))
       ]
 
-  pub waiting_below : (page : ℕ) (o : Option ℕ) → IfSome o (λ x. number_at k.waits x ≡ Some page) → IfSome o (λ x. x < slots_of k.shape)
+  pub waiting_below : (page : ℕ) (o : Option ℕ) → IfSome o (λ x. number_at k.waits x ≡ Some page) →
+      IfSome o (λ x. x < slots_of k.shape)
   waiting_below page None e = tt
   waiting_below page (Some x) e =
       let all = h.waits in

@@ -14,20 +14,28 @@ module _ (w : Inside) (h : WaitListInvariant w) (number : ℕ) (low : number < l
   own_entry : (to : Option ℕ) → number_at (set w.waits number to) number ≡ to
   own_entry to = get_or-set_same w.waits number to None low
 
-  counted : (to : Option ℕ) → count_by is_some_number (set w.waits number to) + one_of (is_some_number (number_at w.waits number))
+  counted : (to : Option ℕ) → count_by is_some_number (set w.waits number to) + one_of
+      (is_some_number (number_at w.waits number))
       ≡ count_by is_some_number w.waits + one_of (is_some_number to)
   counted to = sum_by-set (λ a. one_of (is_some_number a)) w.waits number to None low
 
   -- one that waits is counted
   pub one_waits : (page : ℕ) → number_at w.waits number ≡ Some page → 1 ≤ w.count
   one_waits page is =
-      let one : one_of (is_some_number (number_at w.waits number)) ≡ 1 = rw is refl in omega (arith, counted None, one, h.count)
+      let one : one_of (is_some_number (number_at w.waits number)) ≡ 1 = rw is refl in
+      omega (arith, counted None, one, h.count)
 
   -- it waits no more
-  pub forgot : (page count : ℕ) → number_at w.waits number ≡ Some page → count + 1 ≡ w.count → AreDisjoint (without w.waiting page number)
-      → WaitListInvariant (record w { waits = set w.waits number None; waiting = without w.waiting page number; count = count })
+  pub forgot : (page count : ℕ) → number_at w.waits number ≡ Some page → count + 1 ≡ w.count →
+      AreDisjoint (without w.waiting page number)
+      → WaitListInvariant (record w {
+        waits = set w.waits number None;
+        waiting = without w.waiting page number;
+        count = count;
+      })
   forgot page count is less apart = record {
-    count = let one : one_of (is_some_number (number_at w.waits number)) ≡ 1 = rw is refl in omega (arith, counted None, one, less, h.count);
+    count = let one : one_of (is_some_number (number_at w.waits number)) ≡ 1 = rw is refl in
+        omega (arith, counted None, one, less, h.count);
     small = rw (length-set w.waits number None) h.small;
     waiting = record {
       places = h.waiting.places ∙ sym (length-set w.waits number None);
@@ -49,11 +57,17 @@ module _ (w : Inside) (h : WaitListInvariant w) (number : ℕ) (low : number < l
   unlisted none (k, has) = (let no : None ≡ Some k = sym none ∙ (h.waiting.waiting k number).0 has in cc)
 
   -- it comes to wait
-  pub placed : (page : ℕ) → number_at w.waits number ≡ None → page < length w.waiting.lists → AreDisjoint (with_first w.waiting page number)
-      → WaitListInvariant (record w { waits = set w.waits number (Some page); waiting = with_first w.waiting page number; count = w.count + 1 })
+  pub placed : (page : ℕ) → number_at w.waits number ≡ None → page < length w.waiting.lists →
+      AreDisjoint (with_first w.waiting page number)
+      → WaitListInvariant (record w {
+        waits = set w.waits number (Some page);
+        waiting = with_first w.waiting page number;
+        count = w.count + 1;
+      })
   placed page none within apart = record {
     count =
-        let off : one_of (is_some_number (number_at w.waits number)) ≡ 0 = rw none refl in omega (arith, counted (Some page), off, h.count);
+        let off : one_of (is_some_number (number_at w.waits number)) ≡ 0 = rw none refl in
+        omega (arith, counted (Some page), off, h.count);
     small = rw (length-set w.waits number (Some page)) h.small;
     waiting = record {
       places = h.waiting.places ∙ sym (length-set w.waits number (Some page));
@@ -78,7 +92,8 @@ module _ (w : Inside) (h : WaitListInvariant w) (number : ℕ) (low : number < l
   }
 
 -- at first none waits
-pub none_wait : (w : Inside) (pages count : ℕ) → w.waits ≡ replicate count None → w.waiting ≡ empty_lists pages count → count ≤ 65536
+pub none_wait : (w : Inside) (pages count : ℕ) → w.waits ≡ replicate count None →
+    w.waiting ≡ empty_lists pages count → count ≤ 65536
     → w.count ≡ 0 → WaitListInvariant w
 none_wait w pages count waits lists few zero = record {
   count = rw (waits, zero) (sym (none_some count));

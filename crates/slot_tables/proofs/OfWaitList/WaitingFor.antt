@@ -8,12 +8,14 @@ use Rattle.slot_tables.proofs.OfBaseTables.Copying.{copies_have, copies_rise}
 use Rattle.slot_tables.proofs.OfBaseTables.Held.{holds_number, holds_own}
 use Rattle.slot_tables.specs.WaitListState.{WaitListState, AreWaiting}
 
-pub some_waits : (w : WaitListState) (c : LinkedListsState) (page : ℕ) (first : Option ℕ) → AreWaiting w c → IfSome first (Contains (list_of c page))
+pub some_waits : (w : WaitListState) (c : LinkedListsState) (page : ℕ) (first : Option ℕ) → AreWaiting w c →
+    IfSome first (Contains (list_of c page))
     → IfSome first (λ number. number_at w.waits number ≡ Some page)
 some_waits w c page None h has = tt
 some_waits w c page (Some x) h has = (h.waiting page x).0 has
 
-pub none_waits : (w : WaitListState) (c : LinkedListsState) (page : ℕ) (first : Option ℕ) → AreWaiting w c → rest_from (list_of c page) first ≡ list_of c page
+pub none_waits : (w : WaitListState) (c : LinkedListsState) (page : ℕ) (first : Option ℕ) → AreWaiting w c →
+    rest_from (list_of c page) first ≡ list_of c page
     → IfNone first ((number : ℕ) → number_at w.waits number ≡ Some page → ⊥)
 none_waits w c page None h whole = λ number is. Contains-nil number (rw (← whole) at ((h.waiting page number).1 is))
 none_waits w c page (Some x) h whole = tt
@@ -44,7 +46,8 @@ lower_second (Some x) (Some y) s h = omega arith
 
 -- a loop over the records that wait for a page: the lowest slot of those passed whose links are below a version
 pub record IsLowestSoFar (k : TablesState) (page below : ℕ) (left : List ℕ) (lowest : Option ℕ) : Type 0 where
-  pub holds : (s : ℕ) → lowest ≡ Some s → (number : ℕ) × (use_at k.slots s ≡ Holds number) × WaitsBelow k page below number
+  pub holds : (s : ℕ) → lowest ≡ Some s → (number : ℕ) × (use_at k.slots s ≡ Holds number)
+      × WaitsBelow k page below number
   pub least : (s x : ℕ) → use_at k.slots s ≡ Holds x → WaitsBelow k page below x → Contains left x ⊎ IsUpTo lowest s
 
 -- what the lowest slot of a record is, where its link is below
@@ -76,17 +79,20 @@ up_to_each (x ∷ xs) s rises (suc i, low, is) =
     omega (arith, less, here)
 
 -- it is at most each slot that holds it
-pub first_least : (k : TablesState) (below number s : ℕ) → use_at k.slots s ≡ Holds number → IsSomeAnd (record_at k.records number)
+pub first_least : (k : TablesState) (below number s : ℕ) → use_at k.slots s ≡ Holds number →
+    IsSomeAnd (record_at k.records number)
     (λ r. r.next.version < below)
     → s < length k.slots → IsUpTo (first_below k below number) s
 first_least k below number s holds = by (record_at k.records number) refl
   where
-    by : (o : Option Rec) → record_at k.records number ≡ o → IsSomeAnd (record_at k.records number) (λ r. r.next.version < below)
+    by : (o : Option Rec) → record_at k.records number ≡ o →
+        IsSomeAnd (record_at k.records number) (λ r. r.next.version < below)
         → s < length k.slots → IsUpTo (first_below k below number) s
     by None e h low = absurd (rw e at h)
     by (Some r) e h low =
         let is : ltb r.next.version below ≡ true = (let less = rw e at h in grind (arith, nat_tests)) in
-        rw (e, is) (up_to_each (copies_of k.slots number) s (copies_rise k.slots number) ((copies_have k.slots number s).1 (
+        rw (e, is) (up_to_each (copies_of k.slots number) s (copies_rise k.slots number)
+        ((copies_have k.slots number s).1 (
           low,
           rw holds
               (holds_own number),
@@ -99,14 +105,16 @@ held_within k s x is = elim (cases_lt s (length k.slots)) [
   | inr past ↦ absurd (let no : Blank ≡ Holds x = sym (get_or_past k.slots s Blank past) ∙ is in cc)
 ]
 
-pub so_far_first : (k : TablesState) (page below : ℕ) (whole : List ℕ) → ((x : ℕ) → number_at k.waits x ≡ Some page → Contains whole x)
+pub so_far_first : (k : TablesState) (page below : ℕ) (whole : List ℕ) →
+    ((x : ℕ) → number_at k.waits x ≡ Some page → Contains whole x)
     → IsLowestSoFar k page below whole None
 so_far_first k page below whole all = record {
   holds = λ s e. absurd (cc);
   least = λ s x holds waits. inl (all x waits.0);
 }
 
-pub so_far_next : (k : TablesState) (page below number : ℕ) (rest : List ℕ) (lowest : Option ℕ) → IsLowestSoFar k page below (number ∷ rest) lowest
+pub so_far_next : (k : TablesState) (page below number : ℕ) (rest : List ℕ) (lowest : Option ℕ) →
+    IsLowestSoFar k page below (number ∷ rest) lowest
     → number_at k.waits number ≡ Some page → IsLowestSoFar k page below rest (lower lowest (first_below k below number))
 so_far_next k page below number rest lowest h waits = record {
   holds = λ s e. elim (lower_slot lowest (first_below k below number) s e) [
@@ -124,7 +132,8 @@ so_far_next k page below number rest lowest h waits = record {
 }
 
 -- at the end it is the lowest of all
-pub lowest_some : (k : TablesState) (page below s : ℕ) (lowest : Option ℕ) → IsLowestSoFar k page below [] lowest → lowest ≡ Some s
+pub lowest_some : (k : TablesState) (page below s : ℕ) (lowest : Option ℕ) → IsLowestSoFar k page below [] lowest →
+    lowest ≡ Some s
     → IsLowestToGo k page below s
 lowest_some k page below s lowest h is =
     let its = h.holds s is in
@@ -138,7 +147,8 @@ lowest_some k page below s lowest h is =
       ];
     }
 
-pub lowest_none : (k : TablesState) (page below : ℕ) (lowest : Option ℕ) → IsLowestSoFar k page below [] lowest → lowest ≡ None
+pub lowest_none : (k : TablesState) (page below : ℕ) (lowest : Option ℕ) →
+    IsLowestSoFar k page below [] lowest → lowest ≡ None
     → (s number : ℕ) → use_at k.slots s ≡ Holds number → WaitsBelow k page below number → ⊥
 lowest_none k page below lowest h is s number holds waits = elim (h.least s number holds waits) [
   | inl has ↦ Contains-nil number has

@@ -1,9 +1,9 @@
 ghost use Rattle.std.specs.Prelude.{◌≡◌, ℕ, ◌<◌, [], length, slice_set, Some, None, IfSome, IsSomeAnd};
 ghost use Rattle.tx_types.specs.Config.{slots_of, blocks_of};
 ghost use Rattle.tx_types.specs.declared.record.Rec.{Rec};
+ghost use Rattle.slot_tables.specs.Copies.{HoldsNone, NumbersBelow};
 ghost use Rattle.slot_tables.specs.TablesState.{record_at, added, given_up, IsNewest, copies_of};
 ghost use Rattle.slot_tables.specs.Versions.{HasFree};
-ghost use Rattle.slot_tables.specs.Copies.{HoldsNone, NumbersBelow};
 
 use crate::Tables;
 use crate::slots::{SlotUse, is_blank, number_in};
@@ -35,7 +35,7 @@ impl Tables {
         self.base.records.give_up(page, number);
     }
 
-    /// Says what a slot holds. Where it is a record this goes through its copies below the slot.
+    /// Sets what a slot holds. Where it is a record this goes through its copies below the slot.
     #[inline(always)]
     pub fn set_slot(&mut self, at: Slot, to: SlotUse)
         requires slot { at.0 < slots_of self.old.shape }
@@ -48,7 +48,7 @@ impl Tables {
         }
     }
 
-    /// Says that a slot holds no record. Where it was needed, another slot is now in its place.
+    /// Empties a slot that holds a record. Where it was needed, another slot is now in its place.
     #[inline(always)]
     fn empty_slot(&mut self, at: Slot, to: SlotUse)
         requires slot { at.0 < slots_of self.old.shape }
@@ -64,7 +64,7 @@ impl Tables {
         }
     }
 
-    /// Says what a slot holds, and looks at the homes of the record that leaves it and of the one that comes.
+    /// Sets what a slot holds, and looks at the homes of the record that leaves it and of the one that comes.
     fn fill_slot(&mut self, at: Slot, to: SlotUse)
         requires slot { at.0 < slots_of self.old.shape }
         requires number { NumbersBelow (slots_of self.old.shape) to }
@@ -80,7 +80,7 @@ impl Tables {
         self.base.refresh_moved(&mut self.live, other, joined);
     }
 
-    /// Says which record of a page is current.
+    /// Sets which record of a page is current.
     pub fn set_current(&mut self, page: u32, to: Option<u32>)
         requires page { page < length self.old.pages }
         requires number { IfSome to (λ number. number < slots_of self.old.shape) }
@@ -92,7 +92,7 @@ impl Tables {
         self.base.refresh_home(&mut self.live, to);
     }
 
-    /// Says which record answers for a record.
+    /// Sets which record answers for a record.
     #[inline(always)]
     pub fn set_answerer(&mut self, number: u32, to: Option<u32>)
         requires number { number < slots_of self.old.shape }
@@ -109,7 +109,7 @@ impl Tables {
         self.base.refresh_home(&mut self.live, to);
     }
 
-    /// Says for which page a record waits.
+    /// Sets for which page a record waits.
     #[inline(always)]
     pub fn set_waits(&mut self, number: u32, to: Option<u32>)
         requires number { number < slots_of self.old.shape }

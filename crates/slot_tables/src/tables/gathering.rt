@@ -1,7 +1,7 @@
 ghost use Rattle.std.specs.Prelude.{◌≡◌, ◌+◌, ◌<◌, ◌≤◌, [], ◌++◌, length, map, vec_len, vec_capacity};
 ghost use Rattle.tx_types.specs.Config.{slots_of};
-ghost use Rattle.slot_tables.specs.TablesState.{copies_of, WaitsBelow};
 ghost use Rattle.slot_tables.specs.Gathered.{block_at, blocks_of_copies, copies_below, AreGathered};
+ghost use Rattle.slot_tables.specs.TablesState.{copies_of, WaitsBelow};
 
 use crate::Tables;
 use tx_types::Block;

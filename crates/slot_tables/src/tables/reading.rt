@@ -3,12 +3,12 @@ ghost use Rattle.std.specs.List.{All, slice_get};
 ghost use Rattle.std.specs.Option.{option_map, option_and_then};
 ghost use Rattle.tx_types.specs.Config.{slots_of, blocks_of};
 ghost use Rattle.tx_types.specs.declared.record.Rec.{Rec};
-ghost use Rattle.dense_tables.specs.LinkedLists.{next_in};
 ghost use Rattle.dense_tables.specs.Greatest.{greatest, group_of, IsFirstGreatest};
-ghost use Rattle.slot_tables.specs.TablesState.{use_at, copies_of, record_at, numbers_at, number_at, home, copy_off, is_answerer, is_wanted, is_needed, garbage_of, garbage_numbers, blanks_of, written_of, WaitsBelow, IsLowestToGo, lower, IsTablesState};
-ghost use Rattle.slot_tables.specs.declared.slots.SlotUse.TheVariants as slot;
+ghost use Rattle.dense_tables.specs.LinkedLists.{next_in};
 ghost use Rattle.slot_tables.specs.Copies.{NumbersBelow};
+ghost use Rattle.slot_tables.specs.TablesState.{use_at, copies_of, record_at, numbers_at, number_at, home, copy_off, is_answerer, is_wanted, is_needed, garbage_of, garbage_numbers, blanks_of, written_of, WaitsBelow, IsLowestToGo, lower, IsTablesState};
 ghost use Rattle.slot_tables.specs.Versions.{Names};
+ghost use Rattle.slot_tables.specs.declared.slots.SlotUse.TheVariants as slot;
 
 use crate::Tables;
 use crate::slots::SlotUse;
@@ -278,7 +278,7 @@ impl Tables {
     }
 }
 
-/// The lower one of two slots, where there are such.
+/// The lower one of two slots, if there are any.
 fn lower(at: Option<u32>, other: Option<u32>) -> Option<u32>
     ensures { result ≡ lower at other }
 {

@@ -15,7 +15,8 @@ use Rattle.sorted_records.proofs.OfWalk.WalkOrbits.{absent_at}
 
 -- a search finds alike what holds alike of each record of the list
 pub finds_alike : (P Q : Found → Type 0) (list : List Found) (o : Option ℕ) →
-    ((f : Found) → Contains list f → P f → Q f) → ((f : Found) → Contains list f → Q f → P f) → FindsFirst P list o → FindsFirst Q list o
+    ((f : Found) → Contains list f → P f → Q f) → ((f : Found) → Contains list f → Q f → P f) → FindsFirst P list o →
+    FindsFirst Q list o
 finds_alike P Q list None to from all = all_from Q list (λ f i. to f i (All-contains P list f all i))
 finds_alike P Q list (Some i) to from (inside, fails, before) = (
   inside,
@@ -24,9 +25,11 @@ finds_alike P Q list (Some i) to from (inside, fails, before) = (
       to (get_or list k d) (k, within, get_or_default list k (get_or list k d) d within) (before k d less),
 )
 
-module _ (list sorted : List Found) (is : Sorts list sorted) (agree : All (CopiesAgree list) list) (scanned : IsScanned list) where
+module _ (list sorted : List Found) (is : Sorts list sorted) (agree : All (CopiesAgree list) list)
+    (scanned : IsScanned list) where
   sorted_among : IsAmong sorted list
-  sorted_among = among_of sorted list (λ f i. Contains-permutation sorted list f (IsPermutation-sym list sorted is.records) i)
+  sorted_among = among_of sorted list (λ f i. Contains-permutation sorted list f
+      (IsPermutation-sym list sorted is.records) i)
 
   list_among : IsAmong list sorted
   list_among = among_of list sorted (λ f i. Contains-permutation list sorted f is.records i)
@@ -53,7 +56,8 @@ pub passes_nowhere : (l : List Found) (r : Rec) → position (λ f. has_name r.n
 passes_nowhere l r none = all_from (λ g. name_of g.rec ≡ r.next → g.rec.count ≡ r.count) l (λ g i e.
     absurd (false≢true (sym (absent_at l r.next none) ∙ present_as l g r.next i e)))
 
-module _ (l : List Found) (r : Rec) (same : NamesakesAgree l) (p : ℕ) (at : position (λ f. has_name r.next f.rec) l ≡ Some p) where
+module _ (l : List Found) (r : Rec) (same : NamesakesAgree l) (p : ℕ)
+    (at : position (λ f. has_name r.next f.rec) l ≡ Some p) where
   -- the first record of the link's name is one of it
   first_named : (p < length l) × (name_of (record_at l p) ≡ r.next)
   first_named =
@@ -61,19 +65,28 @@ module _ (l : List Found) (r : Rec) (same : NamesakesAgree l) (p : ℕ) (at : po
       (found.0, has_name_true r.next (record_at l p) found.1)
 
   -- and speaks for all
-  pub passes_at : IsTrue (nat_eq (record_at l p).count r.count) ↔ All (λ g. name_of g.rec ≡ r.next → g.rec.count ≡ r.count) l
+  pub passes_at : IsTrue (nat_eq (record_at l p).count r.count)
+      ↔ All (λ g. name_of g.rec ≡ r.next → g.rec.count ≡ r.count) l
   passes_at =
-      let here : Contains l (get_or l p nothing) = (p, first_named.0, get_or_default l p (get_or l p nothing) nothing first_named.0) in (
+      let here : Contains l (get_or l p nothing) = (
+        p,
+        first_named.0,
+        get_or_default l p (get_or l p nothing) nothing first_named.0,
+      ) in (
         λ yes'. all_from (λ g. name_of g.rec ≡ r.next → g.rec.count ≡ r.count) l (λ g i e.
             let like = All-contains (λ (x : Found). name_of (record_at l p) ≡ name_of x.rec → record_at l p ≡ x.rec) l g
-            (All-contains (λ (f : Found). All (λ x. name_of f.rec ≡ name_of x.rec → f.rec ≡ x.rec) l) l (get_or l p nothing) same here) i in
-            ap (λ (x : Rec). x.count) (sym (like (first_named.1 ∙ sym e))) ∙ eqb-true (record_at l p).count r.count yes'),
+            (All-contains (λ (f : Found). All (λ x. name_of f.rec ≡ name_of x.rec → f.rec ≡ x.rec) l) l
+            (get_or l p nothing) same here) i in
+            ap (λ (x : Rec). x.count) (sym (like (first_named.1 ∙ sym e)))
+            ∙ eqb-true (record_at l p).count r.count yes'),
         λ all. eq-eqb (record_at l p).count r.count
-            (All-contains (λ (g : Found). name_of g.rec ≡ r.next → g.rec.count ≡ r.count) l (get_or l p nothing) all here first_named.1),
+            (All-contains (λ (g : Found). name_of g.rec ≡ r.next → g.rec.count ≡ r.count) l (get_or l p nothing) all
+            here first_named.1),
       )
 
 -- an orbit that ends, or goes aside, is no round
-pub no_round : (n : ℕ) (orbit : Orbit) → ((after : ℕ) × (at : ℕ) × (orbit ≡ Ends after at)) ⊎ (orbit ≡ Aside) → orbit ≡ Round n → ⊥
+pub no_round : (n : ℕ) (orbit : Orbit) → ((after : ℕ) × (at : ℕ) × (orbit ≡ Ends after at)) ⊎ (orbit ≡ Aside) →
+    orbit ≡ Round n → ⊥
 no_round n orbit other round = elim other [
   | inl (after, at, e) ↦ false≢true (ap is_round (sym e ∙ round))
   | inr e ↦ false≢true (ap is_round (sym e ∙ round))

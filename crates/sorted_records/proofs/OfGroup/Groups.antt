@@ -14,20 +14,24 @@ upto_elsewhere top name r other = rw (ne_eqb r.page name.page other) refl
 module _ (l : List Found) (page from to : ℕ)
     (before : IsPartitionPoint (λ f. is_below (name_of f.rec) record { page = page; version = 0 } ≡ true)
     (λ f. is_below (name_of f.rec) record { page = page; version = 0 } ≡ false) l from)
-    (upto : IsPartitionPoint (λ f. f.rec.page ≤ page) (λ f. page < f.rec.page) l to) (within : from ≤ length l) (inside : to ≤ length l) where
+    (upto : IsPartitionPoint (λ f. f.rec.page ≤ page) (λ f. page < f.rec.page) l to) (within : from ≤ length l)
+    (inside : to ≤ length l) where
   page_before : (k : ℕ) → k < from → (record_at l k).page < page
-  page_before k low = elim (below_true (name_of (record_at l k)) record { page = page; version = 0 } (before.0 k nothing (omega arith) low)) [
-    | inl p ↦ p
-    | inr p ↦ absurd (omega arith)
-  ]
+  page_before k low = elim (below_true (name_of (record_at l k)) record { page = page; version = 0 }
+      (before.0 k nothing (omega arith) low)) [
+        | inl p ↦ p
+        | inr p ↦ absurd (omega arith)
+      ]
 
   pub group_goes_up : from ≤ to
   group_goes_up = elim (cases_lt to from) [
-    | inl less ↦ absurd (let a = page_before to less in let b = upto.1 to nothing (omega arith) (omega arith) in omega arith)
+    | inl less ↦ absurd (let a = page_before to less in let b = upto.1 to nothing (omega arith) (omega arith) in
+        omega arith)
     | inr more ↦ more
   ]
 
-  pub group_greatest : (of : Rec → ℕ) → ((r : Rec) → r.page ≢ page → of r ≡ 0) → greatest of (slice_range l from to) ≡ greatest of l
+  pub group_greatest : (of : Rec → ℕ) → ((r : Rec) → r.page ≢ page → of r ≡ 0) →
+      greatest of (slice_range l from to) ≡ greatest of l
   group_greatest of elsewhere = sym (greatest_is of l (greatest of (slice_range l from to)) bound one)
     where
       size : length (slice_range l from to) ≡ to - from
@@ -35,9 +39,11 @@ module _ (l : List Found) (page from to : ℕ)
 
       bound : (k : ℕ) → k < length l → of (record_at l k) ≤ greatest of (slice_range l from to)
       bound k low = elim (cases_lt k from) [
-        | inl early ↦ (let p = page_before k early in let z = elsewhere (record_at l k) (λ e. omega arith) in omega arith)
+        | inl early ↦ (let p = page_before k early in let z = elsewhere (record_at l k) (λ e. omega arith) in
+            omega arith)
         | inr late ↦ elim (cases_lt k to) [
-          | inr past ↦ (let p = upto.1 k nothing past low in let z = elsewhere (record_at l k) (λ e. omega arith) in omega arith)
+          | inr past ↦ (let p = upto.1 k nothing past low in let z = elsewhere (record_at l k) (λ e. omega arith) in
+              omega arith)
           | inl here ↦ (
               let sum : from + (k - from) ≡ k = omega arith in
               let e : get_or (slice_range l from to) (k - from) nothing ≡ get_or l k nothing =
@@ -48,7 +54,8 @@ module _ (l : List Found) (page from to : ℕ)
         ]
       ]
 
-      one : (greatest of (slice_range l from to) ≡ 0) ⊎ ((k : ℕ) × (k < length l) × (of (record_at l k) ≡ greatest of (slice_range l from to)))
+      one : (greatest of (slice_range l from to) ≡ 0)
+          ⊎ ((k : ℕ) × (k < length l) × (of (record_at l k) ≡ greatest of (slice_range l from to)))
       one = elim (cases_lt 0 (greatest of (slice_range l from to))) [
         | inr none ↦ inl (omega arith)
         | inl some ↦ (
@@ -57,7 +64,8 @@ module _ (l : List Found) (page from to : ℕ)
             let s = size in
             let low = c.1 in
             let e : get_or l (from + c.0) nothing ≡ top.0 =
-            sym (get_or-between l from to c.0 nothing (omega arith)) ∙ get_or_default (slice_range l from to) c.0 nothing top.0 low ∙ c.2 in
+            sym (get_or-between l from to c.0 nothing (omega arith))
+            ∙ get_or_default (slice_range l from to) c.0 nothing top.0 low ∙ c.2 in
             inr (from + c.0, omega arith, ap (λ f. of f.rec) e ∙ top.2))
       ]
 
@@ -65,9 +73,11 @@ module _ (l : List Found) (page from to : ℕ)
 module _ (l : List Found) (name : Link) (from to : ℕ)
     (before : IsPartitionPoint (λ f. is_below (name_of f.rec) record { page = name.page; version = 0 } ≡ true)
     (λ f. is_below (name_of f.rec) record { page = name.page; version = 0 } ≡ false) l from)
-    (upto : IsPartitionPoint (λ f. f.rec.page ≤ name.page) (λ f. name.page < f.rec.page) l to) (within : from ≤ length l) (inside : to ≤ length l) where
+    (upto : IsPartitionPoint (λ f. f.rec.page ≤ name.page) (λ f. name.page < f.rec.page) l to)
+    (within : from ≤ length l) (inside : to ≤ length l) where
   pub earlier_below : (k : ℕ) → k < from → is_below (name_of (record_at l k)) name ≡ true
-  earlier_below k low = true_below (name_of (record_at l k)) name (inl (page_before l name.page from to before upto within inside k low))
+  earlier_below k low = true_below (name_of (record_at l k)) name
+      (inl (page_before l name.page from to before upto within inside k low))
 
   pub later_not_below : (k : ℕ) → to ≤ k → k < length l → is_below (name_of (record_at l k)) name ≡ false
   later_not_below k high low = elim (below_cases (name_of (record_at l k)) name) [

@@ -6,9 +6,11 @@ use Rattle.sorted_records.proofs.OfGroup.Readings.{version_same, version_other, 
 use Rattle.sorted_records.proofs.OfWalk.WalkOrbits.{map_alike, kept_links}
 
 module _ (l : List Found) (order : IsInOrder l)
-    (next : (k : ℕ) → suc k < length l → (record_at l (suc k)).page ≡ (record_at l k).page → (record_at l (suc k)).version ≡ (record_at l k).version)
+    (next : (k : ℕ) → suc k < length l → (record_at l (suc k)).page ≡ (record_at l k).page →
+    (record_at l (suc k)).version ≡ (record_at l k).version)
   where
-    onward : (i n j : ℕ) → j ≡ i + n → j < length l → (record_at l j).page ≡ (record_at l i).page → (record_at l j).version ≡ (record_at l i).version
+    onward : (i n j : ℕ) → j ≡ i + n → j < length l → (record_at l j).page ≡ (record_at l i).page →
+        (record_at l j).version ≡ (record_at l i).version
     onward i zero j at within page = let here : j ≡ i = omega arith in ap (λ k. (record_at l k).version) here
     onward i (suc n) j at within page =
         let next_to : j ≡ suc (i + n) = omega arith in
@@ -41,11 +43,16 @@ module _ (l : List Found) (one : HaveOneVersion l) where
   kept None f at = refl
   kept (Some i) f at =
       let found = position-Some (λ g. has_name f.rec.next g.rec) l i nothing at in
-      rw (lt-ltb i (length l) found.0, eq-eqb (newest l (record_at l i).page) (record_at l i).version (newest_is i found.0)) refl
+      rw (
+        lt-ltb i (length l) found.0,
+        eq-eqb (newest l (record_at l i).page) (record_at l i).version
+            (newest_is i found.0),
+      ) refl
 
   -- then links lead to the places that they name
   pub own_links : name_graph l ≡ link_graph l
   own_links =
-      sym (map_alike (newest_target l) (λ f. position (λ g. has_name f.rec.next g.rec) l) (λ f. position (λ g. has_name f.rec.next g.rec) l) l
+      sym (map_alike (newest_target l) (λ f. position (λ g. has_name f.rec.next g.rec) l)
+      (λ f. position (λ g. has_name f.rec.next g.rec) l) l
       (λ f. kept (position (λ g. has_name f.rec.next g.rec) l) f refl))
       ∙ kept_links l

@@ -10,7 +10,8 @@ version_same page r e = rw (eq-eqb r.page page e) refl
 pub version_other : (page : ℕ) (r : Rec) → r.page ≢ page → version_of page r ≡ 0
 version_other page r e = rw (ne_eqb r.page page e) refl
 
-older_same : (page below : ℕ) (r : Rec) → r.page ≡ page → r.version < below → version_below page below r ≡ version_of page r
+older_same : (page below : ℕ) (r : Rec) → r.page ≡ page → r.version < below →
+    version_below page below r ≡ version_of page r
 older_same page below r e less = rw (eq-eqb r.page page e, lt-ltb r.version below less) refl
 
 older_high : (page below : ℕ) (r : Rec) → r.page ≡ page → below ≤ r.version → version_below page below r ≡ 0
@@ -71,7 +72,8 @@ last_is of l order page (suc i) within before behind = elim (cases_eq (record_at
       (inl refl)))
 ]
   where
-    split : (k : ℕ) → k ≤ i → ((record_at l k).page < (record_at l i).page) ⊎ (((record_at l k).page ≡ (record_at l i).page) ×
+    split : (k : ℕ) → k ≤ i → ((record_at l k).page < (record_at l i).page)
+        ⊎ (((record_at l k).page ≡ (record_at l i).page) ×
         ((record_at l k).version ≤ (record_at l i).version))
     split k low = later_from l order k i nothing low (omega arith)
 
@@ -89,14 +91,21 @@ pub next_older_is : (l : List Found) → IsInOrder l → (page below end : ℕ) 
 next_older_is l order page below end within parts =
     last_is (version_below page below) l order page end within before behind
   where
-    before : (k : ℕ) → k < end → ((record_at l k).page ≤ page) × (version_below page below (record_at l k) ≡ version_of page (record_at l k))
-    before k low = elim (below_true (name_of (record_at l k)) record { page = page; version = below } (parts.0 k nothing (omega arith) low)) [
-      | inl p ↦ (omega arith, older_other page below (record_at l k) (λ e. omega arith) ∙ sym (version_other page (record_at l k) (λ e. omega arith)))
-      | inr p ↦ (omega arith, older_same page below (record_at l k) p.0 p.1)
-    ]
+    before : (k : ℕ) → k < end → ((record_at l k).page ≤ page)
+        × (version_below page below (record_at l k) ≡ version_of page (record_at l k))
+    before k low = elim (below_true (name_of (record_at l k)) record { page = page; version = below }
+        (parts.0 k nothing (omega arith) low)) [
+          | inl p ↦ (
+            omega arith,
+            older_other page below (record_at l k) (λ e. omega arith)
+                ∙ sym (version_other page (record_at l k) (λ e. omega arith)),
+          )
+          | inr p ↦ (omega arith, older_same page below (record_at l k) p.0 p.1)
+        ]
 
     behind : (k : ℕ) → end ≤ k → k < length l → version_below page below (record_at l k) ≡ 0
-    behind k low high = elim (below_false (name_of (record_at l k)) record { page = page; version = below } (parts.1 k nothing low high)) [
-      | inl p ↦ older_other page below (record_at l k) (λ e. omega arith)
-      | inr p ↦ older_high page below (record_at l k) (sym p.0) p.1
-    ]
+    behind k low high = elim (below_false (name_of (record_at l k)) record { page = page; version = below }
+        (parts.1 k nothing low high)) [
+          | inl p ↦ older_other page below (record_at l k) (λ e. omega arith)
+          | inr p ↦ older_high page below (record_at l k) (sym p.0) p.1
+        ]

@@ -6,7 +6,8 @@ use Rattle.sorted_records.specs.Minima.{last_above}
 use Rattle.sorted_records.proofs.OfGroup.Readings.{greatest_is}
 
 -- numbers that do not fall
-pub parted_below : (least : List ℕ) (version : ℕ) → ((i j : ℕ) → i ≤ j → j < length least → get_or least i 0 ≤ get_or least j 0) →
+pub parted_below : (least : List ℕ) (version : ℕ) → ((i j : ℕ) → i ≤ j → j < length least →
+    get_or least i 0 ≤ get_or least j 0) →
     IsPartitionedBy (λ m. nat_lt m version) least
 parted_below least version rises i j d low within below =
     let up = rises i j low within in
@@ -15,7 +16,8 @@ parted_below least version rises i j d low within below =
     let b = get_or_default least j d 0 within in
     lt-ltb (get_or least i d) version (omega arith)
 
-pub below_first_ones : (least : List ℕ) (version count : ℕ) → IsPartitionPoint (λ m. nat_lt m version ≡ true) (λ m. nat_lt m version ≡ false) least count →
+pub below_first_ones : (least : List ℕ) (version count : ℕ) →
+    IsPartitionPoint (λ m. nat_lt m version ≡ true) (λ m. nat_lt m version ≡ false) least count →
     IsPartitionPoint (λ m. m < version) (λ m. version ≤ m) least count
 below_first_ones least version count parts = (
   λ k d low high. ltb-true (get_or least k d) version (parts.0 k d low high),
@@ -27,11 +29,13 @@ module _ (l : List Found) (least : List ℕ) (from end version count : ℕ) (of 
     (elsewhere : (i : ℕ) → i < length l → (i < from) ⊎ (end ≤ i) → of (record_at l i) ≡ 0)
     (straddles : (i : ℕ) → from ≤ i → i < end → (record_at l i).back < version → version < (record_at l i).version →
     of (record_at l i) ≡ (record_at l i).version)
-    (other : (i : ℕ) → from ≤ i → i < end → (version ≤ (record_at l i).back) ⊎ ((record_at l i).version ≤ version) → of (record_at l i) ≡ 0)
+    (other : (i : ℕ) → from ≤ i → i < end → (version ≤ (record_at l i).back) ⊎ ((record_at l i).version ≤ version) →
+    of (record_at l i) ≡ 0)
     (rises : (i j : ℕ) → from ≤ i → i ≤ j → j < end → (record_at l i).version ≤ (record_at l j).version)
     (low : (i k : ℕ) → from ≤ i → i ≤ k → k < end → get_or least i 0 ≤ (record_at l k).back)
     (one : (i : ℕ) → from ≤ i → i < end → (k : ℕ) × (i ≤ k) × (k < end) × ((record_at l k).back ≡ get_or least i 0))
-    (few : count ≤ length (slice_range least from end)) (parts : IsPartitionPoint (λ m. m < version) (λ m. version ≤ m) (slice_range least from end) count)
+    (few : count ≤ length (slice_range least from end))
+    (parts : IsPartitionPoint (λ m. m < version) (λ m. version ≤ m) (slice_range least from end) count)
   where
     long : length (slice_range least from end) ≡ end - from
     long = length-between least from end (omega arith)
@@ -62,7 +66,8 @@ module _ (l : List Found) (least : List ℕ) (from end version count : ℕ) (of 
       | inr p ↦ absurd (let h = high_ones i p b in let d = low i i a (omega arith) b in omega arith)
     ]
 
-    bound_by : (top : ℕ) → ((i : ℕ) → from ≤ i → i < from + count → version < (record_at l i).version → (record_at l i).version ≤ top) →
+    bound_by : (top : ℕ) → ((i : ℕ) → from ≤ i → i < from + count → version < (record_at l i).version →
+        (record_at l i).version ≤ top) →
         (i : ℕ) → i < length l → of (record_at l i) ≤ top
     bound_by top high i inside = elim (cases_lt i from) [
       | inl p ↦ (let e = elsewhere i inside (inl p) in omega arith)
@@ -89,9 +94,11 @@ module _ (l : List Found) (least : List ℕ) (from end version count : ℕ) (of 
         let (k, a, b, back) = one (from + n) (omega arith) (omega arith) in
         let m = low_ones (from + n) (omega arith) (omega arith) in
         elim (cases_lt k (from + count)) [
-          | inl here ↦ (let same : k ≡ from + n = omega arith in let e : (record_at l k).back ≡ (record_at l (from + n)).back =
+          | inl here ↦ (let same : k ≡ from + n = omega arith in
+              let e : (record_at l k).back ≡ (record_at l (from + n)).back =
               ap (λ x. (record_at l x).back) same in omega arith)
-          | inr past ↦ absurd (let h = high_ones k past b in let d = low k k (omega arith) (omega arith) b in omega arith)
+          | inr past ↦ absurd (let h = high_ones k past b in let d = low k k (omega arith) (omega arith) b in
+              omega arith)
         ]
 
     found : (n : ℕ) → count ≡ suc n → greatest of l ≡ last_above l from (suc n) version
@@ -107,7 +114,8 @@ module _ (l : List Found) (least : List ℕ) (from end version count : ℕ) (of 
               ∙ sym (cond-true (nat_lt version top) top 0 (lt-ltb version top over))
           | inr under ↦
               greatest_is of l 0
-              (bound_by 0 (λ i a b h. (let r = rises i (from + n) a (omega arith) (omega arith) in absurd (omega arith))))
+              (bound_by 0 (λ i a b h. (let r = rises i (from + n) a (omega arith) (omega arith) in
+              absurd (omega arith))))
               (inl refl)
               ∙ sym (cond-false (nat_lt version top) top 0 (le-ltb version top under))
         ]

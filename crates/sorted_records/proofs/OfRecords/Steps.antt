@@ -46,7 +46,7 @@ module _ (graph : List (Option ℕ)) where
         rw s (steps_more (a + b) i j next ∙ rest))
   ]
 
-  -- where there are not so many steps, there are not more
+  -- where there are fewer steps than this many, there are not more
   pub steps_ended : (a n i : ℕ) → a ≤ n → steps graph a i ≡ None → steps graph n i ≡ None
   steps_ended zero n i low none = absurd (let here = steps_none i in cc)
   steps_ended (suc a) zero i low none = absurd (omega arith)

@@ -71,7 +71,8 @@ module _ (list sorted : List Found) (is : Sorts list sorted) where
   newest_name_alike page =
       let P : ℕ → Link = λ n. record { page = page; version = n } in ap P (newest_alike page)
 
-  pub passed_alike : (protocol : Protocol) (link : Link) → why_below_newest protocol sorted link ≡ why_below_newest protocol list link
+  pub passed_alike : (protocol : Protocol) (link : Link) → why_below_newest protocol sorted link
+      ≡ why_below_newest protocol list link
   passed_alike Scc link = refl
   passed_alike Bpcc link = ap (λ n. if n == 0 then Passed else Straddled n) (straddling_alike link)
 
@@ -80,14 +81,17 @@ module _ (list sorted : List Found) (is : Sorts list sorted) where
   walk_alike protocol start zero link = refl
   walk_alike protocol start (suc turns) link =
       let turn : ℕ → Why → Why → Why = λ n p w.
-      if nat_lt n link.version then Absent else if nat_lt link.version n then p else if is_same link start then Cycle else w in
+      if nat_lt n link.version then Absent else if nat_lt link.version n then p else if is_same link start
+      then Cycle else w in
       let e = newest_alike link.page in
       let f = passed_alike protocol link in
-      let g = ap (walk protocol sorted start turns) (link_alike link) ∙ walk_alike protocol start turns (link_of list link) in
+      let g = ap (walk protocol sorted start turns) (link_alike link)
+      ∙ walk_alike protocol start turns (link_of list link) in
       ap₂ (λ n p. turn n p (walk protocol sorted start turns (link_of sorted link))) e f
       ∙ ap (turn (newest list link.page) (why_below_newest protocol list link)) g
 
-  pub why_alike : (protocol : Protocol) (logical page : ℕ) → why protocol sorted logical page ≡ why protocol list logical page
+  pub why_alike : (protocol : Protocol) (logical page : ℕ) →
+      why protocol sorted logical page ≡ why protocol list logical page
   why_alike protocol logical page =
       ap (λ n. walk protocol sorted n (suc logical) (link_of sorted n)) (newest_name_alike page)
       ∙ ap (walk protocol sorted (newest_name list page) (suc logical)) (link_alike (newest_name list page))
@@ -97,10 +101,13 @@ module _ (list sorted : List Found) (is : Sorts list sorted) where
   fallback_alike Scc page = ap (next_older sorted page) (newest_alike page) ∙ next_older_alike page (newest list page)
   fallback_alike Bpcc page = ap (back_of sorted) (newest_name_alike page) ∙ back_alike (newest_name list page)
 
-  pub cur_alike : (protocol : Protocol) (logical page : ℕ) → cur protocol sorted logical page ≡ cur protocol list logical page
+  pub cur_alike : (protocol : Protocol) (logical page : ℕ) →
+      cur protocol sorted logical page ≡ cur protocol list logical page
   cur_alike protocol logical page =
-      ap (λ w. if is_committed w then newest sorted page else fallback protocol sorted page) (why_alike protocol logical page)
-      ∙ ap₂ (λ n m. if is_committed (why protocol list logical page) then n else m) (newest_alike page) (fallback_alike protocol page)
+      ap (λ w. if is_committed w then newest sorted page else fallback protocol sorted page)
+      (why_alike protocol logical page)
+      ∙ ap₂ (λ n m. if is_committed (why protocol list logical page) then n else m) (newest_alike page)
+      (fallback_alike protocol page)
 
   pub responsible_alike : (protocol : Protocol) (logical : ℕ) (name : Link) →
       responsible protocol sorted logical name ≡ responsible protocol list logical name

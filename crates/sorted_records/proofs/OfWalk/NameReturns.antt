@@ -33,35 +33,41 @@ module _ (l : List Found) where
   name_graph_is =
       All-map (λ o. IfSome o (λ j. j < length (name_graph l))) (λ f. place f.rec.next) l
       (λ k d within. some_within (place (get_or l k d).rec.next)
-      (λ j e. let w = place_within (get_or l k d).rec.next j e in let size = length-map l (λ f. place f.rec.next) in omega arith))
+      (λ j e. let w = place_within (get_or l k d).rec.next j e in let size = length-map l (λ f. place f.rec.next) in
+      omega arith))
     where
-      some_within : (o : Option ℕ) → ((j : ℕ) → o ≡ Some j → j < length (name_graph l)) → IfSome o (λ j. j < length (name_graph l))
+      some_within : (o : Option ℕ) → ((j : ℕ) → o ≡ Some j → j < length (name_graph l)) →
+          IfSome o (λ j. j < length (name_graph l))
       some_within None all = tt
       some_within (Some j) all = all j refl
 
-  -- so many links lead to the name of the place at which so many steps are
-  pub steps_follow : (n : ℕ) (name : Link) (p x : ℕ) → place name ≡ Some p → steps (name_graph l) n p ≡ Some x → place (follow l name n) ≡ Some x
+  -- this many links lead to the name of the place at which this many steps are
+  pub steps_follow : (n : ℕ) (name : Link) (p x : ℕ) → place name ≡ Some p → steps (name_graph l) n p ≡ Some x →
+      place (follow l name n) ≡ Some x
   steps_follow zero name p x at leads = at ∙ sym (steps_none (name_graph l) p) ∙ leads
   steps_follow (suc n) name p x at leads = elim (some_or_none (next_of (name_graph l) p)) [
     | inl stop ↦ absurd (let e = steps_stop (name_graph l) n p stop in cc)
     | inr (q, next) ↦ (
         let link : (record_at l p).next ≡ link_of l name = link_found l name p (sym at) in
-        let there : place (link_of l name) ≡ Some q = ap place (sym link) ∙ sym (next_place p (place_within name p at)) ∙ next in
+        let there : place (link_of l name) ≡ Some q = ap place (sym link)
+        ∙ sym (next_place p (place_within name p at)) ∙ next in
         steps_follow n (link_of l name) q x there (sym (steps_more (name_graph l) n p q next) ∙ leads))
   ]
 
-  -- and so many steps to the place of the name to which so many links lead, where it is present
+  -- and this many steps to the place of the name to which this many links lead, where it is present
   follow_steps : (n : ℕ) (name : Link) (p : ℕ) → place name ≡ Some p → is_present l (follow l name n) ≡ true →
       steps (name_graph l) n p ≡ place (follow l name n)
   follow_steps zero name p at here = steps_none (name_graph l) p ∙ sym at
   follow_steps (suc n) name p at here =
       let link : (record_at l p).next ≡ link_of l name = link_found l name p (sym at) in
-      let there : next_of (name_graph l) p ≡ place (link_of l name) = next_place p (place_within name p at) ∙ ap place link in
+      let there : next_of (name_graph l) p ≡ place (link_of l name) = next_place p (place_within name p at)
+      ∙ ap place link in
       elim (some_or_none (next_of (name_graph l) p)) [
         | inl stop ↦ (
             let gone = absent_at l (link_of l name) (sym there ∙ stop) in
             absurd (false≢true (sym (stays_absent l name 1 (suc n) (omega arith) gone) ∙ here)))
-        | inr (q, next) ↦ steps_more (name_graph l) n p q next ∙ follow_steps n (link_of l name) q (sym there ∙ next) here
+        | inr (q, next) ↦ steps_more (name_graph l) n p q next
+            ∙ follow_steps n (link_of l name) q (sym there ∙ next) here
       ]
 
   module _ (name : Link) (p : ℕ) (at : place name ≡ Some p) where
@@ -72,17 +78,20 @@ module _ (l : List Found) where
     round_of_return n r = record {
       some = r.some;
       back = follow_steps n name p at (ap (is_present l) r.back ∙ name_present) ∙ ap place r.back ∙ at;
-      first = λ k some less e. r.first k some less (place_once (follow l name k) name p (steps_follow k name p p at e) at);
+      first = λ k some less e. r.first k some less (place_once (follow l name k) name p
+          (steps_follow k name p p at e) at);
     }
 
     return_of_round : (n : ℕ) → IsRound (name_graph l) p n → IsFirstReturn l name n
     return_of_round n r = record {
       some = r.some;
       back = place_once (follow l name n) name p (steps_follow n name p p at r.back) at;
-      first = λ m some less e. r.first m some less (follow_steps m name p at (ap (is_present l) e ∙ name_present) ∙ ap place e ∙ at);
+      first = λ m some less e. r.first m some less (follow_steps m name p at (ap (is_present l) e ∙ name_present)
+          ∙ ap place e ∙ at);
     }
 
-    module _ (orbits : List Orbit) (orbit : Orbit) (are : AreOrbits (name_graph l) orbits) (is : orbit ≡ get_or orbits p Aside) where
+    module _ (orbits : List Orbit) (orbit : Orbit) (are : AreOrbits (name_graph l) orbits)
+        (is : orbit ≡ get_or orbits p Aside) where
       orbit_is : IsOrbit (name_graph l) p orbit
       orbit_is =
           let size = length-map l (λ f. place f.rec.next) in

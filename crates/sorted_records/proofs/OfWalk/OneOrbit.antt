@@ -13,11 +13,13 @@ module _ (graph : List (Option ℕ)) where
   pub next_within : IsGraph graph → (i j : ℕ) → next_of graph i ≡ Some j → j < length graph
   next_within is i j next = elim (cases_lt i (length graph)) [
     | inr past ↦ absurd (let e = get_or_past graph i None past in cc)
-    | inl within ↦ subst (λ o. IfSome o (λ n. n < length graph)) next (All-get_or (λ o. IfSome o (λ n. n < length graph)) graph i None within is)
+    | inl within ↦ subst (λ o. IfSome o (λ n. n < length graph)) next
+        (All-get_or (λ o. IfSome o (λ n. n < length graph)) graph i None within is)
   ]
 
   pub steps_within : IsGraph graph → (k i y : ℕ) → i < length graph → steps graph k i ≡ Some y → y < length graph
-  steps_within is k i y within leads = steps_stay graph (λ n. n < length graph) (λ a b low next. next_within is a b next) k i y within leads
+  steps_within is k i y within leads = steps_stay graph (λ n. n < length graph)
+      (λ a b low next. next_within is a b next) k i y within leads
 
   -- a node whose next ones go on, and do not come to it
   aside : (i j : ℕ) → next_of graph i ≡ Some j → ((k : ℕ) → steps graph k j ≢ None) →
@@ -36,7 +38,8 @@ module _ (graph : List (Option ℕ)) where
   pub orbit_before_is : (i j : ℕ) (orbit : Orbit) → next_of graph i ≡ Some j → IsOrbit graph j orbit →
       ((k : ℕ) → steps graph k j ≢ Some i) → IsOrbit graph i (orbit_before i (Some orbit))
   orbit_before_is i j (Ends after at) next is never = record {
-    leads = steps_add graph 1 after (after + 1) i j (omega arith) (steps_more graph 0 i j next ∙ steps_none graph j) ∙ is.leads;
+    leads = steps_add graph 1 after (after + 1) i j (omega arith) (steps_more graph 0 i j next ∙ steps_none graph j)
+        ∙ is.leads;
     last = is.last;
   }
   orbit_before_is i j (Round turns) next is never = aside i j next (round_goes_on graph j turns is) never
@@ -58,8 +61,10 @@ module _ (graph : List (Option ℕ)) where
           let (y, f) = steps_before graph b after i at (omega arith) end.leads in
           let xy : y ≡ x = (rw (e, f) at same) in
           let rest = sym (steps_add graph b (after - b) after i y (omega arith) f) ∙ end.leads in
-          let early = steps_add graph a (after - b) (a + (after - b)) i x refl e ∙ ap (steps graph (after - b)) (sym xy) ∙ rest in
-          let stopped = end_stops graph i (a + (after - b)) at after record { leads = early; last = end.last } (omega arith) in
+          let early = steps_add graph a (after - b) (a + (after - b)) i x refl e
+          ∙ ap (steps graph (after - b)) (sym xy) ∙ rest in
+          let stopped = end_stops graph i (a + (after - b)) at after record { leads = early; last = end.last }
+          (omega arith) in
           let leads = end.leads in
           cc
 
@@ -78,7 +83,8 @@ module _ (graph : List (Option ℕ)) where
           let (y, f) = steps_before graph b turns i i (omega arith) round.back in
           let xy : y ≡ x = (rw (e, f) at same) in
           let rest = sym (steps_add graph b (turns - b) turns i y (omega arith) f) ∙ round.back in
-          let early = steps_add graph a (turns - b) (a + (turns - b)) i x refl e ∙ ap (steps graph (turns - b)) (sym xy) ∙ rest in
+          let early = steps_add graph a (turns - b) (a + (turns - b)) i x refl e
+          ∙ ap (steps graph (turns - b)) (sym xy) ∙ rest in
           round.first (a + (turns - b)) (omega arith) (omega arith) early
 
   -- an end is never passed
@@ -108,7 +114,7 @@ module _ (graph : List (Option ℕ)) where
   one_orbit i Aside (Round m) is other = absurd (is.never_back m other.some other.back)
   one_orbit i Aside Aside is other = refl
 
-  -- within so many steps there is an end, or there are more
+  -- within this many steps there is an end, or there are more
   end_or_on : (i n : ℕ) → ((after : ℕ) × (at : ℕ) × IsEnd graph i after at) ⊎ ((k : ℕ) → k ≤ n → steps graph k i ≢ None)
   end_or_on i zero = inr (λ k low none. let z : k ≡ 0 = omega arith in let here = steps_none graph i in cc)
   end_or_on i (suc n) = elim (end_or_on i n) [
@@ -121,7 +127,8 @@ module _ (graph : List (Option ℕ)) where
             let f = steps_add graph n 1 (suc n) i x (omega arith) e in
             elim (some_or_none (next_of graph x)) [
               | inl last ↦ inl (n, x, record { leads = e; last = last })
-              | inr next ↦ absurd (let (j, g) = next in let h = steps_more graph 0 x j g in let z = steps_none graph j in cc)
+              | inr next ↦ absurd (let (j, g) = next in let h = steps_more graph 0 x j g in
+                  let z = steps_none graph j in cc)
             ])
       ])
       | inr more ↦ inr (λ k low none. elim (cases_lt k (suc n)) [
@@ -131,13 +138,20 @@ module _ (graph : List (Option ℕ)) where
     ]
   ]
 
-  -- within so many steps there is a round, or none lead back
+  -- within this many steps there is a round, or none lead back
   back_or_not : (i n : ℕ) → ((turns : ℕ) × IsRound graph i turns) ⊎ ((k : ℕ) → 0 < k → k ≤ n → steps graph k i ≢ Some i)
   back_or_not i zero = inr (λ k some low leads. omega arith)
   back_or_not i (suc n) = elim (back_or_not i n) [
     | inl round ↦ inl round
     | inr not ↦ elim (comes_back (steps graph (suc n) i)) [
-      | inl back ↦ inl (suc n, record { some = omega arith; back = back; first = λ k some low. not k some (omega arith) })
+      | inl back ↦ inl (
+        suc n,
+        record {
+          some = omega arith;
+          back = back;
+          first = λ k some low. not k some (omega arith);
+        },
+      )
       | inr other ↦ inr (λ k some low leads. elim (cases_lt k (suc n)) [
         | inl before ↦ not k some (omega arith) leads
         | inr last ↦ (let s : k ≡ suc n = omega arith in other (sym (ap (λ m. steps graph m i) s) ∙ leads))
@@ -170,7 +184,8 @@ module _ (graph : List (Option ℕ)) where
         | inr more ↦ more k (omega arith) none
       ]
 
-      never : ((k : ℕ) → 0 < k → k ≤ length graph → steps graph k i ≢ Some i) → (k : ℕ) → 0 < k → steps graph k i ≢ Some i
+      never : ((k : ℕ) → 0 < k → k ≤ length graph → steps graph k i ≢ Some i) → (k : ℕ) → 0 < k →
+          steps graph k i ≢ Some i
       never not k some leads = elim (back_or_not i k) [
         | inl round ↦ (
             let (turns, r) = round in

@@ -1,4 +1,4 @@
--- A path that is followed: a node more, and its last node settled.
+-- A path that is followed: a node more, and its last node decided.
 use Rattle.sorted_records.proofs.Common.{◌≡◌, ◌≢◌, ℕ, suc, ◌<◌, ◌≤◌, Option, Some, None, List, [], ◌∷◌, ◌++◌, length, get_or, refl, sym, ap, ◌∙◌, subst, inl, inr, arith, cases_eq, cases_lt, length-set, Orbit, Ends, Round, Aside, Seen, New, OnPath, Known, IsGraph, next_of, steps, IsOrbit, seen_at, IsFollowed, IsBehind, Continues, StaysSeen}
 use Rattle.std.proofs.Common.{◌^◌, set}
 use Rattle.std.proofs.lemmas.List.{length_push, get_or_push, get_or_append_left, get_or_past}
@@ -24,8 +24,10 @@ stays_set seen i s other within j old now = elim (cases_eq j i) [
 ]
 
 -- as the last of several
-pub stays_on : (old seen new : List Seen) (i : ℕ) (s : Seen) → StaysSeen old seen → s ≢ New → i < length seen → new ≡ set seen i s → StaysSeen old new
-stays_on old seen new i s so_far other within e j was now = stays_set seen i s other within j (so_far j was) (rw e at now)
+pub stays_on : (old seen new : List Seen) (i : ℕ) (s : Seen) → StaysSeen old seen → s ≢ New → i < length seen →
+    new ≡ set seen i s → StaysSeen old new
+stays_on old seen new i s so_far other within e j was now =
+    stays_set seen i s other within j (so_far j was) (rw e at now)
 
 -- the first of a path was seen before what comes after its last
 pub started_on : (seen new : List Seen) (start i j k : ℕ) → IsStarted seen start i → i < length seen →
@@ -40,7 +42,8 @@ module _ (graph : List (Option ℕ)) where
   pub path_short : (seen : List Seen) (path : List ℕ) → IsFollowed graph seen path → length path ≤ length graph
   path_short seen path is =
       pigeonhole (λ k. get_or path k 0) (length path) (length graph)
-      (λ k low. let within = seen_within seen (get_or path k 0) (λ new. let e = is.noted k low in cc) in let s = is.size in omega arith)
+      (λ k low. let within = seen_within seen (get_or path k 0) (λ new. let e = is.noted k low in cc) in
+      let s = is.size in omega arith)
       (λ a b less low same.
       let e = is.noted a (omega arith) in let f = is.noted b low in let g = ap (seen_at seen) same in
       let h : a ≡ b = cc in omega arith)
@@ -54,7 +57,8 @@ module _ (graph : List (Option ℕ)) where
   ]
 
   -- a new node that comes after the last one goes to its end
-  pub path_more : (seen : List Seen) (path : List ℕ) (i : ℕ) → IsFollowed graph seen path → seen_at seen i ≡ New → i < length seen →
+  pub path_more : (seen : List Seen) (path : List ℕ) (i : ℕ) → IsFollowed graph seen path → seen_at seen i ≡ New →
+      i < length seen →
       Continues graph path i → IsFollowed graph (set seen i (OnPath (length path))) (path ++ i ∷ [])
   path_more seen path i is new within comes = record {
     size = length-set seen i (OnPath (length path)) ∙ is.size;
@@ -75,7 +79,8 @@ module _ (graph : List (Option ℕ)) where
       n : ℕ
       n = length path
 
-      noted : (k : ℕ) → k < length (path ++ i ∷ []) → seen_at (set seen i (OnPath (length path))) (get_or (path ++ i ∷ []) k 0) ≡ OnPath k
+      noted : (k : ℕ) → k < length (path ++ i ∷ []) →
+          seen_at (set seen i (OnPath (length path))) (get_or (path ++ i ∷ []) k 0) ≡ OnPath k
       noted k low = elim (cases_lt k (length path)) [
         | inl before ↦ (
             let e = get_or_append_left path (i ∷ []) 0 k before in
@@ -89,7 +94,8 @@ module _ (graph : List (Option ℕ)) where
             rw e (seen_same seen i (OnPath (length path)) within ∙ ap OnPath here))
       ]
 
-      linked : (k : ℕ) → suc k < length (path ++ i ∷ []) → next_of graph (get_or (path ++ i ∷ []) k 0) ≡ Some (get_or (path ++ i ∷ []) (suc k) 0)
+      linked : (k : ℕ) → suc k < length (path ++ i ∷ []) → next_of graph (get_or (path ++ i ∷ []) k 0)
+          ≡ Some (get_or (path ++ i ∷ []) (suc k) 0)
       linked k low =
           let l = length_push path i in
           let e = get_or_append_left path (i ∷ []) 0 k (omega arith) in
@@ -101,7 +107,8 @@ module _ (graph : List (Option ℕ)) where
                 rw (e, f) (comes k (sym here)))
           ]
 
-      placed : (j k : ℕ) → seen_at (set seen i (OnPath (length path))) j ≡ OnPath k → (k < length (path ++ i ∷ [])) × (get_or (path ++ i ∷ []) k 0 ≡ j)
+      placed : (j k : ℕ) → seen_at (set seen i (OnPath (length path))) j ≡ OnPath k → (k < length (path ++ i ∷ []))
+          × (get_or (path ++ i ∷ []) k 0 ≡ j)
       placed j k on = let l = length_push path i in elim (cases_eq j i) [
         | inl same ↦ (
             let e = seen_same seen i (OnPath (length path)) within in let g = (rw same at on) in
@@ -113,21 +120,24 @@ module _ (graph : List (Option ℕ)) where
       ]
 
   -- and so it does by other names
-  pub path_taken : (seen new : List Seen) (path longer : List ℕ) (i : ℕ) → IsFollowed graph seen path → seen_at seen i ≡ New →
+  pub path_taken : (seen new : List Seen) (path longer : List ℕ) (i : ℕ) → IsFollowed graph seen path →
+      seen_at seen i ≡ New →
       i < length graph → Continues graph path i → new ≡ set seen i (OnPath (length path)) → longer ≡ path ++ i ∷ [] →
       IsFollowed graph new longer
   path_taken seen new path longer i is fresh within comes e f =
       rw (e, f) (path_more seen path i is fresh (let s = is.size in omega arith) comes)
 
   -- what comes after its new last node
-  pub comes_after : (path longer : List ℕ) (i j : ℕ) → longer ≡ path ++ i ∷ [] → next_of graph i ≡ Some j → Continues graph longer j
+  pub comes_after : (path longer : List ℕ) (i j : ℕ) → longer ≡ path ++ i ∷ [] → next_of graph i ≡ Some j →
+      Continues graph longer j
   comes_after path longer i j e next k here =
       let l = length_push path i in
       let f = ap length e in
       rw (e, get_or_push path i 0 k (let g : length path ≡ k = omega arith in g)) next
 
   -- a node of it that comes after its last closes a ring
-  pub path_closes : (seen : List Seen) (path : List ℕ) (j place : ℕ) → IsFollowed graph seen path → seen_at seen j ≡ OnPath place →
+  pub path_closes : (seen : List Seen) (path : List ℕ) (j place : ℕ) → IsFollowed graph seen path →
+      seen_at seen j ≡ OnPath place →
       Continues graph path j → (place < length path) × Continues graph path (get_or path place 0)
   path_closes seen path j place is on comes =
       let at = is.placed j place on in
@@ -160,7 +170,8 @@ module _ (graph : List (Option ℕ)) where
   }
     where
       last : seen_at seen i ≡ OnPath (length path)
-      last = let l = length_push path i in let e = get_or_push path i 0 (length path) refl in rw e at (is.noted (length path) (omega arith))
+      last = let l = length_push path i in let e = get_or_push path i 0 (length path) refl in
+          rw e at (is.noted (length path) (omega arith))
 
       within : i < length seen
       within = seen_within seen i (λ new. let e = last in cc)
@@ -169,7 +180,8 @@ module _ (graph : List (Option ℕ)) where
       not_known o known = let e = last in cc
 
       apart : (k : ℕ) → k < length path → seen_at seen (get_or path k 0) ≡ OnPath k → get_or path k 0 ≢ i
-      apart k low was same = let e = last in let f = ap (seen_at seen) same in let h : k ≡ length path = cc in omega arith
+      apart k low was same = let e = last in let f = ap (seen_at seen) same in
+          let h : k ≡ length path = cc in omega arith
 
       placed : (j k : ℕ) → seen_at (set seen i (Known orbit)) j ≡ OnPath k → (k < length path) × (get_or path k 0 ≡ j)
       placed j k on = elim (cases_eq j i) [
@@ -186,8 +198,9 @@ module _ (graph : List (Option ℕ)) where
             ])
       ]
 
-  -- a new node that nothing follows but itself is settled at once
-  pub decided_alone : (seen : List Seen) (i : ℕ) (orbit : Orbit) → IsFollowed graph seen [] → seen_at seen i ≡ New → i < length seen →
+  -- a new node that nothing follows but itself is decided at once
+  pub decided_alone : (seen : List Seen) (i : ℕ) (orbit : Orbit) → IsFollowed graph seen [] → seen_at seen i ≡ New →
+      i < length seen →
       IsOrbit graph i orbit → LeadsNoFurther graph seen i → IsFollowed graph (set seen i (Known orbit)) []
   decided_alone seen i orbit is fresh within right alone = record {
     size = length-set seen i (Known orbit) ∙ is.size;
@@ -215,12 +228,14 @@ module _ (graph : List (Option ℕ)) where
   }
 
   -- no steps lead from a known node to one that is not
-  pub known_stay : (seen : List Seen) (path : List ℕ) → IsFollowed graph seen path → (k j y : ℕ) → IsKnown seen j → steps graph k j ≡ Some y → IsKnown seen y
+  pub known_stay : (seen : List Seen) (path : List ℕ) → IsFollowed graph seen path → (k j y : ℕ) → IsKnown seen j →
+      steps graph k j ≡ Some y → IsKnown seen y
   known_stay seen path is k j y known leads =
       steps_stay graph (IsKnown seen) (λ a b here next. is.closed a here b next) k j y known leads
 
   -- the last node of a path is a node
-  pub last_within : (seen : List Seen) (path : List ℕ) (i : ℕ) → IsFollowed graph seen (path ++ i ∷ []) → i < length seen
+  pub last_within : (seen : List Seen) (path : List ℕ) (i : ℕ) → IsFollowed graph seen (path ++ i ∷ []) →
+      i < length seen
   last_within seen path i is =
       let l = length_push path i in
       let e = get_or_push path i 0 (length path) refl in
@@ -228,7 +243,8 @@ module _ (graph : List (Option ℕ)) where
       seen_within seen i (λ new. cc)
 
   -- what is known after the last node of a path gives its orbit
-  pub last_orbit : (seen : List Seen) (path : List ℕ) (i : ℕ) (behind : Option Orbit) → IsFollowed graph seen (path ++ i ∷ []) →
+  pub last_orbit : (seen : List Seen) (path : List ℕ) (i : ℕ) (behind : Option Orbit) →
+      IsFollowed graph seen (path ++ i ∷ []) →
       IsBehind graph seen (path ++ i ∷ []) behind → IsOrbit graph i (orbit_before i behind) × LeadsToKnown graph seen i
   last_orbit seen path i None is behind =
       let l = length_push path i in
@@ -246,7 +262,8 @@ module _ (graph : List (Option ℕ)) where
       )
 
   -- and can be counted one step further
-  pub may_grow : (seen : List Seen) (path : List ℕ) (i : ℕ) (behind : Option Orbit) → IsGraph graph → length graph < 2 ^ 32 →
+  pub may_grow : (seen : List Seen) (path : List ℕ) (i : ℕ) (behind : Option Orbit) → IsGraph graph →
+      length graph < 2 ^ 32 →
       IsFollowed graph seen (path ++ i ∷ []) → IsBehind graph seen (path ++ i ∷ []) behind → MayGrow behind
   may_grow seen path i None graph_is few is behind = tt
   may_grow seen path i (Some (Ends after at)) graph_is few is (j, comes, known) =
@@ -257,8 +274,9 @@ module _ (graph : List (Option ℕ)) where
   may_grow seen path i (Some (Round turns)) graph_is few is behind = tt
   may_grow seen path i (Some Aside) graph_is few is behind = tt
 
-  -- a settled node is what comes after the one before it
-  pub behind_decided : (seen : List Seen) (path : List ℕ) (i : ℕ) (orbit : Orbit) → IsFollowed graph seen (path ++ i ∷ []) →
+  -- a decided node is what comes after the one before it
+  pub behind_decided : (seen : List Seen) (path : List ℕ) (i : ℕ) (orbit : Orbit) →
+      IsFollowed graph seen (path ++ i ∷ []) →
       IsBehind graph (set seen i (Known orbit)) path (Some orbit)
   behind_decided seen path i orbit is =
       let l = length_push path i in

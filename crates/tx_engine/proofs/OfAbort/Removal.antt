@@ -22,33 +22,41 @@ pub current_pins : (n : IndexState) (pins : List ℕ) (page : ℕ) → current_o
 unfolding current_of
 current_pins n pins page = refl
 
-pub pages_by : (all : List TransactionState) → pending_pages (map (λ o. o.entry) all) ≡ sum_by (λ o. length o.entry.writes) all
+pub pages_by : (all : List TransactionState) → pending_pages (map (λ o. o.entry) all)
+    ≡ sum_by (λ o. length o.entry.writes) all
 pages_by all =
     sym (sum-map (λ (e : Entry). length e.writes) (map (λ (o : TransactionState). o.entry) all))
     ∙ ap sum (map_map (λ (o : TransactionState). o.entry) (λ (e : Entry). length e.writes) all)
     ∙ sum-map (λ (o : TransactionState). length o.entry.writes) all
 
-fewer_pages : (all : List TransactionState) (i : ℕ) → i < length all → pending_pages (map (λ o. o.entry) (remove all i)) ≤ pending_pages (map (λ o. o.entry) all)
+fewer_pages : (all : List TransactionState) (i : ℕ) → i < length all →
+    pending_pages (map (λ o. o.entry) (remove all i)) ≤ pending_pages (map (λ o. o.entry) all)
 fewer_pages all i within =
     let f = λ (o : TransactionState). length o.entry.writes in
     let parts = sum_by-append f (take i all) (drop (suc i) all) in
     let whole = sum_by-take-drop f all i in
     let more = sum_by-drop_more f all i no_transaction within in
-    let same : sum_by f (drop (i + 1) all) ≡ sum_by f (drop (suc i) all) = ap (λ k. sum_by f (drop k all)) (add-one i) in
+    let same : sum_by f (drop (i + 1) all) ≡ sum_by f (drop (suc i) all) =
+    ap (λ k. sum_by f (drop k all)) (add-one i) in
     let short = pages_by (remove all i) in
     let long = pages_by all in
     omega (arith, parts, whole, more, same, short, long)
 
-pub kept_without : (s : FlashState) (n : IndexState) (t : BlocksState) (o : OpenTransactionsState) (i : ℕ) (pins : List ℕ) → BlocksInvariant s n t unsure.Nothing o → i < length o.all →
-    ((name : Link) → IsPin pins name ↔ (IsPin n.pins name × All (λ (a : Link). a.page ≢ name.page) (transaction_at o i).naming.names)) →
-    Matches s (repinned n pins) t unsure.Nothing → BlocksInvariant s (repinned n pins) t unsure.Nothing (record o { all = remove o.all i })
+pub kept_without : (s : FlashState) (n : IndexState) (t : BlocksState) (o : OpenTransactionsState) (i : ℕ)
+    (pins : List ℕ) → BlocksInvariant s n t unsure.Nothing o → i < length o.all →
+    ((name : Link) → IsPin pins name ↔ (IsPin n.pins name
+    × All (λ (a : Link). a.page ≢ name.page) (transaction_at o i).naming.names)) →
+    Matches s (repinned n pins) t unsure.Nothing → BlocksInvariant s (repinned n pins) t unsure.Nothing
+    (record o { all = remove o.all i })
 kept_without s n t o i pins k within gone m' = record {
   matches = m';
   each = all_remove (IsTransaction s.image (repinned n pins)) o.all i
       (All-from_get_or (IsTransaction s.image (repinned n pins)) o.all no_transaction
-      (λ j inside. open_aside s.image n pins (transaction_at o j).entry (transaction_at o j).naming (k.each j no_transaction inside)));
+      (λ j inside. open_aside s.image n pins (transaction_at o j).entry (transaction_at o j).naming
+      (k.each j no_transaction inside)));
   doubt = All-map IsCalm (λ (x : TransactionState). x.entry) (remove o.all i)
-      (all_remove (λ (x : TransactionState). IsCalm x.entry) o.all i (All-from_get_or (λ (x : TransactionState). IsCalm x.entry) o.all no_transaction (calm_at o.all k.doubt)));
+      (all_remove (λ (x : TransactionState). IsCalm x.entry) o.all i
+      (All-from_get_or (λ (x : TransactionState). IsCalm x.entry) o.all no_transaction (calm_at o.all k.doubt)));
   tags = all_pairs_remove (λ a b. a.entry.tag ≢ b.entry.tag) o.all i within k.tags;
   apart = all_pairs_remove (λ a b. ShareNoPage a.naming.names b.naming.names) o.all i within k.apart;
   few = let fewer = fewer_pages o.all i within in let few = k.few in omega arith;
@@ -56,11 +64,14 @@ kept_without s n t o i pins k within gone m' = record {
     (λ c.
         let pin = (gone name).0 (pin_of pins name c) in
         let any = (k.pinned name).0 (pin_to n.pins name pin.0) in
-        let here : (get_or o.all any.0 no_transaction) ≡ any.1 = get_or_default o.all any.0 no_transaction any.1 any.2 ∙ any.3 in
-        let has : Contains (get_or o.all any.0 no_transaction).naming.names name = subst (λ (x : TransactionState). Contains x.naming.names name) (sym here) any.4 in
+        let here : (get_or o.all any.0 no_transaction) ≡ any.1 = get_or_default o.all any.0 no_transaction any.1 any.2
+        ∙ any.3 in
+        let has : Contains (get_or o.all any.0 no_transaction).naming.names name =
+        subst (λ (x : TransactionState). Contains x.naming.names name) (sym here) any.4 in
         any_beside (λ x. Contains x.naming.names name) o.all i any.0 no_transaction within any.2
         (λ same.
-        let own : Contains (transaction_at o i).naming.names name = subst (λ j. Contains (get_or o.all j no_transaction).naming.names name) same has in
+        let own : Contains (transaction_at o i).naming.names name =
+        subst (λ j. Contains (get_or o.all j no_transaction).naming.names name) same has in
         pin.1 own.0 name own.1 (ap (λ (a : Link). a.page) own.2))
         has),
     (λ a.
@@ -69,15 +80,23 @@ kept_without s n t o i pins k within gone m' = record {
         let share = apart_at o.all i beside.0 k.apart within beside.1 beside.2 in
         pin_to pins name ((gone name).1 (
           pin_of n.pins name
-              ((k.pinned name).1 (beside.0, transaction_at o beside.0, beside.1, get_or_default o.all beside.0 (transaction_at o beside.0) no_transaction beside.1, c)),
+              ((k.pinned name).1 (
+                beside.0,
+                transaction_at o beside.0,
+                beside.1,
+                get_or_default o.all beside.0 (transaction_at o beside.0) no_transaction beside.1,
+                c,
+              )),
           λ j d inside same. share j d inside c.0 name c.1 (same ∙ ap (λ (b : Link). b.page) (sym c.2)),
         ))),
   );
 }
 
 -- the tables match with fewer pins
-pub matches_pins : (s : FlashState) (n : IndexState) (t : BlocksState) (pins : List ℕ) → Matches s n t unsure.Nothing → length pins ≡ length n.pins →
-    ((name : Link) → Contains (pinned_names pins) name → Contains (pinned_names n.pins) name) → Matches s (repinned n pins) t unsure.Nothing
+pub matches_pins : (s : FlashState) (n : IndexState) (t : BlocksState) (pins : List ℕ) → Matches s n t unsure.Nothing →
+    length pins ≡ length n.pins →
+    ((name : Link) → Contains (pinned_names pins) name → Contains (pinned_names n.pins) name) →
+    Matches s (repinned n pins) t unsure.Nothing
 matches_pins s n t pins m long fewer = record {
   shape = m.shape;
   flash = m.flash;
@@ -102,34 +121,46 @@ matches_pins s n t pins m long fewer = record {
   place = tt;
   spared = λ k d h w.
       let f = get_or (found_in n.notes) k d in
-      m.spared k d h (elim (wanted_cases n.config.protocol (found_in n.notes) n.config.logical (pinned_names pins) f.rec w) [
-        | inl current ↦ counted_wanted n.config.protocol (found_in n.notes) n.config.logical (pinned_names n.pins) f.rec (inl current)
-        | inr (inl held) ↦ counted_wanted n.config.protocol (found_in n.notes) n.config.logical (pinned_names n.pins) f.rec (inr held)
-        | inr (inr pin) ↦ pinned_wanted n.config.protocol (found_in n.notes) n.config.logical (pinned_names n.pins) f.rec (fewer (name_of f.rec) pin)
+      m.spared k d h (elim (wanted_cases n.config.protocol (found_in n.notes) n.config.logical
+      (pinned_names pins) f.rec w) [
+        | inl current ↦ counted_wanted n.config.protocol (found_in n.notes) n.config.logical (pinned_names n.pins)
+            f.rec (inl current)
+        | inr (inl held) ↦ counted_wanted n.config.protocol (found_in n.notes) n.config.logical (pinned_names n.pins)
+            f.rec (inr held)
+        | inr (inr pin) ↦ pinned_wanted n.config.protocol (found_in n.notes) n.config.logical (pinned_names n.pins)
+            f.rec (fewer (name_of f.rec) pin)
       ]);
   victim = tt;
   free = m.free;
 }
 
 -- one pin after others
-pub pins_then : {F : Type 0} (first old new : StoreState F) (page : ℕ) → old ≡ record first { noted = record first.noted { pins = old.noted.pins } } →
-    new ≡ record old { noted = unpinned old.noted page } → new ≡ record first { noted = record first.noted { pins = new.noted.pins } }
+pub pins_then : {F : Type 0} (first old new : StoreState F) (page : ℕ) →
+    old ≡ record first { noted = record first.noted { pins = old.noted.pins } } →
+    new ≡ record old { noted = unpinned old.noted page } →
+    new ≡ record first { noted = record first.noted { pins = new.noted.pins } }
 pins_then first old new page before after =
     after ∙ ap (λ (s : StoreState _). record s { noted = unpinned s.noted page }) before
-    ∙ ap (λ pins. record first { noted = record first.noted { pins = pins } }) (sym (ap (λ (s : StoreState _). s.noted.pins) after))
+    ∙ ap (λ pins. record first { noted = record first.noted { pins = pins } })
+    (sym (ap (λ (s : StoreState _). s.noted.pins) after))
 
-module _ {F : Type 0} (state : F → FlashState) (S : StoreState F) (O : OpenTransactionsState) (h : Stands state (device_in state S O)) where
+module _ {F : Type 0} (state : F → FlashState) (S : StoreState F) (O : OpenTransactionsState)
+    (h : Stands state (device_in state S O)) where
   kept : BlocksInvariant (state S.flash) S.noted S.table S.unsure O
   kept = from_stands state S O h
 
   -- the names of an open transaction are of pages, and it has as many as it writes
-  pub names_low : (i : ℕ) → i < length O.all → All (λ (a : Link). a.page < S.noted.config.logical) (transaction_at O i).naming.names
+  pub names_low : (i : ℕ) → i < length O.all → All (λ (a : Link). a.page < S.noted.config.logical)
+      (transaction_at O i).naming.names
   names_low i within k d inside = ((kept.each i no_transaction within).named.transaction.in_range k d inside).0
 
-  pub names_long : (i : ℕ) → i < length O.all → length (transaction_at O i).naming.names ≡ length (transaction_at O i).entry.writes
-  names_long i within = as_many_names (transaction_at O i).naming.names (transaction_at O i).entry.writes (kept.each i no_transaction within).named.pages
+  pub names_long : (i : ℕ) → i < length O.all → length (transaction_at O i).naming.names
+      ≡ length (transaction_at O i).entry.writes
+  names_long i within = as_many_names (transaction_at O i).naming.names (transaction_at O i).entry.writes
+      (kept.each i no_transaction within).named.pages
 
-  pub closed_stands : (i : ℕ) → i < length O.all → S.unsure ≡ unsure.Nothing → (S' : StoreState F) (O' : OpenTransactionsState) →
+  pub closed_stands : (i : ℕ) → i < length O.all → S.unsure ≡ unsure.Nothing →
+      (S' : StoreState F) (O' : OpenTransactionsState) →
       S' ≡ record S { noted = record S.noted { pins = S'.noted.pins } } → length S'.noted.pins ≡ length S.noted.pins →
       ((name : Link) →
       Contains (pinned_names S'.noted.pins) name ↔ (Contains (pinned_names S.noted.pins) name
@@ -147,4 +178,5 @@ module _ {F : Type 0} (state : F → FlashState) (S : StoreState F) (O : OpenTra
       subst (λ (T : StoreState F). Stands state (device_in state T O')) (sym same)
       (subst (λ o. Stands state (device_in state (record S { noted = record S.noted { pins = pins } }) o)) (sym opens)
       (to_stands state (record S { noted = record S.noted { pins = pins } }) (record O { all = remove O.all i })
-      (subst (λ u. BlocksInvariant (state S.flash) (repinned S.noted pins) S.table u (record O { all = remove O.all i })) (sym sure) after)))
+      (subst (λ u. BlocksInvariant (state S.flash) (repinned S.noted pins) S.table u
+      (record O { all = remove O.all i })) (sym sure) after)))

@@ -4,17 +4,20 @@ use Rattle.std.proofs.lemmas.List.FromFn.{length-map-range_with_len, get_or-map-
 use Rattle.list_lemmas.proofs.Ranges.{same_range}
 
 -- what an array has at a page
-pub at_page : {X : Type 0} (f : ℕ → X) (n page : ℕ) (d : X) → page < n → get_or (map f (range_with_len 0 n)) page d ≡ f page
+pub at_page : {X : Type 0} (f : ℕ → X) (n page : ℕ) (d : X) → page < n →
+    get_or (map f (range_with_len 0 n)) page d ≡ f page
 at_page f n page d within = get_or-map-range_with_len f 0 n page page d within (omega arith)
 
 -- a function with another value at one page
 abbrev with_page : {X : Type 0} → (ℕ → X) → ℕ → X → ℕ → X
 with_page f at v page = cond (page == at) v (f page)
 
-set_page : {X : Type 0} (f : ℕ → X) (n at : ℕ) (v : X) → set (map f (range_with_len 0 n)) at v ≡ map (with_page f at v) (range_with_len 0 n)
+set_page : {X : Type 0} (f : ℕ → X) (n at : ℕ) (v : X) → set (map f (range_with_len 0 n)) at v
+    ≡ map (with_page f at v) (range_with_len 0 n)
 set_page f n at v =
     let long = length-map-range_with_len f 0 n in
-    fill_by_all (with_page f at v) (set (map f (range_with_len 0 n)) at v) n v (length-set (map f (range_with_len 0 n)) at v ∙ long)
+    fill_by_all (with_page f at v) (set (map f (range_with_len 0 n)) at v) n v
+    (length-set (map f (range_with_len 0 n)) at v ∙ long)
     (λ k within. elim (cases_eq k at) [
       | inl same ↦ (
           let inside : at < length (map f (range_with_len 0 n)) = omega arith in
@@ -27,36 +30,43 @@ set_page f n at v =
           ∙ sym (cond-false (k == at) v (f k) (ne_eqb k at other))
     ])
 
--- The array takes the writes, where it has the bytes of each write at its page then, and at all other pages what it had.
+-- The array takes the writes, where it has the bytes of each write at its page then, and at all other pages what it
+-- had.
 pub put_is : (ws : List PageWrite) (old new : ℕ → Option (List ℕ)) (n : ℕ) →
     All (λ w. new w.page ≡ w.value) ws →
     ((page : ℕ) → page < n → All (λ w. w.page ≢ page) ws → new page ≡ old page) →
     map new (range_with_len 0 n) ≡ put (map old (range_with_len 0 n)) ws
-put_is [] old new n takes stays = same_range new old n (λ page within. stays page within (λ k d less. absurd (omega arith)))
+put_is [] old new n takes stays = same_range new old n
+    (λ page within. stays page within (λ k d less. absurd (omega arith)))
 put_is (w ∷ ws) old new n takes stays =
     put_is ws (with_page old w.page w.value) new n (All-tail (λ w. new w.page ≡ w.value) w ws takes)
     (λ page within others. elim (cases_eq page w.page) [
-      | inl same ↦ ap new same ∙ All-head (λ w. new w.page ≡ w.value) w ws takes ∙ sym (cond-true (page == w.page) w.value (old page) (eq-eqb page w.page same))
+      | inl same ↦ ap new same ∙ All-head (λ w. new w.page ≡ w.value) w ws takes
+          ∙ sym (cond-true (page == w.page) w.value (old page) (eq-eqb page w.page same))
       | inr other ↦ stays page within (All-cons (λ w. w.page ≢ page) w ws (λ e. other (sym e)) others)
           ∙ sym (cond-false (page == w.page) w.value (old page) (ne_eqb page w.page other))
     ])
     ∙ ap (λ pages. put pages ws) (sym (set_page old n w.page w.value))
 
 -- Names and writes of the same pages, place by place
-pub page_of_name : (names : List Link) (ws : List PageWrite) (k : ℕ) → map (λ (name : Link). name.page) names ≡ map (λ (w : PageWrite). w.page) ws →
+pub page_of_name : (names : List Link) (ws : List PageWrite) (k : ℕ) →
+    map (λ (name : Link). name.page) names ≡ map (λ (w : PageWrite). w.page) ws →
     k < length names →
     (get_or names k no_name).page ≡ (get_or ws k no_write).page
 page_of_name names ws k pages within =
-    let long : length names ≡ length ws = sym (length-map names (λ (name : Link). name.page)) ∙ ap length pages ∙ length-map ws (λ (w : PageWrite). w.page) in
+    let long : length names ≡ length ws = sym (length-map names (λ (name : Link). name.page)) ∙ ap length pages
+    ∙ length-map ws (λ (w : PageWrite). w.page) in
     sym (get_or-map (λ (name : Link). name.page) names k no_name 0 within)
     ∙ ap (λ ps. get_or ps k 0) pages
     ∙ get_or-map (λ (w : PageWrite). w.page) ws k no_write 0 (omega arith)
 
-pub as_many_names : (names : List Link) (ws : List PageWrite) → map (λ (name : Link). name.page) names ≡ map (λ (w : PageWrite). w.page) ws →
+pub as_many_names : (names : List Link) (ws : List PageWrite) →
+    map (λ (name : Link). name.page) names ≡ map (λ (w : PageWrite). w.page) ws →
     length names ≡ length ws
-as_many_names names ws pages = sym (length-map names (λ (name : Link). name.page)) ∙ ap length pages ∙ length-map ws (λ (w : PageWrite). w.page)
+as_many_names names ws pages = sym (length-map names (λ (name : Link). name.page)) ∙ ap length pages
+    ∙ length-map ws (λ (w : PageWrite). w.page)
 
--- The same where each name of the transaction has the bytes of its write, by place.
+-- An array where each name of the transaction has the bytes of its write, by place.
 pub put_by_names : (names : List Link) (ws : List PageWrite) (old new : ℕ → Option (List ℕ)) (n : ℕ) →
     map (λ (name : Link). name.page) names ≡ map (λ (w : PageWrite). w.page) ws →
     ((k : ℕ) → k < length names → new (get_or names k no_name).page ≡ (get_or ws k no_write).value) →
@@ -68,6 +78,7 @@ put_by_names names ws old new n pages takes stays =
     (All-from_get_or (λ w. new w.page ≡ w.value) ws no_write (λ k within.
     let inside : k < length names = omega arith in
     ap new (sym (page_of_name names ws k pages inside)) ∙ takes k inside))
-    (λ page within others. stays page within (All-from_get_or (λ (name : Link). name.page ≢ page) names no_name (λ k inside same.
+    (λ page within others. stays page within (All-from_get_or (λ (name : Link). name.page ≢ page) names no_name
+    (λ k inside same.
     let also : k < length ws = omega arith in
     others k no_write also (sym (page_of_name names ws k pages inside) ∙ same))))

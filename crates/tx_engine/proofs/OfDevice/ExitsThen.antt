@@ -10,11 +10,18 @@ NamedBefore old new = All (λ x. Any (λ before. before.names ≡ x.names) old) 
 pub before_itself : (xs : List Naming) → NamedBefore xs xs
 before_itself xs k d h = (k, get_or xs k d, h, get_or_default xs k (get_or xs k d) d h, refl)
 
-pub named_before : (old new : List Naming) (page version : ℕ) → NamedBefore old new → IsNamedAt new page version → IsNamedAt old page version
+pub named_before : (old new : List Naming) (page version : ℕ) → NamedBefore old new → IsNamedAt new page version →
+    IsNamedAt old page version
 named_before old new page version before h =
     let was = before h.0 h.1 h.2 in
-    let same : was.1.names ≡ h.1.names = was.4 ∙ ap (λ (x : Naming). x.names) h.3 in
-    (was.0, was.1, was.2, was.3, subst (λ names. Any (λ (name : Link). (name.page ≡ page) × (name.version ≡ version)) names) (sym same) h.4)
+    let same : was.1.names ≡ h.1.names = was.4 ∙ ap (λ (x : Naming). x.names) h.3 in (
+      was.0,
+      was.1,
+      was.2,
+      was.3,
+      subst (λ names. Any (λ (name : Link). (name.page ≡ page) × (name.version ≡ version))
+          names) (sym same) h.4,
+    )
 
 pub before_then : (a b c : List Naming) → NamedBefore a b → NamedBefore b c → NamedBefore a c
 before_then a b c first second k d h =
@@ -24,7 +31,8 @@ before_then a b c first second k d h =
 
 module _ {F : Type 0} (state : F → FlashState) where
   -- Where nothing changed
-  pub exits_still : (s : DeviceState F) (new : F) (broken : Bool) (t : DeviceState F) → s.dropped ≡ false → t ≡ record s { flash = new } →
+  pub exits_still : (s : DeviceState F) (new : F) (broken : Bool) (t : DeviceState F) → s.dropped ≡ false →
+      t ≡ record s { flash = new } →
       FlashMoves (state s.flash) (state new) broken →
       Carries (state s.flash) (state new) broken → Exits state s t broken
   exits_still s new broken t kept same moves carries = subst (λ t. Exits state s t broken) (sym same) (record {
@@ -40,7 +48,8 @@ module _ {F : Type 0} (state : F → FlashState) where
   })
 
   -- one call after another
-  pub tables_then : (a b c : DeviceState F) → a.config ≡ a.noted.config → b.config ≡ b.noted.config → ExitsTables a b → ExitsTables b c → ExitsTables a c
+  pub tables_then : (a b c : DeviceState F) → a.config ≡ a.noted.config → b.config ≡ b.noted.config → ExitsTables a b →
+      ExitsTables b c → ExitsTables a c
   tables_then a b c config config' first second = record {
     config = second.config ∙ first.config;
     versions = λ page within.
@@ -56,14 +65,21 @@ module _ {F : Type 0} (state : F → FlashState) where
           ]
         ];
     mentions = λ page within.
-        let inside : page < b.noted.config.logical = subst (λ (k : Config). page < k.logical) (sym config ∙ sym first.config ∙ config') within in
+        let inside : page < b.noted.config.logical = subst (λ (k : Config). page < k.logical) (sym config
+        ∙ sym first.config ∙ config') within in
         elim (first.mentions page within) [
           | inl still ↦ elim (second.mentions page inside) [
             | inl same ↦ inl (same ∙ still)
-            | inr rose ↦ inr (let up = rose.0 in omega arith, named_before a.namings b.namings page (mention_of c.noted page) first.names rose.1)
+            | inr rose ↦ inr (
+              let up = rose.0 in omega arith,
+              named_before a.namings b.namings page (mention_of c.noted page) first.names rose.1,
+            )
           ]
           | inr first_rose ↦ elim (second.mentions page inside) [
-            | inl same ↦ inr (let up = first_rose.0 in omega arith, subst (IsNamedAt a.namings page) (sym same) first_rose.1)
+            | inl same ↦ inr (
+              let up = first_rose.0 in omega arith,
+              subst (IsNamedAt a.namings page) (sym same) first_rose.1,
+            )
             | inr rose ↦ inr (
               let up = rose.0 in let before = first_rose.0 in omega arith,
               named_before a.namings b.namings page (mention_of c.noted page) first.names rose.1,
@@ -74,11 +90,13 @@ module _ {F : Type 0} (state : F → FlashState) where
     kept = second.kept;
   }
 
-  pub exits_then : (a b c : DeviceState F) (broken : Bool) → a.config ≡ a.noted.config → b.config ≡ b.noted.config → Exits state a b false →
+  pub exits_then : (a b c : DeviceState F) (broken : Bool) → a.config ≡ a.noted.config → b.config ≡ b.noted.config →
+      Exits state a b false →
       Exits state b c broken → Exits state a c broken
   exits_then a b c broken config config' first second = record {
     tables = tables_then a b c config config' first.tables second.tables;
-    moves = FlashMoves-then (state a.flash) (state b.flash) (state c.flash) broken first.carries.shape first.moves second.moves;
+    moves = FlashMoves-then (state a.flash) (state b.flash) (state c.flash) broken first.carries.shape
+        first.moves second.moves;
     carries = Carries-then (state a.flash) (state b.flash) (state c.flash) broken first.carries second.carries;
   }
 
@@ -87,16 +105,20 @@ module _ {F : Type 0} (state : F → FlashState) where
       All (λ w. w.page < a.config.logical) ws → All (λ w. w.page < a.config.logical) vs →
       VersionsTell a b → VersionsTell b c → VersionsRise a b ws → VersionsRise b c vs → VersionsRise a c (ws ++ vs)
   rises_then a b c ws vs config low low' tell tell' first second =
-      let inside : (page : ℕ) → page < a.config.logical → page < b.config.logical = λ page within. subst (λ (k : Config). page < k.logical)
+      let inside : (page : ℕ) → page < a.config.logical → page < b.config.logical =
+      λ page within. subst (λ (k : Config). page < k.logical)
       (sym config) within in
-      let never : (page : ℕ) → page < a.config.logical → current_of b.noted page ≤ current_of c.noted page = λ page within.
+      let never : (page : ℕ) → page < a.config.logical → current_of b.noted page ≤ current_of c.noted page =
+      λ page within.
       elim (tell' page (inside page within)) [ inl rose ↦ omega arith | inr same ↦ omega (arith, same.0) ] in
-      let before : (page : ℕ) → page < a.config.logical → current_of a.noted page ≤ current_of b.noted page = λ page within.
+      let before : (page : ℕ) → page < a.config.logical → current_of a.noted page ≤ current_of b.noted page =
+      λ page within.
       elim (tell page within) [ inl rose ↦ omega arith | inr same ↦ omega (arith, same.0) ] in
       record {
         rises = All-append (λ w. current_of a.noted w.page < current_of c.noted w.page) ws vs
             (λ k d h. let up = first.rises k d h in let more = never (get_or ws k d).page (low k d h) in omega arith)
-            (λ k d h. let up = second.rises k d h in let more = before (get_or vs k d).page (low' k d h) in omega arith);
+            (λ k d h. let up = second.rises k d h in let more = before (get_or vs k d).page (low' k d h) in
+            omega arith);
         stays = λ page within others.
             second.stays page (inside page within) (all_right (λ w. w.page ≢ page) ws vs others)
             ∙ first.stays page within (all_left (λ w. w.page ≢ page) ws vs others);

@@ -9,19 +9,23 @@ use Rattle.collector.proofs.OfImages.KeptArrays.{none_at_zero}
 -- each name that is noted has the text that it had
 abbrev pub KeepsNoted : IndexState → List Contents → List Contents → Type 0
 KeepsNoted n image image' =
-    (name : Link) → IsThere n name → text_at (written_in n.config.protocol image') name ≡ text_at (written_in n.config.protocol image) name
+    (name : Link) → IsThere n name → text_at (written_in n.config.protocol image') name
+    ≡ text_at (written_in n.config.protocol image) name
 
 -- a page without a current version has no record of it, and else the record is noted
-pub current_noted : (n : IndexState) → IsNoted n.config.protocol n → (page : ℕ) → current_of n page ≢ 0 → IsThere n (current_name_of n page)
+pub current_noted : (n : IndexState) → IsNoted n.config.protocol n → (page : ℕ) → current_of n page ≢ 0 →
+    IsThere n (current_name_of n page)
 unfolding current_of
 current_noted n is page some =
     counted_present n.config.protocol (found_in n.notes) n.config.logical
-    (sound_map n.config.protocol (found_in n.notes) n.config.logical is.sound is.scanned) (current_name_of n page) (omega arith) (inl refl)
+    (sound_map n.config.protocol (found_in n.notes) n.config.logical is.sound is.scanned) (current_name_of n page)
+    (omega arith) (inl refl)
 
 module _ (n : IndexState) (image image' : List Contents) (stay : KeepsNoted n image image') where
   pub current_same : IsNoted n.config.protocol n → (page : ℕ) → page_known n image' page ≡ page_known n image page
   current_same is page = ap (option_and_then value_of) (elim (cases_eq (current_of n page) 0) [
-    | inl zero ↦ none_at_zero n.config.protocol image' (current_name_of n page) zero ∙ sym (none_at_zero n.config.protocol image (current_name_of n page) zero)
+    | inl zero ↦ none_at_zero n.config.protocol image' (current_name_of n page)
+        zero ∙ sym (none_at_zero n.config.protocol image (current_name_of n page) zero)
     | inr some ↦ stay (current_name_of n page) (current_noted n is page some)
   ])
 

@@ -3,7 +3,8 @@ use Rattle.tx_engine.proofs.Common.{◌≡◌, Bool, false, sym, ap, ◌∙◌, 
 use Rattle.collector.specs.StoreParts.{IsSure}
 
 -- the store of a settled device is sure
-pub ready_sure : {F : Type 0} (state : F → FlashState) (p : Protocol) (S : StoreState F) (O : OpenTransactionsState) → IsReady state p S O → IsSure p (store_in state S)
+pub ready_sure : {F : Type 0} (state : F → FlashState) (p : Protocol) (S : StoreState F) (O : OpenTransactionsState) →
+    IsReady state p S O → IsSure p (store_in state S)
 ready_sure state p S O h = record { matches = h.stands.matches; rule = h.rule; nothing = h.sure }
 
 pub limits_then : (a b c : OpenTransactionsState) → HasLimitsOf a b → HasLimitsOf b c → HasLimitsOf a c
@@ -14,7 +15,8 @@ limits_then a b c first second = record {
 }
 
 -- after a call in which its store and its open transactions changed it stands, dropped or not
-pub kept_is : {F R : Type 0} (state : F → FlashState) (p : Protocol) (d : Inside F R) (S : StoreState F) (O : OpenTransactionsState) → DeviceInvariant state p d →
+pub kept_is : {F R : Type 0} (state : F → FlashState) (p : Protocol) (d : Inside F R) (S : StoreState F)
+    (O : OpenTransactionsState) → DeviceInvariant state p d →
     Stands state (device_in state S O) → S.noted.config ≡ d.store.noted.config → HasLimitsOf d.transactions O →
     DeviceInvariant state p (record d { store = S; transactions = O })
 kept_is state p d S O h stands config limits = record {
@@ -25,7 +27,8 @@ kept_is state p d S O h stands config limits = record {
   pending = limits.pending ∙ h.pending ∙ ap (λ (k : Config). k.pending) (sym config);
 }
 
-module _ {F R : Type 0} (state : F → FlashState) (d : Inside F R) (s : DeviceState F) (is : device_of state d ≡ s) (kept : s.dropped ≡ false) where
+module _ {F R : Type 0} (state : F → FlashState) (d : Inside F R) (s : DeviceState F) (is : device_of state d ≡ s)
+    (kept : s.dropped ≡ false) where
   pub not_dropped : d.dropped ≡ false
   not_dropped = ap (λ (t : DeviceState F). t.dropped) is ∙ kept
 
@@ -33,11 +36,13 @@ module _ {F R : Type 0} (state : F → FlashState) (d : Inside F R) (s : DeviceS
   as_kept = ap (λ (b : Bool). record (device_in state d.store d.transactions) { dropped = b }) (sym not_dropped) ∙ is
 
   -- what is so of that before and after a call is so of what callers see
-  pub by_kept : (S : StoreState F) (O : OpenTransactionsState) (P : DeviceState F → DeviceState F → Type 0) → P (device_in state d.store d.transactions) (device_in state S O) →
+  pub by_kept : (S : StoreState F) (O : OpenTransactionsState) (P : DeviceState F → DeviceState F → Type 0) →
+      P (device_in state d.store d.transactions) (device_in state S O) →
       P s (device_of state (record d { store = S; transactions = O }))
   by_kept S O P h =
       subst (λ (t : DeviceState F). P t (device_of state (record d { store = S; transactions = O }))) as_kept
-      (subst (λ (b : Bool). P (device_in state d.store d.transactions) (record (device_in state S O) { dropped = b })) (sym not_dropped) h)
+      (subst (λ (b : Bool). P (device_in state d.store d.transactions) (record (device_in state S O) { dropped = b }))
+      (sym not_dropped) h)
 
   pub kept_stands : (p : Protocol) → DeviceInvariant state p d → Stands state (device_in state d.store d.transactions)
   kept_stands p h = h.stands not_dropped

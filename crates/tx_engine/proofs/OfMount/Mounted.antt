@@ -12,8 +12,10 @@ use Rattle.tx_engine.specs.Opens.{StoresOpened, Mounts}
 use Rattle.collector.specs.Laws.{OpenedTablesMatch}
 
 -- the tables of an image that is read match the flash
-pub opened_matches : OpenedTablesMatch → (its : Config) (s s' : FlashState) (n : IndexState) (t : BlocksState) → checked its ≡ Ok s.shape → IsFlash s →
-    IsSoundImage its.protocol its.logical s.shape s.image → IsOpened its s.image n t → s'.shape ≡ s.shape → moment_of s' ≡ moment_of s →
+pub opened_matches : OpenedTablesMatch → (its : Config) (s s' : FlashState) (n : IndexState) (t : BlocksState) →
+    checked its ≡ Ok s.shape → IsFlash s →
+    IsSoundImage its.protocol its.logical s.shape s.image → IsOpened its s.image n t → s'.shape ≡ s.shape →
+    moment_of s' ≡ moment_of s →
     Matches s' n t unsure.Nothing
 opened_matches law its s s' n t check whole sound h shape moment =
     subst (λ k. Matches s' n k unsure.Nothing) (sym h.table_is)
@@ -33,7 +35,8 @@ empty_table config = record {
   all = [];
 }
 
-module _ {F : Type 0} (state : F → FlashState) (p : Protocol) (flash : F) (its : Config) (s : StoreState F) (opened : StoresOpened state flash its s)
+module _ {F : Type 0} (state : F → FlashState) (p : Protocol) (flash : F) (its : Config) (s : StoreState F)
+    (opened : StoresOpened state flash its s)
     (stored : IsStoreState state p s) where
   its_config : s.noted.config ≡ its
   its_config = ap (λ (n : IndexState). n.config) opened.tables.noted_is
@@ -47,7 +50,8 @@ module _ {F : Type 0} (state : F → FlashState) (p : Protocol) (flash : F) (its
     config = refl;
     array = refl;
     each = tt;
-    doubt = subst (λ (u : Unsure). DoubtsAs (state s.flash).image s.noted [] [] u) (sym opened.unsure) (λ k d less. absurd (omega arith));
+    doubt = subst (λ (u : Unsure). DoubtsAs (state s.flash).image s.noted [] [] u) (sym opened.unsure)
+        (λ k d less. absurd (omega arith));
     tags = λ i j d less below. absurd (omega arith);
     apart = λ i j d less below. absurd (omega arith);
     few = omega arith;

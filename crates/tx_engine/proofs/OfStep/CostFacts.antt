@@ -12,7 +12,8 @@ use Rattle.collector.specs.Going.{CostsAtMost, is_going}
 
 -- a record that must go has a block
 going_block : (n : IndexState) (page below : ℕ) (slot : ℕ) → IsNoted n.config.protocol n →
-    first_slot (λ f. must_go n.config.protocol (found_in n.notes) n.config.logical page below f.rec) (found_in n.notes) ≡ Some slot →
+    first_slot (λ f. must_go n.config.protocol (found_in n.notes) n.config.logical page below f.rec) (found_in n.notes)
+    ≡ Some slot →
     blocks_to_go n page below ≡ 0 → ⊥
 unfolding blocks_to_go
 going_block n page below slot is found none =
@@ -23,27 +24,36 @@ going_block n page below slot is found none =
     let block = f.slot.0 / n.config.pages_per_block in
     let blocks = blocks_of (shape_of n.config) in
     let some : 0 < n.config.pages_per_block = (let b = is.bounds.shape.pages_least in omega arith) in
-    let below_all : block < blocks = div_below f.slot.0 n.config.pages_per_block blocks some (omega (arith, noted.0, is.slots)) in
+    let below_all : block < blocks = div_below f.slot.0 n.config.pages_per_block blocks some
+    (omega (arith, noted.0, is.slots)) in
     let going : is_going n page below block ≡ true =
-    any_from (λ (g : Found). (g.slot.0 / n.config.pages_per_block == block) && must_go n.config.protocol (found_in n.notes) n.config.logical page below g.rec)
+    any_from (λ (g : Found). (g.slot.0 / n.config.pages_per_block == block)
+    && must_go n.config.protocol (found_in n.notes) n.config.logical page below g.rec)
     (found_in n.notes) f at.is_in
     (and_from (block == block) (test f) (eq-eqb block block refl) at.passes) in
     let count = λ (x : ℕ). cond (is_going n page below x) 1 0 in
     let long : length (range_with_len 0 blocks) ≡ blocks = length-range_with_len 0 blocks in
     let inside : block < length (range_with_len 0 blocks) = omega arith in
     let one = get_or-le-sum_by count (range_with_len 0 blocks) block 0 inside in
-    let there : get_or (range_with_len 0 blocks) block 0 ≡ block = get_or-range_with_len 0 blocks block 0 below_all ∙ omega arith in
-    let its : count (get_or (range_with_len 0 blocks) block 0) ≡ 1 = ap count there ∙ cond-true (is_going n page below block) 1 0 going in
+    let there : get_or (range_with_len 0 blocks) block 0 ≡ block = get_or-range_with_len 0 blocks block 0 below_all
+    ∙ omega arith in
+    let its : count (get_or (range_with_len 0 blocks) block 0) ≡ 1 = ap count there
+    ∙ cond-true (is_going n page below block) 1 0 going in
     absurd (omega (arith, one, its, none))
 
 -- where no block is to go none is found
-pub none_to_go : (n : IndexState) (page below : ℕ) → IsNoted n.config.protocol n → blocks_to_go n page below ≡ 0 → block_to_go n page below ≡ None
+pub none_to_go : (n : IndexState) (page below : ℕ) → IsNoted n.config.protocol n → blocks_to_go n page below ≡ 0 →
+    block_to_go n page below ≡ None
 unfolding block_to_go
-none_to_go n page below is none = go (first_slot (λ f. must_go n.config.protocol (found_in n.notes) n.config.logical page below f.rec) (found_in n.notes)) refl
+none_to_go n page below is none =
+    go (first_slot (λ f. must_go n.config.protocol (found_in n.notes) n.config.logical page below f.rec)
+    (found_in n.notes)) refl
   where
-    go : (o : Option ℕ) → first_slot (λ f. must_go n.config.protocol (found_in n.notes) n.config.logical page below f.rec) (found_in n.notes) ≡ o →
+    go : (o : Option ℕ) → first_slot (λ f. must_go n.config.protocol (found_in n.notes) n.config.logical page below
+        f.rec) (found_in n.notes) ≡ o →
         option_map (λ slot. slot / n.config.pages_per_block)
-        (first_slot (λ f. must_go n.config.protocol (found_in n.notes) n.config.logical page below f.rec) (found_in n.notes)) ≡ None
+        (first_slot (λ f. must_go n.config.protocol (found_in n.notes) n.config.logical page below f.rec)
+        (found_in n.notes)) ≡ None
     go None h = ap (option_map (λ slot. slot / n.config.pages_per_block)) h
     go (Some slot) h = absurd (going_block n page below slot is h none)
 
@@ -53,7 +63,8 @@ some_more a b q = omega arith
 one_more : (a b q x y : ℕ) → x ≤ a + b * q → y ≤ x + 1 * q → y + 1 ≤ a + (b + 1) * q + 1
 one_more a b q x y h k = omega (arith, h, k)
 
-module _ {F : Type 0} (state : F → FlashState) (S S1 S2 S3 : StoreState F) (O O' : OpenTransactionsState) (name : Link) (noted : IsNoted S.noted.config.protocol S.noted) where
+module _ {F : Type 0} (state : F → FlashState) (S S1 S2 S3 : StoreState F) (O O' : OpenTransactionsState) (name : Link)
+    (noted : IsNoted S.noted.config.protocol S.noted) where
   abbrev b : ℕ
   b = blocks_to_go S.noted name.page name.version
 
@@ -62,7 +73,8 @@ module _ {F : Type 0} (state : F → FlashState) (S S1 S2 S3 : StoreState F) (O 
 
   -- clearing failed
   pub costs_clear : CostsAtMost pages b (state S.flash) (state S1.flash) → (broken : Bool) → broken ≡ true →
-      (block_to_go S.noted name.page name.version ≡ None → (broken ≡ false) × (S1 ≡ S)) → StepCosts state (device_in state S O) (device_in state S1 O') name
+      (block_to_go S.noted name.page name.version ≡ None → (broken ≡ false) × (S1 ≡ S)) →
+      StepCosts state (device_in state S O) (device_in state S1 O') name
   costs_clear first broken is idle = record {
     programs = let more = some_more (state S.flash).programs b (pages - 1) in let f = first.programs in omega arith;
     erases = let f = first.erases in omega arith;
@@ -80,12 +92,14 @@ module _ {F : Type 0} (state : F → FlashState) (S S1 S2 S3 : StoreState F) (O 
         ((IsFull S1.table → ⊥) → (broken ≡ false) × (S2.flash ≡ S1.flash)) →
         StepCosts state (device_in state S O) (device_in state S2 O') name
     costs_slot broken is idle direct = record {
-      programs = let more = one_more (state S.flash).programs b (pages - 1) (state S1.flash).programs (state S2.flash).programs first.programs both.programs in
+      programs = let more = one_more (state S.flash).programs b (pages - 1) (state S1.flash).programs
+          (state S2.flash).programs first.programs both.programs in
           omega arith;
       erases = let f = first.erases in let g = both.erases in omega arith;
       direct = λ none room.
           let same = idle (none_to_go S.noted name.page name.version noted none) in
-          absurd (both_ways broken (direct (λ full. room (subst (λ (T : StoreState F). IsFull T.table) same full))).0 is);
+          absurd (both_ways broken (direct (λ full. room (subst (λ (T : StoreState F). IsFull T.table) same full))).0
+          is);
     }
 
     -- the record was programmed, or its program was broken
@@ -94,7 +108,8 @@ module _ {F : Type 0} (state : F → FlashState) (S S1 S2 S3 : StoreState F) (O 
         (state S3.flash).programs ≤ (state S2.flash).programs + 1 → (state S3.flash).erases ≡ (state S2.flash).erases →
         StepCosts state (device_in state S O) (device_in state S3 O') name
     costs_all idle broken direct programs erases = record {
-      programs = let more = one_more (state S.flash).programs b (pages - 1) (state S1.flash).programs (state S2.flash).programs first.programs both.programs in
+      programs = let more = one_more (state S.flash).programs b (pages - 1) (state S1.flash).programs
+          (state S2.flash).programs first.programs both.programs in
           omega arith;
       erases = let f = first.erases in let g = both.erases in omega arith;
       direct = λ none room.
@@ -107,7 +122,8 @@ module _ {F : Type 0} (state : F → FlashState) (S S1 S2 S3 : StoreState F) (O 
     }
 
 -- on the same flash
-pub costs_flash : {F : Type 0} (state : F → FlashState) (a b c : DeviceState F) (name : Link) → c.flash ≡ b.flash → StepCosts state a b name →
+pub costs_flash : {F : Type 0} (state : F → FlashState) (a b c : DeviceState F) (name : Link) → c.flash ≡ b.flash →
+    StepCosts state a b name →
     StepCosts state a c name
 costs_flash state a b c name same h =
     let flash : state c.flash ≡ state b.flash = ap state same in
@@ -120,7 +136,8 @@ costs_flash state a b c name same h =
     }
 
 -- where nothing was programmed or erased
-pub costs_still : {F : Type 0} (state : F → FlashState) (a c : DeviceState F) (name : Link) → moment_of (state c.flash) ≡ moment_of (state a.flash) →
+pub costs_still : {F : Type 0} (state : F → FlashState) (a c : DeviceState F) (name : Link) →
+    moment_of (state c.flash) ≡ moment_of (state a.flash) →
     StepCosts state a c name
 costs_still state a c name same =
     let p = ap (λ (m : Moment). m.programs) same in
@@ -132,7 +149,8 @@ costs_still state a c name same =
     }
 
 -- from a device with the same tables and the same moment
-pub costs_from : {F : Type 0} (state : F → FlashState) (a b c : DeviceState F) (name : Link) → moment_of (state b.flash) ≡ moment_of (state a.flash) →
+pub costs_from : {F : Type 0} (state : F → FlashState) (a b c : DeviceState F) (name : Link) →
+    moment_of (state b.flash) ≡ moment_of (state a.flash) →
     b.config ≡ a.config →
     b.noted ≡ a.noted → b.table ≡ a.table → StepCosts state b c name → StepCosts state a c name
 costs_from state a b c name moment config noted table h =
@@ -140,14 +158,20 @@ costs_from state a b c name moment config noted table h =
     let e = ap (λ (m : Moment). m.erases) moment in
     record {
       programs = subst (λ (n : IndexState).
-          (state c.flash).programs ≤ (state a.flash).programs + (blocks_to_go n name.page name.version + 1) * (a.config.pages_per_block - 1) + 1) noted
+          (state c.flash).programs ≤ (state a.flash).programs + (blocks_to_go n name.page name.version + 1)
+          * (a.config.pages_per_block - 1) + 1) noted
           (subst (λ (k : Config).
-          (state c.flash).programs ≤ (state a.flash).programs + (blocks_to_go b.noted name.page name.version + 1) * (k.pages_per_block - 1) + 1) config
-          (subst (λ (q : ℕ). (state c.flash).programs ≤ q + (blocks_to_go b.noted name.page name.version + 1) * (b.config.pages_per_block - 1) + 1) p
+          (state c.flash).programs ≤ (state a.flash).programs + (blocks_to_go b.noted name.page name.version + 1)
+          * (k.pages_per_block - 1) + 1) config
+          (subst (λ (q : ℕ). (state c.flash).programs ≤ q + (blocks_to_go b.noted name.page name.version + 1)
+          * (b.config.pages_per_block - 1) + 1) p
           h.programs));
-      erases = subst (λ (n : IndexState). (state c.flash).erases ≤ (state a.flash).erases + 2 * (blocks_to_go n name.page name.version + 1)) noted
-          (subst (λ (q : ℕ). (state c.flash).erases ≤ q + 2 * (blocks_to_go b.noted name.page name.version + 1)) e h.erases);
+      erases = subst (λ (n : IndexState). (state c.flash).erases ≤ (state a.flash).erases + 2
+          * (blocks_to_go n name.page name.version + 1)) noted
+          (subst (λ (q : ℕ). (state c.flash).erases ≤ q + 2 * (blocks_to_go b.noted name.page name.version + 1)) e
+          h.erases);
       direct = λ none room.
-          let d = h.direct (subst (λ (n : IndexState). blocks_to_go n name.page name.version ≡ 0) (sym noted) none) (λ full. room (subst IsFull table full)) in
+          let d = h.direct (subst (λ (n : IndexState). blocks_to_go n name.page name.version ≡ 0) (sym noted) none)
+          (λ full. room (subst IsFull table full)) in
           (subst (λ (q : ℕ). (state c.flash).programs ≤ q + 1) p d.0, d.1 ∙ e);
     }

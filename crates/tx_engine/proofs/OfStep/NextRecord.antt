@@ -26,19 +26,23 @@ use Rattle.tx_engine.proofs.OfAbort.Removal.{pages_by}
 use Rattle.tx_engine.proofs.OfSettle.SettledLists.{calm_at}
 
 -- where no block is to go, no record must
-pub nothing_goes : (n : IndexState) (rec : Rec) → block_to_go n rec.page rec.version ≡ None → NothingMustGo n.config.protocol (found_in n.notes) n.config.logical rec
+pub nothing_goes : (n : IndexState) (rec : Rec) → block_to_go n rec.page rec.version ≡ None →
+    NothingMustGo n.config.protocol (found_in n.notes) n.config.logical rec
 unfolding block_to_go
 nothing_goes n rec h =
-    let test = λ (f : Found). must_go n.config.protocol (found_in n.notes) n.config.logical rec.page rec.version f.rec in
+    let test = λ (f : Found). must_go n.config.protocol (found_in n.notes) n.config.logical rec.page
+    rec.version f.rec in
     all_from (λ f. test f ≡ false) (found_in n.notes)
-    (none_found test (found_in n.notes) (map_none (λ (f : Found). f.slot.0) (find test (found_in n.notes)) (map_none _ _ h)))
+    (none_found test (found_in n.notes) (map_none (λ (f : Found). f.slot.0) (find test (found_in n.notes))
+    (map_none _ _ h)))
 
 -- the current version of its page is below an absent name of a transaction in progress
 pub current_below : (n : IndexState) → IsNoted n.config.protocol n → (names : List Link) (name : Link) →
     InProgress n.config.protocol (found_in n.notes) n.config.logical names →
     Contains names name → is_present (found_in n.notes) name ≡ false → current_of n name.page < name.version
 current_below n is names name going own absent =
-    let range = All-contains (λ (a : Link). (a.page < n.config.logical) × (1 ≤ a.version) × (a.version ≤ 2 ^ 62)) names name going.begun.transaction.in_range
+    let range = All-contains (λ (a : Link). (a.page < n.config.logical) × (1 ≤ a.version) × (a.version ≤ 2 ^ 62)) names
+    name going.begun.transaction.in_range
     own in
     elim (cases_eq (current_of n name.page) 0) [
       | inl none ↦ omega (arith, range.1)
@@ -50,14 +54,18 @@ current_below n is names name going own absent =
             | inl also ↦ (
                 elim (cases_eq also.0 own.0) [
                   | inl same ↦ (
-                      let is_name : q ≡ name = sym also.2 ∙ get_or_default names also.0 q name also.1 ∙ ap (λ k. get_or names k name) same ∙ own.2 in
-                      absurd (both_ways (is_present (found_in n.notes) name) absent (subst (λ a. is_present (found_in n.notes) a ≡ true) is_name there)))
-                  | inr other ↦ absurd (apart_pages names also.0 own.0 going.begun.transaction.distinct also.1 own.1 other
+                      let is_name : q ≡ name = sym also.2 ∙ get_or_default names also.0 q name also.1
+                      ∙ ap (λ k. get_or names k name) same ∙ own.2 in
+                      absurd (both_ways (is_present (found_in n.notes) name) absent
+                      (subst (λ a. is_present (found_in n.notes) a ≡ true) is_name there)))
+                  | inr other ↦ absurd (apart_pages names also.0 own.0 going.begun.transaction.distinct
+                      also.1 own.1 other
                       (ap (λ (a : Link). a.page) (get_or_default names also.0 no_name q also.1 ∙ also.2)
                       ∙ ap (λ (a : Link). a.page) (sym (get_or_default names own.0 no_name name own.1 ∙ own.2))))
                 ])
             | inr foreign ↦ (
-                let below = All-contains (λ (g : Found). (Contains names (name_of g.rec) → ⊥) → All (λ (a : Link). mention_at a.page g.rec < a.version) names)
+                let below = All-contains (λ (g : Found). (Contains names (name_of g.rec) → ⊥) →
+                All (λ (a : Link). mention_at a.page g.rec < a.version) names)
                 (found_in n.notes) f.0 going.begun.others f.1
                 (λ c. foreign (subst (Contains names) f.2 c)) in
                 let less = All-contains (λ (a : Link). mention_at a.page f.0.rec < a.version) names name below own in
@@ -73,13 +81,15 @@ is_back : (n : IndexState) (p : Protocol) (rec : Rec) → n.config.protocol ≡ 
 unfolding current_of
 is_back n Scc rec is back below = back ∙ ap (λ q. back_version q (found_in n.notes) n.config.logical rec.page) is
 is_back n Bpcc rec is back below =
-    let now : cur n.config.protocol (found_in n.notes) n.config.logical rec.page ≡ cur Bpcc (found_in n.notes) n.config.logical rec.page =
+    let now : cur n.config.protocol (found_in n.notes) n.config.logical rec.page
+    ≡ cur Bpcc (found_in n.notes) n.config.logical rec.page =
     ap (λ q. cur q (found_in n.notes) n.config.logical rec.page) is in
     let its : rec.back ≡ cur Bpcc (found_in n.notes) n.config.logical rec.page = back
     ∙ ap (λ q. back_version q (found_in n.notes) n.config.logical rec.page) is in
     omega (arith, below, now, its)
 
-in_flat : (all : List TransactionState) (name : Link) → Any (λ o. Contains o.naming.names name) all → Contains (flat_map (λ o. o.naming.names) all) name
+in_flat : (all : List TransactionState) (name : Link) → Any (λ o. Contains o.naming.names name) all →
+    Contains (flat_map (λ o. o.naming.names) all) name
 in_flat all name any =
     let c = any.4 in
     let its = get_or all any.0 no_transaction in
@@ -87,21 +97,27 @@ in_flat all name any =
     (sym (get_or_default all any.0 no_transaction any.1 any.2 ∙ any.3)) c in
     go all any.0 any.2 own
   where
-    go : (os : List TransactionState) (j : ℕ) → j < length os → Contains (get_or os j no_transaction).naming.names name → Contains (flat_map (λ o. o.naming.names) os) name
+    go : (os : List TransactionState) (j : ℕ) → j < length os →
+        Contains (get_or os j no_transaction).naming.names name → Contains (flat_map (λ o. o.naming.names) os) name
     go [] j h i = absurd (omega arith)
     go (o ∷ os) zero h i = Contains-append_left o.naming.names (flat_map (λ o. o.naming.names) os) name i
-    go (o ∷ os) (suc j) h i = Contains-append_right o.naming.names (flat_map (λ o. o.naming.names) os) name (go os j (omega arith) i)
+    go (o ∷ os) (suc j) h i = Contains-append_right o.naming.names (flat_map (λ o. o.naming.names) os) name
+        (go os j (omega arith) i)
 
-sum_same : (all : List TransactionState) (f g : TransactionState → ℕ) → ((j : ℕ) → j < length all → f (get_or all j no_transaction) ≡ g (get_or all j no_transaction)) →
+sum_same : (all : List TransactionState) (f g : TransactionState → ℕ) →
+    ((j : ℕ) → j < length all → f (get_or all j no_transaction) ≡ g (get_or all j no_transaction)) →
     sum_by f all ≡ sum_by g all
 sum_same all f g h = sym (sum-map f all) ∙ ap sum (same all h) ∙ sum-map g all
   where
-    same : (os : List TransactionState) → ((j : ℕ) → j < length os → f (get_or os j no_transaction) ≡ g (get_or os j no_transaction)) → map f os ≡ map g os
+    same : (os : List TransactionState) → ((j : ℕ) → j < length os →
+        f (get_or os j no_transaction) ≡ g (get_or os j no_transaction)) → map f os ≡ map g os
     same [] k = refl
     same (o ∷ os) k = ap₂ (λ y ys. y ∷ ys) (k 0 (omega arith)) (same os (λ j inside. k (suc j) (omega arith)))
 
-module _ (s : FlashState) (n : IndexState) (t : BlocksState) (o : OpenTransactionsState) (i : ℕ) (k : BlocksInvariant s n t unsure.Nothing o) (within : i < length o.all)
-    (plain : (transaction_at o i).entry.mark ≡ Plain) (due : (transaction_at o i).naming.noted_count ≡ (transaction_at o i).entry.done) where
+module _ (s : FlashState) (n : IndexState) (t : BlocksState) (o : OpenTransactionsState) (i : ℕ)
+    (k : BlocksInvariant s n t unsure.Nothing o) (within : i < length o.all)
+    (plain : (transaction_at o i).entry.mark ≡ Plain)
+    (due : (transaction_at o i).naming.noted_count ≡ (transaction_at o i).entry.done) where
   abbrev e : Entry
   e = (transaction_at o i).entry
 
@@ -134,16 +150,20 @@ module _ (s : FlashState) (n : IndexState) (t : BlocksState) (o : OpenTransactio
       (sym (get_or_default o.all any.0 no_transaction any.1 any.2 ∙ any.3)) any.4 in
       elim (cases_eq any.0 i) [
         | inl same ↦ inr (inl (subst (λ j. Contains (get_or o.all j no_transaction).naming.names q) same own))
-        | inr other ↦ by_mark its.entry.mark its own (apart_at o.all i any.0 k.apart within any.2 other) (k.each any.0 no_transaction any.2).marked
+        | inr other ↦ by_mark its.entry.mark its own (apart_at o.all i any.0 k.apart within any.2 other)
+            (k.each any.0 no_transaction any.2).marked
             (calm_at o.all k.doubt any.0 any.2)
       ]
     where
-      by_mark : (m : Mark) (y : TransactionState) → Contains y.naming.names q → ShareNoPage x.names y.naming.names → IsAsMarked s.image n y.entry y.naming m →
+      by_mark : (m : Mark) (y : TransactionState) → Contains y.naming.names q → ShareNoPage x.names y.naming.names →
+          IsAsMarked s.image n y.entry y.naming m →
           is_doubted m ≡ false →
           IsPinBeside n x.names q
-      by_mark Plain y own share w calm = inr (inr (record { others = y.naming.names; in_progress = w.in_progress; apart = share; named = own }))
+      by_mark Plain y own share w calm =
+          inr (inr (record { others = y.naming.names; in_progress = w.in_progress; apart = share; named = own }))
       by_mark Doubt y own share w calm = cc
-      by_mark Whole y own share w calm = inl (All-contains (λ (a : Link). current_of n a.page ≡ a.version) y.naming.names q w own)
+      by_mark Whole y own share w calm = inl (All-contains (λ (a : Link). current_of n a.page ≡ a.version)
+          y.naming.names q w own)
 
   few : length (pinned_names n.pins) ≤ n.config.pending
   few =
@@ -151,7 +171,8 @@ module _ (s : FlashState) (n : IndexState) (t : BlocksState) (o : OpenTransactio
       let fewer = few_pinned names n.pins (λ q pin. in_flat o.all q ((k.pinned q).0 (pin_to n.pins q pin))) in
       let long = length-flat_map (λ (y : TransactionState). y.naming.names) o.all in
       let same = sum_same o.all (λ y. length y.naming.names) (λ y. length y.entry.writes) (λ j inside.
-      as_many_names (get_or o.all j no_transaction).naming.names (get_or o.all j no_transaction).entry.writes (k.each j no_transaction inside).named.pages) in
+      as_many_names (get_or o.all j no_transaction).naming.names (get_or o.all j no_transaction).entry.writes
+      (k.each j no_transaction inside).named.pages) in
       let pages = pages_by o.all in
       let most = k.few in
       omega (arith, fewer, long, same, pages, most)
@@ -166,16 +187,20 @@ module _ (s : FlashState) (n : IndexState) (t : BlocksState) (o : OpenTransactio
     few = few;
   }
 
-  module _ (rec : Rec) (own : name_of rec ≡ name) (link : rec.next ≡ name_at x (if e.done + 1 == length e.writes then 0 else e.done + 1))
-      (back : rec.back ≡ back_version n.config.protocol (found_in n.notes) n.config.logical rec.page) (counts : rec.count ≡ length e.writes) where
+  module _ (rec : Rec) (own : name_of rec ≡ name)
+      (link : rec.next ≡ name_at x (if e.done + 1 == length e.writes then 0 else e.done + 1))
+      (back : rec.back ≡ back_version n.config.protocol (found_in n.notes) n.config.logical rec.page)
+      (counts : rec.count ≡ length e.writes) where
     abbrev pub next_record : block_to_go n rec.page rec.version ≡ None → IsNextRecord n rec
     next_record clear = record {
       names = x.names;
       in_progress = due_under.in_progress;
       named = subst (Contains x.names) (sym own) due_has;
       fresh = ap (is_present (found_in n.notes)) own ∙ due_absent;
-      asked = asked_at n.config.protocol (found_in n.notes) n.config.logical x.names e.done rec no_name due_named.transaction due_inside own
-          (link ∙ ap (λ len. name_at x (if e.done + 1 == len then 0 else e.done + 1)) (sym (as_many_names x.names e.writes due_named.pages))
+      asked = asked_at n.config.protocol (found_in n.notes) n.config.logical x.names e.done rec no_name
+          due_named.transaction due_inside own
+          (link ∙ ap (λ len. name_at x (if e.done + 1 == len then 0 else e.done + 1))
+          (sym (as_many_names x.names e.writes due_named.pages))
           ∙ sym (rounded_at x.names e.done no_name due_inside)) back
           (counts ∙ sym (as_many_names x.names e.writes due_named.pages));
       clear = nothing_goes n rec clear;
@@ -185,7 +210,8 @@ module _ (s : FlashState) (n : IndexState) (t : BlocksState) (o : OpenTransactio
     next_take clear = record {
       next = next_record clear;
       outside = λ j d inside here.
-          dispensable_pinned n.config.protocol (found_in n.notes) n.config.logical (pinned_names n.pins) (shape_of n.config) t.spare k.matches.spared
+          dispensable_pinned n.config.protocol (found_in n.notes) n.config.logical (pinned_names n.pins)
+          (shape_of n.config) t.spare k.matches.spared
           (get_or x.names j d)
           (own_pinned s n t unsure.Nothing o k i within j d inside) here;
     }
@@ -194,11 +220,13 @@ module _ (s : FlashState) (n : IndexState) (t : BlocksState) (o : OpenTransactio
     next_can_be_spelled clear =
         let next = next_record clear in
         let bounds = k.matches.noted.bounds in
-        let most : (blocks_of (shape_of n.config) - 1) * n.config.pages_per_block ≤ blocks_of (shape_of n.config) * n.config.pages_per_block =
+        let most : (blocks_of (shape_of n.config) - 1) * n.config.pages_per_block ≤ blocks_of (shape_of n.config)
+        * n.config.pages_per_block =
         mul-le-mul_right n.config.pages_per_block (omega arith) in
         let low : n.config.logical < 2 ^ 32 = omega (arith, bounds.space, bounds.shape.slots_most, most) in
         let spelled = next_spelled n rec next in
-        let range = λ (a : Link) (c : Contains x.names a). All-contains (λ (a : Link). (a.page < n.config.logical) × (1 ≤ a.version) × (a.version ≤ 2 ^ 62))
+        let range = λ (a : Link) (c : Contains x.names a). All-contains (λ (a : Link). (a.page < n.config.logical)
+        × (1 ≤ a.version) × (a.version ≤ 2 ^ 62))
         x.names a due_named.transaction.in_range c in
         let link_has : Contains x.names rec.next = next_has n rec next in
         record {
@@ -208,7 +236,8 @@ module _ (s : FlashState) (n : IndexState) (t : BlocksState) (o : OpenTransactio
           version_most = (range (name_of rec) next.named).2;
           next_version_least = spelled.next_version;
           next_version_most = (range rec.next link_has).2;
-          back = is_back n n.config.protocol rec refl back (current_below n k.matches.noted x.names (name_of rec) due_under.in_progress next.named next.fresh);
+          back = is_back n n.config.protocol rec refl back
+              (current_below n k.matches.noted x.names (name_of rec) due_under.in_progress next.named next.fresh);
           count = omega (arith, counts, as_many_names x.names e.writes due_named.pages, due_named.transaction.few);
           discard = λ none. absurd (let inside = due_named.within in omega (arith, counts));
         }

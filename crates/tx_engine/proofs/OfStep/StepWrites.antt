@@ -13,7 +13,8 @@ abbrev pub KeepsButPins : {F : Type 0} → StoreState F → StoreState F → Typ
 KeepsButPins old new = new ≡ record old { noted = record old.noted { pins = new.noted.pins } }
 
 -- so it has the tables that its settled device has
-pub has_tables : {F : Type 0} (state : F → FlashState) (found : Settlement) (T U : StoreState F) (Q : OpenTransactionsState) → T.noted ≡ found.noted → T.table ≡ found.table →
+pub has_tables : {F : Type 0} (state : F → FlashState) (found : Settlement) (T U : StoreState F)
+    (Q : OpenTransactionsState) → T.noted ≡ found.noted → T.table ≡ found.table →
     KeepsButPins T U →
     HasTables found (device_in state U Q)
 has_tables state found T U Q is_noted is_table stays = record {
@@ -22,8 +23,10 @@ has_tables state found T U Q is_noted is_table stays = record {
 }
 
 module _ {F : Type 0} (state : F → FlashState) (S T : StoreState F) (O P : OpenTransactionsState) (i : ℕ) (there : Bool)
-    (is_noted : T.noted ≡ (settlement_of state (device_in state S O)).noted) (is_table : T.table ≡ (settlement_of state (device_in state S O)).table)
-    (moment : moment_of (state T.flash) ≡ moment_of (state S.flash)) (names : all_names P ≡ all_names O) (within : i < length O.all)
+    (is_noted : T.noted ≡ (settlement_of state (device_in state S O)).noted)
+    (is_table : T.table ≡ (settlement_of state (device_in state S O)).table)
+    (moment : moment_of (state T.flash) ≡ moment_of (state S.flash)) (names : all_names P ≡ all_names O)
+    (within : i < length O.all)
     (entry : (transaction_at P i).entry ≡ settled_entry there (transaction_at O i).entry) where
   abbrev e : Entry
   e = (transaction_at O i).entry
@@ -53,22 +56,28 @@ module _ {F : Type 0} (state : F → FlashState) (S T : StoreState F) (O P : Ope
 
   -- it is there once the device settled
   here_then : IsThere found.noted (name_at x e.done) → IsThere T.noted (name_at y f.done)
-  here_then here = subst (λ (n : IndexState). IsThere n (name_at y f.done)) (sym is_noted) (subst (IsThere found.noted) (sym name_is) here)
+  here_then here = subst (λ (n : IndexState). IsThere n (name_at y f.done)) (sym is_noted)
+      (subst (IsThere found.noted) (sym name_is) here)
 
   here_before : IsThere T.noted (name_at y f.done) → IsThere found.noted (name_at x e.done)
-  here_before here = subst (IsThere found.noted) name_is (subst (λ (n : IndexState). IsThere n (name_at y f.done)) is_noted here)
+  here_before here = subst (IsThere found.noted) name_is (subst (λ (n : IndexState). IsThere n (name_at y f.done))
+      is_noted here)
 
-  pub costs_then : (new : DeviceState F) → T.noted.config ≡ S.noted.config → StepCosts state (device_in state T P) new (name_at y f.done) →
+  pub costs_then : (new : DeviceState F) → T.noted.config ≡ S.noted.config →
+      StepCosts state (device_in state T P) new (name_at y f.done) →
       StepCosts state (with_settlement state (device_in state S O)) new (name_at x e.done)
   costs_then new config h =
-      costs_from state (with_settlement state (device_in state S O)) (device_in state T P) new (name_at x e.done) moment config is_noted is_table
+      costs_from state (with_settlement state (device_in state S O)) (device_in state T P) new (name_at x e.done) moment
+      config is_noted is_table
       (subst (StepCosts state (device_in state T P) new) name_is h)
 
-  pub found_then : (U : StoreState F) → (IsThere T.noted (name_at y f.done) → KeepsButPins T U) → IsThere found.noted (name_at x e.done) →
+  pub found_then : (U : StoreState F) → (IsThere T.noted (name_at y f.done) → KeepsButPins T U) →
+      IsThere found.noted (name_at x e.done) →
       moment_of (state U.flash) ≡ moment_of (state S.flash)
   found_then U stays here = ap (λ (s : StoreState F). moment_of (state s.flash)) (stays (here_then here)) ∙ moment
 
-  pub brings_then : (U : StoreState F) (Q : OpenTransactionsState) → T.noted.config ≡ S.noted.config → (state T.flash).shape ≡ (state S.flash).shape →
+  pub brings_then : (U : StoreState F) (Q : OpenTransactionsState) → T.noted.config ≡ S.noted.config →
+      (state T.flash).shape ≡ (state S.flash).shape →
       (IsThere T.noted (name_at y f.done) → KeepsButPins T U) →
       (state T.flash).reads ≡ reads_after (slots_read S.noted S.unsure) (state S.flash).reads →
       ((IsThere T.noted (name_at y f.done) → ⊥) →
@@ -91,9 +100,12 @@ module _ {F : Type 0} (state : F → FlashState) (S T : StoreState F) (O P : Ope
       WritingBreaks state (device_in state T P) (device_in state U Q) (name_at y f.done) →
       WritingBreaks state (with_settlement state (device_in state S O)) (device_in state U Q) (name_at x e.done)
   breaks_then U Q shape w =
-      breaks_from state (with_settlement state (device_in state S O)) (device_in state T P) (device_in state U Q) (name_at x e.done) moment shape is_noted
+      breaks_from state (with_settlement state (device_in state S O)) (device_in state T P) (device_in state U Q)
+      (name_at x e.done) moment shape is_noted
       is_table
       (subst (WritingBreaks state (device_in state T P) (device_in state U Q)) name_is w)
 
-  pub notes_then : (n' : IndexState) → AddsOnly (name_at y f.done) T.noted n' → AddsOnly (name_at x e.done) found.noted n'
-  notes_then n' adds = subst (λ (a : Link). AddsOnly a found.noted n') name_is (subst (λ (n : IndexState). AddsOnly (name_at y f.done) n n') is_noted adds)
+  pub notes_then : (n' : IndexState) → AddsOnly (name_at y f.done) T.noted n' →
+      AddsOnly (name_at x e.done) found.noted n'
+  notes_then n' adds = subst (λ (a : Link). AddsOnly a found.noted n') name_is
+      (subst (λ (n : IndexState). AddsOnly (name_at y f.done) n n') is_noted adds)

@@ -8,31 +8,38 @@ use Rattle.array_machine.specs.Submit.{Limits, Submits, first_refusals, refusal,
 use Rattle.array_machine.specs.declared.answers.SubmitError.{SubmitError}
 use Rattle.array_machine.proofs.Accepting.{IsAccepted, unspent}
 
-with_pins_push : (names : List Link) (pins : List ℕ) (a : Link) → with_pins pins (names ++ a ∷ []) ≡ set (with_pins pins names) a.page a.version
+with_pins_push : (names : List Link) (pins : List ℕ) (a : Link) →
+    with_pins pins (names ++ a ∷ []) ≡ set (with_pins pins names) a.page a.version
 with_pins_push [] pins a = refl
 with_pins_push (b ∷ rest) pins a = with_pins_push rest (set pins b.page b.version) a
 
 -- the next page of a batch is pinned
-pub pins_more : (n : IndexState) (ws : List PageWrite) (at page version : ℕ) → at < length ws → page ≡ (get_or ws at no_write).page →
+pub pins_more : (n : IndexState) (ws : List PageWrite) (at page version : ℕ) → at < length ws →
+    page ≡ (get_or ws at no_write).page →
     version ≡ mention_of n page + 1 →
-    set (with_pins n.pins (map (next_name n) (take at ws))) page version ≡ with_pins n.pins (map (next_name n) (take (at + 1) ws))
+    set (with_pins n.pins (map (next_name n) (take at ws))) page version
+    ≡ with_pins n.pins (map (next_name n) (take (at + 1) ws))
 pins_more n ws at page version within its next =
     let w = get_or ws at no_write in
-    ap₂ (λ p v. set (with_pins n.pins (map (next_name n) (take at ws))) p v) its (next ∙ ap (λ p. mention_of n p + 1) its)
+    ap₂ (λ p v. set (with_pins n.pins (map (next_name n) (take at ws))) p v) its (next
+    ∙ ap (λ p. mention_of n p + 1) its)
     ∙ sym (with_pins_push (map (next_name n) (take at ws)) n.pins (next_name n w))
     ∙ sym (ap (with_pins n.pins) (map_push (next_name n) (take at ws) w))
     ∙ sym (ap (λ l. with_pins n.pins (map (next_name n) l)) (take_more ws at no_write within))
 
 -- each open transaction has a page
 pub some_each : (image : List Contents) (n : IndexState) (all : List TransactionState) →
-    AllZip (IsOpenAs image n) (map (λ (o : TransactionState). o.entry) all) (map (λ (o : TransactionState). o.naming) all) →
+    AllZip (IsOpenAs image n) (map (λ (o : TransactionState). o.entry) all)
+    (map (λ (o : TransactionState). o.naming) all) →
     All (λ o. 0 < length o.entry.writes) all
 some_each image n [] h = All-nil (λ (o : TransactionState). 0 < length o.entry.writes)
-some_each image n (o ∷ rest) h = All-cons (λ (o : TransactionState). 0 < length o.entry.writes) o rest (let within = h.0.named.within in omega arith)
+some_each image n (o ∷ rest) h = All-cons (λ (o : TransactionState). 0 < length o.entry.writes) o rest
+    (let within = h.0.named.within in omega arith)
     (some_each image n rest h.1)
 
 -- a page that is not spent has a version left
-pub version_left : (mentions : List ℕ) (ws : List PageWrite) → spent_page (is_spent mentions) ws ≡ None → All (λ w. get_or mentions w.page 0 < 2 ^ 62) ws
+pub version_left : (mentions : List ℕ) (ws : List PageWrite) → spent_page (is_spent mentions) ws ≡ None →
+    All (λ w. get_or mentions w.page 0 < 2 ^ 62) ws
 version_left mentions ws h =
     let each = unspent (is_spent mentions) ws h in
     all_from (λ w. get_or mentions w.page 0 < 2 ^ 62) ws (λ w i.
@@ -42,28 +49,34 @@ both : (a b : Option SubmitError) → a ≡ None → b ≡ None → or_else a b 
 both a b h k = ap (λ o. or_else o b) h ∙ k
 
 -- a batch that is not refused is opened
-pub submits : (limits : Limits) (spent : ℕ → Bool) (old new : ArrayState) (tag : ℕ) (ws : List PageWrite) → first_refusals limits old.entries tag ws ≡ None →
+pub submits : (limits : Limits) (spent : ℕ → Bool) (old new : ArrayState) (tag : ℕ) (ws : List PageWrite) →
+    first_refusals limits old.entries tag ws ≡ None →
     spent_page spent ws ≡ None →
     new ≡ record old { entries = old.entries ++ new_entry tag ws ∷ [] } → Submits limits spent old new tag ws (Ok tt)
 submits limits spent old new tag ws first second is =
-    let none : refusal limits spent old.entries tag ws ≡ None = both (first_refusals limits old.entries tag ws) (spent_page spent ws) first second in
+    let none : refusal limits spent old.entries tag ws ≡ None =
+    both (first_refusals limits old.entries tag ws) (spent_page spent ws) first second in
     record {
       answers = ap answer (sym none);
       opens = is ∙ ap (λ o. opened o tag ws old) (sym none);
     }
 
 -- the refusals by the configuration are those of the limits that are kept
-pub not_refused : (config : Config) (logical pending : ℕ) (entries : List Entry) (tag : ℕ) (ws : List PageWrite) (result : Option SubmitError) →
+pub not_refused : (config : Config) (logical pending : ℕ) (entries : List Entry) (tag : ℕ) (ws : List PageWrite)
+    (result : Option SubmitError) →
     logical ≡ config.logical → pending ≡ config.pending →
     result ≡ first_refusals (record { logical = logical; pending = pending }) entries tag ws → result ≡ None →
     first_refusals (limits_of config) entries tag ws ≡ None
 not_refused config logical pending entries tag ws result same limit is none =
-    ap₂ (λ m n. first_refusals (record { logical = m; pending = n }) entries tag ws) (sym same) (sym limit) ∙ sym is ∙ none
+    ap₂ (λ m n. first_refusals (record { logical = m; pending = n }) entries tag ws) (sym same) (sym limit)
+    ∙ sym is ∙ none
 
 -- a batch that is not refused may be opened
-pub can_open : (n : IndexState) (t : OpenTransactionsState) (tag : ℕ) (batch : Writes) → t.page_bytes ≡ n.config.page_bytes → t.logical ≡ n.config.logical →
+pub can_open : (n : IndexState) (t : OpenTransactionsState) (tag : ℕ) (batch : Writes) →
+    t.page_bytes ≡ n.config.page_bytes → t.logical ≡ n.config.logical →
     t.pending ≡ n.config.pending → batch.page_bytes ≡ n.config.page_bytes → All (λ o. 0 < length o.entry.writes) t.all →
-    IsAccepted (limits_of n.config) (entries_of t) tag batch.entries → All (λ w. mention_of n w.page < 2 ^ 62) batch.entries → CanOpen t n batch
+    IsAccepted (limits_of n.config) (entries_of t) tag batch.entries →
+    All (λ w. mention_of n w.page < 2 ^ 62) batch.entries → CanOpen t n batch
 can_open n t tag batch size logical pending same each accepted unspent = record {
   pages = same ∙ sym size;
   some = accepted.some;

@@ -15,22 +15,27 @@ use Rattle.tx_engine.proofs.OfDevice.OtherFlash.{known_at}
 
 -- a text is of a page that is not blank where it does not discard it
 has_value : (list : List Written) (name : Link) →
-    is_some (value_at list name) ≡ (is_present (records_of list) name && not (record_named (records_of list) name).discard)
+    is_some (value_at list name) ≡ (is_present (records_of list) name
+    && not (record_named (records_of list) name).discard)
 has_value [] name = refl
 has_value (w ∷ ws) name = elim (cases_Bool (has_name name w.rec)) [
   | inl here ↦
-      ap (λ o. is_some (option_and_then value_of (option_map text_of o))) (cond-true (has_name name w.rec) (Some w) (find (λ v. has_name name v.rec) ws) here)
+      ap (λ o. is_some (option_and_then value_of (option_map text_of o)))
+      (cond-true (has_name name w.rec) (Some w) (find (λ v. has_name name v.rec) ws) here)
       ∙ some_value w.rec.discard w.bytes
-      ∙ sym (ap₂ (λ (b : Bool) (r : Rec). b && not r.discard) (or_left (has_name name w.rec) (is_present (records_of ws) name) here)
+      ∙ sym (ap₂ (λ (b : Bool) (r : Rec). b && not r.discard)
+      (or_left (has_name name w.rec) (is_present (records_of ws) name) here)
       (cond-true (has_name name w.rec) w.rec (record_named (records_of ws) name) here))
   | inr other ↦
-      ap (λ o. is_some (option_and_then value_of (option_map text_of o))) (cond-false (has_name name w.rec) (Some w) (find (λ v. has_name name v.rec) ws) other)
+      ap (λ o. is_some (option_and_then value_of (option_map text_of o)))
+      (cond-false (has_name name w.rec) (Some w) (find (λ v. has_name name v.rec) ws) other)
       ∙ has_value ws name
       ∙ sym (ap₂ (λ (b : Bool) (r : Rec). b && not r.discard) (ap (λ b. b || is_present (records_of ws) name) other)
       (cond-false (has_name name w.rec) w.rec (record_named (records_of ws) name) other))
 ]
   where
-    some_value : (discard : Bool) (bytes : List ℕ) → is_some (value_of (record { discard = discard; bytes = bytes })) ≡ not discard
+    some_value : (discard : Bool) (bytes : List ℕ) →
+        is_some (value_of (record { discard = discard; bytes = bytes })) ≡ not discard
     some_value true bytes = refl
     some_value false bytes = refl
 
@@ -39,7 +44,8 @@ image_page : (p : Protocol) (logical : ℕ) (image : List Contents) (page : ℕ)
 unfolding array_in
 image_page p logical image page within = at_page (page_at p (written_in p image) logical) logical page None within
 
-module _ (p : Protocol) (s : FlashState) (n : IndexState) (t : BlocksState) (u : Unsure) (m : Matches s n t u) (rule : n.config.protocol ≡ p)
+module _ (p : Protocol) (s : FlashState) (n : IndexState) (t : BlocksState) (u : Unsure) (m : Matches s n t u)
+    (rule : n.config.protocol ≡ p)
     (notes : notes_of p (known_image n t.spare u s.image) ≡ n.notes)
     (array : array_in p n.config.logical (known_image n t.spare u s.image) ≡ array_known n s.image) where
   abbrev known : List Contents
@@ -51,9 +57,11 @@ module _ (p : Protocol) (s : FlashState) (n : IndexState) (t : BlocksState) (u :
   current_known : (page : ℕ) → cur p (records_in p known) n.config.logical page ≡ current_of n page
   unfolding current_of
   current_known page =
-      ap (λ l. cur p l n.config.logical page) same_records ∙ ap (λ q. cur q (found_in n.notes) n.config.logical page) (sym rule)
+      ap (λ l. cur p l n.config.logical page) same_records
+      ∙ ap (λ q. cur q (found_in n.notes) n.config.logical page) (sym rule)
 
-  page_is : (page : ℕ) → page < n.config.logical → page_known n s.image page ≡ value_at (written_in p known) (current_name_of n page)
+  page_is : (page : ℕ) → page < n.config.logical → page_known n s.image page
+      ≡ value_at (written_in p known) (current_name_of n page)
   page_is page within =
       sym (known_at n s.image page within)
       ∙ ap (λ pages. get_or pages page None) (sym array)
@@ -61,15 +69,18 @@ module _ (p : Protocol) (s : FlashState) (n : IndexState) (t : BlocksState) (u :
       ∙ ap (λ v. value_at (written_in p known) (record { page = page; version = v })) (current_known page)
 
   has_page : (page : ℕ) → page < n.config.logical →
-      is_some (page_known n s.image page) ≡ (is_present (found_in n.notes) (current_name_of n page) && not (discarded_of n page))
+      is_some (page_known n s.image page) ≡ (is_present (found_in n.notes) (current_name_of n page)
+      && not (discarded_of n page))
   unfolding discarded_of
   has_page page within =
       ap is_some (page_is page within) ∙ has_value (written_in p known) (current_name_of n page)
-      ∙ ap (λ l. is_present l (current_name_of n page) && not (record_named l (current_name_of n page)).discard) same_records
+      ∙ ap (λ l. is_present l (current_name_of n page) && not (record_named l (current_name_of n page)).discard)
+      same_records
 
   there : (page : ℕ) → is_present (found_in n.notes) (current_name_of n page) ≡ not (current_of n page == 0)
   there page = elim (cases_eq (current_of n page) 0) [
-    | inl none ↦ noted_positive n.config.protocol n m.noted (current_name_of n page) none ∙ sym (ap not (eq-eqb (current_of n page) 0 none))
+    | inl none ↦ noted_positive n.config.protocol n m.noted (current_name_of n page) none
+        ∙ sym (ap not (eq-eqb (current_of n page) 0 none))
     | inr some ↦ elim (noted_present n.config.protocol n m.noted page) [
       | inl none ↦ absurd (some none)
       | inr here ↦ here ∙ sym (ap not (ne_eqb (current_of n page) 0 some))
@@ -80,10 +91,12 @@ module _ (p : Protocol) (s : FlashState) (n : IndexState) (t : BlocksState) (u :
   page_written page within = has_page page within ∙ ap (λ b. b && not (discarded_of n page)) (there page)
 
   -- a page that its record discards is blank
-  pub discard_known : (page : ℕ) → page < n.config.logical → discarded_of n page ≡ true → page_known n s.image page ≡ None
+  pub discard_known : (page : ℕ) → page < n.config.logical → discarded_of n page ≡ true →
+      page_known n s.image page ≡ None
   discard_known page within discards =
       is_nothing (page_known n s.image page)
-      (page_written page within ∙ ap (λ d. not (current_of n page == 0) && not d) discards ∙ and_never (not (current_of n page == 0)))
+      (page_written page within ∙ ap (λ d. not (current_of n page == 0) && not d) discards
+      ∙ and_never (not (current_of n page == 0)))
     where
       is_nothing : (o : Option (List ℕ)) → is_some o ≡ false → o ≡ None
       is_nothing None none = refl
@@ -98,21 +111,28 @@ module _ (p : Protocol) (s : FlashState) (n : IndexState) (t : BlocksState) (u :
       count_by is_some (map (page_known n s.image) (range_with_len 0 (page + 1)))
       ≡ count_by is_some (map (page_known n s.image) (range_with_len 0 page)) + cond (is_written n page) 1 0
   count_page page within =
-      sum_by-map-range_with_len_more (λ (o : Option (List ℕ)). cond (is_some o) 1 0) (page_known n s.image) 0 page page (omega arith)
-      ∙ ap (λ b. count_by is_some (map (page_known n s.image) (range_with_len 0 page)) + cond b 1 0) (page_written page within)
+      sum_by-map-range_with_len_more (λ (o : Option (List ℕ)). cond (is_some o) 1 0) (page_known n s.image) 0 page
+      page (omega arith)
+      ∙ ap (λ b. count_by is_some (map (page_known n s.image) (range_with_len 0 page)) + cond b 1 0)
+      (page_written page within)
 
   pub count_some : (page : ℕ) → page < n.config.logical → is_written n page ≡ true →
-      count_by is_some (map (page_known n s.image) (range_with_len 0 (page + 1))) ≡ count_by is_some (map (page_known n s.image) (range_with_len 0 page)) + 1
+      count_by is_some (map (page_known n s.image) (range_with_len 0 (page + 1)))
+      ≡ count_by is_some (map (page_known n s.image) (range_with_len 0 page)) + 1
   count_some page within some =
-      count_page page within ∙ ap (λ b. count_by is_some (map (page_known n s.image) (range_with_len 0 page)) + cond b 1 0) some
+      count_page page within ∙ ap (λ b. count_by is_some (map (page_known n s.image) (range_with_len 0 page))
+      + cond b 1 0) some
 
   pub count_none : (page : ℕ) → page < n.config.logical → is_written n page ≡ false →
-      count_by is_some (map (page_known n s.image) (range_with_len 0 (page + 1))) ≡ count_by is_some (map (page_known n s.image) (range_with_len 0 page)) + 0
+      count_by is_some (map (page_known n s.image) (range_with_len 0 (page + 1)))
+      ≡ count_by is_some (map (page_known n s.image) (range_with_len 0 page)) + 0
   count_none page within none =
-      count_page page within ∙ ap (λ b. count_by is_some (map (page_known n s.image) (range_with_len 0 page)) + cond b 1 0) none
+      count_page page within ∙ ap (λ b. count_by is_some (map (page_known n s.image) (range_with_len 0 page))
+      + cond b 1 0) none
 
 -- and ends with all pages
 pub count_all : (n : IndexState) (image : List Contents) →
-    count_by is_some (array_known n image) ≡ count_by is_some (map (page_known n image) (range_with_len 0 n.config.logical))
+    count_by is_some (array_known n image) ≡ count_by is_some
+    (map (page_known n image) (range_with_len 0 n.config.logical))
 unfolding array_known
 count_all n image = refl

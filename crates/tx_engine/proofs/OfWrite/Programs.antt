@@ -1,5 +1,5 @@
--- A record that a transaction asks for is programmed in a free slot: what is left where the program is done, and where it is
--- broken.
+-- A record that a transaction asks for is programmed in a free slot: what is left where the program is done, and where
+-- it is broken.
 use Rattle.tx_engine.proofs.Common.{◌≡◌, ◌≢◌, ℕ, ◌+◌, ◌*◌, ◌/◌, ◌<◌, ◌≤◌, Bool, true, eq-eqb, List, length, set, refl, sym, ap, ◌∙◌, subst, inl, inr, arith, Contains, get_or-set_same, get_or-set_other, All-contains, all_from, shape_of, slots_of, blocks_of, Protocol, Shape, Slot, Link, Rec, Outcome, FlashState, Contents, IsImage, blank, damaged, complete, slot_at, program, image_left, CanBeSpelled, spelling, Found, name_of, is_present, is_outside, text_at, InProgress, found_named, IsSoundImage, written_in, records_in, TextsStay, ImagePartialLaw, ImageCompletingLaw, found_in, IndexState, written, BlocksState, IsBlocksState, IsFree, Matches, CanTakeOwn}
 use Rattle.std.proofs.Common.{◌%◌}
 use Rattle.std.proofs.Math.Nat.{mod-add-div', div-eq_of_lt-le}
@@ -30,7 +30,8 @@ use Rattle.collector.proofs.OfSettle.Programming.{all, missing, are_there}
 use Rattle.collector.proofs.OfCopies.CopyExits.{blank_noted}
 
 -- the slots of a block after a free one are free
-later_free : (t : BlocksState) → IsBlocksState t → (at : ℕ) → IsFree t at → (k : ℕ) → at ≤ k → k < block_end t.shape at → IsFree t k
+later_free : (t : BlocksState) → IsBlocksState t → (at : ℕ) → IsFree t at → (k : ℕ) → at ≤ k →
+    k < block_end t.shape at → IsFree t k
 later_free t h at free k low high =
     let per = t.shape.pages_per_block in
     let fits = block_within t.shape (at / per) (block_in t h at free.within) in
@@ -46,7 +47,8 @@ later_free t h at free k low high =
     }
 
 -- a free slot may be programmed
-pub free_program : (s : FlashState) (n : IndexState) (t : BlocksState) → Matches s n t unsure.Nothing → (at : ℕ) → IsFree t at → CanProgram s.shape s.image at
+pub free_program : (s : FlashState) (n : IndexState) (t : BlocksState) → Matches s n t unsure.Nothing → (at : ℕ) →
+    IsFree t at → CanProgram s.shape s.image at
 free_program s n t m at free = record {
   in_range = (let w = free.within in omega (arith, w, ap slots_of m.blocks));
   blank_on = λ k low high.
@@ -55,7 +57,8 @@ free_program s n t m at free = record {
       blank_noted n.config.protocol (slot_at s.image k) (sym (m.sure k within refl) ∙ m.free k f);
 }
 
-module _ (s : FlashState) (n : IndexState) (t : BlocksState) (m : Matches s n t unsure.Nothing) (at : Slot) (rec : Rec) (free : IsFree t at.0)
+module _ (s : FlashState) (n : IndexState) (t : BlocksState) (m : Matches s n t unsure.Nothing) (at : Slot) (rec : Rec)
+    (free : IsFree t at.0)
     (take : CanTakeOwn n t rec) (spelled : CanBeSpelled n.config.protocol rec) (bytes : List ℕ) where
   abbrev p : Protocol
   p = n.config.protocol
@@ -76,7 +79,8 @@ module _ (s : FlashState) (n : IndexState) (t : BlocksState) (m : Matches s n t 
   within = (let w = free.within in omega (arith, w, ap slots_of m.blocks, m.flash.slots))
 
   blank_slot : slot_at s.image at.0 ≡ blank
-  blank_slot = blank_noted p (slot_at s.image at.0) (sym (m.sure at.0 (let w = free.within in omega (arith, w, ap slots_of m.blocks)) refl) ∙ m.free at.0 free)
+  blank_slot = blank_noted p (slot_at s.image at.0)
+      (sym (m.sure at.0 (let w = free.within in omega (arith, w, ap slots_of m.blocks)) refl) ∙ m.free at.0 free)
 
   same : found_in n.notes ≡ old
   same = same_records s n t m
@@ -103,34 +107,43 @@ module _ (s : FlashState) (n : IndexState) (t : BlocksState) (m : Matches s n t 
   keep = is_outside s.shape t.spare
 
   -- each name that is there has a slot outside the spare
-  name_outside : (name : Link) → Contains names name → is_present new name ≡ true → is_present (left keep new) name ≡ true
+  name_outside : (name : Link) → Contains names name → is_present new name ≡ true →
+      is_present (left keep new) name ≡ true
   name_outside name i here =
       let f = found_named new name here in
       elim (inserted_in old new (found_of (written at.0 rec bytes)) added f.0 f.1) [
         | inl is ↦
-            (let out : keep at.0 ≡ true = subst (λ (sh : Shape). is_outside sh t.spare at.0 ≡ true) (sym m.shape) (free_out s n t unsure.Nothing m at.0 free) in
+            (let out : keep at.0 ≡ true = subst (λ (sh : Shape). is_outside sh t.spare at.0 ≡ true) (sym m.shape)
+            (free_out s n t unsure.Nothing m at.0 free) in
             present_as (left keep new) (found_of (written at.0 rec bytes)) name
-            (in_filter (λ f. keep f.slot.0) (found_of (written at.0 rec bytes)) new (new_in old new (found_of (written at.0 rec bytes)) added) out)
+            (in_filter (λ f. keep f.slot.0) (found_of (written at.0 rec bytes)) new
+            (new_in old new (found_of (written at.0 rec bytes)) added) out)
             (ap (λ (g : Found). name_of g.rec) is ∙ f.2))
         | inr j ↦
-            (let was : is_present (found_in n.notes) name ≡ true = ap (λ l. is_present l name) same ∙ present_as old f.0 name j f.2 in
+            (let was : is_present (found_in n.notes) name ≡ true = ap (λ l. is_present l name) same
+            ∙ present_as old f.0 name j f.2 in
             let outside = All-contains (λ name. is_present (found_in n.notes) name ≡ true →
-            is_present (left (is_outside (shape_of n.config) t.spare) (found_in n.notes)) name ≡ true) names name take.outside i was in
+            is_present (left (is_outside (shape_of n.config) t.spare) (found_in n.notes)) name ≡ true) names name
+            take.outside i was in
             let outside' : is_present (left keep old) name ≡ true =
             subst (λ l. is_present (left keep l) name ≡ true) same
-            (subst (λ (sh : Shape). is_present (left (is_outside sh t.spare) (found_in n.notes)) name ≡ true) (sym m.shape) outside) in
+            (subst (λ (sh : Shape). is_present (left (is_outside sh t.spare) (found_in n.notes)) name ≡ true)
+            (sym m.shape) outside) in
             let g = found_named (left keep old) name outside' in
             let parts = from_filter (λ f. keep f.slot.0) g.0 old g.1 in
             present_as (left keep new) g.0 name
-            (in_filter (λ f. keep f.slot.0) g.0 new (in_inserted old new (found_of (written at.0 rec bytes)) added g.0 parts.0) parts.1) g.2)
+            (in_filter (λ f. keep f.slot.0) g.0 new (in_inserted old new (found_of (written at.0 rec bytes)) added g.0
+            parts.0) parts.1) g.2)
       ]
 
-  room : ((name : Link) → Contains names name → is_present new name ≡ true) → HasRoomAround p old new n.config.logical s.shape names
+  room : ((name : Link) → Contains names name → is_present new name ≡ true) →
+      HasRoomAround p old new n.config.logical s.shape names
   room each = record {
     block = t.spare;
     exists = (let w = m.table.spare_within in omega (arith, w, ap blocks_of m.blocks));
     removable = image_can_lose s n t m t.spare m.spared;
-    outside = all_from (λ name. is_present (left keep new) name ≡ true) names (λ name i. name_outside name i (each name i));
+    outside = all_from (λ name. is_present (left keep new) name ≡ true) names
+        (λ name i. name_outside name i (each name i));
   }
 
   pub record IsWritten : Type 0 where
@@ -142,7 +155,8 @@ module _ (s : FlashState) (n : IndexState) (t : BlocksState) (m : Matches s n t 
   pub is_written : ImagePartialLaw p → ImageCompletingLaw p → IsWritten
   is_written partial completing = elim (are_there new names) [
     | all each ↦
-        (let kept = completing n.config.logical s.shape s.image names at.0 bytes rec asks (all_from (λ name. is_present new name ≡ true) names each)
+        (let kept = completing n.config.logical s.shape s.image names at.0 bytes rec asks
+        (all_from (λ name. is_present new name ≡ true) names each)
         (room each) in
         record { sound = kept.sound; stay = kept.old_texts; come = kept.new_text })
     | missing name i absent ↦
@@ -166,7 +180,8 @@ module _ (s : FlashState) (n : IndexState) (t : BlocksState) (m : Matches s n t 
       page damaged = its
       page (complete b x) = b
 
-  pub is_left : ImagePartialLaw p → ImageCompletingLaw p → (how : Outcome) → IsLeft (image_left s.shape s.image (program at.0 bytes (spelling p rec)) how)
+  pub is_left : ImagePartialLaw p → ImageCompletingLaw p → (how : Outcome) →
+      IsLeft (image_left s.shape s.image (program at.0 bytes (spelling p rec)) how)
   is_left partial completing outcome.None = record {
     sound = m.sound;
     place = inl blank_slot;
@@ -176,7 +191,8 @@ module _ (s : FlashState) (n : IndexState) (t : BlocksState) (m : Matches s n t 
   }
   is_left partial completing outcome.All =
       let w = is_written partial completing in
-      let here : slot_at image' at.0 ≡ complete bytes (spelling p rec) = get_or-set_same s.image at.0 (complete bytes (spelling p rec)) blank within in
+      let here : slot_at image' at.0 ≡ complete bytes (spelling p rec) =
+      get_or-set_same s.image at.0 (complete bytes (spelling p rec)) blank within in
       record {
         sound = w.sound;
         place = inr (inr (bytes, here));
@@ -186,7 +202,8 @@ module _ (s : FlashState) (n : IndexState) (t : BlocksState) (m : Matches s n t 
       }
   is_left partial completing outcome.Bad =
       let kept = image_damage_law p n.config.logical s.shape s.image at.0 m.sound within blank_slot in
-      let here : slot_at (set s.image at.0 damaged) at.0 ≡ damaged = get_or-set_same s.image at.0 damaged blank within in
+      let here : slot_at (set s.image at.0 damaged) at.0 ≡ damaged =
+      get_or-set_same s.image at.0 damaged blank within in
       record {
         sound = kept.sound;
         place = inr (inl here);
@@ -196,7 +213,8 @@ module _ (s : FlashState) (n : IndexState) (t : BlocksState) (m : Matches s n t 
       }
 
   -- then the slot is unsure
-  pub left_unsure : (s' : FlashState) → s'.shape ≡ s.shape → IsImage s.shape s'.image → IsLeft s'.image → Matches s' n t (unsure.Own at rec)
+  pub left_unsure : (s' : FlashState) → s'.shape ≡ s.shape → IsImage s.shape s'.image → IsLeft s'.image →
+      Matches s' n t (unsure.Own at rec)
   left_unsure s' shape whole l = record {
     shape = shape ∙ m.shape;
     flash = subst (λ sh. IsImage sh s'.image) (sym shape) whole;

@@ -6,23 +6,31 @@ use Rattle.tx_engine.proofs.OfCollect.Collecting.{own_writes_low}
 use Rattle.tx_engine.proofs.OfDevice.Kept.{BlocksInvariant, from_stands}
 use Rattle.collector.proofs.OfNotes.Keeping.{preserves_then}
 
-pub settled_kept : {F : Type 0} (state : F → FlashState) (S : StoreState F) (O : OpenTransactionsState) → Stands state (device_in state S O) → S.unsure ≡ unsure.Nothing →
+pub settled_kept : {F : Type 0} (state : F → FlashState) (S : StoreState F) (O : OpenTransactionsState) →
+    Stands state (device_in state S O) → S.unsure ≡ unsure.Nothing →
     BlocksInvariant (state S.flash) S.noted S.table unsure.Nothing O
-settled_kept state S O h sure = subst (λ u. BlocksInvariant (state S.flash) S.noted S.table u O) sure (from_stands state S O h)
+settled_kept state S O h sure = subst (λ u. BlocksInvariant (state S.flash) S.noted S.table u O) sure
+    (from_stands state S O h)
 
-pub next_low : {F : Type 0} (state : F → FlashState) (S : StoreState F) (O : OpenTransactionsState) (i : ℕ) → Stands state (device_in state S O) → i < length O.all →
+pub next_low : {F : Type 0} (state : F → FlashState) (S : StoreState F) (O : OpenTransactionsState) (i : ℕ) →
+    Stands state (device_in state S O) → i < length O.all →
     All (λ w. w.page < S.noted.config.logical) (next_writes (transaction_at O i).entry)
 next_low state S O i h within =
-    cond_both (is_at_last (transaction_at O i).entry) (transaction_at O i).entry.writes [] (All (λ w. w.page < S.noted.config.logical))
+    cond_both (is_at_last (transaction_at O i).entry) (transaction_at O i).entry.writes []
+    (All (λ w. w.page < S.noted.config.logical))
     (λ is. own_writes_low (state S.flash) S.noted O S.table S.unsure (from_stands state S O h) i within)
     (λ is. All-nil (λ (w : PageWrite). w.page < S.noted.config.logical))
 
 -- versions rise after they stayed
-pub rises_after : {F : Type 0} (a b c : DeviceState F) (ws : List PageWrite) → b.config ≡ a.config → All (λ w. w.page < a.config.logical) ws →
-    ((page : ℕ) → page < a.config.logical → current_of b.noted page ≡ current_of a.noted page) → VersionsRise b c ws → VersionsRise a c ws
+pub rises_after : {F : Type 0} (a b c : DeviceState F) (ws : List PageWrite) → b.config ≡ a.config →
+    All (λ w. w.page < a.config.logical) ws →
+    ((page : ℕ) → page < a.config.logical → current_of b.noted page ≡ current_of a.noted page) → VersionsRise b c ws →
+    VersionsRise a c ws
 rises_after a b c ws config low same second = record {
-  rises = λ k d h. subst (λ v. v < current_of c.noted (get_or ws k d).page) (same (get_or ws k d).page (low k d h)) (second.rises k d h);
-  stays = λ page within others. second.stays page (subst (λ (k : Config). page < k.logical) (sym config) within) others ∙ same page within;
+  rises = λ k d h. subst (λ v. v < current_of c.noted (get_or ws k d).page) (same (get_or ws k d).page (low k d h))
+      (second.rises k d h);
+  stays = λ page within others. second.stays page (subst (λ (k : Config). page < k.logical) (sym config) within) others
+      ∙ same page within;
 }
 
 pub written_after : {F : Type 0} (state : F → FlashState) (a b c : DeviceState F) (e : Entry) → IsLeft state a b false →
@@ -33,17 +41,20 @@ written_after state a b c e left low w = record {
   rises = rises_after a b c (next_writes e) left.exits.tables.config low left.versions w.rises;
 }
 
-pub fails_after : {F : Type 0} (state : F → FlashState) (a b c : DeviceState F) (o o' : OpenTransactionsState) (i : ℕ) → IsLeft state a b false → WriteFails b c o o' i →
+pub fails_after : {F : Type 0} (state : F → FlashState) (a b c : DeviceState F) (o o' : OpenTransactionsState) (i : ℕ) →
+    IsLeft state a b false → WriteFails b c o o' i →
     WriteFails a c o o' i
 fails_after state a b c o o' i left w = record {
   pages = w.pages ∙ ap (λ m. m.pages) left.machine;
-  rises = rises_after a b c [] left.exits.tables.config (All-nil (λ (w : PageWrite). w.page < a.config.logical)) left.versions w.rises;
+  rises = rises_after a b c [] left.exits.tables.config (All-nil (λ (w : PageWrite). w.page < a.config.logical))
+      left.versions w.rises;
   kept = preserves_then a.noted b.noted c.noted left.kept w.kept;
   opens = w.opens;
 }
 
 -- room was not made
-pub fails_room : {F : Type 0} (state : F → FlashState) (a b : DeviceState F) (o : OpenTransactionsState) (i : ℕ) (broken : Bool) → IsLeft state a b broken →
+pub fails_room : {F : Type 0} (state : F → FlashState) (a b : DeviceState F) (o : OpenTransactionsState) (i : ℕ)
+    (broken : Bool) → IsLeft state a b broken →
     WriteFails a b o o i
 fails_room state a b o i broken left = record {
   pages = ap (λ m. m.pages) left.machine;

@@ -7,7 +7,7 @@ use flash_model::{Arms, Outcome};
 use record_list::CommitRule;
 
 impl<F: Arms, R: CommitRule> Device<F, R> {
-    /// A program or an erase from now on, the one of this number from 1, will be cut with this outcome.
+    /// Arms a power cut at the `count`-th program or erase from now on, with this outcome.
     pub fn arm_cut(&mut self, count: u32, outcome: Outcome)
         requires { 1 ≤ count }
         ensures { ArmsDevice self.old self.new
@@ -16,7 +16,7 @@ impl<F: Arms, R: CommitRule> Device<F, R> {
         self.store.arm_cut(count, outcome);
     }
 
-    /// A program or an erase from now on, the one of this number from 1, will meet a fault with this outcome.
+    /// Arms a fault at the `count`-th program or erase from now on, with this outcome.
     pub fn arm_fault(&mut self, count: u32, outcome: Outcome)
         requires { 1 ≤ count }
         ensures { ArmsDevice self.old self.new
@@ -25,7 +25,7 @@ impl<F: Arms, R: CommitRule> Device<F, R> {
         self.store.arm_fault(count, outcome);
     }
 
-    /// A read from now on, the one of this number from 1, will meet a fault.
+    /// Arms a fault at the `count`-th read from now on.
     pub fn arm_bad_read(&mut self, count: u32)
         requires { 1 ≤ count }
         ensures { ArmsDevice self.old self.new

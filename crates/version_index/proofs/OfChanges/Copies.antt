@@ -1,4 +1,4 @@
--- A copy, a damaged slot, a pin, another spare: nothing that was judged moves.
+-- A copy, a damaged slot, a pin, another spare: nothing that was derived moves.
 use Rattle.version_index.proofs.Common.{◌≡◌, ℕ, ◌<◌, length, set, IsSome, refl, sym, ap, ◌∙◌, subst, arith, false≢true, All-contains, all_from, Rec, Protocol, shape_of, slots_of, cur, CopyLaw, Note, Blank, Damaged, Holds, note_at, rec_of, found_in, IndexState, IsNoted, copied, damaged_at, current_of, IsDerivedAlike, NothingMoves}
 use Rattle.record_list.specs.Changes.{CopyKeeps}
 use Rattle.record_list.proofs.OfChanges.OneMore.{inserted_all}
@@ -37,13 +37,15 @@ spare_moves_nothing n block = same_records n (with_spare n block) refl refl
 
 module _ (protocol : Protocol) (n : IndexState) (k : IsNoted protocol n) where
   -- a damaged slot that was blank
-  pub damage_moves_nothing : (at : ℕ) → at < slots_of (shape_of n.config) → note_at n.notes at ≡ Blank → NothingMoves n (damaged_at n at)
+  pub damage_moves_nothing : (at : ℕ) → at < slots_of (shape_of n.config) → note_at n.notes at ≡ Blank →
+      NothingMoves n (damaged_at n at)
   damage_moves_nothing at exists was =
       let within : at < length n.notes = (let slots = k.slots in omega arith) in
       same_records n (damaged_at n at) refl (found_in_damaged n.notes at within was)
 
   -- a copy of a record
-  pub copy_moves_nothing : CopyLaw protocol → (from to : ℕ) → IsSome (rec_of (note_at n.notes from)) → to < slots_of (shape_of n.config) →
+  pub copy_moves_nothing : CopyLaw protocol → (from to : ℕ) → IsSome (rec_of (note_at n.notes from)) →
+      to < slots_of (shape_of n.config) →
       note_at n.notes to ≡ Blank → NothingMoves n (copied n from to)
   unfolding current_of
   copy_moves_nothing copy from to some exists was =
@@ -58,7 +60,8 @@ module _ (protocol : Protocol) (n : IndexState) (k : IsNoted protocol n) where
       let source = noted_in n.notes from rec (holds_within n.notes from rec held.1) held.1 in
       let added = found_in_programmed n.notes to rec within was in
       let own = All-contains HasVersions l (found from rec) k.scanned.versions source in
-      let keeps : CopyKeeps p l l' logical = subst CopyLaw (sym k.rule) copy l l' logical (found to rec) (configured protocol n k) (record {
+      let keeps : CopyKeeps p l l' logical = subst CopyLaw (sym k.rule) copy l l' logical (found to rec)
+      (configured protocol n k) (record {
         scanned = k.scanned;
         scanned' = record {
           ascending = found_in_ascending m.notes;
@@ -70,5 +73,6 @@ module _ (protocol : Protocol) (n : IndexState) (k : IsNoted protocol n) where
       subst (λ note. NothingMoves n (record n { notes = set n.notes to note })) (sym held.1) (record {
         currents = keeps.same_current;
         records = all_from (λ f. IsDerivedAlike n m f.rec) l' (λ f i.
-            derived_alike n m f.rec refl (all_alike p l l' logical keeps.same_current keeps.responsible keeps.sound f i));
+            derived_alike n m f.rec refl (all_alike p l l' logical keeps.same_current keeps.responsible
+            keeps.sound f i));
       })

@@ -9,7 +9,7 @@ use Rattle.version_index.proofs.OfChanges.NotedChanges.{damaged_noted, copied_no
 use Rattle.version_index.proofs.OfTables.Numbered.{derived_as}
 use Rattle.version_index.proofs.OfChanges.WholeDerived.{derived_still}
 
--- what is judged is by the configuration and the notes alone
+-- what is derived is by the configuration and the notes alone
 pub derived_same : (n n' : IndexState) → n'.config ≡ n.config → n'.notes ≡ n.notes → derived_of n' ≡ derived_of n
 unfolding current_of answerer_of waits_of
 derived_same n n' c s =
@@ -20,16 +20,20 @@ derived_same n n' c s =
     }) c s
 
 -- a blank slot that holds a number with a record, or none
-pub held_more : (k : TablesState) (at : ℕ) (u : SlotUse) → AreHeld k → at < length k.slots → use_at k.slots at ≡ slot.Blank →
-    ((x : ℕ) → u ≡ slot.Holds x → (r : Rec) × (rec_at k.records x ≡ Some r)) → AreHeld (record k { slots = set k.slots at u })
+pub held_more : (k : TablesState) (at : ℕ) (u : SlotUse) → AreHeld k → at < length k.slots →
+    use_at k.slots at ≡ slot.Blank →
+    ((x : ℕ) → u ≡ slot.Holds x → (r : Rec) × (rec_at k.records x ≡ Some r)) →
+    AreHeld (record k { slots = set k.slots at u })
 held_more k at u h within blank own = record {
   held = λ a x e. elim (cases_eq a at) [
-    | inl here ↦ own x (sym (get_or-set_same k.slots at u slot.Blank within) ∙ ap (use_at (set k.slots at u)) (sym here) ∙ e)
+    | inl here ↦ own x (sym (get_or-set_same k.slots at u slot.Blank within)
+        ∙ ap (use_at (set k.slots at u)) (sym here) ∙ e)
     | inr off ↦ h.held a x (sym (get_or-set_other k.slots at a u slot.Blank off) ∙ e)
   ];
   used = λ x r is. (
       let old = h.used x r is in
-      let off : old.0 ≢ at = λ here. (let other : slot.Holds x ≡ slot.Blank = sym old.1 ∙ ap (use_at k.slots) here ∙ blank in cc) in
+      let off : old.0 ≢ at = λ here. (let other : slot.Holds x ≡ slot.Blank = sym old.1 ∙ ap (use_at k.slots) here
+      ∙ blank in cc) in
       (old.0, get_or-set_other k.slots at old.0 u slot.Blank off ∙ old.1));
   once = h.once;
   unused = h.unused;
@@ -41,7 +45,7 @@ pub notes_set : (k : TablesState) (at : ℕ) (u : SlotUse) →
 notes_set k at u = map-set (note_in k.records) k.slots at u
 
 module _ (protocol : Protocol) (its : Config) (m : List ℕ) (k : TablesState) (i : AreIndexed protocol its m k) where
-  -- where nothing moves, the tables are judged as before
+  -- where nothing moves, what is derived from the tables stays
   pub still_indexed : (k' : TablesState) → k'.shape ≡ k.shape → length k'.pages ≡ length k.pages → AreHeld k' →
       AreDerived (numbered_of k') its.logical (derived_of (noted_by its m k)) → IsNoted protocol (noted_by its m k') →
       NothingMoves (noted_by its m k) (noted_by its m k') → AreIndexed protocol its m k'
@@ -75,11 +79,13 @@ module _ (protocol : Protocol) (its : Config) (m : List ℕ) (k : TablesState) (
         shape = i.shape;
         pages = i.pages;
         held = record { held = i.held.held; used = i.held.used; once = i.held.once; unused = i.held.unused };
-        judged = subst (AreDerived (numbered_of k) its.logical) (sym (derived_same (noted_by its m k) (noted_by its m k') refl refl)) i.judged;
+        judged = subst (AreDerived (numbered_of k) its.logical)
+            (sym (derived_same (noted_by its m k) (noted_by its m k') refl refl)) i.judged;
       }
 
   -- another spare
-  pub spared_indexed : (block : ℕ) → block < blocks_of (shape_of its) → AreIndexed protocol its m (record k { spare = Some block })
+  pub spared_indexed : (block : ℕ) → block < blocks_of (shape_of its) →
+      AreIndexed protocol its m (record k { spare = Some block })
   spared_indexed block exists =
       let n = i.noted in
       let k' : TablesState = record k { spare = Some block } in
@@ -99,14 +105,16 @@ module _ (protocol : Protocol) (its : Config) (m : List ℕ) (k : TablesState) (
         shape = i.shape;
         pages = i.pages;
         held = record { held = i.held.held; used = i.held.used; once = i.held.once; unused = i.held.unused };
-        judged = subst (AreDerived (numbered_of k) its.logical) (sym (derived_same (noted_by its m k) (noted_by its m k') refl refl)) i.judged;
+        judged = subst (AreDerived (numbered_of k) its.logical)
+            (sym (derived_same (noted_by its m k) (noted_by its m k') refl refl)) i.judged;
       }
 
   slot_within : (at : ℕ) → at < slots_of (shape_of its) → at < length k.slots
   slot_within at exists = let slots = i.noted.slots in let long = length-notes k in omega arith
 
   -- a damaged slot
-  pub damaged_is : (at : ℕ) → noted_by its m (record k { slots = set k.slots at slot.Damaged }) ≡ damaged_at (noted_by its m k) at
+  pub damaged_is : (at : ℕ) → noted_by its m (record k { slots = set k.slots at slot.Damaged })
+      ≡ damaged_at (noted_by its m k) at
   damaged_is at = ap (λ notes. record (noted_by its m k) { notes = notes }) (notes_set k at slot.Damaged)
 
   pub damaged_indexed : (at : ℕ) → at < slots_of (shape_of its) → note_at (notes_in k) at ≡ note.Blank →
@@ -125,11 +133,16 @@ module _ (protocol : Protocol) (its : Config) (m : List ℕ) (k : TablesState) (
       ap (λ notes. record (noted_by its m k) { notes = notes })
       (notes_set k to (use_at k.slots from) ∙ ap (set (notes_in k) to) (sym (note_by k from)))
 
-  pub copied_indexed : CopyLaw protocol → (from to : ℕ) → IsSome (rec_of (note_at (notes_in k) from)) → to < slots_of (shape_of its) →
-      note_at (notes_in k) to ≡ note.Blank → AreIndexed protocol its m (record k { slots = set k.slots to (use_at k.slots from) })
+  pub copied_indexed : CopyLaw protocol → (from to : ℕ) → IsSome (rec_of (note_at (notes_in k) from)) →
+      to < slots_of (shape_of its) →
+      note_at (notes_in k) to ≡ note.Blank →
+      AreIndexed protocol its m (record k { slots = set k.slots to (use_at k.slots from) })
   copied_indexed copy from to some exists was =
       let n = noted_by its m k in
-      let held = held_more k to (use_at k.slots from) i.held (slot_within to exists) (blank_slot k to was) (i.held.held from) in
+      let held = held_more k to (use_at k.slots from) i.held (slot_within to exists) (blank_slot k to was)
+      (i.held.held from) in
       still_indexed (record k { slots = set k.slots to (use_at k.slots from) }) refl refl held i.judged
-      (subst (IsNoted protocol) (sym (copied_is from to)) (copied_noted protocol n i.noted copy from to some exists was))
-      (subst (NothingMoves n) (sym (copied_is from to)) (copy_moves_nothing protocol n i.noted copy from to some exists was))
+      (subst (IsNoted protocol) (sym (copied_is from to))
+      (copied_noted protocol n i.noted copy from to some exists was))
+      (subst (NothingMoves n) (sym (copied_is from to)) (copy_moves_nothing protocol n i.noted copy from to
+      some exists was))

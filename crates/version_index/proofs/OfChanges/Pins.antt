@@ -7,7 +7,8 @@ abbrev pub numbered_pin : ℕ × ℕ → Option Link
 numbered_pin (page, version) = pinned_at page version
 
 -- no page from the n-th on is the record's
-none_behind : (r : Rec) (n : ℕ) (pins : List ℕ) → r.page < n → list_any (λ name. has_name name r) (given numbered_pin n pins) ≡ false
+none_behind : (r : Rec) (n : ℕ) (pins : List ℕ) → r.page < n →
+    list_any (λ name. has_name name r) (given numbered_pin n pins) ≡ false
 none_behind r n [] behind = refl
 none_behind r n (v ∷ vs) behind = elim (cases_eq v 0) [
   | inl none ↦ ap (λ o. list_any (λ name. has_name name r) (cons_option o (given numbered_pin (n + 1) vs)))

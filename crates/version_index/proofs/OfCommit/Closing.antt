@@ -20,12 +20,15 @@ module _ (l : List Found) (start : Link) where
   -- a link that leads to no newest record ends it
   pub back_stops : (turns : ℕ) (q : Link) → (newest l q.page ≡ q.version → ⊥) → comes_back l start (suc turns) q ≡ false
   back_stops turns q off =
-      and_left (eqb (newest l q.page) q.version) (is_same q start || comes_back l start turns (link_of l q)) (ne_eqb (newest l q.page) q.version off)
+      and_left (eqb (newest l q.page) q.version) (is_same q start || comes_back l start turns (link_of l q))
+      (ne_eqb (newest l q.page) q.version off)
 
   -- one to the start closes it
-  pub back_closes : (turns : ℕ) (q : Link) → newest l q.page ≡ q.version → is_same q start ≡ true → comes_back l start (suc turns) q ≡ true
+  pub back_closes : (turns : ℕ) (q : Link) → newest l q.page ≡ q.version → is_same q start ≡ true →
+      comes_back l start (suc turns) q ≡ true
   back_closes turns q at same =
-      and_from (eqb (newest l q.page) q.version) (is_same q start || comes_back l start turns (link_of l q)) (eq-eqb (newest l q.page) q.version at)
+      and_from (eqb (newest l q.page) q.version) (is_same q start || comes_back l start turns (link_of l q))
+      (eq-eqb (newest l q.page) q.version at)
       (or_left (is_same q start) (comes_back l start turns (link_of l q)) same)
 
   -- and from another it goes on
@@ -34,15 +37,18 @@ module _ (l : List Found) (start : Link) where
   back_goes turns q at other = rw (eq-eqb (newest l q.page) q.version at, other) refl
 
   -- more turns do no harm
-  back_longer : (turns more : ℕ) (q : Link) → turns ≤ more → comes_back l start turns q ≡ true → comes_back l start more q ≡ true
+  back_longer : (turns more : ℕ) (q : Link) → turns ≤ more → comes_back l start turns q ≡ true →
+      comes_back l start more q ≡ true
   back_longer zero more q le h = absurd (false≢true h)
   back_longer (suc t) zero q le h = absurd (omega arith)
   back_longer (suc t) (suc u) q le h =
-      let parts = and_parts (eqb (newest l q.page) q.version) (is_same q start || comes_back l start t (link_of l q)) h in
+      let parts = and_parts (eqb (newest l q.page) q.version) (is_same q start || comes_back l start t (link_of l q))
+      h in
       and_from (eqb (newest l q.page) q.version) (is_same q start || comes_back l start u (link_of l q)) parts.0
       (elim (or_cases (is_same q start) (comes_back l start t (link_of l q)) parts.1) [
         | inl same ↦ or_left (is_same q start) (comes_back l start u (link_of l q)) same
-        | inr on ↦ or_right (is_same q start) (comes_back l start u (link_of l q)) (back_longer t u (link_of l q) (omega arith) on)
+        | inr on ↦ or_right (is_same q start) (comes_back l start u (link_of l q))
+            (back_longer t u (link_of l q) (omega arith) on)
       ])
 
   -- along names that follow each other it comes back
@@ -58,7 +64,8 @@ module _ (l : List Found) (start : Link) where
       let one = h x y (Contains-first (x, y) (zip (y ∷ ys) (ys ++ start ∷ []))) in
       let rest = back_along y ys (λ a b i. h a b (Contains-rest (x, y) (zip (y ∷ ys) (ys ++ start ∷ [])) (a, b) i)) in
       subst (λ q. comes_back l start (suc (suc (length ys))) q ≡ true) (sym one.0)
-      (and_from (eqb (newest l y.page) y.version) (is_same y start || comes_back l start (suc (length ys)) (link_of l y))
+      (and_from (eqb (newest l y.page) y.version) (is_same y start
+      || comes_back l start (suc (length ys)) (link_of l y))
       (eq-eqb (newest l y.page) y.version one.1)
       (or_right (is_same y start) (comes_back l start (suc (length ys)) (link_of l y)) rest))
 
@@ -72,7 +79,8 @@ turn_on a b c w x e f h = rw (e, f) (of c)
     of false = h
 
 -- what comes back is a walk that says yes
-back_walks : (p : Protocol) (l : List Found) (start : Link) (turns more : ℕ) (q : Link) → turns ≤ more → comes_back l start turns q ≡ true →
+back_walks : (p : Protocol) (l : List Found) (start : Link) (turns more : ℕ) (q : Link) → turns ≤ more →
+    comes_back l start turns q ≡ true →
     is_committed (walk p l start more q) ≡ true
 back_walks p l start zero more q le h = absurd (false≢true h)
 back_walks p l start (suc t) zero q le h = absurd (omega arith)
@@ -82,15 +90,19 @@ back_walks p l start (suc t) (suc u) q le h =
     let ahead : is_ahead l q ≡ false = le-ltb (newest l q.page) q.version (omega arith) in
     let behind : is_behind l q ≡ false = le-ltb q.version (newest l q.page) (omega arith) in
     elim (or_cases (is_same q start) (comes_back l start t (link_of l q)) parts.1) [
-      | inl same ↦ turn_closes (is_ahead l q) (is_behind l q) (is_same q start) (why_below_newest p l q) (walk p l start u (link_of l q)) ahead behind same
-      | inr on ↦ turn_on (is_ahead l q) (is_behind l q) (is_same q start) (why_below_newest p l q) (walk p l start u (link_of l q)) ahead behind
+      | inl same ↦ turn_closes (is_ahead l q) (is_behind l q) (is_same q start) (why_below_newest p l q)
+          (walk p l start u (link_of l q)) ahead behind same
+      | inr on ↦ turn_on (is_ahead l q) (is_behind l q) (is_same q start) (why_below_newest p l q)
+          (walk p l start u (link_of l q)) ahead behind
           (back_walks p l start t u (link_of l q) (omega arith) on)
     ]
 
-module _ (l : List Found) (logical : ℕ) (names : List Link) (t : IsUnderway l logical names) (linked : IsLinked l logical) (start : Link)
+module _ (l : List Found) (logical : ℕ) (names : List Link) (t : IsUnderway l logical names)
+    (linked : IsLinked l logical) (start : Link)
     (own : Contains names start) (here : is_present l start ≡ true) where
   -- where all names are present the links of one lead back to it
-  pub whole_returns : ((a : Link) → Contains names a → is_present l a ≡ true) → comes_back l start logical (link_of l start) ≡ true
+  pub whole_returns : ((a : Link) → Contains names a → is_present l a ≡ true) →
+      comes_back l start logical (link_of l start) ≡ true
   whole_returns all =
       let r = turned names start own in
       let few = few_names (start ∷ r.rest) logical (r.apart t.apart) (λ a i.
@@ -113,7 +125,8 @@ module _ (l : List Found) (logical : ℕ) (names : List Link) (t : IsUnderway l 
       name_uncounted l logical names t p linked gone i absent start own here
       (omega arith, subst (λ u. is_committed (walk p l u (suc logical) (link_of l u)) ≡ true) (sym its) walks)
 
-module _ (protocol : Protocol) (n : IndexState) (k : IsNoted protocol n) (at : ℕ) (rec : Rec) (exists : at < slots_of (shape_of n.config))
+module _ (protocol : Protocol) (n : IndexState) (k : IsNoted protocol n) (at : ℕ) (rec : Rec)
+    (exists : at < slots_of (shape_of n.config))
     (was : note_at n.notes at ≡ Blank) (next : IsNextRecord n rec) where
   -- the names as they stand once the record is noted
   record Stands : Type 0 where
@@ -147,7 +160,8 @@ module _ (protocol : Protocol) (n : IndexState) (k : IsNoted protocol n) (at : �
         | inr all ↦ all
         | inl absent ↦ (
             let gone = absent_name l' next.names absent in
-            absurd (open_stays l' n.config.logical next.names s.underway s.linked (name_of rec) next.named s.here protocol gone.0 gone.1 gone.2
+            absurd (open_stays l' n.config.logical next.names s.underway s.linked (name_of rec) next.named s.here
+            protocol gone.0 gone.1 gone.2
             (subst (λ q. comes_back l' (name_of rec) n.config.logical q ≡ true) (sym s.link) h)))
       ]
 
@@ -170,7 +184,8 @@ module _ (protocol : Protocol) (n : IndexState) (k : IsNoted protocol n) (at : �
   ]
 
   -- the names of a whole cycle from the record's on
-  pub round_of : completes (programmed n at rec) rec ≡ true → (round : List Link) × IsRound (programmed n at rec) next.names (name_of rec) round
+  pub round_of : completes (programmed n at rec) rec ≡ true → (round : List Link)
+      × IsRound (programmed n at rec) next.names (name_of rec) round
   round_of h =
       let m = programmed n at rec in
       let l' = found_in m.notes in
@@ -186,13 +201,17 @@ module _ (protocol : Protocol) (n : IndexState) (k : IsNoted protocol n) (at : �
               let after = follows_of round a i in
               (s.underway.range a (follows_in next.names a after.0 (t.back a after.0 after.1)).0).0);
           same = λ name. (
-            (λ i. let after = follows_of next.names name i in (follows_in round name after.0 (t.onto name after.0 after.1)).0),
-            (λ i. let after = follows_of round name i in (follows_in next.names name after.0 (t.back name after.0 after.1)).0),
+            (λ i. let after = follows_of next.names name i in
+                (follows_in round name after.0 (t.onto name after.0 after.1)).0),
+            (λ i. let after = follows_of round name i in
+                (follows_in next.names name after.0 (t.back name after.0 after.1)).0),
           );
           apart = t.apart s.underway.apart;
-          cycle = all_from (λ (x : Link × Link). (is_present l' x.0 ≡ true) × (newest l' x.0.page ≡ x.0.version) × (link_of l' x.0 ≡ x.1))
+          cycle = all_from (λ (x : Link × Link). (is_present l' x.0 ≡ true) × (newest l' x.0.page ≡ x.0.version)
+              × (link_of l' x.0 ≡ x.1))
               (zip round (next_names round)) (λ x i.
-              All-contains (λ (y : Link × Link). (is_present l' y.0 ≡ true) × (newest l' y.0.page ≡ y.0.version) × (link_of l' y.0 ≡ y.1))
+              All-contains (λ (y : Link × Link). (is_present l' y.0 ≡ true) × (newest l' y.0.page ≡ y.0.version)
+              × (link_of l' y.0 ≡ y.1))
               (zip next.names (next_names next.names)) x whole (t.back x.0 x.1 i));
         },
       )

@@ -17,12 +17,13 @@ pairs_push y (z ∷ zs) x end = ap (λ ps. (y, z) ∷ ps) (pairs_push z zs x end
 abbrev behind : Link → List Link → List Link
 behind x xs = xs ++ x ∷ []
 
--- the same names follow each other
+-- names follow each other as before where the first one is put behind the others
 turn_on : (x : Link) (xs : List Link) (u v : Link) → Follows (x ∷ xs) u v → Follows (behind x xs) u v
 turn_on x [] u v i = i
 turn_on x (y ∷ ys) u v i = subst (λ ps. Contains ps (u, v)) (sym (pairs_push y ys x y))
     (elim (Contains-cases (x, y) (zip (y ∷ ys) (ys ++ x ∷ [])) (u, v) i) [
-      | inl e ↦ subst (λ p. Contains (zip (y ∷ ys) (ys ++ x ∷ []) ++ (x, y) ∷ []) p) e (Contains-push (zip (y ∷ ys) (ys ++ x ∷ [])) (x, y))
+      | inl e ↦ subst (λ p. Contains (zip (y ∷ ys) (ys ++ x ∷ []) ++ (x, y) ∷ []) p) e
+          (Contains-push (zip (y ∷ ys) (ys ++ x ∷ [])) (x, y))
       | inr j ↦ Contains-append_left (zip (y ∷ ys) (ys ++ x ∷ [])) ((x, y) ∷ []) (u, v) j
     ])
 
@@ -73,21 +74,28 @@ split_at (y ∷ ys) x i = elim (Contains-cases y ys x i) [
 ]
 
 pub turned : (names : List Link) (start : Link) → Contains names start → Turned names start
-turned names start i = let s = split_at names start i in subst (λ ns. Turned ns start) (sym s.is) (turned_at s.before start s.after)
+turned names start i = let s = split_at names start i in
+    subst (λ ns. Turned ns start) (sym s.is) (turned_at s.before start s.after)
 
 -- distinct pages below a number are at most as many
 apart_distinct : (names : List Link) → Apart names → IsDistinct eqb (map (λ a. a.page) names)
 unfolding IsDistinct
 apart_distinct [] all = tt
-apart_distinct (x ∷ xs) all =
-    (others x xs (λ y i. pairs_head (λ a b. a.page ≢ b.page) x xs y all i), apart_distinct xs (pairs_tail (λ a b. a.page ≢ b.page) x xs all))
+apart_distinct (x ∷ xs) all = (
+  others x xs (λ y i. pairs_head (λ a b. a.page ≢ b.page) x xs y all i),
+  apart_distinct xs (pairs_tail (λ a b. a.page ≢ b.page) x xs all),
+)
   where
     others : (x : Link) (ys : List Link) → ((y : Link) → Contains ys y → x.page ≢ y.page) →
         AllByRecursion (λ p. eqb x.page p ≡ false) (map (λ a. a.page) ys)
     others x [] h = tt
-    others x (y ∷ ys) h = (ne_eqb x.page y.page (h y (Contains-first y ys)), others x ys (λ z i. h z (Contains-rest y ys z i)))
+    others x (y ∷ ys) h = (
+      ne_eqb x.page y.page (h y (Contains-first y ys)),
+      others x ys (λ z i. h z (Contains-rest y ys z i)),
+    )
 
-pub few_names : (names : List Link) (logical : ℕ) → Apart names → ((a : Link) → Contains names a → a.page < logical) → length names ≤ logical
+pub few_names : (names : List Link) (logical : ℕ) → Apart names → ((a : Link) → Contains names a → a.page < logical) →
+    length names ≤ logical
 few_names names logical all below =
     subst (λ k. k ≤ logical) (length-map names (λ a. a.page))
     (length-le_from_distinct_below (map (λ a. a.page) names) logical (apart_distinct names all) (λ q h.

@@ -8,7 +8,8 @@ use Rattle.version_index.proofs.OfTables.FoundIn.{found}
 use Rattle.version_index.proofs.OfTables.NotedFacts.{noted_map}
 use Rattle.version_index.proofs.OfChanges.NotedChanges.{next_write}
 
-module _ (protocol : Protocol) (n : IndexState) (k : IsNoted protocol n) (names : List Link) (cycle : IsCompleteCycle n names) where
+module _ (protocol : Protocol) (n : IndexState) (k : IsNoted protocol n) (names : List Link)
+    (cycle : IsCompleteCycle n names) where
   -- what the cycle says of a name and the one that follows
   pub record IsClosed (a b : Link) : Type 0 where
     pub here : is_present (found_in n.notes) a ≡ true
@@ -18,7 +19,8 @@ module _ (protocol : Protocol) (n : IndexState) (k : IsNoted protocol n) (names 
   closed : (a b : Link) → Follows names a b → IsClosed a b
   closed a b i =
       let parts = All-contains (λ (x : Link × Link).
-      (is_present (found_in n.notes) x.0 ≡ true) × (newest (found_in n.notes) x.0.page ≡ x.0.version) × (link_of (found_in n.notes) x.0 ≡ x.1))
+      (is_present (found_in n.notes) x.0 ≡ true) × (newest (found_in n.notes) x.0.page ≡ x.0.version)
+      × (link_of (found_in n.notes) x.0 ≡ x.1))
       (zip names (next_names names)) (a, b) cycle i in
       record { here = parts.0; top = parts.1; link = parts.2 }
 
@@ -39,7 +41,8 @@ module _ (protocol : Protocol) (n : IndexState) (k : IsNoted protocol n) (names 
         let i = (follows_in names x.0 after.0 after.1).1 in
         let beyond = follows_of names after.0 i in
         let d = closed after.0 beyond.0 beyond.1 in
-        let name : newest_name (found_in n.notes) x.0.page ≡ x.0 = same_name (newest_name (found_in n.notes) x.0.page) x.0 refl c.top in
+        let name : newest_name (found_in n.notes) x.0.page ≡ x.0 = same_name (newest_name (found_in n.notes) x.0.page)
+        x.0 refl c.top in
         let link : top_link (found_in n.notes) x.0.page ≡ after.0 = ap (link_of (found_in n.notes)) name ∙ c.link in
         subst (λ q. Goes protocol (found_in n.notes) OnCycle (top_link (found_in n.notes) q)) x.2
         (subst (Goes protocol (found_in n.notes) OnCycle) (sym link) (inr (sym d.top, (after.0, i, refl))));
@@ -47,15 +50,20 @@ module _ (protocol : Protocol) (n : IndexState) (k : IsNoted protocol n) (names 
 
   pub cycle_current : All (λ name. current_of n name.page ≡ name.version) names
   unfolding current_of
-  cycle_current = all_from (λ name. cur n.config.protocol (found_in n.notes) n.config.logical name.page ≡ name.version) names (λ a i.
+  cycle_current = all_from (λ name. cur n.config.protocol (found_in n.notes) n.config.logical name.page
+      ≡ name.version) names (λ a i.
       let after = follows_of names a i in
       let c = closed a after.0 after.1 in
-      let counts = counts_from protocol (found_in n.notes) n.config.logical (noted_map protocol n k).linked OnCycle cycle_safe a.page (a, i, refl) in
-      ap (λ p. cur p (found_in n.notes) n.config.logical a.page) k.rule ∙ cur_committed protocol (found_in n.notes) n.config.logical a.page counts.1 ∙ c.top)
+      let counts = counts_from protocol (found_in n.notes) n.config.logical (noted_map protocol n k).linked OnCycle
+      cycle_safe a.page (a, i, refl) in
+      ap (λ p. cur p (found_in n.notes) n.config.logical a.page) k.rule
+      ∙ cur_committed protocol (found_in n.notes) n.config.logical a.page counts.1 ∙ c.top)
 
 -- Once its last record is noted, the names of a transaction in progress are a complete cycle.
-pub cycle_written : (protocol : Protocol) (n : IndexState) → IsNoted protocol n → (at : ℕ) (rec : Rec) → at < slots_of (shape_of n.config) →
-    note_at n.notes at ≡ Blank → (next : IsNextRecord n rec) → All (λ name. is_present (found_in (programmed n at rec).notes) name ≡ true) next.names →
+pub cycle_written : (protocol : Protocol) (n : IndexState) → IsNoted protocol n → (at : ℕ) (rec : Rec) →
+    at < slots_of (shape_of n.config) →
+    note_at n.notes at ≡ Blank → (next : IsNextRecord n rec) →
+    All (λ name. is_present (found_in (programmed n at rec).notes) name ≡ true) next.names →
     IsCompleteCycle (programmed n at rec) next.names
 cycle_written protocol n k at rec exists was next all =
     let list' = found_in (programmed n at rec).notes in

@@ -10,7 +10,8 @@ use Rattle.version_index.proofs.OfCommit.RoundSteps.{current_more}
 -- one change after another
 pub derives_then : (k t u : TablesState) → OnlyDerives k t → OnlyDerives t u → OnlyDerives k u
 derives_then k t u a b = record {
-  rest = b.rest ∙ ap (λ (v : TablesState). record v { current = u.current; answerers = u.answerers; waits = u.waits }) a.rest;
+  rest = b.rest ∙ ap (λ (v : TablesState). record v { current = u.current; answerers = u.answerers; waits = u.waits })
+      a.rest;
   unused = λ y none rests. (
       let first = a.unused y none rests in
       let still : record_at t.records y ≡ None = ap (λ (v : TablesState). record_at v.records y) a.rest ∙ none in
@@ -30,7 +31,10 @@ pub record IsNamed (k : TablesState) (name : Link) (r : Rec) : Type 0 where
 
 versioned : (version : ℕ) (s r : Rec) → with_version version s ≡ Some r → (s ≡ r) × (s.version ≡ version)
 versioned version s r e = elim (cases_Bool (eqb s.version version)) [
-  | inl same ↦ (same_Some s r (sym (cond-true (eqb s.version version) (Some s) None same) ∙ e), eqb-true s.version version same)
+  | inl same ↦ (
+    same_Some s r (sym (cond-true (eqb s.version version) (Some s) None same) ∙ e),
+    eqb-true s.version version same,
+  )
   | inr other ↦ absurd (none-some r (sym (cond-false (eqb s.version version) (Some s) None other) ∙ e))
 ]
 
@@ -45,7 +49,12 @@ named_rec k name r e =
             | inl none ↦ absurd (none-some r (sym (ap second none) ∙ e'))
             | inr s ↦ (
                 let is = versioned name.version s.0 r (sym (ap second s.1) ∙ e') in
-                record { number = x.0; newest = x.1; is = s.1 ∙ ap Some is.0; version = ap (λ (u : Rec). u.version) (sym is.0) ∙ is.1 })
+                record {
+                  number = x.0;
+                  newest = x.1;
+                  is = s.1 ∙ ap Some is.0;
+                  version = ap (λ (u : Rec). u.version) (sym is.0) ∙ is.1;
+                })
           ])
     ]
 
@@ -57,13 +66,15 @@ top_named k name next t =
     ap (option_and_then (λ x. second (record_at k.records x))) t.newest ∙ ap second t.is
     ∙ cond-true (eqb t.rec.version name.version) (Some t.rec) None (eq-eqb t.rec.version name.version version)
 
--- the same where only what is judged changes
-pub named_still : (k t : TablesState) (name : Link) → OnlyDerives k t → newest_with_name t name ≡ newest_with_name k name
+-- the newest record of a name stays where only what is derived changes
+pub named_still : (k t : TablesState) (name : Link) → OnlyDerives k t →
+    newest_with_name t name ≡ newest_with_name k name
 named_still k t name h =
     ap (λ (v : TablesState). newest_with_name v name) h.rest
 
--- the current version that is kept is the one that is judged
-derived_version : (t : TablesState) (pages : ℕ) (j : Derived) (page : ℕ) → AreDerived (numbered_of t) pages j → page < pages →
+-- the current version that is kept is the derived one
+derived_version : (t : TablesState) (pages : ℕ) (j : Derived) (page : ℕ) → AreDerived (numbered_of t) pages j →
+    page < pages →
     version_at t (number_at t.current page) ≡ j.current page
 derived_version t pages j page judged below =
     let number = number_at t.current page in
@@ -89,8 +100,9 @@ at_rest j h r low = let both = h r low in record { answerer = both.0; waits = bo
 rests : (j : Derived) → IsRested j → Rests j
 rests j h r low = let both = h r low in (both.answerer, both.waits)
 
--- so far a round is taken: at which name it is, and what is judged
-pub record IsTakenSo (k t : TablesState) (start link : Link) (n its_pages : ℕ) (j : Derived) (round : List Link) : Type 0 where
+-- so far a round is taken: at which name it is, and what is derived
+pub record IsTakenSo (k t : TablesState) (start link : Link) (n its_pages : ℕ) (j : Derived)
+    (round : List Link) : Type 0 where
   pub within : n < length round
   pub at : get_or round n start ≡ link
   pub judged : AreDerived (numbered_of t) its_pages (all_current (take n round) j)
@@ -101,22 +113,31 @@ pub record IsTakingRound (k t : TablesState) (start link : Link) (n : ℕ) : Typ
   pub judges : OnlyDerives k t
   pub page : link.page < length k.pages
   pub rounds :
-      (its_pages : ℕ) (j : Derived) (round : List Link) → IsRoundIn k start round → its_pages ≡ length k.pages → Rests j →
+      (its_pages : ℕ) (j : Derived) (round : List Link) → IsRoundIn k start round →
+      its_pages ≡ length k.pages → Rests j →
       AreDerived (numbered_of k) its_pages j → IsTakenSo k t start link n its_pages j round
 
 pub start_taking : (k : TablesState) (start : Link) → start.page < length k.pages → IsTakingRound k k start start 0
 start_taking k start page = record {
   judges = derives_none k;
   page = page;
-  rounds = λ its_pages j round r pages rest judged. record { within = r.some; at = r.first; judged = judged; rested = rest };
+  rounds = λ its_pages j round r pages rest judged. record {
+    within = r.some;
+    at = r.first;
+    judged = judged;
+    rested = rest;
+  };
 }
 
-module _ (k t u : TablesState) (start link : Link) (n : ℕ) (h : IsTakingRound k t start link n) (judges : OnlyDerives t u)
+module _ (k t u : TablesState) (start link : Link) (n : ℕ) (h : IsTakingRound k t start link n)
+    (judges : OnlyDerives t u)
     (taken : IsTaken t u link.page) where
-  -- what is judged once its record is current
-  one_current : (its_pages : ℕ) (j : Derived) (round : List Link) → IsRoundIn k start round → its_pages ≡ length k.pages → Rests j →
+  -- what is derived once its record is current
+  one_current : (its_pages : ℕ) (j : Derived) (round : List Link) → IsRoundIn k start round →
+      its_pages ≡ length k.pages → Rests j →
       AreDerived (numbered_of k) its_pages j →
-      AreDerived (numbered_of u) its_pages (all_current (take (n + 1) round) j) × Rests (all_current (take (n + 1) round) j)
+      AreDerived (numbered_of u) its_pages (all_current (take (n + 1) round) j)
+      × Rests (all_current (take (n + 1) round) j)
   one_current its_pages j round r pages rest judged =
       let so = h.rounds its_pages j round r pages rest judged in
       let top = r.tops n so.within in
@@ -126,7 +147,8 @@ module _ (k t u : TablesState) (start link : Link) (n : ℕ) (h : IsTakingRound 
       let same = ap (λ (v : TablesState). v.records) h.judges.rest in
       let is : record_at t.records top.number ≡ Some top.rec = ap (λ l. record_at l top.number) same ∙ top.is in
       let newest : newest_at t link.page ≡ Some top.number =
-      ap (λ (v : TablesState). newest_at v link.page) h.judges.rest ∙ ap (newest_at k) (ap (λ (l : Link). l.page) (sym so.at)) ∙ top.newest in
+      ap (λ (v : TablesState). newest_at v link.page) h.judges.rest
+      ∙ ap (newest_at k) (ap (λ (l : Link). l.page) (sym so.at)) ∙ top.newest in
       let low = h.page in
       let version : version_at t (number_at t.current link.page) ≡ now.current link.page =
       derived_version t its_pages now link.page so.judged (omega arith) in
@@ -134,7 +156,8 @@ module _ (k t u : TablesState) (start link : Link) (n : ℕ) (h : IsTakingRound 
       let more = current_more round j n start so.within in
       let its : with_current (name_of top.rec) now ≡ all_current (take (n + 1) round) j =
       ap (λ l. with_current l now) top.its_name ∙ sym more in
-      let made = made_current (numbered_of t) (numbered_of u) its_pages now top.number top.rec so.judged rested top.positive (record {
+      let made = made_current (numbered_of t) (numbered_of u) its_pages now top.number top.rec so.judged rested
+      top.positive (record {
         records = ap (λ (v : TablesState). v.records) judges.rest;
         own = is;
         current = ap (number_at u.current) own_page ∙ taken.current ∙ newest;
@@ -143,7 +166,8 @@ module _ (k t u : TablesState) (start link : Link) (n : ℕ) (h : IsTakingRound 
             (subst (λ v. v < s.version) (sym version) (subst (λ p. now.current p < s.version) own_page above));
         others = λ y s is_y off. taken.others y s is_y (elim off [
           | inl other ↦ inl (λ e. other (e ∙ sym own_page))
-          | inr under ↦ inr (subst (λ v. s.version ≤ v) (sym version) (subst (λ p. s.version ≤ now.current p) own_page under))
+          | inr under ↦ inr (subst (λ v. s.version ≤ v) (sym version)
+              (subst (λ p. s.version ≤ now.current p) own_page under))
         ]);
       }) in (
         subst (AreDerived (numbered_of u) its_pages) its made,
@@ -152,8 +176,10 @@ module _ (k t u : TablesState) (start link : Link) (n : ℕ) (h : IsTakingRound 
       )
 
   -- the record of the name that it is at
-  its_top : (its_pages : ℕ) (j : Derived) (round : List Link) (r : IsRoundIn k start round) → its_pages ≡ length k.pages → Rests j →
-      AreDerived (numbered_of k) its_pages j → (rec : Rec) × (newest_with_name u link ≡ Some rec) × (rec.next ≡ get_or round (n + 1) start)
+  its_top : (its_pages : ℕ) (j : Derived) (round : List Link) (r : IsRoundIn k start round) →
+      its_pages ≡ length k.pages → Rests j →
+      AreDerived (numbered_of k) its_pages j → (rec : Rec) × (newest_with_name u link ≡ Some rec)
+      × (rec.next ≡ get_or round (n + 1) start)
   its_top its_pages j round r pages rest judged =
       let so = h.rounds its_pages j round r pages rest judged in
       let top = r.tops n so.within in (
@@ -163,7 +189,8 @@ module _ (k t u : TablesState) (start link : Link) (n : ℕ) (h : IsTakingRound 
         top.link,
       )
 
-  pub taking_ends : (logical : ℕ) (rec : Rec) → newest_with_name u link ≡ Some rec → rec.next.page ≡ start.page → CommitsRound k u start logical
+  pub taking_ends : (logical : ℕ) (rec : Rec) → newest_with_name u link ≡ Some rec → rec.next.page ≡ start.page →
+      CommitsRound k u start logical
   taking_ends logical rec is ends its_pages j round r short pages rest judged =
       let top = its_top its_pages j round r pages rest judged in
       let so = h.rounds its_pages j round r pages rest judged in
@@ -207,7 +234,8 @@ module _ (k t u : TablesState) (start link : Link) (n : ℕ) (h : IsTakingRound 
       }
 
 -- a round of no more names than turns has an end
-pub taking_whole : (k t : TablesState) (start link : Link) (n logical : ℕ) → IsTakingRound k t start link n → logical ≤ n → CommitsRound k t start logical
+pub taking_whole : (k t : TablesState) (start link : Link) (n logical : ℕ) → IsTakingRound k t start link n →
+    logical ≤ n → CommitsRound k t start logical
 taking_whole k t start link n logical h past its_pages j round r short pages rest judged =
     let so = h.rounds its_pages j round r pages rest judged in
     let within = so.within in

@@ -21,7 +21,7 @@ pub record IsNewestNumber (k : TablesState) (page x : ℕ) : Type 0 where
   pub top : newest (found_in (notes_in k)) page ≡ rec.version
   pub most : (y : ℕ) (s : Rec) → rec_at k.records y ≡ Some s → s.page ≡ page → s.version ≤ rec.version
 
--- the same without what was noted
+-- the number that stands first at a page, without what was noted
 pub record IsHead (k : TablesState) (page x : ℕ) : Type 0 where
   pub rec : Rec
   pub is : rec_at k.records x ≡ Some rec
@@ -39,16 +39,19 @@ module _ (k : TablesState) (v : AreVersions k.records k.pages) (page : ℕ) wher
         is = own.1;
         own_page = own.2;
         most = λ y s is of_page.
-            elim (Contains-cases x head.0 y (subst (λ l. Contains l y) head.1 (subst (λ p. Contains (numbers_at k.pages p) y) of_page (v.listed y s is).1))) [
+            elim (Contains-cases x head.0 y (subst (λ l. Contains l y) head.1
+            (subst (λ p. Contains (numbers_at k.pages p) y) of_page (v.listed y s is).1))) [
               | inl same ↦ (
                   let one : s ≡ own.0 = same_Some s own.0 (sym is ∙ ap (rec_at k.records) (sym same) ∙ own.1) in
                   let equal = ap (λ (t : Rec). t.version) one in
                   omega arith)
-              | inr later ↦ (let low = pairs_head (IsNewer k.records) x head.0 y falls later own.0 s own.1 is in omega arith)
+              | inr later ↦ (let low = pairs_head (IsNewer k.records) x head.0 y falls later own.0 s own.1 is in
+                  omega arith)
             ];
       }
 
-  pub no_number : slice_get (numbers_at k.pages page) 0 ≡ None → (y : ℕ) (s : Rec) → rec_at k.records y ≡ Some s → s.page ≡ page → ⊥
+  pub no_number : slice_get (numbers_at k.pages page) 0 ≡ None → (y : ℕ) (s : Rec) → rec_at k.records y ≡ Some s →
+      s.page ≡ page → ⊥
   no_number e y s is of_page =
       Contains-nil y (subst (λ l. Contains l y) (headless (numbers_at k.pages page) e)
       (subst (λ p. Contains (numbers_at k.pages p) y) of_page (v.listed y s is).1))
@@ -62,7 +65,8 @@ module _ (k : TablesState) (h : AreHeld k) (v : AreVersions k.records k.pages) (
         rec = head.rec;
         is = head.is;
         own_page = head.own_page;
-        top = ap (newest (found_in (notes_in k))) (sym head.own_page) ∙ newest_is (found_in (notes_in k)) (found f.0 head.rec) f.2 (λ g j of_page.
+        top = ap (newest (found_in (notes_in k))) (sym head.own_page)
+            ∙ newest_is (found_in (notes_in k)) (found f.0 head.rec) f.2 (λ g j of_page.
             let number = found_number k h g j in head.most number.number g.rec number.is (of_page ∙ head.own_page));
         most = head.most;
       }

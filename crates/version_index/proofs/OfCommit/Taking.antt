@@ -1,4 +1,4 @@
--- Records of a page are let go, one after the other from the newest on.
+-- Records of a page are released, one after the other from the newest on.
 use Rattle.version_index.proofs.Common.{◌≡◌, ◌≢◌, ℕ, suc, ◌+◌, ◌<◌, ◌≤◌, ◌⊎◌, not, eqb, List, [], ◌∷◌, ◌++◌, length, set, AllPairs, Contains, IfSome, Option, Some, None, refl, sym, ap, ◌∙◌, subst, inl, inr, arith, eq-eqb, ne_eqb, slice_get, option_map_or, cases_eq, cases_lt, cond-true, cond-false, length-set, get_or-set_same, get_or-set_other, get_or_past, none-some, same_Some, Contains-cases, Contains-first, Contains-nil, Contains-rest, cases_Option, pairs_head, pairs_tail, Rec, slots_of, TablesState, IsTablesState, record_at, number_at, numbers_at, OnlyDerives, IsTaken, newest_at, freed, version_at}
 use Rattle.dense_tables.specs.LinkedLists.{index_in, next_in}
 use Rattle.slot_tables.specs.TablesState.{IsNewer, AreVersions}
@@ -36,7 +36,8 @@ split_at (y ∷ ys) x i = elim (cases_eq y x) [
 ]
 
 -- where each of a list is in order with the later ones
-in_before : (R : ℕ → ℕ → Type 0) (before : List ℕ) (x : ℕ) (after : List ℕ) → AllPairs R (before ++ x ∷ after) → (y : ℕ) →
+in_before : (R : ℕ → ℕ → Type 0) (before : List ℕ) (x : ℕ) (after : List ℕ) →
+    AllPairs R (before ++ x ∷ after) → (y : ℕ) →
     Contains (before ++ x ∷ after) y → (R y x) ⊎ ((y ≡ x) ⊎ (Contains after y × R x y))
 in_before R [] x after p y i = elim (Contains-cases x after y i) [
   | inl same ↦ inr (inl (sym same))
@@ -51,7 +52,8 @@ in_before R (b ∷ bs) x after p y i = elim (Contains-cases b (bs ++ x ∷ after
     x_in [] = Contains-first x after
     x_in (b ∷ bs) = Contains-rest b (bs ++ x ∷ after) x (x_in bs)
 
-after_pairs : (R : ℕ → ℕ → Type 0) (before : List ℕ) (x : ℕ) (after : List ℕ) → AllPairs R (before ++ x ∷ after) → AllPairs R after
+after_pairs : (R : ℕ → ℕ → Type 0) (before : List ℕ) (x : ℕ) (after : List ℕ) → AllPairs R (before ++ x ∷ after) →
+    AllPairs R after
 after_pairs R [] x after p = pairs_tail R x after p
 after_pairs R (b ∷ bs) x after p = after_pairs R bs x after (pairs_tail R b (bs ++ x ∷ after) p)
 
@@ -65,7 +67,8 @@ pub record IsOlderOf (k : TablesState) (r : Rec) (x z : ℕ) : Type 0 where
       (y : ℕ) (s : Rec) → record_at k.records y ≡ Some s → s.page ≡ r.page → y ≢ x →
       (r.version < s.version) ⊎ (s.version ≤ rec.version)
 
-module _ (k : TablesState) (v : AreVersions k.records k.pages) (x : ℕ) (r : Rec) (is : record_at k.records x ≡ Some r) where
+module _ (k : TablesState) (v : AreVersions k.records k.pages) (x : ℕ) (r : Rec)
+    (is : record_at k.records x ≡ Some r) where
   abbrev xs : List ℕ
   xs = numbers_at k.pages r.page
 
@@ -79,15 +82,18 @@ module _ (k : TablesState) (v : AreVersions k.records k.pages) (x : ℕ) (r : Re
       (IsNewer k.records y x) ⊎ ((y ≡ x) ⊎ (Contains its_split.after y × IsNewer k.records x y))
   placed y s is_y of_page =
       in_before (IsNewer k.records) its_split.before x its_split.after falls y
-      (subst (λ l. Contains l y) its_split.whole (subst (λ p. Contains (numbers_at k.pages p) y) of_page (v.listed y s is_y).1))
+      (subst (λ l. Contains l y) its_split.whole (subst (λ p. Contains (numbers_at k.pages p) y) of_page
+      (v.listed y s is_y).1))
 
   -- where none comes, each other one of the page is newer
-  pub none_older : next_in xs x ≡ None → (y : ℕ) (s : Rec) → record_at k.records y ≡ Some s → s.page ≡ r.page → y ≢ x → r.version < s.version
+  pub none_older : next_in xs x ≡ None → (y : ℕ) (s : Rec) → record_at k.records y ≡ Some s → s.page ≡ r.page → y ≢ x →
+      r.version < s.version
   none_older e y s is_y of_page off = elim (placed y s is_y of_page) [
     | inl newer ↦ newer s r is_y is
     | inr rest ↦ elim rest [
       | inl same ↦ absurd (off same)
-      | inr later ↦ absurd (Contains-nil y (subst (λ l. Contains l y) (headless its_split.after (sym its_split.behind ∙ e)) later.0))
+      | inr later ↦ absurd (Contains-nil y (subst (λ l. Contains l y)
+          (headless its_split.after (sym its_split.behind ∙ e)) later.0))
     ]
   ]
 
@@ -97,7 +103,8 @@ module _ (k : TablesState) (v : AreVersions k.records k.pages) (x : ℕ) (r : Re
       let z_in : Contains its_split.after z = subst (λ l. Contains l z) (sym head.1) (Contains-first z head.0) in
       let in_xs : Contains xs z = subst (λ l. Contains l z) (sym its_split.whole) (after_in its_split.before z_in) in
       let own = v.page r.page z in_xs in
-      let rest = subst (AllPairs (IsNewer k.records)) head.1 (after_pairs (IsNewer k.records) its_split.before x its_split.after falls) in
+      let rest = subst (AllPairs (IsNewer k.records)) head.1
+      (after_pairs (IsNewer k.records) its_split.before x its_split.after falls) in
       record {
         rec = own.0;
         is = own.1;
@@ -112,7 +119,8 @@ module _ (k : TablesState) (v : AreVersions k.records k.pages) (x : ℕ) (r : Re
                   let one : s ≡ own.0 = same_Some s own.0 (sym is_y ∙ ap (record_at k.records) (sym here) ∙ own.1) in
                   let equal = ap (λ (t : Rec). t.version) one in
                   inr (omega arith))
-              | inr behind ↦ (let low = pairs_head (IsNewer k.records) z head.0 y rest behind own.0 s own.1 is_y in inr (omega arith))
+              | inr behind ↦ (let low = pairs_head (IsNewer k.records) z head.0 y rest behind own.0 s own.1 is_y in
+                  inr (omega arith))
             ]
           ]
         ];
@@ -122,13 +130,15 @@ module _ (k : TablesState) (v : AreVersions k.records k.pages) (x : ℕ) (r : Re
       after_in {z} [] i = Contains-rest x its_split.after z i
       after_in {z} (b ∷ bs) i = Contains-rest b (bs ++ x ∷ its_split.after) z (after_in bs i)
 
-      after_newer : {z : ℕ} (before : List ℕ) → AllPairs (IsNewer k.records) (before ++ x ∷ its_split.after) → Contains its_split.after z →
+      after_newer : {z : ℕ} (before : List ℕ) → AllPairs (IsNewer k.records) (before ++ x ∷ its_split.after) →
+          Contains its_split.after z →
           IsNewer k.records x z
       after_newer {z} [] p i = pairs_head (IsNewer k.records) x its_split.after z p i
       after_newer {z} (b ∷ bs) p i = after_newer bs (pairs_tail (IsNewer k.records) b (bs ++ x ∷ its_split.after) p) i
 
 -- its number is in range
-pub older_below : (k : TablesState) → IsTablesState k → (x : ℕ) (r : Rec) → record_at k.records x ≡ Some r → (next : Option ℕ) →
+pub older_below : (k : TablesState) → IsTablesState k → (x : ℕ) (r : Rec) → record_at k.records x ≡ Some r →
+    (next : Option ℕ) →
     next ≡ next_in (numbers_at k.pages r.page) x → IfSome next (λ z. z < slots_of k.shape)
 older_below k sizes x r is None e = tt
 older_below k sizes x r is (Some z) e =
@@ -147,11 +157,11 @@ pub record IsNotAbove (k : TablesState) (next : Option ℕ) (s : Rec) : Type 0 w
   pub is : record_at k.records number ≡ Some rec
   pub low : s.version ≤ rec.version
 
--- a record is none of those that were let go so far
+-- a record is none of those that were released so far
 abbrev pub Stays : TablesState → ℕ → ℕ → Option ℕ → Rec → Type 0
 Stays k page version next s = (s.page ≢ page) ⊎ ((s.version ≤ version) ⊎ IsNotAbove k next s)
 
--- the records of the page above the version, and above the next one, are let go
+-- the records of the page above the version, and above the next one, are released
 pub record IsTaking (k new : TablesState) (page version : ℕ) (next : Option ℕ) : Type 0 where
   pub rest : new ≡ record k { answerers = new.answerers; waits = new.waits }
   pub answerers : length new.answerers ≡ length k.answerers
@@ -174,13 +184,15 @@ abbrev pub left_over : TablesState → Option ℕ → ℕ
 left_over k next = over_of k.records next
 
 module _ (k : TablesState) (sizes : IsTablesState k) (page version : ℕ) where
-  pub none_taken : (next : Option ℕ) → next ≡ newest_at k page → IfSome next (λ x. x < slots_of k.shape) → IsTaking k k page version next
+  pub none_taken : (next : Option ℕ) → next ≡ newest_at k page → IfSome next (λ x. x < slots_of k.shape) →
+      IsTaking k k page version next
   none_taken next is_newest within = record {
     rest = refl;
     answerers = refl;
     waits = refl;
     within = within;
-    its = λ x e. (let head = head_number k sizes.versions page x (sym is_newest ∙ e) in (head.rec, head.is, head.own_page));
+    its = λ x e. (let head = head_number k sizes.versions page x (sym is_newest ∙ e) in
+        (head.rec, head.is, head.own_page));
     let_go = λ y s is of_page above over. elim (cases_Option (newest_at k page)) [
       | inl none ↦ absurd (no_number k sizes.versions page none y s is of_page)
       | inr some ↦ (
@@ -246,8 +258,10 @@ module _ (k : TablesState) (sizes : IsTablesState k) (page version : ℕ) where
             let one = same_Some its_rec r (sym its_is ∙ ap (record_at k.records) same ∙ is_r) in
             let equal = ap (λ (u : Rec). u.version) one in
             let newer = newer_than y s is of_page off over in
-            omega arith)) in
-            (get_or-set_other t.answerers x y None None off ∙ old.0, get_or-set_other t.waits x y None None off ∙ old.1))
+            omega arith)) in (
+              get_or-set_other t.answerers x y None None off ∙ old.0,
+              get_or-set_other t.waits x y None None off ∙ old.1,
+            ))
       ];
       others = λ y stays. (
           let off : y ≢ x = λ here. not_staying (stays its_rec (ap (record_at k.records) here ∙ its_is)) in
@@ -256,13 +270,18 @@ module _ (k : TablesState) (sizes : IsTablesState k) (page version : ℕ) where
     }
       where
         newer_than : (y : ℕ) (s : Rec) → record_at k.records y ≡ Some s → s.page ≡ page → y ≢ x →
-            ((z : ℕ) (r : Rec) → next ≡ Some z → record_at k.records z ≡ Some r → r.version < s.version) → its_rec.version < s.version
+            ((z : ℕ) (r : Rec) → next ≡ Some z → record_at k.records z ≡ Some r → r.version < s.version) →
+            its_rec.version < s.version
         newer_than y s is of_page off over = elim (cases_Option next) [
-          | inl none ↦ none_older k sizes.versions x its_rec its_is (sym older_next ∙ none) y s is (of_page ∙ sym its_page) off
+          | inl none ↦ none_older k sizes.versions x its_rec its_is (sym older_next ∙ none) y s is (of_page
+              ∙ sym its_page) off
           | inr some ↦ (
               let older = some_older k sizes.versions x its_rec its_is some.0 (sym older_next ∙ some.1) in
               let high = over some.0 older.rec some.1 older.is in
-              elim (older.between y s is (of_page ∙ sym its_page) off) [ inl newer ↦ newer | inr low ↦ absurd (omega arith) ])
+              elim (older.between y s is (of_page ∙ sym its_page) off) [
+                | inl newer ↦ newer
+                | inr low ↦ absurd (omega arith)
+              ])
         ]
 
         lower_next : (s : Rec) → IsNotAbove k next s → s.version < its_rec.version
@@ -288,7 +307,8 @@ module _ (k : TablesState) (sizes : IsTablesState k) (page version : ℕ) where
           | inl other ↦ inl other
           | inr rest ↦ elim rest [
             | inl low ↦ inr (inl low)
-            | inr n ↦ (let less = lower_next s n in inr (inr (record { number = x; rec = its_rec; is_next = refl; is = its_is; low = omega arith })))
+            | inr n ↦ (let less = lower_next s n in
+                inr (inr (record { number = x; rec = its_rec; is_next = refl; is = its_is; low = omega arith })))
           ]
         ]
 
@@ -304,8 +324,9 @@ module _ (k : TablesState) (sizes : IsTablesState k) (page version : ℕ) where
           omega arith)
     ]
 
-  -- where no record above is left, all are let go
-  pub all_taken : (t : TablesState) (next : Option ℕ) → IsTaking k t page version next → ((x : ℕ) → next ≡ Some x → version_at k (Some x) ≤ version) →
+  -- where no record above is left, all are released
+  pub all_taken : (t : TablesState) (next : Option ℕ) → IsTaking k t page version next →
+      ((x : ℕ) → next ≡ Some x → version_at k (Some x) ≤ version) →
       AreReleased k t page version
   all_taken t next h low = record {
     rest = h.rest;
@@ -317,7 +338,8 @@ module _ (k : TablesState) (sizes : IsTablesState k) (page version : ℕ) where
   }
 
 -- the newest record of the page is current then
-pub taken_then : (k t : TablesState) (page version : ℕ) → AreReleased k t page version → version ≡ version_at k (number_at k.current page) →
+pub taken_then : (k t : TablesState) (page version : ℕ) → AreReleased k t page version →
+    version ≡ version_at k (number_at k.current page) →
     page < length t.current → IsTaken k (record t { current = set t.current page (newest_at k page) }) page
 taken_then k t page version h is within = record {
   current = get_or-set_same t.current page (newest_at k page) None within;
@@ -333,7 +355,8 @@ taken_then k t page version h is within = record {
 }
 
 -- and nothing else changes
-pub taken_derives : (k t : TablesState) (page version : ℕ) → AreReleased k t page version → (c : List (Option ℕ)) → OnlyDerives k (record t { current = c })
+pub taken_derives : (k t : TablesState) (page version : ℕ) → AreReleased k t page version → (c : List (Option ℕ)) →
+    OnlyDerives k (record t { current = c })
 taken_derives k t page version h c = record {
   rest = ap (λ (u : TablesState). record u { current = c }) h.rest;
   unused = λ y none rests. h.others y (λ s is. absurd (none-some s (sym none ∙ is)));

@@ -8,7 +8,8 @@ unfoldable pub going : Protocol → List Found → ℕ → ℕ → ℕ → List 
 going protocol list logical page below rest = first_slot (λ f. must_go protocol list logical page below f.rec) rest
 
 module _ (protocol : Protocol) (list : List Found) (logical page below : ℕ) where
-  pub first_slot-going : first_slot (λ f. must_go protocol list logical page below f.rec) list ≡ going protocol list logical page below list
+  pub first_slot-going : first_slot (λ f. must_go protocol list logical page below f.rec) list
+      ≡ going protocol list logical page below list
   unfolding going
   first_slot-going = refl
 
@@ -19,7 +20,8 @@ module _ (protocol : Protocol) (list : List Found) (logical page below : ℕ) wh
       let f = get_or list i nothing in
       ap (first_slot (λ g. must_go protocol list logical page below g.rec)) (drop_more list i nothing within)
       ∙ ap (option_map (λ g. g.slot.0))
-      (cond-true (must_go protocol list logical page below f.rec) (Some f) (find (λ g. must_go protocol list logical page below g.rec) (drop (i + 1) list))
+      (cond-true (must_go protocol list logical page below f.rec) (Some f)
+      (find (λ g. must_go protocol list logical page below g.rec) (drop (i + 1) list))
       goes)
 
   pub going_on : (i : ℕ) → i < length list → must_go protocol list logical page below (record_at list i) ≡ false →
@@ -29,7 +31,8 @@ module _ (protocol : Protocol) (list : List Found) (logical page below : ℕ) wh
       let f = get_or list i nothing in
       ap (first_slot (λ g. must_go protocol list logical page below g.rec)) (drop_more list i nothing within)
       ∙ ap (option_map (λ g. g.slot.0))
-      (cond-false (must_go protocol list logical page below f.rec) (Some f) (find (λ g. must_go protocol list logical page below g.rec) (drop (i + 1) list))
+      (cond-false (must_go protocol list logical page below f.rec) (Some f)
+      (find (λ g. must_go protocol list logical page below g.rec) (drop (i + 1) list))
       stays)
 
   pub going_none : (i : ℕ) → length list ≤ i → going protocol list logical page below (drop i list) ≡ None

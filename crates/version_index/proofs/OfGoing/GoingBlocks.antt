@@ -58,16 +58,24 @@ pub gathered_goes : (k : TablesState) (page below : ℕ) (blocks : List Block) �
 gathered_goes k page below blocks g b = (
   λ has. (
       let one = in_map (λ (c : Block). c.0) blocks b has in
-      let two = in_map (block_at k.shape.pages_per_block) (copies_of_all k g.numbers) one.0 (subst (λ bs. Contains bs one.0) g.are one.1) in
+      let two = in_map (block_at k.shape.pages_per_block) (copies_of_all k g.numbers) one.0
+      (subst (λ bs. Contains bs one.0) g.are one.1) in
       let f = from_all k g.numbers two.0 two.1 in
       record {
         at = two.0;
         inside = ap (λ (c : Block). c.0) two.2 ∙ one.2;
-        goes = (f.0, holds_use f.0 (use_at k.slots two.0) ((copies_have k.slots f.0 two.0).0 f.2).1, (g.such f.0).0 f.1);
+        goes = (
+          f.0,
+          holds_use f.0 (use_at k.slots two.0) ((copies_have k.slots f.0 two.0).0 f.2).1,
+          (g.such f.0).0 f.1,
+        );
       }),
   λ (h : BlockMustGo k page below b). (
       let x = h.goes.0 in
-      let own = (copies_have k.slots x h.at).1 (use_within k h.at x h.goes.1, use_holds x (use_at k.slots h.at) h.goes.1) in
+      let own = (copies_have k.slots x h.at).1 (
+        use_within k h.at x h.goes.1,
+        use_holds x (use_at k.slots h.at) h.goes.1,
+      ) in
       let gathered = in_all k g.numbers x h.at ((g.such x).1 h.goes.2) own in
       let c = block_at k.shape.pages_per_block h.at in
       subst (Contains (map (λ (c : Block). c.0) blocks)) h.inside
@@ -75,10 +83,12 @@ gathered_goes k page below blocks g b = (
       (map_in (block_at k.shape.pages_per_block) (copies_of_all k g.numbers) h.at gathered)))),
 )
 
-module _ (protocol : Protocol) (its : Config) (m : List ℕ) (k : TablesState) (i : AreIndexed protocol its m k) (kept' : IsTablesState k)
+module _ (protocol : Protocol) (its : Config) (m : List ℕ) (k : TablesState) (i : AreIndexed protocol its m k)
+    (kept' : IsTablesState k)
     (scc : its.protocol ≡ Scc) (page below : ℕ) where
   abbrev test : ℕ → Found → Bool
-  test block f = eqb (f.slot.0 / its.pages_per_block) block && must_go its.protocol (found_in (notes_in k)) its.logical page below f.rec
+  test block f = eqb (f.slot.0 / its.pages_per_block) block && must_go its.protocol (found_in (notes_in k)) its.logical
+      page below f.rec
 
   pub block_going : (block : ℕ) → BlockMustGo k page below block → is_going (noted_by its m k) page below block ≡ true
   unfolding goes_of
@@ -87,8 +97,10 @@ module _ (protocol : Protocol) (its : Config) (m : List ℕ) (k : TablesState) (
       let r = i.held.held h.at x h.goes.1 in
       let here = note_held k h.at x r.0 h.goes.1 r.1 in
       let inside = subst (λ s. h.at / s.pages_per_block ≡ block) i.shape h.inside in
-      any_from (test block) (found_in (notes_in k)) (found h.at r.0) (noted_in (notes_in k) h.at r.0 (holds_within (notes_in k) h.at r.0 here) here)
-      (ap₂ (λ a b. a && b) (eq-eqb (h.at / its.pages_per_block) block inside) (number_goes protocol its m k i kept' scc page below x r.0 r.1 h.goes.2))
+      any_from (test block) (found_in (notes_in k)) (found h.at r.0)
+      (noted_in (notes_in k) h.at r.0 (holds_within (notes_in k) h.at r.0 here) here)
+      (ap₂ (λ a b. a && b) (eq-eqb (h.at / its.pages_per_block) block inside)
+      (number_goes protocol its m k i kept' scc page below x r.0 r.1 h.goes.2))
 
   pub going_block : (block : ℕ) → is_going (noted_by its m k) page below block ≡ true → BlockMustGo k page below block
   unfolding goes_of
@@ -100,7 +112,8 @@ module _ (protocol : Protocol) (its : Config) (m : List ℕ) (k : TablesState) (
       let x = held_number k f.slot.0 f.rec noted.1 in
       record {
         at = f.slot.0;
-        inside = subst (λ s. f.slot.0 / s.pages_per_block ≡ block) (sym i.shape) (eqb-true (f.slot.0 / its.pages_per_block) block both.0);
+        inside = subst (λ s. f.slot.0 / s.pages_per_block ≡ block) (sym i.shape)
+            (eqb-true (f.slot.0 / its.pages_per_block) block both.0);
         goes = (x.number, x.holds, goes_number protocol its m k i kept' scc page below x.number f.rec x.is both.1);
       }
 
@@ -113,13 +126,16 @@ module _ (protocol : Protocol) (its : Config) (m : List ℕ) (k : TablesState) (
   ]
 
   pub going_are : (blocks gathered : List Block) → AreGathered k (Goes k page below) gathered → AreRising blocks
-      → ((c : Block) → Contains blocks c ↔ Contains gathered c) → map (λ c. c.0) blocks ≡ going_blocks (noted_by its m k) page below
+      → ((c : Block) → Contains blocks c ↔ Contains gathered c) →
+      map (λ c. c.0) blocks ≡ going_blocks (noted_by its m k) page below
   unfolding going_blocks
   going_are blocks gathered g rising same =
       let n = noted_by its m k in
       let goes = gathered_goes k page below gathered g in
-      rising_same (map (λ (c : Block). c.0) blocks) (filter (is_going n page below) (range_with_len 0 (blocks_of (shape_of its))))
-      (pairs_to (λ (c : Block). c.0) (λ x y. x < y) blocks rising) (filter_rises (is_going n page below) 0 (blocks_of (shape_of its)))
+      rising_same (map (λ (c : Block). c.0) blocks)
+      (filter (is_going n page below) (range_with_len 0 (blocks_of (shape_of its))))
+      (pairs_to (λ (c : Block). c.0) (λ x y. x < y) blocks rising)
+      (filter_rises (is_going n page below) 0 (blocks_of (shape_of its)))
       (λ b. (
         λ has. (
             let one = in_map (λ (c : Block). c.0) blocks b has in
@@ -130,14 +146,16 @@ module _ (protocol : Protocol) (its : Config) (m : List ℕ) (k : TablesState) (
             let slots : h.at < slots_of k.shape = subst (λ c. h.at < c) kept'.slots within in
             let inside : h.at < blocks_of k.shape * k.shape.pages_per_block = omega arith in
             let exists = div_below h.at k.shape.pages_per_block (blocks_of k.shape) (omega arith) inside in
-            let low : b < blocks_of (shape_of its) = subst (λ s. b < blocks_of s) i.shape (subst (λ c. c < blocks_of k.shape) h.inside exists) in
+            let low : b < blocks_of (shape_of its) = subst (λ s. b < blocks_of s) i.shape
+            (subst (λ c. c < blocks_of k.shape) h.inside exists) in
             in_filter (is_going n page below) b (range_with_len 0 (blocks_of (shape_of its)))
             (in_range 0 (blocks_of (shape_of its)) b (omega arith) (omega arith))
             (block_going b h)),
         λ has. (
             let f = from_filter (is_going n page below) b (range_with_len 0 (blocks_of (shape_of its))) has in
             let one = in_map (λ (c : Block). c.0) gathered b ((goes b).1 (going_block b f.1)) in
-            subst (Contains (map (λ (c : Block). c.0) blocks)) one.2 (map_in (λ (c : Block). c.0) blocks one.0 ((same one.0).1 one.1))),
+            subst (Contains (map (λ (c : Block). c.0) blocks)) one.2
+            (map_in (λ (c : Block). c.0) blocks one.0 ((same one.0).1 one.1))),
       ))
 
 -- and under Back Pointer Cyclic Commit there are none
@@ -153,7 +171,8 @@ module _ (its : Config) (m : List ℕ) (k : TablesState) (page below : ℕ) (bpc
   none_going block = elim (cases_Bool (is_going (noted_by its m k) page below block)) [
     | inl goes ↦ (
         let l = found_in (notes_in k) in
-        let some = any_of (λ (f : Found). eqb (f.slot.0 / its.pages_per_block) block && must_go its.protocol l its.logical page below f.rec) l goes in
+        let some = any_of (λ (f : Found). eqb (f.slot.0 / its.pages_per_block) block
+        && must_go its.protocol l its.logical page below f.rec) l goes in
         let both = both_true (eqb (some.0.slot.0 / its.pages_per_block) block) _ some.2 in
         absurd (false≢true (sym (ap (λ p. must_go p l its.logical page below some.0.rec) bpcc) ∙ both.1)))
     | inr stays ↦ stays

@@ -29,16 +29,19 @@ lowest_copy k Such x such only = of_head (slice_get (copies_of k.slots x) 0) ref
     of_head : (o : Option ℕ) → slice_get (copies_of k.slots x) 0 ≡ o → IsLowestIn k Such o
     of_head None e = λ at y here is.
         let same = only y is in
-        let none = none_passed (λ j. holds x (use_at k.slots j)) (λ _. true) (length k.slots) (sym (head_find (copies_of k.slots x)) ∙ e) at
+        let none = none_passed (λ j. holds x (use_at k.slots j)) (λ _. true) (length k.slots)
+        (sym (head_find (copies_of k.slots x)) ∙ e) at
         (use_within k at y here) (use_holds x (use_at k.slots at) (here ∙ ap slot.Holds same)) in
         false≢true (sym none)
     of_head (Some at) e =
-        let first = first_passed (λ j. holds x (use_at k.slots j)) (λ _. true) 0 (length k.slots) at (sym (head_find (copies_of k.slots x)) ∙ e) in
+        let first = first_passed (λ j. holds x (use_at k.slots j)) (λ _. true) 0 (length k.slots) at
+        (sym (head_find (copies_of k.slots x)) ∙ e) in
         record {
           number = x;
           holds = holds_use x (use_at k.slots at) first.one;
           such = such;
-          lowest = λ other y here is. first.least other (omega arith) (use_holds x (use_at k.slots other) (here ∙ ap slot.Holds (only y is))) refl;
+          lowest = λ other y here is. first.least other (omega arith)
+              (use_holds x (use_at k.slots other) (here ∙ ap slot.Holds (only y is))) refl;
         }
 
 -- the lower one of two such slots
@@ -49,13 +52,19 @@ lower_of k P Q None (Some b) p q = record {
   number = q.number;
   holds = q.holds;
   such = inr q.such;
-  lowest = λ other x here such. elim such [ inl one ↦ absurd (p other x here one) | inr two ↦ q.lowest other x here two ];
+  lowest = λ other x here such. elim such [
+    | inl one ↦ absurd (p other x here one)
+    | inr two ↦ q.lowest other x here two
+  ];
 }
 lower_of k P Q (Some a) None p q = record {
   number = p.number;
   holds = p.holds;
   such = inl p.such;
-  lowest = λ other x here such. elim such [ inl one ↦ p.lowest other x here one | inr two ↦ absurd (q other x here two) ];
+  lowest = λ other x here such. elim such [
+    | inl one ↦ p.lowest other x here one
+    | inr two ↦ absurd (q other x here two)
+  ];
 }
 lower_of k P Q (Some a) (Some b) p q = elim (cases_lt b a) [
   | inl second ↦ (
@@ -90,7 +99,8 @@ some_and (Some s) P r e h = subst P (same_Some s r e) h
 and_some : (o : Option Rec) (P : Rec → Type 0) (r : Rec) → o ≡ Some r → P r → IsSomeAnd o P
 and_some o P r e h = subst (λ q. IsSomeAnd q P) (sym e) h
 
-module _ (protocol : Protocol) (its : Config) (m : List ℕ) (k : TablesState) (i : AreIndexed protocol its m k) (kept' : IsTablesState k)
+module _ (protocol : Protocol) (its : Config) (m : List ℕ) (k : TablesState) (i : AreIndexed protocol its m k)
+    (kept' : IsTablesState k)
     (scc : its.protocol ≡ Scc) (page below : ℕ) where
   waits_loose : (r : Rec) → waits_of (noted_by its m k) r ≡ loose_of (noted_by its m k) r
   unfolding waits_of loose_of
@@ -99,13 +109,16 @@ module _ (protocol : Protocol) (its : Config) (m : List ℕ) (k : TablesState) (
       ap (λ p. is_waiting p l its.logical r) scc ∙ ap (λ p. is_loose p l its.logical r) (sym scc)
 
   -- a number goes where its record does
-  pub number_goes : (x : ℕ) (r : Rec) → rec_at k.records x ≡ Some r → Goes k page below x → goes_of (noted_by its m k) page below r ≡ true
+  pub number_goes : (x : ℕ) (r : Rec) → rec_at k.records x ≡ Some r → Goes k page below x →
+      goes_of (noted_by its m k) page below r ≡ true
   number_goes x r is goes =
       let n = noted_by its m k in
       let f = kept_found k i.held x r is in
-      let reading = All-contains (λ f. (goes_of n page below f.rec ≡ true) ↔ (IsNewestUncommitted n page below f.rec ⊎ WaitsBelow n page below f.rec))
+      let reading = All-contains (λ f. (goes_of n page below f.rec ≡ true)
+      ↔ (IsNewestUncommitted n page below f.rec ⊎ WaitsBelow n page below f.rec))
       (found_in n.notes) (found f.0 r) (going_reading protocol n i.noted scc page below) f.2 in
-      let waiting = λ (to : ℕ). waiting_number protocol n i.noted (numbered_of k) (numbering protocol its m k i) x r is to in
+      let waiting = λ (to : ℕ). waiting_number protocol n i.noted (numbered_of k)
+      (numbering protocol its m k i) x r is to in
       reading.1 (elim goes [
         | inl top ↦ (
             let newest = newest_number k i.held kept'.versions page x top.0 in
@@ -121,16 +134,23 @@ module _ (protocol : Protocol) (its : Config) (m : List ℕ) (k : TablesState) (
             ])
         | inr link ↦ (
             let both = (waiting page).0 link.0 in
-            inr (record { waits = both.0; next_page = both.1; low = some_and (rec_at k.records x) (λ s. s.next.version < below) r is link.1 }))
+            inr (record {
+              waits = both.0;
+              next_page = both.1;
+              low = some_and (rec_at k.records x) (λ s. s.next.version < below) r is link.1;
+            }))
       ])
 
-  pub goes_number : (x : ℕ) (r : Rec) → rec_at k.records x ≡ Some r → goes_of (noted_by its m k) page below r ≡ true → Goes k page below x
+  pub goes_number : (x : ℕ) (r : Rec) → rec_at k.records x ≡ Some r → goes_of (noted_by its m k) page below r ≡ true →
+      Goes k page below x
   goes_number x r is goes =
       let n = noted_by its m k in
       let f = kept_found k i.held x r is in
-      let reading = All-contains (λ f. (goes_of n page below f.rec ≡ true) ↔ (IsNewestUncommitted n page below f.rec ⊎ WaitsBelow n page below f.rec))
+      let reading = All-contains (λ f. (goes_of n page below f.rec ≡ true)
+      ↔ (IsNewestUncommitted n page below f.rec ⊎ WaitsBelow n page below f.rec))
       (found_in n.notes) (found f.0 r) (going_reading protocol n i.noted scc page below) f.2 in
-      let waiting = λ (to : ℕ). waiting_number protocol n i.noted (numbered_of k) (numbering protocol its m k i) x r is to in
+      let waiting = λ (to : ℕ). waiting_number protocol n i.noted (numbered_of k)
+      (numbering protocol its m k i) x r is to in
       elim (reading.0 goes) [
         | inl top ↦ (
             let waits = (waiting r.next.page).1 (waits_loose r ∙ top.loose, refl) in
@@ -139,37 +159,50 @@ module _ (protocol : Protocol) (its : Config) (m : List ℕ) (k : TablesState) (
               | inl none ↦ absurd (no_number k kept'.versions page none x r is top.own_page)
               | inr head ↦ (
                   let newest = newest_number k i.held kept'.versions page head.0 head.1 in
-                  let name = same_name (name_of newest.rec) (name_of r) (newest.own_page ∙ sym top.own_page) (sym newest.top ∙ top.top) in
+                  let name = same_name (name_of newest.rec) (name_of r) (newest.own_page ∙ sym top.own_page)
+                  (sym newest.top ∙ top.top) in
                   let same = i.held.once head.0 x newest.rec r newest.is is name in
-                  inl (head.1 ∙ ap Some same, (some, and_some (rec_at k.records x) (λ s. s.version < below) r is top.low)))
+                  inl (
+                    head.1 ∙ ap Some same,
+                    (some, and_some (rec_at k.records x) (λ s. s.version < below) r is top.low),
+                  ))
             ])
-        | inr link ↦ inr ((waiting page).1 (link.waits, link.next_page), and_some (rec_at k.records x) (λ s. s.next.version < below) r is link.low)
+        | inr link ↦ inr (
+          (waiting page).1 (link.waits, link.next_page),
+          and_some (rec_at k.records x) (λ s. s.next.version < below) r is link.low,
+        )
       ]
 
   -- the block of the lowest slot of such a number
   pub read_to_go : (o : Option ℕ) → IsLowestIn k (Goes k page below) o →
       option_map (λ at. at / its.pages_per_block) o ≡ block_to_go (noted_by its m k) page below
-  read_to_go None none = sym (none_to_go (noted_by its m k) page below (λ at r here. elim (cases_Bool (goes_of (noted_by its m k) page below r)) [
-    | inl goes ↦ (let x = held_number k at r here in absurd (none at x.number x.holds (goes_number x.number r x.is goes)))
-    | inr stays ↦ stays
-  ]))
+  read_to_go None none = sym (none_to_go (noted_by its m k) page below
+      (λ at r here. elim (cases_Bool (goes_of (noted_by its m k) page below r)) [
+        | inl goes ↦ (let x = held_number k at r here in
+            absurd (none at x.number x.holds (goes_number x.number r x.is goes)))
+        | inr stays ↦ stays
+      ]))
   read_to_go (Some at) lowest =
       let r = i.held.held at lowest.number lowest.holds in
       sym (lowest_to_go (noted_by its m k) page below at (record {
         rec = r.0;
         holds = note_held k at lowest.number r.0 lowest.holds r.1;
         passes = number_goes lowest.number r.0 r.1 lowest.such;
-        least = λ j s here goes. (let x = held_number k j s here in lowest.lowest j x.number x.holds (goes_number x.number s x.is goes));
+        least = λ j s here goes. (let x = held_number k j s here in
+            lowest.lowest j x.number x.holds (goes_number x.number s x.is goes));
       }))
 
 -- and under Back Pointer Cyclic Commit there is none
-module _ (protocol : Protocol) (its : Config) (m : List ℕ) (k : TablesState) (i : AreIndexed protocol its m k) (kept' : IsTablesState k)
+module _ (protocol : Protocol) (its : Config) (m : List ℕ) (k : TablesState) (i : AreIndexed protocol its m k)
+    (kept' : IsTablesState k)
     (page below : ℕ) where
-  pub read_going : (o : Option ℕ) → (its.protocol ≡ Scc → IsLowestIn k (Goes k page below) o) → (its.protocol ≡ Bpcc → o ≡ None) →
+  pub read_going : (o : Option ℕ) → (its.protocol ≡ Scc → IsLowestIn k (Goes k page below) o) →
+      (its.protocol ≡ Bpcc → o ≡ None) →
       option_map (λ at. at / its.pages_per_block) o ≡ block_to_go (noted_by its m k) page below
   read_going o scc bpcc = of_protocol its.protocol refl
     where
-      of_protocol : (p : Protocol) → its.protocol ≡ p → option_map (λ at. at / its.pages_per_block) o ≡ block_to_go (noted_by its m k) page below
+      of_protocol : (p : Protocol) → its.protocol ≡ p → option_map (λ at. at / its.pages_per_block) o
+          ≡ block_to_go (noted_by its m k) page below
       of_protocol Scc e = read_to_go protocol its m k i kept' e page below o (scc e)
       of_protocol Bpcc e =
           let n = noted_by its m k in

@@ -1,4 +1,4 @@
--- The laws of what is judged of the noted records, from the commit laws.
+-- The laws of what is derived from the noted records, from the commit laws.
 use Rattle.version_index.proofs.Common.{◌≡◌, false, None, refl, sym, all_from, Protocol, name_of, is_present, PartialWriteLaw, CompletingWriteLaw, CopyLaw, LossLaw, present_in, shape_of, Note, Blank, Damaged, rec_of, found_in, with_block_noted, programmed}
 use Rattle.version_index.specs.DerivedLaws.{NextRecordLaw, CompletesLaw, RoundLaw, OpenWriteLaw, WholeWriteLaw, CopyMovesLaw, DamageMovesLaw, LossMovesLaw}
 use Rattle.version_index.specs.DerivedLaws.{PinMovesLaw, SpareMovesLaw, IsGone, IsLossDerived, HeldReading, WantedReading, NeededReading, GoingReading}
@@ -30,7 +30,8 @@ open_write_law protocol partial n at rec next k exists was open' =
 pub whole_write_law : (protocol : Protocol) → CompletingWriteLaw protocol → WholeWriteLaw protocol
 whole_write_law protocol completing n at rec next k exists was closed =
     let m = programmed n at rec in
-    let whole = whole_write protocol n k completing at rec exists was next (completes_whole protocol n k at rec exists was next closed) in
+    let whole = whole_write protocol n k completing at rec exists was next
+    (completes_whole protocol n k at rec exists was next closed) in
     let round = round_of protocol n k at rec exists was next closed in
     record {
       whole = whole;
@@ -55,10 +56,12 @@ loss_moves_law protocol loss n block k exists lose =
     (record n { notes = with_block_noted (shape_of n.config) n.notes block note }) =
     λ note none. record {
       nothing_moves = loss_moves_nothing protocol n k block note none exists lose loss;
-      gone = all_from (λ f. is_present (found_in (with_block_noted (shape_of n.config) n.notes block note)) (name_of f.rec) ≡ false →
+      gone = all_from (λ f. is_present (found_in (with_block_noted (shape_of n.config) n.notes block note))
+          (name_of f.rec) ≡ false →
           IsGone n (name_of f.rec)) l (λ f i gone.
           record {
-            stale = λ e. lost_not_current protocol n k block note none exists lose (name_of f.rec) (present_in l f i) gone (sym e);
+            stale = λ e. lost_not_current protocol n k block note none exists lose (name_of f.rec)
+                (present_in l f i) gone (sym e);
             free = lost_answers_none protocol n k block note none exists lose (name_of f.rec) gone;
           });
     } in
@@ -80,7 +83,10 @@ pub needed_law : NeededReading
 needed_law n = record { held = needed_reading n; bare = unneeded_reading n }
 
 pub going_law : (protocol : Protocol) → GoingReading protocol
-going_law protocol n page below k = record { scc = λ e. going_reading protocol n k e page below; bpcc = λ e r. none_goes protocol n k e page below r }
+going_law protocol n page below k = record {
+  scc = λ e. going_reading protocol n k e page below;
+  bpcc = λ e r. none_goes protocol n k e page below r;
+}
 
 pub lowest_law : LowestReading
 lowest_law n = record {

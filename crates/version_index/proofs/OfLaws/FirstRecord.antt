@@ -32,7 +32,8 @@ module _ (logical : ℕ) (rec : Rec) (a : IsAlone logical rec) where
     others = λ k d within. absurd (omega arith);
   }
 
-pub first_next : (n : IndexState) (rec : Rec) → n.config.protocol ≡ Scc → found_in n.notes ≡ [] → IsAlone n.config.logical rec → IsNextRecord n rec
+pub first_next : (n : IndexState) (rec : Rec) → n.config.protocol ≡ Scc → found_in n.notes ≡ [] →
+    IsAlone n.config.logical rec → IsNextRecord n rec
 first_next n rec rule empty a = record {
   names = name_of rec ∷ [];
   in_progress = subst (λ p. InProgress p (found_in n.notes) n.config.logical (name_of rec ∷ [])) (sym rule)
@@ -42,6 +43,8 @@ first_next n rec rule empty a = record {
       }));
   named = (0, omega arith, refl);
   fresh = ap (λ l. is_present l (name_of rec)) empty;
-  asked = subst (λ p. IsAsked p (found_in n.notes) n.config.logical (name_of rec ∷ []) rec) (sym rule) (alone_asked n.config.logical rec a (found_in n.notes));
-  clear = subst (λ l. NothingMustGo n.config.protocol l n.config.logical rec) (sym empty) (λ k d within. absurd (omega arith));
+  asked = subst (λ p. IsAsked p (found_in n.notes) n.config.logical (name_of rec ∷ []) rec) (sym rule)
+      (alone_asked n.config.logical rec a (found_in n.notes));
+  clear = subst (λ l. NothingMustGo n.config.protocol l n.config.logical rec) (sym empty)
+      (λ k d within. absurd (omega arith));
 }

@@ -21,9 +21,11 @@ use Rattle.version_index.specs.ImageLaws.{ImagePartialLaw, ImageCompletingLaw, I
 use Rattle.version_index.proofs.OfLaws.ImageScans.{written, written_inserted, written_damaged, records_scanned, HasNone, written_left, read_slot}
 
 -- each name of a sound image has one text
-pub image_text : (p : Protocol) (logical : ℕ) (shape : Shape) (image : List Contents) → IsSoundWritten p (written_in p image) logical shape →
+pub image_text : (p : Protocol) (logical : ℕ) (shape : Shape) (image : List Contents) →
+    IsSoundWritten p (written_in p image) logical shape →
     IsOneText (written_in p image)
-image_text p logical shape image sound = one_text p (written_in p image) logical sound.records (records_scanned p image) sound.bytes
+image_text p logical shape image sound = one_text p (written_in p image) logical sound.records
+    (records_scanned p image) sound.bytes
 
 -- the array is that of the records
 array_same : (p : Protocol) (logical : ℕ) (image image' : List Contents) → written_in p image' ≡ written_in p image →
@@ -51,20 +53,26 @@ array_at p logical image page within =
     get_or-map-range_with_len (page_at p (written_in p image) logical) 0 logical page page None within (omega arith)
 
 -- with a record more, and the same current versions, the array is the same
-grown : (p : Protocol) (logical : ℕ) (image image' : List Contents) (w : Written) → IsSoundList p (records_in p image) logical →
+grown : (p : Protocol) (logical : ℕ) (image image' : List Contents) (w : Written) →
+    IsSoundList p (records_in p image) logical →
     IsOneText (written_in p image') → IsInserted (written_in p image) w (written_in p image') →
-    SameCurrent p (records_in p image) (records_in p image') logical → array_in p logical image' ≡ array_in p logical image
+    SameCurrent p (records_in p image) (records_in p image') logical →
+    array_in p logical image' ≡ array_in p logical image
 unfolding array_in
 grown p logical image image' w sound text added same =
-    array_grows p (written_in p image) (written_in p image') logical w sound (records_scanned p image) (records_scanned p image') text added same
+    array_grows p (written_in p image) (written_in p image') logical w sound (records_scanned p image)
+    (records_scanned p image') text added same
 
 -- a record that is asked for, in its slot
-pub record Writes (p : Protocol) (logical : ℕ) (image : List Contents) (names : List Link) (at : ℕ) (bytes : List ℕ) (rec : Rec) : Type 0 where
+pub record Writes (p : Protocol) (logical : ℕ) (image : List Contents) (names : List Link) (at : ℕ) (bytes : List ℕ)
+    (rec : Rec) : Type 0 where
   pub spells : record_of p (spelling p rec) ≡ Some rec
   pub added : IsInserted (written_in p image) (written at rec bytes) (written_in p (image_with p image at bytes rec))
-  pub write : IsWrite p (records_in p image) (records_in p (image_with p image at bytes rec)) logical names (found_of (written at rec bytes))
+  pub write : IsWrite p (records_in p image) (records_in p (image_with p image at bytes rec)) logical names
+      (found_of (written at rec bytes))
 
-pub writes : (p : Protocol) (logical : ℕ) (shape : Shape) (image : List Contents) (names : List Link) (at : ℕ) (bytes : List ℕ) (rec : Rec) →
+pub writes : (p : Protocol) (logical : ℕ) (shape : Shape) (image : List Contents) (names : List Link) (at : ℕ)
+    (bytes : List ℕ) (rec : Rec) →
     AsksFor p logical shape image names at rec → Writes p logical image names at bytes rec
 writes p logical shape image names at bytes rec a =
     let spells = record_of-spelling p rec a.spelled in
@@ -76,7 +84,8 @@ writes p logical shape image names at bytes rec a =
         scanned = records_scanned p image;
         scanned' = records_scanned p (image_with p image at bytes rec);
         in_progress = a.in_progress;
-        added = inserted_records (written_in p image) (written_in p (image_with p image at bytes rec)) (written at rec bytes) added;
+        added = inserted_records (written_in p image) (written_in p (image_with p image at bytes rec))
+            (written at rec bytes) added;
         named = a.named;
         fresh = a.fresh;
         asked = a.asked;
@@ -87,10 +96,12 @@ writes p logical shape image names at bytes rec a =
 -- the slot of a record whose pages exist reads
 slot_reads : (p : Protocol) (logical : ℕ) (bytes spare : List ℕ) (rec : Rec) → record_of p spare ≡ Some rec →
     (rec.page < logical) × (rec.next.page < logical) → SlotReads p logical (complete bytes spare)
-slot_reads p logical bytes spare rec is pages = subst (λ o. IsSomeAnd o (λ r. (r.page < logical) × (r.next.page < logical))) (sym is) pages
+slot_reads p logical bytes spare rec is pages =
+    subst (λ o. IsSomeAnd o (λ r. (r.page < logical) × (r.next.page < logical))) (sym is) pages
 
 -- with a sound list of records, an image with a record more is sound
-sound_with : (p : Protocol) (logical : ℕ) (shape : Shape) (image : List Contents) (at : ℕ) (bytes spare : List ℕ) (rec : Rec) →
+sound_with : (p : Protocol) (logical : ℕ) (shape : Shape) (image : List Contents) (at : ℕ)
+    (bytes spare : List ℕ) (rec : Rec) →
     IsSoundImage p logical shape image → record_of p spare ≡ Some rec →
     IsInserted (written_in p image) (written at rec bytes) (written_in p (set image at (complete bytes spare))) →
     IsSoundWritten p (written_in p (set image at (complete bytes spare))) logical shape →
@@ -100,7 +111,8 @@ sound_with p logical shape image at bytes spare rec sound spells added written' 
     let there = in_records m (written at rec bytes) (new_in (written_in p image) m (written at rec bytes) added) in
     record {
       reads = All-set (SlotReads p logical) image at (complete bytes spare)
-          (slot_reads p logical bytes spare rec spells (All-contains (PagesExist logical) (records_of m) (found_of (written at rec bytes))
+          (slot_reads p logical bytes spare rec spells (All-contains (PagesExist logical) (records_of m)
+          (found_of (written at rec bytes))
           (written'.records Pages) there))
           sound.reads;
       written = written';
@@ -117,7 +129,8 @@ image_partial_law p law logical shape image names at bytes rec a absent =
     record {
       sound = sound_with p logical shape image at bytes (spelling p rec) rec a.sound how.spells how.added kept.0;
       records = kept.1;
-      array = grown p logical image (image_with p image at bytes rec) w a.sound.written.records text how.added (kept.1).same_current;
+      array = grown p logical image (image_with p image at bytes rec) w a.sound.written.records text how.added
+          (kept.1).same_current;
       old_texts = λ name h. text_old l m w name text how.added h;
       new_text = text_new l m w text how.added;
     }
@@ -135,12 +148,16 @@ image_completing_law p law logical shape image names at bytes rec a present room
     record {
       sound = sound_with p logical shape image at bytes (spelling p rec) rec a.sound how.spells how.added kept.0;
       records = kept.1;
-      taken = all_from (λ name. slice_index_or (array_in p logical image') name.page None ≡ value_at m name) names (λ name i.
-          array_at p logical image' name.page (All-contains (λ n. (n.page < logical) × (1 ≤ n.version) × (n.version ≤ 2 ^ 62)) names name ranged i).0
-          ∙ page_committed p m logical name (All-contains (λ n. cur p (records_of m) logical n.page ≡ n.version) names name (kept.1).committed i));
+      taken = all_from (λ name. slice_index_or (array_in p logical image') name.page None ≡ value_at m name)
+          names (λ name i.
+          array_at p logical image' name.page (All-contains (λ n. (n.page < logical) × (1 ≤ n.version)
+          × (n.version ≤ 2 ^ 62)) names name ranged i).0
+          ∙ page_committed p m logical name (All-contains (λ n. cur p (records_of m) logical n.page ≡ n.version) names
+          name (kept.1).committed i));
       elsewhere = λ page within others.
           array_at p logical image' page within
-          ∙ page_elsewhere p l m logical page w a.sound.written.records (records_scanned p image) (records_scanned p image') text how.added
+          ∙ page_elsewhere p l m logical page w a.sound.written.records (records_scanned p image)
+          (records_scanned p image') text how.added
           ((kept.1).elsewhere page within others)
           ∙ sym (array_at p logical image page within);
       old_texts = λ name h. text_old l m w name text how.added h;
@@ -152,10 +169,12 @@ record HasRecord (p : Protocol) (logical : ℕ) (spare : List ℕ) : Type 0 wher
   pub rec : Rec
   pub spells : record_of p spare ≡ Some rec
 
-has_record : (p : Protocol) (logical : ℕ) (bytes spare : List ℕ) → SlotReads p logical (complete bytes spare) → HasRecord p logical spare
+has_record : (p : Protocol) (logical : ℕ) (bytes spare : List ℕ) → SlotReads p logical (complete bytes spare) →
+    HasRecord p logical spare
 has_record p logical bytes spare reads = found (record_of p spare) refl reads
   where
-    found : (o : Option Rec) → record_of p spare ≡ o → IsSomeAnd o (λ r. (r.page < logical) × (r.next.page < logical)) → HasRecord p logical spare
+    found : (o : Option Rec) → record_of p spare ≡ o → IsSomeAnd o (λ r. (r.page < logical) × (r.next.page < logical)) →
+        HasRecord p logical spare
     found None is h = absurd h
     found (Some rec) is h = record { rec = rec; spells = is }
 
@@ -172,9 +191,11 @@ image_copy_law p law logical shape image from to bytes spare sound from_within t
     let kept = law l m logical shape w sound.written added (records_scanned p image) (records_scanned p image')
     (there.0, written from has.rec bytes, there.1, there.2, (refl, refl)) in
     let text = image_text p logical shape image' kept.0 in
-    let in_old : (f : Found) (name : Link) → Contains (records_of m) f → name_of f.rec ≡ name → is_present (records_of l) name ≡ true =
+    let in_old : (f : Found) (name : Link) → Contains (records_of m) f → name_of f.rec ≡ name →
+    is_present (records_of l) name ≡ true =
     λ f name i e. elim (inserted_in (records_of l) (records_of m) (found_of w) (inserted_records l m w added) f i) [
-      | inl is ↦ present_as (records_of l) (found_of (written from has.rec bytes)) name (in_records l (written from has.rec bytes) there)
+      | inl is ↦ present_as (records_of l) (found_of (written from has.rec bytes)) name
+          (in_records l (written from has.rec bytes) there)
           (ap (λ (g : Found). name_of g.rec) is ∙ e)
       | inr j ↦ present_as (records_of l) f name j e
     ] in
@@ -187,9 +208,11 @@ image_copy_law p law logical shape image from to bytes spare sound from_within t
     }
 
 -- an image whose records are those of the slots that pass a test keeps what the loss of the others keeps
-pub less_written : (p : Protocol) (logical : ℕ) (shape : Shape) (image image' : List Contents) (keep : ℕ → Bool) → IsSoundImage p logical shape image →
+pub less_written : (p : Protocol) (logical : ℕ) (shape : Shape) (image image' : List Contents) (keep : ℕ → Bool) →
+    IsSoundImage p logical shape image →
     written_in p image' ≡ left_written keep (written_in p image) → All (SlotReads p logical) image' →
-    WrittenLossKeeps p (written_in p image) (left_written keep (written_in p image)) logical shape → KeepsLost p logical shape image image'
+    WrittenLossKeeps p (written_in p image) (left_written keep (written_in p image)) logical shape →
+    KeepsLost p logical shape image image'
 unfolding array_in
 less_written p logical shape image image' keep sound is reads kept =
     let l = written_in p image in
@@ -199,30 +222,37 @@ less_written p logical shape image image' keep sound is reads kept =
       records = subst (λ x. LossKeeps p (records_of l) (records_of x) logical) (sym is) kept.records;
       array = ap (λ x. array_of p x logical) is ∙ kept.array;
       texts = λ name h.
-          text_grows m l name (image_text p logical shape image sound.written) (λ v i. (from_filter (λ w. keep w.slot.0) v l i).0)
+          text_grows m l name (image_text p logical shape image sound.written)
+          (λ v i. (from_filter (λ w. keep w.slot.0) v l i).0)
           (subst (λ x. is_present (records_of x) name ≡ true) is h)
           ∙ sym (ap (λ x. text_at x name) is);
     }
 
 -- the block may hold anything without a record
-lost : (p : Protocol) → WrittenLossLaw p → (logical : ℕ) (shape : Shape) (image : List Contents) (block : ℕ) (contents : Contents) →
-    IsSoundImage p logical shape image → IsImage shape image → block < blocks_of shape → IsRemovable p (records_in p image) logical shape block →
-    HasNone p contents → SlotReads p logical contents → KeepsLost p logical shape image (with_block shape image block contents)
+lost : (p : Protocol) → WrittenLossLaw p → (logical : ℕ) (shape : Shape) (image : List Contents) (block : ℕ)
+    (contents : Contents) →
+    IsSoundImage p logical shape image → IsImage shape image → block < blocks_of shape →
+    IsRemovable p (records_in p image) logical shape block →
+    HasNone p contents → SlotReads p logical contents →
+    KeepsLost p logical shape image (with_block shape image block contents)
 lost p law logical shape image block contents sound whole below removable none reads =
     let l = written_in p image in
     let kept = law l logical shape block sound.written (records_scanned p image) below removable in
     less_written p logical shape image (with_block shape image block contents) (is_outside shape block) sound
     (written_left p shape image whole block below contents none)
-    (All-append (SlotReads p logical) (take (block * shape.pages_per_block) image ++ replicate shape.pages_per_block contents)
+    (All-append (SlotReads p logical) (take (block * shape.pages_per_block) image
+    ++ replicate shape.pages_per_block contents)
     (drop ((block + 1) * shape.pages_per_block) image)
-    (All-append (SlotReads p logical) (take (block * shape.pages_per_block) image) (replicate shape.pages_per_block contents)
+    (All-append (SlotReads p logical) (take (block * shape.pages_per_block) image)
+    (replicate shape.pages_per_block contents)
     (All-take (SlotReads p logical) (block * shape.pages_per_block) image sound.reads)
     (All-replicate (SlotReads p logical) shape.pages_per_block contents reads))
     (All-drop (SlotReads p logical) ((block + 1) * shape.pages_per_block) image sound.reads))
     (record {
       sound = kept.0;
       records = kept.1;
-      array = array_left p l logical (is_outside shape block) sound.written.records (records_scanned p image) sound.written.bytes removable
+      array = array_left p l logical (is_outside shape block) sound.written.records (records_scanned p image)
+          sound.written.bytes removable
           (kept.1).same_current;
     })
 

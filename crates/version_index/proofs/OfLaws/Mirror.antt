@@ -8,13 +8,15 @@ use Rattle.version_index.proofs.OfTables.FoundIn.{numbered}
 use Rattle.version_index.proofs.OfLaws.ImageScans.{read_at, written_in_is}
 
 -- a slot's record, without bytes, is that of its note
-same_record : (p : Protocol) (slot : ℕ) (contents : Contents) → option_map found_of (written_at p slot contents) ≡ found_at slot (note_of p contents)
+same_record : (p : Protocol) (slot : ℕ) (contents : Contents) → option_map found_of (written_at p slot contents)
+    ≡ found_at slot (note_of p contents)
 same_record p slot blank = refl
 same_record p slot damaged = refl
 same_record p slot (complete bytes spare) = of_option (record_of p spare)
   where
     of_option : (o : Option Rec) →
-        option_map found_of (option_map (λ rec. record { slot = record { 0 = slot }; rec = rec; bytes = bytes }) o) ≡ found_at slot
+        option_map found_of (option_map (λ rec. record { slot = record { 0 = slot }; rec = rec; bytes = bytes }) o)
+        ≡ found_at slot
         (option_map_or Holds o Damaged)
     of_option None = refl
     of_option (Some rec) = refl
@@ -23,18 +25,22 @@ pub found_in_is : (notes : List Note) → found_in notes ≡ given numbered 0 no
 unfolding found_in
 found_in_is notes = refl
 
-map_cons : {X Y : Type 0} (f : X → Y) (o : Option X) (xs : List X) → cons_option (option_map f o) (map f xs) ≡ map f (cons_option o xs)
+map_cons : {X Y : Type 0} (f : X → Y) (o : Option X) (xs : List X) →
+    cons_option (option_map f o) (map f xs) ≡ map f (cons_option o xs)
 map_cons f None xs = refl
 map_cons f (Some x) xs = refl
 
-map_given : {X Y Z : Type 0} (f : Y → Z) (of : ℕ × X → Option Y) (n : ℕ) (xs : List X) → given (λ p. option_map f (of p)) n xs ≡ map f (given of n xs)
+map_given : {X Y Z : Type 0} (f : Y → Z) (of : ℕ × X → Option Y) (n : ℕ) (xs : List X) →
+    given (λ p. option_map f (of p)) n xs ≡ map f (given of n xs)
 map_given f of n [] = refl
 map_given f of n (x ∷ xs) =
-    ap (cons_option (option_map f (of (n, x)))) (map_given f of (n + 1) xs) ∙ map_cons f (of (n, x)) (given of (n + 1) xs)
+    ap (cons_option (option_map f (of (n, x)))) (map_given f of (n + 1) xs)
+    ∙ map_cons f (of (n, x)) (given of (n + 1) xs)
 
 -- where each slot is noted as it reads, the noted records are those of the image
 pub mirrored : (p : Protocol) (image : List Contents) (notes : List Note) → length notes ≡ length image →
-    ((slot : ℕ) → slot < length image → note_at notes slot ≡ note_of p (slot_at image slot)) → found_in notes ≡ records_in p image
+    ((slot : ℕ) → slot < length image → note_at notes slot ≡ note_of p (slot_at image slot)) →
+    found_in notes ≡ records_in p image
 mirrored p image notes long same =
     found_in_is notes
     ∙ given_same numbered (λ q. option_map found_of (read_at p q)) 0 notes image Blank blank long

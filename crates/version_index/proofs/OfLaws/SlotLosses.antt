@@ -20,9 +20,11 @@ module _ (p : Protocol) (keep : ℕ → Bool) (image image' : List Contents) (lo
   ]
 
   -- and reads
-  reads_at : (logical : ℕ) → All (SlotReads p logical) image → (slot : ℕ) (b : Bool) → keep slot ≡ b → slot < length image →
+  reads_at : (logical : ℕ) → All (SlotReads p logical) image → (slot : ℕ) (b : Bool) → keep slot ≡ b →
+      slot < length image →
       SlotReads p logical (slot_at image' slot)
-  reads_at logical reads slot true e within = subst (SlotReads p logical) (sym (loss.kept slot e)) (reads slot blank within)
+  reads_at logical reads slot true e within = subst (SlotReads p logical) (sym (loss.kept slot e))
+      (reads slot blank within)
   reads_at logical reads slot false e within = elim (loss.lost slot e) [
     | inl is ↦ subst (SlotReads p logical) (sym is) tt
     | inr is ↦ subst (SlotReads p logical) (sym is) tt
@@ -35,8 +37,10 @@ module _ (p : Protocol) (keep : ℕ → Bool) (image image' : List Contents) (lo
 
 pub image_slot_loss : (p : Protocol) → WrittenSlotLossLaw p → ImageSlotLossLaw p
 image_slot_loss p law logical shape image image' keep sound loss spared =
-    less_written p logical shape image image' keep sound (written_lost p keep image image' loss.slots loss.kept (lost_none p keep image image' loss))
-    (reads_lost p keep image image' loss logical sound.reads) (law (written_in p image) logical shape keep sound.written (records_scanned p image) spared)
+    less_written p logical shape image image' keep sound (written_lost p keep image image' loss.slots loss.kept
+    (lost_none p keep image image' loss))
+    (reads_lost p keep image image' loss logical sound.reads)
+    (law (written_in p image) logical shape keep sound.written (records_scanned p image) spared)
 
 pub asks_after_loss : (p : Protocol) → LossLaw p → AsksAfterLossLaw p
 asks_after_loss p law logical shape image image' names at rec keep asks loss spared stays =
@@ -44,13 +48,16 @@ asks_after_loss p law logical shape image image' names at rec keep asks loss spa
     let list' = records_in p (image_with p image at [] rec) in
     let f = found_of (written at rec []) in
     let is : left keep list ≡ records_in p image' =
-    sym (ap records_of (written_lost p keep image image' loss.slots loss.kept (lost_none p keep image image' loss)) ∙ records_left keep (written_in p image)) in
+    sym (ap records_of (written_lost p keep image image' loss.slots loss.kept (lost_none p keep image image' loss))
+    ∙ records_left keep (written_in p image)) in
     let write : IsWrite p (records_in p image') (left keep list') logical names f =
     subst (λ l. IsWrite p l (left keep list') logical names f) is
-    (write_after_loss p law list list' logical names f keep asks.sound.written.records (writes p logical shape image names at [] rec asks).write
+    (write_after_loss p law list list' logical names f keep asks.sound.written.records
+    (writes p logical shape image names at [] rec asks).write
     (counted_first p list logical keep (is_outside shape spared.block) spared.counted) stays) in
     record {
-      sound = (image_slot_loss p (written_slot_loss p law) logical shape image image' keep asks.sound loss spared).sound;
+      sound = (image_slot_loss p (written_slot_loss p law) logical shape image image' keep asks.sound loss
+          spared).sound;
       within = subst (λ n. at < n) (sym loss.slots) asks.within;
       blank = loss.kept at stays ∙ asks.blank;
       spelled = asks.spelled;

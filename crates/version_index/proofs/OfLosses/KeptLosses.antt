@@ -32,22 +32,28 @@ some_within xs i x e = elim (cases_lt i (length xs)) [
 ]
 
 -- the copies of a number: one of them, or none at all
-copy_holds : (k : TablesState) (x at : ℕ) → slice_get (copies_of k.slots x) 0 ≡ Some at → use_at k.slots at ≡ slot.Holds x
+copy_holds : (k : TablesState) (x at : ℕ) → slice_get (copies_of k.slots x) 0 ≡ Some at →
+    use_at k.slots at ≡ slot.Holds x
 unfolding copies_of
 copy_holds k x at e =
-    let first = first_passed (λ j. holds x (use_at k.slots j)) (λ _. true) 0 (length k.slots) at (sym (head_find (copies_of k.slots x)) ∙ e) in
+    let first = first_passed (λ j. holds x (use_at k.slots j)) (λ _. true) 0 (length k.slots) at
+    (sym (head_find (copies_of k.slots x)) ∙ e) in
     holds_use x (use_at k.slots at) first.one
 
 no_copy : (k : TablesState) (x at : ℕ) → slice_get (copies_of k.slots x) 0 ≡ None → use_at k.slots at ≡ slot.Holds x → ⊥
 unfolding copies_of
 no_copy k x at e here = elim (cases_lt at (length k.slots)) [
-  | inl within ↦ false≢true (sym (none_passed (λ j. holds x (use_at k.slots j)) (λ _. true) (length k.slots) (sym (head_find (copies_of k.slots x)) ∙ e)
+  | inl within ↦ false≢true (sym (none_passed (λ j. holds x (use_at k.slots j)) (λ _. true) (length k.slots)
+      (sym (head_find (copies_of k.slots x)) ∙ e)
       at within (use_holds x (use_at k.slots at) here)))
-  | inr past ↦ (let other : slot.Blank ≡ slot.Holds x = sym (get_or_past k.slots at slot.Blank past) ∙ here in absurd cc)
+  | inr past ↦ (let other : slot.Blank ≡ slot.Holds x = sym (get_or_past k.slots at slot.Blank past)
+      ∙ here in absurd cc)
 ]
 
-module _ (protocol : Protocol) (its : Config) (m : List ℕ) (k : TablesState) (i : AreIndexed protocol its m k) (sizes : IsTablesState k)
-    (loss : LossLaw protocol) (block : ℕ) (exists : block < blocks_of (shape_of its)) (lose : CanLose (noted_by its m k) block)
+module _ (protocol : Protocol) (its : Config) (m : List ℕ) (k : TablesState) (i : AreIndexed protocol its m k)
+    (sizes : IsTablesState k)
+    (loss : LossLaw protocol) (block : ℕ) (exists : block < blocks_of (shape_of its))
+    (lose : CanLose (noted_by its m k) block)
     (to : SlotUse) (holds_no : HoldsNone to) (its_note : Note) (no_record : rec_of its_note ≡ None)
     (noted_so : (records : List (Option Rec)) → note_in records to ≡ its_note) where
   abbrev n : IndexState
@@ -62,20 +68,23 @@ module _ (protocol : Protocol) (its : Config) (m : List ℕ) (k : TablesState) (
   abbrev after : IndexState
   after = record n { notes = with_block_noted (shape_of its) (notes_in k) block its_note }
 
-  -- slots of which so many of the block are used so
+  -- slots of which this many of the block are used so
   record AreUsed (count : ℕ) (slots : List SlotUse) : Type 0 where
     size : length slots ≡ length k.slots
     inside : (a : ℕ) → first ≤ a → a < first + count → use_at slots a ≡ to
     outside : (a : ℕ) → (a < first) ⊎ (first + count ≤ a) → use_at slots a ≡ use_at k.slots a
 
   long : first + per ≤ length k.slots
-  long = let bound = block_within (shape_of its) block exists in let slots = i.noted.slots in let same = length-notes k in omega arith
+  long = let bound = block_within (shape_of its) block exists in let slots = i.noted.slots in
+      let same = length-notes k in omega arith
 
   used_place : (count : ℕ) (slots : List SlotUse) → count < per → AreUsed count slots →
       use_at (set slots (first + count) to) (first + count) ≡ to
-  used_place count slots below u = get_or-set_same slots (first + count) to slot.Blank (let same = u.size in let all = long in omega arith)
+  used_place count slots below u = get_or-set_same slots (first + count) to slot.Blank (let same = u.size in
+      let all = long in omega arith)
 
-  used_more : (count : ℕ) (slots : List SlotUse) → count < per → AreUsed count slots → AreUsed (count + 1) (set slots (first + count) to)
+  used_more : (count : ℕ) (slots : List SlotUse) → count < per → AreUsed count slots →
+      AreUsed (count + 1) (set slots (first + count) to)
   used_more count slots below u = record {
     size = length-set slots (first + count) to ∙ u.size;
     inside = λ a low high. elim (cases_eq a (first + count)) [
@@ -83,12 +92,18 @@ module _ (protocol : Protocol) (its : Config) (m : List ℕ) (k : TablesState) (
       | inr off ↦ get_or-set_other slots (first + count) a to slot.Blank off ∙ u.inside a low (omega arith)
     ];
     outside = λ a off. (
-        let other : a ≢ first + count = λ here. elim off [ inl before ↦ absurd (omega arith) | inr behind ↦ absurd (omega arith) ] in
-        let before : (a < first) ⊎ (first + count ≤ a) = elim off [ inl low ↦ inl low | inr high ↦ inr (omega arith) ] in
+        let other : a ≢ first + count = λ here. elim off [
+          | inl before ↦ absurd (omega arith)
+          | inr behind ↦ absurd (omega arith)
+        ] in
+        let before : (a < first) ⊎ (first + count ≤ a) = elim off [
+          | inl low ↦ inl low
+          | inr high ↦ inr (omega arith)
+        ] in
         get_or-set_other slots (first + count) a to slot.Blank other ∙ u.outside a before);
   }
 
-  -- the tables once so many slots of the block are used so
+  -- the tables once this many slots of the block are used so
   record IsLosing (count : ℕ) (t : TablesState) : Type 0 where
     shape : t.shape ≡ k.shape
     slots : AreUsed count t.slots
@@ -123,7 +138,8 @@ module _ (protocol : Protocol) (its : Config) (m : List ℕ) (k : TablesState) (
     | inr gone ↦ gone
     | inl here ↦ (
         let keep = is_outside (shape_of its) block in
-        let left_here = subst (λ l. is_present l (name_of r) ≡ true) (left_in protocol n i.noted block its_note no_record exists lose) here in
+        let left_here = subst (λ l. is_present l (name_of r) ≡ true)
+        (left_in protocol n i.noted block its_note no_record exists lose) here in
         let f = found_named (left keep (found_in (notes_in k))) (name_of r) left_here in
         let parts = from_filter (λ g. keep g.slot.0) f.0 (found_in (notes_in k)) f.1 in
         let y = found_number k i.held f.0 parts.0 in
@@ -186,7 +202,8 @@ module _ (protocol : Protocol) (its : Config) (m : List ℕ) (k : TablesState) (
       its_name_gone : is_present (found_in after.notes) (name_of r) ≡ false
       its_name_gone = name_gone x r (l.records x r is) (λ a off here. (
           let u = used_more count t.slots below l.slots in
-          let outside : (a < first) ⊎ (first + (count + 1) ≤ a) = elim off [ inl low ↦ inl low | inr high ↦ inr (omega arith) ] in
+          let outside : (a < first) ⊎ (first + (count + 1) ≤ a) =
+          elim off [ inl low ↦ inl low | inr high ↦ inr (omega arith) ] in
           no_copy t1 x a none (u.outside a outside ∙ here)))
 
       free : (y : ℕ) (s : Rec) → rec_at t.records y ≡ Some s → answerer_of n s ≢ Some (name_of r)
@@ -231,42 +248,50 @@ module _ (protocol : Protocol) (its : Config) (m : List ℕ) (k : TablesState) (
           used = λ y s e. (
               let off = not_x y s e in
               let old = l.held.used y s (sym (others y off) ∙ e) in
-              let elsewhere : old.0 ≢ at = λ here. off (same_number y x (sym old.1 ∙ ap (use_at t.slots) here ∙ holds_x)) in
+              let elsewhere : old.0 ≢ at = λ here. off (same_number y x (sym old.1 ∙ ap (use_at t.slots) here
+              ∙ holds_x)) in
               (old.0, get_or-set_other t.slots at old.0 to slot.Blank elsewhere ∙ old.1));
-          once = λ y z s u ey ez e. l.held.once y z s u (sym (others y (not_x y s ey)) ∙ ey) (sym (others z (not_x z u ez)) ∙ ez) e;
+          once = λ y z s u ey ez e. l.held.once y z s u (sym (others y (not_x y s ey)) ∙ ey)
+              (sym (others z (not_x z u ez)) ∙ ez) e;
           unused = λ y e. elim (cases_eq y x) [
             | inl here ↦ (
               ap (number_at t2.answerers) here ∙ get_or-set_same t.answerers x None None its_within.0,
               ap (number_at t2.waits) here ∙ get_or-set_same t.waits x None None its_within.1,
             )
             | inr off ↦ (
-                let old = l.held.unused y (sym (others y off) ∙ e) in
-                (get_or-set_other t.answerers x y None None off ∙ old.0, get_or-set_other t.waits x y None None off ∙ old.1))
+                let old = l.held.unused y (sym (others y off) ∙ e) in (
+                  get_or-set_other t.answerers x y None None off ∙ old.0,
+                  get_or-set_other t.waits x y None None off ∙ old.1,
+                ))
           ];
         };
-        judged = given_up_derived (numbered_of t) (numbered_of t2) its.logical (derived_of n) x r l.judged is stale free (record {
-          own = get_or-set_same t.records x None None (some_within t.records x r is);
-          others = others;
-          current = refl;
-          answerers = λ y off. get_or-set_other t.answerers x y None None off;
-          waits = λ y off. get_or-set_other t.waits x y None None off;
-        });
+        judged = given_up_derived (numbered_of t) (numbered_of t2) its.logical (derived_of n) x r l.judged is stale
+            free (record {
+              own = get_or-set_same t.records x None None (some_within t.records x r is);
+              others = others;
+              current = refl;
+              answerers = λ y off. get_or-set_other t.answerers x y None None off;
+              waits = λ y off. get_or-set_other t.waits x y None None off;
+            });
       }
 
     -- one slot more
     one_step : IsLosing (count + 1) (used_so t at to)
     one_step = of_use (use_at t.slots at) refl
       where
-        of_copies : (x : ℕ) (r : Rec) → use_at t.slots at ≡ slot.Holds x → rec_at t.records x ≡ Some r → (o : Option ℕ) →
+        of_copies : (x : ℕ) (r : Rec) → use_at t.slots at ≡ slot.Holds x → rec_at t.records x ≡ Some r →
+            (o : Option ℕ) →
             slice_get (copies_of t1.slots x) 0 ≡ o → IsLosing (count + 1) (bared_as t1 x (Some r) o)
         of_copies x r holds_x is None e = one_less x r holds_x is e
         of_copies x r holds_x is (Some b) e = one_more (λ y s is_y here.
             (b, copy_holds t1 x b e ∙ ap slot.Holds (same_number x y (sym holds_x ∙ here))))
 
         of_use : (u : SlotUse) → use_at t.slots at ≡ u → IsLosing (count + 1) (used_so t at to)
-        of_use slot.Blank e = subst (λ u. IsLosing (count + 1) (without t1 (number_in u))) (sym e) (one_more (λ x r is here. (
+        of_use slot.Blank e = subst (λ u. IsLosing (count + 1) (without t1 (number_in u))) (sym e)
+            (one_more (λ x r is here. (
             let other : slot.Blank ≡ slot.Holds x = sym e ∙ here in absurd cc)))
-        of_use slot.Damaged e = subst (λ u. IsLosing (count + 1) (without t1 (number_in u))) (sym e) (one_more (λ x r is here. (
+        of_use slot.Damaged e = subst (λ u. IsLosing (count + 1) (without t1 (number_in u))) (sym e)
+            (one_more (λ x r is here. (
             let other : slot.Damaged ≡ slot.Holds x = sym e ∙ here in absurd cc)))
         of_use (slot.Holds x) e =
             let r = l.held.held at x e in
@@ -295,15 +320,18 @@ module _ (protocol : Protocol) (its : Config) (m : List ℕ) (k : TablesState) (
       (length-notes whole ∙ l.slots.size ∙ sym (length-notes k)
       ∙ sym (length-with_item (shape_of its) some (notes_in k) block its_note note.Blank fits)) (λ a within.
       note_by whole a ∙ elim (cases_lt a first) [
-        | inl before ↦ same_note a (inl before) ∙ sym (item_out (shape_of its) some (notes_in k) block its_note note.Blank fits a (inl before))
+        | inl before ↦ same_note a (inl before)
+            ∙ sym (item_out (shape_of its) some (notes_in k) block its_note note.Blank fits a (inl before))
         | inr low ↦ elim (cases_lt a (first + per)) [
           | inl inside ↦ ap (note_in whole.records) (l.slots.inside a low inside) ∙ noted_so whole.records
               ∙ sym (item_in (shape_of its) some (notes_in k) block its_note note.Blank fits a low inside)
-          | inr behind ↦ same_note a (inr behind) ∙ sym (item_out (shape_of its) some (notes_in k) block its_note note.Blank fits a (inr behind))
+          | inr behind ↦ same_note a (inr behind)
+              ∙ sym (item_out (shape_of its) some (notes_in k) block its_note note.Blank fits a (inr behind))
         ]
       ])
     where
-      same_note : (a : ℕ) → (a < first) ⊎ (first + per ≤ a) → note_in whole.records (use_at whole.slots a) ≡ note_at (notes_in k) a
+      same_note : (a : ℕ) → (a < first) ⊎ (first + per ≤ a) → note_in whole.records (use_at whole.slots a)
+          ≡ note_at (notes_in k) a
       same_note a off =
           let l = all_steps per (omega arith) in
           of_use (use_at whole.slots a) refl ∙ ap (note_in k.records) (l.slots.outside a off) ∙ sym (note_by k a)
@@ -328,5 +356,7 @@ module _ (protocol : Protocol) (its : Config) (m : List ℕ) (k : TablesState) (
   lost_indexed =
       let l = all_steps per (omega arith) in
       still_indexed protocol its m k i whole l.shape l.pages l.held l.judged
-      (subst (IsNoted protocol) (sym lost_is) (block_noted protocol n i.noted loss block its_note no_record exists lose))
-      (subst (NothingMoves n) (sym lost_is) (loss_moves_nothing protocol n i.noted block its_note no_record exists lose loss))
+      (subst (IsNoted protocol) (sym lost_is) (block_noted protocol n i.noted loss block its_note
+      no_record exists lose))
+      (subst (NothingMoves n) (sym lost_is) (loss_moves_nothing protocol n i.noted block its_note no_record
+      exists lose loss))

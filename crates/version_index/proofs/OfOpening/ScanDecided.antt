@@ -1,4 +1,4 @@
--- What is judged of the records of a scan, number by number.
+-- What is derived from the records of a scan, number by number.
 use Rattle.version_index.proofs.Common.{◌≡◌, ◌≢◌, ℕ, ◌+◌, ◌<◌, Bool, true, List, length, set, get_or, IfSome, Option, Some, None, refl, sym, ap, ◌∙◌, subst, inl, inr, arith, position, option_map, cases_eq, cases_lt, cases_Bool, cond-true, cond-false, length-set, get_or-set_same, get_or-set_other, get_or_past, none-some, same_Some, cases_Option, find_stands, slots_of, Protocol, Link, Rec, Found, has_name, nothing, cur, TablesState, IsTablesState, record_at, number_at, derived_by, number_by, AreNumbered, AreDecided, name_at, answerer, Derived, awaited}
 use Rattle.list_lemmas.proofs.Positions.{position_some}
 use Rattle.list_lemmas.proofs.Tests.{find-position}
@@ -13,7 +13,8 @@ pub record IsPlaced (list : List Found) (numbers : List ℕ) (name : Option Link
   pub number : get_or numbers place 0 ≡ x
   pub named : has_name link (records.record_at list place) ≡ true
 
-pub placed_by : (list : List Found) (numbers : List ℕ) (name : Option Link) (x : ℕ) → number_by list numbers name ≡ Some x → IsPlaced list numbers name x
+pub placed_by : (list : List Found) (numbers : List ℕ) (name : Option Link) (x : ℕ) →
+    number_by list numbers name ≡ Some x → IsPlaced list numbers name x
 placed_by list numbers None x e = absurd (none-some x e)
 placed_by list numbers (Some link) x e = elim (cases_Option (position (λ f. has_name link f.rec) list)) [
   | inl none ↦ absurd (none-some x (sym (ap (option_map (λ p. get_or numbers p 0)) none) ∙ e))
@@ -31,7 +32,8 @@ placed_by list numbers (Some link) x e = elim (cases_Option (position (λ f. has
       })
 ]
 
-module _ (list : List Found) (numbers : List ℕ) (k : TablesState) (numbered : AreNumbered list numbers k) (whole : length numbers ≡ length list)
+module _ (list : List Found) (numbers : List ℕ) (k : TablesState) (numbered : AreNumbered list numbers k)
+    (whole : length numbers ≡ length list)
     (sizes : IsTablesState k) where
   -- a number of a place is in range
   pub place_below : (j : ℕ) → j < length list → get_or numbers j 0 < slots_of k.shape
@@ -40,23 +42,28 @@ module _ (list : List Found) (numbers : List ℕ) (k : TablesState) (numbered : 
       let all = sizes.records in
       elim (cases_lt (get_or numbers j 0) (length k.records)) [
         | inl less ↦ omega arith
-        | inr past ↦ absurd (none-some (records.record_at list j) (sym (get_or_past k.records (get_or numbers j 0) None past) ∙ is))
+        | inr past ↦ absurd (none-some (records.record_at list j)
+            (sym (get_or_past k.records (get_or numbers j 0) None past) ∙ is))
       ]
 
-  pub name_below : (name : Option Link) (o : Option ℕ) → o ≡ number_by list numbers name → IfSome o (λ x. x < slots_of k.shape)
+  pub name_below : (name : Option Link) (o : Option ℕ) → o ≡ number_by list numbers name →
+      IfSome o (λ x. x < slots_of k.shape)
   name_below name None e = tt
   name_below name (Some x) e =
       let p = placed_by list numbers name x (sym e) in
       subst (λ y. y < slots_of k.shape) p.number (place_below p.place p.within)
 
 -- the first pages have the numbers of their current records
-pub record IsCurrentSo (protocol : Protocol) (list : List Found) (numbers : List ℕ) (logical : ℕ) (k t : TablesState) (count : ℕ) : Type 0 where
+pub record IsCurrentSo (protocol : Protocol) (list : List Found) (numbers : List ℕ) (logical : ℕ) (k t : TablesState)
+    (count : ℕ) : Type 0 where
   pub rest : t ≡ record k { current = t.current }
   pub long : length t.current ≡ length k.current
-  pub each : (page : ℕ) → page < count → number_at t.current page ≡ number_by list numbers (name_at page (cur protocol list logical page))
+  pub each : (page : ℕ) → page < count → number_at t.current page
+      ≡ number_by list numbers (name_at page (cur protocol list logical page))
 
 module _ (protocol : Protocol) (list : List Found) (numbers : List ℕ) (logical : ℕ) where
-  pub current_more : (k t : TablesState) (page : ℕ) (o : Option ℕ) → IsCurrentSo protocol list numbers logical k t page → page < length k.current →
+  pub current_more : (k t : TablesState) (page : ℕ) (o : Option ℕ) →
+      IsCurrentSo protocol list numbers logical k t page → page < length k.current →
       o ≡ number_by list numbers (name_at page (cur protocol list logical page)) →
       IsCurrentSo protocol list numbers logical k (record t { current = set t.current page o }) (page + 1)
   current_more k t page o h within is = record {
@@ -80,7 +87,8 @@ module _ (protocol : Protocol) (list : List Found) (numbers : List ℕ) (logical
     others = λ x none. (refl, refl);
   }
 
-  module _ (k t : TablesState) (numbered : AreNumbered list numbers k) (whole : length numbers ≡ length list) (sizes : IsTablesState k) (i : ℕ)
+  module _ (k t : TablesState) (numbered : AreNumbered list numbers k) (whole : length numbers ≡ length list)
+      (sizes : IsTablesState k) (i : ℕ)
       (h : AreDecided protocol list numbers logical k t i) (below : i < length list) (a w : Option ℕ)
       (is_a : a ≡ number_by list numbers (answerer protocol list logical (records.record_at list i)))
       (is_w : w ≡ awaited (derived_by protocol list logical) (records.record_at list i)) where
@@ -97,12 +105,14 @@ module _ (protocol : Protocol) (list : List Found) (numbers : List ℕ) (logical
         (omega arith, omega arith)
 
     -- two places of one number have one record
-    one_record : (j : ℕ) → j < length list → get_or numbers j 0 ≡ x → records.record_at list i ≡ records.record_at list j
+    one_record : (j : ℕ) → j < length list → get_or numbers j 0 ≡ x →
+        records.record_at list i ≡ records.record_at list j
     one_record j low same =
         same_Some (records.record_at list i) (records.record_at list j)
         (sym (numbered.each i (omega arith)) ∙ ap (record_at k.records) (sym same) ∙ numbered.each j (omega arith))
 
-    pub decided_more : AreDecided protocol list numbers logical k (record t { answerers = set t.answerers x a; waits = set t.waits x w }) (i + 1)
+    pub decided_more : AreDecided protocol list numbers logical k
+        (record t { answerers = set t.answerers x a; waits = set t.waits x w }) (i + 1)
     decided_more = record {
       rest = ap (λ (v : TablesState). record v { answerers = set t.answerers x a; waits = set t.waits x w }) h.rest;
       answerers = length-set t.answerers x a ∙ h.answerers;
@@ -132,7 +142,8 @@ module _ (protocol : Protocol) (list : List Found) (numbers : List ℕ) (logical
     }
 
 -- the page that a record waits for exists
-pub awaited_exists : (j : Derived) (r : Rec) (count : ℕ) (o : Option ℕ) → o ≡ awaited j r → r.next.page < count → IfSome o (λ page. page < count)
+pub awaited_exists : (j : Derived) (r : Rec) (count : ℕ) (o : Option ℕ) → o ≡ awaited j r → r.next.page < count →
+    IfSome o (λ page. page < count)
 awaited_exists j r count None e below = tt
 awaited_exists j r count (Some page) e below = elim (cases_Bool (j.waits r)) [
   | inl waits ↦ (

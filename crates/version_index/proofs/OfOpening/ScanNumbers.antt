@@ -12,7 +12,8 @@ use Rattle.version_index.specs.Filling.{IsNotOlder, IsNumbered, HasNumber}
 use Rattle.version_index.proofs.OfProgram.FreeNumbers.{covers, find_free}
 
 -- a record that is added has its number
-pub added_numbered : (k : TablesState) → IsTablesState k → (x : ℕ) (rec : Rec) → x < slots_of k.shape → record_at k.records x ≡ None → IsNewest k.records rec →
+pub added_numbered : (k : TablesState) → IsTablesState k → (x : ℕ) (rec : Rec) → x < slots_of k.shape →
+    record_at k.records x ≡ None → IsNewest k.records rec →
     IsNumbered k (added k x rec) rec x
 added_numbered k sizes x rec within free newest =
     let all = sizes.records in
@@ -28,16 +29,19 @@ added_numbered k sizes x rec within free newest =
     }
 
 -- while the records get their numbers
-pub record IsNumberingSo (its_shape : Shape) (logical : ℕ) (list : List Found) (numbers : List ℕ) (k : TablesState) (at : ℕ) : Type 0 where
+pub record IsNumberingSo (its_shape : Shape) (logical : ℕ) (list : List Found) (numbers : List ℕ) (k : TablesState)
+    (at : ℕ) : Type 0 where
   pub blank : AreBlankBut its_shape logical k
   pub long : length numbers ≡ at
   pub numbered : AreNumbered list numbers k
 
-pub start_numbering : (its_shape : Shape) (logical : ℕ) (list : List Found) (k : TablesState) → k ≡ blank_tables its_shape logical →
+pub start_numbering : (its_shape : Shape) (logical : ℕ) (list : List Found) (k : TablesState) →
+    k ≡ blank_tables its_shape logical →
     IsNumberingSo its_shape logical list [] k 0
 start_numbering its_shape logical list k e =
     let b = blank_tables its_shape logical in
-    let none : (x : ℕ) → record_at k.records x ≡ None = λ x. ap (λ (t : TablesState). record_at t.records x) e ∙ bare x in
+    let none : (x : ℕ) → record_at k.records x ≡ None = λ x. ap (λ (t : TablesState). record_at t.records x) e
+    ∙ bare x in
     record {
       blank = record {
         rest = e ∙ ap (λ (t : TablesState). record b { records = t.records; pages = t.pages }) (sym e);
@@ -55,7 +59,8 @@ start_numbering its_shape logical list k e =
     bare : (x : ℕ) → record_at (replicate (slots_of its_shape) None) x ≡ None
     bare x = elim (cases_lt x (slots_of its_shape)) [
       | inl low ↦ get_or-replicate (slots_of its_shape) x None None low
-      | inr past ↦ get_or_past (replicate (slots_of its_shape) None) x None (let long = length-replicate {A = Option Rec} (slots_of its_shape) None in
+      | inr past ↦ get_or_past (replicate (slots_of its_shape) None) x None
+          (let long = length-replicate {A = Option Rec} (slots_of its_shape) None in
           omega arith)
     ]
 
@@ -67,7 +72,8 @@ module _ (its_shape : Shape) (logical : ℕ) (list : List Found) (numbers : List
   -- its page exists
   pub its_page : All (OwnPageExists logical) list → rec.page < length k.pages
   its_page pages =
-      let own = All-contains (OwnPageExists logical) list (get_or list at nothing) pages (Contains-get_or list at nothing below) in
+      let own = All-contains (OwnPageExists logical) list (get_or list at nothing) pages
+      (Contains-get_or list at nothing below) in
       let all = h.blank.pages in
       omega arith
 
@@ -90,7 +96,8 @@ module _ (its_shape : Shape) (logical : ℕ) (list : List Found) (numbers : List
   its_order order x r is of_page =
       let j = h.numbered.some x r is in
       let long = h.long in
-      let its : records.record_at list j.0 ≡ r = same_Some (records.record_at list j.0) r (sym (h.numbered.each j.0 j.1) ∙ ap (record_at k.records) j.2 ∙ is) in
+      let its : records.record_at list j.0 ≡ r = same_Some (records.record_at list j.0) r (sym (h.numbered.each j.0 j.1)
+      ∙ ap (record_at k.records) j.2 ∙ is) in
       let from = later_from list order j.0 at nothing (omega arith) below in
       let page = ap (λ (s : Rec). s.page) its in
       let version = ap (λ (s : Rec). s.version) its in
@@ -112,8 +119,10 @@ module _ (its_shape : Shape) (logical : ℕ) (list : List Found) (numbers : List
     -- the numbers once it has one too
     numbers_more : (t : TablesState) → record_at t.records x ≡ Some rec →
         ((j : ℕ) → j < at → record_at t.records (get_or numbers j 0) ≡ Some (records.record_at list j)) →
-        ((y : ℕ) (r : Rec) → record_at t.records y ≡ Some r → (y ≡ x) ⊎ ((j : ℕ) × (j < at) × (get_or numbers j 0 ≡ y))) →
-        ((y z : ℕ) (r s : Rec) → record_at t.records y ≡ Some r → record_at t.records z ≡ Some s → name_of r ≡ name_of s → y ≡ z) →
+        ((y : ℕ) (r : Rec) → record_at t.records y ≡ Some r →
+        (y ≡ x) ⊎ ((j : ℕ) × (j < at) × (get_or numbers j 0 ≡ y))) →
+        ((y z : ℕ) (r s : Rec) → record_at t.records y ≡ Some r → record_at t.records z ≡ Some s →
+        name_of r ≡ name_of s → y ≡ z) →
         AreNumbered list more t
     numbers_more t own each some once = record {
       each = λ j low. elim (cases_eq j at) [
@@ -142,11 +151,13 @@ module _ (its_shape : Shape) (logical : ℕ) (list : List Found) (numbers : List
       | inl known ↦ (
           let one : rec ≡ known.1.known =
           let j = old_some x known.1.known known.1.is in
-          let its = same_Some (records.record_at list j.0) known.1.known (sym (old_each j.0 j.1) ∙ ap (record_at k.records) j.2 ∙ known.1.is) in
+          let its = same_Some (records.record_at list j.0) known.1.known (sym (old_each j.0 j.1)
+          ∙ ap (record_at k.records) j.2 ∙ known.1.is) in
           let low = j.1 in
           agree (get_or list at nothing) (get_or list j.0 nothing) (Contains-get_or list at nothing below)
           (Contains-get_or list j.0 nothing (omega arith)) (sym known.1.its_name ∙ ap name_of (sym its)) ∙ its in
-          let now = numbers_more k (known.1.is ∙ ap Some (sym one)) old_each (λ y r is. inr (old_some y r is)) h.numbered.once in
+          let now = numbers_more k (known.1.is ∙ ap Some (sym one)) old_each (λ y r is. inr (old_some y r is))
+          h.numbered.once in
           record {
             blank = subst (AreBlankBut its_shape logical) (sym known.0) h.blank;
             long = longer;
@@ -154,7 +165,8 @@ module _ (its_shape : Shape) (logical : ℕ) (list : List Found) (numbers : List
           })
       | inr new_one ↦ record {
         blank = record {
-          rest = new_one.rest ∙ ap (λ (t : TablesState). record t { records = new.records; pages = new.pages }) h.blank.rest;
+          rest = new_one.rest ∙ ap (λ (t : TablesState). record t { records = new.records; pages = new.pages })
+              h.blank.rest;
           pages = new_one.pages ∙ h.blank.pages;
           sizes = new_one.sizes ∙ h.blank.sizes;
         };
@@ -175,13 +187,15 @@ module _ (its_shape : Shape) (logical : ℕ) (list : List Found) (numbers : List
               | inr y_off ↦ elim (cases_eq z x) [
                 | inl z_here ↦ absurd (newer new_one y r y_off is_y
                     (e ∙ ap name_of (same_Some s rec (sym is_z ∙ ap (record_at new.records) z_here ∙ new_one.own))))
-                | inr z_off ↦ h.numbered.once y z r s (sym (new_one.others y y_off) ∙ is_y) (sym (new_one.others z z_off) ∙ is_z) e
+                | inr z_off ↦ h.numbered.once y z r s (sym (new_one.others y y_off) ∙ is_y)
+                    (sym (new_one.others z z_off) ∙ is_z) e
               ]
             ]);
       }
     ]
       where
-        newer : IsNumbered k new rec x → (y : ℕ) (r : Rec) → y ≢ x → record_at new.records y ≡ Some r → name_of r ≡ name_of rec → ⊥
+        newer : IsNumbered k new rec x → (y : ℕ) (r : Rec) → y ≢ x → record_at new.records y ≡ Some r →
+            name_of r ≡ name_of rec → ⊥
         newer new_one y r off is e =
             let less = new_one.newest y r (sym (new_one.others y off) ∙ is) (ap (λ (l : Link). l.page) e) in
             let same = ap (λ (l : Link). l.version) e in

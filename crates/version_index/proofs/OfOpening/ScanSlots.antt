@@ -13,19 +13,23 @@ use Rattle.version_index.proofs.OfTables.FoundIn.{noted_in, noted_from, holds_wi
 use Rattle.version_index.proofs.OfOpening.Scans.{slots, scanned_notes}
 
 -- a name that is present has a place
-pub not_missing : (list : List Found) (rec : Rec) → is_present list (name_of rec) ≡ true → position (λ f. has_name (name_of rec) f.rec) list ≡ None → ⊥
+pub not_missing : (list : List Found) (rec : Rec) → is_present list (name_of rec) ≡ true →
+    position (λ f. has_name (name_of rec) f.rec) list ≡ None → ⊥
 not_missing list rec present none =
     let f = found_named list (name_of rec) present in
     let k = at_from_Contains list f.0 f.1 in
     let fails = position-all (λ g. has_name (name_of rec) g.rec) list nothing none k.0 k.1 in
     let own = and_from (eqb f.0.rec.page rec.page) (eqb f.0.rec.version rec.version)
-    (eq-eqb f.0.rec.page rec.page (ap (λ (l : Link). l.page) f.2)) (eq-eqb f.0.rec.version rec.version (ap (λ (l : Link). l.version) f.2)) in
+    (eq-eqb f.0.rec.page rec.page (ap (λ (l : Link). l.page) f.2))
+    (eq-eqb f.0.rec.version rec.version (ap (λ (l : Link). l.version) f.2)) in
     false≢true (sym fails ∙ ap (λ g. has_name (name_of rec) g.rec) (k.2 nothing) ∙ own)
 
-module _ (list : List Found) (numbers : List ℕ) (k : TablesState) (numbered : AreNumbered list numbers k) (whole : length numbers ≡ length list)
+module _ (list : List Found) (numbers : List ℕ) (k : TablesState) (numbered : AreNumbered list numbers k)
+    (whole : length numbers ≡ length list)
     (agree : NamesAgree list) where
   -- a number at a place of a name has the record of that name
-  its_record : (rec : Rec) (x : ℕ) → is_present list (name_of rec) ≡ true → ((f : Found) → Contains list f → name_of f.rec ≡ name_of rec → f.rec ≡ rec) →
+  its_record : (rec : Rec) (x : ℕ) → is_present list (name_of rec) ≡ true →
+      ((f : Found) → Contains list f → name_of f.rec ≡ name_of rec → f.rec ≡ rec) →
       IsNumberAt list numbers rec x → record_at k.records x ≡ Some rec
   its_record rec x present one at =
       let low = at.within in
@@ -34,7 +38,8 @@ module _ (list : List Found) (numbers : List ℕ) (k : TablesState) (numbered : 
       ∙ ap Some (one (get_or list at.place nothing) (Contains-get_or list at.place nothing at.within) name)
 
   -- a slot that is used so is noted so
-  pub uses_note : (notes : List Note) → AreListed notes list → (at : ℕ) (its : Note) (u : SlotUse) → note_at notes at ≡ its →
+  pub uses_note : (notes : List Note) → AreListed notes list → (at : ℕ) (its : Note) (u : SlotUse) →
+      note_at notes at ≡ its →
       UsesNote list numbers its u → note_in k.records u ≡ its
   uses_note notes all at note.Blank u e h = ap (note_in k.records) h
   uses_note notes all at note.Damaged u e h = ap (note_in k.records) h
@@ -42,7 +47,8 @@ module _ (list : List Found) (numbers : List ℕ) (k : TablesState) (numbered : 
   uses_note notes all at (note.Holds rec) slot.Damaged e h = absurd h
   uses_note notes all at (note.Holds rec) (slot.Holds x) e h =
       let own = all (found at rec) (noted_in notes at rec (holds_within notes at rec e) e) in
-      let is = its_record rec x (present_in list (found at rec) own) (λ f i same. agree f (found at rec) i own same) h in
+      let is = its_record rec x (present_in list (found at rec) own)
+      (λ f i same. agree f (found at rec) i own same) h in
       ap (λ o. option_map_or note.Holds o note.Damaged) is
 
   -- and its number is in range
@@ -55,46 +61,58 @@ module _ (list : List Found) (numbers : List ℕ) (k : TablesState) (numbered : 
   uses_below sizes (note.Holds rec) (slot.Holds x) h =
       let low = h.within in
       let is = numbered.each h.place (omega arith) in
-      let within : get_or numbers h.place 0 < length k.records = elim (cases_lt (get_or numbers h.place 0) (length k.records)) [
+      let within : get_or numbers h.place 0 < length k.records =
+      elim (cases_lt (get_or numbers h.place 0) (length k.records)) [
         | inl less ↦ less
-        | inr past ↦ absurd (none-some (records.record_at list h.place) (sym (get_or_past k.records (get_or numbers h.place 0) None past) ∙ is))
+        | inr past ↦ absurd (none-some (records.record_at list h.place)
+            (sym (get_or_past k.records (get_or numbers h.place 0) None past) ∙ is))
       ] in
       let same = h.number in
       omega arith
 
 -- the last slots are used as they were noted
-pub record IsHolding (list : List Found) (numbers : List ℕ) (k t : TablesState) (notes : List Note) (count : ℕ) : Type 0 where
+pub record IsHolding (list : List Found) (numbers : List ℕ) (k t : TablesState) (notes : List Note)
+    (count : ℕ) : Type 0 where
   pub rest : t ≡ record k { slots = t.slots }
   pub size : length t.slots ≡ length notes
   pub done : (a : ℕ) → length notes ≤ a + count → a < length notes →
-      (note_in k.records (use_at t.slots a) ≡ note_at notes a) × UsesNote list numbers (note_at notes a) (use_at t.slots a)
+      (note_in k.records (use_at t.slots a) ≡ note_at notes a)
+      × UsesNote list numbers (note_at notes a) (use_at t.slots a)
 
 module _ (list : List Found) (numbers : List ℕ) (k : TablesState) (notes : List Note) where
-  pub all_held : (t : TablesState) (count : ℕ) → IsHolding list numbers k t notes count → length notes ≤ count → notes_in t ≡ notes
+  pub all_held : (t : TablesState) (count : ℕ) → IsHolding list numbers k t notes count → length notes ≤ count →
+      notes_in t ≡ notes
   all_held t count h all =
       ap (λ l. map (note_in l) t.slots) (ap (λ (v : TablesState). v.records) h.rest)
-      ∙ ext_get_or note.Blank (map (note_in k.records) t.slots) notes (length-map t.slots (note_in k.records) ∙ h.size) (λ a low.
+      ∙ ext_get_or note.Blank (map (note_in k.records) t.slots) notes (length-map t.slots (note_in k.records)
+      ∙ h.size) (λ a low.
       let long = length-map t.slots (note_in k.records) in
       let size = h.size in
       get_or-map (note_in k.records) t.slots a slot.Blank ∙ (h.done a (omega arith) (omega arith)).0)
 
   -- a slot that holds a number holds one of a place
-  pub all_placed : (t : TablesState) (count : ℕ) → IsHolding list numbers k t notes count → length notes ≤ count → (a x : ℕ) →
+  pub all_placed : (t : TablesState) (count : ℕ) → IsHolding list numbers k t notes count →
+      length notes ≤ count → (a x : ℕ) →
       use_at t.slots a ≡ slot.Holds x → (j : ℕ) × (j < length list) × (get_or numbers j 0 ≡ x)
   all_placed t count h all a x e = elim (cases_lt a (length t.slots)) [
-    | inl low ↦ (let size = h.size in of_note (note_at notes a) (subst (UsesNote list numbers (note_at notes a)) e (h.done a (omega arith) (omega arith)).1))
+    | inl low ↦ (let size = h.size in of_note (note_at notes a)
+        (subst (UsesNote list numbers (note_at notes a)) e (h.done a (omega arith) (omega arith)).1))
     | inr past ↦ (let bare : slot.Blank ≡ slot.Holds x = sym (get_or_past t.slots a slot.Blank past) ∙ e in absurd cc)
   ]
     where
-      of_note : (its : Note) → UsesNote list numbers its (slot.Holds x) → (j : ℕ) × (j < length list) × (get_or numbers j 0 ≡ x)
+      of_note : (its : Note) → UsesNote list numbers its (slot.Holds x) → (j : ℕ) × (j < length list)
+          × (get_or numbers j 0 ≡ x)
       of_note note.Blank h = (let other : slot.Holds x ≡ slot.Blank = h in absurd cc)
       of_note note.Damaged h = (let other : slot.Holds x ≡ slot.Damaged = h in absurd cc)
       of_note (note.Holds rec) h = (h.place, h.within, h.number)
 
 -- slots that are used so by what is noted of them are used as they were noted
-pub uses_held : (list : List Found) (numbers : List ℕ) (k t : TablesState) (all : List Seen) (scanned : List Found) (uses : List SlotUse)
-    → AreNumbered list numbers k → length numbers ≡ length list → NamesAgree list → ((f : Found) → Contains scanned f → Contains list f)
-    → (h : AreUses list numbers all scanned uses) → t ≡ record k { slots = uses } → IsHolding list numbers k t h.notes (length h.notes)
+pub uses_held : (list : List Found) (numbers : List ℕ) (k t : TablesState) (all : List Seen) (scanned : List Found)
+    (uses : List SlotUse)
+    → AreNumbered list numbers k → length numbers ≡ length list → NamesAgree list →
+    ((f : Found) → Contains scanned f → Contains list f)
+    → (h : AreUses list numbers all scanned uses) → t ≡ record k { slots = uses } →
+    IsHolding list numbers k t h.notes (length h.notes)
 uses_held list numbers k t all scanned uses numbered whole agree listed h e = record {
   rest = e ∙ ap (λ (s : List SlotUse). record k { slots = s }) (sym (ap (λ (v : TablesState). v.slots) e));
   size = ap (λ (v : TablesState). length v.slots) e ∙ h.size;
@@ -109,17 +127,20 @@ uses_held list numbers k t all scanned uses numbered whole agree listed h e = re
 }
 
 -- the numbers of such slots are in range
-pub each_below : (list : List Found) (numbers : List ℕ) (k : TablesState) (all : List Seen) (scanned : List Found) (uses : List SlotUse)
+pub each_below : (list : List Found) (numbers : List ℕ) (k : TablesState) (all : List Seen) (scanned : List Found)
+    (uses : List SlotUse)
     → AreNumbered list numbers k → length numbers ≡ length list → NamesAgree list → length k.records ≡ slots_of k.shape
     → (h : AreUses list numbers all scanned uses) → (at : ℕ) → NumbersBelow (slots_of k.shape) (use_at uses at)
 each_below list numbers k all scanned uses numbered whole agree sizes h at = elim (cases_lt at (length uses)) [
   | inl low ↦ (let size = h.size in
-      uses_below list numbers k numbered whole agree sizes (note_at h.notes at) (use_at uses at) (h.each at (omega arith)))
+      uses_below list numbers k numbered whole agree sizes (note_at h.notes at) (use_at uses at)
+      (h.each at (omega arith)))
   | inr past ↦ subst (NumbersBelow (slots_of k.shape)) (sym (get_or_past uses at slot.Blank past)) tt
 ]
 
 -- a slot is noted blank or damaged, or holds a record
-unnoted : (its : Note) (u : SlotUse) (how : Seen) → seen_as its ≡ how → ((rec : Rec) → its ≡ note.Holds rec → ⊥) → u ≡ first_use how →
+unnoted : (its : Note) (u : SlotUse) (how : Seen) → seen_as its ≡ how → ((rec : Rec) → its ≡ note.Holds rec → ⊥) →
+    u ≡ first_use how →
     (list : List Found) (numbers : List ℕ)
     → UsesNote list numbers its u
 unnoted note.Blank u how e none is list numbers = is ∙ ap first_use (sym e)
@@ -127,7 +148,8 @@ unnoted note.Damaged u how e none is list numbers = is ∙ ap first_use (sym e)
 unnoted (note.Holds rec) u how e none is list numbers = absurd (none rec refl)
 
 -- slots in which the records of a scan were put are used by what is noted of them
-pub put_used : (list : List Found) (numbers : List ℕ) (all : List Seen) (scanned : List Found) (uses : List SlotUse) → slots scanned ≡ complete_slots all
+pub put_used : (list : List Found) (numbers : List ℕ) (all : List Seen) (scanned : List Found) (uses : List SlotUse) →
+    slots scanned ≡ complete_slots all
     → ((f : Found) → Contains scanned f → Contains list f) → ((f : Found) → Contains list f → Contains scanned f)
     → ArePut list numbers all (length list) uses → AreUses list numbers all scanned uses
 put_used list numbers all scanned uses complete listed known put =
@@ -141,7 +163,8 @@ put_used list numbers all scanned uses complete listed known put =
       each = λ at low. elim (put.each at (omega arith)) [
         | inl (j, within, there, is) ↦
             let f = get_or list j nothing in
-            let stands = noted_from its_notes f (subst (λ l. Contains l f) (sym its_found) (known f (Contains-get_or list j nothing within))) in
+            let stands = noted_from its_notes f (subst (λ l. Contains l f) (sym its_found)
+            (known f (Contains-get_or list j nothing within))) in
             subst₂ (UsesNote list numbers) (sym stands.1 ∙ ap (note_at its_notes) there) (sym is)
             (record { place = j; within = within; number = refl; its_name = has_own_name (name_of f.rec) f.rec refl })
         | inr (none, is) ↦
@@ -168,16 +191,24 @@ put_within list all scanned complete known =
     omega arith)
 
 -- one record more is put where it stands
-pub put_more : (list : List Found) (numbers : List ℕ) (all : List Seen) (count : ℕ) (uses : List SlotUse) → ArePut list numbers all count uses
+pub put_more : (list : List Found) (numbers : List ℕ) (all : List Seen) (count : ℕ) (uses : List SlotUse) →
+    ArePut list numbers all count uses
     → (get_or list count nothing).slot.0 < length uses
-    → ArePut list numbers all (count + 1) (set uses (get_or list count nothing).slot.0 (slot.Holds (get_or numbers count 0)))
+    → ArePut list numbers all (count + 1) (set uses (get_or list count nothing).slot.0
+    (slot.Holds (get_or numbers count 0)))
 put_more list numbers all count uses put low =
     let there = (get_or list count nothing).slot.0 in
     let u = slot.Holds (get_or numbers count 0) in
     record {
       size = length-set uses there u ∙ put.size;
       each = λ at within. elim (cases_eq at there) [
-        | inl here ↦ inl (count, omega arith, sym here, ap (use_at (set uses there u)) here ∙ get_or-set_same uses there u slot.Blank low)
+        | inl here ↦ inl (
+          count,
+          omega arith,
+          sym here,
+          ap (use_at (set uses there u)) here
+              ∙ get_or-set_same uses there u slot.Blank low,
+        )
         | inr off ↦
             let same = get_or-set_other uses there at u slot.Blank off in
             elim (put.each at within) [
@@ -194,31 +225,40 @@ put_more list numbers all count uses put low =
     }
 
 -- at first none is
-pub none_put : (list : List Found) (numbers : List ℕ) (all : List Seen) (uses : List SlotUse) → uses ≡ map first_use all → ArePut list numbers all 0 uses
+pub none_put : (list : List Found) (numbers : List ℕ) (all : List Seen) (uses : List SlotUse) →
+    uses ≡ map first_use all → ArePut list numbers all 0 uses
 none_put list numbers all uses is = record {
   size = ap length is ∙ length-map all first_use;
-  each = λ at within. inr (λ j less. absurd (omega arith), ap (λ l. use_at l at) is ∙ get_or-map first_use all at seen.Blank);
+  each = λ at within. inr (
+    λ j less. absurd (omega arith),
+    ap (λ l. use_at l at) is
+        ∙ get_or-map first_use all at seen.Blank,
+  );
 }
 
--- so many of the last slots are used so
+-- this many of the last slots are used so
 pub record AreUsedFrom (k t : TablesState) (uses : List SlotUse) (count : ℕ) : Type 0 where
   pub rest : t ≡ record k { slots = t.slots }
   pub size : length t.slots ≡ length k.slots
   pub done : (a : ℕ) → length uses ≤ a + count → a < length uses → use_at t.slots a ≡ use_at uses a
 
 module _ (k : TablesState) (uses : List SlotUse) where
-  pub one_used : (t : TablesState) (count at : ℕ) (u : SlotUse) → AreUsedFrom k t uses count → at < length t.slots → at + count + 1 ≡ length uses
+  pub one_used : (t : TablesState) (count at : ℕ) (u : SlotUse) → AreUsedFrom k t uses count → at < length t.slots →
+      at + count + 1 ≡ length uses
       → u ≡ use_at uses at → AreUsedFrom k (record t { slots = set t.slots at u }) uses (count + 1)
   one_used t count at u h low place is = record {
     rest = ap (λ (v : TablesState). record v { slots = set t.slots at u }) h.rest;
     size = length-set t.slots at u ∙ h.size;
     done = λ a least high. elim (cases_eq a at) [
-      | inl here ↦ ap (use_at (set t.slots at u)) here ∙ get_or-set_same t.slots at u slot.Blank low ∙ is ∙ ap (use_at uses) (sym here)
+      | inl here ↦ ap (use_at (set t.slots at u)) here ∙ get_or-set_same t.slots at u slot.Blank low ∙ is
+          ∙ ap (use_at uses) (sym here)
       | inr off ↦ get_or-set_other t.slots at a u slot.Blank off ∙ h.done a (omega arith) high
     ];
   }
 
-  pub all_used : (t : TablesState) (count : ℕ) → AreUsedFrom k t uses count → length k.slots ≡ length uses → length uses ≤ count → t ≡ record k { slots = uses }
+  pub all_used : (t : TablesState) (count : ℕ) → AreUsedFrom k t uses count → length k.slots ≡ length uses →
+      length uses ≤ count → t ≡ record k { slots = uses }
   all_used t count h size all =
       h.rest ∙ ap (λ (s : List SlotUse). record k { slots = s })
-      (ext_get_or slot.Blank t.slots uses (h.size ∙ size) (λ a low. let long = h.size in h.done a (omega arith) (omega arith)))
+      (ext_get_or slot.Blank t.slots uses (h.size ∙ size) (λ a low. let long = h.size in
+      h.done a (omega arith) (omega arith)))

@@ -10,11 +10,13 @@ covers zero xs h = omega arith
 covers (suc n) xs h =
     let p : ℕ → Bool = λ y. not (eqb y n) in
     let less = fewer p xs n (h n (omega arith)) (ap not (eq-eqb n n refl)) in
-    let rest = covers n (filter p xs) (λ x below. in_filter p x xs (h x (omega arith)) (ap not (ne_eqb x n (λ e. omega arith)))) in
+    let rest = covers n (filter p xs) (λ x below. in_filter p x xs (h x (omega arith))
+    (ap not (ne_eqb x n (λ e. omega arith)))) in
     omega arith
 
 -- some number has no record, or each has one
-pub find_free : (records : List (Option Rec)) → HasFree records ⊎ ((x : ℕ) → x < length records → (r : Rec) × (record_at records x ≡ Some r))
+pub find_free : (records : List (Option Rec)) → HasFree records
+    ⊎ ((x : ℕ) → x < length records → (r : Rec) × (record_at records x ≡ Some r))
 find_free [] = inr (λ x low. absurd (omega arith))
 find_free (None ∷ rs) = inl (record { number = 0; within = omega arith; free = refl })
 find_free (Some r ∷ rs) = elim (find_free rs) [
@@ -52,7 +54,8 @@ has_free k h sizes at within blank = elim (find_free k.records) [
             let a = h.used x r.0 r.1 in
             subst (Contains xs) (ap (number_or count) a.1) (in_xs a.0 (elim (cases_lt a.0 (length k.slots)) [
               | inl low' ↦ low'
-              | inr past ↦ (let bare : slot.Blank ≡ slot.Holds x = sym (get_or_past k.slots a.0 slot.Blank past) ∙ a.1 in absurd cc)
+              | inr past ↦ (let bare : slot.Blank ≡ slot.Holds x = sym (get_or_past k.slots a.0 slot.Blank past)
+                  ∙ a.1 in absurd cc)
             ])))
       ] in
       let most = covers (count + 1) xs all_in in

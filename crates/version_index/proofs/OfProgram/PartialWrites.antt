@@ -1,4 +1,4 @@
--- A noted record that leaves its cycle open: nothing that was judged moves, and the record waits.
+-- A noted record that leaves its cycle open: nothing that was derived moves, and the record waits.
 use Rattle.version_index.proofs.Common.{◌≡◌, ℕ, ◌<◌, false, Any, length, refl, sym, subst, arith, all_from, Rec, Protocol, shape_of, slots_of, newest, name_of, is_present, IsSoundList, PartialWriteLaw, sound_map, follows_in, Blank, note_at, found_in, IndexState, IsNoted, IsNextRecord, programmed, current_of, IsDerivedAlike}
 use Rattle.record_list.specs.Changes.{PartialWriteKeeps}
 use Rattle.record_list.proofs.OfChanges.Progress.{underway_of, absent_name, name_ahead, name_loose}
@@ -13,9 +13,11 @@ module _ (protocol : Protocol) (n : IndexState) (k : IsNoted protocol n) where
   pub configured : IsSoundList n.config.protocol (found_in n.notes) n.config.logical
   configured = subst (λ p. IsSoundList p (found_in n.notes) n.config.logical) (sym k.rule) k.sound
 
-  pub open_write : PartialWriteLaw protocol → (at : ℕ) (rec : Rec) → at < slots_of (shape_of n.config) → note_at n.notes at ≡ Blank →
+  pub open_write : PartialWriteLaw protocol → (at : ℕ) (rec : Rec) → at < slots_of (shape_of n.config) →
+      note_at n.notes at ≡ Blank →
       (next : IsNextRecord n rec) →
-      Any (λ name. is_present (found_in (programmed n at rec).notes) name ≡ false) next.names → IsOpenWrite n (programmed n at rec) rec
+      Any (λ name. is_present (found_in (programmed n at rec).notes) name ≡ false) next.names →
+      IsOpenWrite n (programmed n at rec) rec
   unfolding current_of
   open_write partial at rec exists was next absent =
       let p = n.config.protocol in
@@ -35,7 +37,8 @@ module _ (protocol : Protocol) (n : IndexState) (k : IsNoted protocol n) where
         nothing_moves = record {
           currents = keeps.same_current;
           records = all_from (λ f. IsDerivedAlike n m f.rec) l' (λ f i.
-              derived_alike n m f.rec refl (all_alike p l l' logical keeps.same_current keeps.responsible keeps.sound f i));
+              derived_alike n m f.rec refl (all_alike p l l' logical keeps.same_current keeps.responsible
+              keeps.sound f i));
         };
         new = newly_loose m rec
             (name_loose l' logical next.names underway p map' gone.0 gone.1 gone.2 (name_of rec) next.named)
@@ -59,5 +62,6 @@ module _ (protocol : Protocol) (n : IndexState) (k : IsNoted protocol n) where
   -- it is newer than each record of its page
   pub next_newest : (rec : Rec) → IsNextRecord n rec → newest (found_in n.notes) rec.page < rec.version
   next_newest rec next =
-      let underway = underway_of n.config.protocol (found_in n.notes) n.config.logical next.names next.in_progress.begun in
+      let underway = underway_of n.config.protocol (found_in n.notes) n.config.logical next.names
+      next.in_progress.begun in
       name_ahead (found_in n.notes) n.config.logical next.names underway (name_of rec) next.named next.fresh

@@ -14,7 +14,8 @@ pub record IsFirst (p q : ℕ → Bool) (a at : ℕ) : Type 0 where
   pub least : (j : ℕ) → a ≤ j → p j ≡ true → q j ≡ true → at ≤ j
 
 module _ (p q : ℕ → Bool) where
-  least_passed : (a n at : ℕ) → find q (filter p (range_with_len a n)) ≡ Some at → (j : ℕ) → a ≤ j → p j ≡ true → q j ≡ true → at ≤ j
+  least_passed : (a n at : ℕ) → find q (filter p (range_with_len a n)) ≡ Some at → (j : ℕ) → a ≤ j → p j ≡ true →
+      q j ≡ true → at ≤ j
   least_passed a zero at e j low one other = absurd (none-some at e)
   least_passed a (suc n) at e j low one other =
       let rest = filter p (range_with_len (a + 1) n) in
@@ -27,10 +28,13 @@ module _ (p q : ℕ → Bool) where
         | inl pass ↦ (
             let e' : find q (a ∷ rest) ≡ Some at = ap (find q) (sym (cond-true (p a) (a ∷ rest) rest pass)) ∙ e in
             elim (cases_Bool (q a)) [
-              | inl both ↦ (let same : a ≡ at = same_Some a at (sym (cond-true (q a) (Some a) (find q rest) both) ∙ e') in omega arith)
-              | inr fail ↦ later (sym (cond-false (q a) (Some a) (find q rest) fail) ∙ e') (λ here. false≢true (sym fail ∙ ap q (sym here) ∙ other))
+              | inl both ↦ (let same : a ≡ at = same_Some a at (sym (cond-true (q a) (Some a) (find q rest) both)
+                  ∙ e') in omega arith)
+              | inr fail ↦ later (sym (cond-false (q a) (Some a) (find q rest) fail) ∙ e')
+                  (λ here. false≢true (sym fail ∙ ap q (sym here) ∙ other))
             ])
-        | inr fail ↦ later (ap (find q) (sym (cond-false (p a) (a ∷ rest) rest fail)) ∙ e) (λ here. false≢true (sym fail ∙ ap p (sym here) ∙ one))
+        | inr fail ↦ later (ap (find q) (sym (cond-false (p a) (a ∷ rest) rest fail)) ∙ e)
+            (λ here. false≢true (sym fail ∙ ap p (sym here) ∙ one))
       ]
 
   pub first_passed : (a n at : ℕ) → find q (filter p (range_with_len a n)) ≡ Some at → IsFirst p q a at
@@ -44,4 +48,5 @@ module _ (p q : ℕ → Bool) where
 
   pub none_passed : (n : ℕ) → find q (filter p (range_with_len 0 n)) ≡ None → (j : ℕ) → j < n → p j ≡ true → q j ≡ false
   none_passed n e j below one =
-      none_found q (filter p (range_with_len 0 n)) e j (in_filter p j (range_with_len 0 n) (in_range 0 n j (omega arith) (omega arith)) one)
+      none_found q (filter p (range_with_len 0 n)) e j
+      (in_filter p j (range_with_len 0 n) (in_range 0 n j (omega arith) (omega arith)) one)

@@ -32,7 +32,8 @@ blank_is Blank h = refl
 blank_is Damaged h = refl
 blank_is (Holds rec) h = cc
 
-one_way : (blank needed : Bool) → (blank ≡ true → needed ≡ false) → one_of (not (blank || needed)) + one_of blank + one_of needed ≡ 1
+one_way : (blank needed : Bool) → (blank ≡ true → needed ≡ false) →
+    one_of (not (blank || needed)) + one_of blank + one_of needed ≡ 1
 one_way false true h = omega arith
 one_way false false h = omega arith
 one_way true needed h = let none = ap one_of (h refl) in omega arith
@@ -50,11 +51,14 @@ module _ (n : IndexState) (block : ℕ) (other : is_slot block n.spare ≡ false
   -- and of another one each slot is needed, blank or garbage
   pub garbage_part : garbage_of n block false + count_by (λ at. is_blank (note_at n.notes at))
       (range_with_len (block * n.config.pages_per_block) n.config.pages_per_block)
-      + count_by (needed_of n) (range_with_len (block * n.config.pages_per_block) n.config.pages_per_block) ≡ n.config.pages_per_block
+      + count_by (needed_of n) (range_with_len (block * n.config.pages_per_block) n.config.pages_per_block)
+      ≡ n.config.pages_per_block
   garbage_part =
       let first = block * n.config.pages_per_block in
       let len = n.config.pages_per_block in
       ap (λ g. g + count_by (λ at. is_blank (note_at n.notes at)) (range_with_len first len) + count_by (needed_of n)
       (range_with_len first len)) (other_garbage n block false other)
-      ∙ three_counts (is_garbage_at n (shut_or_part false)) (λ at. is_blank (note_at n.notes at)) (needed_of n) first len (λ k.
-      one_way (is_blank (note_at n.notes k)) (needed_of n k) (λ blank. unneeded_reading n k (blank_is (note_at n.notes k) blank)))
+      ∙ three_counts (is_garbage_at n (shut_or_part false)) (λ at. is_blank (note_at n.notes at)) (needed_of n)
+      first len (λ k.
+      one_way (is_blank (note_at n.notes k)) (needed_of n k)
+      (λ blank. unneeded_reading n k (blank_is (note_at n.notes k) blank)))

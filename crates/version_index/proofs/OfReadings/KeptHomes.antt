@@ -18,7 +18,8 @@ holds_use x (slot.Holds y) e = ap slot.Holds (eqb-true y x e)
 pub use_holds : (x : ℕ) (u : SlotUse) → u ≡ slot.Holds x → holds x u ≡ true
 use_holds x u e = ap (holds x) e ∙ eq-eqb x x refl
 
-module _ (its : Config) (m : List ℕ) (k : TablesState) (h : AreHeld k) (x : ℕ) (r : Rec) (is : rec_at k.records x ≡ Some r) where
+module _ (its : Config) (m : List ℕ) (k : TablesState) (h : AreHeld k) (x : ℕ) (r : Rec)
+    (is : rec_at k.records x ≡ Some r) where
   -- a slot with the name of its record holds the number
   number_slot : (at : ℕ) (s : Rec) → note_at (notes_in k) at ≡ note.Holds s → has_name (name_of r) s ≡ true →
       (at < length k.slots) × (holds x (use_at k.slots at) ≡ true)
@@ -30,7 +31,8 @@ module _ (its : Config) (m : List ℕ) (k : TablesState) (h : AreHeld k) (x : �
       (omega arith, use_holds x (use_at k.slots at) (held.holds ∙ ap slot.Holds same))
 
   own_name : has_name (name_of r) r ≡ true
-  own_name = and_from (eqb r.page r.page) (eqb r.version r.version) (eq-eqb r.page r.page refl) (eq-eqb r.version r.version refl)
+  own_name = and_from (eqb r.page r.page) (eqb r.version r.version) (eq-eqb r.page r.page refl)
+      (eq-eqb r.version r.version refl)
 
   -- the first copy that passes a test is the lowest slot of the name that passes
   pub first_lowest : (q : ℕ → Bool) (at : ℕ) → find q (copies_of k.slots x) ≡ Some at →
@@ -55,12 +57,14 @@ module _ (its : Config) (m : List ℕ) (k : TablesState) (h : AreHeld k) (x : �
   none_lowest q e at s here = elim (cases_Bool (has_name (name_of r) s)) [
     | inl named ↦ (
         let at_number = number_slot at s here named in
-        and_right (has_name (name_of r) s) (q at) (none_passed (λ j. holds x (use_at k.slots j)) q (length k.slots) e at at_number.0 at_number.1))
+        and_right (has_name (name_of r) s) (q at) (none_passed (λ j. holds x (use_at k.slots j)) q (length k.slots) e at
+        at_number.0 at_number.1))
     | inr other ↦ and_left (has_name (name_of r) s) (q at) other
   ]
 
   -- the lowest copy is the lowest slot of the name
-  pub head_lowest : (at : ℕ) → slice_get (copies_of k.slots x) 0 ≡ Some at → IsLowestSlot (noted_by its m k) (λ f. has_name (name_of r) f.rec) at
+  pub head_lowest : (at : ℕ) → slice_get (copies_of k.slots x) 0 ≡ Some at →
+      IsLowestSlot (noted_by its m k) (λ f. has_name (name_of r) f.rec) at
   head_lowest at e =
       let s = first_lowest (λ _. true) at (sym (head_find (copies_of k.slots x)) ∙ e) in
       record {
@@ -91,11 +95,13 @@ module _ (its : Config) (m : List ℕ) (k : TablesState) (h : AreHeld k) (x : �
           | inr some ↦ ap (λ o. option_or o any) none ∙ some.1
               ∙ sym (home_inside n (name_of r) some.0 (none_lowest q none) (head_lowest some.0 some.1))
         ]
-        | inr some ↦ ap (λ o. option_or o any) some.1 ∙ sym (home_outside n (name_of r) some.0 (first_lowest q some.0 some.1))
+        | inr some ↦ ap (λ o. option_or o any) some.1
+            ∙ sym (home_outside n (name_of r) some.0 (first_lowest q some.0 some.1))
       ]
 
   -- and so is its lowest slot outside a block
-  pub kept_off : (block : ℕ) → find (is_outside (shape_of its) block) (copies_of k.slots x) ≡ slot_off (noted_by its m k) block (name_of r)
+  pub kept_off : (block : ℕ) → find (is_outside (shape_of its) block) (copies_of k.slots x)
+      ≡ slot_off (noted_by its m k) block (name_of r)
   kept_off block =
       let n = noted_by its m k in
       let q = is_outside (shape_of its) block in

@@ -40,13 +40,15 @@ any_at p xs e =
 
 at_any : (x : ℕ) (xs : List (Option ℕ)) (y : ℕ) → number_at xs y ≡ Some x → is_answerer xs x ≡ true
 at_any x xs y e = elim (cases_lt y (length xs)) [
-  | inl within ↦ any_from (is_number x) xs (number_at xs y) (Contains-get_or xs y None within) (is_number_of x (number_at xs y) e)
+  | inl within ↦ any_from (is_number x) xs (number_at xs y) (Contains-get_or xs y None within)
+      (is_number_of x (number_at xs y) e)
   | inr past ↦ absurd (none-some x (sym (get_or_past xs y None past) ∙ e))
 ]
 
 pub count_same : (p q : ℕ → Bool) (xs : List ℕ) → ((x : ℕ) → p x ≡ q x) → count_by p xs ≡ count_by q xs
 count_same p q [] h = refl
-count_same p q (x ∷ xs) h = sum_by-cons (λ y. cond (p y) 1 0) x xs ∙ ap₂ (λ b c. cond b 1 0 + c) (h x) (count_same p q xs h)
+count_same p q (x ∷ xs) h = sum_by-cons (λ y. cond (p y) 1 0) x xs
+    ∙ ap₂ (λ b c. cond b 1 0 + c) (h x) (count_same p q xs h)
     ∙ sym (sum_by-cons (λ y. cond (q y) 1 0) x xs)
 
 -- a slot is blank where it is noted so
@@ -76,16 +78,20 @@ module _ (protocol : Protocol) (its : Config) (m : List ℕ) (k : TablesState) (
       let some = named_some k.records o x (ap (named k.records) (sym e) ∙ i.judged.current page below) in
       record { rec = some.0; is = some.1; name = (name_at_is page (current_of n page) (name_of some.0) some.2).1 }
 
-  pub current_none : (page : ℕ) → page < its.logical → number_at k.current page ≡ None → current_of (noted_by its m k) page ≡ 0
-  current_none page below e = (uncurrent_number (numbered_of k) (noted_by its m k) (numbering protocol its m k i) page below).0 e
+  pub current_none : (page : ℕ) → page < its.logical → number_at k.current page ≡ None →
+      current_of (noted_by its m k) page ≡ 0
+  current_none page below e = (uncurrent_number (numbered_of k) (noted_by its m k) (numbering protocol its m k i)
+      page below).0 e
 
   -- where the current record of a page is read
   pub read_home : (page : ℕ) → page < its.logical →
-      option_and_then (home k) (number_at k.current page) ≡ home_of (noted_by its m k) (current_name_of (noted_by its m k) page)
+      option_and_then (home k) (number_at k.current page)
+      ≡ home_of (noted_by its m k) (current_name_of (noted_by its m k) page)
   read_home page below =
       let n = noted_by its m k in
       elim (cases_Option (number_at k.current page)) [
-        | inl none ↦ ap (option_and_then (home k)) none ∙ sym (home_missing protocol n i.noted page (current_none page below none))
+        | inl none ↦ ap (option_and_then (home k)) none
+            ∙ sym (home_missing protocol n i.noted page (current_none page below none))
         | inr some ↦ (
             let c = current_record page some.0 below some.1 in
             ap (option_and_then (home k)) some.1
@@ -100,9 +106,11 @@ module _ (protocol : Protocol) (its : Config) (m : List ℕ) (k : TablesState) (
   off_missing page block none =
       let n = noted_by its m k in
       let name = current_name_of n page in
-      off_none n name block (λ at s here. and_left (has_name name s) (is_outside (shape_of its) block at) (elim (cases_Bool (has_name name s)) [
+      off_none n name block (λ at s here. and_left (has_name name s) (is_outside (shape_of its) block at)
+      (elim (cases_Bool (has_name name s)) [
         | inl same ↦ absurd (false≢true (sym (noted_positive protocol n i.noted name none)
-            ∙ present_as (found_in n.notes) (found at s) name (noted_in n.notes at s (holds_within n.notes at s here) here) (has_name_true name s same)))
+            ∙ present_as (found_in n.notes) (found at s) name
+            (noted_in n.notes at s (holds_within n.notes at s here) here) (has_name_true name s same)))
         | inr other ↦ other
       ]))
 
@@ -146,7 +154,8 @@ module _ (protocol : Protocol) (its : Config) (m : List ℕ) (k : TablesState) (
       let discard : ℕ → Bool = λ x. option_map_or (λ r. r.discard) (rec_at k.records x) false in
       elim (cases_Option (number_at k.current page)) [
         | inl none ↦ ap (λ o. option_map_or discard o false) none
-            ∙ sym (ap (λ r. r.discard) (absent_record l (current_name_of n page) (noted_positive protocol n i.noted _ (current_none page below none))))
+            ∙ sym (ap (λ r. r.discard) (absent_record l (current_name_of n page)
+            (noted_positive protocol n i.noted _ (current_none page below none))))
         | inr some ↦ (
             let c = current_record page some.0 below some.1 in
             let used = i.held.used some.0 c.rec c.is in
@@ -164,7 +173,8 @@ module _ (protocol : Protocol) (its : Config) (m : List ℕ) (k : TablesState) (
       (λ e. eq-eqb r.version (current_of n r.page) (sym (both.0 (number_is x (number_at k.current r.page) e))))
       (λ e. is_number_of x (number_at k.current r.page) (both.1 (sym (eqb-true r.version (current_of n r.page) e))))
 
-  number_held : (x : ℕ) (r : Rec) → rec_at k.records x ≡ Some r → is_answerer k.answerers x ≡ held_of (noted_by its m k) r
+  number_held : (x : ℕ) (r : Rec) → rec_at k.records x ≡ Some r →
+      is_answerer k.answerers x ≡ held_of (noted_by its m k) r
   number_held x r is =
       let n = noted_by its m k in
       let both = held_number protocol n i.noted (numbered_of k) (numbering protocol its m k i) x r is in
@@ -181,14 +191,16 @@ module _ (protocol : Protocol) (its : Config) (m : List ℕ) (k : TablesState) (
       ∙ ap (λ b. (b || is_answerer k.answerers x) || pin) (number_current x r is)
       ∙ ap (λ b. (eqb r.version (current_of n r.page) || b) || pin) (number_held x r is)
       ∙ sym (All-contains (λ g. wanted_of n g.rec ≡ ((eqb g.rec.version (current_of n g.rec.page) || held_of n g.rec)
-      || eqb g.rec.version (get_or n.pins g.rec.page 0))) (found_in n.notes) (found f.0 r) (wanted_reading protocol n i.noted) f.2)
+      || eqb g.rec.version (get_or n.pins g.rec.page 0))) (found_in n.notes) (found f.0 r)
+      (wanted_reading protocol n i.noted) f.2)
 
   -- a slot is needed where the tables say so
   pub read_needed : (at : ℕ) → is_needed k at ≡ needed_of (noted_by its m k) at
   unfolding is_needed
   read_needed at = by_use (use_at k.slots at) refl
     where
-      by_use : (u : SlotUse) → use_at k.slots at ≡ u → is_needed_for k at (number_in (use_at k.slots at)) ≡ needed_of (noted_by its m k) at
+      by_use : (u : SlotUse) → use_at k.slots at ≡ u → is_needed_for k at (number_in (use_at k.slots at))
+          ≡ needed_of (noted_by its m k) at
       by_use slot.Blank e = ap (λ u. is_needed_for k at (number_in u)) e
           ∙ sym (unneeded_reading (noted_by its m k) at (ap rec_of (note_by k at ∙ ap (note_in k.records) e)))
       by_use slot.Damaged e = ap (λ u. is_needed_for k at (number_in u)) e
@@ -203,7 +215,8 @@ module _ (protocol : Protocol) (its : Config) (m : List ℕ) (k : TablesState) (
           ∙ sym (needed_reading n at r.0 (note_held k at x r.0 e r.1))
 
   -- and a block's garbage is as much
-  pub read_garbage : (block : ℕ) (shut : Bool) → garbage_of k shut block ≡ noted.garbage_of (noted_by its m k) block shut
+  pub read_garbage : (block : ℕ) (shut : Bool) → garbage_of k shut block
+      ≡ noted.garbage_of (noted_by its m k) block shut
   unfolding garbage_of noted.garbage_of
   read_garbage block shut =
       let n = noted_by its m k in
@@ -214,4 +227,5 @@ module _ (protocol : Protocol) (its : Config) (m : List ℕ) (k : TablesState) (
       ∙ ap (λ b. is_garbage state (noted.is_blank (note_at (notes_in k) at)) b) (read_needed at) in
       ap (λ c. cond (is_slot block k.spare) 0 c)
       (count_same (is_garbage_at k state) (noted.is_garbage_at n state) (range_with_len (block * p) p) test
-      ∙ ap (λ (s : Shape). count_by (noted.is_garbage_at n state) (range_with_len (block * s.pages_per_block) s.pages_per_block)) i.shape)
+      ∙ ap (λ (s : Shape). count_by (noted.is_garbage_at n state)
+      (range_with_len (block * s.pages_per_block) s.pages_per_block)) i.shape)

@@ -20,10 +20,12 @@ shut_most n block true = omega arith
 shut_most n block false = by_spare (is_slot block n.spare)
   where
     counted : Bool → ℕ
-    counted shut = count_by (is_garbage_at n (shut_or_part shut)) (range_with_len (block * n.config.pages_per_block) n.config.pages_per_block)
+    counted shut = count_by (is_garbage_at n (shut_or_part shut))
+        (range_with_len (block * n.config.pages_per_block) n.config.pages_per_block)
 
     more : counted false ≤ counted true
-    more = count_more (is_garbage_at n (shut_or_part true)) (is_garbage_at n (shut_or_part false)) (block * n.config.pages_per_block)
+    more = count_more (is_garbage_at n (shut_or_part true)) (is_garbage_at n (shut_or_part false))
+        (block * n.config.pages_per_block)
         n.config.pages_per_block (λ at _ _ part. part_shut (is_blank (note_at n.notes at)) (needed_of n at) part)
 
     by_spare : (spare : Bool) → cond spare 0 (counted false) ≤ cond spare 0 (counted true)
@@ -36,13 +38,16 @@ module _ (protocol : Protocol) (its : Config) (m : List ℕ) (k : TablesState) (
   unfolding kept.blanks_of blanks_of
   read_blanks block =
       let p = k.shape.pages_per_block in
-      count_same (λ at. kept.is_blank (use_at k.slots at)) (λ at. is_blank (note_at (notes_in k) at)) (range_with_len (block * p) p) (blank_reading k)
-      ∙ ap (λ (s : Shape). count_by (λ at. is_blank (note_at (notes_in k) at)) (range_with_len (block * s.pages_per_block) s.pages_per_block)) i.shape
+      count_same (λ at. kept.is_blank (use_at k.slots at)) (λ at. is_blank (note_at (notes_in k) at))
+      (range_with_len (block * p) p) (blank_reading k)
+      ∙ ap (λ (s : Shape). count_by (λ at. is_blank (note_at (notes_in k) at))
+      (range_with_len (block * s.pages_per_block) s.pages_per_block)) i.shape
 
   numbers_long : length (garbage_numbers k) ≡ blocks_of (shape_of its)
   numbers_long = length-map-range_with_len (kept.garbage_of k true) 0 (blocks_of k.shape) ∙ ap blocks_of i.shape
 
-  number_is : (block : ℕ) → block < blocks_of (shape_of its) → get_or (garbage_numbers k) block 0 ≡ garbage_of (noted_by its m k) block true
+  number_is : (block : ℕ) → block < blocks_of (shape_of its) →
+      get_or (garbage_numbers k) block 0 ≡ garbage_of (noted_by its m k) block true
   number_is block below =
       get_or-map-range_with_len (kept.garbage_of k true) 0 (blocks_of k.shape) block block 0
       (subst (λ s. block < blocks_of s) (sym i.shape) below) (omega arith)
@@ -52,7 +57,8 @@ module _ (protocol : Protocol) (its : Config) (m : List ℕ) (k : TablesState) (
   none_most : All (λ x. x ≡ 0) (garbage_numbers k) → FindsMostGarbage (noted_by its m k) None
   none_most all block shut below =
       let within = subst (λ n. block < n) (sym numbers_long) below in
-      let zero = All-contains (λ x. x ≡ 0) (garbage_numbers k) (get_or (garbage_numbers k) block 0) all (Contains-get_or (garbage_numbers k) block 0 within) in
+      let zero = All-contains (λ x. x ≡ 0) (garbage_numbers k) (get_or (garbage_numbers k) block 0) all
+      (Contains-get_or (garbage_numbers k) block 0 within) in
       let same = number_is block below in
       let most = shut_most (noted_by its m k) block shut in
       omega arith
@@ -126,11 +132,16 @@ module _ (protocol : Protocol) (its : Config) (m : List ℕ) (k : TablesState) (
             record {
               block = size * group + stands.0;
               among = record { first = omega arith; last = omega arith; exists = exists };
-              has = sym (number_is (size * group + stands.0) exists) ∙ sym (get_or-group size all group stands.0 low) ∙ stands.2 ∙ sym is;
+              has = sym (number_is (size * group + stands.0) exists) ∙ sym (get_or-group size all group stands.0 low)
+                  ∙ stands.2 ∙ sym is;
               most = at_most;
             })
         | inr zero ↦ (
-            let among : IsAmong n size group (size * group) = record { first = omega arith; last = omega arith; exists = below } in
+            let among : IsAmong n size group (size * group) = record {
+              first = omega arith;
+              last = omega arith;
+              exists = below;
+            } in
             let low = at_most (size * group) true among in
             record { block = size * group; among = among; has = omega arith; most = at_most })
       ]

@@ -1,4 +1,4 @@
--- What is read of noted records, by what is judged of them: held, wanted and needed ones, and those that must go.
+-- What is read of noted records, by what is derived from them: held, wanted and needed ones, and those that must go.
 use Rattle.version_index.proofs.Common.{◌≡◌, ◌≢◌, ℕ, ◌<◌, ◌≤◌, Bool, true, false, eqb, ltb, ◌&&◌, ◌||◌, ◌↔◌, ◌⊎◌, List, get_or, All, Any, Contains, None, Some, sym, ap, ◌∙◌, subst, inl, inr, arith, eqb-true, eq-eqb, ltb-true, lt-ltb, cond_both, and_parts, and_from, or_cases, none-some, All-contains, at_from_Contains, all_from, any_in, in_any, Rec, Protocol, Scc, Bpcc, shape_of, Found, nothing, newest, name_of, record_named, cur, is_loose, must_go, is_held, Pages, PagesExist, is_slot, home, present_in, newest_bound, greatest_least, IsSoundMap, Holds, note_at, rec_of, found_in, IndexState, IsNoted, current_of, held_of, home_of, needed_of, loose_of, waits_of, answerer, answerer_of, is_waiting, goes_of}
 use Rattle.std.proofs.lemmas.Bool.{or_left, or_right}
 use Rattle.record_list.specs.Records.{version_of, mentions_below}
@@ -13,14 +13,17 @@ use Rattle.version_index.proofs.OfTables.Places.{needed_at, needed_none}
 use Rattle.version_index.proofs.OfTables.Derived.{held_answers, held_from}
 
 -- which records must go under Simple Cyclic Commit
-must_go_scc : (l : List Found) (logical page below : ℕ) (f : Found) → Contains l f → must_go Scc l logical page below f.rec ≡ true →
-    ((f.rec.page ≡ page) × (newest l page ≡ f.rec.version) × (is_loose Scc l logical f.rec ≡ true) × (f.rec.version < below))
+must_go_scc : (l : List Found) (logical page below : ℕ) (f : Found) → Contains l f →
+    must_go Scc l logical page below f.rec ≡ true →
+    ((f.rec.page ≡ page) × (newest l page ≡ f.rec.version) × (is_loose Scc l logical f.rec ≡ true)
+    × (f.rec.version < below))
     ⊎ ((is_waiting Scc l logical f.rec ≡ true) × (f.rec.next.page ≡ page) × (f.rec.next.version < below))
 must_go_scc l logical page below f i goes =
     let r = f.rec in
     let parts = and_parts (is_loose Scc l logical r) (mentions_below page below r) goes in
     let loose = ltb-true (cur Scc l logical r.page) r.version parts.0 in
-    elim (or_cases (eqb r.page page && ltb r.version below) (eqb r.next.page page && ltb r.next.version below) parts.1) [
+    elim (or_cases (eqb r.page page && ltb r.version below) (eqb r.next.page page && ltb r.next.version below)
+    parts.1) [
       | inl own ↦ (
           let both = and_parts (eqb r.page page) (ltb r.version below) own in
           let at = eqb-true r.page page both.0 in
@@ -43,16 +46,19 @@ module _ (n : IndexState) where
       let i = noted_in n.notes at rec (holds_within n.notes at rec here) here in
       let place = at_from_Contains l (found at rec) i in
       let e = place.2 nothing in
-      let u : Found → Bool = λ f. is_slot at (home (shape_of n.config) n.spare l (name_of f.rec)) && is_wanted p l logical
+      let u : Found → Bool = λ f. is_slot at (home (shape_of n.config) n.spare l (name_of f.rec))
+      && is_wanted p l logical
       (pinned_names n.pins) f.rec in
-      needed_at p l logical (shape_of n.config) n.spare (pinned_names n.pins) at place.0 (found_in_ascending n.notes) place.1 (ap (λ f. f.slot.0) e)
+      needed_at p l logical (shape_of n.config) n.spare (pinned_names n.pins) at place.0 (found_in_ascending n.notes)
+      place.1 (ap (λ f. f.slot.0) e)
       ∙ ap u e
 
   -- and one without is not
   pub unneeded_reading : (at : ℕ) → rec_of (note_at n.notes at) ≡ None → needed_of n at ≡ false
   unfolding needed_of
   unneeded_reading at none =
-      needed_none n.config.protocol (found_in n.notes) n.config.logical (shape_of n.config) n.spare (pinned_names n.pins) at (λ f i e.
+      needed_none n.config.protocol (found_in n.notes) n.config.logical (shape_of n.config) n.spare
+      (pinned_names n.pins) at (λ f i e.
       let here = (noted_from n.notes f i).1 in
       none-some f.rec (sym none ∙ ap (λ s. rec_of (note_at n.notes s)) (sym e) ∙ ap rec_of here))
 
@@ -67,8 +73,10 @@ module _ (protocol : Protocol) (n : IndexState) (k : IsNoted protocol n) where
       let p = n.config.protocol in
       let l = found_in n.notes in
       let logical = n.config.logical in
-      all_from (λ f. (is_held p l logical f.rec ≡ true) ↔ Any (λ g. answerer p l logical g.rec ≡ Some (name_of f.rec)) l) l (λ f i. (
-        (λ held. let g = held_answers p l logical f.rec held in any_in (λ h. answerer p l logical h.rec ≡ Some (name_of f.rec)) l g.0 g.1 g.2),
+      all_from (λ f. (is_held p l logical f.rec ≡ true) ↔ Any (λ g. answerer p l logical g.rec ≡ Some (name_of f.rec))
+      l) l (λ f i. (
+        (λ held. let g = held_answers p l logical f.rec held in
+            any_in (λ h. answerer p l logical h.rec ≡ Some (name_of f.rec)) l g.0 g.1 g.2),
         (λ any.
             let g = in_any (λ h. answerer p l logical h.rec ≡ Some (name_of f.rec)) l any in
             held_from p l logical configured_map f g.0 i g.1 g.2),
@@ -76,14 +84,16 @@ module _ (protocol : Protocol) (n : IndexState) (k : IsNoted protocol n) where
 
   -- it is wanted exactly where it is current, held or pinned
   pub wanted_reading : All (λ f. wanted_of n f.rec
-      ≡ ((eqb f.rec.version (current_of n f.rec.page) || held_of n f.rec) || eqb f.rec.version (get_or n.pins f.rec.page 0))) (found_in n.notes)
+      ≡ ((eqb f.rec.version (current_of n f.rec.page) || held_of n f.rec)
+      || eqb f.rec.version (get_or n.pins f.rec.page 0))) (found_in n.notes)
   unfolding wanted_of current_of held_of
   wanted_reading =
       let p = n.config.protocol in
       let l = found_in n.notes in
       let logical = n.config.logical in
       all_from (λ f. is_wanted p l logical (pinned_names n.pins) f.rec
-      ≡ ((eqb f.rec.version (cur p l logical f.rec.page) || is_held p l logical f.rec) || eqb f.rec.version (get_or n.pins f.rec.page 0))) l (λ f i.
+      ≡ ((eqb f.rec.version (cur p l logical f.rec.page) || is_held p l logical f.rec)
+      || eqb f.rec.version (get_or n.pins f.rec.page 0))) l (λ f i.
       let pages = All-contains (PagesExist logical) l f (k.sound Pages) i in
       let versions = All-contains (λ g. (1 ≤ g.rec.version) × (1 ≤ g.rec.next.version)) l f k.scanned.versions i in
       let below = pages.0 in
@@ -94,23 +104,38 @@ module _ (protocol : Protocol) (n : IndexState) (k : IsNoted protocol n) where
   -- what must go under Simple Cyclic Commit: the newest record of the page, where it is loose and below, and those that
   -- wait for the page and link to it below
   pub going_reading : n.config.protocol ≡ Scc → (page below : ℕ) →
-      All (λ f. (goes_of n page below f.rec ≡ true) ↔ (IsNewestUncommitted n page below f.rec ⊎ WaitsBelow n page below f.rec)) (found_in n.notes)
+      All (λ f. (goes_of n page below f.rec ≡ true) ↔ (IsNewestUncommitted n page below f.rec
+      ⊎ WaitsBelow n page below f.rec)) (found_in n.notes)
   unfolding goes_of loose_of waits_of
   going_reading scc page below =
       let p = n.config.protocol in
       let l = found_in n.notes in
       let logical = n.config.logical in
-      all_from (λ f. (must_go p l logical page below f.rec ≡ true) ↔ (IsNewestUncommitted n page below f.rec ⊎ WaitsBelow n page below f.rec)) l (λ f i.
+      all_from (λ f. (must_go p l logical page below f.rec ≡ true)
+      ↔ (IsNewestUncommitted n page below f.rec ⊎ WaitsBelow n page below f.rec)) l (λ f i.
       let r = f.rec in (
-        (λ goes. elim (must_go_scc l logical page below f i (subst (λ q. must_go q l logical page below r ≡ true) scc goes)) [
-          | inl own ↦ inl (record { own_page = own.0; top = own.1; loose = subst (λ q. is_loose q l logical r ≡ true) (sym scc) own.2; low = own.3 })
-          | inr link ↦ inr (record { waits = subst (λ q. is_waiting q l logical r ≡ true) (sym scc) link.0; next_page = link.1; low = link.2 })
-        ]),
+        (λ goes. elim (must_go_scc l logical page below f i
+            (subst (λ q. must_go q l logical page below r ≡ true) scc goes)) [
+              | inl own ↦ inl (record {
+                own_page = own.0;
+                top = own.1;
+                loose = subst (λ q. is_loose q l logical r ≡ true) (sym scc) own.2;
+                low = own.3;
+              })
+              | inr link ↦ inr (record {
+                waits = subst (λ q. is_waiting q l logical r ≡ true) (sym scc) link.0;
+                next_page = link.1;
+                low = link.2;
+              })
+            ]),
         (λ parts. subst (λ q. must_go q l logical page below r ≡ true) (sym scc) (elim parts [
-          | inl own ↦ and_from (is_loose Scc l logical r) (mentions_below page below r) (subst (λ q. is_loose q l logical r ≡ true) scc own.loose)
+          | inl own ↦ and_from (is_loose Scc l logical r) (mentions_below page below r)
+              (subst (λ q. is_loose q l logical r ≡ true) scc own.loose)
               (or_left (eqb r.page page && ltb r.version below) (eqb r.next.page page && ltb r.next.version below)
-              (and_from (eqb r.page page) (ltb r.version below) (eq-eqb r.page page own.own_page) (lt-ltb r.version below own.low)))
-          | inr link ↦ and_from (is_loose Scc l logical r) (mentions_below page below r) (subst (λ q. is_waiting q l logical r ≡ true) scc link.waits)
+              (and_from (eqb r.page page) (ltb r.version below) (eq-eqb r.page page own.own_page)
+              (lt-ltb r.version below own.low)))
+          | inr link ↦ and_from (is_loose Scc l logical r) (mentions_below page below r)
+              (subst (λ q. is_waiting q l logical r ≡ true) scc link.waits)
               (or_right (eqb r.page page && ltb r.version below) (eqb r.next.page page && ltb r.next.version below)
               (and_from (eqb r.next.page page) (ltb r.next.version below) (eq-eqb r.next.page page link.next_page)
               (lt-ltb r.next.version below link.low)))
@@ -124,12 +149,14 @@ module _ (protocol : Protocol) (n : IndexState) (k : IsNoted protocol n) where
 
 -- the newest version of a page is that of a record with none above it
 pub newest_is : (l : List Found) (f : Found) → Contains l f →
-    ((g : Found) → Contains l g → g.rec.page ≡ f.rec.page → g.rec.version ≤ f.rec.version) → newest l f.rec.page ≡ f.rec.version
+    ((g : Found) → Contains l g → g.rec.page ≡ f.rec.page → g.rec.version ≤ f.rec.version) →
+    newest l f.rec.page ≡ f.rec.version
 newest_is l f i most =
     let page = f.rec.page in
     let bound = newest_bound l (name_of f.rec) (present_in l f i) in
     let least = greatest_least (version_of page) l f.rec.version (λ g j.
-    cond_both (eqb g.rec.page page) g.rec.version 0 (λ v. v ≤ f.rec.version) (λ same. most g j (eqb-true g.rec.page page same))
+    cond_both (eqb g.rec.page page) g.rec.version 0 (λ v. v ≤ f.rec.version)
+    (λ same. most g j (eqb-true g.rec.page page same))
     (λ other. omega arith)) in
     omega arith
 
@@ -137,13 +164,15 @@ newest_is l f i most =
 pub newest_none : (l : List Found) (page : ℕ) → ((g : Found) → Contains l g → g.rec.page ≢ page) → newest l page ≡ 0
 newest_none l page none =
     let least = greatest_least (version_of page) l 0 (λ g j.
-    cond_both (eqb g.rec.page page) g.rec.version 0 (λ v. v ≤ 0) (λ same. absurd (none g j (eqb-true g.rec.page page same)))
+    cond_both (eqb g.rec.page page) g.rec.version 0 (λ v. v ≤ 0)
+    (λ same. absurd (none g j (eqb-true g.rec.page page same)))
     (λ other. omega arith)) in
     omega arith
 
 module _ (protocol : Protocol) (n : IndexState) (k : IsNoted protocol n) where
   -- the record of a name is one, in whatever slots
-  pub one_record : (at other : ℕ) (r s : Rec) → note_at n.notes at ≡ Holds r → note_at n.notes other ≡ Holds s → name_of r ≡ name_of s → r ≡ s
+  pub one_record : (at other : ℕ) (r s : Rec) → note_at n.notes at ≡ Holds r → note_at n.notes other ≡ Holds s →
+      name_of r ≡ name_of s → r ≡ s
   one_record at other r s here there e =
       let m = noted_map protocol n k in
       let l = found_in n.notes in

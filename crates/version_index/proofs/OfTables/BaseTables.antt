@@ -25,12 +25,14 @@ module _ {X Y : Type 0} (of : ℕ × X → Option Y) where
       ∙ cons-append (of (n, x)) (given of (n + 1) xs) (given of (n + suc (length xs)) ys)
 
   -- one item more at the end
-  pub given-push : (n : ℕ) (xs : List X) (x : X) → given of n (xs ++ x ∷ []) ≡ given of n xs ++ cons_option (of (n + length xs, x)) []
+  pub given-push : (n : ℕ) (xs : List X) (x : X) → given of n (xs ++ x ∷ []) ≡ given of n xs
+      ++ cons_option (of (n + length xs, x)) []
   given-push n xs x = given-append n xs (x ∷ [])
 
   -- another item in a place
   pub given-set : (n : ℕ) (xs : List X) (i : ℕ) (y : X) → i < length xs →
-      given of n (set xs i y) ≡ given of n (take i xs) ++ cons_option (of (n + i, y)) (given of (n + i + 1) (drop (suc i) xs))
+      given of n (set xs i y) ≡ given of n (take i xs) ++ cons_option (of (n + i, y))
+      (given of (n + i + 1) (drop (suc i) xs))
   given-set n xs i y within =
       let as_long : length (take i xs) ≡ i = length-take-le i xs (omega arith) in
       ap (given of n) (set_split xs i y within) ∙ given-append n (take i xs) (y ∷ drop (suc i) xs)
@@ -38,11 +40,13 @@ module _ {X Y : Type 0} (of : ℕ × X → Option Y) where
 
   -- the item that stands there
   pub given-at : (n : ℕ) (xs : List X) (i : ℕ) (d : X) → i < length xs →
-      given of n xs ≡ given of n (take i xs) ++ cons_option (of (n + i, get_or xs i d)) (given of (n + i + 1) (drop (suc i) xs))
+      given of n xs ≡ given of n (take i xs) ++ cons_option (of (n + i, get_or xs i d))
+      (given of (n + i + 1) (drop (suc i) xs))
   given-at n xs i d within = ap (given of n) (sym (set-get_or xs i d)) ∙ given-set n xs i (get_or xs i d) within
 
   -- in place of an item that gave nothing, one that gives something
-  pub given-inserted : (n : ℕ) (xs : List X) (i : ℕ) (d y : X) (z : Y) → i < length xs → of (n + i, get_or xs i d) ≡ None → of (n + i, y) ≡ Some z →
+  pub given-inserted : (n : ℕ) (xs : List X) (i : ℕ) (d y : X) (z : Y) → i < length xs →
+      of (n + i, get_or xs i d) ≡ None → of (n + i, y) ≡ Some z →
       IsInserted (given of n xs) z (given of n (set xs i y))
   given-inserted n xs i d y z within none some =
       let before = given of n (take i xs) in
@@ -55,12 +59,14 @@ module _ {X Y : Type 0} (of : ℕ × X → Option Y) where
       }
 
   -- in place of an item that gave nothing, another one that gives nothing
-  pub given-unchanged : (n : ℕ) (xs : List X) (i : ℕ) (d y : X) → i < length xs → of (n + i, get_or xs i d) ≡ None → of (n + i, y) ≡ None →
+  pub given-unchanged : (n : ℕ) (xs : List X) (i : ℕ) (d y : X) → i < length xs → of (n + i, get_or xs i d) ≡ None →
+      of (n + i, y) ≡ None →
       given of n (set xs i y) ≡ given of n xs
   given-unchanged n xs i d y within was now =
       let before = given of n (take i xs) in
       let after = given of (n + i + 1) (drop (suc i) xs) in
-      given-set n xs i y within ∙ ap (λ o. before ++ cons_option o after) (now ∙ sym was) ∙ sym (given-at n xs i d within)
+      given-set n xs i y within ∙ ap (λ o. before ++ cons_option o after) (now ∙ sym was)
+      ∙ sym (given-at n xs i d within)
 
   -- an item that something comes from
   pub record IsGiven (n : ℕ) (xs : List X) (z : Y) : Type 0 where
@@ -91,26 +97,31 @@ module _ {X Y : Type 0} (of : ℕ × X → Option Y) where
         })
   ]
 
-  pub given_in : (n : ℕ) (xs : List X) (i : ℕ) (d : X) (z : Y) → i < length xs → of (n + i, get_or xs i d) ≡ Some z → Contains (given of n xs) z
+  pub given_in : (n : ℕ) (xs : List X) (i : ℕ) (d : X) (z : Y) → i < length xs → of (n + i, get_or xs i d) ≡ Some z →
+      Contains (given of n xs) z
   given_in n [] i d z within e = absurd (omega arith)
-  given_in n (x ∷ xs) zero d z within e = in_cons (of (n, x)) (given of (n + 1) xs) z (inl (subst (λ k. of (k, x) ≡ Some z) (omega arith) e))
+  given_in n (x ∷ xs) zero d z within e = in_cons (of (n, x)) (given of (n + 1) xs) z
+      (inl (subst (λ k. of (k, x) ≡ Some z) (omega arith) e))
   given_in n (x ∷ xs) (suc i) d z within e = in_cons (of (n, x)) (given of (n + 1) xs) z
       (inr (given_in (n + 1) xs i d z (omega arith) (subst (λ k. of (k, get_or xs i d) ≡ Some z) (omega arith) e)))
 
   module _ (place : Y → ℕ) (placed : (m : ℕ) (x : X) (z : Y) → of (m, x) ≡ Some z → place z ≡ m) where
-    ascending_cons : (n : ℕ) (x : X) (o : Option Y) (zs : List Y) → ((z : Y) → o ≡ Some z → place z ≡ n) → ((z : Y) → Contains zs z → n < place z) →
+    ascending_cons : (n : ℕ) (x : X) (o : Option Y) (zs : List Y) → ((z : Y) → o ≡ Some z → place z ≡ n) →
+        ((z : Y) → Contains zs z → n < place z) →
         AllPairs (λ y z. place y < place z) zs → AllPairs (λ y z. place y < place z) (cons_option o zs)
     ascending_cons n x None zs first later up = up
     ascending_cons n x (Some y) zs first later up =
         let low = first y refl in
-        AllPairs-cons (λ y z. place y < place z) y zs (all_from (λ z. place y < place z) zs (λ z i. let high = later z i in omega arith)) up
+        AllPairs-cons (λ y z. place y < place z) y zs
+        (all_from (λ z. place y < place z) zs (λ z i. let high = later z i in omega arith)) up
 
     -- what is given stands in the order of the numbers
     pub given_ascending : (n : ℕ) (xs : List X) → AllPairs (λ y z. place y < place z) (given of n xs)
     given_ascending n [] = λ i j d lt within. absurd (omega arith)
     given_ascending n (x ∷ xs) =
         ascending_cons n x (of (n, x)) (given of (n + 1) xs) (λ z e. placed n x z e)
-        (λ z i. let h = given_from (n + 1) xs z i in let at = placed (n + 1 + h.at) (get_or xs h.at x) z (h.from x) in omega arith)
+        (λ z i. let h = given_from (n + 1) xs z i in let at = placed (n + 1 + h.at) (get_or xs h.at x) z (h.from x) in
+        omega arith)
         (given_ascending (n + 1) xs)
 
     -- a test of the numbers chooses among what is given
@@ -121,25 +132,30 @@ module _ {X Y : Type 0} (of : ℕ × X → Option Y) where
     chosen_none true zs = refl
     chosen_none false zs = refl
 
-    chosen_some : (a b : Bool) (y : Y) (zs : List Y) → a ≡ b → cond a (y ∷ zs) zs ≡ cons_option (if b then Some y else None) zs
+    chosen_some : (a b : Bool) (y : Y) (zs : List Y) → a ≡ b →
+        cond a (y ∷ zs) zs ≡ cons_option (if b then Some y else None) zs
     chosen_some true true y zs e = refl
     chosen_some false false y zs e = refl
     chosen_some true false y zs e = absurd (false≢true (sym e))
     chosen_some false true y zs e = absurd (false≢true e)
 
     filter_cons : (keep : ℕ → Bool) (n : ℕ) (o : Option Y) (zs : List Y) → ((z : Y) → o ≡ Some z → place z ≡ n) →
-        filter (λ z. keep (place z)) (cons_option o zs) ≡ cons_option (if keep n then o else None) (filter (λ z. keep (place z)) zs)
+        filter (λ z. keep (place z)) (cons_option o zs) ≡ cons_option (if keep n then o else None)
+        (filter (λ z. keep (place z)) zs)
     filter_cons keep n None zs first = chosen_none (keep n) (filter (λ z. keep (place z)) zs)
-    filter_cons keep n (Some y) zs first = chosen_some (keep (place y)) (keep n) y (filter (λ z. keep (place z)) zs) (ap keep (first y refl))
+    filter_cons keep n (Some y) zs first = chosen_some (keep (place y)) (keep n) y (filter (λ z. keep (place z)) zs)
+        (ap keep (first y refl))
 
-    pub given-chosen : (keep : ℕ → Bool) (n : ℕ) (xs : List X) → filter (λ z. keep (place z)) (given of n xs) ≡ given (chosen keep) n xs
+    pub given-chosen : (keep : ℕ → Bool) (n : ℕ) (xs : List X) → filter (λ z. keep (place z)) (given of n xs)
+        ≡ given (chosen keep) n xs
     given-chosen keep n [] = refl
     given-chosen keep n (x ∷ xs) =
         filter_cons keep n (of (n, x)) (given of (n + 1) xs) (λ z e. placed n x z e)
         ∙ ap (cons_option (if keep n then of (n, x) else None)) (given-chosen keep (n + 1) xs)
 
 -- items that give the same at each place
-pub given_same : {X Z Y : Type 0} (of : ℕ × X → Option Y) (by : ℕ × Z → Option Y) (n : ℕ) (xs : List X) (zs : List Z) (d : X) (e : Z) → length xs ≡ length zs →
+pub given_same : {X Z Y : Type 0} (of : ℕ × X → Option Y) (by : ℕ × Z → Option Y) (n : ℕ) (xs : List X) (zs : List Z)
+    (d : X) (e : Z) → length xs ≡ length zs →
     ((i : ℕ) → i < length xs → of (n + i, get_or xs i d) ≡ by (n + i, get_or zs i e)) → given of n xs ≡ given by n zs
 given_same of by n [] [] d e long same = refl
 given_same of by n [] (z ∷ zs) d e long same = absurd (omega arith)

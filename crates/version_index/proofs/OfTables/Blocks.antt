@@ -19,7 +19,8 @@ this_block a b false e out = absurd (false≢true (sym out))
 pub outside_it : (shape : Shape) (block i : ℕ) → is_outside shape block i ≡ true →
     (i < block * shape.pages_per_block) ⊎ (block * shape.pages_per_block + shape.pages_per_block ≤ i)
 outside_it shape block i e =
-    outside_block shape.pages_per_block block i (other_block (i / shape.pages_per_block) block (eqb (i / shape.pages_per_block) block) refl e)
+    outside_block shape.pages_per_block block i (other_block (i / shape.pages_per_block) block
+    (eqb (i / shape.pages_per_block) block) refl e)
 
 -- and one that is not outside lies in it
 pub in_it : (shape : Shape) (block i : ℕ) → is_outside shape block i ≡ false → i / shape.pages_per_block ≡ block
@@ -49,15 +50,20 @@ module _ {X : Type 0} (shape : Shape) (some : 0 < shape.pages_per_block) (xs : L
   item_out k (inl before) = grind (arith, places)
   item_out k (inr behind) = grind (arith, places)
 
-  module _ {Y : Type 0} (of : ℕ × X → Option Y) (place : Y → ℕ) (placed : (m : ℕ) (z : X) (y : Y) → of (m, z) ≡ Some y → place y ≡ m) (none : (m : ℕ) →
+  module _ {Y : Type 0} (of : ℕ × X → Option Y) (place : Y → ℕ) (placed : (m : ℕ) (z : X) (y : Y) → of (m, z) ≡ Some y →
+      place y ≡ m) (none : (m : ℕ) →
       of (m, x) ≡ None) where
-    at_each : (i : ℕ) (keep : Bool) → is_outside shape block i ≡ keep → of (0 + i, get_or with_item i d) ≡ (if keep then of (0 + i, get_or xs i d) else None)
+    at_each : (i : ℕ) (keep : Bool) → is_outside shape block i ≡ keep →
+        of (0 + i, get_or with_item i d) ≡ (if keep then of (0 + i, get_or xs i d) else None)
     at_each i true e = ap (λ z. of (0 + i, z)) (item_out i (outside_it shape block i e))
     at_each i false e =
         let here = inside_block per block i some (in_it shape block i e) in
         ap (λ z. of (0 + i, z)) (item_in i here.0 here.1) ∙ none (0 + i)
 
-    same_at : (i : ℕ) → of (0 + i, get_or with_item i d) ≡ chosen of place placed (is_outside shape block) (0 + i, get_or xs i d)
+    same_at : (i : ℕ) → of (0 + i, get_or with_item i d) ≡ chosen of place placed (is_outside shape block) (
+      0 + i,
+      get_or xs i d,
+    )
     same_at i =
         at_each i (is_outside shape block i) refl
         ∙ ap (λ k. if is_outside shape block k then of (0 + i, get_or xs i d) else None) (omega arith)
@@ -65,5 +71,6 @@ module _ {X : Type 0} (shape : Shape) (some : 0 < shape.pages_per_block) (xs : L
     -- where that item gives nothing, what the others gave is left
     pub given-with_item : given of 0 with_item ≡ filter (λ y. is_outside shape block (place y)) (given of 0 xs)
     given-with_item =
-        given_same of (chosen of place placed (is_outside shape block)) 0 with_item xs d d length-with_item (λ i within. same_at i)
+        given_same of (chosen of place placed (is_outside shape block)) 0 with_item xs d d length-with_item
+        (λ i within. same_at i)
         ∙ sym (given-chosen of place placed (is_outside shape block) 0 xs)

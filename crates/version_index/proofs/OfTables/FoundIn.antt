@@ -16,25 +16,31 @@ pub found_in_nil : found_in [] ≡ []
 unfolding found_in
 found_in_nil = refl
 
-pub found_in_push : (notes : List Note) (note : Note) → found_in (notes ++ note ∷ []) ≡ found_in notes ++ cons_option (found_at (length notes) note) []
+pub found_in_push : (notes : List Note) (note : Note) → found_in (notes ++ note ∷ []) ≡ found_in notes
+    ++ cons_option (found_at (length notes) note) []
 unfolding found_in
-found_in_push notes note = given-push numbered 0 notes note ∙ ap (λ k. given numbered 0 notes ++ cons_option (found_at k note) []) (omega arith)
+found_in_push notes note = given-push numbered 0 notes note
+    ∙ ap (λ k. given numbered 0 notes ++ cons_option (found_at k note) []) (omega arith)
 
 -- the records of one note more
-pub found_in_more : (notes : List Note) (i : ℕ) → i < length notes → found_in (take (i + 1) notes) ≡ found_in (take i notes) ++ cons_option
+pub found_in_more : (notes : List Note) (i : ℕ) → i < length notes →
+    found_in (take (i + 1) notes) ≡ found_in (take i notes) ++ cons_option
     (found_at i (note_at notes i)) []
 found_in_more notes i within =
     let as_long : length (take i notes) ≡ i = length-take-le i notes (omega arith) in
     ap found_in (take_more notes i Blank within) ∙ found_in_push (take i notes) (note_at notes i)
     ∙ ap (λ k. found_in (take i notes) ++ cons_option (found_at k (note_at notes i)) []) as_long
 
-found_at_some : (slot : ℕ) (note : Note) (f : Found) → found_at slot note ≡ Some f → (f.slot.0 ≡ slot) × (note ≡ Holds f.rec)
+found_at_some : (slot : ℕ) (note : Note) (f : Found) → found_at slot note ≡ Some f → (f.slot.0 ≡ slot)
+    × (note ≡ Holds f.rec)
 found_at_some slot Blank f e = absurd (none-some f e)
 found_at_some slot Damaged f e = absurd (none-some f e)
-found_at_some slot (Holds rec) f e = let same = same_Some (found slot rec) f e in (ap (λ g. g.slot.0) (sym same), ap (λ g. Holds g.rec) same)
+found_at_some slot (Holds rec) f e = let same = same_Some (found slot rec) f e in
+    (ap (λ g. g.slot.0) (sym same), ap (λ g. Holds g.rec) same)
 
 -- a noted record stands in the notes
-pub noted_from : (notes : List Note) (f : Found) → Contains (found_in notes) f → (f.slot.0 < length notes) × (note_at notes f.slot.0 ≡ Holds f.rec)
+pub noted_from : (notes : List Note) (f : Found) → Contains (found_in notes) f → (f.slot.0 < length notes)
+    × (note_at notes f.slot.0 ≡ Holds f.rec)
 unfolding found_in
 noted_from notes f i =
     let h = given_from numbered 0 notes f i in
@@ -44,10 +50,12 @@ noted_from notes f i =
     (omega arith, ap (note_at notes) at ∙ parts.1)
 
 -- and the other way round
-pub noted_in : (notes : List Note) (at : ℕ) (rec : Rec) → at < length notes → note_at notes at ≡ Holds rec → Contains (found_in notes) (found at rec)
+pub noted_in : (notes : List Note) (at : ℕ) (rec : Rec) → at < length notes → note_at notes at ≡ Holds rec →
+    Contains (found_in notes) (found at rec)
 unfolding found_in
 noted_in notes at rec within here =
-    given_in numbered 0 notes at Blank (found at rec) within (ap (λ note. found_at (0 + at) note) here ∙ ap (λ k. Some (found k rec)) (omega arith))
+    given_in numbered 0 notes at Blank (found at rec) within (ap (λ note. found_at (0 + at) note) here
+    ∙ ap (λ k. Some (found k rec)) (omega arith))
 
 placed : (m : ℕ) (note : Note) (f : Found) → numbered (m, note) ≡ Some f → f.slot.0 ≡ m
 placed m note f e = (found_at_some m note f e).0
@@ -62,12 +70,15 @@ pub found_in_programmed : (notes : List Note) (at : ℕ) (rec : Rec) → at < le
     IsInserted (found_in notes) (found at rec) (found_in (set notes at (Holds rec)))
 unfolding found_in
 found_in_programmed notes at rec within was =
-    given-inserted numbered 0 notes at Blank (Holds rec) (found at rec) within (ap (found_at (0 + at)) was) (ap (λ k. Some (found k rec)) (omega arith))
+    given-inserted numbered 0 notes at Blank (Holds rec) (found at rec) within (ap (found_at (0 + at)) was)
+    (ap (λ k. Some (found k rec)) (omega arith))
 
 -- a damaged slot that was blank is none
-pub found_in_damaged : (notes : List Note) (at : ℕ) → at < length notes → note_at notes at ≡ Blank → found_in (set notes at Damaged) ≡ found_in notes
+pub found_in_damaged : (notes : List Note) (at : ℕ) → at < length notes → note_at notes at ≡ Blank →
+    found_in (set notes at Damaged) ≡ found_in notes
 unfolding found_in
-found_in_damaged notes at within was = given-unchanged numbered 0 notes at Blank Damaged within (ap (found_at (0 + at)) was) refl
+found_in_damaged notes at within was = given-unchanged numbered 0 notes at Blank Damaged within
+    (ap (found_at (0 + at)) was) refl
 
 pub no_record : (note : Note) → rec_of note ≡ None → (m : ℕ) → found_at m note ≡ None
 no_record Blank e m = refl

@@ -9,22 +9,26 @@ pub record StandsAt (test : Found → Bool) (list : List Found) (at : ℕ) : Typ
   pub its_slot : found.slot.0 ≡ at
   pub passes : test found ≡ true
 
-pub first_stands : (test : Found → Bool) (list : List Found) (at : ℕ) → first_slot test list ≡ Some at → StandsAt test list at
+pub first_stands : (test : Found → Bool) (list : List Found) (at : ℕ) → first_slot test list ≡ Some at →
+    StandsAt test list at
 first_stands test [] at e = absurd (none-some at e)
 first_stands test (f ∷ fs) at e = elim (cases_Bool (test f)) [
   | inl pass ↦ record {
     found = f;
     is_in = Contains-first f fs;
-    its_slot = same_Some f.slot.0 at (sym (ap (option_map (λ g. g.slot.0)) (cond-true (test f) (Some f) (find test fs) pass)) ∙ e);
+    its_slot = same_Some f.slot.0 at
+        (sym (ap (option_map (λ g. g.slot.0)) (cond-true (test f) (Some f) (find test fs) pass)) ∙ e);
     passes = pass;
   }
   | inr fail ↦ (
-      let h = first_stands test fs at (sym (ap (option_map (λ g. g.slot.0)) (cond-false (test f) (Some f) (find test fs) fail)) ∙ e) in
+      let h = first_stands test fs at
+      (sym (ap (option_map (λ g. g.slot.0)) (cond-false (test f) (Some f) (find test fs) fail)) ∙ e) in
       record { found = h.found; is_in = Contains-rest f fs h.found h.is_in; its_slot = h.its_slot; passes = h.passes })
 ]
 
 -- a present name has one
-pub present_first : (list : List Found) (name : Link) → is_present list name ≡ true → first_slot (λ f. has_name name f.rec) list ≡ None → ⊥
+pub present_first : (list : List Found) (name : Link) → is_present list name ≡ true →
+    first_slot (λ f. has_name name f.rec) list ≡ None → ⊥
 present_first [] name e none = false≢true e
 present_first (f ∷ fs) name e none = elim (cases_Bool (has_name name f.rec)) [
   | inl pass ↦ none-some f.slot.0 (sym none ∙ ap (option_map (λ g. g.slot.0)) (cond-true (has_name name f.rec) (Some f)
@@ -34,7 +38,8 @@ present_first (f ∷ fs) name e none = elim (cases_Bool (has_name name f.rec)) [
         (false≢true (sym fail ∙ pass))
     | inr later ↦ later
   ])
-      (sym (ap (option_map (λ g. g.slot.0)) (cond-false (has_name name f.rec) (Some f) (find (λ g. has_name name g.rec) fs) fail)) ∙ none)
+      (sym (ap (option_map (λ g. g.slot.0)) (cond-false (has_name name f.rec) (Some f)
+      (find (λ g. has_name name g.rec) fs) fail)) ∙ none)
 ]
 
 home_choice : (a b : Option ℕ) (at : ℕ) → option_or a b ≡ Some at → (a ≡ Some at) ⊎ (b ≡ Some at)
@@ -42,7 +47,8 @@ home_choice None b at e = inr e
 home_choice (Some x) b at e = inl e
 
 -- the home of a name holds its record
-pub home_stands : (shape : Shape) (spare : Option ℕ) (list : List Found) (name : Link) (at : ℕ) → home shape spare list name ≡ Some at →
+pub home_stands : (shape : Shape) (spare : Option ℕ) (list : List Found) (name : Link) (at : ℕ) →
+    home shape spare list name ≡ Some at →
     StandsAt (λ f. has_name name f.rec) list at
 home_stands shape spare list name at e = elim (home_choice _ _ at e) [
   | inl outside ↦ (
@@ -58,7 +64,8 @@ home_stands shape spare list name at e = elim (home_choice _ _ at e) [
 ]
 
 -- an absent name has no home
-pub home_absent : (shape : Shape) (spare : Option ℕ) (list : List Found) (name : Link) → is_present list name ≡ false → home shape spare list name ≡ None
+pub home_absent : (shape : Shape) (spare : Option ℕ) (list : List Found) (name : Link) → is_present list name ≡ false →
+    home shape spare list name ≡ None
 home_absent shape spare list name e = elim (cases_Option (home shape spare list name)) [
   | inl none ↦ none
   | inr some ↦ (
@@ -67,5 +74,6 @@ home_absent shape spare list name e = elim (cases_Option (home shape spare list 
 ]
 
 -- and a present one has one
-pub home_present : (shape : Shape) (spare : Option ℕ) (list : List Found) (name : Link) → is_present list name ≡ true → home shape spare list name ≡ None → ⊥
+pub home_present : (shape : Shape) (spare : Option ℕ) (list : List Found) (name : Link) → is_present list name ≡ true →
+    home shape spare list name ≡ None → ⊥
 home_present shape spare list name e none = present_first list name e (option_or_none _ _ none).1

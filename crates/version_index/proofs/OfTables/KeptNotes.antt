@@ -10,7 +10,8 @@ pub note_by : (k : TablesState) (at : ℕ) → note_at (notes_in k) at ≡ note_
 note_by k at = get_or-map (note_in k.records) k.slots at slot.Blank
 
 -- a slot that holds a number with a record has the record noted
-pub note_held : (k : TablesState) (at x : ℕ) (r : Rec) → use_at k.slots at ≡ slot.Holds x → rec_at k.records x ≡ Some r →
+pub note_held : (k : TablesState) (at x : ℕ) (r : Rec) → use_at k.slots at ≡ slot.Holds x →
+    rec_at k.records x ≡ Some r →
     note_at (notes_in k) at ≡ note.Holds r
 note_held k at x r holds is =
     note_by k at ∙ ap (note_in k.records) holds ∙ ap (λ o. option_map_or note.Holds o note.Damaged) is
@@ -20,8 +21,10 @@ blank_use : (records : List (Option Rec)) (u : SlotUse) → note_in records u �
 blank_use records slot.Blank e = refl
 blank_use records slot.Damaged e = cc
 blank_use records (slot.Holds x) e = elim (cases_Option (rec_at records x)) [
-  | inl none ↦ (let other : note.Damaged ≡ note.Blank = sym (ap (λ o. option_map_or note.Holds o note.Damaged) none) ∙ e in cc)
-  | inr some ↦ (let other : note.Holds some.0 ≡ note.Blank = sym (ap (λ o. option_map_or note.Holds o note.Damaged) some.1) ∙ e in cc)
+  | inl none ↦ (let other : note.Damaged ≡ note.Blank = sym (ap (λ o. option_map_or note.Holds o note.Damaged) none)
+      ∙ e in cc)
+  | inr some ↦ (let other : note.Holds some.0 ≡ note.Blank = sym (ap (λ o. option_map_or note.Holds o note.Damaged)
+      some.1) ∙ e in cc)
 ]
 
 pub blank_slot : (k : TablesState) (at : ℕ) → note_at (notes_in k) at ≡ note.Blank → use_at k.slots at ≡ slot.Blank
@@ -33,13 +36,16 @@ pub record HoldsNumber (k : TablesState) (at : ℕ) (r : Rec) : Type 0 where
   pub holds : use_at k.slots at ≡ slot.Holds number
   pub is : rec_at k.records number ≡ Some r
 
-number_use : (k : TablesState) (at : ℕ) (r : Rec) (u : SlotUse) → use_at k.slots at ≡ u → note_in k.records u ≡ note.Holds r → HoldsNumber k at r
+number_use : (k : TablesState) (at : ℕ) (r : Rec) (u : SlotUse) → use_at k.slots at ≡ u →
+    note_in k.records u ≡ note.Holds r → HoldsNumber k at r
 number_use k at r slot.Blank is e = cc
 number_use k at r slot.Damaged is e = cc
 number_use k at r (slot.Holds x) is e = elim (cases_Option (rec_at k.records x)) [
-  | inl none ↦ (let other : note.Damaged ≡ note.Holds r = sym (ap (λ o. option_map_or note.Holds o note.Damaged) none) ∙ e in cc)
+  | inl none ↦ (let other : note.Damaged ≡ note.Holds r = sym (ap (λ o. option_map_or note.Holds o note.Damaged) none)
+      ∙ e in cc)
   | inr some ↦ (
-      let same : note.Holds some.0 ≡ note.Holds r = sym (ap (λ o. option_map_or note.Holds o note.Damaged) some.1) ∙ e in
+      let same : note.Holds some.0 ≡ note.Holds r = sym (ap (λ o. option_map_or note.Holds o note.Damaged) some.1)
+      ∙ e in
       let its : Some some.0 ≡ Some r = ap rec_of same in
       record { number = x; holds = is; is = some.1 ∙ its })
 ]
@@ -63,7 +69,8 @@ module _ (k : TablesState) (h : AreHeld k) where
   pub kept_above : IsScanned (found_in (notes_in k)) → (x : ℕ) (r : Rec) → rec_at k.records x ≡ Some r → 0 < r.version
   kept_above scanned x r is =
       let f = kept_found x r is in
-      let low = All-contains (λ f. (1 ≤ f.rec.version) × (1 ≤ f.rec.next.version)) (found_in (notes_in k)) (found f.0 r) scanned.versions f.2 in
+      let low = All-contains (λ f. (1 ≤ f.rec.version) × (1 ≤ f.rec.next.version)) (found_in (notes_in k)) (found f.0 r)
+      scanned.versions f.2 in
       omega (arith, low.0)
 
   -- and a noted record has a number, which its slot holds
@@ -71,7 +78,8 @@ module _ (k : TablesState) (h : AreHeld k) where
   found_number f i = held_number k f.slot.0 f.rec (noted_from (notes_in k) f i).1
 
   pub kept_noted : (x : ℕ) (r : Rec) → rec_at k.records x ≡ Some r → Any (λ f. f.rec ≡ r) (found_in (notes_in k))
-  kept_noted x r is = let f = kept_found x r is in any_in (λ g. g.rec ≡ r) (found_in (notes_in k)) (found f.0 r) f.2 refl
+  kept_noted x r is = let f = kept_found x r is in
+      any_in (λ g. g.rec ≡ r) (found_in (notes_in k)) (found f.0 r) f.2 refl
 
 -- the numbers of the tables are those of the noted records
 pub numbering : (protocol : Protocol) (its : Config) (m : List ℕ) (k : TablesState) (i : AreIndexed protocol its m k) →

@@ -14,7 +14,8 @@ module _ (protocol : Protocol) (n : IndexState) (k : IsNoted protocol n) where
   noted_map = sound_map protocol (found_in n.notes) n.config.logical k.sound k.scanned
 
   -- the current version of a page is 0 or present
-  pub noted_present : (page : ℕ) → (current_of n page ≡ 0) ⊎ (is_present (found_in n.notes) (current_name_of n page) ≡ true)
+  pub noted_present : (page : ℕ) → (current_of n page ≡ 0)
+      ⊎ (is_present (found_in n.notes) (current_name_of n page) ≡ true)
   unfolding current_of
   noted_present page =
       subst (λ p. (cur p (found_in n.notes) n.config.logical page ≡ 0) ⊎ (is_present (found_in n.notes)
@@ -29,26 +30,33 @@ module _ (protocol : Protocol) (n : IndexState) (k : IsNoted protocol n) where
   ]
 
   -- a noted record of the current name says whether it discards the page
-  pub noted_discard : (page at : ℕ) (rec : Rec) → note_at n.notes at ≡ Holds rec → name_of rec ≡ current_name_of n page → rec.discard ≡ discarded_of n page
+  pub noted_discard : (page at : ℕ) (rec : Rec) → note_at n.notes at ≡ Holds rec →
+      name_of rec ≡ current_name_of n page → rec.discard ≡ discarded_of n page
   unfolding discarded_of
   noted_discard page at rec here name =
       let i = noted_in n.notes at rec (holds_within n.notes at rec here) here in
       ap (λ (r : Rec). r.discard) (noted_map.copies (found at rec) i ∙ ap (record_named (found_in n.notes)) name)
 
   -- a slot where a record of a name stands holds it
-  pub noted_stands : (name : Link) (at : ℕ) → StandsAt (λ f. has_name name f.rec) (found_in n.notes) at → HoldsName n at name
+  pub noted_stands : (name : Link) (at : ℕ) → StandsAt (λ f. has_name name f.rec) (found_in n.notes) at →
+      HoldsName n at name
   noted_stands name at h =
       let parts = noted_from n.notes h.found h.is_in in
-      let here : note_at n.notes at ≡ Holds h.found.rec = subst (λ i. note_at n.notes i ≡ Holds h.found.rec) h.its_slot parts.1 in
+      let here : note_at n.notes at ≡ Holds h.found.rec = subst (λ i. note_at n.notes i ≡ Holds h.found.rec)
+      h.its_slot parts.1 in
       let within = parts.0 in
       let slots = k.slots in
-      let its = h.its_slot in
-      (omega arith, subst (λ note. IsSomeAnd (rec_of note) (λ rec. name_of rec ≡ name)) (sym here) (has_name_true name h.found.rec h.passes))
+      let its = h.its_slot in (
+        omega arith,
+        subst (λ note. IsSomeAnd (rec_of note) (λ rec. name_of rec ≡ name)) (sym here)
+            (has_name_true name h.found.rec h.passes),
+      )
 
   -- a page has a home exactly where it has a current version
   pub home_missing : (page : ℕ) → current_of n page ≡ 0 → home_of n (current_name_of n page) ≡ None
   unfolding home_of
-  home_missing page none = home_absent (shape_of n.config) n.spare (found_in n.notes) (current_name_of n page) (noted_positive (current_name_of n page) none)
+  home_missing page none = home_absent (shape_of n.config) n.spare (found_in n.notes) (current_name_of n page)
+      (noted_positive (current_name_of n page) none)
 
   pub home_there : (page : ℕ) → home_of n (current_name_of n page) ≡ None → current_of n page ≡ 0
   unfolding home_of
@@ -66,10 +74,16 @@ module _ (protocol : Protocol) (n : IndexState) (k : IsNoted protocol n) where
   unfolding slot_off
   off_holds block name at e =
       let h = first_stands _ (found_in n.notes) at e in
-      noted_stands name at (record { found = h.found; is_in = h.is_in; its_slot = h.its_slot; passes = (and_parts _ _ h.passes).0 })
+      noted_stands name at (record {
+        found = h.found;
+        is_in = h.is_in;
+        its_slot = h.its_slot;
+        passes = (and_parts _ _ h.passes).0;
+      })
 
   -- what an answer is that names the home of a page's current record
-  pub located_none : (page : ℕ) (r : Option Slot) → discarded_of n page ≡ false → option_map (λ at. at.0) r ≡ home_of n (current_name_of n page) →
+  pub located_none : (page : ℕ) (r : Option Slot) → discarded_of n page ≡ false →
+      option_map (λ at. at.0) r ≡ home_of n (current_name_of n page) →
       IsNone r ↔ IsBlank n page
   located_none page None held e = (λ none. inl (home_there page (sym e)), λ none. refl)
   located_none page (Some at) held e = (
@@ -80,21 +94,25 @@ module _ (protocol : Protocol) (n : IndexState) (k : IsNoted protocol n) where
     ],
   )
 
-  pub located_holds : (name : Link) (r : Option Slot) → option_map (λ at. at.0) r ≡ home_of n name → IfSome r (λ at. HoldsName n at.0 name)
+  pub located_holds : (name : Link) (r : Option Slot) → option_map (λ at. at.0) r ≡ home_of n name →
+      IfSome r (λ at. HoldsName n at.0 name)
   located_holds name None e = tt
   located_holds name (Some at) e = home_holds name at.0 (sym e)
 
   -- and one that names a slot outside a block
-  pub off_located : (block : ℕ) (name : Link) (r : Option Slot) → option_map (λ at. at.0) r ≡ slot_off n block name → IfSome r (λ at. HoldsName n at.0 name)
+  pub off_located : (block : ℕ) (name : Link) (r : Option Slot) → option_map (λ at. at.0) r ≡ slot_off n block name →
+      IfSome r (λ at. HoldsName n at.0 name)
   off_located block name None e = tt
   off_located block name (Some at) e = off_holds block name at.0 (sym e)
 
 -- the spare has no garbage, and of another block what counts is counted
-pub spare_garbage : (n : IndexState) (block : ℕ) (shut : Bool) → is_slot block n.spare ≡ true → garbage_of n block shut ≡ 0
+pub spare_garbage : (n : IndexState) (block : ℕ) (shut : Bool) → is_slot block n.spare ≡ true →
+    garbage_of n block shut ≡ 0
 unfolding garbage_of
 spare_garbage n block shut spare = cond-true (is_slot block n.spare) 0 _ spare
 
 pub other_garbage : (n : IndexState) (block : ℕ) (shut : Bool) → is_slot block n.spare ≡ false →
-    garbage_of n block shut ≡ count_by (is_garbage_at n (shut_or_part shut)) (range_with_len (block * n.config.pages_per_block) n.config.pages_per_block)
+    garbage_of n block shut ≡ count_by (is_garbage_at n (shut_or_part shut))
+    (range_with_len (block * n.config.pages_per_block) n.config.pages_per_block)
 unfolding garbage_of
 other_garbage n block shut other = cond-false (is_slot block n.spare) 0 _ other

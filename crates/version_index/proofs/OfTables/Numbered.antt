@@ -1,4 +1,4 @@
--- What is kept by numbers as it is changed: that it stays what is judged by names.
+-- What is kept by numbers as it is changed: that it stays what is derived by names.
 use Rattle.version_index.proofs.Common.{◌≡◌, ◌≢◌, ℕ, ◌<◌, ◌≤◌, Bool, true, false, not, cond, eqb, ◌&&◌, ◌⊎◌, List, Any, Option, Some, None, refl, sym, ap, ◌∙◌, subst, inl, inr, eq-eqb, ne_eqb, option_map, cases_Bool, cases_eq, cases_lt, cond-true, cond-false, and_left, and_right, and_from, none-some, same_Some, All-contains, in_any, cases_Option, Link, Rec, name_of, found_in, IndexState, name_at, answerer_of, waits_of, Derived, derived_of, IsDerivedAs, with_current, with_answers, rec_at, named, awaited, AreDerived}
 use Rattle.version_index.specs.Numbered.{Numbered, number_at}
 use Rattle.version_index.proofs.OfTables.Derived.{name_at_some, name_at_is}
@@ -8,11 +8,13 @@ use Rattle.version_index.proofs.OfTables.CurrentNames.{IsRested}
 abbrev pub AreNoted : Numbered → IndexState → Type 0
 AreNoted t n = (number : ℕ) (r : Rec) → rec_at t.records number ≡ Some r → Any (λ f. f.rec ≡ r) (found_in n.notes)
 
--- what is kept is judged as the notes are
-pub derived_as : (t : Numbered) (n : IndexState) (j : Derived) → AreDerived t n.config.logical j → IsDerivedAs n j → AreNoted t n →
+-- what is kept is what is derived from the notes
+pub derived_as : (t : Numbered) (n : IndexState) (j : Derived) → AreDerived t n.config.logical j → IsDerivedAs n j →
+    AreNoted t n →
     AreDerived t n.config.logical (derived_of n)
 derived_as t n j k same noted = record {
-  current = λ page below. k.current page below ∙ ap (λ v. option_map Some (name_at page v)) (sym (same.current page below));
+  current = λ page below. k.current page below ∙ ap (λ v. option_map Some (name_at page v))
+      (sym (same.current page below));
   answerers = λ number r at.
       let f = in_any (λ f. f.rec ≡ r) (found_in n.notes) (noted number r at) in
       let one = All-contains (λ g. answerer_of n g.rec ≡ j.answerer g.rec) (found_in n.notes) f.0 same.answerer f.1 in
@@ -20,7 +22,8 @@ derived_as t n j k same noted = record {
   waits = λ number r at.
       let f = in_any (λ f. f.rec ≡ r) (found_in n.notes) (noted number r at) in
       let one = All-contains (λ g. waits_of n g.rec ≡ j.waits g.rec) (found_in n.notes) f.0 same.waits f.1 in
-      k.waits number r at ∙ ap (λ b. cond b (Some r.next.page) None) (sym (subst (λ s. waits_of n s ≡ j.waits s) f.2 one));
+      k.waits number r at ∙ ap (λ b. cond b (Some r.next.page) None)
+      (sym (subst (λ s. waits_of n s ≡ j.waits s) f.2 one));
 }
 
 -- a number that stands for a name has a record
@@ -29,16 +32,21 @@ pub named_some : (records : List (Option Rec)) (o : Option Link) (x : ℕ) → n
 named_some records None x e = absurd (none-some _ (sym e))
 named_some records (Some name) x e = elim (cases_Option (rec_at records x)) [
   | inl none ↦ absurd (none-some name (sym (ap (option_map name_of) none) ∙ same_Some _ (Some name) e))
-  | inr some ↦ (some.0, some.1, ap Some (sym (same_Some _ name (sym (ap (option_map name_of) some.1) ∙ same_Some _ (Some name) e))))
+  | inr some ↦ (
+    some.0,
+    some.1,
+    ap Some (sym (same_Some _ name (sym (ap (option_map name_of) some.1) ∙ same_Some _ (Some name) e))),
+  )
 ]
 
 -- it stands for the same where the records of all numbers with one stay, but perhaps of one that it is not
-named_stays : (records records' : List (Option Rec)) (number : Option ℕ) → ((x : ℕ) → number ≡ Some x → rec_at records' x ≡ rec_at records x) →
+named_stays : (records records' : List (Option Rec)) (number : Option ℕ) →
+    ((x : ℕ) → number ≡ Some x → rec_at records' x ≡ rec_at records x) →
     named records' number ≡ named records number
 named_stays records records' None same = refl
 named_stays records records' (Some x) same = ap (λ o. Some (option_map name_of o)) (same x refl)
 
--- a page's record becomes current: its records above what was current are let go, and others stay
+-- a page's record becomes current: its records above what was current are released, and others stay
 pub record IsMadeCurrent (t t' : Numbered) (j : Derived) (x : ℕ) (r : Rec) : Type 0 where
   pub records : t'.records ≡ t.records
   pub own : rec_at t.records x ≡ Some r
@@ -49,7 +57,8 @@ pub record IsMadeCurrent (t t' : Numbered) (j : Derived) (x : ℕ) (r : Rec) : T
   pub others : (y : ℕ) (s : Rec) → rec_at t.records y ≡ Some s → (s.page ≢ r.page) ⊎ (s.version ≤ j.current r.page) →
       (number_at t'.answerers y ≡ number_at t.answerers y) × (number_at t'.waits y ≡ number_at t.waits y)
 
-pub made_current : (t t' : Numbered) (logical : ℕ) (j : Derived) (x : ℕ) (r : Rec) → AreDerived t logical j → IsRested j → 0 < r.version →
+pub made_current : (t t' : Numbered) (logical : ℕ) (j : Derived) (x : ℕ) (r : Rec) → AreDerived t logical j →
+    IsRested j → 0 < r.version →
     IsMadeCurrent t t' j x r → AreDerived t' logical (with_current (name_of r) j)
 made_current t t' logical j x r k rested positive m = record {
   current = λ page below. elim (cases_eq page r.page) [
@@ -98,10 +107,12 @@ made_current t t' logical j x r k rested positive m = record {
               | inl above ↦ (m.let_go y s at own above).1 ∙ ap (λ b. cond b (Some s.next.page) None) (sym gone)
               | inr low ↦ (
                   let none = (rested s (subst (λ p. s.version ≤ j.current p) (sym own) low)).waits in
-                  (m.others y s at (inr low)).1 ∙ k.waits y s at ∙ ap (λ b. cond b (Some s.next.page) None) (none ∙ sym gone))
+                  (m.others y s at (inr low)).1 ∙ k.waits y s at
+                  ∙ ap (λ b. cond b (Some s.next.page) None) (none ∙ sym gone))
             ])
         | inr off ↦ (
-            let still : (not (eqb s.page r.page) && j.waits s) ≡ j.waits s = ap (λ b. not b && j.waits s) (ne_eqb s.page r.page off) in
+            let still : (not (eqb s.page r.page) && j.waits s) ≡ j.waits s =
+            ap (λ b. not b && j.waits s) (ne_eqb s.page r.page off) in
             (m.others y s at (inl off)).1 ∙ k.waits y s at ∙ ap (λ b. cond b (Some s.next.page) None) (sym still))
       ]);
 }
@@ -119,13 +130,15 @@ pub record IsMadeAnswerer (t t' : Numbered) (x : ℕ) (r : Rec) : Type 0 where
 pub made_answerer : (t t' : Numbered) (logical : ℕ) (j : Derived) (x : ℕ) (r : Rec) → AreDerived t logical j →
     IsMadeAnswerer t t' x r → AreDerived t' logical (with_answers (name_of r) j)
 made_answerer t t' logical j x r k m =
-    let to : (y : ℕ) (s : Rec) → rec_at t.records y ≡ Some s → s.next.page ≡ r.page → j.waits s ≡ true → number_at t.waits y ≡ Some r.page =
+    let to : (y : ℕ) (s : Rec) → rec_at t.records y ≡ Some s → s.next.page ≡ r.page → j.waits s ≡ true →
+    number_at t.waits y ≡ Some r.page =
     λ y s at own waits. k.waits y s at ∙ cond-true (j.waits s) (Some s.next.page) None waits ∙ ap Some own in
     let not_to : (y : ℕ) (s : Rec) → rec_at t.records y ≡ Some s → (s.next.page ≢ r.page) ⊎ (j.waits s ≡ false) →
     number_at t.waits y ≢ Some r.page =
     λ y s at off e. elim (cases_Bool (j.waits s)) [
       | inl waits ↦ elim off [
-        | inl other ↦ other (same_Some s.next.page r.page (sym (k.waits y s at ∙ cond-true (j.waits s) (Some s.next.page) None waits) ∙ e))
+        | inl other ↦ other (same_Some s.next.page r.page
+            (sym (k.waits y s at ∙ cond-true (j.waits s) (Some s.next.page) None waits) ∙ e))
         | inr none ↦ none-some r.page (sym (k.waits y s at ∙ cond-false (j.waits s) (Some s.next.page) None none) ∙ e)
       ]
       | inr none ↦ none-some r.page (sym (k.waits y s at ∙ cond-false (j.waits s) (Some s.next.page) None none) ∙ e)
@@ -141,11 +154,13 @@ made_answerer t t' logical j x r k m =
           ap (named t'.records) (m.others y s at (not_to y s at off)).0
           ∙ ap (λ l. named l (number_at t.answerers y)) m.records
           ∙ k.answerers y s at
-          ∙ ap (option_map Some) (sym (cond-false (eqb s.next.page r.page && j.waits s) (Some (name_of r)) (j.answerer s) test)) in
+          ∙ ap (option_map Some) (sym (cond-false (eqb s.next.page r.page && j.waits s) (Some (name_of r))
+          (j.answerer s) test)) in
           elim (cases_Bool (j.waits s)) [
             | inr none ↦ still (inr none) (and_right (eqb s.next.page r.page) (j.waits s) none)
             | inl waits ↦ elim (cases_eq s.next.page r.page) [
-              | inr off ↦ still (inl off) (and_left (eqb s.next.page r.page) (j.waits s) (ne_eqb s.next.page r.page off))
+              | inr off ↦ still (inl off) (and_left (eqb s.next.page r.page) (j.waits s)
+                  (ne_eqb s.next.page r.page off))
               | inl own ↦ (
                   let now = cond-true (eqb s.next.page r.page && j.waits s) (Some (name_of r)) (j.answerer s)
                   (and_from (eqb s.next.page r.page) (j.waits s) (eq-eqb s.next.page r.page own) waits) in
@@ -161,13 +176,17 @@ made_answerer t t' logical j x r k m =
           cond b (Some s.next.page) None ≡ awaited (with_answers (name_of r) j) s =
           λ b e. ap (λ c. cond c (Some s.next.page) None) (sym e) in
           elim (cases_Bool (j.waits s)) [
-            | inr none ↦ (m.others y s at (not_to y s at (inr none))).1 ∙ k.waits y s at ∙ cond-false (j.waits s) (Some s.next.page) None none
+            | inr none ↦ (m.others y s at (not_to y s at (inr none))).1 ∙ k.waits y s at
+                ∙ cond-false (j.waits s) (Some s.next.page) None none
                 ∙ is false (and_right (not (eqb s.next.page r.page)) (j.waits s) none)
             | inl waits ↦ elim (cases_eq s.next.page r.page) [
-              | inr off ↦ (m.others y s at (not_to y s at (inl off))).1 ∙ k.waits y s at ∙ cond-true (j.waits s) (Some s.next.page) None waits
-                  ∙ is true (and_from (not (eqb s.next.page r.page)) (j.waits s) (ap not (ne_eqb s.next.page r.page off)) waits)
+              | inr off ↦ (m.others y s at (not_to y s at (inl off))).1 ∙ k.waits y s at
+                  ∙ cond-true (j.waits s) (Some s.next.page) None waits
+                  ∙ is true (and_from (not (eqb s.next.page r.page)) (j.waits s)
+                  (ap not (ne_eqb s.next.page r.page off)) waits)
               | inl own ↦ (m.answered y s at (to y s at own waits)).1
-                  ∙ is false (and_left (not (eqb s.next.page r.page)) (j.waits s) (ap not (eq-eqb s.next.page r.page own)))
+                  ∙ is false (and_left (not (eqb s.next.page r.page)) (j.waits s)
+                  (ap not (eq-eqb s.next.page r.page own)))
             ]
           ]);
     }
@@ -186,7 +205,8 @@ pub record IsAdded (t t' : Numbered) (x : ℕ) (r : Rec) : Type 0 where
 pub added_derived : (t t' : Numbered) (logical : ℕ) (j : Derived) (x : ℕ) (r : Rec) → AreDerived t logical j →
     j.answerer r ≡ None → j.waits r ≡ true → IsAdded t t' x r → AreDerived t' logical j
 added_derived t t' logical j x r k none waits a =
-    let stays : (number : Option ℕ) (o : Option Link) → named t.records number ≡ option_map Some o → named t'.records number ≡ option_map Some o =
+    let stays : (number : Option ℕ) (o : Option Link) → named t.records number ≡ option_map Some o →
+    named t'.records number ≡ option_map Some o =
     λ number o e. named_stays t.records t'.records number (λ z is.
     a.others z (λ same. (
     let some = named_some t.records o z (ap (named t.records) (sym is) ∙ e) in
@@ -201,12 +221,14 @@ added_derived t t' logical j x r k none waits a =
             ∙ ap (option_map Some) (sym (ap j.answerer its ∙ none)))
         | inr off ↦ (
             let was = sym (a.others y off) ∙ at in
-            ap (named t'.records) (a.answerers y off) ∙ stays (number_at t.answerers y) (j.answerer s) (k.answerers y s was))
+            ap (named t'.records) (a.answerers y off) ∙ stays (number_at t.answerers y) (j.answerer s)
+            (k.answerers y s was))
       ];
       waits = λ y s at. elim (cases_eq y x) [
         | inl same ↦ (
             let its : s ≡ r = same_Some s r (sym at ∙ ap (rec_at t'.records) same ∙ a.own) in
-            ap (number_at t'.waits) same ∙ a.its_page ∙ sym (cond-true (j.waits r) (Some r.next.page) None waits) ∙ ap (awaited j) (sym its))
+            ap (number_at t'.waits) same ∙ a.its_page ∙ sym (cond-true (j.waits r) (Some r.next.page) None waits)
+            ∙ ap (awaited j) (sym its))
         | inr off ↦ a.waits y off ∙ k.waits y s (sym (a.others y off) ∙ at)
       ];
     }
@@ -219,11 +241,13 @@ pub record IsGivenUp (t t' : Numbered) (x : ℕ) : Type 0 where
   pub answerers : (y : ℕ) → y ≢ x → number_at t'.answerers y ≡ number_at t.answerers y
   pub waits : (y : ℕ) → y ≢ x → number_at t'.waits y ≡ number_at t.waits y
 
-pub given_up_derived : (t t' : Numbered) (logical : ℕ) (j : Derived) (x : ℕ) (r : Rec) → AreDerived t logical j → rec_at t.records x ≡ Some r →
+pub given_up_derived : (t t' : Numbered) (logical : ℕ) (j : Derived) (x : ℕ) (r : Rec) → AreDerived t logical j →
+    rec_at t.records x ≡ Some r →
     j.current r.page ≢ r.version → ((y : ℕ) (s : Rec) → rec_at t.records y ≡ Some s → j.answerer s ≢ Some (name_of r)) →
     IsGivenUp t t' x → AreDerived t' logical j
 given_up_derived t t' logical j x r k own stale free a =
-    let stays : (number : Option ℕ) (o : Option Link) → (o ≢ Some (name_of r)) → named t.records number ≡ option_map Some o →
+    let stays : (number : Option ℕ) (o : Option Link) → (o ≢ Some (name_of r)) →
+    named t.records number ≡ option_map Some o →
     named t'.records number ≡ option_map Some o =
     λ number o other e. named_stays t.records t'.records number (λ z is.
     a.others z (λ same. (
@@ -240,6 +264,7 @@ given_up_derived t t' logical j x r k own stale free a =
       answerers = λ y s at. (
           let off = not_x y s at in
           let was = sym (a.others y off) ∙ at in
-          ap (named t'.records) (a.answerers y off) ∙ stays (number_at t.answerers y) (j.answerer s) (free y s was) (k.answerers y s was));
+          ap (named t'.records) (a.answerers y off) ∙ stays (number_at t.answerers y) (j.answerer s) (free y s was)
+          (k.answerers y s was));
       waits = λ y s at. (let off = not_x y s at in a.waits y off ∙ k.waits y s (sym (a.others y off) ∙ at));
     }

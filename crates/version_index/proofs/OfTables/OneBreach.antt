@@ -14,17 +14,24 @@ use Rattle.version_index.specs.Images.{IsFirstOfRecords, IsFirstUnread, IsLeastI
 -- ---- the laws of a sound list, one by one
 
 -- each record keeps each law, bytes included
-sound_keeps : (protocol : Protocol) (list : List Written) (logical : ℕ) (shape : Shape) → IsSoundWritten protocol list logical shape →
+sound_keeps : (protocol : Protocol) (list : List Written) (logical : ℕ) (shape : Shape) →
+    IsSoundWritten protocol list logical shape →
     (l : Law) → All (KeepsWritten protocol list logical l) list
-sound_keeps protocol list logical shape s Pages = all_mapped (Keeps protocol (records_of list) logical Pages) found_of list (s.records Pages)
+sound_keeps protocol list logical shape s Pages = all_mapped (Keeps protocol (records_of list) logical Pages) found_of
+    list (s.records Pages)
 sound_keeps protocol list logical shape s Copies =
     all_both (λ w. Keeps protocol (records_of list) logical Copies (found_of w)) (BytesAgree list) list
     (all_mapped (Keeps protocol (records_of list) logical Copies) found_of list (s.records Copies)) s.bytes
-sound_keeps protocol list logical shape s Links = all_mapped (Keeps protocol (records_of list) logical Links) found_of list (s.records Links)
-sound_keeps protocol list logical shape s Present = all_mapped (Keeps protocol (records_of list) logical Present) found_of list (s.records Present)
-sound_keeps protocol list logical shape s Counted = all_mapped (Keeps protocol (records_of list) logical Counted) found_of list (s.records Counted)
-sound_keeps protocol list logical shape s Loose = all_mapped (Keeps protocol (records_of list) logical Loose) found_of list (s.records Loose)
-sound_keeps protocol list logical shape s Ending = all_mapped (Keeps protocol (records_of list) logical Ending) found_of list (s.records Ending)
+sound_keeps protocol list logical shape s Links = all_mapped (Keeps protocol (records_of list) logical Links) found_of
+    list (s.records Links)
+sound_keeps protocol list logical shape s Present = all_mapped (Keeps protocol (records_of list) logical Present)
+    found_of list (s.records Present)
+sound_keeps protocol list logical shape s Counted = all_mapped (Keeps protocol (records_of list) logical Counted)
+    found_of list (s.records Counted)
+sound_keeps protocol list logical shape s Loose = all_mapped (Keeps protocol (records_of list) logical Loose) found_of
+    list (s.records Loose)
+sound_keeps protocol list logical shape s Ending = all_mapped (Keeps protocol (records_of list) logical Ending) found_of
+    list (s.records Ending)
 
 -- ---- one first breach of records
 
@@ -34,7 +41,8 @@ breach_same a b law slot =
 
 law_same : (l m : Law) → number l ≡ number m → l ≡ m
 law_same l m e =
-    one_law_more (λ k. number k ≡ number m → k ≡ m) m (λ k below same. absurd (omega arith)) (λ same. refl) l (omega arith) e
+    one_law_more (λ k. number k ≡ number m → k ≡ m) m (λ k below same. absurd (omega arith)) (λ same. refl) l
+    (omega arith) e
 
 -- no record breaks a law that all keep
 none_breaks : {X : Type 0} (K P : X → Type 0) (xs : List X) → Any (λ x. P x × (K x → ⊥)) xs → All K xs → ⊥
@@ -57,15 +65,19 @@ first_same protocol list logical a b h k = elim (cases_order (number h.law) (num
       subst (λ l. All (λ w. w.slot.0 < a.slot.0 → KeepsWritten protocol list logical l w) list) one h.earlier_slots in
       elim (cases_order a.slot.0 b.slot.0) [
         | inl slot ↦ breach_same a b (sym h.law_number ∙ same ∙ k.law_number) slot
-        | inr (inl less) ↦ absurd (none_before (λ (w : Written). w.slot.0) (KeepsWritten protocol list logical k.law) list a.slot.0 b.slot.0 less breaks
+        | inr (inl less) ↦ absurd (none_before (λ (w : Written). w.slot.0) (KeepsWritten protocol list logical k.law)
+            list a.slot.0 b.slot.0 less breaks
             k.earlier_slots)
-        | inr (inr more) ↦ absurd (none_before (λ (w : Written). w.slot.0) (KeepsWritten protocol list logical k.law) list b.slot.0 a.slot.0 more k.breaks
+        | inr (inr more) ↦ absurd (none_before (λ (w : Written). w.slot.0) (KeepsWritten protocol list logical k.law)
+            list b.slot.0 a.slot.0 more k.breaks
             earlier)
       ]
   | inr (inl less) ↦
-      absurd (none_breaks (KeepsWritten protocol list logical h.law) (λ w. w.slot.0 ≡ a.slot.0) list h.breaks (k.earlier_laws h.law less))
+      absurd (none_breaks (KeepsWritten protocol list logical h.law) (λ w. w.slot.0 ≡ a.slot.0) list h.breaks
+      (k.earlier_laws h.law less))
   | inr (inr more) ↦
-      absurd (none_breaks (KeepsWritten protocol list logical k.law) (λ w. w.slot.0 ≡ b.slot.0) list k.breaks (h.earlier_laws k.law more))
+      absurd (none_breaks (KeepsWritten protocol list logical k.law) (λ w. w.slot.0 ≡ b.slot.0) list k.breaks
+      (h.earlier_laws k.law more))
 ]
 
 -- a later law is not broken first where another law is
@@ -78,17 +90,21 @@ not_both protocol list logical a h all =
 miscount_same : (list : List Found) (a b : Breach) → IsLeastMiscount list a → IsLeastMiscount list b → a ≡ b
 miscount_same list a b h k = elim (cases_order a.slot.0 b.slot.0) [
   | inl slot ↦ breach_same a b (h.law ∙ sym k.law) slot
-  | inr (inl less) ↦ absurd (none_before (λ (f : Found). f.slot.0) (KeepsCount list) list a.slot.0 b.slot.0 less h.breaks k.earlier_slots)
-  | inr (inr more) ↦ absurd (none_before (λ (f : Found). f.slot.0) (KeepsCount list) list b.slot.0 a.slot.0 more k.breaks h.earlier_slots)
+  | inr (inl less) ↦ absurd (none_before (λ (f : Found). f.slot.0) (KeepsCount list) list a.slot.0 b.slot.0 less
+      h.breaks k.earlier_slots)
+  | inr (inr more) ↦ absurd (none_before (λ (f : Found). f.slot.0) (KeepsCount list) list b.slot.0 a.slot.0 more
+      k.breaks h.earlier_slots)
 ]
 
 -- ---- images
 
-reads_at : (protocol : Protocol) (logical : ℕ) (image : List Contents) (k : ℕ) → All (SlotReads protocol logical) image →
+reads_at : (protocol : Protocol) (logical : ℕ) (image : List Contents) (k : ℕ) →
+    All (SlotReads protocol logical) image →
     SlotReads protocol logical (slot_at image k)
 reads_at protocol logical [] k h = tt
 reads_at protocol logical (c ∷ cs) zero h = All-head (SlotReads protocol logical) c cs h
-reads_at protocol logical (c ∷ cs) (suc k) h = reads_at protocol logical cs k (All-tail (SlotReads protocol logical) c cs h)
+reads_at protocol logical (c ∷ cs) (suc k) h = reads_at protocol logical cs k
+    (All-tail (SlotReads protocol logical) c cs h)
 
 unread_same : (protocol : Protocol) (logical : ℕ) (image : List Contents) (a b : Breach) →
     IsFirstUnread protocol logical image a → IsFirstUnread protocol logical image b → a ≡ b
@@ -124,8 +140,10 @@ records_same protocol logical shape image a b h k =
 pub breach_one : (protocol : Protocol) (logical : ℕ) (shape : Shape) (image : List Contents) (a b : Breach) →
     IsLeastImageBreach protocol logical shape image a → IsLeastImageBreach protocol logical shape image b → a ≡ b
 breach_one protocol logical shape image a b (inl h) (inl k) = unread_same protocol logical image a b h k
-breach_one protocol logical shape image a b (inl h) (inr k) = absurd (h.breaks (reads_at protocol logical image a.slot.0 k.reads))
-breach_one protocol logical shape image a b (inr h) (inl k) = absurd (k.breaks (reads_at protocol logical image b.slot.0 h.reads))
+breach_one protocol logical shape image a b (inl h) (inr k) =
+    absurd (h.breaks (reads_at protocol logical image a.slot.0 k.reads))
+breach_one protocol logical shape image a b (inr h) (inl k) =
+    absurd (k.breaks (reads_at protocol logical image b.slot.0 h.reads))
 breach_one protocol logical shape image a b (inr h) (inr k) = records_same protocol logical shape image a b h k
 
 -- a sound image breaks none
@@ -134,7 +152,8 @@ pub sound_unbroken : (protocol : Protocol) (logical : ℕ) (shape : Shape) (imag
 sound_unbroken protocol logical shape image b s (inl h) = h.breaks (reads_at protocol logical image b.slot.0 s.reads)
 sound_unbroken protocol logical shape image b s (inr h) = elim h.broken [
   | inl first ↦
-      none_breaks (KeepsWritten protocol (written_in protocol image) logical first.law) (λ w. w.slot.0 ≡ b.slot.0) (written_in protocol image)
+      none_breaks (KeepsWritten protocol (written_in protocol image) logical first.law) (λ w. w.slot.0 ≡ b.slot.0)
+      (written_in protocol image)
       first.breaks (sound_keeps protocol (written_in protocol image) logical shape s.written first.law)
   | inr (inl last) ↦ last.breaks s.written.removable
   | inr (inr count) ↦

@@ -8,7 +8,8 @@ abbrev pub Ascending : List Found → Type 0
 Ascending list = AllPairs (λ f g. f.slot.0 < g.slot.0) list
 
 -- two records of one slot are one
-pub one_in_slot : (list : List Found) (f g : Found) → Ascending list → Contains list f → Contains list g → f.slot.0 ≡ g.slot.0 → f ≡ g
+pub one_in_slot : (list : List Found) (f g : Found) → Ascending list → Contains list f → Contains list g →
+    f.slot.0 ≡ g.slot.0 → f ≡ g
 one_in_slot list f g up i j e = elim (in_order (λ x y. x.slot.0 < y.slot.0) list f g up i j) [
   | inl same ↦ same
   | inr (inl low) ↦ absurd (omega arith)
@@ -16,7 +17,8 @@ one_in_slot list f g up i j e = elim (in_order (λ x y. x.slot.0 < y.slot.0) lis
 ]
 
 -- whether a record of a slot passes two tests, by the record that stands there
-pub any_in_slot : (list : List Found) (at i : ℕ) (t u : Found → Bool) → Ascending list → i < length list → (get_or list i nothing).slot.0 ≡ at →
+pub any_in_slot : (list : List Found) (at i : ℕ) (t u : Found → Bool) → Ascending list → i < length list →
+    (get_or list i nothing).slot.0 ≡ at →
     list_any (λ f. eqb f.slot.0 at && t f && u f) list ≡ (t (get_or list i nothing) && u (get_or list i nothing))
 any_in_slot list at i t u up within here =
     let e = get_or list i nothing in
@@ -25,14 +27,16 @@ any_in_slot list at i t u up within here =
     elim (cases_Bool (t e && u e)) [
       | inl pass ↦ (
           let both = and_parts (t e) (u e) pass in
-          any_from p list e i_e (and_from (eqb e.slot.0 at && t e) (u e) (and_from (eqb e.slot.0 at) (t e) (eq-eqb e.slot.0 at here) both.0) both.1) ∙ sym pass)
+          any_from p list e i_e (and_from (eqb e.slot.0 at && t e) (u e)
+          (and_from (eqb e.slot.0 at) (t e) (eq-eqb e.slot.0 at here) both.0) both.1) ∙ sym pass)
       | inr fail ↦ elim (cases_Bool (list_any p list)) [
         | inl some ↦ (
             let f = any_of p list some in
             let parts = and_parts (eqb f.0.slot.0 at && t f.0) (u f.0) f.2 in
             let more = and_parts (eqb f.0.slot.0 at) (t f.0) parts.0 in
             let same : f.0 ≡ e = one_in_slot list f.0 e up f.1 i_e (eqb-true f.0.slot.0 at more.0 ∙ sym here) in
-            absurd (false≢true (sym fail ∙ and_from (t e) (u e) (ap t (sym same) ∙ more.1) (ap u (sym same) ∙ parts.1))))
+            absurd (false≢true (sym fail ∙ and_from (t e) (u e) (ap t (sym same) ∙ more.1)
+            (ap u (sym same) ∙ parts.1))))
         | inr none ↦ none ∙ sym fail
       ]
     ]
@@ -50,14 +54,19 @@ none_in_slot list at t u off =
       | inr none ↦ none
     ]
 
-module _ (p : Protocol) (list : List Found) (logical : ℕ) (shape : Shape) (spare : Option ℕ) (pinned : List Link) (at : ℕ) where
+module _ (p : Protocol) (list : List Found) (logical : ℕ) (shape : Shape) (spare : Option ℕ) (pinned : List Link)
+    (at : ℕ) where
   -- a slot without a record is not needed
-  pub needed_none : ((f : Found) → Contains list f → f.slot.0 ≢ at) → is_needed p list logical shape spare pinned at ≡ false
-  needed_none off = none_in_slot list at (λ f. is_slot at (home shape spare list (name_of f.rec))) (λ f. is_wanted p list logical pinned f.rec) off
+  pub needed_none : ((f : Found) → Contains list f → f.slot.0 ≢ at) →
+      is_needed p list logical shape spare pinned at ≡ false
+  needed_none off = none_in_slot list at (λ f. is_slot at (home shape spare list (name_of f.rec)))
+      (λ f. is_wanted p list logical pinned f.rec) off
 
   -- a slot with one is needed where it is its home and the record is wanted
   pub needed_at : (i : ℕ) → Ascending list → i < length list → (get_or list i nothing).slot.0 ≡ at →
-      is_needed p list logical shape spare pinned at ≡ (is_slot at (home shape spare list (name_of (record_at list i))) && is_wanted p list logical pinned
+      is_needed p list logical shape spare pinned at ≡ (is_slot at (home shape spare list (name_of (record_at list i)))
+      && is_wanted p list logical pinned
       (record_at list i))
   needed_at i up within here =
-      any_in_slot list at i (λ f. is_slot at (home shape spare list (name_of f.rec))) (λ f. is_wanted p list logical pinned f.rec) up within here
+      any_in_slot list at i (λ f. is_slot at (home shape spare list (name_of f.rec)))
+      (λ f. is_wanted p list logical pinned f.rec) up within here

@@ -1,8 +1,8 @@
 ghost use Rattle.std.specs.Prelude.{◌≡◌, ◌<◌, All, IsSome};
 ghost use Rattle.tx_types.specs.Config.{shape_of, slots_of, blocks_of};
-ghost use Rattle.version_index.specs.declared.note.Note.TheVariants as note;
-ghost use Rattle.version_index.specs.Notes.{note_at, rec_of};
 ghost use Rattle.version_index.specs.IndexState.{current_of, CanLose, IsNextRecord, IsCompleteCycle, programmed, damaged_at, copied, erased, lost, pinned, unpinned, with_spare};
+ghost use Rattle.version_index.specs.Notes.{note_at, rec_of};
+ghost use Rattle.version_index.specs.declared.note.Note.TheVariants as note;
 
 use crate::Index;
 use crate::committing::commit_if_complete;
@@ -21,7 +21,7 @@ impl<R: CommitRule> Index<R> {
         requires asked { IsNextRecord self.old rec }
         ensures { self.new ≡ programmed self.old at.0 rec }
     {
-        // The proof reads the sizes of the tables from this use.
+        // For the proof: the sizes of the tables.
         let _ = self.tables.shape();
         let number = self.tables.add(&rec);
         self.tables.set_slot(at, SlotUse::Holds(number));
@@ -81,8 +81,7 @@ impl<R: CommitRule> Index<R> {
         ensures current { All (λ name. current_of self.new name.page ≡ name.version) names.now }
         ensures stays { self.new ≡ self.old }
     {
-        // No effect at run time: nothing is to be changed. The proof reads the names and the tables
-        // from these uses.
+        // For the proof: the names and the tables. Nothing is to be changed.
         let _ = names;
         let _ = &self.config;
     }

@@ -2,8 +2,8 @@ ghost use Rattle.std.specs.Prelude.{◌≡◌, ◌+◌, ◌*◌, ◌<◌, ◌≤
 ghost use Rattle.std.specs.List.{range_with_len};
 ghost use Rattle.std.specs.Option.{option_map};
 ghost use Rattle.tx_types.specs.Config.{shape_of, slots_of, blocks_of};
-ghost use Rattle.version_index.specs.Notes.{note_at, seen_as, rec_of};
 ghost use Rattle.version_index.specs.IndexState.{mention_of, current_of, current_name_of, discarded_of, place_of, IsBlank, slot_off, needed_of, block_to_go, garbage_of, shut_or_part, is_garbage_at, blanks_of, is_going, going_blocks, FindsMostGarbage, IsMostAmong, HoldsName};
+ghost use Rattle.version_index.specs.Notes.{note_at, seen_as, rec_of};
 
 use crate::Index;
 use crate::clearing::{block_must_go, lowest_to_go, order_blocks, put_blocks_to_go};

@@ -11,15 +11,19 @@ returns-in_err-clean_spare g c =
     (λ y. collects_unclean g.R.CommitRule.protocol _ _ c.args.block.0 _ y c.in_err-clean_spare.ensures)
 
 pub collect_clean-requires-clause-sure : goal.collect_clean-requires-clause-sure
-collect_clean-requires-clause-sure g c = sure_then g.R.CommitRule.protocol _ _ c.requires.sure c.in_ok-clean_spare.ensures.keeps
+collect_clean-requires-clause-sure g c = sure_then g.R.CommitRule.protocol _ _ c.requires.sure
+    c.in_ok-clean_spare.ensures.keeps
 
 pub collect_clean-requires-clause-blank : goal.collect_clean-requires-clause-blank
-collect_clean-requires-clause-blank g c = blank_spare g.R.CommitRule.protocol g.met.R.CommitRule.block_loss _ _ c.requires.sure c.in_ok-clean_spare.ensures
+collect_clean-requires-clause-blank g c = blank_spare g.R.CommitRule.protocol g.met.R.CommitRule.block_loss
+    _ _ c.requires.sure c.in_ok-clean_spare.ensures
 
 pub returns : goal.returns
 returns g c =
     let can = c.requires.can in
     let law = g.met.R.CommitRule.block_loss in
-    collects_cleaned g.R.CommitRule.protocol law _ _ c.requires.sure c.in_ok-clean_spare.ensures c.args.block can.exists can.not_spare
-    (unneeded_cleaned g.R.CommitRule.protocol law _ _ _ _ c.requires.sure.rule c.requires.sure.matches _ c.args.block.0 c.in_ok-clean_spare.ensures.noted
+    collects_cleaned g.R.CommitRule.protocol law _ _ c.requires.sure c.in_ok-clean_spare.ensures c.args.block
+    can.exists can.not_spare
+    (unneeded_cleaned g.R.CommitRule.protocol law _ _ _ _ c.requires.sure.rule c.requires.sure.matches _ c.args.block.0
+    c.in_ok-clean_spare.ensures.noted
     can.unneeded) _ c.collect_clean.result c.collect_clean.ensures

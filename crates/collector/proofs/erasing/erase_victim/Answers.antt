@@ -16,12 +16,16 @@ returns g c =
     let laws = g.met.R.CommitRule in
     let a = store_parts (g.F.Flash.state c.args.flash.now) c.args.index.now c.args.blocks.now c.args.unsure.now in
     let s' = g.F.Flash.state c.erase.new.self in
-    subst (λ (n : IndexState). ErasesVictim g.R.CommitRule.protocol a (store_parts s' n c.swap_spare.new.blocks c.args.unsure.now) c.args.block c.args.used _)
+    subst (λ (n : IndexState). ErasesVictim g.R.CommitRule.protocol a
+    (store_parts s' n c.swap_spare.new.blocks c.args.unsure.now) c.args.block c.args.used _)
     (sym (c.swap_spare.ensures.noted ∙ ap (λ k. with_spare k c.args.block.0) c.note_erased.ensures))
     (subst (λ (t : BlocksState). ErasesVictim g.R.CommitRule.protocol a
-    (store_parts s' (with_spare (erased c.args.index.now c.args.block.0) c.args.block.0) t c.args.unsure.now) c.args.block c.args.used _)
+    (store_parts s' (with_spare (erased c.args.index.now c.args.block.0) c.args.block.0) t c.args.unsure.now)
+    c.args.block c.args.used _)
     (sym c.swap_spare.ensures.blocks)
-    (victim_done g.R.CommitRule.protocol laws.block_loss laws.written_block_loss a c.requires.sure c.args.block c.args.used c.requires.can s'
+    (victim_done g.R.CommitRule.protocol laws.block_loss laws.written_block_loss a c.requires.sure c.args.block
+    c.args.used c.requires.can s'
     c.in_default.field-0
-    (subst (Erases (g.F.Flash.state c.args.flash.now) s' _) c.in_default.is c.erase.ensures) c.swap_spare.ensures.between
+    (subst (Erases (g.F.Flash.state c.args.flash.now) s' _) c.in_default.is c.erase.ensures)
+    c.swap_spare.ensures.between
     (subst IsBlocksState c.swap_spare.ensures.blocks c.swap_spare.ensures.table)))

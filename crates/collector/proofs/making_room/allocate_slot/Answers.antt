@@ -15,11 +15,14 @@ pub returns-in_err-_collected-clause-finds : goal.returns-in_err-_collected-clau
 returns-in_err-_collected-clause-finds g c =
     let p = g.R.CommitRule.protocol in
     let a = store_parts (g.F.Flash.state c.args.flash.now) c.args.index.now c.args.blocks.now c.args.unsure.now in
-    let b = store_parts (g.F.Flash.state c.collect_victim.new.flash) c.collect_victim.new.index c.collect_victim.new.blocks c.collect_victim.new.unsure in
+    let b = store_parts (g.F.Flash.state c.collect_victim.new.flash) c.collect_victim.new.index
+    c.collect_victim.new.blocks c.collect_victim.new.unsure in
     let made : CollectsVictim p a b (Err c.in_err-_collected.field-0.0) =
-    subst (λ (t : BlocksState). CollectsVictim p (store_parts (g.F.Flash.state c.args.flash.now) c.args.index.now t c.args.unsure.now) b
+    subst (λ (t : BlocksState). CollectsVictim p (store_parts (g.F.Flash.state c.args.flash.now) c.args.index.now t
+    c.args.unsure.now) b
     (Err c.in_err-_collected.field-0.0)) c.in_default.ensures.unchanged c.in_err-_collected.ensures in
-    by_err c.from_residual.result (AllocatesSlot p a b) c.from_residual.ensures.0 (λ y. found_none p a c.requires.sure b _ y made)
+    by_err c.from_residual.result (AllocatesSlot p a b) c.from_residual.ensures.0
+    (λ y. found_none p a c.requires.sure b _ y made)
 
 pub returns-in_err-_collected-clause-direct : goal.returns-in_err-_collected-clause-direct
 returns-in_err-_collected-clause-direct g c = λ room. absurd (room (c.in_default.ensures.full.0 refl))
@@ -28,22 +31,28 @@ pub unreachable-requires : goal.unreachable-requires
 unreachable-requires g c =
     let p = g.R.CommitRule.protocol in
     let a = store_parts (g.F.Flash.state c.args.flash.now) c.args.index.now c.args.blocks.now c.args.unsure.now in
-    let b = store_parts (g.F.Flash.state c.collect_victim.new.flash) c.collect_victim.new.index c.collect_victim.new.blocks c.collect_victim.new.unsure in
+    let b = store_parts (g.F.Flash.state c.collect_victim.new.flash) c.collect_victim.new.index
+    c.collect_victim.new.blocks c.collect_victim.new.unsure in
     let made : CollectsVictim p a b (Ok c.in_ok-_collected._collected) =
-    subst (λ (t : BlocksState). CollectsVictim p (store_parts (g.F.Flash.state c.args.flash.now) c.args.index.now t c.args.unsure.now) b
+    subst (λ (t : BlocksState). CollectsVictim p (store_parts (g.F.Flash.state c.args.flash.now) c.args.index.now t
+    c.args.unsure.now) b
     (Ok c.in_ok-_collected._collected)) c.in_default.ensures.unchanged c.in_ok-_collected.ensures in
-    made.room (full_collects p a b c.requires.sure (c.in_default.ensures.full.0 refl) c.requires.next _ made) (c.in_default-next_slot.ensures.full.0 refl)
+    made.room (full_collects p a b c.requires.sure (c.in_default.ensures.full.0 refl) c.requires.next _ made)
+    (c.in_default-next_slot.ensures.full.0 refl)
 
 pub returns-clause-finds : goal.returns-clause-finds
 returns-clause-finds g c =
     let p = g.R.CommitRule.protocol in
     let a = store_parts (g.F.Flash.state c.args.flash.now) c.args.index.now c.args.blocks.now c.args.unsure.now in
-    let b = store_parts (g.F.Flash.state c.collect_victim.new.flash) c.collect_victim.new.index c.collect_victim.new.blocks c.collect_victim.new.unsure in
+    let b = store_parts (g.F.Flash.state c.collect_victim.new.flash) c.collect_victim.new.index
+    c.collect_victim.new.blocks c.collect_victim.new.unsure in
     let made : CollectsVictim p a b (Ok c.in_ok-_collected._collected) =
-    subst (λ (t : BlocksState). CollectsVictim p (store_parts (g.F.Flash.state c.args.flash.now) c.args.index.now t c.args.unsure.now) b
+    subst (λ (t : BlocksState). CollectsVictim p (store_parts (g.F.Flash.state c.args.flash.now) c.args.index.now t
+    c.args.unsure.now) b
     (Ok c.in_ok-_collected._collected)) c.in_default.ensures.unchanged c.in_ok-_collected.ensures in
     let any = full_collects p a b c.requires.sure (c.in_default.ensures.full.0 refl) c.requires.next _ made in
-    found_then p a c.requires.sure b (subst (λ x. CollectsVictim p a b (Ok x)) any made) _ c.in-Some-next_slot.ensures.cursor c.in-Some-next_slot.ensures.table
+    found_then p a c.requires.sure b (subst (λ x. CollectsVictim p a b (Ok x)) any made)
+    _ c.in-Some-next_slot.ensures.cursor c.in-Some-next_slot.ensures.table
     c.in-Some-next_slot.at (sym c.in-Some-next_slot.ensures.slot) c.in-Some-next_slot.ensures.free
 
 pub returns-clause-direct : goal.returns-clause-direct

@@ -28,33 +28,39 @@ blocks_to_go-requires-clause-room g c =
 pub loop-block-init : goal.loop-block-init
 loop-block-init g c = record {
   so_far = clears_none g.R.CommitRule.protocol c.args.page c.args.below _ c.requires.sure c.requires.next;
-  ahead = all_ahead c.args.index.now c.args.page c.args.below c.requires.sure.matches.noted (numbers c.deref-block-items.result.now)
+  ahead = all_ahead c.args.index.now c.args.page c.args.below c.requires.sure.matches.noted
+      (numbers c.deref-block-items.result.now)
       (ap numbers c.deref-block-items.ensures.value ∙ c.blocks_to_go.ensures.blocks);
 }
 
 pub is_going-requires-clause-block : goal.is_going-requires-clause-block
 is_going-requires-clause-block g c =
-    next_exists c.loop-block.index c.args.page c.args.below c.deref-block-items.result.now c.loop-block.block-index c.loop-block.invariant.ahead
+    next_exists c.loop-block.index c.args.page c.args.below c.deref-block-items.result.now c.loop-block.block-index
+    c.loop-block.invariant.ahead
     _ c.loop-block-test.true refl
 
 pub evict_block-requires-clause-sure : goal.evict_block-requires-clause-sure
-evict_block-requires-clause-sure g c = sure_then g.R.CommitRule.protocol _ _ c.requires.sure c.loop-block.invariant.so_far.keeps
+evict_block-requires-clause-sure g c = sure_then g.R.CommitRule.protocol _ _ c.requires.sure
+    c.loop-block.invariant.so_far.keeps
 
 pub evict_block-requires-clause-exists : goal.evict_block-requires-clause-exists
 evict_block-requires-clause-exists g c =
-    next_exists c.loop-block.index c.args.page c.args.below c.deref-block-items.result.now c.loop-block.block-index c.loop-block.invariant.ahead
+    next_exists c.loop-block.index c.args.page c.args.below c.deref-block-items.result.now c.loop-block.block-index
+    c.loop-block.invariant.ahead
     _ c.loop-block-test.true refl
 
 pub evict_block-requires-clause-unneeded : goal.evict_block-requires-clause-unneeded
 evict_block-requires-clause-unneeded g c =
     λ apart. block_unneeded _ _ _ _ _ c.loop-block.invariant.so_far _
-    (next_found c.loop-block.index c.args.page c.args.below c.deref-block-items.result.now c.loop-block.block-index c.loop-block.invariant.ahead
+    (next_found c.loop-block.index c.args.page c.args.below c.deref-block-items.result.now c.loop-block.block-index
+    c.loop-block.invariant.ahead
     _ c.loop-block-test.true refl
     c.loop-block.invariant.so_far.keeps.matches.noted (sym c.is_going.ensures ∙ c.if-is_going.true))
 
 pub evict_block-requires-clause-room : goal.evict_block-requires-clause-room
 evict_block-requires-clause-room g c =
-    c.loop-block.auto.room ∙ c.requires.room ∙ ap (λ (k : Config). k.page_bytes) (sym c.loop-block.invariant.so_far.keeps.preserves.config)
+    c.loop-block.auto.room ∙ c.requires.room ∙ ap (λ (k : Config). k.page_bytes)
+    (sym c.loop-block.invariant.so_far.keeps.preserves.config)
 
 pub loop-block-preserved : goal.loop-block-preserved
 loop-block-preserved g c =
@@ -65,18 +71,21 @@ loop-block-preserved g c =
       | then-is_going+in_ok-evict_block w ↦ (
           let going = sym c.is_going.ensures ∙ w.if-is_going.true in
           let block = get_or items l.block-index (record { 0 = 0 }) in
-          let found = next_found l.index c.args.page c.args.below items l.block-index l.invariant.ahead block c.loop-block-test.true refl so.keeps.matches.noted
+          let found = next_found l.index c.args.page c.args.below items l.block-index l.invariant.ahead block
+          c.loop-block-test.true refl so.keeps.matches.noted
           going in
           let e = w.in_ok-evict_block.ensures in
           rw (w.flash-is, w.index-is, w.blocks-is, w.unsure-is) (record {
             so_far = round_done _ _ _ _ _ so block.0 found g.met.R.CommitRule.block_loss c.requires.sure _ _ e;
-            ahead = next_evicted l.index c.args.page c.args.below items l.block-index l.invariant.ahead block c.loop-block-test.true refl w.evict_block.new.index
+            ahead = next_evicted l.index c.args.page c.args.below items l.block-index l.invariant.ahead block
+                c.loop-block-test.true refl w.evict_block.new.index
                 e.keeps.preserves.config
                 (round_still _ _ _ _ _ so block.0 found g.met.R.CommitRule.block_loss c.requires.sure _ _ e);
           }))
       | else-is_going w ↦ rw (w.flash-is, w.index-is, w.blocks-is, w.unsure-is) (record {
         so_far = so;
-        ahead = next_passed l.index c.args.page c.args.below items l.block-index l.invariant.ahead (get_or items l.block-index (record { 0 = 0 }))
+        ahead = next_passed l.index c.args.page c.args.below items l.block-index l.invariant.ahead
+            (get_or items l.block-index (record { 0 = 0 }))
             c.loop-block-test.true refl
             (sym c.is_going.ensures ∙ w.if-is_going.false);
       })
@@ -84,17 +93,22 @@ loop-block-preserved g c =
 
 pub returns-in_err-evict_block-clause-clears : goal.returns-in_err-evict_block-clause-clears
 returns-in_err-evict_block-clause-clears g c =
-    by_err c.from_residual.result (ClearsSuperseded g.R.CommitRule.protocol _ _ c.args.page c.args.below) c.from_residual.ensures.0 (λ y.
+    by_err c.from_residual.result (ClearsSuperseded g.R.CommitRule.protocol _ _ c.args.page c.args.below)
+    c.from_residual.ensures.0 (λ y.
     round_broke _ _ _ _ _ c.loop-block.invariant.so_far _
-    (next_found c.loop-block.index c.args.page c.args.below c.deref-block-items.result.now c.loop-block.block-index c.loop-block.invariant.ahead
+    (next_found c.loop-block.index c.args.page c.args.below c.deref-block-items.result.now c.loop-block.block-index
+    c.loop-block.invariant.ahead
     _ c.loop-block-test.true refl
-    c.loop-block.invariant.so_far.keeps.matches.noted (sym c.is_going.ensures ∙ c.if-is_going.true)) _ _ y c.in_err-evict_block.ensures)
+    c.loop-block.invariant.so_far.keeps.matches.noted (sym c.is_going.ensures ∙ c.if-is_going.true)) _ _ y
+    c.in_err-evict_block.ensures)
 
 pub returns-clause-clears : goal.returns-clause-clears
 returns-clause-clears g c =
     clears_all _ _ _ _ _ c.loop-block.invariant.so_far
-    (none_next c.loop-block.index c.args.page c.args.below c.deref-block-items.result.now c.loop-block.block-index c.loop-block.invariant.ahead
+    (none_next c.loop-block.index c.args.page c.args.below c.deref-block-items.result.now c.loop-block.block-index
+    c.loop-block.invariant.ahead
     c.loop-block-test.false)
 
 pub returns-clause-idle : goal.returns-clause-idle
-returns-clause-idle g c = λ nothing. absurd (some_mapped c.must_go.result (c.is_none.ensures ∙ ap not c.if-is_none.false) (c.must_go.ensures ∙ nothing))
+returns-clause-idle g c = λ nothing. absurd (some_mapped c.must_go.result (c.is_none.ensures
+    ∙ ap not c.if-is_none.false) (c.must_go.ensures ∙ nothing))

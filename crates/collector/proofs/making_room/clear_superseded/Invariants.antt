@@ -5,10 +5,11 @@ use Rattle.collector.proofs.making_room.clear_superseded.Invariants.ClearRounds.
 use Rattle.collector.proofs.making_room.clear_superseded.Invariants.GoingOrder.{AreAhead, numbers}
 use Rattle.collector.proofs.making_room.clear_superseded.Given as goal
 
--- what is so between two rounds, which blocks were treated, and that those which are left are ahead
+-- what is so between two rounds, which blocks were evicted, and that those which are left are ahead
 abbrev pub invariant-loop-block : goal.invariant-loop-block
 invariant-loop-block g l = record {
-  so_far : ClearsSoFar g.R.CommitRule.protocol l.page l.below (store_parts (g.F.Flash.state l.initial.flash) l.initial.index l.initial.blocks l.initial.unsure)
+  so_far : ClearsSoFar g.R.CommitRule.protocol l.page l.below
+      (store_parts (g.F.Flash.state l.initial.flash) l.initial.index l.initial.blocks l.initial.unsure)
       (store_parts (g.F.Flash.state l.flash) l.index l.blocks l.unsure);
   ahead : AreAhead l.index l.page l.below (numbers l.block-items) l.block-index;
 }

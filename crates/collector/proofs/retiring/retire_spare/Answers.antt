@@ -19,6 +19,7 @@ returns g c =
     let s' = g.F.Flash.state c.retire.new.self in
     subst (λ n. RetiresSpare g.R.CommitRule.protocol a (store_parts s' n c.args.blocks.now c.args.unsure.now) _)
     (sym (c.note_erased.ensures ∙ ap (erased c.args.index.now) c.spare-spare.ensures.spare))
-    (spare_done g.R.CommitRule.protocol laws.block_loss laws.written_block_loss a c.requires.sure s' c.in_default.field-0
+    (spare_done g.R.CommitRule.protocol laws.block_loss laws.written_block_loss a c.requires.sure s'
+    c.in_default.field-0
     (subst (λ b. Retires (g.F.Flash.state c.args.flash.now) s' b (Ok c.in_default.field-0)) c.spare-spare.ensures.spare
     (subst (Retires (g.F.Flash.state c.args.flash.now) s' _) c.in_default.is c.retire.ensures)))

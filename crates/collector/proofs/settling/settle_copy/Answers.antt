@@ -6,7 +6,9 @@ use Rattle.collector.proofs.settling.settle_copy.Goals as goal
 
 pub returns-in_err-read : goal.returns-in_err-read
 returns-in_err-read g c =
-    let a = store_parts (g.F.Flash.state c.args.flash.now) c.args.index.now c.args.blocks.now (unsure.Copy c.args.from c.args.to) in
+    let a = store_parts (g.F.Flash.state c.args.flash.now) c.args.index.now c.args.blocks.now
+    (unsure.Copy c.args.from c.args.to) in
     let s1 = g.F.Flash.state c.read.new.self in
     by_err c.from_residual.result (Finds a s1 c.args.index.now c.args.blocks.now) c.from_residual.ensures.0 (λ y.
-    finds_unread a s1 c.args.to.0 _ _ c.in_err-read.field-0.0 y refl (subst (Reads a.flash s1 c.args.to.0 _ _) c.in_err-read.was c.read.ensures))
+    finds_unread a s1 c.args.to.0 _ _ c.in_err-read.field-0.0 y refl
+    (subst (Reads a.flash s1 c.args.to.0 _ _) c.in_err-read.was c.read.ensures))

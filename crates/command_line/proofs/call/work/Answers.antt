@@ -13,7 +13,8 @@ returns-in-Some-Format-clause-works g c =
     let its = c.in-Some-Format.config in
     let allowance = c.in-Some-Format.allowance in
     let desk = g.D.Desk.state c.args.desk.now in
-    let done = works (Some (Format image its allowance)) desk desk 0 (λ (fate : Ending). fate ≡ formatting image its allowance (checked its))
+    let done = works (Some (Format image its allowance)) desk desk 0 (λ (fate : Ending). fate
+    ≡ formatting image its allowance (checked its))
     c.do_format.result refl (omega arith) (found_none desk) (λ fate h. (h, refl)) c.do_format.ensures in
     rw (← asks) done
 
@@ -24,6 +25,7 @@ returns-in-Some-Drive-clause-works g c =
     let count = c.in-Some-Drive.count in
     let protocol = c.in-Some-Drive.protocol in
     let desk = g.D.Desk.state c.args.desk.now in
-    let done = works (Some (Drive start count protocol)) desk desk 0 (λ (fate : Ending). fate ≡ Driven start count protocol) c.do_drive.result
+    let done = works (Some (Drive start count protocol)) desk desk 0 (λ (fate : Ending). fate
+    ≡ Driven start count protocol) c.do_drive.result
     refl (omega arith) (found_none desk) (λ fate h. (h, refl)) c.do_drive.ensures in
     rw (← asks) done

@@ -12,7 +12,8 @@ pub returns-clause-array : goal.returns-clause-array
 returns-clause-array c = left_array
 
 pub returns-clause-read : goal.returns-clause-read
-returns-clause-read c = λ its left extras bytes read fits spells reads. sym reads.0 ∙ (c.spelled_images.ensures bytes its left extras fits).1 spells
+returns-clause-read c = λ its left extras bytes read fits spells reads. sym reads.0
+    ∙ (c.spelled_images.ensures bytes its left extras fits).1 spells
 
 pub returns-clause-again : goal.returns-clause-again
 returns-clause-again c = begins_again

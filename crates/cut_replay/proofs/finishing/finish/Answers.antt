@@ -4,13 +4,15 @@ use Rattle.cut_replay.proofs.finishing.finish.Goals as goal
 
 pub steps-smaller : goal.steps-smaller
 steps-smaller g c =
-    step_fewer g.F.Flash.state c.steps.device c.step.new.device c.in-Wrote.field-0 c.args.tag c.in-Wrote.field-1 c.in-Wrote.field-2 c.in-Wrote.ensures.serves
+    step_fewer g.F.Flash.state c.steps.device c.step.new.device c.in-Wrote.field-0 c.args.tag c.in-Wrote.field-1
+    c.in-Wrote.field-2 c.in-Wrote.ensures.serves
 
 pub steps-preserved : goal.steps-preserved
 steps-preserved g c = (
   c.step.ensures.always,
   λ new r rest. c.steps.invariant.1 new r
-      (wrote_serves g.F.Flash.state c.steps.device c.step.new.device new c.in-Wrote.field-0 c.args.tag c.in-Wrote.field-1 c.in-Wrote.field-2 r
+      (wrote_serves g.F.Flash.state c.steps.device c.step.new.device new c.in-Wrote.field-0 c.args.tag
+      c.in-Wrote.field-1 c.in-Wrote.field-2 r
       c.in-Wrote.ensures.serves rest),
 )
 

@@ -18,13 +18,17 @@ returns-clause-once g c =
 
 pub returns-clause-keeps : goal.returns-clause-keeps
 returns-clause-keeps g c =
-    page_left g.F.Flash.state c.args.device.now c.read_through-answer.new.device c.args.cache.now c.read_through-answer.new.cache
-    c.args.page c.args.room.now c.read_through-answer.new.room c.read_through-answer.result.0 c.read_through-answer.result.1
+    page_left g.F.Flash.state c.args.device.now c.read_through-answer.new.device c.args.cache.now
+    c.read_through-answer.new.cache
+    c.args.page c.args.room.now c.read_through-answer.new.room c.read_through-answer.result.0
+    c.read_through-answer.result.1
     c.read_through-answer.ensures.reads c.read_through-answer.ensures.through c.read_through-answer.ensures.keeps
 
 pub returns-clause-size : goal.returns-clause-size
 returns-clause-size g c =
     size_left c.args.device.now c.args.cache.now c.read_through-answer.new.cache c.args.page
-    (page_left g.F.Flash.state c.args.device.now c.read_through-answer.new.device c.args.cache.now c.read_through-answer.new.cache
-    c.args.page c.args.room.now c.read_through-answer.new.room c.read_through-answer.result.0 c.read_through-answer.result.1
+    (page_left g.F.Flash.state c.args.device.now c.read_through-answer.new.device c.args.cache.now
+    c.read_through-answer.new.cache
+    c.args.page c.args.room.now c.read_through-answer.new.room c.read_through-answer.result.0
+    c.read_through-answer.result.1
     c.read_through-answer.ensures.reads c.read_through-answer.ensures.through c.read_through-answer.ensures.keeps)

@@ -9,20 +9,24 @@ returns-in_default-clause-serves g c = λ sound.
     (record { text = g.W.Watch.text c.args.out.now; kept = g.W.Watch.kept c.args.out.now }) sound
 
 pub returns-in-Ok-begin-clause-serves : goal.returns-in-Ok-begin-clause-serves
-returns-in-Ok-begin-clause-serves g c = λ sound. c.serve_all.ensures.serves (g.F.Flash.state c.args.flash) (c.in-Ok-begin.ensures.begins sound)
+returns-in-Ok-begin-clause-serves g c = λ sound. c.serve_all.ensures.serves (g.F.Flash.state c.args.flash)
+    (c.in-Ok-begin.ensures.begins sound)
 
 pub returns-in-Ok-begin-clause-refuses : goal.returns-in-Ok-begin-clause-refuses
-returns-in-Ok-begin-clause-refuses g c = c.serve_all.ensures.refuses (g.F.Flash.state c.args.flash) c.in-Ok-begin.ensures.kept
+returns-in-Ok-begin-clause-refuses g c = c.serve_all.ensures.refuses (g.F.Flash.state c.args.flash)
+    c.in-Ok-begin.ensures.kept
 
 pub returns-in_default-clause-unsound : goal.returns-in_default-clause-unsound
 returns-in_default-clause-unsound g c = λ unsound.
-    unsound_unserved (g.F.Flash.state c.args.flash) c.args.list.now (record { text = g.W.Watch.text c.args.out.now; kept = g.W.Watch.kept c.args.out.now })
+    unsound_unserved (g.F.Flash.state c.args.flash) c.args.list.now
+    (record { text = g.W.Watch.text c.args.out.now; kept = g.W.Watch.kept c.args.out.now })
 
 pub returns-in-Ok-begin-clause-unsound : goal.returns-in-Ok-begin-clause-unsound
 returns-in-Ok-begin-clause-unsound g c = λ unsound.
     let init = g.F.Flash.state c.args.flash in
     c.serve_all.ensures.unsound init unsound
-    (moment_stays c.args.config init init (g.F.Flash.state (flash_in c.in-Ok-begin.session)) unsound refl c.in-Ok-begin.ensures.kept)
+    (moment_stays c.args.config init init (g.F.Flash.state (flash_in c.in-Ok-begin.session)) unsound refl
+    c.in-Ok-begin.ensures.kept)
     c.in-Ok-begin.ensures.faults
 
 pub returns-clause-unsound : goal.returns-clause-unsound
@@ -32,8 +36,10 @@ returns-clause-unsound g c = λ unsound.
 
 pub returns-clause-serves : goal.returns-clause-serves
 returns-clause-serves g c = λ sound.
-    begin_ended g.row.R.Denot g.F.Flash.state c.args.config c.args.list.now c.args.flash c.in-Err.ended.flash c.in-Err.ended.why
-    (record { text = g.W.Watch.text c.args.out.now; kept = g.W.Watch.kept c.args.out.now }) sound c.in-Err.ensures.failed
+    begin_ended g.row.R.Denot g.F.Flash.state c.args.config c.args.list.now c.args.flash c.in-Err.ended.flash
+    c.in-Err.ended.why
+    (record { text = g.W.Watch.text c.args.out.now; kept = g.W.Watch.kept c.args.out.now }) sound
+    c.in-Err.ensures.failed
 
 pub returns-in-Ok-begin-clause-shape : goal.returns-in-Ok-begin-clause-shape
 returns-in-Ok-begin-clause-shape g c =
@@ -42,15 +48,18 @@ returns-in-Ok-begin-clause-shape g c =
 
 pub returns-clause-refuses : goal.returns-clause-refuses
 returns-clause-refuses g c =
-    begin_refused g.F.Flash.state c.args.config c.args.flash c.in-Err.ended.flash c.in-Err.ended.why c.in-Err.ensures.failed
+    begin_refused g.F.Flash.state c.args.config c.args.flash c.in-Err.ended.flash c.in-Err.ended.why
+    c.in-Err.ensures.failed
 
 pub returns-clause-shape : goal.returns-clause-shape
 returns-clause-shape g c =
-    begin_shape g.F.Flash.state c.args.config c.args.flash c.in-Err.ended.flash c.in-Err.ended.why c.in-Err.ensures.failed
+    begin_shape g.F.Flash.state c.args.config c.args.flash c.in-Err.ended.flash c.in-Err.ended.why
+    c.in-Err.ensures.failed
 
 pub returns-in-Ok-begin-clause-extras : goal.returns-in-Ok-begin-clause-extras
 returns-in-Ok-begin-clause-extras g c = c.serve_all.ensures.extras ∙ c.in-Ok-begin.ensures.extras
 
 pub returns-clause-extras : goal.returns-clause-extras
 returns-clause-extras g c =
-    begin_extras g.F.Flash.state c.args.config c.args.flash c.in-Err.ended.flash c.in-Err.ended.why c.in-Err.ensures.failed
+    begin_extras g.F.Flash.state c.args.config c.args.flash c.in-Err.ended.flash c.in-Err.ended.why
+    c.in-Err.ensures.failed

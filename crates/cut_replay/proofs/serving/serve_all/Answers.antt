@@ -22,49 +22,60 @@ loop-command-init g c = record {
 pub returns-then-is_err-clause-serves : goal.returns-then-is_err-clause-serves
 returns-then-is_err-clause-serves g c = λ init begins.
     let none = on_err _ c.tell.result (sym c.is_err.ensures.value ∙ c.if-is_err.true) c.tell.ensures.err in
-    untold_in g.F.Flash.state c.args.config init c.args.list.now c.loop-command.command-index c.command-item.result c.in-Ok.reply c.loop-command.session
+    untold_in g.F.Flash.state c.args.config init c.args.list.now c.loop-command.command-index c.command-item.result
+    c.in-Ok.reply c.loop-command.session
     c.serve_one.new.session c.close.result
     (record { text = g.W.Watch.text c.args.out.now; kept = g.W.Watch.kept c.args.out.now })
     (record { text = g.W.Watch.text c.loop-command.out; kept = g.W.Watch.kept c.loop-command.out })
     (record { text = g.W.Watch.text c.tell.new.self; kept = g.W.Watch.kept c.tell.new.self })
-    c.loop-command-test.true c.command-item.is (c.loop-command.invariant.served init begins) c.in-Ok.ensures.serves c.close.ensures none.0 none.1
+    c.loop-command-test.true c.command-item.is (c.loop-command.invariant.served init begins) c.in-Ok.ensures.serves
+    c.close.ensures none.0 none.1
 
 pub returns-in-Err-clause-serves : goal.returns-in-Err-clause-serves
 returns-in-Err-clause-serves g c = λ init begins.
-    ended_in g.F.Flash.state c.args.config init c.args.list.now c.loop-command.command-index c.command-item.result c.loop-command.session c.close-in-Err.result
+    ended_in g.F.Flash.state c.args.config init c.args.list.now c.loop-command.command-index c.command-item.result
+    c.loop-command.session c.close-in-Err.result
     c.in-Err.why
     (record { text = g.W.Watch.text c.args.out.now; kept = g.W.Watch.kept c.args.out.now })
     (record { text = g.W.Watch.text c.loop-command.out; kept = g.W.Watch.kept c.loop-command.out })
     c.loop-command-test.true c.command-item.is (c.loop-command.invariant.served init begins)
-    (subst (λ flash. EndsServing {R = g.row.R.Denot} g.F.Flash.state c.args.config c.command-item.result c.loop-command.session flash c.in-Err.why)
+    (subst (λ flash. EndsServing {R = g.row.R.Denot} g.F.Flash.state c.args.config c.command-item.result
+    c.loop-command.session flash c.in-Err.why)
     (sym c.close-in-Err.ensures) c.in-Err.ensures.ends)
 
 pub returns-in-Err-clause-refuses : goal.returns-in-Err-clause-refuses
 returns-in-Err-clause-refuses g c = λ init kept.
-    refused_in g.F.Flash.state c.args.config init c.command-item.result c.loop-command.session c.close-in-Err.result c.in-Err.why
+    refused_in g.F.Flash.state c.args.config init c.command-item.result c.loop-command.session
+    c.close-in-Err.result c.in-Err.why
     (c.loop-command.invariant.kept init kept)
-    (subst (λ flash. EndsServing {R = g.row.R.Denot} g.F.Flash.state c.args.config c.command-item.result c.loop-command.session flash c.in-Err.why)
+    (subst (λ flash. EndsServing {R = g.row.R.Denot} g.F.Flash.state c.args.config c.command-item.result
+    c.loop-command.session flash c.in-Err.why)
     (sym c.close-in-Err.ensures) c.in-Err.ensures.ends)
 
 pub returns-then-is_err-clause-refuses : goal.returns-then-is_err-clause-refuses
 returns-then-is_err-clause-refuses g c = λ init kept.
     subst (λ flash. IsSoundOrSame c.args.config init (g.F.Flash.state flash)) (sym c.close.ensures)
-    (kept_more c.args.config init (g.F.Flash.state (flash_in c.loop-command.session)) (g.F.Flash.state (flash_in c.serve_one.new.session))
+    (kept_more c.args.config init (g.F.Flash.state (flash_in c.loop-command.session))
+    (g.F.Flash.state (flash_in c.serve_one.new.session))
     (c.loop-command.invariant.kept init kept) c.in-Ok.ensures.serves.kept)
 
 pub returns-clause-refuses : goal.returns-clause-refuses
 returns-clause-refuses g c = λ init kept.
-    subst (λ flash. IsSoundOrSame c.args.config init (g.F.Flash.state flash)) (sym c.close-2.ensures) (c.loop-command.invariant.kept init kept)
+    subst (λ flash. IsSoundOrSame c.args.config init (g.F.Flash.state flash)) (sym c.close-2.ensures)
+    (c.loop-command.invariant.kept init kept)
 
 pub returns-then-is_err-clause-shape : goal.returns-then-is_err-clause-shape
 returns-then-is_err-clause-shape g c =
     subst (λ flash. checked c.args.config ≡ Ok (g.F.Flash.state flash).shape) (sym c.close.ensures)
-    (fits_shape g.F.Flash.state c.args.config c.serve_one.new.cache.entries c.serve_one.new.session c.in-Ok.ensures.fits)
+    (fits_shape g.F.Flash.state c.args.config c.serve_one.new.cache.entries c.serve_one.new.session
+    c.in-Ok.ensures.fits)
 
 pub returns-in-Err-clause-shape : goal.returns-in-Err-clause-shape
 returns-in-Err-clause-shape g c =
-    fits_shape g.F.Flash.state c.args.config c.loop-command.cache.entries c.loop-command.session c.loop-command.invariant.fits
-    ∙ ap (λ (x : Shape). Ok x) (sym (ap (λ flash. (g.F.Flash.state flash).shape) c.close-in-Err.ensures ∙ c.in-Err.ensures.ends.shape))
+    fits_shape g.F.Flash.state c.args.config c.loop-command.cache.entries c.loop-command.session
+    c.loop-command.invariant.fits
+    ∙ ap (λ (x : Shape). Ok x) (sym (ap (λ flash. (g.F.Flash.state flash).shape) c.close-in-Err.ensures
+    ∙ c.in-Err.ensures.ends.shape))
 
 pub loop-command-preserved : goal.loop-command-preserved
 loop-command-preserved g c =
@@ -74,7 +85,10 @@ loop-command-preserved g c =
     let at = c.loop-command.command-index in
     let command = c.command-item.result in
     let before : Watched = record { text = g.W.Watch.text c.args.out.now; kept = g.W.Watch.kept c.args.out.now } in
-    let between : Watched = record { text = g.W.Watch.text c.loop-command.out; kept = g.W.Watch.kept c.loop-command.out } in
+    let between : Watched = record {
+      text = g.W.Watch.text c.loop-command.out;
+      kept = g.W.Watch.kept c.loop-command.out;
+    } in
     let after : Watched = record { text = g.W.Watch.text c.tell.new.self; kept = g.W.Watch.kept c.tell.new.self } in
     let told = sym c.is_err.ensures.value ∙ c.if-is_err.false in
     record {
@@ -86,11 +100,14 @@ loop-command-preserved g c =
           let kept = on_ok _ c.tell.result told c.tell.ensures.kept in
           subst (λ (cs : List Command). HasServed state its init cs c.serve_one.new.session before after)
           (sym (next_of list at command c.loop-command-test.true c.command-item.is))
-          (served_more state its init (take at list) command c.in-Ok.reply c.loop-command.session c.serve_one.new.session before between after
+          (served_more state its init (take at list) command c.in-Ok.reply c.loop-command.session
+          c.serve_one.new.session before between after
           (c.loop-command.invariant.served init begins) c.in-Ok.ensures.serves text
-          (subst (λ flash. Grew between.kept after.kept (record { text = text_of c.in-Ok.reply; moment = moment_of (state flash) } ∷ [])) c.flash.ensures
+          (subst (λ flash. Grew between.kept after.kept
+          (record { text = text_of c.in-Ok.reply; moment = moment_of (state flash) } ∷ [])) c.flash.ensures
           kept));
-      kept = λ init kept. kept_more its init (state (flash_in c.loop-command.session)) (state (flash_in c.serve_one.new.session))
+      kept = λ init kept. kept_more its init (state (flash_in c.loop-command.session))
+          (state (flash_in c.serve_one.new.session))
           (c.loop-command.invariant.kept init kept) c.in-Ok.ensures.serves.kept;
       extras = c.in-Ok.ensures.serves.extras ∙ c.loop-command.invariant.extras;
       unsound = λ init unsound same counted.
@@ -98,9 +115,11 @@ loop-command-preserved g c =
           let kept = on_ok _ c.tell.result told c.tell.ensures.kept in
           subst (λ (cs : List Command). StaysUnmounted cs init (state (flash_in c.serve_one.new.session)) before after)
           (sym (next_of list at command c.loop-command-test.true c.command-item.is))
-          (unmounted_more state its init (take at list) command c.in-Ok.reply c.loop-command.session c.serve_one.new.session before between after unsound
+          (unmounted_more state its init (take at list) command c.in-Ok.reply c.loop-command.session
+          c.serve_one.new.session before between after unsound
           (c.loop-command.invariant.unsound init unsound same counted) c.in-Ok.ensures.serves text
-          (subst (λ flash. Grew between.kept after.kept (record { text = text_of c.in-Ok.reply; moment = moment_of (state flash) } ∷ [])) c.flash.ensures
+          (subst (λ flash. Grew between.kept after.kept
+          (record { text = text_of c.in-Ok.reply; moment = moment_of (state flash) } ∷ [])) c.flash.ensures
           kept));
     }
 
@@ -109,12 +128,14 @@ returns-then-is_err-clause-unsound g c = λ init unsound same counted.
     let none = on_err _ c.tell.result (sym c.is_err.ensures.value ∙ c.if-is_err.true) c.tell.ensures.err in
     let state = g.F.Flash.state in
     let stays = c.loop-command.invariant.unsound init unsound same counted in
-    unmounted_in init (state (flash_in c.loop-command.session)) (state c.close.result) c.args.list.now c.loop-command.command-index
+    unmounted_in init (state (flash_in c.loop-command.session)) (state c.close.result) c.args.list.now
+    c.loop-command.command-index
     (record { text = g.W.Watch.text c.args.out.now; kept = g.W.Watch.kept c.args.out.now })
     (record { text = g.W.Watch.text c.loop-command.out; kept = g.W.Watch.kept c.loop-command.out })
     (record { text = g.W.Watch.text c.tell.new.self; kept = g.W.Watch.kept c.tell.new.self }) failed.Memory stays
     (subst (λ flash. moment_of (state flash) ≡ moment_of init) (sym c.close.ensures)
-    (moment_stays c.args.config init (state (flash_in c.loop-command.session)) (state (flash_in c.serve_one.new.session)) unsound stays.still
+    (moment_stays c.args.config init (state (flash_in c.loop-command.session))
+    (state (flash_in c.serve_one.new.session)) unsound stays.still
     c.in-Ok.ensures.serves.kept))
     none.0 none.1 tt
 
@@ -122,35 +143,51 @@ pub returns-in-Err-clause-unsound : goal.returns-in-Err-clause-unsound
 returns-in-Err-clause-unsound g c = λ init unsound same counted.
     let state = g.F.Flash.state in
     let stays = c.loop-command.invariant.unsound init unsound same counted in
-    let between : Watched = record { text = g.W.Watch.text c.loop-command.out; kept = g.W.Watch.kept c.loop-command.out } in
-    let ends = subst (λ flash. EndsServing {R = g.row.R.Denot} state c.args.config c.command-item.result c.loop-command.session flash c.in-Err.why)
+    let between : Watched = record {
+      text = g.W.Watch.text c.loop-command.out;
+      kept = g.W.Watch.kept c.loop-command.out;
+    } in
+    let ends = subst (λ flash. EndsServing {R = g.row.R.Denot} state c.args.config c.command-item.result
+    c.loop-command.session flash c.in-Err.why)
     (sym c.close-in-Err.ensures) c.in-Err.ensures.ends in
-    unmounted_in init (state (flash_in c.loop-command.session)) (state c.close-in-Err.result) c.args.list.now c.loop-command.command-index
-    (record { text = g.W.Watch.text c.args.out.now; kept = g.W.Watch.kept c.args.out.now }) between between c.in-Err.why stays
-    (moment_stays c.args.config init (state (flash_in c.loop-command.session)) (state c.close-in-Err.result) unsound stays.still ends.kept)
+    unmounted_in init (state (flash_in c.loop-command.session)) (state c.close-in-Err.result) c.args.list.now
+    c.loop-command.command-index
+    (record { text = g.W.Watch.text c.args.out.now; kept = g.W.Watch.kept c.args.out.now }) between between
+    c.in-Err.why stays
+    (moment_stays c.args.config init (state (flash_in c.loop-command.session)) (state c.close-in-Err.result) unsound
+    stays.still ends.kept)
     refl refl
-    (ended_counts state c.args.config init stays.replies c.command-item.result c.loop-command.session c.close-in-Err.result c.in-Err.why stays.faults ends)
+    (ended_counts state c.args.config init stays.replies c.command-item.result c.loop-command.session
+    c.close-in-Err.result c.in-Err.why stays.faults ends)
 
 pub returns-clause-unsound : goal.returns-clause-unsound
 returns-clause-unsound g c = λ init unsound same counted.
     let before : Watched = record { text = g.W.Watch.text c.args.out.now; kept = g.W.Watch.kept c.args.out.now } in
-    let after : Watched = record { text = g.W.Watch.text c.loop-command.out; kept = g.W.Watch.kept c.loop-command.out } in
-    subst (λ flash. ServesUnsound c.args.list.now init (g.F.Flash.state flash) before after (Ok tt)) (sym c.close-2.ensures)
-    (unmounted_to_the_end init (g.F.Flash.state (flash_in c.loop-command.session)) c.args.list.now c.loop-command.command-index before after
+    let after : Watched = record {
+      text = g.W.Watch.text c.loop-command.out;
+      kept = g.W.Watch.kept c.loop-command.out;
+    } in
+    subst (λ flash. ServesUnsound c.args.list.now init (g.F.Flash.state flash) before after (Ok tt))
+    (sym c.close-2.ensures)
+    (unmounted_to_the_end init (g.F.Flash.state (flash_in c.loop-command.session)) c.args.list.now
+    c.loop-command.command-index before after
     c.loop-command-test.false (c.loop-command.invariant.unsound init unsound same counted))
 
 pub returns-clause-serves : goal.returns-clause-serves
 returns-clause-serves g c = λ init begins.
-    served_to_the_end g.F.Flash.state c.args.config init c.args.list.now c.loop-command.command-index c.loop-command.cache.entries c.loop-command.session
+    served_to_the_end g.F.Flash.state c.args.config init c.args.list.now c.loop-command.command-index
+    c.loop-command.cache.entries c.loop-command.session
     c.close-2.result
     (record { text = g.W.Watch.text c.args.out.now; kept = g.W.Watch.kept c.args.out.now })
     (record { text = g.W.Watch.text c.loop-command.out; kept = g.W.Watch.kept c.loop-command.out })
-    c.loop-command-test.false c.loop-command.invariant.fits (c.loop-command.invariant.served init begins) c.close-2.ensures
+    c.loop-command-test.false c.loop-command.invariant.fits (c.loop-command.invariant.served init begins)
+    c.close-2.ensures
 
 pub returns-clause-shape : goal.returns-clause-shape
 returns-clause-shape g c =
     subst (λ flash. checked c.args.config ≡ Ok (g.F.Flash.state flash).shape) (sym c.close-2.ensures)
-    (fits_shape g.F.Flash.state c.args.config c.loop-command.cache.entries c.loop-command.session c.loop-command.invariant.fits)
+    (fits_shape g.F.Flash.state c.args.config c.loop-command.cache.entries c.loop-command.session
+    c.loop-command.invariant.fits)
 
 pub returns-then-is_err-clause-extras : goal.returns-then-is_err-clause-extras
 returns-then-is_err-clause-extras g c =
@@ -158,8 +195,10 @@ returns-then-is_err-clause-extras g c =
     ∙ c.in-Ok.ensures.serves.extras ∙ c.loop-command.invariant.extras
 
 pub returns-in-Err-clause-extras : goal.returns-in-Err-clause-extras
-returns-in-Err-clause-extras g c = ap (λ flash. (g.F.Flash.state flash).extras) c.close-in-Err.ensures ∙ c.in-Err.ensures.ends.extras ∙
+returns-in-Err-clause-extras g c = ap (λ flash. (g.F.Flash.state flash).extras) c.close-in-Err.ensures
+    ∙ c.in-Err.ensures.ends.extras ∙
     c.loop-command.invariant.extras
 
 pub returns-clause-extras : goal.returns-clause-extras
-returns-clause-extras g c = ap (λ flash. (g.F.Flash.state flash).extras) c.close-2.ensures ∙ c.loop-command.invariant.extras
+returns-clause-extras g c = ap (λ flash. (g.F.Flash.state flash).extras) c.close-2.ensures
+    ∙ c.loop-command.invariant.extras

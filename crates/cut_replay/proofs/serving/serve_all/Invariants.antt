@@ -14,7 +14,8 @@ invariant-loop-command g l = record {
   kept : (init : FlashState) → IsSoundOrSame l.config init (g.F.Flash.state (flash_in l.initial.session)) →
       IsSoundOrSame l.config init (g.F.Flash.state (flash_in l.session));
   extras : (g.F.Flash.state (flash_in l.session)).extras ≡ (g.F.Flash.state (flash_in l.initial.session)).extras;
-  unsound : (init : FlashState) → (IsSoundFlash l.config init → ⊥) → moment_of (g.F.Flash.state (flash_in l.initial.session)) ≡ moment_of init →
+  unsound : (init : FlashState) → (IsSoundFlash l.config init → ⊥) →
+      moment_of (g.F.Flash.state (flash_in l.initial.session)) ≡ moment_of init →
       CountsBreaks [] init (g.F.Flash.state (flash_in l.initial.session)) →
       StaysUnmounted (take l.command-index l.list) init (g.F.Flash.state (flash_in l.session))
       (record { text = g.W.Watch.text l.initial.out; kept = g.W.Watch.kept l.initial.out })

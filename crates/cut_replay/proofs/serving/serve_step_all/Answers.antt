@@ -13,18 +13,23 @@ returns-in-Ok g c =
     let cache = c.args.cache.now in
     let answer = c.in-Ok.field-0 in
     let fits = subst (λ old. Fits {R = g.row.R.Denot} state its cache.entries old) c.in-Mounted.is c.requires.fits in
-    subst (λ old. Serves {R = g.row.R.Denot} state its command.StepAll old (Ok (reply.Moved answer.moved answer.finished))
+    subst (λ old. Serves {R = g.row.R.Denot} state its command.StepAll old
+    (Ok (reply.Moved answer.moved answer.finished))
     (session.Mounted c.step_all.new.self) cache cache)
     (sym c.in-Mounted.is)
-    (moved_session state its g.R.CommitRule.protocol c.in-Mounted.device c.step_all.new.self answer cache c.requires.rule fits
+    (moved_session state its g.R.CommitRule.protocol c.in-Mounted.device c.step_all.new.self answer cache
+    c.requires.rule fits
     c.device_facts.ensures.always c.in-Ok.ensures.moves)
 
 pub returns-in-Err : goal.returns-in-Err
 returns-in-Err g c =
     let state = g.F.Flash.state in
     let its = c.args.config in
-    let fits = subst (λ old. Fits {R = g.row.R.Denot} state its c.args.cache.now.entries old) c.in-Mounted.is c.requires.fits in
-    subst (λ old. Serves {R = g.row.R.Denot} state its command.StepAll old c.remount.result c.remount.new.session c.args.cache.now c.remount.new.cache)
+    let fits = subst (λ old. Fits {R = g.row.R.Denot} state its c.args.cache.now.entries old) c.in-Mounted.is
+    c.requires.fits in
+    subst (λ old. Serves {R = g.row.R.Denot} state its command.StepAll old c.remount.result c.remount.new.session
+    c.args.cache.now c.remount.new.cache)
     (sym c.in-Mounted.is)
-    (dropped_session state its c.in-Mounted.device c.step_all.new.self c.remount.result c.remount.new.session c.args.cache.now c.remount.new.cache fits
+    (dropped_session state its c.in-Mounted.device c.step_all.new.self c.remount.result c.remount.new.session
+    c.args.cache.now c.remount.new.cache fits
     c.in-Err.ensures.dropped c.remount.ensures)

@@ -4,7 +4,8 @@ use Rattle.dense_tables.proofs.max_tree.peak_over.Goals as goal
 
 pub returns-then-now-peak : goal.returns-then-now-peak
 returns-then-now-peak c =
-    sym (rises c.args.cells.now c.args.cell c.args.was c.requires.first c.requires.within (omega (arith, c.requires.peak)))
+    sym (rises c.args.cells.now c.args.cell c.args.was c.requires.first c.requires.within
+    (omega (arith, c.requires.peak)))
 
 pub returns-then-was-peak : goal.returns-then-was-peak
 returns-then-was-peak c =

@@ -7,5 +7,6 @@ unfolding under
 returns c =
     let from : c.min-from.result ≡ min (16 * c.args.cell + 1) (length c.args.cells.now) = omega arith in
     let rest = drop (16 * c.args.cell + 1) c.args.cells.now in
-    let size : c.min-to.result - c.min-from.result ≡ min 16 (length rest) = omega (arith, length-drop (16 * c.args.cell + 1) c.args.cells.now) in
+    let size : c.min-to.result - c.min-from.result ≡ min 16 (length rest) =
+    omega (arith, length-drop (16 * c.args.cell + 1) c.args.cells.now) in
     rw (size, from, drop_min (16 * c.args.cell + 1) c.args.cells.now, take_min 16 rest) refl

@@ -9,7 +9,8 @@ pub returns-in_err-device-clause-err : goal.returns-in_err-device-clause-err
 returns-in_err-device-clause-err g c =
     let its = c.args.config in
     let image = c.args.flash.image in
-    leads_stop (RefusesDevice its image) (Judging its image c.args.text.now) (judging_device its image c.args.text.now) c.from_residual.result
+    leads_stop (RefusesDevice its image) (Judging its image c.args.text.now) (judging_device its image c.args.text.now)
+    c.from_residual.result
     c.in_err-device.field-0.0 c.from_residual.ensures.1 c.in_err-device.ensures.err
 
 pub check_records-requires-clause-few : goal.check_records-requires-clause-few
@@ -32,7 +33,8 @@ returns-clause-ok g c =
     let list = c.deref.result.now in
     let text = c.args.text.now in
     leads_ok (ChecksList its.protocol list its.logical text) (Judging its image text) Good
-    (judging its image text list c.in_ok-device.ensures.sound (c.deref.ensures.value ∙ c.in_ok-found.ensures ∙ c.in_ok-device.ensures.list))
+    (judging its image text list c.in_ok-device.ensures.sound (c.deref.ensures.value ∙ c.in_ok-found.ensures
+    ∙ c.in_ok-device.ensures.list))
     c.check_records.result c.check_records.ensures.ok
 
 pub returns-clause-err : goal.returns-clause-err
@@ -42,10 +44,12 @@ returns-clause-err g c =
     let list = c.deref.result.now in
     let text = c.args.text.now in
     leads_err (ChecksList its.protocol list its.logical text) (Judging its image text)
-    (judging its image text list c.in_ok-device.ensures.sound (c.deref.ensures.value ∙ c.in_ok-found.ensures ∙ c.in_ok-device.ensures.list))
+    (judging its image text list c.in_ok-device.ensures.sound (c.deref.ensures.value ∙ c.in_ok-found.ensures
+    ∙ c.in_ok-device.ensures.list))
     c.check_records.result c.check_records.ensures.err
 
 pub returns-in_err-found-clause-err : goal.returns-in_err-found-clause-err
 returns-in_err-found-clause-err g c =
     let judging_of = Judging c.args.config c.args.flash.image c.args.text.now in
-    leads_stop judging_of judging_of (λ fate h. h) c.from_residual-in_err-found.result stop.Memory c.from_residual-in_err-found.ensures.1 tt
+    leads_stop judging_of judging_of (λ fate h. h) c.from_residual-in_err-found.result stop.Memory
+    c.from_residual-in_err-found.ensures.1 tt

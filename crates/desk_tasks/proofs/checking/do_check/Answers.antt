@@ -8,7 +8,8 @@ pub returns-in_err-bytes-clause-works : goal.returns-in_err-bytes-clause-works
 returns-in_err-bytes-clause-works g c =
     let old = g.D.Desk.state c.args.desk.now in
     let new = g.D.Desk.state c.load_file.new.desk in
-    unfetched (Some (Check c.args.image.now c.args.report.now)) old old new 0 c.args.image.now c.in_err-bytes.field-0.0 c.from_residual.result
+    unfetched (Some (Check c.args.image.now c.args.report.now)) old old new 0 c.args.image.now c.in_err-bytes.field-0.0
+    c.from_residual.result
     c.from_residual.ensures.1 refl (omega arith) (found_none old)
     (λ found. (Missing, found, (refl, refl))) (λ found. (TooLong, found, (refl, refl))) c.in_err-bytes.ensures.fetches
 
@@ -18,7 +19,8 @@ returns-in_err-text-clause-works g c =
     let mid = g.D.Desk.state c.load_file.new.desk in
     let new = g.D.Desk.state c.load_file-2.new.desk in
     let image = c.in_ok-bytes.ensures.fetches in
-    unfetched (Some (Check c.args.image.now c.args.report.now)) old mid new 1 c.args.report.now c.in_err-text.field-0.0 c.from_residual-in_err-text.result
+    unfetched (Some (Check c.args.image.now c.args.report.now)) old mid new 1 c.args.report.now c.in_err-text.field-0.0
+    c.from_residual-in_err-text.result
     c.from_residual-in_err-text.ensures.1 image.1 (omega arith)
     (found_more old c.args.image.now c.in_ok-bytes.bytes.items [] image.0 (found_none old))
     (λ found. (
@@ -46,15 +48,18 @@ returns-clause-works g c =
     let script = finds_before old mid c.args.report.now (Bytes lines) image.1 commands.0 in
     works (Some (Check c.args.image.now c.args.report.now)) old new 2
     (Checking bytes lines) c.check_from_bytes.result (commands.1 ∙ ap (after_answer as_before) image.1) (omega arith)
-    (found_more old c.args.image.now bytes (c.args.report.now ∷ []) image.0 (found_more old c.args.report.now lines [] script (found_none old)))
+    (found_more old c.args.image.now bytes (c.args.report.now ∷ []) image.0
+    (found_more old c.args.report.now lines [] script (found_none old)))
     (λ fate h. (Bytes bytes, image.0, (1, (Bytes lines, script, (0, (h, refl), refl)), refl))) ran
 
 pub returns-in_err-text-clause-disk : goal.returns-in_err-text-clause-disk
 returns-in_err-text-clause-disk g c =
-    rests_then (g.D.Desk.disk c.args.desk.now) (g.D.Desk.disk c.load_file.new.desk) (g.D.Desk.disk c.load_file-2.new.desk) c.in_ok-bytes.ensures.disk
+    rests_then (g.D.Desk.disk c.args.desk.now) (g.D.Desk.disk c.load_file.new.desk)
+    (g.D.Desk.disk c.load_file-2.new.desk) c.in_ok-bytes.ensures.disk
     c.in_err-text.ensures.disk
 
 pub returns-clause-disk : goal.returns-clause-disk
 returns-clause-disk g c =
-    rests_then (g.D.Desk.disk c.args.desk.now) (g.D.Desk.disk c.load_file.new.desk) (g.D.Desk.disk c.load_file-2.new.desk) c.in_ok-bytes.ensures.disk
+    rests_then (g.D.Desk.disk c.args.desk.now) (g.D.Desk.disk c.load_file.new.desk)
+    (g.D.Desk.disk c.load_file-2.new.desk) c.in_ok-bytes.ensures.disk
     c.in_ok-text.ensures.disk

@@ -11,7 +11,8 @@ returns-in-Ok-clause-ok g c =
     let other = c.args.other.image in
     let one = c.in-Ok.one.machine in
     leads_ok (Opening b other (ComesTo a one.pages b (array_of_device b other))) (Comparing a image b other) Same
-    (first_opened a image b other c.in-Ok.ensures.sound one c.in-Ok.ensures.ok.machine) c.compare_to_flash-outcome.result c.compare_to_flash-outcome.ensures.ok
+    (first_opened a image b other c.in-Ok.ensures.sound one c.in-Ok.ensures.ok.machine)
+    c.compare_to_flash-outcome.result c.compare_to_flash-outcome.ensures.ok
 
 pub returns-in-Ok-clause-err : goal.returns-in-Ok-clause-err
 returns-in-Ok-clause-err g c =
@@ -21,7 +22,8 @@ returns-in-Ok-clause-err g c =
     let other = c.args.other.image in
     let one = c.in-Ok.one.machine in
     leads_err (Opening b other (ComesTo a one.pages b (array_of_device b other))) (Comparing a image b other)
-    (first_opened a image b other c.in-Ok.ensures.sound one c.in-Ok.ensures.ok.machine) c.compare_to_flash-outcome.result c.compare_to_flash-outcome.ensures.err
+    (first_opened a image b other c.in-Ok.ensures.sound one c.in-Ok.ensures.ok.machine)
+    c.compare_to_flash-outcome.result c.compare_to_flash-outcome.ensures.err
 
 pub returns-in-Err-clause-err : goal.returns-in-Err-clause-err
 returns-in-Err-clause-err g c =
@@ -29,4 +31,5 @@ returns-in-Err-clause-err g c =
     let image = c.args.flash.image in
     let b = c.args.second in
     let other = c.args.other.image in
-    stops_by (RefusesDevice a image) (Comparing a image b other) (first_refused a image b other) c.in-Err.stop c.in-Err.ensures.err
+    stops_by (RefusesDevice a image) (Comparing a image b other) (first_refused a image b other) c.in-Err.stop
+    c.in-Err.ensures.err

@@ -8,7 +8,8 @@ returns-in_err-two-clause-err g c =
     let pages = c.args.one.now.machine.pages in
     let b = c.args.second in
     let other = c.args.other.image in
-    leads_stop (RefusesDevice b other) (Opening b other (ComesTo a pages b (array_of_device b other))) (second_refused a pages b other)
+    leads_stop (RefusesDevice b other) (Opening b other (ComesTo a pages b (array_of_device b other)))
+    (second_refused a pages b other)
     c.from_residual.result c.in_err-two.field-0.0 c.from_residual.ensures.1 c.in_err-two.ensures.err
 
 pub returns-clause-ok : goal.returns-clause-ok

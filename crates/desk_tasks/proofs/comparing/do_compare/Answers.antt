@@ -9,7 +9,8 @@ pub returns-in_err-bytes-clause-works : goal.returns-in_err-bytes-clause-works
 returns-in_err-bytes-clause-works g c =
     let old = g.D.Desk.state c.args.desk.now in
     let new = g.D.Desk.state c.load_file.new.desk in
-    unfetched (Some (Compare c.args.first.now c.args.second.now)) old old new 0 c.args.first.now c.in_err-bytes.field-0.0 c.from_residual.result
+    unfetched (Some (Compare c.args.first.now c.args.second.now)) old old new 0 c.args.first.now
+    c.in_err-bytes.field-0.0 c.from_residual.result
     c.from_residual.ensures.1 refl (omega arith) (found_none old)
     (λ found. (Missing, found, (refl, refl))) (λ found. (TooLong, found, (refl, refl))) c.in_err-bytes.ensures.fetches
 
@@ -19,11 +20,13 @@ returns-in_err-config-clause-works g c =
     let fetched = c.in_ok-bytes.ensures.fetches in
     let bytes = c.in_ok-bytes.bytes.items in
     works (Some (Compare c.args.first.now c.args.second.now)) old (g.D.Desk.state c.load_file.new.desk) 1
-    (λ (fate : Ending). (why : ImageEnding) × RefusesImage bytes why × (fate ≡ Image why)) c.from_residual-in_err-config.result fetched.1 (inl refl)
+    (λ (fate : Ending). (why : ImageEnding) × RefusesImage bytes why × (fate ≡ Image why))
+    c.from_residual-in_err-config.result fetched.1 (inl refl)
     (found_more old c.args.first.now bytes [] fetched.0 (found_none old))
     (λ fate h. (Bytes bytes, fetched.0, (0, (Err h.1.0, h.1.1, (h.2 ∙ ap Image h.1.2, refl)), refl)))
     (unread (RefusesImage bytes) (λ (fate : Ending). (why : ImageEnding) × RefusesImage bytes why × (fate ≡ Image why))
-    c.from_residual-in_err-config.result c.in_err-config.field-0.0 c.from_residual-in_err-config.ensures.1 (λ why h. (why, h, refl))
+    c.from_residual-in_err-config.result c.in_err-config.field-0.0 c.from_residual-in_err-config.ensures.1
+    (λ why h. (why, h, refl))
     c.in_err-config.ensures.err)
 
 pub returns-in-Err-clause-works : goal.returns-in-Err-clause-works
@@ -43,12 +46,36 @@ returns-in-Err-clause-works g c =
     (λ found. (
       Bytes bytes,
       fetched.0,
-      (1, (Ok (its, flash.image, flash.extras), reads, (Missing, finds_before old mid second Missing fetched.1 found, (refl, refl))), refl),
+      (
+        1,
+        (
+          Ok (its, flash.image, flash.extras),
+          reads,
+          (
+            Missing,
+            finds_before old mid second Missing fetched.1 found,
+            (refl, refl),
+          ),
+        ),
+        refl,
+      ),
     ))
     (λ found. (
       Bytes bytes,
       fetched.0,
-      (1, (Ok (its, flash.image, flash.extras), reads, (TooLong, finds_before old mid second TooLong fetched.1 found, (refl, refl))), refl),
+      (
+        1,
+        (
+          Ok (its, flash.image, flash.extras),
+          reads,
+          (
+            TooLong,
+            finds_before old mid second TooLong fetched.1 found,
+            (refl, refl),
+          ),
+        ),
+        refl,
+      ),
     ))
     c.in-Err.ensures.fetches
 
@@ -67,8 +94,10 @@ returns-in-Ok-clause-works g c =
     let others = c.in-Ok.others.items in
     let found = finds_before old mid second (Bytes others) fetched.1 again.0 in
     works (Some (Compare c.args.first.now second)) old new 2
-    (Reading others (λ b other more. Comparing its flash.image b other)) c.compare_from_bytes.result (again.1 ∙ ap (after_answer as_before) fetched.1) (inr refl)
-    (found_more old c.args.first.now bytes (second ∷ []) fetched.0 (found_more old second others [] found (found_none old)))
+    (Reading others (λ b other more. Comparing its flash.image b other)) c.compare_from_bytes.result (again.1
+    ∙ ap (after_answer as_before) fetched.1) (inr refl)
+    (found_more old c.args.first.now bytes (second ∷ []) fetched.0
+    (found_more old second others [] found (found_none old)))
     (λ fate h. (
       Bytes bytes,
       fetched.0,
@@ -78,10 +107,12 @@ returns-in-Ok-clause-works g c =
 
 pub returns-in-Err-clause-disk : goal.returns-in-Err-clause-disk
 returns-in-Err-clause-disk g c =
-    rests_then (g.D.Desk.disk c.args.desk.now) (g.D.Desk.disk c.load_file.new.desk) (g.D.Desk.disk c.load_file-2.new.desk) c.in_ok-bytes.ensures.disk
+    rests_then (g.D.Desk.disk c.args.desk.now) (g.D.Desk.disk c.load_file.new.desk)
+    (g.D.Desk.disk c.load_file-2.new.desk) c.in_ok-bytes.ensures.disk
     c.in-Err.ensures.disk
 
 pub returns-in-Ok-clause-disk : goal.returns-in-Ok-clause-disk
 returns-in-Ok-clause-disk g c =
-    rests_then (g.D.Desk.disk c.args.desk.now) (g.D.Desk.disk c.load_file.new.desk) (g.D.Desk.disk c.load_file-2.new.desk) c.in_ok-bytes.ensures.disk
+    rests_then (g.D.Desk.disk c.args.desk.now) (g.D.Desk.disk c.load_file.new.desk)
+    (g.D.Desk.disk c.load_file-2.new.desk) c.in_ok-bytes.ensures.disk
     c.in-Ok.ensures.disk

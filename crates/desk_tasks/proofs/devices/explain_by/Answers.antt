@@ -16,7 +16,9 @@ returns-clause-report g c =
     IfOk-weaker c.report_on.result (λ (text : Vec ℕ Global). text.items ≡ report kept list its.logical)
     (λ (text : Vec ℕ Global). text.items ≡ report its.protocol (records_in its.protocol image) its.logical)
     (λ text e. report_said text.items kept its.protocol list image its.logical
-    (c.deref.ensures.value ∙ c.in_ok-found.ensures ∙ c.in_ok-device.ensures.list) c.requires.rule e) c.report_on.ensures.ok
+    (c.deref.ensures.value ∙ c.in_ok-found.ensures ∙ c.in_ok-device.ensures.list) c.requires.rule e)
+    c.report_on.ensures.ok
 
 pub returns-clause-err : goal.returns-clause-err
-returns-clause-err g c = memory_stops (RefusesDevice c.args.config c.args.flash.image) c.report_on.result c.report_on.ensures.err
+returns-clause-err g c = memory_stops (RefusesDevice c.args.config c.args.flash.image) c.report_on.result
+    c.report_on.ensures.err

@@ -7,7 +7,8 @@ pub returns-in_err-bytes-clause-works : goal.returns-in_err-bytes-clause-works
 returns-in_err-bytes-clause-works g c =
     let old = g.D.Desk.state c.args.desk.now in
     let new = g.D.Desk.state c.load_file.new.desk in
-    unfetched (Some (Keys c.args.image.now c.args.script.now)) old old new 0 c.args.image.now c.in_err-bytes.field-0.0 c.from_residual.result
+    unfetched (Some (Keys c.args.image.now c.args.script.now)) old old new 0 c.args.image.now c.in_err-bytes.field-0.0
+    c.from_residual.result
     c.from_residual.ensures.1 refl (omega arith) (found_none old)
     (λ found. (Missing, found, (refl, refl))) (λ found. (TooLong, found, (refl, refl))) c.in_err-bytes.ensures.fetches
 
@@ -17,7 +18,8 @@ returns-in_err-lines-clause-works g c =
     let mid = g.D.Desk.state c.load_file.new.desk in
     let new = g.D.Desk.state c.load_file-2.new.desk in
     let image = c.in_ok-bytes.ensures.fetches in
-    unfetched (Some (Keys c.args.image.now c.args.script.now)) old mid new 1 c.args.script.now c.in_err-lines.field-0.0 c.from_residual-in_err-lines.result
+    unfetched (Some (Keys c.args.image.now c.args.script.now)) old mid new 1 c.args.script.now c.in_err-lines.field-0.0
+    c.from_residual-in_err-lines.result
     c.from_residual-in_err-lines.ensures.1 image.1 (omega arith)
     (found_more old c.args.image.now c.in_ok-bytes.bytes.items [] image.0 (found_none old))
     (λ found. (
@@ -44,16 +46,20 @@ returns-clause-works g c =
     let done = rw c.deref.ensures.value at c.keys_from_bytes.ensures in
     let script = finds_before old mid c.args.script.now (Bytes lines) image.1 commands.0 in
     works (Some (Keys c.args.image.now c.args.script.now)) old new 2
-    (Keying c.args.image.now bytes lines) c.keys_from_bytes.result (commands.1 ∙ ap (after_answer as_before) image.1) (omega arith)
-    (found_more old c.args.image.now bytes (c.args.script.now ∷ []) image.0 (found_more old c.args.script.now lines [] script (found_none old)))
+    (Keying c.args.image.now bytes lines) c.keys_from_bytes.result (commands.1
+    ∙ ap (after_answer as_before) image.1) (omega arith)
+    (found_more old c.args.image.now bytes (c.args.script.now ∷ []) image.0
+    (found_more old c.args.script.now lines [] script (found_none old)))
     (λ fate h. (Bytes bytes, image.0, (1, (Bytes lines, script, (0, (h, refl), refl)), refl))) done
 
 pub returns-in_err-lines-clause-disk : goal.returns-in_err-lines-clause-disk
 returns-in_err-lines-clause-disk g c =
-    rests_then (g.D.Desk.disk c.args.desk.now) (g.D.Desk.disk c.load_file.new.desk) (g.D.Desk.disk c.load_file-2.new.desk) c.in_ok-bytes.ensures.disk
+    rests_then (g.D.Desk.disk c.args.desk.now) (g.D.Desk.disk c.load_file.new.desk)
+    (g.D.Desk.disk c.load_file-2.new.desk) c.in_ok-bytes.ensures.disk
     c.in_err-lines.ensures.disk
 
 pub returns-clause-disk : goal.returns-clause-disk
 returns-clause-disk g c =
-    rests_then (g.D.Desk.disk c.args.desk.now) (g.D.Desk.disk c.load_file.new.desk) (g.D.Desk.disk c.load_file-2.new.desk) c.in_ok-bytes.ensures.disk
+    rests_then (g.D.Desk.disk c.args.desk.now) (g.D.Desk.disk c.load_file.new.desk)
+    (g.D.Desk.disk c.load_file-2.new.desk) c.in_ok-bytes.ensures.disk
     c.in_ok-lines.ensures.disk

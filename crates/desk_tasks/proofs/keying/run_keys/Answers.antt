@@ -9,7 +9,8 @@ returns-in_err-flash c =
     let its = c.args.config in
     let image = c.args.flash.image in
     let done = Keyed c.args.name.now its image c.args.flash.extras c.args.list.now in
-    stopped (RefusesStore its image) (Opening its image (OpensStore its image done)) c.from_residual.result c.in_err-flash.field-0.0
+    stopped (RefusesStore its image) (Opening its image (OpensStore its image done)) c.from_residual.result
+    c.in_err-flash.field-0.0
     c.from_residual.ensures.1 (opening_store its image done) c.in_err-flash.ensures.err
 
 pub returns : goal.returns

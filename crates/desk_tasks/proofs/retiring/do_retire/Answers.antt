@@ -7,7 +7,8 @@ pub returns-in_err-bytes-clause-works : goal.returns-in_err-bytes-clause-works
 returns-in_err-bytes-clause-works g c =
     let old = g.D.Desk.state c.args.desk.now in
     let new = g.D.Desk.state c.load_file.new.desk in
-    unfetched (Some (Retire c.args.image.now c.args.block.0)) old old new 0 c.args.image.now c.in_err-bytes.field-0.0 c.from_residual.result
+    unfetched (Some (Retire c.args.image.now c.args.block.0)) old old new 0 c.args.image.now c.in_err-bytes.field-0.0
+    c.from_residual.result
     c.from_residual.ensures.1 refl (omega arith) (found_none old)
     (λ found. (Missing, found, (refl, refl))) (λ found. (TooLong, found, (refl, refl))) c.in_err-bytes.ensures.fetches
 
@@ -16,6 +17,7 @@ returns-clause-works g c =
     let fetched = c.in_ok-bytes.ensures.fetches in
     let old = g.D.Desk.state c.args.desk.now in
     works (Some (Retire c.args.image.now c.args.block.0)) old (g.D.Desk.state c.load_file.new.desk) 1
-    (Retiring c.args.image.now c.in_ok-bytes.bytes.items c.args.block.0) c.retire_from_bytes.result fetched.1 (omega arith)
+    (Retiring c.args.image.now c.in_ok-bytes.bytes.items c.args.block.0) c.retire_from_bytes.result
+    fetched.1 (omega arith)
     (found_more old c.args.image.now c.in_ok-bytes.bytes.items [] fetched.0 (found_none old))
     (λ fate h. (Bytes c.in_ok-bytes.bytes.items, fetched.0, (0, (h, refl), refl))) c.retire_from_bytes.ensures

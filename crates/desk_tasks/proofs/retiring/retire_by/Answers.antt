@@ -8,7 +8,8 @@ use Rattle.desk_tasks.proofs.retiring.retire_by.Goals as goal
 pub returns-in_err-device-clause-err : goal.returns-in_err-device-clause-err
 returns-in_err-device-clause-err g c =
     let flash = c.args.flash in
-    leads_stop (RefusesDevice c.args.config flash.image) (RefusesRetirement c.args.config flash.image flash.extras c.args.block.0) (λ fate h. inl h)
+    leads_stop (RefusesDevice c.args.config flash.image) (RefusesRetirement c.args.config flash.image flash.extras
+    c.args.block.0) (λ fate h. inl h)
     c.from_residual.result c.in_err-device.field-0.0 c.from_residual.ensures.1 c.in_err-device.ensures.err
 
 pub retire-done-requires-clause-shape : goal.retire-done-requires-clause-shape
@@ -28,11 +29,16 @@ returns-in-Err-clause-err g c =
     let kept = c.in_ok-device.ensures in
     stops_by (λ (fate : Ending). block_refusal opened.config opened.flash.extras c.args.block.0 ≡ Some fate)
     (RefusesRetirement c.args.config flash.image flash.extras c.args.block.0)
-    (λ fate h. inr (kept.sound, opened_refusal c.args.config flash opened c.requires.ready kept.ok c.args.block.0 (Some fate) h))
+    (λ fate h. inr (
+      kept.sound,
+      opened_refusal c.args.config flash opened c.requires.ready kept.ok c.args.block.0
+          (Some fate) h,
+    ))
     c.in-Err.stop c.in-Err.ensures.err
 
 pub returns-in-Ok-clause-ok : goal.returns-in-Ok-clause-ok
 returns-in-Ok-clause-ok g c =
     let kept = c.in_ok-device.ensures in
-    leaves_retired c.args.config c.args.flash c.in_ok-device.device c.requires.ready kept.ok c.args.block.0 c.retire-done.new.device c.close-left.result
+    leaves_retired c.args.config c.args.flash c.in_ok-device.device c.requires.ready kept.ok c.args.block.0
+    c.retire-done.new.device c.close-left.result
     kept.sound c.in-Ok.ensures.refusal c.in-Ok.ensures.retires c.close-left.ensures

@@ -7,7 +7,8 @@ pub returns-in_err-bytes-clause-works : goal.returns-in_err-bytes-clause-works
 returns-in_err-bytes-clause-works g c =
     let old = g.D.Desk.state c.args.desk.now in
     let new = g.D.Desk.state c.load_file.new.desk in
-    unfetched (Some (Explain c.args.image.now)) old old new 0 c.args.image.now c.in_err-bytes.field-0.0 c.from_residual.result
+    unfetched (Some (Explain c.args.image.now)) old old new 0 c.args.image.now c.in_err-bytes.field-0.0
+    c.from_residual.result
     c.from_residual.ensures.1 refl (omega arith) (found_none old)
     (λ found. (Missing, found, (refl, refl))) (λ found. (TooLong, found, (refl, refl))) c.in_err-bytes.ensures.fetches
 

@@ -11,7 +11,8 @@ pub returns : goal.returns
 returns c =
     let check = c.in-Ok.ensures.exact in
     let shape_is = (checked_config c.args.config c.in-Ok.shape (sym check)).1 in
-    let few : nat_lt max_allowance c.args.allowance ≡ false = le-ltb max_allowance c.args.allowance c.if-allowance-gt-MAX_ALLOWANCE.false in
+    let few : nat_lt max_allowance c.args.allowance ≡ false =
+    le-ltb max_allowance c.args.allowance c.if-allowance-gt-MAX_ALLOWANCE.false in
     let slots : c.slots.result ≡ slots_of (shape_of c.args.config) = c.slots.ensures ∙ ap slots_of shape_is in (
       Formatted c.args.name.now c.args.config c.args.allowance,
       rw (← check, few) refl,

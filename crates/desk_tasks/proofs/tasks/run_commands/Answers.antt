@@ -6,8 +6,10 @@ pub returns-in_err-flash : goal.returns-in_err-flash
 returns-in_err-flash c =
     let its = c.args.config in
     let image = c.args.flash.image in
-    stopped (RefusesDevice its image) (OpensAndServes its image (Ran c.args.name.now its image c.args.flash.extras c.args.list.now))
-    c.from_residual.result c.in_err-flash.field-0.0 c.from_residual.ensures.1 (λ fate h. (Err h.0, h.1, h.2)) c.in_err-flash.ensures.err
+    stopped (RefusesDevice its image) (OpensAndServes its image
+    (Ran c.args.name.now its image c.args.flash.extras c.args.list.now))
+    c.from_residual.result c.in_err-flash.field-0.0 c.from_residual.ensures.1 (λ fate h. (Err h.0, h.1, h.2))
+    c.in_err-flash.ensures.err
 
 pub returns : goal.returns
 returns c =

@@ -10,11 +10,13 @@ returns-in_err-flash-clause-err c =
     let blank = ap (λ (s : MemFlashState). s.image) c.in_ok-blank.ensures in
     let stopped = c.in_err-flash.field-0.0 in
     memory_alone c.from_residual-in_err-flash.result stopped c.from_residual-in_err-flash.ensures.1
-    (only_memory (RefusesDevice its image) (blank_opens c.args.protocol its image c.default_config-config.ensures blank) stopped c.in_err-flash.ensures.err)
+    (only_memory (RefusesDevice its image) (blank_opens c.args.protocol its image c.default_config-config.ensures blank)
+    stopped c.in_err-flash.ensures.err)
 
 pub returns-clause-ok : goal.returns-clause-ok
 returns-clause-ok c =
     let blank = ap (λ (s : MemFlashState). s.image) c.in_ok-blank.ensures in
     let left = c.in_ok-flash.field-0 in
-    run_blank c.args.protocol c.default_config-config.result c.in_ok-blank.blank.image c.args.list.now left.flash.image left.replies
+    run_blank c.args.protocol c.default_config-config.result c.in_ok-blank.blank.image c.args.list.now
+    left.flash.image left.replies
     c.default_config-config.ensures blank c.in_ok-flash.ensures.run

@@ -7,7 +7,8 @@ use Rattle.desk_tasks.proofs.tasks.try_from_bytes.Goals as goal
 pub returns-in_err-list : goal.returns-in_err-list
 returns-in_err-list c =
     let its = c.default_config.result in
-    stopped (RefusesLine its.page_bytes c.args.lines.now) (Trying c.args.lines.now) c.from_residual.result c.in_err-list.field-0.0
+    stopped (RefusesLine its.page_bytes c.args.lines.now) (Trying c.args.lines.now) c.from_residual.result
+    c.in_err-list.field-0.0
     c.from_residual.ensures.1 (trying_line its c.args.lines.now c.default_config.ensures) c.in_err-list.ensures.err
 
 pub returns-in_err-replies : goal.returns-in_err-replies

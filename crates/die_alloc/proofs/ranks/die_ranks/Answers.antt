@@ -11,7 +11,8 @@ set-requires c = let l = c.loop-place.invariant.0 in omega arith
 
 pub loop-place-preserved : goal.loop-place-preserved
 loop-place-preserved c =
-    first_ranks_more c.args.blocks.now c.loop-place.ranks _ c.loop-place.place c.rank.result _ (omega arith) c.rank.ensures c.set.ensures c.loop-place.invariant
+    first_ranks_more c.args.blocks.now c.loop-place.ranks _ c.loop-place.place c.rank.result _ (omega arith)
+    c.rank.ensures c.set.ensures c.loop-place.invariant
 
 pub returns : goal.returns
 returns c = record {

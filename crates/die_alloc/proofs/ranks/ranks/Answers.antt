@@ -12,7 +12,8 @@ loop-die-init c = (ap length c.new-all.ensures.items, λ die low. absurd (omega 
 pub loop-die-preserved : goal.loop-die-preserved
 loop-die-preserved c =
     have_ranks_more c.loop-die.die c.args.shape c.args.blocks.now c.loop-die.all.items _ c.in_ok-die_ranks.field-0
-    (subst (λ n. AreRanksOf (take n (drop (c.loop-die.die * c.args.shape.blocks_per_die) c.args.blocks.now)) c.in_ok-die_ranks.field-0)
+    (subst (λ n. AreRanksOf (take n (drop (c.loop-die.die * c.args.shape.blocks_per_die) c.args.blocks.now))
+    c.in_ok-die_ranks.field-0)
     (one_die c.loop-die.die c.args.shape.blocks_per_die) c.in_ok-die_ranks.ensures)
     c.in_ok-push.ensures.items c.loop-die.invariant
 

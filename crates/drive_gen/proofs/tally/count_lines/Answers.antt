@@ -3,11 +3,15 @@ use Rattle.drive_gen.proofs.tally.count_lines.Invariants.TallyLemmas.{last_begin
 use Rattle.drive_gen.proofs.tally.count_lines.Goals as goal
 
 pub loop-line-init : goal.loop-line-init
-loop-line-init c = record { tally = tally_begin (tally_of (lines_of c.args.replies.now)); stats = last_begin (lines_of c.args.replies.now) }
+loop-line-init c = record {
+  tally = tally_begin (tally_of (lines_of c.args.replies.now));
+  stats = last_begin (lines_of c.args.replies.now);
+}
 
 pub plus-tally-requires : goal.plus-tally-requires
 plus-tally-requires c =
     rw c.tally_of.ensures
-    (some_small c.loop-line.tally (tally_of (lines_of c.args.replies.now)) c.in-Some.line.now (lines_of c.in-Some.behind.now)
+    (some_small c.loop-line.tally (tally_of (lines_of c.args.replies.now)) c.in-Some.line.now
+    (lines_of c.in-Some.behind.now)
     (ap (λ lines. plus c.loop-line.tally (tally_of lines)) (sym c.in-Some.ensures.line) ∙ c.loop-line.invariant.tally)
     (tally_small c.args.replies.now (omega arith)))

@@ -25,28 +25,38 @@ pub returns-in-Cut-clause-commands : goal.returns-in-Cut-clause-commands
 returns-in-Cut-clause-commands c =
     let x = c.args.generator.now.state in
     let n = page_count c.args.config x in
-    let third = third x n c.draw_batch.new.generator.state c.draw.new.generator.state c.in_ok-batch.ensures.state c.in-Cut.ensures.state in
-    let is = kind_cut c.args.config x c.args.tag (kind_is x n c.draw_batch.new.generator.state kind.Cut c.in_ok-batch.ensures.state c.in-Cut.ensures.kind) in
-    let four : next_state c.draw.new.generator.state ≡ generator_after x (n + 4) = ap next_state third ∙ state_more x (n + 3) (n + 4) (omega arith) in
-    let five : next_state (generator_after x (n + 4)) ≡ generator_after x (n + 5) = state_more x (n + 4) (n + 5) (omega arith) in
+    let third = third x n c.draw_batch.new.generator.state c.draw.new.generator.state c.in_ok-batch.ensures.state
+    c.in-Cut.ensures.state in
+    let is = kind_cut c.args.config x c.args.tag (kind_is x n c.draw_batch.new.generator.state kind.Cut
+    c.in_ok-batch.ensures.state c.in-Cut.ensures.kind) in
+    let four : next_state c.draw.new.generator.state ≡ generator_after x (n + 4) = ap next_state third
+    ∙ state_more x (n + 3) (n + 4) (omega arith) in
+    let five : next_state (generator_after x (n + 4)) ≡ generator_after x (n + 5) =
+    state_more x (n + 4) (n + 5) (omega arith) in
     rw (is.0, ← c.in_ok-batch.ensures.batch) (rw (four, five) at c.add_cut.ensures.commands)
 
 pub returns-in-Cut-clause-state : goal.returns-in-Cut-clause-state
 returns-in-Cut-clause-state c =
     let x = c.args.generator.now.state in
     let n = page_count c.args.config x in
-    let third = third x n c.draw_batch.new.generator.state c.draw.new.generator.state c.in_ok-batch.ensures.state c.in-Cut.ensures.state in
-    let is = kind_cut c.args.config x c.args.tag (kind_is x n c.draw_batch.new.generator.state kind.Cut c.in_ok-batch.ensures.state c.in-Cut.ensures.kind) in
-    let four : next_state c.draw.new.generator.state ≡ generator_after x (n + 4) = ap next_state third ∙ state_more x (n + 3) (n + 4) (omega arith) in
-    let five : next_state (generator_after x (n + 4)) ≡ generator_after x (n + 5) = state_more x (n + 4) (n + 5) (omega arith) in
+    let third = third x n c.draw_batch.new.generator.state c.draw.new.generator.state c.in_ok-batch.ensures.state
+    c.in-Cut.ensures.state in
+    let is = kind_cut c.args.config x c.args.tag (kind_is x n c.draw_batch.new.generator.state kind.Cut
+    c.in_ok-batch.ensures.state c.in-Cut.ensures.kind) in
+    let four : next_state c.draw.new.generator.state ≡ generator_after x (n + 4) = ap next_state third
+    ∙ state_more x (n + 3) (n + 4) (omega arith) in
+    let five : next_state (generator_after x (n + 4)) ≡ generator_after x (n + 5) =
+    state_more x (n + 4) (n + 5) (omega arith) in
     rw is.1 (on_ok c.add_cut.result (c.add_cut.ensures.state ∙ ap next_state four ∙ five))
 
 pub returns-in-Abort-clause-commands : goal.returns-in-Abort-clause-commands
 returns-in-Abort-clause-commands c =
     let x = c.args.generator.now.state in
     let n = page_count c.args.config x in
-    let third = third x n c.draw_batch.new.generator.state c.draw.new.generator.state c.in_ok-batch.ensures.state c.in-Abort.ensures.state in
-    let is = kind_abort c.args.config x c.args.tag (kind_is x n c.draw_batch.new.generator.state kind.Abort c.in_ok-batch.ensures.state c.in-Abort.ensures.kind)
+    let third = third x n c.draw_batch.new.generator.state c.draw.new.generator.state c.in_ok-batch.ensures.state
+    c.in-Abort.ensures.state in
+    let is = kind_abort c.args.config x c.args.tag (kind_is x n c.draw_batch.new.generator.state kind.Abort
+    c.in_ok-batch.ensures.state c.in-Abort.ensures.kind)
     in
     rw is.0 (rw c.in_ok-batch.ensures.batch at c.add_abort.ensures)
 
@@ -54,8 +64,10 @@ pub returns-in-Abort-clause-state : goal.returns-in-Abort-clause-state
 returns-in-Abort-clause-state c =
     let x = c.args.generator.now.state in
     let n = page_count c.args.config x in
-    let third = third x n c.draw_batch.new.generator.state c.draw.new.generator.state c.in_ok-batch.ensures.state c.in-Abort.ensures.state in
-    let is = kind_abort c.args.config x c.args.tag (kind_is x n c.draw_batch.new.generator.state kind.Abort c.in_ok-batch.ensures.state c.in-Abort.ensures.kind)
+    let third = third x n c.draw_batch.new.generator.state c.draw.new.generator.state c.in_ok-batch.ensures.state
+    c.in-Abort.ensures.state in
+    let is = kind_abort c.args.config x c.args.tag (kind_is x n c.draw_batch.new.generator.state kind.Abort
+    c.in_ok-batch.ensures.state c.in-Abort.ensures.kind)
     in
     rw is.1 (on_ok c.add_abort.result third)
 
@@ -63,8 +75,10 @@ pub returns-in-Finish-clause-commands : goal.returns-in-Finish-clause-commands
 returns-in-Finish-clause-commands c =
     let x = c.args.generator.now.state in
     let n = page_count c.args.config x in
-    let third = third x n c.draw_batch.new.generator.state c.draw.new.generator.state c.in_ok-batch.ensures.state c.in-Finish.ensures.state in
-    let is = kind_finish c.args.config x c.args.tag (kind_is x n c.draw_batch.new.generator.state kind.Finish c.in_ok-batch.ensures.state
+    let third = third x n c.draw_batch.new.generator.state c.draw.new.generator.state c.in_ok-batch.ensures.state
+    c.in-Finish.ensures.state in
+    let is = kind_finish c.args.config x c.args.tag (kind_is x n c.draw_batch.new.generator.state kind.Finish
+    c.in_ok-batch.ensures.state
     c.in-Finish.ensures.kind) in
     rw (is.0, ← c.in_ok-batch.ensures.batch) c.add_finish.ensures
 
@@ -72,7 +86,9 @@ pub returns-in-Finish-clause-state : goal.returns-in-Finish-clause-state
 returns-in-Finish-clause-state c =
     let x = c.args.generator.now.state in
     let n = page_count c.args.config x in
-    let third = third x n c.draw_batch.new.generator.state c.draw.new.generator.state c.in_ok-batch.ensures.state c.in-Finish.ensures.state in
-    let is = kind_finish c.args.config x c.args.tag (kind_is x n c.draw_batch.new.generator.state kind.Finish c.in_ok-batch.ensures.state
+    let third = third x n c.draw_batch.new.generator.state c.draw.new.generator.state c.in_ok-batch.ensures.state
+    c.in-Finish.ensures.state in
+    let is = kind_finish c.args.config x c.args.tag (kind_is x n c.draw_batch.new.generator.state kind.Finish
+    c.in_ok-batch.ensures.state
     c.in-Finish.ensures.kind) in
     rw is.1 (on_ok c.add_finish.result third)

@@ -6,11 +6,13 @@ use Rattle.drive_gen.proofs.DrawLemmas.{state_more, state_first}
 use Rattle.drive_gen.proofs.transaction.draw_batch.Goals as goal
 
 -- a batch of as many drawn writes as there are to be
-batch_is : (b : Writes) (c : Config) (x n : ℕ) → b.page_bytes ≡ c.page_bytes → b.entries ≡ map (drawn_write c x) (range_with_len 0 n) → n ≡ page_count c x
+batch_is : (b : Writes) (c : Config) (x n : ℕ) → b.page_bytes ≡ c.page_bytes →
+    b.entries ≡ map (drawn_write c x) (range_with_len 0 n) → n ≡ page_count c x
     → b ≡ drawn_batch c x
 batch_is b c x n p q r =
     let whole : b.entries ≡ map (drawn_write c x) (range_with_len 0 (page_count c x)) = rw r at q in
-    ap (λ z. record { page_bytes = z; entries = b.entries }) p ∙ ap (λ z. record { page_bytes = c.page_bytes; entries = z }) whole
+    ap (λ z. record { page_bytes = z; entries = b.entries }) p
+    ∙ ap (λ z. record { page_bytes = c.page_bytes; entries = z }) whole
 
 -- the state behind two draws
 second : (x a b : ℕ) → a ≡ next_state x → b ≡ next_state a → b ≡ generator_after x 2
@@ -20,7 +22,8 @@ pub loop-k-init : goal.loop-k-init
 loop-k-init c = record {
   size = rw c.in_ok-batch.ensures refl;
   entries = rw c.in_ok-batch.ensures refl;
-  state = second c.args.generator.now.state c.draw_page_count-pages.new.generator.state c.draw-first.new.self.state c.draw_page_count-pages.ensures.state
+  state = second c.args.generator.now.state c.draw_page_count-pages.new.generator.state c.draw-first.new.self.state
+      c.draw_page_count-pages.ensures.state
       c.draw-first.ensures.state;
 }
 
@@ -33,13 +36,23 @@ loop-k-preserved c =
     ap next_state c.loop-k.invariant.state ∙ state_more x (c.loop-k.k + 2) (c.loop-k.k + 3) (omega arith)
     in
     let first : c.draw-first.result ≡ high_bits (generator_after x 2) pages =
-    c.draw-first.ensures.number ∙ ap (λ s. high_bits s pages) (second x counted (next_state counted) c.draw_page_count-pages.ensures.state refl)
+    c.draw-first.ensures.number ∙ ap (λ s. high_bits s pages)
+    (second x counted (next_state counted) c.draw_page_count-pages.ensures.state refl)
     in
-    let byte : c.draw.result ≡ high_bits (generator_after x (c.loop-k.k + 3)) 256 = c.draw.ensures.number ∙ ap (λ s. high_bits s 256) next in
+    let byte : c.draw.result ≡ high_bits (generator_after x (c.loop-k.k + 3)) 256 = c.draw.ensures.number
+    ∙ ap (λ s. high_bits s 256) next in
     let one_more = map-range_with_len_more (drawn_write c.args.config x) 0 c.loop-k.k c.loop-k.k (omega arith) in
     record {
       size = rw (c.in_ok-add.ensures.ok) c.loop-k.invariant.size;
-      entries = rw (c.in_ok-add.ensures.ok, c.loop-k.invariant.entries, c.loop-k.invariant.size, one_more, c.page_behind-page.ensures, first, byte) refl;
+      entries = rw (
+        c.in_ok-add.ensures.ok,
+        c.loop-k.invariant.entries,
+        c.loop-k.invariant.size,
+        one_more,
+        c.page_behind-page.ensures,
+        first,
+        byte,
+      ) refl;
       state = let e : c.loop-k.k + 1 + 2 ≡ c.loop-k.k + 3 = omega arith in rw e (c.draw.ensures.state ∙ next);
     }
 
@@ -49,7 +62,8 @@ count_is c =
     rw (← state_first c.args.generator.now.state) (all ∙ c.draw_page_count-pages.ensures.count)
 
 pub returns-clause-batch : goal.returns-clause-batch
-returns-clause-batch c = batch_is c.loop-k.batch c.args.config c.args.generator.now.state c.loop-k.k c.loop-k.invariant.size c.loop-k.invariant.entries
+returns-clause-batch c = batch_is c.loop-k.batch c.args.config c.args.generator.now.state c.loop-k.k
+    c.loop-k.invariant.size c.loop-k.invariant.entries
     (count_is c)
 
 pub returns-clause-state : goal.returns-clause-state

@@ -22,4 +22,5 @@ pub returns-then-eq : goal.returns-then-eq
 returns-then-eq c = one_word c.args.line.now ((bytes_decides _ _).0 (sym c.if-eq.ensures) ∙ c.as_slice.ensures)
 
 pub returns-then-eq-2 : goal.returns-then-eq-2
-returns-then-eq-2 c = spaced_word c.args.line.now ((bytes_decides _ _).0 (sym c.if-eq-2.ensures) ∙ c.as_slice-then-line-gt5.ensures)
+returns-then-eq-2 c = spaced_word c.args.line.now ((bytes_decides _ _).0 (sym c.if-eq-2.ensures)
+    ∙ c.as_slice-then-line-gt5.ensures)

@@ -12,7 +12,9 @@ returns-clause-first c = can_first
 
 pub returns-clause-rest : goal.returns-clause-rest
 returns-clause-rest c = λ shape image load loads how can.
-    subst (λ i. CanDo shape i (fire loads)) (load_left_is shape image load how) (can_rest shape image load loads how can)
+    subst (λ i. CanDo shape i (fire loads)) (load_left_is shape image load how)
+    (can_rest shape image load loads how can)
 
 pub returns-clause-left : goal.returns-clause-left
-returns-clause-left c = λ shape image load loads how hows. ap (λ i. left_each i loads hows) (load_left_is shape image load how)
+returns-clause-left c = λ shape image load loads how hows. ap (λ i. left_each i loads hows)
+    (load_left_is shape image load how)

@@ -9,8 +9,11 @@ returns-in-Ok c =
     let marks = c.args.marks in
     let old = c.args.text.now.items in
     on_ok_weaker c.write_parts-outcome.result
-    (λ drawn. picture_drawn its c.args.notes.now marks c.in_ok-standing.standing.list c.in-Ok.cells.items old _ c.in_ok-standing.ensures.sorts
-    (c.in-Ok.ensures ∙ ap (λ s. map (cell_of s.protocol s.list s.logical) c.args.notes.now) c.in_ok-standing.ensures.standing)
-    (drawn ∙ ap₂ (λ s cs. old ++ parts its s c.sorted_records.result.now cs marks) c.shape.ensures.shape c.deref.ensures.value
+    (λ drawn. picture_drawn its c.args.notes.now marks c.in_ok-standing.standing.list c.in-Ok.cells.items old
+    _ c.in_ok-standing.ensures.sorts
+    (c.in-Ok.ensures ∙ ap (λ s. map (cell_of s.protocol s.list s.logical) c.args.notes.now)
+    c.in_ok-standing.ensures.standing)
+    (drawn ∙ ap₂ (λ s cs. old ++ parts its s c.sorted_records.result.now cs marks) c.shape.ensures.shape
+    c.deref.ensures.value
     ∙ ap (λ l. old ++ parts its (shape_of its) l c.in-Ok.cells.items marks) c.sorted_records.ensures))
     c.write_parts-outcome.ensures

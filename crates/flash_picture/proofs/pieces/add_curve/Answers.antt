@@ -4,7 +4,8 @@ use Rattle.flash_picture.proofs.Texts.{then}
 use Rattle.flash_picture.proofs.pieces.add_curve.Goals as goal
 
 -- a text that has grown by a piece, and grows by words and a place
-further : (old piece text words place all : List ℕ) → text ≡ old ++ piece → all ≡ text ++ words ++ place → all ≡ old ++ (piece ++ words ++ place)
+further : (old piece text words place all : List ℕ) → text ≡ old ++ piece → all ≡ text ++ words ++ place →
+    all ≡ old ++ (piece ++ words ++ place)
 further old piece text words place all before after =
     then old (piece ++ words) (text ++ words) place all (then old piece text words (text ++ words) before refl) after
 

@@ -9,9 +9,11 @@ returns c =
     let plan = c.args.plan.now in
     let first = c.in_ok-write_above.ensures
     ∙ ap (λ n. old ++ above its n) (c.height.ensures ∙ ap (height plan.grid) c.in_ok-lines.ensures.lines) in
-    let walks = c.as_slice.ensures.value ∙ c.in_ok-lines.ensures.text ∙ ap (λ t. t ++ walks_svg its.protocol c.args.chart.now its.logical)
+    let walks = c.as_slice.ensures.value ∙ c.in_ok-lines.ensures.text
+    ∙ ap (λ t. t ++ walks_svg its.protocol c.args.chart.now its.logical)
     c.requires.empty in
-    let last = c.in_ok-write_lines.ensures ∙ ap (λ w. c.write_arrows.new.text.items ++ lines_svg plan.grid w plan.map.marks.breach) walks in
+    let last = c.in_ok-write_lines.ensures ∙ ap (λ w. c.write_arrows.new.text.items
+    ++ lines_svg plan.grid w plan.map.marks.breach) walks in
     then old _ _ _ _
     (then old _ _ _ _
     (then old _ _ _ _

@@ -5,5 +5,6 @@ pub returns : goal.returns
 returns c =
     let m = c.args.map.now in
     on_ok_weaker c.write_drawing.result
-    (λ drawn. drawn ∙ ap (λ g. c.args.text.now.items ++ drawing c.args.config g c.args.chart.now m.cells.now m.marks) c.in_ok-grid.ensures.grid)
+    (λ drawn. drawn ∙ ap (λ g. c.args.text.now.items ++ drawing c.args.config g c.args.chart.now m.cells.now m.marks)
+    c.in_ok-grid.ensures.grid)
     c.write_drawing.ensures

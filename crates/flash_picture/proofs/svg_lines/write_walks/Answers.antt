@@ -8,9 +8,12 @@ loop-page-preserved c =
     let list = c.args.chart.now in
     let logical = c.args.logical in
     let page = c.loop-page.page in (
-      text_more (walk_svg c.args.protocol list logical) page c.args.text.now.items c.loop-page.text.items _ c.loop-page.invariant.0
-          (c.in_ok-lines.ensures.text ∙ ap (λ e. c.loop-page.text.items ++ walk_rows list logical page e) c.of_page-end.ensures),
-      ap₂ (λ a b. a + b) c.loop-page.invariant.1 (c.in_ok-lines.ensures.lines ∙ ap (walk_takes list logical page) c.of_page-end.ensures)
+      text_more (walk_svg c.args.protocol list logical) page c.args.text.now.items c.loop-page.text.items
+          _ c.loop-page.invariant.0
+          (c.in_ok-lines.ensures.text ∙ ap (λ e. c.loop-page.text.items ++ walk_rows list logical page e)
+          c.of_page-end.ensures),
+      ap₂ (λ a b. a + b) c.loop-page.invariant.1 (c.in_ok-lines.ensures.lines
+          ∙ ap (walk_takes list logical page) c.of_page-end.ensures)
           ∙ ap (walks_take c.args.protocol list logical) (sym (add-one page)),
       omega (arith, c.in_ok-lines.ensures.few, c.loop-page.invariant.2),
     )

@@ -8,7 +8,8 @@ pub leaving_by-requires : goal.leaving_by-requires
 leaving_by-requires c = ends_below c.args.chart.now c.args.page c.in-Some.orbit c.in-Some.ensures
 
 pub returns-in-Some : goal.returns-in-Some
-returns-in-Some c = c.leaving_by.ensures ∙ left_some c.args.chart.now c.args.logical c.args.page c.in-Some.orbit c.in-Some.ensures
+returns-in-Some c = c.leaving_by.ensures ∙ left_some c.args.chart.now c.args.logical c.args.page c.in-Some.orbit
+    c.in-Some.ensures
 
 pub returns-in-None : goal.returns-in-None
 returns-in-None c = left_none c.args.chart.now c.args.logical c.args.page c.in-None.ensures

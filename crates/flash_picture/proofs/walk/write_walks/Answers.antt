@@ -5,6 +5,8 @@ use Rattle.flash_picture.proofs.walk.write_walks.Goals as goal
 
 pub loop-page-preserved : goal.loop-page-preserved
 loop-page-preserved c =
-    text_more (walk_text c.args.protocol c.args.chart.now c.args.logical) c.loop-page.page c.args.text.now.items c.loop-page.text.items _
+    text_more (walk_text c.args.protocol c.args.chart.now c.args.logical) c.loop-page.page c.args.text.now.items
+    c.loop-page.text.items _
     c.loop-page.invariant
-    (c.in_ok-write_walk.ensures ∙ ap (λ e. c.loop-page.text.items ++ walk_line c.args.chart.now c.args.logical c.loop-page.page e) c.of_page-end.ensures)
+    (c.in_ok-write_walk.ensures ∙ ap (λ e. c.loop-page.text.items ++ walk_line c.args.chart.now c.args.logical
+    c.loop-page.page e) c.of_page-end.ensures)

@@ -8,7 +8,8 @@ never None h = refl
 never (Some x) h = absurd (h x refl)
 
 pub returns-in_default-clause-none : goal.returns-in_default-clause-none
-returns-in_default-clause-none c = word_none c.args.line.now (sym c.first_filled.ensures ∙ never c.first_filled.result c.in_default.not-Some)
+returns-in_default-clause-none c = word_none c.args.line.now (sym c.first_filled.ensures
+    ∙ never c.first_filled.result c.in_default.not-Some)
 
 pub returns-in_err-page-clause-bad : goal.returns-in_err-page-clause-bad
 returns-in_err-page-clause-bad c = λ _.
@@ -18,6 +19,8 @@ returns-in_err-page-clause-bad c = λ _.
 pub returns-clause-entry : goal.returns-clause-entry
 returns-clause-entry c =
     let begins = rw c.in_ok-page.ensures.ok_part at c.leading_page.ensures.some in
-    let ended = c.unwrap_or-end.ensures ∙ ap (λ o. unwrap_or o (length c.in_ok-page.behind.now)) c.first_blank.ensures in
+    let ended = c.unwrap_or-end.ensures ∙ ap (λ o. unwrap_or o (length c.in_ok-page.behind.now))
+    c.first_blank.ensures in
     rw (c.split_at.ensures.front, c.split_at.ensures.back)
-    (entry_first _ c.in_ok-page.page c.in_ok-page.behind.now begins c.args.line.now c.in-Some.start c.unwrap_or-end.result (sym c.in-Some.ensures) refl ended)
+    (entry_first _ c.in_ok-page.page c.in_ok-page.behind.now begins c.args.line.now c.in-Some.start
+    c.unwrap_or-end.result (sym c.in-Some.ensures) refl ended)

@@ -4,7 +4,8 @@ use Rattle.host_protocol.proofs.entry.leading_page.Goals as goal
 use Rattle.host_protocol.proofs.entry.leading_page.Goals.{then-place-line-via-then-place-line, then-place-line-via-else-place-line+then-line-place-ne61}
 
 pub returns-in_err-page-clause-none : goal.returns-in_err-page-clause-none
-returns-in_err-page-clause-none c = rw c.from_residual.ensures (page_none c.args.line.now (sym c.in_err-page.ensures.number))
+returns-in_err-page-clause-none c = rw c.from_residual.ensures
+    (page_none c.args.line.now (sym c.in_err-page.ensures.number))
 
 pub returns-then-place-line-clause-none : goal.returns-then-place-line-clause-none
 returns-then-place-line-clause-none c =

@@ -4,7 +4,10 @@ use Rattle.host_protocol.proofs.hexadecimal.decode_into.Invariants.HexLemmas.{pa
 use Rattle.host_protocol.proofs.hexadecimal.decode_into.Goals as goal
 
 pub loop-i-init : goal.loop-i-init
-loop-i-init c = record { digits = λ small. decode_start c.args.text.now c.args.bytes.now; others = λ large. absurd (omega (arith, large)) }
+loop-i-init c = record {
+  digits = λ small. decode_start c.args.text.now c.args.bytes.now;
+  others = λ large. absurd (omega (arith, large));
+}
 
 pub loop-i-preserved : goal.loop-i-preserved
 loop-i-preserved c =
@@ -24,13 +27,16 @@ loop-i-preserved c =
           (pair_read (slice_index text (2 * i)) (slice_index text (2 * i + 1)) (2 * i) high low
           c.digit_value-high.ensures c.digit_value-low.ensures few less ∙ ap Ok is)
           (c.loop-i.invariant.digits (grind (arith, small, first, second)));
-      others = λ large. others_more text (2 * i) c.loop-i.greatest high low c.max.result c.max-greatest.result within first second large
+      others = λ large. others_more text (2 * i) c.loop-i.greatest high low c.max.result c.max-greatest.result within
+          first second large
           c.loop-i.invariant.others c.digit_value-high.ensures c.digit_value-low.ensures;
     }
 
 pub returns-clause-digits : goal.returns-clause-digits
 returns-clause-digits c = λ small.
-    decode_done c.args.text.now c.loop-i.bytes c.loop-i.i (omega arith) (omega arith) (c.loop-i.invariant.digits (grind (arith, nat_tests, small)))
+    decode_done c.args.text.now c.loop-i.bytes c.loop-i.i (omega arith) (omega arith)
+    (c.loop-i.invariant.digits (grind (arith, nat_tests, small)))
 
 pub returns-clause-others : goal.returns-clause-others
-returns-clause-others c = λ large. undecoded c.args.text.now _ (c.loop-i.invariant.others (grind (arith, nat_tests, large))) refl
+returns-clause-others c = λ large. undecoded c.args.text.now
+    _ (c.loop-i.invariant.others (grind (arith, nat_tests, large))) refl

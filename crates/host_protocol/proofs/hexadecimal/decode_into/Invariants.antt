@@ -7,6 +7,7 @@ use Rattle.host_protocol.proofs.hexadecimal.decode_into.Given as goal
 
 abbrev pub invariant-loop-i : goal.invariant-loop-i
 invariant-loop-i l = record {
-  digits : l.greatest < 16 → decode_pairs 0 l.text ≡ prepend (take l.i l.bytes) (decode_pairs (2 * l.i) (drop (2 * l.i) l.text));
+  digits : l.greatest < 16 → decode_pairs 0 l.text ≡ prepend (take l.i l.bytes)
+      (decode_pairs (2 * l.i) (drop (2 * l.i) l.text));
   others : 16 ≤ l.greatest → HasOther l.text;
 }

@@ -13,9 +13,11 @@ returns-in_err-page-clause-bad c = λ is writes same.
 pub returns-then-len-entries_left-clause-bad : goal.returns-then-len-entries_left-clause-bad
 returns-then-len-entries_left-clause-bad c = λ is writes same.
     let begins = rw c.in-Some.is at c.in_ok-page.ensures.entry in
-    more_than (page_write_of c.args.page_bytes) (words_of c.args.words.now) c.loop-page.batch.entries (words_of c.loop-page.rest.now) begins.word
+    more_than (page_write_of c.args.page_bytes) (words_of c.args.words.now) c.loop-page.batch.entries
+    (words_of c.loop-page.rest.now) begins.word
     (words_of c.in-Some.behind.now)
-    c.loop-page.invariant.read begins.words c.args.entries_left (omega (arith, c.if-len-entries_left.true, c.len.ensures)) writes same
+    c.loop-page.invariant.read begins.words c.args.entries_left
+    (omega (arith, c.if-len-entries_left.true, c.len.ensures)) writes same
 
 pub returns-in_err-bytes-clause-bad : goal.returns-in_err-bytes-clause-bad
 returns-in_err-bytes-clause-bad c = λ is writes same.
@@ -23,8 +25,10 @@ returns-in_err-bytes-clause-bad c = λ is writes same.
     let whole = rw (p.1, p.2) at is in
     let bad : c.in_err-bytes.field-0.0 ≡ Bad = cc in
     let begins = rw c.in-Some.is at c.in_ok-page.ensures.entry in
-    let none = none_where_bad c.in_err-bytes.field-0.0 (page_value c.args.page_bytes c.in-Some.text.now) bad c.in_err-bytes.ensures.value in
-    absurd (other_among (page_write_of c.args.page_bytes) (words_of c.args.words.now) c.loop-page.batch.entries (words_of c.loop-page.rest.now) begins.word
+    let none = none_where_bad c.in_err-bytes.field-0.0 (page_value c.args.page_bytes c.in-Some.text.now) bad
+    c.in_err-bytes.ensures.value in
+    absurd (other_among (page_write_of c.args.page_bytes) (words_of c.args.words.now) c.loop-page.batch.entries
+    (words_of c.loop-page.rest.now) begins.word
     (words_of c.in-Some.behind.now)
     c.loop-page.invariant.read begins.words (rw none at (begins.write c.args.page_bytes)) writes same)
 
@@ -35,7 +39,8 @@ loop-page-preserved-in_ok-add-in-Some-2 c =
     let wrote = rw held at (begins.write c.args.page_bytes) in
     rw (c.in_ok-add-in-Some-2.ensures.ok, c.loop-page.invariant.size) (record {
       size = refl;
-      read = read_more (page_write_of c.args.page_bytes) (words_of c.args.words.now) c.loop-page.batch.entries (words_of c.loop-page.rest.now) begins.word
+      read = read_more (page_write_of c.args.page_bytes) (words_of c.args.words.now) c.loop-page.batch.entries
+          (words_of c.loop-page.rest.now) begins.word
           (words_of c.in-Some.behind.now) c.loop-page.invariant.read begins.words _ wrote;
       most = simp length-append (omega (arith, c.if-len-entries_left.false, c.len.ensures));
     })

@@ -4,7 +4,8 @@ use Rattle.host_protocol.proofs.line.add_entries.Given as goal
 abbrev pub invariant-loop-page : goal.invariant-loop-page
 invariant-loop-page l = record {
   size : l.batch.page_bytes ≡ l.page_bytes;
-  read : map (page_write_of l.page_bytes) (words_of l.words) ≡ map Some l.batch.entries ++ map (page_write_of l.page_bytes) (words_of l.rest);
+  read : map (page_write_of l.page_bytes) (words_of l.words) ≡ map Some l.batch.entries
+      ++ map (page_write_of l.page_bytes) (words_of l.rest);
   most : length l.batch.entries ≤ l.entries_left;
 }
 

@@ -3,7 +3,8 @@ use Rattle.host_protocol.proofs.NumberLemmas.{number_none, number_other, number_
 use Rattle.host_protocol.proofs.numbers.number.Goals as goal
 
 pub returns-in_err-number : goal.returns-in_err-number
-returns-in_err-number c = c.from_residual.ensures ∙ sym (number_none c.args.word.now (sym c.in_err-number.ensures.number))
+returns-in_err-number c = c.from_residual.ensures
+    ∙ sym (number_none c.args.word.now (sym c.in_err-number.ensures.number))
 
 pub returns-then-digits-word : goal.returns-then-digits-word
 returns-then-digits-word c =

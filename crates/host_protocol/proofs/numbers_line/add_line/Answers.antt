@@ -6,10 +6,12 @@ abbrev spaced : List ℕ → List ℕ
 spaced numbers = flat_map (λ n. 32 ∷ decimal n) numbers
 
 -- a space before each number, and a line feed at the end
-line-numbers : (words : List ℕ) (numbers : List ℕ) → words ++ spaced numbers ++ 10 ∷ [] ≡ line_of (words ∷ map decimal numbers)
+line-numbers : (words : List ℕ) (numbers : List ℕ) → words ++ spaced numbers ++ 10 ∷ []
+    ≡ line_of (words ∷ map decimal numbers)
 line-numbers words [] = ap (λ front. front ++ 10 ∷ []) (append-nil words)
 line-numbers words (n ∷ numbers) =
-    append_assoc words (spaced (n ∷ numbers)) (10 ∷ []) ∙ ap (λ rest. words ++ 32 ∷ rest) (line-numbers (decimal n) numbers)
+    append_assoc words (spaced (n ∷ numbers)) (10 ∷ [])
+    ∙ ap (λ rest. words ++ 32 ∷ rest) (line-numbers (decimal n) numbers)
 
 pub returns-clause-ok : goal.returns-clause-ok
 returns-clause-ok c =

@@ -16,4 +16,8 @@ one_digit n small =
 pub returns-then-number-lt10-clause-items : goal.returns-then-number-lt10-clause-items
 returns-then-number-lt10-clause-items c =
     let digit = one_digit c.args.number c.if-number-lt10.true in
-    rw (c.push_reserved-then-number-lt10.ensures.items, c.push_reserved.ensures.items, digit) (append_assoc c.args.out.now.items (32 ∷ []) _)
+    rw (
+      c.push_reserved-then-number-lt10.ensures.items,
+      c.push_reserved.ensures.items,
+      digit,
+    ) (append_assoc c.args.out.now.items (32 ∷ []) _)

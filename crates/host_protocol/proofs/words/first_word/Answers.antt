@@ -8,4 +8,5 @@ returns-in_err-start-clause-none c = rw c.from_residual.ensures (word_none c.arg
 pub returns-clause-word : goal.returns-clause-word
 returns-clause-word c =
     rw (c.split_at.ensures.front, c.split_at.ensures.back)
-    (word_first c.args.line.now c.in_ok-start.start c.unwrap_or-end.result (sym c.in_ok-start.ensures) (rw c.first_blank.ensures at c.unwrap_or-end.ensures))
+    (word_first c.args.line.now c.in_ok-start.start c.unwrap_or-end.result (sym c.in_ok-start.ensures)
+    (rw c.first_blank.ensures at c.unwrap_or-end.ensures))

@@ -25,8 +25,11 @@ pub returns-in_err-flash-clause-only : goal.returns-in_err-flash-clause-only
 returns-in_err-flash-clause-only c =
     let p = err_from_is_err_and c.from_residual-in_err-flash.result c.from_residual-in_err-flash.ensures.1 in
     let header = rw c.deref.ensures.value at c.in_ok-header.ensures.answer in
-    rw (p.1, p.2) (λ config image extras spelled.
-    (spelled_memory c.args.bytes.items _ (refused_slots c.args.bytes.items _ header.0 c.in_err-flash.ensures.error) config image extras spelled, tt))
+    rw (p.1, p.2) (λ config image extras spelled. (
+      spelled_memory c.args.bytes.items _ (refused_slots c.args.bytes.items _ header.0 c.in_err-flash.ensures.error)
+          config image extras spelled,
+      tt,
+    ))
 
 pub returns-in_err-flash-clause-error : goal.returns-in_err-flash-clause-error
 returns-in_err-flash-clause-error c =
@@ -39,7 +42,8 @@ returns-clause-spelled c =
     let bytes = c.args.bytes.items in
     let header = rw c.deref.ensures.value at c.in_ok-header.ensures.answer in
     let fits = rw c.deref.ensures.value at c.in_ok-header.ensures.bytes in
-    let image_is = ap (λ (s : MemFlashState). s.image) c.set_extras.ensures ∙ ap (λ (s : MemFlashState). s.image) c.in_ok-flash.ensures.ok.1 in
+    let image_is = ap (λ (s : MemFlashState). s.image) c.set_extras.ensures
+    ∙ ap (λ (s : MemFlashState). s.image) c.in_ok-flash.ensures.ok.1 in
     let extras_is = ap (λ (s : MemFlashState). s.extras) c.set_extras.ensures ∙ header.1.extras in
     rw (header.1.config, image_is, extras_is)
     (read_spelled bytes (IsBytes-all bytes fits) (nothing_broken bytes header.0 c.in_ok-flash.ensures.ok.0))
@@ -48,7 +52,8 @@ pub returns-clause-check : goal.returns-clause-check
 returns-clause-check c =
     let header = rw c.deref.ensures.value at c.in_ok-header.ensures.answer in
     let shape_is =
-    ap (λ (s : MemFlashState). s.shape) c.set_extras.ensures ∙ ap (λ (s : MemFlashState). s.shape) c.in_ok-flash.ensures.ok.1
+    ap (λ (s : MemFlashState). s.shape) c.set_extras.ensures
+    ∙ ap (λ (s : MemFlashState). s.shape) c.in_ok-flash.ensures.ok.1
     ∙ header.1.shape ∙ ap shape_of header.1.config in
     rw (header.1.config, shape_is) (header_holds c.args.bytes.items header.0).checks
 
@@ -63,7 +68,8 @@ returns-clause-only c = λ config image extras spelled.
       (
         config_is,
         c.set_extras.ensures
-            ∙ ap (λ (s : MemFlashState). record s { extras = extras_of c.in_ok-header.header }) c.in_ok-flash.ensures.ok.1
+            ∙ ap (λ (s : MemFlashState). record s { extras = extras_of c.in_ok-header.header })
+            c.in_ok-flash.ensures.ok.1
             ∙ rw (shape_is, image_is, extras_is) refl,
       ),
     )
@@ -72,6 +78,8 @@ pub returns-clause-found : goal.returns-clause-found
 returns-clause-found c =
     let bytes = c.args.bytes.items in
     let header = rw c.deref.ensures.value at c.in_ok-header.ensures.answer in
-    let image_is = ap (λ (s : MemFlashState). s.image) c.set_extras.ensures ∙ ap (λ (s : MemFlashState). s.image) c.in_ok-flash.ensures.ok.1 in
+    let image_is = ap (λ (s : MemFlashState). s.image) c.set_extras.ensures
+    ∙ ap (λ (s : MemFlashState). s.image) c.in_ok-flash.ensures.ok.1 in
     let extras_is = ap (λ (s : MemFlashState). s.extras) c.set_extras.ensures ∙ header.1.extras in
-    rw (header.1.config, image_is, extras_is) (reading-read bytes (nothing_broken bytes header.0 c.in_ok-flash.ensures.ok.0))
+    rw (header.1.config, image_is, extras_is)
+    (reading-read bytes (nothing_broken bytes header.0 c.in_ok-flash.ensures.ok.0))

@@ -20,8 +20,11 @@ returns c =
     let header = rw (c.in_ok-bytes.ensures.items, c.header_of.ensures) at c.in_ok-extend_from_slice.ensures.items in
     let states = rw (header, c.state.ensures) at c.in_ok-resize.ensures.items in
     written c.resize-2.new.self.items c.args.config.now c.args.shape _ extras c.requires.checks
-    (IsImage-blank c.args.shape (checked_shape c.args.config.now c.args.shape c.requires.checks)) (omega arith) c.requires.few
-    (blank_parts (header_of c.args.config.now extras) c.resize.new.self.items c.resize-2.new.self.items c.head_bytes.result c.image_bytes-2.result
-    _ _ c.args.shape (length-header_of c.args.config.now extras (omega arith)) c.head_bytes.ensures c.image_bytes-2.ensures (omega (arith, ap length header))
+    (IsImage-blank c.args.shape (checked_shape c.args.config.now c.args.shape c.requires.checks)) (omega arith)
+    c.requires.few
+    (blank_parts (header_of c.args.config.now extras) c.resize.new.self.items c.resize-2.new.self.items
+    c.head_bytes.result c.image_bytes-2.result
+    _ _ c.args.shape (length-header_of c.args.config.now extras (omega arith)) c.head_bytes.ensures
+    c.image_bytes-2.ensures (omega (arith, ap length header))
     (omega arith)
     states c.in_ok-resize-2.ensures.items)

@@ -11,5 +11,7 @@ returns c =
     let cells = rw long at c.in_ok-bytes.ensures.cells in
     let over = rw (c.deref_mut.ensures.value, c.deref.ensures.value, cells) at c.write_head.ensures in
     let bounds = c.in_ok-head.ensures.bounds in
-    written _ c.args.config.now c.args.flash.shape c.args.flash.image c.args.flash.extras c.requires bounds.0 bounds.1 bounds.2
-    (whole ∙ over ∙ ap (λ front. front ++ flat_map (cell_of c.args.flash.shape.page_bytes) c.args.flash.image) c.in_ok-head.ensures.head)
+    written _ c.args.config.now c.args.flash.shape c.args.flash.image c.args.flash.extras c.requires bounds.0
+    bounds.1 bounds.2
+    (whole ∙ over ∙ ap (λ front. front ++ flat_map (cell_of c.args.flash.shape.page_bytes) c.args.flash.image)
+    c.in_ok-head.ensures.head)

@@ -13,11 +13,13 @@ loop-register-preserved c =
 
 pub returns-clause-empty : goal.returns-clause-empty
 returns-clause-empty c =
-    ap (map load_in) (emptied_all c.args.registers.now c.loop-register.registers c.loop-register.register-index (omega arith) c.loop-register.invariant)
+    ap (map load_in) (emptied_all c.args.registers.now c.loop-register.registers c.loop-register.register-index
+    (omega arith) c.loop-register.invariant)
     ∙ map-emptied c.args.registers.now
 
 pub returns-clause-room : goal.returns-clause-room
 returns-clause-room c shape are =
     subst (AreRegisters shape)
-    (sym (emptied_all c.args.registers.now c.loop-register.registers c.loop-register.register-index (omega arith) c.loop-register.invariant))
+    (sym (emptied_all c.args.registers.now c.loop-register.registers c.loop-register.register-index (omega arith)
+    c.loop-register.invariant))
     (AreRegisters-emptied shape c.args.registers.now are)

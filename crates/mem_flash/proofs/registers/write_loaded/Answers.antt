@@ -29,7 +29,8 @@ loop-register-preserved c =
             left =
                 ap₂ (λ image how. left_from image how rest)
                 (ap (λ (s : SlotsState). s.image) (w.slots-is ∙ w.program.ensures)
-                ∙ ap (λ bytes. image_left before.shape before.image (program w.in-Some.at.0 bytes r.spare_area) c.loop-register.how) w.deref.ensures.value)
+                ∙ ap (λ bytes. image_left before.shape before.image (program w.in-Some.at.0 bytes r.spare_area)
+                c.loop-register.how) w.deref.ensures.value)
                 (w.how-is ∙ w.outcome_after-how.ensures)
                 ∙ sym (left_from-more before.shape before.image c.loop-register.how (load_at r w.in-Some.at) rest)
                 ∙ sym (ap (left_from before.image c.loop-register.how) more) ∙ c.loop-register.invariant.left;

@@ -12,8 +12,11 @@ returns c nothing =
     let read = c.load.new.folder in
     let is : IsLeft (state_of saved.changes.items) (state_of left.changes.items) = c.in_ok-lose_power.ensures.left in
     let durable : IsDurable (state_of left.changes.items) name bytes =
-    durable_left name bytes (state_of saved.changes.items) (state_of left.changes.items) (c.in_ok-save_durably.ensures nothing) is
+    durable_left name bytes (state_of saved.changes.items) (state_of left.changes.items)
+    (c.in_ok-save_durably.ensures nothing) is
     in
     let fits : length bytes ≤ c.saturating_add-most.result = search rules in
-    loaded_left name bytes (state_of saved.changes.items) left.changes.items read.changes.items left.befores.items read.befores.items left.notes.items
-    read.notes.items left.noted.items read.noted.items c.saturating_add-most.result c.in_ok-loaded.loaded fits is durable c.in_ok-loaded.ensures.loads
+    loaded_left name bytes (state_of saved.changes.items) left.changes.items read.changes.items left.befores.items
+    read.befores.items left.notes.items
+    read.notes.items left.noted.items read.noted.items c.saturating_add-most.result c.in_ok-loaded.loaded fits is
+    durable c.in_ok-loaded.ensures.loads

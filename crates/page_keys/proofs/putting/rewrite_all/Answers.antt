@@ -63,7 +63,8 @@ returns-in_err-rewrite-clause-refused g c =
     is_full s.config m c.args.changes.now c.args.pages.now c.loop-page.page-index
     c.requires.pages (i.writes m shows).1 c.loop-page-test.true e
     (much_back s t i.reads.stays m c.args.changes.now _ e
-    (c.in_err-rewrite.ensures.refused m c.args.changes.now (group_is c.device_facts-config.result.logical c.loop-page.device.config.logical
+    (c.in_err-rewrite.ensures.refused m c.args.changes.now
+    (group_is c.device_facts-config.result.logical c.loop-page.device.config.logical
     (get_or c.args.pages.now c.loop-page.page-index 0) c.args.changes.now
     c.in_ok-placed.placed.items c.deref.result.now c.of_page.result.now
     (ap (λ (x : DeviceState g.row.F.Denot). x.config.logical) c.loop-page.invariant.reads.stays
@@ -71,7 +72,8 @@ returns-in_err-rewrite-clause-refused g c =
     c.in_ok-placed.ensures c.deref.ensures.value c.of_page.ensures)
     c.requires.differ
     (shows_there s t i.reads.stays m shows))) in
-    if_err c.from_residual-in_err-rewrite.result _ F c.from_residual-in_err-rewrite.ensures.1 (λ x is. subst F (sym is) one)
+    if_err c.from_residual-in_err-rewrite.result _ F c.from_residual-in_err-rewrite.ensures.1
+    (λ x is. subst F (sym is) one)
 
 pub loop-page-preserved : goal.loop-page-preserved
 loop-page-preserved g c =
@@ -88,7 +90,8 @@ loop-page-preserved g c =
       writes = λ m shows.
           let before = i.writes m shows in
           let made = bytes_back s t i.reads.stays m c.args.changes.now p _
-          (c.in_ok-rewrite.ensures.bytes m c.args.changes.now (group_is c.device_facts-config.result.logical c.loop-page.device.config.logical
+          (c.in_ok-rewrite.ensures.bytes m c.args.changes.now
+          (group_is c.device_facts-config.result.logical c.loop-page.device.config.logical
           (get_or c.args.pages.now c.loop-page.page-index 0) c.args.changes.now
           c.in_ok-placed.placed.items c.deref.result.now c.of_page.result.now
           (ap (λ (x : DeviceState g.row.F.Denot). x.config.logical) c.loop-page.invariant.reads.stays

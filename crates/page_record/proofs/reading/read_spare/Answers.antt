@@ -8,13 +8,16 @@ use Rattle.page_record.proofs.reading.read_spare.Goals as goal
 
 pub returns-in-Some-clause-only : goal.returns-in-Some-clause-only
 returns-in-Some-clause-only c = λ rec can is_spelling.
-    let none : first_broken c.args.protocol c.args.spare_area.now ≡ None = ap (first_broken c.args.protocol) is_spelling ∙
+    let none : first_broken c.args.protocol c.args.spare_area.now ≡ None = ap (first_broken c.args.protocol) is_spelling
+    ∙
     none_broken c.args.protocol (spelling c.args.protocol rec) (BreaksNone-spelling c.args.protocol rec can) in
-    let broken : first_broken c.args.protocol c.args.spare_area.now ≡ Some c.in-Some.rule = sym c.broken_rule.ensures ∙ c.in-Some.is in
+    let broken : first_broken c.args.protocol c.args.spare_area.now ≡ Some c.in-Some.rule = sym c.broken_rule.ensures
+    ∙ c.in-Some.is in
     absurd cc
 
 pub returns-in-Some-clause-found : goal.returns-in-Some-clause-found
-returns-in-Some-clause-found c = sym (record_of-broken c.args.protocol c.args.spare_area.now c.in-Some.rule (sym c.broken_rule.ensures ∙ c.in-Some.is))
+returns-in-Some-clause-found c = sym (record_of-broken c.args.protocol c.args.spare_area.now c.in-Some.rule
+    (sym c.broken_rule.ensures ∙ c.in-Some.is))
 
 pub returns-in-None-clause-spelled : goal.returns-in-None-clause-spelled
 returns-in-None-clause-spelled c =
@@ -26,9 +29,14 @@ returns-in-None-clause-spelled c =
     )
 
 pub returns-in-None-clause-only : goal.returns-in-None-clause-only
-returns-in-None-clause-only c = λ rec can is_spelling. rw (c.fields-rec.ensures, is_spelling, fields_of-spelling c.args.protocol rec can) refl
+returns-in-None-clause-only c = λ rec can is_spelling. rw (
+  c.fields-rec.ensures,
+  is_spelling,
+  fields_of-spelling c.args.protocol rec can,
+) refl
 
 pub returns-in-None-clause-found : goal.returns-in-None-clause-found
 returns-in-None-clause-found c =
     let fits : IsBytes c.args.spare_area.now = record { at = c.fits-spare_area } in
-    rw c.fields-rec.ensures (sym (record_of-fields c.args.protocol c.args.spare_area.now c.told-spare_area fits (sym c.broken_rule.ensures ∙ c.in-None.is)))
+    rw c.fields-rec.ensures (sym (record_of-fields c.args.protocol c.args.spare_area.now c.told-spare_area fits
+    (sym c.broken_rule.ensures ∙ c.in-None.is)))

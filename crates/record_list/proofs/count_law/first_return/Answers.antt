@@ -7,12 +7,14 @@ use Rattle.record_list.proofs.count_law.first_return.Goals as goal
 pub returns-then-eq : goal.returns-then-eq
 returns-then-eq c =
     first_here c.args.list.now c.args.name c.loop-links.links
-    (sym (c.link_of-at.ensures ∙ one_more_link c.args.list.now c.args.name c.loop-links.at c.loop-links.links c.loop-links.invariant.0)
+    (sym (c.link_of-at.ensures ∙ one_more_link c.args.list.now c.args.name c.loop-links.at c.loop-links.links
+    c.loop-links.invariant.0)
     ∙ is_same_true c.link_of-at.result c.args.name (sym c.eq.ensures ∙ c.if-eq.true)) c.loop-links.invariant.1
 
 pub loop-links-preserved : goal.loop-links-preserved
 loop-links-preserved c =
-    let at = c.link_of-at.ensures ∙ one_more_link c.args.list.now c.args.name c.loop-links.at c.loop-links.links c.loop-links.invariant.0 in (
+    let at = c.link_of-at.ensures ∙ one_more_link c.args.list.now c.args.name c.loop-links.at c.loop-links.links
+    c.loop-links.invariant.0 in (
       at,
       λ m some le e. elim (cases_lt m (c.loop-links.links + 1)) [
         | inl before ↦ c.loop-links.invariant.1 m some (omega arith) e
@@ -24,4 +26,5 @@ loop-links-preserved c =
     )
 
 pub returns : goal.returns
-returns c = no_return c.args.list.now c.args.name (λ m some le. c.loop-links.invariant.1 m some (let far = c.loop-links-test.false in omega arith))
+returns c = no_return c.args.list.now c.args.name (λ m some le. c.loop-links.invariant.1 m some
+    (let far = c.loop-links-test.false in omega arith))

@@ -13,10 +13,13 @@ loop-turns-preserved c =
     let start : Link = record { page = c.args.page; version = c.newest.result } in
     let top = c.newest-top.ensures in
     let other : is_same link start ≡ false = elim c.else-link-start.either [
-      | inl newer ↦ and_right (eqb link.page start.page) (eqb link.version start.version) (ne_eqb link.version start.version newer.1)
-      | inr elsewhere ↦ and_left (eqb link.page start.page) (eqb link.version start.version) (ne_eqb link.page start.page elsewhere)
+      | inl newer ↦ and_right (eqb link.page start.page) (eqb link.version start.version)
+          (ne_eqb link.version start.version newer.1)
+      | inr elsewhere ↦ and_left (eqb link.page start.page) (eqb link.version start.version)
+          (ne_eqb link.page start.page elsewhere)
     ] in
     ap (walk c.args.protocol c.args.list.now start (c.loop-turns.turns - 1)) c.link_of-link-in-loop-turns.ensures
-    ∙ sym (walk_goes c.args.protocol c.args.list.now start c.loop-turns.turns link (let some = c.loop-turns-test.true in omega arith)
+    ∙ sym (walk_goes c.args.protocol c.args.list.now start c.loop-turns.turns link (let some = c.loop-turns-test.true in
+    omega arith)
     (let low = c.if-link-top.false in omega arith) (let high = c.if-link-top-2.false in omega arith) other)
     ∙ c.loop-turns.invariant

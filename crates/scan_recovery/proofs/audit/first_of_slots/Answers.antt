@@ -6,14 +6,16 @@ returns-in-Some c =
     let s = c.args.standing.now in
     let r = c.requires in
     rw c.breach_at.ensures
-    (least_current s.protocol c.args.list.now s.list s.logical r.scanned r.sorts r.pages r.copies c.in-Some.at r.links c.in-Some.ensures)
+    (least_current s.protocol c.args.list.now s.list s.logical r.scanned r.sorts r.pages r.copies c.in-Some.at r.links
+    c.in-Some.ensures)
 
 pub returns-in-Some-early_link : goal.returns-in-Some-early_link
 returns-in-Some-early_link c =
     let s = c.args.standing.now in
     let r = c.requires in
     rw c.breach_at-in-Some-early_link.ensures
-    (least_counted s.protocol c.args.list.now s.list s.logical r.scanned r.sorts r.pages r.copies r.links c.in_default.ensures
+    (least_counted s.protocol c.args.list.now s.list s.logical r.scanned r.sorts r.pages r.copies r.links
+    c.in_default.ensures
     c.in-Some-early_link.at c.in-Some-early_link.ensures)
 
 pub returns-in-Some-unshown : goal.returns-in-Some-unshown
@@ -21,7 +23,8 @@ returns-in-Some-unshown c =
     let s = c.args.standing.now in
     let r = c.requires in
     rw c.breach_at-in-Some-unshown.ensures
-    (least_loose s.protocol c.args.list.now s.list s.logical r.scanned r.sorts r.pages r.copies r.links c.in_default.ensures
+    (least_loose s.protocol c.args.list.now s.list s.logical r.scanned r.sorts r.pages r.copies r.links
+    c.in_default.ensures
     c.in_default-early_link.ensures c.in-Some-unshown.at c.in-Some-unshown.ensures)
 
 pub returns-in-Some-endless : goal.returns-in-Some-endless
@@ -29,12 +32,14 @@ returns-in-Some-endless c =
     let s = c.args.standing.now in
     let r = c.requires in
     rw c.breach_at-in-Some-endless.ensures
-    (least_ending s.protocol c.args.list.now s.list s.logical r.scanned r.sorts r.pages r.copies r.links c.in_default.ensures
+    (least_ending s.protocol c.args.list.now s.list s.logical r.scanned r.sorts r.pages r.copies r.links
+    c.in_default.ensures
     c.in_default-early_link.ensures c.in_default-unshown.ensures c.in-Some-endless.at c.in-Some-endless.ensures)
 
 pub returns : goal.returns
 returns c =
     let s = c.args.standing.now in
     let r = c.requires in
-    sound_list s.protocol c.args.list.now s.list s.logical r.scanned r.sorts r.pages r.copies r.links c.in_default.ensures
+    sound_list s.protocol c.args.list.now s.list s.logical r.scanned r.sorts r.pages r.copies r.links
+    c.in_default.ensures
     c.in_default-early_link.ensures c.in_default-unshown.ensures c.in_default-endless.ensures

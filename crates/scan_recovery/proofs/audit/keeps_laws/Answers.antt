@@ -2,12 +2,14 @@
 use Rattle.scan_recovery.proofs.Common.{ℕ, List, ◌∙◌, arith, Protocol, Scc, Bpcc, Found, IsCurrent, LooseIsShown, LooseEnds}
 use Rattle.scan_recovery.proofs.audit.keeps_laws.Goals as goal
 
-current_shown : (p : Protocol) (list : List Found) (logical : ℕ) (f : Found) → IsCurrent p list logical f.rec → LooseIsShown p list logical f
+current_shown : (p : Protocol) (list : List Found) (logical : ℕ) (f : Found) → IsCurrent p list logical f.rec →
+    LooseIsShown p list logical f
 unfolding LooseIsShown
 current_shown Scc list logical f own = tt
 current_shown Bpcc list logical f own = λ loose. absurd (omega arith)
 
-current_ends : (p : Protocol) (list : List Found) (logical : ℕ) (f : Found) → IsCurrent p list logical f.rec → LooseEnds p list logical f
+current_ends : (p : Protocol) (list : List Found) (logical : ℕ) (f : Found) → IsCurrent p list logical f.rec →
+    LooseEnds p list logical f
 unfolding LooseEnds
 current_ends Scc list logical f own = tt
 current_ends Bpcc list logical f own = λ loose. absurd (omega arith)

@@ -6,6 +6,8 @@ pub returns-then-version-gt0 : goal.returns-then-version-gt0
 returns-then-version-gt0 c =
     let s = c.args.standing.now in
     c.find.ensures
-    ∙ ap (position (λ f. has_name record { page = c.args.rec.next.page; version = c.responsible-version.result } f.rec)) c.sorted_records.ensures
-    ∙ answerer_some s.protocol s.list s.logical c.responsible-version.result c.args.rec (sym c.protocol.ensures ∙ c.in-Bpcc.is)
+    ∙ ap (position (λ f. has_name record { page = c.args.rec.next.page; version = c.responsible-version.result } f.rec))
+    c.sorted_records.ensures
+    ∙ answerer_some s.protocol s.list s.logical c.responsible-version.result c.args.rec (sym c.protocol.ensures
+    ∙ c.in-Bpcc.is)
     c.responsible-version.ensures (sym c.is_loose.ensures ∙ c.if-not-is_loose.false) c.if-version-gt0.true

@@ -4,7 +4,8 @@ use Rattle.scan_recovery.proofs.held.is_held.Goals as goal
 
 pub returns-in-Some : goal.returns-in-Some
 returns-in-Some c =
-    held_at c.args.standing.now c.args.held.now c.args.at c.in-Some.place false c.requires.copies c.requires.held c.requires.within
+    held_at c.args.standing.now c.args.held.now c.args.at c.in-Some.place false c.requires.copies c.requires.held
+    c.requires.within
     (rw (c.name_of.ensures, c.records.ensures.records, c.sorted_records-chart.ensures) at c.in-Some.ensures)
 
 pub returns-in-None : goal.returns-in-None

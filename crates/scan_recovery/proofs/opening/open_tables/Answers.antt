@@ -1,4 +1,4 @@
--- The list that stands is that of the chart.
+-- The list that stands is that of the sorted records.
 use Rattle.scan_recovery.proofs.opening.open_tables.Goals as goal
 
 pub open_current_versions-requires-clause-complete : goal.open_current_versions-requires-clause-complete

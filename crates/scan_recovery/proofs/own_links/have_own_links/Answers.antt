@@ -3,7 +3,8 @@ use Rattle.scan_recovery.proofs.own_links.have_own_links.Goals as goal
 
 pub returns-then-are_absent_once : goal.returns-then-are_absent_once
 returns-then-are_absent_once c _own =
-    own_links c.args.chart.now (c.in_ok-are_linked_once.ensures c.if-not-branch.false) (c.are_absent_once.ensures c.if-are_absent_once.true)
+    own_links c.args.chart.now (c.in_ok-are_linked_once.ensures c.if-not-branch.false)
+    (c.are_absent_once.ensures c.if-are_absent_once.true)
 
 pub returns-in-None : goal.returns-in-None
 returns-in-None c _own =

@@ -5,7 +5,8 @@ use Rattle.scan_recovery.proofs.OfLaws.LawTwo.{records_within}
 use Rattle.scan_recovery.proofs.recovery.sound_scan_by.Goals as goal
 
 -- the slots of the records exist
-scan_exists : (p : Protocol) (logical : ℕ) (a b : FlashState) (slots : List Seen) (list : List Found) → IsScanOf p logical a.image slots list →
+scan_exists : (p : Protocol) (logical : ℕ) (a b : FlashState) (slots : List Seen) (list : List Found) →
+    IsScanOf p logical a.image slots list →
     ReadsAll a b (slots_of a.shape) → IsFlash a → All (λ f. f.slot.0 < slots_of b.shape) list
 scan_exists p logical a b slots list scan read whole =
     subst (λ s. All (λ (f : Found). f.slot.0 < slots_of s) list) (sym read.carries.shape)
@@ -25,7 +26,8 @@ try_law_two-requires-clause-exist g c =
     let a = g.F.Flash.state c.args.flash.now in
     let b = g.F.Flash.state c.scan.new.flash in
     subst (All (λ (f : Found). f.slot.0 < slots_of b.shape)) (sym c.in_ok-charted.ensures.list)
-    (scan_exists c.args.config.protocol c.args.config.logical a b c.in_ok-scanned.scanned.seen.items c.in_ok-scanned.scanned.list.items
+    (scan_exists c.args.config.protocol c.args.config.logical a b c.in_ok-scanned.scanned.seen.items
+    c.in_ok-scanned.scanned.list.items
     c.in_ok-scanned.ensures.scan c.in_ok-scanned.ensures.reads c.requires.whole)
 
 pub returns-in-Ok-clause-copies : goal.returns-in-Ok-clause-copies

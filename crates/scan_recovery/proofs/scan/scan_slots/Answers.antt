@@ -13,7 +13,8 @@ loop-at-init g c =
     let slots : c.slots-slots.result ≡ slots_of a.shape = c.slots-slots.ensures ∙ ap slots_of c.shape.ensures.shape in
     record {
       reads = reads_nothing a;
-      found = scan_first c.args.config.protocol c.args.config.logical a.image c.args.seen.now.items c.args.list.now.items c.requires.no_seen c.requires.no_list;
+      found = scan_first c.args.config.protocol c.args.config.logical a.image c.args.seen.now.items
+          c.args.list.now.items c.requires.no_seen c.requires.no_list;
       seen_len = omega (arith, c.args.seen.now.ok.0, ap length c.requires.no_seen);
       list_len = omega (arith, c.args.list.now.ok.0, ap length c.requires.no_list);
       seen_room = c.requires.seen_room ∙ sym slots;
@@ -30,15 +31,19 @@ loop-at-preserved g c =
     let whole = c.shape.ensures.whole.slots in
     let slots : c.slots-slots.result ≡ slots_of a.shape = c.slots-slots.ensures ∙ ap slots_of c.shape.ensures.shape in
     let within : at < length a.image = omega (arith, whole) in
-    let note = as_before a b at (λ shape image. IsNote p logical (slot_at image at) c.in_ok-note.field-0) c.loop-at.invariant.reads c.in_ok-note.ensures.note in
+    let note = as_before a b at (λ shape image. IsNote p logical (slot_at image at) c.in_ok-note.field-0)
+    c.loop-at.invariant.reads c.in_ok-note.ensures.note in
     record {
-      reads = reads_all_then a b (g.F.Flash.state c.read_note.new.flash) at 1 c.loop-at.invariant.reads c.in_ok-note.ensures.reads;
+      reads = reads_all_then a b (g.F.Flash.state c.read_note.new.flash) at 1 c.loop-at.invariant.reads
+          c.in_ok-note.ensures.reads;
       found = elim c.match-branch-2.branch [
         | in-Some w ↦ rw (w.unread-is, w.seen-is, w.list-is, w.add.ensures.seen, w.add.ensures.list)
-            (found_note p logical a.image at within c.loop-at.unread c.loop-at.seen.items c.loop-at.list.items w.in-Some.note c.loop-at.invariant.found
+            (found_note p logical a.image at within c.loop-at.unread c.loop-at.seen.items c.loop-at.list.items
+            w.in-Some.note c.loop-at.invariant.found
             (subst (IsNote p logical (slot_at a.image at)) w.in-Some.is note))
         | in-None w ↦ rw (w.unread-is, w.first_of-unread.ensures)
-            (found_unread p logical a.image at within c.loop-at.unread c.loop-at.seen.items c.loop-at.list.items c.loop-at.invariant.found
+            (found_unread p logical a.image at within c.loop-at.unread c.loop-at.seen.items c.loop-at.list.items
+            c.loop-at.invariant.found
             (subst (IsNote p logical (slot_at a.image at)) w.in-None.is note))
       ];
       seen_len = let h = c.loop-at.invariant.seen_len in elim c.match-branch-2.branch [

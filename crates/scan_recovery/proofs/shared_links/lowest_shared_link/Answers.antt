@@ -14,4 +14,5 @@ pub returns : goal.returns
 returns c =
     let copied = c.in_ok-by_link.ensures.items_if_clones_equal (search rules) in
     finds_lowest c.args.list.now c.deref.result.now c.requires.scanned
-    (rw c.deref.ensures.value (rw copied at c.in_ok-sort_by_link.ensures)) c.lowest_sharer.result c.lowest_sharer.ensures
+    (rw c.deref.ensures.value (rw copied at c.in_ok-sort_by_link.ensures)) c.lowest_sharer.result
+    c.lowest_sharer.ensures

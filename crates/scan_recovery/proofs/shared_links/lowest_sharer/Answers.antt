@@ -13,12 +13,16 @@ loop-at-preserved c =
     elim c.if-share_link.branch [
       | then-share_link w ↦
           rw w.lowest-is (rw w.lower-lowest.ensures
-          (subst (λ k. IsLowestBelow (c.loop-at.at + 1 - 1) (NextShares l) (next_slot l) (lower c.loop-at.lowest (get_or l k nothing).slot)) next
-          (lowest_yes (NextShares l) (next_slot l) n (c.loop-at.at + 1 - 1) c.loop-at.lowest (omega arith) c.loop-at.invariant
-          (subst (λ k. share_link (get_or l n nothing).rec (get_or l k nothing).rec ≡ true) (sym next) (sym c.share_link.ensures ∙ w.if-share_link.true)))))
+          (subst (λ k. IsLowestBelow (c.loop-at.at + 1 - 1) (NextShares l) (next_slot l)
+          (lower c.loop-at.lowest (get_or l k nothing).slot)) next
+          (lowest_yes (NextShares l) (next_slot l) n (c.loop-at.at + 1 - 1) c.loop-at.lowest (omega arith)
+          c.loop-at.invariant
+          (subst (λ k. share_link (get_or l n nothing).rec (get_or l k nothing).rec ≡ true) (sym next)
+          (sym c.share_link.ensures ∙ w.if-share_link.true)))))
       | else-share_link w ↦
           rw w.lowest-is
-          (lowest_no (NextShares l) (next_slot l) n (c.loop-at.at + 1 - 1) c.loop-at.lowest (omega arith) c.loop-at.invariant
+          (lowest_no (NextShares l) (next_slot l) n (c.loop-at.at + 1 - 1) c.loop-at.lowest (omega arith)
+          c.loop-at.invariant
           (λ shared. false≢true (sym w.if-share_link.false ∙ c.share_link.ensures
           ∙ subst (λ k. share_link (get_or l n nothing).rec (get_or l k nothing).rec ≡ true) next shared)))
     ]

@@ -7,17 +7,20 @@ use Rattle.scan_recovery.proofs.spare.chosen_spare.Answers.SpareAlike.{are_copie
 use Rattle.scan_recovery.proofs.spare.chosen_spare.Goals as goal
 
 pub highest_removable-requires-clause-copies : goal.highest_removable-requires-clause-copies
-highest_removable-requires-clause-copies c = are_copies c.args.list.now c.args.standing.now.list c.requires.sorts c.requires.scanned c.requires.copies
+highest_removable-requires-clause-copies c = are_copies c.args.list.now c.args.standing.now.list c.requires.sorts
+    c.requires.scanned c.requires.copies
 
 pub highest_removable-requires-clause-exists : goal.highest_removable-requires-clause-exists
 highest_removable-requires-clause-exists c =
-    slots_exist c.args.list.now c.args.standing.now.list c.requires.sorts c.args.shape c.args.seen.now c.requires.seen c.requires.complete
+    slots_exist c.args.list.now c.args.standing.now.list c.requires.sorts c.args.shape c.args.seen.now c.requires.seen
+    c.requires.complete
 
 pub returns-in-Some : goal.returns-in-Some
 returns-in-Some c =
     let s = c.args.standing.now in
     let some = c.requires.shape.pages_least in
-    chosen_blank s.protocol s.logical c.args.shape c.args.seen.now c.args.list.now c.in-Some.block.0 (omega arith) c.requires.complete c.in-Some.ensures
+    chosen_blank s.protocol s.logical c.args.shape c.args.seen.now c.args.list.now c.in-Some.block.0 (omega arith)
+    c.requires.complete c.in-Some.ensures
 
 pub returns-in-None : goal.returns-in-None
 returns-in-None c =

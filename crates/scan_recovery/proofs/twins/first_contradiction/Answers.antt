@@ -10,19 +10,23 @@ pub returns-then-names_differ-clause-first : goal.returns-then-names_differ-clau
 returns-then-names_differ-clause-first g c =
     let old = g.F.Flash.state c.args.flash.now in
     all_agree c.args.list.now c.args.chart.now c.requires.sorts
-    (subst (λ l. (k : ℕ) → suc k < length l → NextDiffers l k) c.records.ensures.records (c.names_differ.ensures.0 c.if-names_differ.true))
+    (subst (λ l. (k : ℕ) → suc k < length l → NextDiffers l k) c.records.ensures.records
+    (c.names_differ.ensures.0 c.if-names_differ.true))
     old.shape.page_bytes old.image
 
 pub returns-then-names_differ-clause-reads : goal.returns-then-names_differ-clause-reads
 returns-then-names_differ-clause-reads g c =
     none_read c.args.list.now c.args.chart.now c.requires.sorts
-    (subst (λ l. (k : ℕ) → suc k < length l → NextDiffers l k) c.records.ensures.records (c.names_differ.ensures.0 c.if-names_differ.true))
+    (subst (λ l. (k : ℕ) → suc k < length l → NextDiffers l k) c.records.ensures.records
+    (c.names_differ.ensures.0 c.if-names_differ.true))
     (g.F.Flash.state c.args.flash.now)
 
 pub agrees-requires-clause-exists : goal.agrees-requires-clause-exists
 agrees-requires-clause-exists g c =
-    all_alike c.args.list.now c.args.chart.now c.requires.sorts (λ f. f.slot.0 < slots_of (g.F.Flash.state c.loop-at.flash).shape)
-    (subst (λ s. All (λ (f : Found). f.slot.0 < slots_of s) c.args.list.now) (sym c.loop-at.invariant.reads.carries.shape) c.requires.exists)
+    all_alike c.args.list.now c.args.chart.now c.requires.sorts
+    (λ f. f.slot.0 < slots_of (g.F.Flash.state c.loop-at.flash).shape)
+    (subst (λ s. All (λ (f : Found). f.slot.0 < slots_of s) c.args.list.now)
+    (sym c.loop-at.invariant.reads.carries.shape) c.requires.exists)
 
 pub returns-in_err-agrees-clause-reads : goal.returns-in_err-agrees-clause-reads
 returns-in_err-agrees-clause-reads g c =
@@ -43,10 +47,13 @@ returns-then-not-branch-clause-first g c =
     let found = get_or list c.loop-at.at nothing in (
       c.loop-at-test.true,
       λ d agrees.
-          as_before a b (2 * first_compared list c.loop-at.at) (λ shape image. AgreesWithLowest shape.page_bytes image list found → ⊥) c.loop-at.invariant.reads
+          as_before a b (2 * first_compared list c.loop-at.at)
+          (λ shape image. AgreesWithLowest shape.page_bytes image list found → ⊥) c.loop-at.invariant.reads
           (λ here. false≢true (sym c.if-not-branch.true ∙ c.in_ok-agrees.ensures.agrees.1
-          (subst (λ (T : Type 0). T) (sym (agrees_alike list c.args.chart.now c.requires.sorts b.shape.page_bytes b.image found)) here)))
-          (subst (AgreesWithLowest a.shape.page_bytes a.image list) (get_or_default list c.loop-at.at d nothing c.loop-at-test.true) agrees),
+          (subst (λ (T : Type 0). T) (sym (agrees_alike list c.args.chart.now c.requires.sorts b.shape.page_bytes
+          b.image found)) here)))
+          (subst (AgreesWithLowest a.shape.page_bytes a.image list)
+          (get_or_default list c.loop-at.at d nothing c.loop-at-test.true) agrees),
       c.loop-at.invariant.agree,
     )
 
@@ -56,7 +63,8 @@ returns-then-not-branch-clause-reads g c =
     let b = g.F.Flash.state c.agrees.new.flash in
     compared_next (g.F.Flash.state c.args.flash.now) a b c.args.list.now c.loop-at.at c.loop-at-test.true
     c.loop-at.invariant.reads
-    (subst (λ t. ReadsAll a b (cond t 2 0)) (compared_alike c.args.list.now c.args.chart.now c.requires.sorts (get_or c.args.list.now c.loop-at.at nothing))
+    (subst (λ t. ReadsAll a b (cond t 2 0)) (compared_alike c.args.list.now c.args.chart.now c.requires.sorts
+    (get_or c.args.list.now c.loop-at.at nothing))
     c.in_ok-agrees.ensures.reads)
 
 pub loop-at-preserved : goal.loop-at-preserved
@@ -66,19 +74,23 @@ loop-at-preserved g c = record {
       let b = g.F.Flash.state c.agrees.new.flash in
       compared_next (g.F.Flash.state c.args.flash.now) a b c.args.list.now c.loop-at.at c.loop-at-test.true
       c.loop-at.invariant.reads
-      (subst (λ t. ReadsAll a b (cond t 2 0)) (compared_alike c.args.list.now c.args.chart.now c.requires.sorts (get_or c.args.list.now c.loop-at.at nothing))
+      (subst (λ t. ReadsAll a b (cond t 2 0)) (compared_alike c.args.list.now c.args.chart.now c.requires.sorts
+      (get_or c.args.list.now c.loop-at.at nothing))
       c.in_ok-agrees.ensures.reads);
   agree =
       let a = g.F.Flash.state c.args.flash.now in
       let b = g.F.Flash.state c.loop-at.flash in
       let found = get_or c.args.list.now c.loop-at.at nothing in
       agree_more a.shape.page_bytes a.image c.args.list.now c.loop-at.at c.loop-at-test.true c.loop-at.invariant.agree
-      (as_before a b (2 * first_compared c.args.list.now c.loop-at.at) (λ shape image. AgreesWithLowest shape.page_bytes image c.args.list.now found)
+      (as_before a b (2 * first_compared c.args.list.now c.loop-at.at)
+      (λ shape image. AgreesWithLowest shape.page_bytes image c.args.list.now found)
       c.loop-at.invariant.reads
-      (subst (λ (T : Type 0). T) (agrees_alike c.args.list.now c.args.chart.now c.requires.sorts b.shape.page_bytes b.image found)
+      (subst (λ (T : Type 0). T) (agrees_alike c.args.list.now c.args.chart.now c.requires.sorts b.shape.page_bytes
+      b.image found)
       (c.in_ok-agrees.ensures.agrees.0 c.if-not-branch.false)));
 }
 
 pub returns-clause-reads : goal.returns-clause-reads
 returns-clause-reads g c =
-    compared_whole (g.F.Flash.state c.args.flash.now) (g.F.Flash.state c.loop-at.flash) c.args.list.now c.loop-at.at (omega arith) c.loop-at.invariant.reads
+    compared_whole (g.F.Flash.state c.args.flash.now) (g.F.Flash.state c.loop-at.flash) c.args.list.now c.loop-at.at
+    (omega arith) c.loop-at.invariant.reads

@@ -8,6 +8,7 @@ returns-then-has_name_of c =
     let next : suc n ≡ c.loop-at.at = omega arith in (
       λ same. absurd (false≢true same),
       λ all. absurd (false≢true (sym (all n (omega arith))
-          ∙ subst (λ k. has_name (name_of (get_or l k nothing).rec) (get_or l n nothing).rec ≡ true) (sym next) (sym c.has_name_of.ensures ∙
+          ∙ subst (λ k. has_name (name_of (get_or l k nothing).rec) (get_or l n nothing).rec ≡ true) (sym next)
+          (sym c.has_name_of.ensures ∙
           c.if-has_name_of.true))),
     )

@@ -10,17 +10,20 @@ loop-slot-init c =
 
 pub returns-then-other-at : goal.returns-then-other-at
 returns-then-other-at c =
-    stops_above (list_of c.args.lists.now c.args.key) c.args.at c.in-Some.other c.loop-slot.slot c.loop-slot.below c.loop-slot.invariant.0
+    stops_above (list_of c.args.lists.now c.args.key) c.args.at c.in-Some.other c.loop-slot.slot c.loop-slot.below
+    c.loop-slot.invariant.0
     c.in-Some.is c.if-other-at.true
 
 pub loop-slot-preserved : goal.loop-slot-preserved
 loop-slot-preserved c =
     let xs = list_of c.args.lists.now c.args.key in
     let has = rw c.in-Some.is at c.loop-slot.invariant.1 in
-    let next = at_next xs c.args.at c.in-Some.other c.loop-slot.slot c.loop-slot.below c.requires.rises c.loop-slot.invariant.0 c.in-Some.is
+    let next = at_next xs c.args.at c.in-Some.other c.loop-slot.slot c.loop-slot.below c.requires.rises
+    c.loop-slot.invariant.0 c.in-Some.is
     c.if-other-at.false in
     (rw (c.next-slot.ensures.next c.args.key has, ← c.in-Some.is) next, c.next-slot.ensures.listed c.args.key has)
 
 pub returns : goal.returns
 returns c =
-    stops_end (list_of c.args.lists.now c.args.key) c.args.at c.loop-slot.slot c.loop-slot.below c.loop-slot.invariant.0 c.in_default.is
+    stops_end (list_of c.args.lists.now c.args.key) c.args.at c.loop-slot.slot c.loop-slot.below c.loop-slot.invariant.0
+    c.in_default.is

@@ -15,6 +15,7 @@ pub returns-in-Some : goal.returns-in-Some
 returns-in-Some c =
     let xs = list_of c.args.lists.now c.args.key in
     let most = prefix_len-le-length (λ x. not (is_above c.args.at x)) xs in
-    let place = last_place xs (position_or_len (is_above c.args.at) xs) c.in-Some.below c.requires.rises most (sym c.last_below.ensures
+    let place = last_place xs (position_or_len (is_above c.args.at) xs) c.in-Some.below c.requires.rises most
+    (sym c.last_below.ensures
     ∙ c.in-Some.is) in
     rw (c.insert_after.ensures.behind, place) refl

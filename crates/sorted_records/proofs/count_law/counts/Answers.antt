@@ -10,7 +10,8 @@ pub returns-then-not-has_count : goal.returns-then-not-has_count
 returns-then-not-has_count c = none_counted c.args.list.now (c.has_count.ensures c.if-not-has_count.true)
 
 pub first_miscount-requires-clause-namesakes : goal.first_miscount-requires-clause-namesakes
-first_miscount-requires-clause-namesakes c = namesakes c.args.list.now c.args.chart.now c.requires.sorts c.requires.copies c.requires.scanned
+first_miscount-requires-clause-namesakes c = namesakes c.args.list.now c.args.chart.now c.requires.sorts
+    c.requires.copies c.requires.scanned
 
 pub returns-in-None : goal.returns-in-None
 returns-in-None c =
@@ -20,7 +21,8 @@ returns-in-None c =
 pub returns-in-Some : goal.returns-in-Some
 returns-in-Some c =
     rw c.breach_at.ensures (miscount_at c.args.list.now c.in-Some.at c.requires.scanned
-    (miscounts_alike c.args.list.now c.args.chart.now c.requires.sorts c.requires.copies c.requires.scanned (Some c.in-Some.at)
+    (miscounts_alike c.args.list.now c.args.chart.now c.requires.sorts c.requires.copies c.requires.scanned
+    (Some c.in-Some.at)
     (subst (FindsFirst (KeepsCount c.args.chart.now) c.args.list.now) c.in-Some.is c.first_miscount.ensures)))
 
 pub returns-then-all_keep_count : goal.returns-then-all_keep_count
@@ -28,7 +30,9 @@ returns-then-all_keep_count c =
     let list = c.args.list.now in
     let chart = c.args.chart.now in
     miscounts_alike list chart c.requires.sorts c.requires.copies c.requires.scanned None
-    (All-permutation (KeepsCount chart) chart list (IsPermutation-sym list chart c.requires.sorts.records) (c.all_keep_count.ensures c.if-all_keep_count.true))
+    (All-permutation (KeepsCount chart) chart list (IsPermutation-sym list chart c.requires.sorts.records)
+    (c.all_keep_count.ensures c.if-all_keep_count.true))
 
 pub all_keep_count-requires-clause-namesakes : goal.all_keep_count-requires-clause-namesakes
-all_keep_count-requires-clause-namesakes c = namesakes c.args.list.now c.args.chart.now c.requires.sorts c.requires.copies c.requires.scanned
+all_keep_count-requires-clause-namesakes c = namesakes c.args.list.now c.args.chart.now c.requires.sorts
+    c.requires.copies c.requires.scanned

@@ -17,7 +17,8 @@ returns-in-Round c =
     let l = c.args.chart.now in
     let at = sym c.requires.place ∙ c.in-Some.is in
     let length = c.in-Round.length in
-    let first = round_is_return l c.args.name c.in-Some.place at c.args.orbits.now c.orbit.result c.requires.orbits c.orbit.ensures length c.in-Round.is in (
+    let first = round_is_return l c.args.name c.in-Some.place at c.args.orbits.now c.orbit.result c.requires.orbits
+    c.orbit.ensures length c.in-Round.is in (
       λ same n r. one_return l c.args.name n length r first ∙ eqb-true length c.args.count same,
       λ all. eq-eqb length c.args.count (all length first),
     )
@@ -27,6 +28,7 @@ returns-in-Ends c =
     let l = c.args.chart.now in
     let at = sym c.requires.place ∙ c.in-Some.is in (
       λ t n r. absurd (no_round n c.orbit.result c.in-Ends.is
-          (return_is_round l c.args.name c.in-Some.place at c.args.orbits.now c.orbit.result c.requires.orbits c.orbit.ensures n r)),
+          (return_is_round l c.args.name c.in-Some.place at c.args.orbits.now c.orbit.result c.requires.orbits
+          c.orbit.ensures n r)),
       λ all. refl,
     )

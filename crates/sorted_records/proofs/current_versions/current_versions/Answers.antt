@@ -17,7 +17,8 @@ loop-page-preserved c =
     let page = c.loop-page.page in
     record {
       versions = (rw (c.loop-page.invariant.versions, c.current_near.ensures) at c.push_reserved.ensures.items)
-          ∙ sym (map-range_with_len_more (cur c.args.protocol c.args.chart.now c.args.logical) 0 page page (omega arith));
+          ∙ sym (map-range_with_len_more (cur c.args.protocol c.args.chart.now c.args.logical) 0 page page
+          (omega arith));
       room = rw c.push_reserved.ensures.capacity c.loop-page.invariant.room;
     }
 

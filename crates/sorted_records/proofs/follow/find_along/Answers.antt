@@ -1,4 +1,4 @@
--- The nodes of the path are settled from the last one to the first.
+-- The nodes of the path are decided from the last one to the first.
 mod Rings
 use Rattle.sorted_records.proofs.Common.{◌≢◌, refl, arith, New, Known}
 use Rattle.sorted_records.proofs.OfWalk.Paths.{path_short, path_less, last_orbit, may_grow, behind_decided, last_within, stays_on, stays_set}
@@ -13,7 +13,8 @@ close-requires-clause-few c =
 
 pub close-requires-clause-within : goal.close-requires-clause-within
 close-requires-clause-within c =
-    path_within c.args.graph.now c.follow.new.seen c.follow.new.path.items c.in-Closes.place c.in_ok-follow.ensures.followed
+    path_within c.args.graph.now c.follow.new.seen c.follow.new.path.items c.in-Closes.place
+    c.in_ok-follow.ensures.followed
 
 pub loop-at-init : goal.loop-at-init
 loop-at-init c = let was = c.in_ok-follow.ensures in elim c.match-branch-2.branch [
@@ -31,12 +32,22 @@ loop-at-init c = let was = c.in_ok-follow.ensures in elim c.match-branch-2.branc
   }
   | in-Closes w ↦ (
       let ring = rw w.in-Closes.is at was.end in
-      let noted = ring_seen c.args.graph.now c.follow.new.seen c.follow.new.path.items w.in-Closes.place was.followed ring.0 ring.1 in
+      let noted = ring_seen c.args.graph.now c.follow.new.seen c.follow.new.path.items w.in-Closes.place was.followed
+      ring.0 ring.1 in
       record {
         followed = rw (w.seen-is, w.path-is, w.close.ensures.seen, w.close.ensures.path, w.close.ensures.orbit)
-            (ring_followed c.args.graph.now c.follow.new.seen c.follow.new.path.items w.in-Closes.place was.followed ring.0 ring.1);
-        behind = rw (w.seen-is, w.path-is, w.behind-is, w.close.ensures.seen, w.close.ensures.path, w.close.ensures.orbit)
-            (ring_behind c.args.graph.now c.follow.new.seen c.follow.new.path.items w.in-Closes.place was.followed ring.0 ring.1);
+            (ring_followed c.args.graph.now c.follow.new.seen c.follow.new.path.items w.in-Closes.place was.followed
+            ring.0 ring.1);
+        behind = rw (
+          w.seen-is,
+          w.path-is,
+          w.behind-is,
+          w.close.ensures.seen,
+          w.close.ensures.path,
+          w.close.ensures.orbit,
+        )
+            (ring_behind c.args.graph.now c.follow.new.seen c.follow.new.path.items w.in-Closes.place was.followed
+            ring.0 ring.1);
         seen = rw (w.seen-is, w.close.ensures.seen, w.close.ensures.orbit) (λ i old. noted i (was.seen i old));
         start = rw (w.seen-is, w.close.ensures.seen, w.close.ensures.orbit) (noted c.args.start was.start);
       })
@@ -46,20 +57,23 @@ pub orbit_before-orbit-requires : goal.orbit_before-orbit-requires
 orbit_before-orbit-requires c =
     let was = c.loop-at.invariant in
     let e = c.in-Some.ensures.items in
-    may_grow c.args.graph.now c.loop-at.seen c.pop.new.self.items c.in-Some.at c.loop-at.behind c.requires.graph c.requires.size
+    may_grow c.args.graph.now c.loop-at.seen c.pop.new.self.items c.in-Some.at c.loop-at.behind c.requires.graph
+    c.requires.size
     (rw e at was.followed) (rw e at was.behind)
 
 pub bounds-seen-at : goal.bounds-seen-at
 bounds-seen-at c =
     let was = c.loop-at.invariant in
-    last_within c.args.graph.now c.loop-at.seen c.pop.new.self.items c.in-Some.at (rw c.in-Some.ensures.items at was.followed)
+    last_within c.args.graph.now c.loop-at.seen c.pop.new.self.items c.in-Some.at
+    (rw c.in-Some.ensures.items at was.followed)
 
 pub loop-at-preserved : goal.loop-at-preserved
 loop-at-preserved c =
     let was = c.loop-at.invariant in
     let e = c.in-Some.ensures.items in
     let followed = (rw e at was.followed) in
-    let settled = last_orbit c.args.graph.now c.loop-at.seen c.pop.new.self.items c.in-Some.at c.loop-at.behind followed (rw e at was.behind) in
+    let settled = last_orbit c.args.graph.now c.loop-at.seen c.pop.new.self.items c.in-Some.at c.loop-at.behind followed
+    (rw e at was.behind) in
     let within = last_within c.args.graph.now c.loop-at.seen c.pop.new.self.items c.in-Some.at followed in
     let orbit = c.orbit_before-orbit.result in
     let other : Known orbit ≢ New = (λ e. cc) in

@@ -7,11 +7,13 @@ use Rattle.sorted_records.proofs.follow.note.Goals as goal
 pub loop-node-preserved : goal.loop-node-preserved
 unfolding noted
 loop-node-preserved c =
-    sym (at_drop_more (λ nodes. noted c.args.orbit nodes c.loop-node.seen) c.args.nodes.now c.loop-node.node-index 0 (omega arith))
+    sym (at_drop_more (λ nodes. noted c.args.orbit nodes c.loop-node.seen) c.args.nodes.now c.loop-node.node-index 0
+    (omega arith))
     ∙ c.loop-node.invariant
 
 pub returns : goal.returns
 unfolding noted
 returns c =
-    sym (at_drop_all (λ nodes. noted c.args.orbit nodes c.loop-node.seen) c.args.nodes.now c.loop-node.node-index (omega arith))
+    sym (at_drop_all (λ nodes. noted c.args.orbit nodes c.loop-node.seen) c.args.nodes.now c.loop-node.node-index
+    (omega arith))
     ∙ c.loop-node.invariant

@@ -8,7 +8,8 @@ use Rattle.sorted_records.proofs.OfWalk.Paths.{known_stay, seen_within}
 use Rattle.sorted_records.proofs.follow.orbit_at_once.Goals as goal
 
 -- a known orbit can be counted one step further
-known_grows : (graph : List (Option ℕ)) (seen : List Seen) (j : ℕ) (orbit : Orbit) → IsGraph graph → length graph < 2 ^ 32 →
+known_grows : (graph : List (Option ℕ)) (seen : List Seen) (j : ℕ) (orbit : Orbit) → IsGraph graph →
+    length graph < 2 ^ 32 →
     IsFollowed graph seen [] → seen_at seen j ≡ Known orbit → MayGrow (Some orbit)
 known_grows graph seen j (Ends after at) graph_is few is known =
     let within = seen_within seen j (λ new. cc) in
@@ -28,7 +29,8 @@ returns-then-next-node-clause-orbit c =
 
 pub orbit_before-requires : goal.orbit_before-requires
 orbit_before-requires c =
-    known_grows c.args.graph.now c.args.seen.now c.in-Some.next c.in-Known.orbit c.requires.graph c.requires.size c.requires.followed c.in-Known.is
+    known_grows c.args.graph.now c.args.seen.now c.in-Some.next c.in-Known.orbit c.requires.graph c.requires.size
+    c.requires.followed c.in-Known.is
 
 pub returns-in-Known-clause-orbit : goal.returns-in-Known-clause-orbit
 returns-in-Known-clause-orbit c =
@@ -37,5 +39,8 @@ returns-in-Known-clause-orbit c =
     let is = c.requires.followed in
     rw c.orbit_before.ensures (orbit_before_is graph c.args.node c.in-Some.next c.in-Known.orbit c.in-Some.is
     (is.right c.in-Some.next c.in-Known.orbit c.in-Known.is)
-    (λ k leads. let (o, f) = known_stay graph seen [] is k c.in-Some.next c.args.node (c.in-Known.orbit, c.in-Known.is) leads in
+    (λ k leads. let (o, f) = known_stay graph seen [] is k c.in-Some.next c.args.node (
+      c.in-Known.orbit,
+      c.in-Known.is,
+    ) leads in
     let new = c.requires.new in cc))

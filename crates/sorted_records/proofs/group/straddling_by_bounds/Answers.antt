@@ -9,8 +9,10 @@ slice_bounds-count_below_near-count c =
     let name = c.args.name in
     let from = c.pages_below-from in
     let end = c.names_up_to-end in
-    bound_up c.args.records.now tops c.args.least.now name (get_or tops name.page 0) from.result end.result c.requires.order c.requires.minima
-    (slice_get-get_or tops name.page 0 c.requires.bound) from.ensures.first end.ensures.first from.ensures.within end.ensures.within
+    bound_up c.args.records.now tops c.args.least.now name (get_or tops name.page 0) from.result end.result
+    c.requires.order c.requires.minima
+    (slice_get-get_or tops name.page 0 c.requires.bound) from.ensures.first end.ensures.first from.ensures.within
+    end.ensures.within
 
 pub slice_bounds-count_below_near-start : goal.slice_bounds-count_below_near-start
 slice_bounds-count_below_near-start c =
@@ -19,8 +21,10 @@ slice_bounds-count_below_near-start c =
     let from = c.pages_below-from in
     let end = c.names_up_to-end in
     let up : c.pages_below-from.result ≤ c.names_up_to-end.result =
-    bound_up c.args.records.now tops c.args.least.now name (get_or tops name.page 0) from.result end.result c.requires.order c.requires.minima
-    (slice_get-get_or tops name.page 0 c.requires.bound) from.ensures.first end.ensures.first from.ensures.within end.ensures.within in
+    bound_up c.args.records.now tops c.args.least.now name (get_or tops name.page 0) from.result end.result
+    c.requires.order c.requires.minima
+    (slice_get-get_or tops name.page 0 c.requires.bound) from.ensures.first end.ensures.first from.ensures.within
+    end.ensures.within in
     let size = c.requires.minima.size in
     search rules
 
@@ -32,8 +36,10 @@ count_below_near-count-requires c =
     let from = c.pages_below-from in
     let end = c.names_up_to-end in
     stretch_rises l tops c.args.least.now name from.result end.result c.requires.order c.requires.minima
-    (decided l tops c.args.least.now name (get_or tops name.page 0) from.result end.result c.requires.order c.requires.minima
-    (slice_get-get_or tops name.page 0 c.requires.bound) from.ensures.first end.ensures.first from.ensures.within end.ensures.within)
+    (decided l tops c.args.least.now name (get_or tops name.page 0) from.result end.result c.requires.order
+    c.requires.minima
+    (slice_get-get_or tops name.page 0 c.requires.bound) from.ensures.first end.ensures.first from.ensures.within
+    end.ensures.within)
 
 pub returns : goal.returns
 returns c =
@@ -43,6 +49,8 @@ returns c =
     let from = c.pages_below-from in
     let end = c.names_up_to-end in
     c.last_above.ensures
-    ∙ upto_is_last l tops c.args.least.now name (get_or tops name.page 0) from.result end.result c.requires.order c.requires.minima
-    (slice_get-get_or tops name.page 0 c.requires.bound) from.ensures.first end.ensures.first from.ensures.within end.ensures.within
+    ∙ upto_is_last l tops c.args.least.now name (get_or tops name.page 0) from.result end.result c.requires.order
+    c.requires.minima
+    (slice_get-get_or tops name.page 0 c.requires.bound) from.ensures.first end.ensures.first from.ensures.within
+    end.ensures.within
     c.count_below_near-count.result c.count_below_near-count.ensures.within c.count_below_near-count.ensures.first

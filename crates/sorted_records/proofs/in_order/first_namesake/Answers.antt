@@ -10,4 +10,5 @@ returns-then-is_below_before c =
 
 pub unreachable-requires : goal.unreachable-requires
 unreachable-requires c =
-    own_place c.args.records.now c.args.at c.requires.within (rw c.name_of-name.ensures at (sym c.find.ensures ∙ c.in-None.is))
+    own_place c.args.records.now c.args.at c.requires.within
+    (rw c.name_of-name.ensures at (sym c.find.ensures ∙ c.in-None.is))

@@ -6,4 +6,5 @@ pub returns : goal.returns
 returns c =
     sorts_from c.args.records.now.items c.sort_by_key.new.self.items
     (orders_by_closure (λ f. name_of f.rec) named (λ name. refl) c.args.records.now.items c.sort_by_key.new.self.items
-    c.in_ok-sort_by_key.ensures.permutation c.in_ok-sort_by_key.ensures.sorted c.in_ok-sort_by_key.ensures.stable (λ a r q k. search rules))
+    c.in_ok-sort_by_key.ensures.permutation c.in_ok-sort_by_key.ensures.sorted c.in_ok-sort_by_key.ensures.stable
+    (λ a r q k. search rules))

@@ -6,7 +6,8 @@ use Rattle.sorted_records.proofs.minima.minima.Goals as goal
 pub loop-at-init : goal.loop-at-init
 loop-at-init c = record {
   within = omega arith;
-  minima = minima_none c.args.records.now c.args.tops.now c.in_ok-least.least.items (length c.args.records.now) (omega arith)
+  minima = minima_none c.args.records.now c.args.tops.now c.in_ok-least.least.items
+      (length c.args.records.now) (omega arith)
       (omega (arith, c.in_ok-least.ensures.len));
 }
 

@@ -4,7 +4,8 @@ use Rattle.sorted_records.proofs.search.fill.Given as goal
 
 abbrev pub invariant-loop-numbers : goal.invariant-loop-numbers
 invariant-loop-numbers l =
-    (l.numbers.items ≡ l.initial.numbers.items ++ replicate (length l.numbers.items - length l.initial.numbers.items) l.number)
+    (l.numbers.items ≡ l.initial.numbers.items ++ replicate (length l.numbers.items - length l.initial.numbers.items)
+    l.number)
     × (length l.numbers.items ≤ l.size)
     × (length l.initial.numbers.items ≤ length l.numbers.items)
 

@@ -6,4 +6,5 @@ pub returns-else-at-eq0 : goal.returns-else-at-eq0
 returns-else-at-eq0 c =
     let some = c.if-at-eq0.false in
     let within = c.requires.within in
-    λ here k less. before_below c.args.records.now c.args.name (c.args.at - 1) c.requires.order (omega arith) (sym c.is_below.ensures ∙ here) k (omega arith)
+    λ here k less. before_below c.args.records.now c.args.name (c.args.at - 1) c.requires.order (omega arith)
+    (sym c.is_below.ensures ∙ here) k (omega arith)

@@ -6,7 +6,8 @@ use Rattle.sorted_records.proofs.walks.targets.Goals as goal
 pub loop-at-preserved : goal.loop-at-preserved
 loop-at-preserved c =
     c.in_ok-push.ensures.items
-    ∙ mapped_more (λ f. position (λ g. has_name f.rec.next g.rec) c.args.records.now) c.args.records.now c.loop-at.targets.items c.loop-at.at nothing
+    ∙ mapped_more (λ f. position (λ g. has_name f.rec.next g.rec) c.args.records.now) c.args.records.now
+    c.loop-at.targets.items c.loop-at.at nothing
     c.next_target-target.result c.loop-at-test.true c.loop-at.invariant c.next_target-target.ensures
 
 pub returns : goal.returns

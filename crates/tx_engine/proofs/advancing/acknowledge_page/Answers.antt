@@ -7,7 +7,8 @@ use Rattle.tx_engine.proofs.advancing.acknowledge_page.Goals as goal
 
 pub overflow_add-done : goal.overflow_add-done
 overflow_add-done g c =
-    let known = ((from_stands g.F.Flash.state c.args.store.now c.args.transactions.now c.requires.ready.stands).each c.args.at no_transaction
+    let known = ((from_stands g.F.Flash.state c.args.store.now c.args.transactions.now c.requires.ready.stands).each
+    c.args.at no_transaction
     c.requires.at).named.within in
     omega (arith, known, c.done_count-done.ensures, c.pages-all.ensures, c.pages-all.type_inv)
 
@@ -16,13 +17,15 @@ close-requires g c = record { ready = c.requires.ready; at = c.requires.at }
 
 pub returns-in-Whole : goal.returns-in-Whole
 returns-in-Whole g c =
-    let state = g.F.Flash.state in let S = c.args.store.now in let S' = c.close.new.store in let O = c.args.transactions.now in let O' = c.close.new.transactions in
+    let state = g.F.Flash.state in let S = c.args.store.now in let S' = c.close.new.store in
+    let O = c.args.transactions.now in let O' = c.close.new.transactions in
     let gone = c.close.ensures.gone in let pins = c.close.ensures.pins in
     record {
       stands = c.close.ensures.stands;
       counts = (
         sym c.mark.ensures ∙ c.in-Whole.is,
-        closed_machine state S S' O O' c.args.at pins gone c.requires.ready.stands c.requires.at (transaction_at O c.args.at).entry.tag refl,
+        closed_machine state S S' O O' c.args.at pins gone c.requires.ready.stands c.requires.at
+            (transaction_at O c.args.at).entry.tag refl,
       );
       exits = closed_exits state S S' O O' c.args.at pins gone;
       versions = closed_current state S S' O O' c.args.at pins gone;
@@ -40,15 +43,21 @@ pub returns-in-Plain : goal.returns-in-Plain
 returns-in-Plain g c =
     let state = g.F.Flash.state in
     let O = c.args.transactions.now in
-    let ready = ready_plain (transaction_at O c.args.at).entry.mark _ (either_mark _ _ c.mark.ensures c.in-Plain.is) c.requires.counts in
-    let opens : c.set_done_count.new.self ≡ with_transaction O c.args.at (with_done (transaction_at O c.args.at) ((transaction_at O c.args.at).entry.done + 1)) =
-    c.set_done_count.ensures ∙ ap (λ k. with_transaction O c.args.at (with_done (transaction_at O c.args.at) (k + 1))) c.done_count-done.ensures in
+    let ready = ready_plain (transaction_at O c.args.at).entry.mark _ (either_mark _ _ c.mark.ensures c.in-Plain.is)
+    c.requires.counts in
+    let opens : c.set_done_count.new.self ≡ with_transaction O c.args.at
+    (with_done (transaction_at O c.args.at) ((transaction_at O c.args.at).entry.done + 1)) =
+    c.set_done_count.ensures ∙ ap (λ k. with_transaction O c.args.at (with_done (transaction_at O c.args.at) (k + 1)))
+    c.done_count-done.ensures in
     record {
-      stands = counted_stands state c.args.store.now O c.set_done_count.new.self c.args.at c.requires.ready.stands c.requires.ready.sure c.requires.at ready.0 ready.1
+      stands = counted_stands state c.args.store.now O c.set_done_count.new.self c.args.at c.requires.ready.stands
+          c.requires.ready.sure c.requires.at ready.0 ready.1
           opens;
-      counts = counted_machine state c.args.store.now O c.set_done_count.new.self c.args.at c.requires.ready.stands c.requires.ready.sure c.requires.at ready.0
+      counts = counted_machine state c.args.store.now O c.set_done_count.new.self c.args.at c.requires.ready.stands
+          c.requires.ready.sure c.requires.at ready.0
           ready.1 opens _ _ (ap (λ k. k + 1) c.done_count-done.ensures) c.pages-all.ensures;
-      exits = counted_exits state c.args.store.now O c.set_done_count.new.self c.args.at c.requires.ready.stands c.requires.ready.sure c.requires.at ready.0 ready.1
+      exits = counted_exits state c.args.store.now O c.set_done_count.new.self c.args.at c.requires.ready.stands
+          c.requires.ready.sure c.requires.at ready.0 ready.1
           opens;
       versions = λ page. refl;
       stays = refl;

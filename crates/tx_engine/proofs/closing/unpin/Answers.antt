@@ -7,15 +7,20 @@ use Rattle.tx_engine.proofs.closing.unpin.Goals as goal
 pub loop-place-preserved : goal.loop-place-preserved
 loop-place-preserved g c =
     let x = (transaction_at c.args.transactions.now c.args.at).naming in
-    let pins : c.unpin.new.self.noted.pins ≡ set c.loop-place.store.noted.pins c.name.result.page 0 = ap (λ (s : StoreState _). s.noted.pins) c.unpin.ensures in
+    let pins : c.unpin.new.self.noted.pins ≡ set c.loop-place.store.noted.pins c.name.result.page 0 =
+    ap (λ (s : StoreState _). s.noted.pins) c.unpin.ensures in
     record {
-      pins = pins_then c.args.store.now c.loop-place.store c.unpin.new.self c.name.result.page c.loop-place.invariant.pins c.unpin.ensures;
-      pages = ap length pins ∙ length-set c.loop-place.store.noted.pins c.name.result.page 0 ∙ c.loop-place.invariant.pages;
+      pins = pins_then c.args.store.now c.loop-place.store c.unpin.new.self c.name.result.page
+          c.loop-place.invariant.pins c.unpin.ensures;
+      pages = ap length pins ∙ length-set c.loop-place.store.noted.pins c.name.result.page 0
+          ∙ c.loop-place.invariant.pages;
       gone = subst (λ ps. (name : Link) →
           Contains (pinned_names ps)
-          name ↔ (Contains (pinned_names c.args.store.now.noted.pins) name × ((k : ℕ) → k < c.loop-place.place + 1 → (name_at x k).page ≢ name.page)))
+          name ↔ (Contains (pinned_names c.args.store.now.noted.pins) name
+          × ((k : ℕ) → k < c.loop-place.place + 1 → (name_at x k).page ≢ name.page)))
           (sym pins)
-          (unpin_more c.args.store.now.noted.pins c.loop-place.store.noted.pins (λ k. (name_at x k).page) c.loop-place.place c.name.result.page
+          (unpin_more c.args.store.now.noted.pins c.loop-place.store.noted.pins (λ k. (name_at x k).page)
+          c.loop-place.place c.name.result.page
           (ap (λ (a : Link). a.page) c.name.ensures) c.loop-place.invariant.gone);
     }
 

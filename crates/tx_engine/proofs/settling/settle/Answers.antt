@@ -8,37 +8,47 @@ use Rattle.tx_engine.proofs.settling.settle.Goals as goal
 
 pub writer-writer-requires : goal.writer-writer-requires
 writer-writer-requires g c = λ k d inside.
-    ((from_stands g.F.Flash.state c.args.store.now c.args.transactions.now c.requires.stands).each k d inside).named.within
+    ((from_stands g.F.Flash.state c.args.store.now c.args.transactions.now c.requires.stands).each k d
+    inside).named.within
 
 pub settle-requires-clause-stored : goal.settle-requires-clause-stored
 settle-requires-clause-stored g c = record { matches = c.requires.stands.matches; rule = c.requires.rule }
 
 pub settle-requires-clause-own : goal.settle-requires-clause-own
-settle-requires-clause-own g c = can_take g.F.Flash.state (device_in g.F.Flash.state c.args.store.now c.args.transactions.now) c.requires.stands
+settle-requires-clause-own g c = can_take g.F.Flash.state
+    (device_in g.F.Flash.state c.args.store.now c.args.transactions.now) c.requires.stands
 
 pub returns-in_err-found : goal.returns-in_err-found
 returns-in_err-found g c =
     let S = c.args.store.now in let O = c.args.transactions.now in
-    by_err c.from_residual.result (SettlesDevice g.F.Flash.state S c.settle.new.self O O) c.from_residual.ensures.0 (λ y.
-    settle_failed g.F.Flash.state S c.settle.new.self O O _ y c.requires.stands c.in_err-found.ensures.settles c.in_err-found.ensures.failed
+    by_err c.from_residual.result (SettlesDevice g.F.Flash.state S c.settle.new.self O O)
+    c.from_residual.ensures.0 (λ y.
+    settle_failed g.F.Flash.state S c.settle.new.self O O _ y c.requires.stands c.in_err-found.ensures.settles
+    c.in_err-found.ensures.failed
     (λ none. (let both = (c.in_err-found.ensures.idle none).0 in cc)) refl)
 
 pub note_next-requires-clause-at : goal.note_next-requires-clause-at
 note_next-requires-clause-at g c =
-    own_within g.F.Flash.state c.args.store.now c.args.transactions.now c.requires.stands g.R.CommitRule.protocol c.requires.rule c.image_is_sound.ensures
-    c.settle.new.self.noted c.settle.new.self.table c.in_ok-found.found c.in_ok-found.ensures.settles.found c.noting_keeps.ensures
+    own_within g.F.Flash.state c.args.store.now c.args.transactions.now c.requires.stands g.R.CommitRule.protocol
+    c.requires.rule c.image_is_sound.ensures
+    c.settle.new.self.noted c.settle.new.self.table c.in_ok-found.found c.in_ok-found.ensures.settles.found
+    c.noting_keeps.ensures
     c.writer-writer.result c.writer-writer.ensures c.in-Present.is c.in-Some.at c.in-Some.is
 
 pub note_next-requires-clause-short : goal.note_next-requires-clause-short
 note_next-requires-clause-short g c =
-    own_short g.F.Flash.state c.args.store.now c.args.transactions.now c.requires.stands g.R.CommitRule.protocol c.requires.rule c.image_is_sound.ensures
-    c.settle.new.self.noted c.settle.new.self.table c.in_ok-found.found c.in_ok-found.ensures.settles.found c.noting_keeps.ensures
+    own_short g.F.Flash.state c.args.store.now c.args.transactions.now c.requires.stands g.R.CommitRule.protocol
+    c.requires.rule c.image_is_sound.ensures
+    c.settle.new.self.noted c.settle.new.self.table c.in_ok-found.found c.in_ok-found.ensures.settles.found
+    c.noting_keeps.ensures
     c.writer-writer.result c.writer-writer.ensures c.in-Present.is c.in-Some.at c.in-Some.is
 
 pub returns-in-Some : goal.returns-in-Some
 returns-in-Some g c =
-    let S = c.args.store.now in let O = c.args.transactions.now in let O' = c.note_next.new.transactions in let found = c.in_ok-found.ensures.settles in
-    let at = own_within g.F.Flash.state S O c.requires.stands g.R.CommitRule.protocol c.requires.rule c.image_is_sound.ensures
+    let S = c.args.store.now in let O = c.args.transactions.now in let O' = c.note_next.new.transactions in
+    let found = c.in_ok-found.ensures.settles in
+    let at = own_within g.F.Flash.state S O c.requires.stands g.R.CommitRule.protocol c.requires.rule
+    c.image_is_sound.ensures
     c.settle.new.self.noted c.settle.new.self.table c.in_ok-found.found found.found c.noting_keeps.ensures
     c.writer-writer.result c.writer-writer.ensures c.in-Present.is c.in-Some.at c.in-Some.is in
     settle_done g.F.Flash.state S c.settle.new.self O O'
@@ -56,8 +66,10 @@ returns-in-Some g c =
 
 pub returns-in_default : goal.returns-in_default
 returns-in_default g c = absurd
-    (own_none g.F.Flash.state c.args.store.now c.args.transactions.now c.requires.stands g.R.CommitRule.protocol c.requires.rule c.image_is_sound.ensures
-    c.settle.new.self.noted c.settle.new.self.table c.in_ok-found.found c.in_ok-found.ensures.settles.found c.noting_keeps.ensures
+    (own_none g.F.Flash.state c.args.store.now c.args.transactions.now c.requires.stands g.R.CommitRule.protocol
+    c.requires.rule c.image_is_sound.ensures
+    c.settle.new.self.noted c.settle.new.self.table c.in_ok-found.found c.in_ok-found.ensures.settles.found
+    c.noting_keeps.ensures
     c.writer-writer.result c.writer-writer.ensures c.in-Present.is c.in_default.is)
 
 pub in_doubt-doubted-requires : goal.in_doubt-doubted-requires
@@ -65,11 +77,13 @@ in_doubt-doubted-requires g c = c.requires.stands
 
 pub returns-in-Some-doubted : goal.returns-in-Some-doubted
 returns-in-Some-doubted g c =
-    let S = c.args.store.now in let O = c.args.transactions.now in let O' = c.set_mark.new.self in let found = c.in_ok-found.ensures.settles in
+    let S = c.args.store.now in let O = c.args.transactions.now in let O' = c.set_mark.new.self in
+    let found = c.in_ok-found.ensures.settles in
     let there = sym c.in_doubt-doubted.ensures ∙ c.in-Some-doubted.is in
     settle_done g.F.Flash.state S c.settle.new.self O O'
     (doubt_gone g.F.Flash.state S O c.requires.stands g.R.CommitRule.protocol c.requires.rule c.image_is_sound.ensures
-    c.settle.new.self.noted c.settle.new.self.table c.in_ok-found.found found.found c.array_stays.ensures (not_present c.in_ok-found.found c.in-Missing.is)
+    c.settle.new.self.noted c.settle.new.self.table c.in_ok-found.found found.found c.array_stays.ensures
+    (not_present c.in_ok-found.found c.in-Missing.is)
     c.in-Some-doubted.at there O' c.set_mark.ensures)
     found.sure found.moment found.carries c.in_ok-found.found found
     (record {
@@ -77,7 +91,8 @@ returns-in-Some-doubted g c =
       logical = ap (λ (o : OpenTransactionsState). o.logical) c.set_mark.ensures;
       pending = ap (λ (o : OpenTransactionsState). o.pending) c.set_mark.ensures;
     })
-    (marked_names O O' c.in-Some-doubted.at Plain (position-Some (λ (o : TransactionState). is_doubted o.entry.mark) O.all c.in-Some-doubted.at no_transaction there).0
+    (marked_names O O' c.in-Some-doubted.at Plain (position-Some (λ (o : TransactionState). is_doubted o.entry.mark)
+    O.all c.in-Some-doubted.at no_transaction there).0
     c.set_mark.ensures)
     (λ none. absurd (none_doubted g.F.Flash.state S O c.requires.stands none c.in-Some-doubted.at there))
 
@@ -86,7 +101,9 @@ returns-in_default-doubted g c =
     let S = c.args.store.now in let O = c.args.transactions.now in let found = c.in_ok-found.ensures.settles in
     settle_done g.F.Flash.state S c.settle.new.self O O
     (none_gone g.F.Flash.state S O c.requires.stands g.R.CommitRule.protocol c.requires.rule c.image_is_sound.ensures
-    c.settle.new.self.noted c.settle.new.self.table c.in_ok-found.found found.found c.array_stays.ensures (not_present c.in_ok-found.found c.in-Missing.is)
+    c.settle.new.self.noted c.settle.new.self.table c.in_ok-found.found found.found c.array_stays.ensures
+    (not_present c.in_ok-found.found c.in-Missing.is)
     (sym c.in_doubt-doubted.ensures ∙ c.in_default-doubted.is))
-    found.sure found.moment found.carries c.in_ok-found.found found (record { page_bytes = refl; logical = refl; pending = refl }) refl
+    found.sure found.moment found.carries c.in_ok-found.found found
+    (record { page_bytes = refl; logical = refl; pending = refl }) refl
     (λ none. ((c.settle.ensures.idle none).1, refl))

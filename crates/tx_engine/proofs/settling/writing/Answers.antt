@@ -5,10 +5,12 @@ use Rattle.tx_engine.proofs.settling.writing.Goals as goal
 pub returns-then-name-page : goal.returns-then-name-page
 returns-then-name-page c =
     let its = transaction_at c.args.transactions.now c.loop-at.at in
-    sym (position-at (is_writing c.args.page) c.args.transactions.now.all no_transaction c.loop-at.at (omega (arith, c.count-at-end.ensures.count))
+    sym (position-at (is_writing c.args.page) c.args.transactions.now.all no_transaction c.loop-at.at
+    (omega (arith, c.count-at-end.ensures.count))
     c.loop-at.invariant
     (eq-eqb (name_at its.naming its.entry.done).page c.args.page
-    (ap (λ k. (name_at its.naming k).page) (sym c.done_count.ensures) ∙ ap (λ (a : Link). a.page) (sym c.name.ensures) ∙ c.if-name-page.true)))
+    (ap (λ k. (name_at its.naming k).page) (sym c.done_count.ensures) ∙ ap (λ (a : Link). a.page) (sym c.name.ensures)
+    ∙ c.if-name-page.true)))
 
 pub returns : goal.returns
 returns c =

@@ -14,10 +14,12 @@ returns g c = record {
         subst (λ (k : Config). IsSoundImage p k.logical (state s.flash).shape image) (sym stands.config)
             (c.known_image_is_sound.ensures.sound (state s.flash) s.noted s.table s.unsure stands.matches noted),
         subst (λ (k : Config). array_in p k.logical image ≡ s.machine.pages) (sym stands.config)
-            (c.known_image_is_sound.ensures.array (state s.flash) s.noted s.table s.unsure stands.matches noted ∙ sym stands.array),
+            (c.known_image_is_sound.ensures.array (state s.flash) s.noted s.table s.unsure stands.matches noted
+            ∙ sym stands.array),
       );
   known_records = known_records g.F.Flash.state g.R.CommitRule.protocol c.known_image_is_sound.ensures.notes;
-  known_versions = λ s page h rule. known_versions g.F.Flash.state g.R.CommitRule.protocol c.known_image_is_sound.ensures.notes s h rule page;
+  known_versions = λ s page h rule. known_versions g.F.Flash.state g.R.CommitRule.protocol
+      c.known_image_is_sound.ensures.notes s h rule page;
   array = device_array g.F.Flash.state g.R.CommitRule.protocol c.image_is_sound.ensures c.noting_keeps.ensures;
   records = λ s stands rule sure. search rules;
   mentions = device_mentions g.F.Flash.state g.R.CommitRule.protocol c.image_is_sound.ensures;

@@ -8,25 +8,32 @@ use Rattle.tx_engine.proofs.writing.clear_superseded.Goals as goal
 pub name-name-requires : goal.name-name-requires
 name-name-requires g c =
     subst (HasPlace c.args.transactions.now c.args.at) (sym c.done_count.ensures)
-    (place g.F.Flash.state g.R.CommitRule.protocol c.args.store.now c.args.transactions.now c.args.at c.requires.ready c.requires.due)
+    (place g.F.Flash.state g.R.CommitRule.protocol c.args.store.now c.args.transactions.now c.args.at c.requires.ready
+    c.requires.due)
 
 pub clear_superseded-requires : goal.clear_superseded-requires
 clear_superseded-requires g c = record {
   sure = ready_sure g.F.Flash.state g.R.CommitRule.protocol c.args.store.now c.args.transactions.now c.requires.ready;
-  next = (let is = c.name-name.ensures ∙ ap (name_at (transaction_at c.args.transactions.now c.args.at).naming) c.done_count.ensures in
+  next = (let is = c.name-name.ensures ∙ ap (name_at (transaction_at c.args.transactions.now c.args.at).naming)
+      c.done_count.ensures in
       subst (λ (a : Link). (names : List Link) × IsNextName c.args.store.now.noted names a) (sym is)
-      (next_of_due g.F.Flash.state g.R.CommitRule.protocol c.args.store.now c.args.transactions.now c.args.at c.requires.ready c.requires.due));
+      (next_of_due g.F.Flash.state g.R.CommitRule.protocol c.args.store.now c.args.transactions.now c.args.at
+      c.requires.ready c.requires.due));
 }
 
 pub returns : goal.returns
 returns g c =
     let state = g.F.Flash.state in
-    let is = c.name-name.ensures ∙ ap (name_at (transaction_at c.args.transactions.now c.args.at).naming) c.done_count.ensures in
+    let is = c.name-name.ensures ∙ ap (name_at (transaction_at c.args.transactions.now c.args.at).naming)
+    c.done_count.ensures in
     record {
-      left = left_by state c.args.store.now c.clear_superseded.new.self c.args.transactions.now _ g.R.CommitRule.protocol c.array_stays.ensures
+      left = left_by state c.args.store.now c.clear_superseded.new.self c.args.transactions.now
+          _ g.R.CommitRule.protocol c.array_stays.ensures
           c.requires.ready.rule c.requires.ready.stands c.clear_superseded.ensures.clears.keeps c.requires.ready.sure;
-      clears = subst (λ (a : Link). ClearsSuperseded g.R.CommitRule.protocol (store_in state c.args.store.now) (store_in state c.clear_superseded.new.self) a.page a.version
+      clears = subst (λ (a : Link). ClearsSuperseded g.R.CommitRule.protocol (store_in state c.args.store.now)
+          (store_in state c.clear_superseded.new.self) a.page a.version
           c.clear_superseded.result) is c.clear_superseded.ensures.clears;
-      idle = λ none. let d = c.clear_superseded.ensures.idle (subst (λ (a : Link). block_to_go c.args.store.now.noted a.page a.version ≡ None) (sym is) none) in
+      idle = λ none. let d = c.clear_superseded.ensures.idle
+          (subst (λ (a : Link). block_to_go c.args.store.now.noted a.page a.version ≡ None) (sym is) none) in
           (ap is_err d.0, d.1);
     }

@@ -14,14 +14,18 @@ fire-requires g c =
     let within : die_of old.shape load.at < length (no_loads old.shape) = rw length-replicate c.requires.die in
     let one : loads_in (g.F.Wide.registers c.load.new.self) ≡ load ∷ [] =
     ap loads_in c.load.ensures.loaded
-    ∙ ap₂ (λ (s : FlashState) registers. loads_in (with_load s.shape registers load)) c.clear.ensures.stays c.clear.ensures.empty
+    ∙ ap₂ (λ (s : FlashState) registers. loads_in (with_load s.shape registers load)) c.clear.ensures.stays
+    c.clear.ensures.empty
     ∙ c.loads_come_in_order.ensures.more old.shape (no_loads old.shape) load within (λ k low. free k (omega arith))
     ∙ ap (λ (loads : List Load). loads ++ load ∷ []) none
     in
     let can : CanDo old.shape old.image (fire (load ∷ [])) = (
-      All-cons (CanLoad old.shape old.image) load [] (c.requires.blank, c.requires.page, c.told-spare_area) (All-nil (CanLoad old.shape old.image)),
+      All-cons (CanLoad old.shape old.image) load [] (c.requires.blank, c.requires.page, c.told-spare_area)
+          (All-nil (CanLoad old.shape old.image)),
       λ i j d less below. absurd (omega arith),
     )
     in
-    subst (λ loads. CanDo (g.F.Flash.state c.load.new.self).shape (g.F.Flash.state c.load.new.self).image (fire loads)) (sym one)
-    (subst (λ (s : FlashState). CanDo s.shape s.image (fire (load ∷ []))) (sym (c.load.ensures.stays ∙ c.clear.ensures.stays)) can)
+    subst (λ loads. CanDo (g.F.Flash.state c.load.new.self).shape (g.F.Flash.state c.load.new.self).image (fire loads))
+    (sym one)
+    (subst (λ (s : FlashState). CanDo s.shape s.image (fire (load ∷ [])))
+    (sym (c.load.ensures.stays ∙ c.clear.ensures.stays)) can)

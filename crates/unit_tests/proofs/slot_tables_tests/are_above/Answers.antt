@@ -15,12 +15,20 @@ loop-number-preserved c = λ number low. elim (cases_lt number c.loop-number.num
   | inl before ↦ c.loop-number.invariant number before
   | inr here ↦ (
       let same : number ≡ c.loop-number.number = omega arith in
-      subst Above (c.record.ensures ∙ ap (record_at c.args.tables.now.records) (sym same)) (c.is_above.ensures c.if-not-is_above.false))
+      subst Above (c.record.ensures ∙ ap (record_at c.args.tables.now.records) (sym same))
+      (c.is_above.ensures c.if-not-is_above.false))
 ]
 
 pub returns : goal.returns
 returns c = λ all number. elim (cases_lt number (length c.args.tables.now.records)) [
   | inl within ↦ c.loop-number.invariant number
-      (omega (arith, within, c.shape.ensures.kept.records, c.slots-number-end.ensures, ap slots_of c.shape.ensures.shape, c.loop-number-test.false))
+      (omega (
+        arith,
+        within,
+        c.shape.ensures.kept.records,
+        c.slots-number-end.ensures,
+        ap slots_of c.shape.ensures.shape,
+        c.loop-number-test.false,
+      ))
   | inr past ↦ subst Above (sym (get_or_past c.args.tables.now.records number None past)) tt
 ]

@@ -7,9 +7,11 @@ use Rattle.tx_types.specs.Config.{slots_of}
 use Rattle.slot_tables.specs.TablesState.{record_at}
 use Rattle.unit_tests.proofs.slot_tables_tests.is_newest.Goals as goal
 
-older_at : (rec r : Rec) (o : Option Rec) → IfSome o (λ s. s.page ≡ rec.page → s.version < rec.version) → o ≡ Some r → r.page ≡ rec.page →
+older_at : (rec r : Rec) (o : Option Rec) → IfSome o (λ s. s.page ≡ rec.page → s.version < rec.version) → o ≡ Some r →
+    r.page ≡ rec.page →
     r.version < rec.version
-older_at rec r o h e = let P : Option Rec → Type 0 = λ q. IfSome q (λ s. s.page ≡ rec.page → s.version < rec.version) in subst P e h
+older_at rec r o h e = let P : Option Rec → Type 0 = λ q. IfSome q (λ s. s.page ≡ rec.page → s.version < rec.version) in
+    subst P e h
 
 pub loop-number-preserved : goal.loop-number-preserved
 loop-number-preserved c = λ number low r e page. elim (cases_lt number c.loop-number.number) [
@@ -23,6 +25,14 @@ loop-number-preserved c = λ number low r e page. elim (cases_lt number c.loop-n
 pub returns : goal.returns
 returns c = λ all number r e page. elim (cases_lt number (length c.args.tables.now.records)) [
   | inl within ↦ c.loop-number.invariant number
-      (omega (arith, within, c.shape.ensures.kept.records, c.slots-number-end.ensures, ap slots_of c.shape.ensures.shape, c.loop-number-test.false)) r e page
-  | inr past ↦ (let none = get_or_past c.args.tables.now.records number None past in let no : None ≡ Some r = sym none ∙ e in absurd (cc))
+      (omega (
+        arith,
+        within,
+        c.shape.ensures.kept.records,
+        c.slots-number-end.ensures,
+        ap slots_of c.shape.ensures.shape,
+        c.loop-number-test.false,
+      )) r e page
+  | inr past ↦ (let none = get_or_past c.args.tables.now.records number None past in let no : None ≡ Some r = sym none
+      ∙ e in absurd (cc))
 ]

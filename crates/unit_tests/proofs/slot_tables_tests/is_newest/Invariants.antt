@@ -5,4 +5,5 @@ use Rattle.unit_tests.proofs.slot_tables_tests.is_newest.Given as goal
 
 abbrev pub invariant-loop-number : goal.invariant-loop-number
 invariant-loop-number l =
-    (number : ℕ) → number < l.number → (r : Rec) → record_at l.tables.records number ≡ Some r → r.page ≡ l.rec.page → r.version < l.rec.version
+    (number : ℕ) → number < l.number → (r : Rec) → record_at l.tables.records number ≡ Some r → r.page ≡ l.rec.page →
+    r.version < l.rec.version

@@ -8,7 +8,8 @@ loop-found-init c = (nothing_at c.args.older.now 0 c.requires.empty, refl)
 
 pub loop-found-preserved : goal.loop-found-preserved
 loop-found-preserved c = (
-  older_more c.args.records.now.list.now c.loop-found.found-index c.loop-found.older c.note_version.new.older (omega arith)
+  older_more c.args.records.now.list.now c.loop-found.found-index c.loop-found.older
+      c.note_version.new.older (omega arith)
       c.loop-found.invariant.0 c.note_version.ensures.noted,
   omega arith,
 )

@@ -9,4 +9,5 @@ loop-at-init c =
 pub returns : goal.returns
 returns c =
     let end : c.loop-at.at ≡ length c.args.list.now = omega arith in
-    are_places c.args.list.now c.loop-at.places (subst (λ n. AreNewestOf c.args.list.now n c.loop-at.places) end c.loop-at.invariant.0)
+    are_places c.args.list.now c.loop-at.places (subst (λ n. AreNewestOf c.args.list.now n c.loop-at.places) end
+    c.loop-at.invariant.0)

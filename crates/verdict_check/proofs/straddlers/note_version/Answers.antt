@@ -15,7 +15,8 @@ loop-next-preserved c =
     let inv = rw c.in-Some.is at c.loop-next.invariant in
     let last = c.requires.before c.in-Some.page c.args.rec.page inv.0.0 inv.0.1 in
     let size = c.note_straddled.ensures.size in (
-      goes_on c.args.records.now.list.now c.args.rec c.args.logical c.in-Some.page c.args.straddlers.now c.loop-next.straddlers c.note_straddled.new.straddlers
+      goes_on c.args.records.now.list.now c.args.rec c.args.logical c.in-Some.page c.args.straddlers.now
+          c.loop-next.straddlers c.note_straddled.new.straddlers
           _
           c.requires.known inv.0 last c.note_straddled.ensures.noted c.note_straddled.ensures.others,
       omega arith,

@@ -8,7 +8,8 @@ loop-found-init c = ((λ page low. nothing_at c.args.straddlers.now 0 c.requires
 
 pub loop-found-preserved : goal.loop-found-preserved
 loop-found-preserved c = (
-  straddlers_more c.args.records.now.list.now c.loop-found.found-index c.args.logical c.loop-found.straddlers c.note_version.new.straddlers (omega arith)
+  straddlers_more c.args.records.now.list.now c.loop-found.found-index c.args.logical c.loop-found.straddlers
+      c.note_version.new.straddlers (omega arith)
       c.loop-found.invariant.0 c.note_version.ensures.noted,
   omega arith,
 )

@@ -3,15 +3,25 @@ use Rattle.verdict_check.proofs.WalkEndLemmas.{end_on_way, note_keeps, next_is_n
 use Rattle.verdict_check.proofs.walk_ends.note_ending.Goals as goal
 
 pub loop-taken-init : goal.loop-taken-init
-loop-taken-init c = (steps_none (link_graph c.args.records.now.list.now) c.args.place, c.requires.place, c.requires.newest, c.requires.known, refl)
+loop-taken-init c = (
+  steps_none (link_graph c.args.records.now.list.now) c.args.place,
+  c.requires.place,
+  c.requires.newest,
+  c.requires.known,
+  refl,
+)
 
 pub returns-in_default-clause-known : goal.returns-in_default-clause-known
 returns-in_default-clause-known c =
     let list = c.args.records.now.list.now in
     let (leads, within, newest_at, known, size) = c.loop-taken.invariant in
     let fits = c.requires.pages c.loop-taken.at nothing within in
-    note_keeps list c.args.logical c.loop-taken.at (Ends (c.args.after - c.loop-taken.taken) c.args.end) c.loop-taken.courses (omega arith) newest_at
-    (end_on_way (link_graph list) c.args.place c.loop-taken.taken c.loop-taken.at c.args.after c.args.end leads c.requires.end (omega arith), omega arith) known
+    note_keeps list c.args.logical c.loop-taken.at (Ends (c.args.after - c.loop-taken.taken) c.args.end)
+    c.loop-taken.courses (omega arith) newest_at (
+      end_on_way (link_graph list) c.args.place c.loop-taken.taken c.loop-taken.at c.args.after c.args.end leads
+          c.requires.end (omega arith),
+      omega arith,
+    ) known
 
 pub loop-taken-preserved : goal.loop-taken-preserved
 loop-taken-preserved c =
@@ -23,9 +33,12 @@ loop-taken-preserved c =
       step_after (link_graph list) c.args.place c.loop-taken.taken c.loop-taken.at c.in-Some.next leads is,
       to.0,
       to.1,
-      note_keeps list c.args.logical c.loop-taken.at (Ends (c.args.after - c.loop-taken.taken) c.args.end) c.loop-taken.courses (omega arith) newest_at (
-        end_on_way (link_graph list) c.args.place c.loop-taken.taken c.loop-taken.at c.args.after c.args.end leads c.requires.end (omega arith),
-        omega arith,
-      ) known,
-      length-set c.loop-taken.courses (record_at list c.loop-taken.at).page (Some ((Ends (c.args.after - c.loop-taken.taken) c.args.end))) ∙ size,
+      note_keeps list c.args.logical c.loop-taken.at (Ends (c.args.after - c.loop-taken.taken) c.args.end)
+          c.loop-taken.courses (omega arith) newest_at (
+            end_on_way (link_graph list) c.args.place c.loop-taken.taken c.loop-taken.at c.args.after c.args.end leads
+                c.requires.end (omega arith),
+            omega arith,
+          ) known,
+      length-set c.loop-taken.courses (record_at list c.loop-taken.at).page
+          (Some ((Ends (c.args.after - c.loop-taken.taken) c.args.end))) ∙ size,
     )

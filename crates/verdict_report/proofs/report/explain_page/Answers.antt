@@ -10,5 +10,6 @@ returns-clause-text c =
 
 pub returns-clause-few : goal.returns-clause-few
 returns-clause-few c =
-    let shown = ap length c.in_ok-of_page.ensures.shown ∙ length-take 16 (links_of c.args.records.now.chart c.args.logical c.args.page) in
+    let shown = ap length c.in_ok-of_page.ensures.shown
+    ∙ length-take 16 (links_of c.args.records.now.chart c.args.logical c.args.page) in
     omega arith

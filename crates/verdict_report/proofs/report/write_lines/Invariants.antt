@@ -4,4 +4,5 @@ use Rattle.verdict_report.proofs.report.write_lines.Given as goal
 
 abbrev pub invariant-loop-page : goal.invariant-loop-page
 invariant-loop-page l =
-    HasLines (verdict_line l.protocol l.records.chart l.logical) l.records.chart l.page l.initial.text.items l.text.items l.count
+    HasLines (verdict_line l.protocol l.records.chart l.logical) l.records.chart l.page l.initial.text.items
+    l.text.items l.count

@@ -7,7 +7,8 @@ use Rattle.verdict_report.proofs.report.write_report.Goals as goal
 pub returns-clause-count : goal.returns-clause-count
 returns-clause-count c =
     let sorted = c.in_ok-records.records.chart in
-    IfOk-weaker c.write_lines.result (λ (n : ℕ). n ≡ length (pages sorted c.args.logical)) (λ (n : ℕ). n ≡ length (pages c.args.list.now c.args.logical))
+    IfOk-weaker c.write_lines.result (λ (n : ℕ). n ≡ length (pages sorted c.args.logical))
+    (λ (n : ℕ). n ≡ length (pages c.args.list.now c.args.logical))
     (λ n count. count ∙ ap length (pages_alike c.args.list.now sorted c.in_ok-records.ensures c.args.logical))
     c.write_lines.ensures.count
 

@@ -24,7 +24,8 @@ slot_must_go-requires-clause-slot c =
     let same = c.shape-size.ensures.shape in
     let below = c.loop-at-test.true in
     let block = subst (λ t. c.args.block.0 < blocks_of t) (sym same) c.requires.block in
-    let wide : (c.args.block.0 + 1) * s.pages_per_block ≤ blocks_of s * s.pages_per_block = mul-le-mul_right s.pages_per_block (omega arith) in
+    let wide : (c.args.block.0 + 1) * s.pages_per_block ≤ blocks_of s * s.pages_per_block =
+    mul-le-mul_right s.pages_per_block (omega arith) in
     let end = c.loop-at.auto.at-end in
     subst (λ t. c.loop-at.at < slots_of t) same (omega arith)
 

@@ -14,5 +14,6 @@ returns-clause-settled c = record {
   open_cycle = λ protocol its m may same left.
       absurd (false≢true (sym left ∙ sym (c.completes.ensures protocol its m may same) ∙ c.if-not-completes.false));
   whole_cycle = λ protocol its m may same closed.
-      subst (λ start. DerivesWhole c.args.protocol c.args.tables.now c.commit_cycle.new.tables start c.args.logical) c.name_of.ensures c.commit_cycle.ensures.whole;
+      subst (λ start. DerivesWhole c.args.protocol c.args.tables.now c.commit_cycle.new.tables start c.args.logical)
+      c.name_of.ensures c.commit_cycle.ensures.whole;
 }

@@ -5,7 +5,8 @@ use Rattle.version_index.proofs.committing.make_newest_current.Goals as goal
 pub returns-clause-judges : goal.returns-clause-judges
 returns-clause-judges c =
     subst (λ u. OnlyDerives c.args.tables.now u) (sym c.set_current.ensures)
-    (taken_derives c.args.tables.now c.release_above.new.tables c.args.page c.current_version-current.result c.release_above.ensures _)
+    (taken_derives c.args.tables.now c.release_above.new.tables c.args.page c.current_version-current.result
+    c.release_above.ensures _)
 
 pub returns-clause-taken : goal.returns-clause-taken
 returns-clause-taken c =
@@ -13,7 +14,9 @@ returns-clause-taken c =
     let sizes = c.shape.ensures.kept.current in
     let same = ap (λ (u : TablesState). length u.current) c.release_above.ensures.rest in
     let page = c.requires in
-    let is = c.set_current.ensures ∙ ap (λ n. record t { current = set t.current c.args.page n }) c.newest-newest.ensures.newest in
+    let is = c.set_current.ensures ∙ ap (λ n. record t { current = set t.current c.args.page n })
+    c.newest-newest.ensures.newest in
     subst (λ u. IsTaken c.args.tables.now u c.args.page) (sym is)
-    (taken_then c.args.tables.now t c.args.page c.current_version-current.result c.release_above.ensures c.current_version-current.ensures
+    (taken_then c.args.tables.now t c.args.page c.current_version-current.result c.release_above.ensures
+    c.current_version-current.ensures
     (omega arith))

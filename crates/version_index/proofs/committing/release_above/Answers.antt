@@ -12,7 +12,8 @@ abbrev version_by : List (Option Rec) → ℕ → ℕ
 version_by records x = option_map_or (λ r. r.version) (record_at records x) 0
 
 -- the record behind, in the tables that were
-older_is : (k t u : TablesState) (x : ℕ) (next : Option ℕ) → u ≡ freed t x → t ≡ record k { answerers = t.answerers; waits = t.waits } →
+older_is : (k t u : TablesState) (x : ℕ) (next : Option ℕ) → u ≡ freed t x →
+    t ≡ record k { answerers = t.answerers; waits = t.waits } →
     IfSome (record_at u.records x) (λ r. next ≡ next_in (numbers_at u.pages r.page) x) →
     (r : Rec) → record_at k.records x ≡ Some r → next ≡ next_in (numbers_at k.pages r.page) x
 older_is k t u x next freed_so rest older r is =
@@ -32,10 +33,13 @@ loop-next-preserved c =
     let its = c.version_of.ensures ∙ ap (λ l. version_by l x) records in
     let above = c.if-version_of-version.false in
     subst (λ u. IsTaking k u c.args.page c.args.version c.older-next.result) (sym c.release.ensures)
-    (one_taken k c.shape.ensures.kept c.args.page c.args.version t x (subst (IsTaking k t c.args.page c.args.version) c.in-Some.is h)
-    c.older-next.result (older_is k t c.release.new.tables x c.older-next.result c.release.ensures h.rest c.older-next.ensures)
+    (one_taken k c.shape.ensures.kept c.args.page c.args.version t x
+    (subst (IsTaking k t c.args.page c.args.version) c.in-Some.is h)
+    c.older-next.result (older_is k t c.release.new.tables x c.older-next.result c.release.ensures h.rest
+    c.older-next.ensures)
     (older_below k c.shape.ensures.kept x its_rec.0 its_rec.1 c.older-next.result
-    (older_is k t c.release.new.tables x c.older-next.result c.release.ensures h.rest c.older-next.ensures its_rec.0 its_rec.1))
+    (older_is k t c.release.new.tables x c.older-next.result c.release.ensures h.rest c.older-next.ensures
+    its_rec.0 its_rec.1))
     (subst (λ v. c.args.version < v) its above))
 
 pub loop-next-smaller : goal.loop-next-smaller
@@ -49,7 +53,8 @@ loop-next-smaller c =
     let freed_records = ap (λ (v : TablesState). v.records) c.release.ensures ∙ records in
     let its_rec = h.its x c.in-Some.is in
     let its = c.version_of.ensures ∙ ap (λ l. version_by l x) records in
-    let less = less_over k c.shape.ensures.kept c.args.page c.args.version t x (subst (IsTaking k t c.args.page c.args.version) c.in-Some.is h)
+    let less = less_over k c.shape.ensures.kept c.args.page c.args.version t x
+    (subst (IsTaking k t c.args.page c.args.version) c.in-Some.is h)
     next (older_is k t c.release.new.tables x next c.release.ensures h.rest c.older-next.ensures)
     (older_below k c.shape.ensures.kept x its_rec.0 its_rec.1 next
     (older_is k t c.release.new.tables x next c.release.ensures h.rest c.older-next.ensures its_rec.0 its_rec.1))
@@ -70,5 +75,6 @@ returns-then-version_of-version c =
 
 pub returns : goal.returns
 returns c =
-    all_taken c.args.tables.now c.shape.ensures.kept c.args.page c.args.version c.loop-next.tables c.loop-next.next c.loop-next.invariant (λ y e.
+    all_taken c.args.tables.now c.shape.ensures.kept c.args.page c.args.version c.loop-next.tables c.loop-next.next
+    c.loop-next.invariant (λ y e.
     absurd (none-some y (sym c.in_default.is ∙ e)))

@@ -14,7 +14,8 @@ set_current-requires-clause-number c =
     let k = c.args.tables.now in
     let shape = ap (λ (t : TablesState). t.shape) c.loop-page.invariant.rest in
     subst (λ s. IfSome c.number_by.result (λ x. x < slots_of s)) (sym shape)
-    (name_below c.args.standing.now.list c.args.numbers.now k c.requires.numbered c.requires.whole c.shape.ensures.kept c.name_at-name.result
+    (name_below c.args.standing.now.list c.args.numbers.now k c.requires.numbered c.requires.whole c.shape.ensures.kept
+    c.name_at-name.result
     c.number_by.result c.number_by.ensures)
 
 pub loop-page-preserved : goal.loop-page-preserved
@@ -27,9 +28,12 @@ loop-page-preserved c =
     let pages = c.requires.pages in
     let below = c.loop-page-test.true in
     let is = c.number_by.ensures ∙ ap (number_by list numbers) (c.name_at-name.ensures
-    ∙ ap (name_at page) (c.current.ensures ∙ ap (λ l. cur c.args.standing.now.protocol list l page) c.requires.logical)) in
-    subst (λ t. IsCurrentSo c.args.standing.now.protocol list numbers c.args.logical k t (page + 1)) (sym c.set_current.ensures)
-    (current_more c.args.standing.now.protocol list numbers c.args.logical k c.loop-page.tables page c.number_by.result c.loop-page.invariant (omega arith) is)
+    ∙ ap (name_at page) (c.current.ensures ∙ ap (λ l. cur c.args.standing.now.protocol list l page)
+    c.requires.logical)) in
+    subst (λ t. IsCurrentSo c.args.standing.now.protocol list numbers c.args.logical k t (page + 1))
+    (sym c.set_current.ensures)
+    (current_more c.args.standing.now.protocol list numbers c.args.logical k c.loop-page.tables page c.number_by.result
+    c.loop-page.invariant (omega arith) is)
 
 pub returns : goal.returns
 returns c =

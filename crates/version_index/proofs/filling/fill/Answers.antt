@@ -7,12 +7,14 @@ use Rattle.version_index.proofs.OfOpening.ScanSlots.{all_held, all_placed, each_
 use Rattle.version_index.proofs.filling.fill.Goals as goal
 
 pub number_records-requires-clause-agree : goal.number_records-requires-clause-agree
-number_records-requires-clause-agree c = subst NamesAgree (sym (c.records.ensures.records ∙ c.sorted_records-chart.ensures)) c.requires.fills.1.agree
+number_records-requires-clause-agree c = subst NamesAgree
+    (sym (c.records.ensures.records ∙ c.sorted_records-chart.ensures)) c.requires.fills.1.agree
 
 pub slot_uses-requires-clause-within : goal.slot_uses-requires-clause-within
 slot_uses-requires-clause-within c =
     rw (c.records-2.ensures.records ∙ c.sorted_records-chart.ensures)
-    (put_within c.args.standing.now.list c.args.seen.now c.requires.fills.0 c.requires.fills.1.complete c.requires.fills.1.known)
+    (put_within c.args.standing.now.list c.args.seen.now c.requires.fills.0 c.requires.fills.1.complete
+    c.requires.fills.1.known)
 
 pub hold_uses-requires-clause-below : goal.hold_uses-requires-clause-below
 hold_uses-requires-clause-below c at =
@@ -27,10 +29,12 @@ hold_uses-requires-clause-below c at =
     let whole = c.in_ok-numbers.ensures.whole ∙ ap length in_chart in
     let uses = c.in_ok-uses.uses.items in
     let put = rw (c.deref.ensures.value, c.records-2.ensures.records ∙ chart) at c.in_ok-uses.ensures in
-    let used = put_used list numbers seen scanned uses c.requires.fills.1.complete c.requires.fills.1.listed c.requires.fills.1.known put in
+    let used = put_used list numbers seen scanned uses c.requires.fills.1.complete c.requires.fills.1.listed
+    c.requires.fills.1.known put in
     let blank = c.in_ok-numbers.ensures.blank in
     let sizes = blank.sizes ∙ sym (ap (λ (k : TablesState). slots_of k.shape) blank.rest) in
-    rw c.deref-2.ensures.value (each_below list numbers t0 seen scanned uses numbered whole c.requires.fills.1.agree sizes used at)
+    rw c.deref-2.ensures.value (each_below list numbers t0 seen scanned uses numbered whole c.requires.fills.1.agree
+    sizes used at)
 
 pub hold_uses-requires-clause-size : goal.hold_uses-requires-clause-size
 hold_uses-requires-clause-size c =
@@ -50,10 +54,12 @@ returns-clause-reads c =
     let whole = c.in_ok-numbers.ensures.whole ∙ ap length in_chart in
     let uses = c.in_ok-uses.uses.items in
     let put = rw (c.deref.ensures.value, c.records-2.ensures.records ∙ chart) at c.in_ok-uses.ensures in
-    let used = put_used list numbers seen scanned uses c.requires.fills.1.complete c.requires.fills.1.listed c.requires.fills.1.known put in
+    let used = put_used list numbers seen scanned uses c.requires.fills.1.complete c.requires.fills.1.listed
+    c.requires.fills.1.known put in
     let t1 = c.hold_uses.new.tables in
     let is = c.hold_uses.ensures ∙ ap (λ (s : List SlotUse). record t0 { slots = s }) c.deref-2.ensures.value in
-    let held = uses_held list numbers t0 t1 seen scanned uses numbered whole c.requires.fills.1.agree c.requires.fills.1.listed used is in
+    let held = uses_held list numbers t0 t1 seen scanned uses numbered whole c.requires.fills.1.agree
+    c.requires.fills.1.listed used is in
     let notes = ap notes_in c.decide_records.ensures.rest ∙ ap notes_in c.decide_current.ensures.rest
     ∙ all_held list numbers t0 used.notes t1 (length used.notes) held (omega arith) in
     ap (map seen_as) notes ∙ used.reads
@@ -92,17 +98,21 @@ returns-clause-filled c =
     let whole = c.in_ok-numbers.ensures.whole ∙ ap length in_chart in
     let uses = c.in_ok-uses.uses.items in
     let put = rw (c.deref.ensures.value, c.records-2.ensures.records ∙ chart) at c.in_ok-uses.ensures in
-    let used = put_used list numbers seen scanned uses c.requires.fills.1.complete c.requires.fills.1.listed c.requires.fills.1.known put in
+    let used = put_used list numbers seen scanned uses c.requires.fills.1.complete c.requires.fills.1.listed
+    c.requires.fills.1.known put in
     let t1 = c.hold_uses.new.tables in
     let is = c.hold_uses.ensures ∙ ap (λ (s : List SlotUse). record t0 { slots = s }) c.deref-2.ensures.value in
-    let held = uses_held list numbers t0 t1 seen scanned uses numbered whole c.requires.fills.1.agree c.requires.fills.1.listed used is in
+    let held = uses_held list numbers t0 t1 seen scanned uses numbered whole c.requires.fills.1.agree
+    c.requires.fills.1.listed used is in
     let k = c.args.tables.now in
     let protocol = c.args.standing.now.protocol in
     let logical = c.args.logical in
     let t2 = c.decide_current.new.tables in
     let t3 = c.decide_records.new.tables in
     let pages = ap (λ (t : TablesState). length t.pages) c.requires.fills.1.blank ∙ length-replicate logical [] in
-    filled_from protocol list k.shape logical numbers t0 t1 t2 t3 (subst (λ n. AreBlankBut k.shape n t0) pages c.in_ok-numbers.ensures.blank)
+    filled_from protocol list k.shape logical numbers t0 t1 t2 t3
+    (subst (λ n. AreBlankBut k.shape n t0) pages c.in_ok-numbers.ensures.blank)
     whole numbered held.rest (all_placed list numbers t0 used.notes t1 (length used.notes) held (omega arith))
     (subst (λ ns. AreCurrent protocol list ns logical t1 t2) c.deref-3.ensures.value c.decide_current.ensures)
-    (subst (λ ns. AreDecided protocol list ns logical t2 t3 (length list)) c.deref-4.ensures.value c.decide_records.ensures)
+    (subst (λ ns. AreDecided protocol list ns logical t2 t3 (length list)) c.deref-4.ensures.value
+    c.decide_records.ensures)

@@ -20,5 +20,6 @@ loop-i-preserved c =
 
 pub returns : goal.returns
 returns c =
-    all_used c.args.tables.now c.args.uses.now c.loop-i.tables c.loop-i.i c.loop-i.invariant (c.shape.ensures.kept.slots ∙
+    all_used c.args.tables.now c.args.uses.now c.loop-i.tables c.loop-i.i c.loop-i.invariant
+    (c.shape.ensures.kept.slots ∙
     sym c.requires.size) c.loop-i-test.false

@@ -8,7 +8,8 @@ use_slot-requires-clause-slot c =
     let k = c.args.tables.now in
     let first = c.args.block.0 * c.shape-slots.result.pages_per_block in
     let shape : c.loop-i.tables.shape ≡ c.shape-slots.result =
-    ap (λ (t : TablesState). t.shape) c.loop-i.invariant ∙ used_shape k first c.args.to c.loop-i.i ∙ sym c.shape-slots.ensures.shape in
+    ap (λ (t : TablesState). t.shape) c.loop-i.invariant ∙ used_shape k first c.args.to c.loop-i.i
+    ∙ sym c.shape-slots.ensures.shape in
     let exists = subst (λ s. c.args.block.0 < blocks_of s) (sym c.shape-slots.ensures.shape) c.requires.block in
     let bound = block_within c.shape-slots.result c.args.block.0 exists in
     subst (λ s. first + c.loop-i.i < slots_of s) (sym shape) (omega arith)
@@ -27,4 +28,5 @@ returns-clause-used c =
     let whole : c.loop-i.i ≡ c.shape-slots.result.pages_per_block = omega arith in
     c.loop-i.invariant
     ∙ ap (used_from c.args.tables.now (c.args.block.0 * c.shape-slots.result.pages_per_block) c.args.to) whole
-    ∙ ap (λ (s : Shape). used_from c.args.tables.now (c.args.block.0 * s.pages_per_block) c.args.to s.pages_per_block) c.shape-slots.ensures.shape
+    ∙ ap (λ (s : Shape). used_from c.args.tables.now (c.args.block.0 * s.pages_per_block) c.args.to s.pages_per_block)
+    c.shape-slots.ensures.shape

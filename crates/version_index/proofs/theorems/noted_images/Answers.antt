@@ -5,4 +5,5 @@ pub returns-clause-records : goal.returns-clause-records
 returns-clause-records c = found_in_notes
 
 pub returns-clause-scan : goal.returns-clause-scan
-returns-clause-scan c = λ protocol config image n reads from. scanned_notes protocol config.logical image n.notes reads from.reads from.found
+returns-clause-scan c = λ protocol config image n reads from. scanned_notes protocol config.logical image n.notes reads
+    from.reads from.found

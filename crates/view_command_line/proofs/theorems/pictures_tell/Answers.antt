@@ -32,5 +32,6 @@ returns-clause-lines c = λ its image page. walk_says its.protocol (records_in i
 pub returns-clause-text : goal.returns-clause-text
 unfolding picture
 returns-clause-text c = λ its image marks.
-    ap (λ list. heading its ++ map_text (shape_of its) (cells_of its (notes_of its.protocol image)) marks ++ walks_text its.protocol list its.logical
+    ap (λ list. heading its ++ map_text (shape_of its) (cells_of its (notes_of its.protocol image)) marks
+    ++ walks_text its.protocol list its.logical
     ++ breach_line marks.breach) (found_in_notes its.protocol image)

@@ -13,7 +13,8 @@ use Rattle.array_machine.specs.declared.answers.StepError.TheVariants as failed
 pub entry_head : (e : Entry) (es : List Entry) → entry_of e.tag (e ∷ es) ≡ Some e
 entry_head e es = cond-true (has_tag e.tag e) (Some e) (entry_of e.tag es) (eq-eqb e.tag e.tag refl)
 
-in_turn_one : (old new : ArrayState) (e : Entry) (ps : List Progress) → GoInTurn old (e ∷ []) ps new → (p : Progress) × GoesOn old e.tag e p new
+in_turn_one : (old new : ArrayState) (e : Entry) (ps : List Progress) → GoInTurn old (e ∷ []) ps new →
+    (p : Progress) × GoesOn old e.tag e p new
 in_turn_one old new e [] h = absurd h
 in_turn_one old new e (p ∷ []) h = (p, subst (GoesOn old e.tag e p) (sym h.1.2) h.1.1)
 in_turn_one old new e (p ∷ q ∷ ps) h = absurd h.1.2
@@ -22,7 +23,8 @@ in_turn_none : (old new : ArrayState) (ps : List Progress) → GoInTurn old [] p
 in_turn_none old new [] h = (refl, h)
 in_turn_none old new (p ∷ ps) h = absurd h
 
-pub one_is_step : (there : Bool) (old new : ArrayState) (e : Entry) (es : List Entry) (answer : Moved) → old.entries ≡ e ∷ es → answer.moved ≡ 1 →
+pub one_is_step : (there : Bool) (old new : ArrayState) (e : Entry) (es : List Entry) (answer : Moved) →
+    old.entries ≡ e ∷ es → answer.moved ≡ 1 →
     StepsAllAs there old new answer → (p : Progress) × StepsAs there old new e.tag (Ok p)
 one_is_step there old new e es answer is one h =
     let mid = settled there old in
@@ -31,11 +33,13 @@ one_is_step there old new e es answer is one h =
     let went = in_turn_one mid new (settled_entry there e) h.each (subst (λ l. GoInTurn mid l h.each new) taken h.go) in
     let found : entry_of e.tag old.entries ≡ Some e = ap (entry_of e.tag) is ∙ entry_head e es in (
       went.0,
-      subst (λ o. MatchOption o ((Ok went.0 ≡ Err failed.Unknown) × (new ≡ old)) (λ x. StepGives old mid e.tag (settled_entry there x) (Ok went.0) new))
+      subst (λ o. MatchOption o ((Ok went.0 ≡ Err failed.Unknown) × (new ≡ old))
+          (λ x. StepGives old mid e.tag (settled_entry there x) (Ok went.0) new))
           (sym found) went.1,
     )
 
-pub none_moves : (there : Bool) (old new : ArrayState) (answer : Moved) → old.entries ≡ [] → StepsAllAs there old new answer →
+pub none_moves : (there : Bool) (old new : ArrayState) (answer : Moved) → old.entries ≡ [] →
+    StepsAllAs there old new answer →
     (answer.moved ≡ 0) × (answer.finished ≡ 0) × (new ≡ settled there old)
 none_moves there old new answer is h =
     let mid = settled there old in

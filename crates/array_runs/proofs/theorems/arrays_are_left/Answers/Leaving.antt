@@ -48,8 +48,10 @@ state_array c r h = h
 pub state_left : (limits : Limits) (spent : ℕ → Bool) (c : Command) (old : RunState) (r : Reply) (new : RunState) →
     LeavesState c r → Serves limits spent c old r new → new.machine ≡ old.machine
 state_left limits spent c old r new leaves serves =
-    each_way limits spent c old r new serves (λ h. ap (λ (s : RunState). s.machine) h.1) (λ h. ap (λ (s : RunState). s.machine) h.2)
-    (λ h. does_leave limits spent c old.machine r new.machine leaves h.0) (λ h. absurd (never_lost c old.machine.pages r (state_array c r leaves) h.0))
+    each_way limits spent c old r new serves (λ h. ap (λ (s : RunState). s.machine) h.1)
+    (λ h. ap (λ (s : RunState). s.machine) h.2)
+    (λ h. does_leave limits spent c old.machine r new.machine leaves h.0)
+    (λ h. absurd (never_lost c old.machine.pages r (state_array c r leaves) h.0))
 
 pub array_left : (limits : Limits) (spent : ℕ → Bool) (c : Command) (old : RunState) (r : Reply) (new : RunState) →
     LeavesArray c r → Serves limits spent c old r new →
@@ -57,6 +59,8 @@ pub array_left : (limits : Limits) (spent : ℕ → Bool) (c : Command) (old : R
 array_left limits spent (command.Write tag batch) old r new leaves serves =
     each_way limits spent (command.Write tag batch) old r new serves (λ h. ap (λ (s : RunState). s.machine.pages) h.1)
     (λ h. ap (λ (s : RunState). s.machine.pages) h.2)
-    (λ h. opened_leaves (refusal limits spent old.machine.entries tag batch.entries) tag batch.entries old.machine new.machine h.0.1.opens)
+    (λ h. opened_leaves (refusal limits spent old.machine.entries tag batch.entries) tag batch.entries old.machine
+    new.machine h.0.1.opens)
     (λ h. absurd (never_lost (command.Write tag batch) old.machine.pages r tt h.0))
-array_left limits spent c old r new leaves serves = ap (λ (s : ArrayState). s.pages) (state_left limits spent c old r new leaves serves)
+array_left limits spent c old r new leaves serves = ap (λ (s : ArrayState). s.pages)
+    (state_left limits spent c old r new leaves serves)

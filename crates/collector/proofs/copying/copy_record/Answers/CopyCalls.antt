@@ -41,14 +41,16 @@ has_noted Damaged h = absurd (let k = h in cc)
 has_noted (Holds rec) h = record { rec = rec; is = refl }
 
 -- what a read of such a slot gives
-shown : (size : ℕ) (contents : Contents) (how : Seen) (bytes spare : List ℕ) → IsComplete contents → Shows size contents how bytes spare →
+shown : (size : ℕ) (contents : Contents) (how : Seen) (bytes spare : List ℕ) → IsComplete contents →
+    Shows size contents how bytes spare →
     contents ≡ complete bytes spare
 shown size contents how bytes spare c s =
     c.is
     ∙ ap (λ b. complete b c.spare) (sym (s.its_page ∙ ap (page_of size) c.is))
     ∙ ap (λ x. complete bytes x) (sym (s.its_spare_area ∙ ap spare_area_of c.is))
 
-module _ (p : Protocol) (copy : CopyLaw p) (written_copy : WrittenCopyLaw p) (a : StoreParts) (k : IsSure p a) (from to : Slot)
+module _ (p : Protocol) (copy : CopyLaw p) (written_copy : WrittenCopyLaw p) (a : StoreParts) (k : IsSure p a)
+    (from to : Slot)
     (asked : CanCopy a.noted a.table from.0 to.0)
     (s1 : FlashState) (bytes spare : List ℕ) (how : Seen) (done : Reads a.flash s1 from.0 bytes spare (Ok how)) where
   abbrev s : FlashState
@@ -98,7 +100,8 @@ module _ (p : Protocol) (copy : CopyLaw p) (written_copy : WrittenCopyLaw p) (a 
   source1 = ap (λ i. slot_at i from.0) done.image ∙ source
 
   sizes : IsWhole s1.shape.page_bytes (complete bytes spare)
-  sizes = subst (IsWhole s1.shape.page_bytes) source1 (m1.flash.whole from.0 blank (omega (arith, exists, m1.flash.slots, ap slots_of m1.shape)))
+  sizes = subst (IsWhole s1.shape.page_bytes) source1
+      (m1.flash.whole from.0 blank (omega (arith, exists, m1.flash.slots, ap slots_of m1.shape)))
 
   same_per : s1.shape.pages_per_block ≡ n.config.pages_per_block
   same_per = ap (λ (x : Shape). x.pages_per_block) m1.shape
@@ -114,7 +117,12 @@ module _ (p : Protocol) (copy : CopyLaw p) (written_copy : WrittenCopyLaw p) (a 
         subst (λ b. k < b * n.config.pages_per_block + n.config.pages_per_block) next.in_spare
         (subst (λ q. k < to.0 / q * q + q) same_per (let h = high in omega arith)) in
         blank_noted n.config.protocol (slot_at s1.image k)
-        (sym (noted_as_read s1 n t m1 k (omega (arith, end, block_within (shape_of n.config) t.spare below, ap slots_of m1.shape))) ∙ next.blank_on k low end);
+        (sym (noted_as_read s1 n t m1 k (omega (
+          arith,
+          end,
+          block_within (shape_of n.config) t.spare below,
+          ap slots_of m1.shape,
+        ))) ∙ next.blank_on k low end);
   }
 
   can : CanDo s1.shape s1.image (program to.0 bytes spare)
@@ -128,12 +136,15 @@ module _ (p : Protocol) (copy : CopyLaw p) (written_copy : WrittenCopyLaw p) (a 
   to_apart : from.0 ≢ to.0
   to_apart e = (let k : Holds noted.rec ≡ Blank = sym noted.is ∙ ap (note_at n.notes) e ∙ was in cc)
 
-  at_rule : (s2 : FlashState) → KeepsArray n.config.protocol n.config.logical s1.image s2.image → KeepsArray p n.config.logical s.image s2.image
+  at_rule : (s2 : FlashState) → KeepsArray n.config.protocol n.config.logical s1.image s2.image →
+      KeepsArray p n.config.logical s.image s2.image
   at_rule s2 h = subst (λ q. KeepsArray q n.config.logical s.image s2.image) k.rule
       (subst (λ i. KeepsArray n.config.protocol n.config.logical i s2.image) done.image h)
 
-  moves : (s2 : FlashState) (r : Result (Unit {0}) Broken) → Programs s1 s2 to.0 bytes spare r → FlashMoves s s2 (is_err r)
-  moves s2 r e = FlashMoves-then s s1 s2 (is_err r) shape_same (FlashMoves-reads s s1 from.0 bytes spare (Ok how) false done)
+  moves : (s2 : FlashState) (r : Result (Unit {0}) Broken) → Programs s1 s2 to.0 bytes spare r →
+      FlashMoves s s2 (is_err r)
+  moves s2 r e = FlashMoves-then s s1 s2 (is_err r) shape_same
+      (FlashMoves-reads s s1 from.0 bytes spare (Ok how) false done)
       (FlashMoves-operates s1 s2 (program to.0 bytes spare) r tt can e)
 
   asks : copy_program n.config.page_bytes s.image to.0 from.0 ≡ program to.0 bytes spare
@@ -149,7 +160,8 @@ module _ (p : Protocol) (copy : CopyLaw p) (written_copy : WrittenCopyLaw p) (a 
       CopiesRecord p a (store_parts s2 (copied n from.0 to.0) t a.unsure) from to (Ok tt)
   copy_is_done s2 x e =
       let o = program to.0 bytes spare in
-      let can0 : CanDo s.shape s.image o = subst (λ i. CanDo s.shape i o) done.image (subst (λ sh. CanDo sh s1.image o) shape_same can) in
+      let can0 : CanDo s.shape s.image o = subst (λ i. CanDo s.shape i o) done.image
+      (subst (λ sh. CanDo sh s1.image o) shape_same can) in
       let now : moment_of s2 ≡ after s.shape (moment_of s) o =
       same_moments (moment_of s2) (after s.shape (moment_of s) o)
       (e.done.image ∙ ap (λ i. set i to.0 (complete bytes spare)) done.image)
@@ -157,12 +169,14 @@ module _ (p : Protocol) (copy : CopyLaw p) (written_copy : WrittenCopyLaw p) (a 
       record {
         keeps = record {
           matches = subst (Matches s2 (copied n from.0 to.0) t) (sym k.nothing)
-              (copy_done s1 s2 n t m1 written_law from to noted.rec bytes spare exists next.within next.in_spare noted.is was source1 can e.carries.shape e law
+              (copy_done s1 s2 n t m1 written_law from to noted.rec bytes spare exists next.within next.in_spare
+              noted.is was source1 can e.carries.shape e law
               noted');
           preserves = copy_preserves n m.noted law from.0 to.0 noted.rec noted.is (omega (arith, exists, m.noted.slots))
               (omega (arith, next.within, m.noted.slots)) was noted';
           array = at_rule s2
-              (left_done s1 s2 n t m1 written_law from to noted.rec bytes spare exists next.within next.in_spare noted.is was source1 can e.carries.shape
+              (left_done s1 s2 n t m1 written_law from to noted.rec bytes spare exists next.within next.in_spare
+              noted.is was source1 can e.carries.shape
               e.done.image).array;
           sure = k.nothing;
           others = λ at rec own. (let q = sym k.nothing ∙ own in cc);
@@ -184,11 +198,13 @@ module _ (p : Protocol) (copy : CopyLaw p) (written_copy : WrittenCopyLaw p) (a 
       CopiesRecord p a (store_parts s2 n t (unsure.Copy from to)) from to (Err x)
   copy_breaks s2 x e = record {
     keeps = record {
-      matches = copy_torn s1 s2 n t m1 written_law from to noted.rec bytes spare exists next.within next.in_spare noted.is was source1 can e.carries.shape x e
+      matches = copy_torn s1 s2 n t m1 written_law from to noted.rec bytes spare exists next.within next.in_spare
+          noted.is was source1 can e.carries.shape x e
           to_apart;
       preserves = preserves_same n;
       array = at_rule s2
-          (left_torn s1 s2 n t m1 written_law from to noted.rec bytes spare exists next.within next.in_spare noted.is was source1 can e.carries.shape
+          (left_torn s1 s2 n t m1 written_law from to noted.rec bytes spare exists next.within next.in_spare noted.is
+          was source1 can e.carries.shape
           e.torn.left.0 e.torn.left.1).array;
       sure = tt;
       others = λ at rec own. (let q = own in cc);
@@ -203,7 +219,8 @@ module _ (p : Protocol) (copy : CopyLaw p) (written_copy : WrittenCopyLaw p) (a 
       refl,
       subst (λ o. Torn s.shape (moment_of s) o (moment_of s2)) (sym asks)
           (subst (λ sh. Torn sh (moment_of s) (program to.0 bytes spare) (moment_of s2)) shape_same
-          (subst (λ q. Torn s1.shape q (program to.0 bytes spare) (moment_of s2)) (same_moments (moment_of s1) (moment_of s) done.image done.programs
+          (subst (λ q. Torn s1.shape q (program to.0 bytes spare) (moment_of s2))
+          (same_moments (moment_of s1) (moment_of s) done.image done.programs
           done.erases) e.torn)),
       reads_once s2 e.reads,
     );
@@ -211,8 +228,10 @@ module _ (p : Protocol) (copy : CopyLaw p) (written_copy : WrittenCopyLaw p) (a 
   }
 
 -- the read of the source failed
-pub copy_unread : (p : Protocol) (a : StoreParts) → IsSure p a → (from to : Slot) (s1 : FlashState) (bytes spare : List ℕ) (x y : Broken) →
-    Reads a.flash s1 from.0 bytes spare (Err x) → CopiesRecord p a (store_parts s1 a.noted a.table a.unsure) from to (Err y)
+pub copy_unread : (p : Protocol) (a : StoreParts) → IsSure p a → (from to : Slot) (s1 : FlashState)
+    (bytes spare : List ℕ) (x y : Broken) →
+    Reads a.flash s1 from.0 bytes spare (Err x) → CopiesRecord p a (store_parts s1 a.noted a.table a.unsure)
+    from to (Err y)
 copy_unread p a k from to s1 bytes spare x y e =
     let still = same_moments (moment_of s1) (moment_of a.flash) e.image e.programs e.erases in
     record {
@@ -229,6 +248,11 @@ copy_unread p a k from to s1 bytes spare x y e =
       done = tt;
       noted = tt;
       stays = refl;
-      broken = inl (k.nothing, still, λ live. e.reads ∙ ap (λ b. if b then counted a.flash.reads else a.flash.reads) live);
+      broken = inl (
+        k.nothing,
+        still,
+        λ live. e.reads ∙ ap (λ b. if b then counted a.flash.reads
+            else a.flash.reads) live,
+      );
       counts = (e.programs, e.erases);
     }

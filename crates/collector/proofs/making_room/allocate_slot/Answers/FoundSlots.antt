@@ -8,7 +8,8 @@ use Rattle.collector.specs.StoreParts.{IsSure}
 use Rattle.collector.proofs.OfRoom.GoingCounts.{clear_stays}
 use Rattle.collector.proofs.OfNotes.KeepsLemmas.{keeps_same}
 
-moved : (s : FlashState) (n : IndexState) (t : BlocksState) → IsBlocksState (after_next_slot t) → Matches s n t unsure.Nothing →
+moved : (s : FlashState) (n : IndexState) (t : BlocksState) → IsBlocksState (after_next_slot t) →
+    Matches s n t unsure.Nothing →
     Matches s n (after_next_slot t) unsure.Nothing
 moved s n t good m = record {
   shape = m.shape;
@@ -26,13 +27,16 @@ moved s n t good m = record {
   free = λ slot free. m.free slot (record { within = free.within; room = free.room; unused = free.unused });
 }
 
-pub matches_moved : (s : FlashState) (n : IndexState) (t t' : BlocksState) (u : Unsure) → u ≡ unsure.Nothing → Matches s n t u → t' ≡ after_next_slot t →
+pub matches_moved : (s : FlashState) (n : IndexState) (t t' : BlocksState) (u : Unsure) → u ≡ unsure.Nothing →
+    Matches s n t u → t' ≡ after_next_slot t →
     IsBlocksState t' → Matches s n t' u
 matches_moved s n t t' u nothing m is good =
     subst (Matches s n t') (sym nothing)
-    (subst (λ (k : BlocksState). Matches s n k unsure.Nothing) (sym is) (moved s n t (subst IsBlocksState is good) (subst (Matches s n t) nothing m)))
+    (subst (λ (k : BlocksState). Matches s n k unsure.Nothing) (sym is)
+    (moved s n t (subst IsBlocksState is good) (subst (Matches s n t) nothing m)))
 
-keeps_moved : (p : Protocol) (a b : StoreParts) (t : BlocksState) → t ≡ after_next_slot b.table → IsBlocksState t → Keeps p a b false →
+keeps_moved : (p : Protocol) (a b : StoreParts) (t : BlocksState) → t ≡ after_next_slot b.table → IsBlocksState t →
+    Keeps p a b false →
     Keeps p a (store_parts b.flash b.noted t b.unsure) false
 keeps_moved p a b t is good h = record {
   matches = matches_moved b.flash b.noted b.table t b.unsure h.sure h.matches is good;
@@ -47,7 +51,8 @@ keeps_moved p a b t is good h = record {
 
 module _ (p : Protocol) (a : StoreParts) (k : IsSure p a) where
   -- a block had room
-  pub found_at_once : (t : BlocksState) → t ≡ after_next_slot a.table → IsBlocksState t → (IsFull a.table → ⊥) → (at : Slot) → IsFirstFree t at.0 →
+  pub found_at_once : (t : BlocksState) → t ≡ after_next_slot a.table → IsBlocksState t → (IsFull a.table → ⊥) →
+      (at : Slot) → IsFirstFree t at.0 →
       AllocatesSlot p a (store_parts a.flash a.noted t a.unsure) (Ok at)
   found_at_once t is good room at free = record {
     keeps = keeps_moved p a a t is good (keeps_same p a k);
@@ -72,7 +77,8 @@ module _ (p : Protocol) (a : StoreParts) (k : IsSure p a) where
   }
 
   -- or it was done
-  pub found_then : (b : StoreParts) → CollectsVictim p a b (Ok true) → (t : BlocksState) → t ≡ after_next_slot b.table → IsBlocksState t → (at : Slot) →
+  pub found_then : (b : StoreParts) → CollectsVictim p a b (Ok true) → (t : BlocksState) → t ≡ after_next_slot b.table →
+      IsBlocksState t → (at : Slot) →
       next_slot b.table ≡ Some at →
       IsFirstFree t at.0 → AllocatesSlot p a (store_parts b.flash b.noted t b.unsure) (Ok at)
   found_then b c t is good at slot free = record {

@@ -13,7 +13,7 @@ use Rattle.collector.proofs.OfNotes.Losing.{preserves}
 use Rattle.collector.proofs.OfRoom.NextNames.{next_stays}
 use Rattle.collector.proofs.OfRoom.RoomMade.{spare_within}
 
--- what is so between two rounds, and which blocks were treated
+-- what is so between two rounds, and which blocks were evicted
 pub record ClearsSoFar (p : Protocol) (page below : ℕ) (a b : StoreParts) : Type 0 where
   pub keeps : Keeps p a b false
   pub names : List Link
@@ -44,7 +44,8 @@ module _ (p : Protocol) (page below : ℕ) (a b : StoreParts) (so : ClearsSoFar 
     cleared = gone;
     turns = record { rounds = so.rounds; most = let low = so.left in omega arith; turns = so.turns };
     broken = tt;
-    costs = CostsAtMost-more a.noted.config.pages_per_block so.rounds (blocks_to_go a.noted page below) a.flash b.flash (let low = so.left in omega arith)
+    costs = CostsAtMost-more a.noted.config.pages_per_block so.rounds (blocks_to_go a.noted page below) a.flash b.flash
+        (let low = so.left in omega arith)
         so.costs;
   }
 
@@ -53,13 +54,18 @@ module _ (p : Protocol) (page below : ℕ) (a b : StoreParts) (so : ClearsSoFar 
     from = going_some b.noted page below block found
 
     block_exists : block < blocks_of (shape_of b.noted.config)
-    block_exists = subst (λ x. x < blocks_of (shape_of b.noted.config)) from.slot (slot_exists b.noted so.keeps.matches.noted from.found from.is_in)
+    block_exists = subst (λ x. x < blocks_of (shape_of b.noted.config)) from.slot
+        (slot_exists b.noted so.keeps.matches.noted from.found from.is_in)
 
     pub block_unneeded : HasUnneeded b.noted block
     block_unneeded = goes_unneeded b.noted so.keeps.matches.noted page below so.names so.next block from
 
     now : is_going b.noted page below block ≡ true
-    now = at_going b.noted page below block from.found (record { is_in = from.is_in; slot = from.slot; goes = from.goes })
+    now = at_going b.noted page below block from.found (record {
+      is_in = from.is_in;
+      slot = from.slot;
+      goes = from.goes;
+    })
 
     some_left : 0 < blocks_to_go b.noted page below
     some_left = some_going b.noted page below block block_exists now
@@ -68,13 +74,15 @@ module _ (p : Protocol) (page below : ℕ) (a b : StoreParts) (so : ClearsSoFar 
         (costs : CostsAtMost b.noted.config.pages_per_block 1 b.flash c.flash) where
       costs_more : CostsAtMost a.noted.config.pages_per_block (so.rounds + 1) a.flash c.flash
       costs_more =
-          CostsAtMost-then a.noted.config.pages_per_block so.rounds 1 a.flash b.flash c.flash so.costs (subst (λ k. CostsAtMost k 1 b.flash c.flash) per costs)
+          CostsAtMost-then a.noted.config.pages_per_block so.rounds 1 a.flash b.flash c.flash so.costs
+          (subst (λ k. CostsAtMost k 1 b.flash c.flash) per costs)
 
     per_same : b.noted.config.pages_per_block ≡ a.noted.config.pages_per_block
     per_same = ap (λ (k : Config). k.pages_per_block) so.keeps.preserves.config
 
     -- the round breaks off
-    pub round_broke : (c : StoreParts) (x y : Broken) → Evicts p b c block (Err x) → ClearsSuperseded p a c page below (Err y)
+    pub round_broke : (c : StoreParts) (x y : Broken) → Evicts p b c block (Err x) →
+        ClearsSuperseded p a c page below (Err y)
     round_broke c x y t = record {
       keeps = keeps_then p a b c true so.keeps t.keeps;
       cleared = tt;
@@ -88,9 +96,11 @@ module _ (p : Protocol) (page below : ℕ) (a b : StoreParts) (so : ClearsSoFar 
         next = found;
         between = b.flash;
         moves = so.keeps.moves;
-        breaks = subst (λ (k : BlocksState). BreaksOff b.noted b.flash c.flash k.spare block c.noted c.unsure) (sym t.stays) t.broken;
+        breaks = subst (λ (k : BlocksState). BreaksOff b.noted b.flash c.flash k.spare block c.noted c.unsure)
+            (sym t.stays) t.broken;
       };
-      costs = CostsAtMost-more a.noted.config.pages_per_block (so.rounds + 1) (blocks_to_go a.noted page below) a.flash c.flash
+      costs = CostsAtMost-more a.noted.config.pages_per_block (so.rounds + 1) (blocks_to_go a.noted page below)
+          a.flash c.flash
           (let some = some_left in let low = so.left in omega arith) (costs_more c per_same t.costs);
     }
 
@@ -108,17 +118,20 @@ module _ (p : Protocol) (page below : ℕ) (a b : StoreParts) (so : ClearsSoFar 
         | inl same ↦ (
             let is : c.noted ≡ erased b.noted block = (t.treated.0 same).0 ∙ ap (erased b.noted) (sym same) in
             subst (λ (k : IndexState). Leaves b.noted k page below block) (sym is)
-            (erased_left b.noted so.keeps.matches.noted page below so.names so.next block block_exists (subst (Preserves b.noted) is t.keeps.preserves)))
+            (erased_left b.noted so.keeps.matches.noted page below so.names so.next block block_exists
+            (subst (Preserves b.noted) is t.keeps.preserves)))
         | inr apart ↦ (
             let is = (t.treated.1 apart).0 in
             let low = spare_within b.flash b.noted b.table calm in
             subst (λ (k : IndexState). Leaves b.noted k page below block) (sym is)
-            (collected_left b.noted so.keeps.matches.noted page below so.names so.next block b.table.spare low block_exists
+            (collected_left b.noted so.keeps.matches.noted page below so.names so.next block b.table.spare
+            low block_exists
             (preserves b.noted so.keeps.matches.noted law b.table.spare low so.keeps.matches.spared Blank refl)
             (subst (Preserves b.noted) is t.keeps.preserves)))
       ]
 
-      pub round_still : (other : ℕ) → is_going c.noted page below other ≡ true → (is_going b.noted page below other ≡ true) × (other ≢ block)
+      pub round_still : (other : ℕ) → is_going c.noted page below other ≡ true →
+          (is_going b.noted page below other ≡ true) × (other ≢ block)
       round_still = still_going b.noted c.noted page below block leaves
 
       -- there are fewer such blocks after the round
@@ -129,7 +142,8 @@ module _ (p : Protocol) (page below : ℕ) (a b : StoreParts) (so : ClearsSoFar 
       round_done = record {
         keeps = keeps_then p a b c false so.keeps t.keeps;
         names = so.names;
-        next = next_stays b.noted c.noted so.names (record { page = page; version = below }) so.keeps.matches.noted.pages t.keeps.preserves so.next;
+        next = next_stays b.noted c.noted so.names (record { page = page; version = below })
+            so.keeps.matches.noted.pages t.keeps.preserves so.next;
         rounds = so.rounds + 1;
         left = (let less = fewer in let low = so.left in omega arith);
         turns = one_more so.rounds b.noted c.noted b.table c.table block so.turns found t.treated;

@@ -1,4 +1,4 @@
--- The blocks that hold a record which must go, treated in their order: which is the next, and which are left.
+-- The blocks that hold a record which must go, evicted in their order: which is the next, and which are left.
 use Rattle.collector.proofs.Common.{◌≡◌, ◌≢◌, ℕ, ◌+◌, ◌/◌, ◌<◌, ◌≤◌, Bool, true, false, List, [], ◌∷◌, length, map, get_or, find, Option, Some, None, AllPairs, Contains, refl, sym, ap, ◌∙◌, subst, inl, inr, arith, range_with_len, option_map, mul_comm, cases_Bool, cases_eq, cond-true, cond-false, both_ways, false≢true, false_from_ne_true, length-map, get_or-map, none-some, same_Some, Contains-nil, Contains-cases, in_filter, from_filter, in_range, shape_of, blocks_of, Block, Config, Found, must_go, first_slot, found_in, IndexState, IsNoted, block_to_go, noted_from}
 use Rattle.std.specs.List.{filter}
 use Rattle.std.proofs.Math.Nat.{div-mul-le_self}
@@ -14,12 +14,14 @@ use Rattle.collector.proofs.OfRoom.GoingCounts.{going_at, at_going}
 use Rattle.collector.proofs.OfRoom.GoneRecords.{going_none, going_some, none_going}
 
 -- in the order of slots the first that passes is not above another one
-first_low : (test : Found → Bool) (l : List Found) (f : Found) (at : ℕ) → AllPairs (λ g h. g.slot.0 < h.slot.0) l → Contains l f → test f ≡ true →
+first_low : (test : Found → Bool) (l : List Found) (f : Found) (at : ℕ) → AllPairs (λ g h. g.slot.0 < h.slot.0) l →
+    Contains l f → test f ≡ true →
     first_slot test l ≡ Some at → at ≤ f.slot.0
 first_low test [] f at up i pass e = absurd (Contains-nil f i)
 first_low test (x ∷ xs) f at up i pass e = elim (cases_Bool (test x)) [
   | inl here ↦ (
-      let is = same_Some x.slot.0 at (sym (ap (option_map (λ g. g.slot.0)) (cond-true (test x) (Some x) (find test xs) here)) ∙ e) in
+      let is = same_Some x.slot.0 at
+      (sym (ap (option_map (λ g. g.slot.0)) (cond-true (test x) (Some x) (find test xs) here)) ∙ e) in
       elim (Contains-cases x xs f i) [
         | inl same ↦ omega (arith, is, ap (λ (g : Found). g.slot.0) same)
         | inr later ↦ omega (arith, is, pairs_head (λ g h. g.slot.0 < h.slot.0) x xs f up later)
@@ -39,16 +41,23 @@ module _ (n : IndexState) (page below : ℕ) where
   goes f = must_go n.config.protocol (found_in n.notes) n.config.logical page below f.rec
 
   -- the block that is found is not above another one
-  found_low : (block other : ℕ) → 0 < n.config.pages_per_block → block_to_go n page below ≡ Some block → is_going n page below other ≡ true → block ≤ other
+  found_low : (block other : ℕ) → 0 < n.config.pages_per_block → block_to_go n page below ≡ Some block →
+      is_going n page below other ≡ true → block ≤ other
   unfolding block_to_go
   found_low block other some e going = by (first_slot goes (found_in n.notes)) refl e
     where
-      by : (o : Option ℕ) → first_slot goes (found_in n.notes) ≡ o → option_map (λ slot. slot / n.config.pages_per_block) o ≡ Some block → block ≤ other
+      by : (o : Option ℕ) → first_slot goes (found_in n.notes) ≡ o →
+          option_map (λ slot. slot / n.config.pages_per_block) o ≡ Some block → block ≤ other
       by None is h = absurd (none-some block h)
       by (Some at) is h =
           let f = going_at n page below other going in
           let low = first_low goes (found_in n.notes) f.0 at (found_in_ascending n.notes) f.1.is_in f.1.goes is in
-          omega (arith, quotients_rise at f.0.slot.0 n.config.pages_per_block some low, same_Some (at / n.config.pages_per_block) block h, f.1.slot)
+          omega (
+            arith,
+            quotients_rise at f.0.slot.0 n.config.pages_per_block some low,
+            same_Some (at / n.config.pages_per_block) block h,
+            f.1.slot,
+          )
 
   -- the lowest one is found
   pub lowest_going : (block : ℕ) → 0 < n.config.pages_per_block → is_going n page below block ≡ true →
@@ -79,15 +88,18 @@ slot_exists n noted f i =
     let per = n.config.pages_per_block in
     let within = (noted_from n.notes f i).0 in
     let some : 0 < n.config.pages_per_block = (let b = noted.bounds.shape.pages_least in omega arith) in
-    div_below f.slot.0 per (blocks_of (shape_of n.config)) some (omega (arith, within, noted.slots, mul_comm per (blocks_of (shape_of n.config))))
+    div_below f.slot.0 per (blocks_of (shape_of n.config)) some
+    (omega (arith, within, noted.slots, mul_comm per (blocks_of (shape_of n.config))))
 
 -- each block that holds a record which must go is among these, which rise, from a place on
 pub record AreAhead (n : IndexState) (page below : ℕ) (blocks : List ℕ) (at : ℕ) : Type 0 where
   pub rise : AllPairs (λ x y. x < y) blocks
   pub exist : (k : ℕ) → k < length blocks → get_or blocks k 0 < blocks_of (shape_of n.config)
-  pub ahead : (b : ℕ) → is_going n page below b ≡ true → (k : ℕ) × (at ≤ k) × (k < length blocks) × (get_or blocks k 0 ≡ b)
+  pub ahead : (b : ℕ) → is_going n page below b ≡ true → (k : ℕ) × (at ≤ k) × (k < length blocks)
+      × (get_or blocks k 0 ≡ b)
 
-pub all_ahead : (n : IndexState) (page below : ℕ) → IsNoted n.config.protocol n → (blocks : List ℕ) → blocks ≡ going_blocks n page below →
+pub all_ahead : (n : IndexState) (page below : ℕ) → IsNoted n.config.protocol n → (blocks : List ℕ) →
+    blocks ≡ going_blocks n page below →
     AreAhead n page below blocks 0
 unfolding going_blocks
 all_ahead n page below noted blocks are = subst (λ bs. AreAhead n page below bs 0) (sym are) (record {
@@ -96,13 +108,22 @@ all_ahead n page below noted blocks are = subst (λ bs. AreAhead n page below bs
       let range = range_with_len 0 (blocks_of (shape_of n.config)) in
       let own = from_filter (is_going n page below) (get_or (filter (is_going n page below) range) k 0) range
       (Contains-get_or (filter (is_going n page below) range) k 0 within) in
-      omega (arith, (range_bounds 0 (blocks_of (shape_of n.config)) (get_or (filter (is_going n page below) range) k 0) own.0).1);
+      omega (
+        arith,
+        (range_bounds 0 (blocks_of (shape_of n.config)) (get_or (filter (is_going n page below) range) k 0)
+            own.0).1,
+      );
   ahead = λ b going.
       let f = going_at n page below b going in
       let exists = subst (λ x. x < blocks_of (shape_of n.config)) f.1.slot (slot_exists n noted f.0 f.1.is_in) in
       let c = in_filter (is_going n page below) b (range_with_len 0 (blocks_of (shape_of n.config)))
-      (in_range 0 (blocks_of (shape_of n.config)) b (omega arith) (omega arith)) going in
-      (c.0, omega arith, c.1, sym (get_or_default (filter (is_going n page below) (range_with_len 0 (blocks_of (shape_of n.config)))) c.0 b 0 c.1) ∙ c.2);
+      (in_range 0 (blocks_of (shape_of n.config)) b (omega arith) (omega arith)) going in (
+        c.0,
+        omega arith,
+        c.1,
+        sym (get_or_default (filter (is_going n page below) (range_with_len 0 (blocks_of (shape_of n.config)))) c.0 b
+            0 c.1) ∙ c.2,
+      );
 })
 
 module _ (n : IndexState) (page below : ℕ) (blocks : List ℕ) (at : ℕ) (so : AreAhead n page below blocks at) where
@@ -110,7 +131,8 @@ module _ (n : IndexState) (page below : ℕ) (blocks : List ℕ) (at : ℕ) (so 
   pub ahead_least : (other : ℕ) → is_going n page below other ≡ true → get_or blocks at 0 ≤ other
   ahead_least other going = (let w = so.ahead other going in elim (cases_eq at w.0) [
     | inl here ↦ (let same = ap (λ k. get_or blocks k 0) here in let is = w.3 in omega arith)
-    | inr apart ↦ (let later : at < w.0 = (let low = w.1 in omega arith) in let is = w.3 in omega (arith, so.rise at w.0 0 later w.2))
+    | inr apart ↦ (let later : at < w.0 = (let low = w.1 in omega arith) in let is = w.3 in
+        omega (arith, so.rise at w.0 0 later w.2))
   ])
 
   -- once that one holds none any more, and no other does that did not, the others are ahead
@@ -119,7 +141,8 @@ module _ (n : IndexState) (page below : ℕ) (blocks : List ℕ) (at : ℕ) (so 
       AreAhead m page below blocks (at + 1)
   ahead_more m config still = record {
     rise = so.rise;
-    exist = subst (λ (c : Config). (k : ℕ) → k < length blocks → get_or blocks k 0 < blocks_of (shape_of c)) (sym config) so.exist;
+    exist = subst (λ (c : Config). (k : ℕ) → k < length blocks → get_or blocks k 0 < blocks_of (shape_of c))
+        (sym config) so.exist;
     ahead = λ b going. let old = still b going in let w = so.ahead b old.0 in elim (cases_eq at w.0) [
       | inl here ↦ absurd (old.1 (sym w.3 ∙ ap (λ k. get_or blocks k 0) (sym here)))
       | inr apart ↦ (w.0, (let low = w.1 in omega arith), w.2, w.3)
@@ -128,27 +151,34 @@ module _ (n : IndexState) (page below : ℕ) (blocks : List ℕ) (at : ℕ) (so 
 
   -- past the last none is left
   pub none_ahead : length blocks ≤ at → block_to_go n page below ≡ None
-  none_ahead end = none_goes n page below (λ b going. let w = so.ahead b going in let low = w.1 in let high = w.2 in omega arith)
+  none_ahead end = none_goes n page below (λ b going. let w = so.ahead b going in let low = w.1 in
+      let high = w.2 in omega arith)
 
 abbrev pub numbers : List Block → List ℕ
 numbers blocks = map (λ (b : Block). b.0) blocks
 
-numbers_read : (blocks : List Block) (at : ℕ) (block : Block) → at < length blocks → block ≡ get_or blocks at (record { 0 = 0 }) →
+numbers_read : (blocks : List Block) (at : ℕ) (block : Block) → at < length blocks →
+    block ≡ get_or blocks at (record { 0 = 0 }) →
     get_or (numbers blocks) at 0 ≡ block.0
-numbers_read blocks at block within is = get_or-map (λ (b : Block). b.0) blocks at (record { 0 = 0 }) 0 within ∙ ap (λ (b : Block). b.0) (sym is)
+numbers_read blocks at block within is = get_or-map (λ (b : Block). b.0) blocks at (record { 0 = 0 }) 0 within
+    ∙ ap (λ (b : Block). b.0) (sym is)
 
-module _ (n : IndexState) (page below : ℕ) (blocks : List Block) (at : ℕ) (so : AreAhead n page below (numbers blocks) at) (block : Block)
+module _ (n : IndexState) (page below : ℕ) (blocks : List Block) (at : ℕ)
+    (so : AreAhead n page below (numbers blocks) at) (block : Block)
     (within : at < length blocks)
     (is : block ≡ get_or blocks at (record { 0 = 0 })) where
   own : get_or (numbers blocks) at 0 ≡ block.0
   own = numbers_read blocks at block within is
 
   pub next_exists : block.0 < blocks_of (shape_of n.config)
-  next_exists = subst (λ x. x < blocks_of (shape_of n.config)) own (so.exist at (omega (arith, within, length-map blocks (λ (b : Block). b.0))))
+  next_exists = subst (λ x. x < blocks_of (shape_of n.config)) own
+      (so.exist at (omega (arith, within, length-map blocks (λ (b : Block). b.0))))
 
   -- the next of the list is the lowest that holds such a record, if it does
-  pub next_found : IsNoted n.config.protocol n → is_going n page below block.0 ≡ true → block_to_go n page below ≡ Some block.0
-  next_found noted going = lowest_going n page below block.0 (let least = noted.bounds.shape.pages_least in omega arith) going (λ other goes.
+  pub next_found : IsNoted n.config.protocol n → is_going n page below block.0 ≡ true →
+      block_to_go n page below ≡ Some block.0
+  next_found noted going = lowest_going n page below block.0 (let least = noted.bounds.shape.pages_least in
+      omega arith) going (λ other goes.
       subst (λ x. x ≤ other) own (ahead_least n page below (numbers blocks) at so other goes))
 
   -- where it does not it is passed
@@ -156,14 +186,16 @@ module _ (n : IndexState) (page below : ℕ) (blocks : List Block) (at : ℕ) (s
   next_passed idle = ahead_more n page below (numbers blocks) at so n refl (λ b going.
       (going, λ same. both_ways (is_going n page below b) (ap (is_going n page below) (same ∙ own) ∙ idle) going))
 
-  -- and where it did and was treated too
-  pub next_evicted : (m : IndexState) → m.config ≡ n.config → ((b : ℕ) → is_going m page below b ≡ true → (is_going n page below b ≡ true) × (b ≢ block.0)) →
+  -- and where it did and was evicted too
+  pub next_evicted : (m : IndexState) → m.config ≡ n.config →
+      ((b : ℕ) → is_going m page below b ≡ true → (is_going n page below b ≡ true) × (b ≢ block.0)) →
       AreAhead m page below (numbers blocks) (at + 1)
   next_evicted m config still = ahead_more n page below (numbers blocks) at so m config (λ b going.
       let old = still b going in (old.0, λ same. old.1 (same ∙ own)))
 
 -- past the last none is left
-pub none_next : (n : IndexState) (page below : ℕ) (blocks : List Block) (at : ℕ) → AreAhead n page below (numbers blocks) at → length blocks ≤ at →
+pub none_next : (n : IndexState) (page below : ℕ) (blocks : List Block) (at : ℕ) →
+    AreAhead n page below (numbers blocks) at → length blocks ≤ at →
     block_to_go n page below ≡ None
 none_next n page below blocks at so end =
     none_ahead n page below (numbers blocks) at so (omega (arith, length-map blocks (λ (b : Block). b.0)))

@@ -1,4 +1,5 @@
--- Where nothing outside the spare is garbage, and the spare is blank, each record of the image is wanted, and stands once.
+-- Where nothing outside the spare is garbage, and the spare is blank, each record of the image is wanted, and stands
+-- once.
 use Rattle.collector.proofs.Common.{◌≡◌, ◌≢◌, ◌⊎◌, ℕ, ◌*◌, ◌/◌, ◌<◌, Bool, true, false, List, length, get_or, All, AllPairs, Contains, refl, sym, ap, ◌∙◌, subst, inl, inr, arith, cases_eq, ne_eqb, all_from, shape_of, slots_of, blocks_of, Shape, FlashState, blank, damaged, slot_at, Found, IsCurrent, is_held, name_of, is_slot, Blank, Damaged, Holds, found_in, note_at, note_of, IndexState, needed_of, is_blank, pinned_names, inside_block, noted_from, BlocksState, block_state, Matches, AllOfBlock, HasNoGarbage, is_shut}
 use Rattle.std.proofs.lemmas.List.Elements.{All-from_get_or, Contains-get_or}
 use Rattle.list_lemmas.proofs.Counts.{none_in_range}
@@ -12,7 +13,8 @@ use Rattle.collector.proofs.OfNotes.Calm.{noted_as_read, same_records}
 use Rattle.collector.proofs.OfNotes.NeedFacts.{IsHome, home_needed, one_home, found_home}
 
 -- a slot that is not blank and is no garbage is needed
-needed_full : (n : IndexState) (shut : Bool) (slot : ℕ) → is_blank (note_at n.notes slot) ≡ false → is_garbage_at n (shut_or_part shut) slot ≡ false →
+needed_full : (n : IndexState) (shut : Bool) (slot : ℕ) → is_blank (note_at n.notes slot) ≡ false →
+    is_garbage_at n (shut_or_part shut) slot ≡ false →
     needed_of n slot ≡ true
 needed_full n shut slot full none =
     needed shut (needed_of n slot) (subst (λ b. is_garbage (shut_or_part shut) b (needed_of n slot) ≡ false) full none)
@@ -23,7 +25,8 @@ needed_full n shut slot full none =
     needed false true e = refl
     needed false false e = cc
 
-module _ (s : FlashState) (n : IndexState) (t : BlocksState) (m : Matches s n t unsure.Nothing) (bare : AllOfBlock n t.spare (λ slot. note_at n.notes slot ≡ Blank))
+module _ (s : FlashState) (n : IndexState) (t : BlocksState) (m : Matches s n t unsure.Nothing)
+    (bare : AllOfBlock n t.spare (λ slot. note_at n.notes slot ≡ Blank))
     (clear : HasNoGarbage n t) where
   abbrev list : List Found
   list = found_in n.notes
@@ -31,22 +34,26 @@ module _ (s : FlashState) (n : IndexState) (t : BlocksState) (m : Matches s n t 
   per_some : 0 < n.config.pages_per_block
   per_some = (let b = m.noted.bounds.shape.pages_least in omega arith)
 
-  below : (slot : ℕ) → slot < slots_of (shape_of n.config) → slot / n.config.pages_per_block < blocks_of (shape_of n.config)
+  below : (slot : ℕ) → slot < slots_of (shape_of n.config) →
+      slot / n.config.pages_per_block < blocks_of (shape_of n.config)
   below slot within =
       subst (λ (x : Shape). slot / x.pages_per_block < blocks_of x) (m.blocks ∙ m.shape)
       (block_within t m.table slot (omega (arith, within, ap slots_of m.blocks, ap slots_of m.shape)))
 
   -- outside the spare, what is not blank is needed
-  needed_outside : (slot : ℕ) → slot < slots_of (shape_of n.config) → slot / n.config.pages_per_block ≢ t.spare → is_blank (note_at n.notes slot) ≡ false →
+  needed_outside : (slot : ℕ) → slot < slots_of (shape_of n.config) → slot / n.config.pages_per_block ≢ t.spare →
+      is_blank (note_at n.notes slot) ≡ false →
       needed_of n slot ≡ true
   needed_outside slot within apart full =
       let block = slot / n.config.pages_per_block in
       let shut = is_shut (block_state t block) in
-      let other : is_slot block n.spare ≡ false = ap (is_slot block) m.spare ∙ ne_eqb t.spare block (λ e. apart (sym e)) in
+      let other : is_slot block n.spare ≡ false = ap (is_slot block) m.spare
+      ∙ ne_eqb t.spare block (λ e. apart (sym e)) in
       let none = sym (other_garbage n block shut other) ∙ clear block (below slot within) in
       let place = inside_block n.config.pages_per_block block slot per_some refl in
       needed_full n shut slot full
-      (none_in_range (is_garbage_at n (shut_or_part shut)) (block * n.config.pages_per_block) n.config.pages_per_block none slot place.0 place.1)
+      (none_in_range (is_garbage_at n (shut_or_part shut)) (block * n.config.pages_per_block) n.config.pages_per_block
+      none slot place.0 place.1)
 
   -- what is not blank is the home of a wanted record
   home_full : (slot : ℕ) → slot < slots_of (shape_of n.config) → is_blank (note_at n.notes slot) ≡ false → IsHome n slot
@@ -62,7 +69,8 @@ module _ (s : FlashState) (n : IndexState) (t : BlocksState) (m : Matches s n t 
       let low_noted : slot < slots_of (shape_of n.config) = omega (arith, ap slots_of m.shape) in
       let is : note_at n.notes slot ≡ Damaged = noted_as_read s n t m slot low ∙ ap (note_of n.config.protocol) bad in
       let home = home_full slot low_noted (ap is_blank is) in
-      let holds : note_at n.notes slot ≡ Holds home.found.rec = ap (note_at n.notes) (sym home.slot) ∙ (noted_from n.notes home.found home.is_in).1 in
+      let holds : note_at n.notes slot ≡ Holds home.found.rec = ap (note_at n.notes) (sym home.slot)
+      ∙ (noted_from n.notes home.found home.is_in).1 in
       (let k : Damaged ≡ Holds home.found.rec = sym is ∙ holds in cc)
 
   -- each record stands in its home
@@ -89,15 +97,18 @@ module _ (s : FlashState) (n : IndexState) (t : BlocksState) (m : Matches s n t 
 
   wanted : (f : Found) → Contains list f →
       IsCurrent n.config.protocol list n.config.logical f.rec
-      ⊎ ((is_held n.config.protocol list n.config.logical f.rec ≡ true) ⊎ Contains (pinned_names n.pins) (name_of f.rec))
+      ⊎ ((is_held n.config.protocol list n.config.logical f.rec ≡ true)
+      ⊎ Contains (pinned_names n.pins) (name_of f.rec))
   wanted f i =
       subst (λ (x : Found). IsCurrent n.config.protocol list n.config.logical x.rec
-      ⊎ ((is_held n.config.protocol list n.config.logical x.rec ≡ true) ⊎ Contains (pinned_names n.pins) (name_of x.rec))) (found_home n m.noted f i
+      ⊎ ((is_held n.config.protocol list n.config.logical x.rec ≡ true)
+      ⊎ Contains (pinned_names n.pins) (name_of x.rec))) (found_home n m.noted f i
       (record_home f i)) (record_home f i).wanted
 
   abbrev WantedIn : List Found → Type 0
   WantedIn l = All (λ f. IsCurrent n.config.protocol l n.config.logical f.rec
-      ⊎ ((is_held n.config.protocol l n.config.logical f.rec ≡ true) ⊎ Contains (pinned_names n.pins) (name_of f.rec))) l
+      ⊎ ((is_held n.config.protocol l n.config.logical f.rec ≡ true) ⊎ Contains (pinned_names n.pins) (name_of f.rec)))
+      l
 
   pub tidy : IsTidy n.config.protocol n.config.logical s.image (pinned_names n.pins)
   tidy =
@@ -106,5 +117,6 @@ module _ (s : FlashState) (n : IndexState) (t : BlocksState) (m : Matches s n t 
         whole = All-from_get_or (λ contents. contents ≢ damaged) s.image blank whole_at;
         once = subst (AllPairs (λ f g. name_of f.rec ≢ name_of g.rec)) same once;
         wanted = subst WantedIn same (all_from (λ f. IsCurrent n.config.protocol list n.config.logical f.rec
-            ⊎ ((is_held n.config.protocol list n.config.logical f.rec ≡ true) ⊎ Contains (pinned_names n.pins) (name_of f.rec))) list wanted);
+            ⊎ ((is_held n.config.protocol list n.config.logical f.rec ≡ true)
+            ⊎ Contains (pinned_names n.pins) (name_of f.rec))) list wanted);
       }

@@ -8,7 +8,8 @@ use Rattle.record_list.proofs.OfChanges.OneMore.{inserted_any}
 use Rattle.version_index.specs.IndexState.{IsNextRecord}
 use Rattle.version_index.proofs.OfChanges.NotedChanges.{next_write}
 
-module _ (p : Protocol) (n : IndexState) (at : ℕ) (rec : Rec) (noted : IsNoted p n) (exists : at < slots_of (shape_of n.config))
+module _ (p : Protocol) (n : IndexState) (at : ℕ) (rec : Rec) (noted : IsNoted p n)
+    (exists : at < slots_of (shape_of n.config))
     (was : note_at n.notes at ≡ Blank) where
   long : at < length n.notes
   long = omega (arith, noted.slots)
@@ -16,7 +17,8 @@ module _ (p : Protocol) (n : IndexState) (at : ℕ) (rec : Rec) (noted : IsNoted
   -- a name is there that was there, or is that of the record
   pub names_there : (name : Link) → IsThere (programmed n at rec) name ↔ (IsThere n name ⊎ (name ≡ name_of rec))
   names_there name =
-      let more = inserted_any (λ f. has_name name f.rec) (found_in n.notes) (found_in (programmed n at rec).notes) (found at rec)
+      let more = inserted_any (λ f. has_name name f.rec) (found_in n.notes) (found_in (programmed n at rec).notes)
+      (found at rec)
       (found_in_programmed n.notes at rec long was) in (
         λ there. elim (or_cases (has_name name rec) (is_present (found_in n.notes) name) (sym more ∙ there)) [
           | inl own ↦ inr (sym (has_name_true name rec own))
@@ -29,17 +31,23 @@ module _ (p : Protocol) (n : IndexState) (at : ℕ) (rec : Rec) (noted : IsNoted
       )
 
   module _ (next : IsNextRecord n rec) where
-    write : IsWrite p (found_in n.notes) (found_in (programmed n at rec).notes) n.config.logical next.names (found at rec)
+    write : IsWrite p (found_in n.notes) (found_in (programmed n at rec).notes) n.config.logical next.names
+        (found at rec)
     write =
-        subst (λ q. IsWrite q (found_in n.notes) (found_in (programmed n at rec).notes) n.config.logical next.names (found at rec)) noted.rule
+        subst (λ q. IsWrite q (found_in n.notes) (found_in (programmed n at rec).notes) n.config.logical next.names
+        (found at rec)) noted.rule
         (next_write p n noted at rec long was next)
 
     -- a name of the transaction is absent still
-    pub partial_noted : PartialWriteLaw p → Any (λ name. is_present (found_in (programmed n at rec).notes) name ≡ false) next.names →
+    pub partial_noted : PartialWriteLaw p → Any (λ name. is_present (found_in (programmed n at rec).notes) name
+        ≡ false) next.names →
         PartialWriteKeeps p (found_in n.notes) (found_in (programmed n at rec).notes) n.config.logical next.names
-    partial_noted law = law (found_in n.notes) (found_in (programmed n at rec).notes) n.config.logical next.names (found at rec) noted.sound write
+    partial_noted law = law (found_in n.notes) (found_in (programmed n at rec).notes) n.config.logical next.names
+        (found at rec) noted.sound write
 
     -- all are there
-    pub completing_noted : CompletingWriteLaw p → All (λ name. is_present (found_in (programmed n at rec).notes) name ≡ true) next.names →
+    pub completing_noted : CompletingWriteLaw p →
+        All (λ name. is_present (found_in (programmed n at rec).notes) name ≡ true) next.names →
         CompletingWriteKeeps p (found_in n.notes) (found_in (programmed n at rec).notes) n.config.logical next.names
-    completing_noted law = law (found_in n.notes) (found_in (programmed n at rec).notes) n.config.logical next.names (found at rec) noted.sound write
+    completing_noted law = law (found_in n.notes) (found_in (programmed n at rec).notes) n.config.logical next.names
+        (found at rec) noted.sound write

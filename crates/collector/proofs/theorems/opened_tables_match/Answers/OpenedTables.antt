@@ -31,8 +31,10 @@ used_low : (slots : List Seen) → used_in slots ≤ length slots
 unfolding used_in
 used_low [] = omega arith
 used_low (how ∷ rest) = elim (cases_Bool (list_all reads_blank (how ∷ rest))) [
-  | inl e ↦ (let none = cond-true {A = ℕ} (list_all reads_blank (how ∷ rest)) 0 (suc (used_in rest)) e in omega (arith, none))
-  | inr e ↦ (let some = cond-false {A = ℕ} (list_all reads_blank (how ∷ rest)) 0 (suc (used_in rest)) e in let low = used_low rest in omega (arith, some, low))
+  | inl e ↦ (let none = cond-true {A = ℕ} (list_all reads_blank (how ∷ rest)) 0 (suc (used_in rest)) e in
+      omega (arith, none))
+  | inr e ↦ (let some = cond-false {A = ℕ} (list_all reads_blank (how ∷ rest)) 0 (suc (used_in rest)) e in
+      let low = used_low rest in omega (arith, some, low))
 ]
 
 -- a slot of a blank block is blank
@@ -41,7 +43,8 @@ blank_contents blank e = refl
 blank_contents damaged e = cc
 blank_contents (complete bytes spare) e = cc
 
-blank_slot : (shape : Shape) (image : List Contents) (block k : ℕ) → 0 < shape.pages_per_block → reads_blank_block shape (seen_in image) block ≡ true →
+blank_slot : (shape : Shape) (image : List Contents) (block k : ℕ) → 0 < shape.pages_per_block →
+    reads_blank_block shape (seen_in image) block ≡ true →
     k < length image → k / shape.pages_per_block ≡ block → slot_at image k ≡ blank
 blank_slot shape image block k some e within here =
     let per = shape.pages_per_block in
@@ -52,12 +55,15 @@ blank_slot shape image block k some e within here =
     let long = length-take per rest in
     let long_rest = length-drop (block * per) (seen_in image) in
     let long_all = length-map image seen_of in
-    let reads : get_or (slice_chunk (seen_in image) per block) (k - block * per) seen.Blank ≡ seen_of (slot_at image k) =
-    get_or-take per rest (k - block * per) seen.Blank j_low ∙ get_or-drop (block * per) (seen_in image) (k - block * per) seen.Blank
+    let reads : get_or (slice_chunk (seen_in image) per block) (k - block * per) seen.Blank
+    ≡ seen_of (slot_at image k) =
+    get_or-take per rest (k - block * per) seen.Blank j_low
+    ∙ get_or-drop (block * per) (seen_in image) (k - block * per) seen.Blank
     ∙ ap (λ i. get_or (seen_in image) i seen.Blank) back ∙ get_or-map seen_of image k blank seen.Blank within in
     blank_contents (slot_at image k) (elim (cases_Bool (reads_blank (seen_of (slot_at image k)))) [
       | inl is ↦ is
-      | inr other ↦ absurd (false≢true (sym (list_all_at reads_blank (slice_chunk (seen_in image) per block) (k - block * per) seen.Blank
+      | inr other ↦ absurd
+          (false≢true (sym (list_all_at reads_blank (slice_chunk (seen_in image) per block) (k - block * per) seen.Blank
           (omega (arith, j_low, long, long_rest, long_all, within, place.0)) (ap reads_blank reads ∙ other)) ∙ e))
     ])
 
@@ -66,24 +72,31 @@ module _ (shape : Shape) (slots : List Seen) (spare : ℕ) where
   table = opening_table shape slots spare
 
   use_at : (block : ℕ) → block < blocks_of shape → use_of table block ≡ use_in shape slots spare block
-  use_at block low = get_or-map-range_with_len (use_in shape slots spare) 0 (blocks_of shape) block block no_block low (omega arith)
+  use_at block low = get_or-map-range_with_len (use_in shape slots spare) 0 (blocks_of shape) block block no_block
+      low (omega arith)
 
   use_spare : (block : ℕ) → block ≡ spare → use_in shape slots spare block ≡ record { state = Spare; used = 0 }
   use_spare block e = cond-true (eqb block spare) _ _ (eq-eqb block spare e)
 
   use_clean : (block : ℕ) → eqb block spare ≡ false → reads_blank_block shape slots block ≡ true →
       use_in shape slots spare block ≡ record { state = Clean; used = 0 }
-  use_clean block other e = cond-false (eqb block spare) _ _ other ∙ cond-true (reads_blank_block shape slots block) _ _ e
+  use_clean block other e = cond-false (eqb block spare) _ _ other
+      ∙ cond-true (reads_blank_block shape slots block) _ _ e
 
   use_shut : (block : ℕ) → eqb block spare ≡ false → reads_blank_block shape slots block ≡ false →
       use_in shape slots spare block ≡ record { state = Shut; used = used_in (seen_in_block shape slots block) }
-  use_shut block other e = cond-false (eqb block spare) _ _ other ∙ cond-false (reads_blank_block shape slots block) _ _ e
+  use_shut block other e = cond-false (eqb block spare) _ _ other
+      ∙ cond-false (reads_blank_block shape slots block) _ _ e
 
   -- the spare, a block that is all blank, and any other one
   pub data Kind (block : ℕ) : Type 0 where
     spared : block ≡ spare → use_of table block ≡ record { state = Spare; used = 0 } → Kind block
-    clean : block ≢ spare → reads_blank_block shape slots block ≡ true → use_of table block ≡ record { state = Clean; used = 0 } → Kind block
-    shut : block ≢ spare → use_of table block ≡ record { state = Shut; used = used_in (seen_in_block shape slots block) } → Kind block
+    clean : block ≢ spare → reads_blank_block shape slots block ≡ true →
+        use_of table block ≡ record { state = Clean; used = 0 } → Kind block
+    shut : block ≢ spare → use_of table block ≡ record {
+      state = Shut;
+      used = used_in (seen_in_block shape slots block);
+    } → Kind block
 
   kind_of : (block : ℕ) → block < blocks_of shape → Kind block
   kind_of block low = elim (cases_Bool (eqb block spare)) [
@@ -101,7 +114,8 @@ module _ (shape : Shape) (slots : List Seen) (spare : ℕ) where
 
   may_have : (block : ℕ) → Kind block → MayHave shape.pages_per_block (block_state table block) (used_of table block)
   may_have block (spared here e) = subst (λ (u : BlockUse). MayHave shape.pages_per_block u.state u.used) (sym e) refl
-  may_have block (clean apart all_blank e) = subst (λ (u : BlockUse). MayHave shape.pages_per_block u.state u.used) (sym e) refl
+  may_have block (clean apart all_blank e) = subst (λ (u : BlockUse). MayHave shape.pages_per_block u.state u.used)
+      (sym e) refl
   may_have block (shut apart e) =
       let low = used_low (seen_in_block shape slots block) in
       let long = length-take shape.pages_per_block (drop (block * shape.pages_per_block) slots) in
@@ -109,8 +123,14 @@ module _ (shape : Shape) (slots : List Seen) (spare : ℕ) where
 
   is_spare : (block : ℕ) → Kind block → (block_state table block ≡ Spare) ↔ (block ≡ spare)
   is_spare block (spared here e) = (λ s. here, λ b. state_is block _ e)
-  is_spare block (clean apart all_blank e) = (λ s. (let no : Clean ≡ Spare = sym (state_is block _ e) ∙ s in cc), λ b. absurd (apart b))
-  is_spare block (shut apart e) = (λ s. (let no : Shut ≡ Spare = sym (state_is block _ e) ∙ s in cc), λ b. absurd (apart b))
+  is_spare block (clean apart all_blank e) = (
+    λ s. (let no : Clean ≡ Spare = sym (state_is block _ e) ∙ s in cc),
+    λ b. absurd (apart b),
+  )
+  is_spare block (shut apart e) = (
+    λ s. (let no : Shut ≡ Spare = sym (state_is block _ e) ∙ s in cc),
+    λ b. absurd (apart b),
+  )
 
   -- a block with room is all blank
   has_blank : (block : ℕ) → Kind block → HasRoom table block → reads_blank_block shape slots block ≡ true
@@ -131,20 +151,25 @@ module _ (shape : Shape) (slots : List Seen) (spare : ℕ) where
   }
 
   -- a free slot lies in a blank block
-  free_blank : (at : ℕ) → IsFree table at → at / shape.pages_per_block < blocks_of shape → reads_blank_block shape slots (at / shape.pages_per_block) ≡ true
+  free_blank : (at : ℕ) → IsFree table at → at / shape.pages_per_block < blocks_of shape →
+      reads_blank_block shape slots (at / shape.pages_per_block) ≡ true
   free_blank at free low = has_blank (at / shape.pages_per_block) (kind_of (at / shape.pages_per_block) low) free.room
 
 -- nothing is pinned
 none_pinned : (pages : ℕ) (name : Link) → Contains (pinned_names (replicate pages 0)) name → ⊥
 none_pinned pages name pin =
     let h = given_from numbered_pin 0 (replicate pages 0) name pin in
-    let within : h.at < pages = (let w = h.within in let long = length-replicate {A = ℕ} pages 0 in omega (arith, w, long)) in
-    let none : pinned_at (0 + h.at) (get_or (replicate pages 0) h.at 0) ≡ None = ap (pinned_at (0 + h.at)) (get_or-replicate pages h.at 0 0 within) in
+    let within : h.at < pages = (let w = h.within in let long = length-replicate {A = ℕ} pages 0 in
+    omega (arith, w, long)) in
+    let none : pinned_at (0 + h.at) (get_or (replicate pages 0) h.at 0) ≡ None =
+    ap (pinned_at (0 + h.at)) (get_or-replicate pages h.at 0 0 within) in
     none-some name (sym none ∙ h.from 0)
 
-module _ (its : Config) (s : FlashState) (check : checked its ≡ Ok s.shape) (whole : IsFlash s) (sound : IsSoundImage its.protocol its.logical s.shape s.image)
+module _ (its : Config) (s : FlashState) (check : checked its ≡ Ok s.shape) (whole : IsFlash s)
+    (sound : IsSoundImage its.protocol its.logical s.shape s.image)
     (spare : ℕ)
-    (chosen : IsChosenFrom its.protocol its.logical (shape_of its) (seen_in s.image) (records_in its.protocol s.image) spare) where
+    (chosen : IsChosenFrom its.protocol its.logical (shape_of its) (seen_in s.image)
+    (records_in its.protocol s.image) spare) where
   abbrev sh : Shape
   sh = shape_of its
 
@@ -172,7 +197,8 @@ module _ (its : Config) (s : FlashState) (check : checked its ≡ Ok s.shape) (w
   same : found_in (notes_of its.protocol s.image) ≡ list
   same = found_in_notes its.protocol s.image
 
-  noted_at : (slot : ℕ) → slot < length s.image → note_at (notes_of its.protocol s.image) slot ≡ note_of its.protocol (slot_at s.image slot)
+  noted_at : (slot : ℕ) → slot < length s.image → note_at (notes_of its.protocol s.image) slot
+      ≡ note_of its.protocol (slot_at s.image slot)
   noted_at slot within = get_or-map (note_of its.protocol) s.image slot blank Blank within
 
   opening_kept : IsNoted its.protocol n
@@ -187,18 +213,22 @@ module _ (its : Config) (s : FlashState) (check : checked its ≡ Ok s.shape) (w
     scanned = subst IsScanned (sym same) (records_scanned its.protocol s.image);
     sound = subst (λ l. IsSoundList its.protocol l its.logical) (sym same) sound.written.records;
     mentioned = λ page low.
-        let at : mention_of n page ≡ mention list page = get_or-map-range_with_len (mention list) 0 its.logical page page 0 low (omega arith) in
-        let alike : mention (found_in (notes_of its.protocol s.image)) page ≡ mention list page = ap (λ l. mention l page) same in
+        let at : mention_of n page ≡ mention list page = get_or-map-range_with_len (mention list) 0 its.logical page
+        page 0 low (omega arith) in
+        let alike : mention (found_in (notes_of its.protocol s.image)) page ≡ mention list page =
+        ap (λ l. mention l page) same in
         omega (arith, at, alike);
   }
 
   -- no record stands in a blank block
-  blank_apart : reads_blank_block sh (seen_in s.image) spare ≡ true → (f : Found) → Contains (found_in n.notes) f → is_outside sh spare f.slot.0 ≡ true
+  blank_apart : reads_blank_block sh (seen_in s.image) spare ≡ true → (f : Found) → Contains (found_in n.notes) f →
+      is_outside sh spare f.slot.0 ≡ true
   blank_apart all_blank f i = elim (cases_Bool (is_outside sh spare f.slot.0)) [
     | inl out ↦ out
     | inr inside ↦
         (let parts = noted_from n.notes f i in
-        let within : f.slot.0 < length s.image = (let w = parts.0 in let l = length-map s.image (note_of its.protocol) in omega (arith, w, l)) in
+        let within : f.slot.0 < length s.image = (let w = parts.0 in
+        let l = length-map s.image (note_of its.protocol) in omega (arith, w, l)) in
         let none = blank_slot sh s.image spare f.slot.0 some_pages all_blank within (in_it sh spare f.slot.0 inside) in
         let no : Holds f.rec ≡ Blank = sym parts.1 ∙ noted_at f.slot.0 within ∙ ap (note_of its.protocol) none in
         cc)
@@ -210,8 +240,10 @@ module _ (its : Config) (s : FlashState) (check : checked its ≡ Ok s.shape) (w
   removable_spared removable f i w =
       let removable' = subst (λ l. IsRemovable its.protocol l its.logical sh spare) (sym same) removable in
       let counted = All-contains
-      (λ f. IsCurrent its.protocol (found_in n.notes) its.logical f.rec ⊎ (is_held its.protocol (found_in n.notes) its.logical f.rec ≡ true) →
-      is_present (left (is_outside sh spare) (found_in n.notes)) (name_of f.rec) ≡ true) (found_in n.notes) f removable' i in
+      (λ f. IsCurrent its.protocol (found_in n.notes) its.logical f.rec
+      ⊎ (is_held its.protocol (found_in n.notes) its.logical f.rec ≡ true) →
+      is_present (left (is_outside sh spare) (found_in n.notes)) (name_of f.rec) ≡ true) (found_in n.notes) f
+      removable' i in
       elim (wanted_cases its.protocol (found_in n.notes) its.logical (pinned_names n.pins) f.rec w) [
         | inl current ↦ counted (inl current)
         | inr (inl held) ↦ counted (inr held)
@@ -224,7 +256,8 @@ module _ (its : Config) (s : FlashState) (check : checked its ≡ Ok s.shape) (w
       is_present (left (is_outside sh spare) (found_in n.notes)) (name_of f.rec) ≡ true) (found_in n.notes)
       (λ f i w. elim chosen [
         | inl all_blank ↦ present_as (left (is_outside sh spare) (found_in n.notes)) f (name_of f.rec)
-            (in_filter (λ f. is_outside sh spare f.slot.0) f (found_in n.notes) i (blank_apart all_blank.holds f i)) refl
+            (in_filter (λ f. is_outside sh spare f.slot.0) f (found_in n.notes) i (blank_apart all_blank.holds f i))
+            refl
         | inr removable ↦ removable_spared removable.1.holds f i w
       ])
 
@@ -233,7 +266,8 @@ module _ (its : Config) (s : FlashState) (check : checked its ≡ Ok s.shape) (w
       let within : slot < length s.image = (let w = free.within in omega (arith, w, long)) in
       let low = block_within t (table_kept sh (seen_in s.image) spare known.0.shape spare_low) slot free.within in
       let all_blank = free_blank sh (seen_in s.image) spare slot free low in
-      noted_at slot within ∙ ap (note_of its.protocol) (blank_slot sh s.image (slot / sh.pages_per_block) slot some_pages all_blank within refl)
+      noted_at slot within ∙ ap (note_of its.protocol) (blank_slot sh s.image (slot / sh.pages_per_block) slot
+      some_pages all_blank within refl)
 
   opening_matches : Matches s n t unsure.Nothing
   opening_matches = record {
@@ -241,7 +275,8 @@ module _ (its : Config) (s : FlashState) (check : checked its ≡ Ok s.shape) (w
     flash = whole;
     sound = sound;
     noted = opening_kept;
-    counts = sure_counts s n known.1 whole sound opening_kept.slots (λ slot low. noted_at slot (omega (arith, low, whole.slots)));
+    counts = sure_counts s n known.1 whole sound opening_kept.slots
+        (λ slot low. noted_at slot (omega (arith, low, whole.slots)));
     table = table_kept sh (seen_in s.image) spare known.0.shape spare_low;
     blocks = sym known.1;
     spare = refl;
@@ -255,5 +290,6 @@ module _ (its : Config) (s : FlashState) (check : checked its ≡ Ok s.shape) (w
 -- the tables of an image that is read match the flash
 pub opened_match : OpenedTablesMatch
 opened_match its s s' spare check whole sound chosen shape moment =
-    matches_still s s' (opening_noted its s.image spare) (opening_table (shape_of its) (seen_in s.image) spare) unsure.Nothing
+    matches_still s s' (opening_noted its s.image spare) (opening_table (shape_of its) (seen_in s.image) spare)
+    unsure.Nothing
     shape (ap (λ (x : Moment). x.image) moment) (opening_matches its s check whole sound spare chosen)

@@ -16,7 +16,8 @@ use Rattle.array_runs.specs.Run.{pages_left, step_reply, is_break}
 use Rattle.cut_replay.proofs.Single.{step_tells}
 use Rattle.array_runs.proofs.Finishes.{told_wrote, step_writes, fewer_left, cut_before, at_last, ends}
 
-pub last_serves : {F : Type 0} (state : F → FlashState) (old new : DeviceState F) (tag : ℕ) (r : Reply) → ((own done all : ℕ) → r ≢ reply.Wrote own done all) →
+pub last_serves : {F : Type 0} (state : F → FlashState) (old new : DeviceState F) (tag : ℕ) (r : Reply) →
+    ((own done all : ℕ) → r ≢ reply.Wrote own done all) →
     ServesHere state (command.Step tag) old new r → ServesHere state (command.Finish tag) old new r
 last_serves state old new tag r last h = record {
   config = h.config;
@@ -36,7 +37,8 @@ last_serves state old new tag r last h = record {
 }
 
 -- One step more before
-versions_then : {F : Type 0} (old mid new : DeviceState F) → mid.config ≡ old.config → VersionsTell old mid → VersionsTell mid new → VersionsTell old new
+versions_then : {F : Type 0} (old mid new : DeviceState F) → mid.config ≡ old.config → VersionsTell old mid →
+    VersionsTell mid new → VersionsTell old new
 versions_then old mid new same first second page lt = elim (first page lt) [
   | inl rose ↦ elim (second page (subst (λ (c : Config). page < c.logical) (sym same) lt)) [
     | inl more ↦ inl (omega arith)
@@ -48,12 +50,16 @@ versions_then old mid new same first second page lt = elim (first page lt) [
   ]
 ]
 
-finish_tells : (its : Config) (faulted : Bool) (old new : Point) (tag : ℕ) (r : Reply) (result : Result Progress StepError) → r ≡ step_reply tag result →
+finish_tells : (its : Config) (faulted : Bool) (old new : Point) (tag : ℕ) (r : Reply)
+    (result : Result Progress StepError) → r ≡ step_reply tag result →
     Tells its faulted old r new
-finish_tells its faulted old new tag r result told = subst (λ (q : Reply). Tells its faulted old q new) (sym told) (step_tells its faulted old new tag result)
+finish_tells its faulted old new tag r result told = subst (λ (q : Reply). Tells its faulted old q new) (sym told)
+    (step_tells its faulted old new tag result)
 
-pub wrote_serves : {F : Type 0} (state : F → FlashState) (old mid new : DeviceState F) (own tag done all : ℕ) (r : Reply) →
-    ServesHere state (command.Step tag) old mid (reply.Wrote own done all) → ServesHere state (command.Finish tag) mid new r →
+pub wrote_serves : {F : Type 0} (state : F → FlashState) (old mid new : DeviceState F)
+    (own tag done all : ℕ) (r : Reply) →
+    ServesHere state (command.Step tag) old mid (reply.Wrote own done all) →
+    ServesHere state (command.Finish tag) mid new r →
     ServesHere state (command.Finish tag) old new r
 wrote_serves state old mid new own tag done all r first rest =
     let told = told_wrote own tag done all first.does.0 first.does.2 in
@@ -73,19 +79,24 @@ wrote_serves state old mid new own tag done all r first rest =
         rest.does.3,
       );
       moves = record {
-        moves = Moves-then (shape_of old.config) (moment_of (state old.flash)) (moment_of (state mid.flash)) (moment_of (state new.flash))
+        moves = Moves-then (shape_of old.config) (moment_of (state old.flash)) (moment_of (state mid.flash))
+            (moment_of (state new.flash))
             (is_break r) first.moves.moves
-            (subst (λ (c : Config). Moves (shape_of c) (moment_of (state mid.flash)) (is_break r) (moment_of (state new.flash))) first.config rest.moves.moves);
+            (subst (λ (c : Config). Moves (shape_of c) (moment_of (state mid.flash)) (is_break r)
+            (moment_of (state new.flash))) first.config rest.moves.moves);
         still = λ still. cc;
       };
-      carries = Carries-then (state old.flash) (state mid.flash) (state new.flash) (is_fault r) first.carries rest.carries;
-      tells = λ faulted h. finish_tells old.config faulted (point_at state old) (point_at state new) tag r rest.does.1 rest.does.3;
+      carries = Carries-then (state old.flash) (state mid.flash) (state new.flash) (is_fault r)
+          first.carries rest.carries;
+      tells = λ faulted h. finish_tells old.config faulted (point_at state old) (point_at state new) tag r
+          rest.does.1 rest.does.3;
       sure = λ sure whole. rest.sure (first.sure sure refl) whole;
       seen = λ seen h. rest.seen seen (first.seen seen h);
       versions = versions_then old mid new first.config first.versions rest.versions;
       cut = λ fault. record {
         may = tt;
-        leaves = cut_before w.0 old.machine mid.machine (idle (array_in new.config.protocol new.config.logical (state new.flash).image)) tag w.1 w.2
+        leaves = cut_before w.0 old.machine mid.machine
+            (idle (array_in new.config.protocol new.config.logical (state new.flash).image)) tag w.1 w.2
             (rest.cut fault).leaves;
       };
       whole = rest.whole;
@@ -96,4 +107,5 @@ pub step_fewer : {F : Type 0} (state : F → FlashState) (old new : DeviceState 
     ServesHere state (command.Step tag) old new (reply.Wrote own done all) →
     pages_left tag new.machine < pages_left tag old.machine
 step_fewer state old new own tag done all h =
-    let w = step_writes old.machine new.machine own tag done all h.does.0 h.does.1 h.does.2 in (fewer_left old.machine new.machine w.0 tag w.1 w.2).0
+    let w = step_writes old.machine new.machine own tag done all h.does.0 h.does.1 h.does.2 in
+    (fewer_left old.machine new.machine w.0 tag w.1 w.2).0

@@ -7,7 +7,8 @@ use Rattle.scan_recovery.specs.Reading.{read_more}
 use Rattle.tx_engine.specs.Opens.{Mounts, mount_reads}
 
 -- a call on the powered flash that leaves its moment
-pub powered_still : (old on new : FlashState) (broken : Bool) → TurnsOn old on → moment_of new ≡ moment_of on → Carries on new broken → MomentStays old new
+pub powered_still : (old on new : FlashState) (broken : Bool) → TurnsOn old on → moment_of new ≡ moment_of on →
+    Carries on new broken → MomentStays old new
 powered_still old on new broken turned moment carries = record {
   moment = moment ∙ ap moment_of turned;
   shape = carries.shape ∙ ap (λ (s : FlashState). s.shape) turned;
@@ -19,7 +20,8 @@ powered_still old on new broken turned moment carries = record {
 pub powered_live : (old on : FlashState) → TurnsOn old on → on.live ≡ true
 powered_live old on turned = ap (λ (s : FlashState). s.live) turned
 
-pub powered_mounts : {F : Type 0} (state : F → FlashState) (its : Config) (protocol : Protocol) (old on : F) (s : DeviceState F) → its.protocol ≡ protocol →
+pub powered_mounts : {F : Type 0} (state : F → FlashState) (its : Config) (protocol : Protocol) (old on : F)
+    (s : DeviceState F) → its.protocol ≡ protocol →
     TurnsOn (state old) (state on) →
     Mounts state on its s → HoldsAlways state protocol s → MountsIn state its old s
 powered_mounts state its protocol old on s rule turned mounts always =
@@ -33,6 +35,7 @@ powered_mounts state its protocol old on s rule turned mounts always =
       tables = subst (λ (x : List Contents). IsOpened its x s.noted s.table) image mounts.tables;
       still = powered_still (state old) (state on) (state s.flash) false turned mounts.moment mounts.carries;
       quiet = mounts.carries.quiet ∙ ap (λ (x : FlashState). x.faults) turned;
-      reads = subst (λ (x : FlashState). (state s.flash).reads ≡ read_more (mount_reads its x) x.reads) turned mounts.reads;
+      reads = subst (λ (x : FlashState). (state s.flash).reads ≡ read_more (mount_reads its x) x.reads)
+          turned mounts.reads;
       always = subst (λ (p : Protocol). HoldsAlways state p s) (sym rule) always;
     }

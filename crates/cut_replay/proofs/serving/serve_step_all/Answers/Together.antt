@@ -20,12 +20,16 @@ moved_serve : {F : Type 0} (state : F → FlashState) (protocol : Protocol) (old
     ServesHere state command.StepAll old new (moved_reply answer)
 moved_serve state protocol old new answer was is moves =
     exits_serve state protocol command.StepAll old new (moved_reply answer) false was is moves.exits refl refl refl
-    (answer, (is_there state old, moves.steps), refl) (λ still. cc) (λ faulted h. tt) (λ sure whole. moves.sure) (λ fault. cc)
+    (answer, (is_there state old, moves.steps), refl) (λ still. cc) (λ faulted h. tt)
+    (λ sure whole. moves.sure) (λ fault. cc)
 
 -- a device on which a call met no fault is live still
-pub moved_session : {F R : Type 0} (state : F → FlashState) (its : Config) (protocol : Protocol) (s t : DeviceState F) (answer : Moved) (cache : PageCacheState) →
-    its.protocol ≡ protocol → FitsMounted state its cache.entries s → HoldsAlways state protocol t → MovesDevice state s t answer →
-    Serves {R = R} state its command.StepAll (session.Mounted s) (Ok (moved_reply answer)) (session.Mounted t) cache cache
+pub moved_session : {F R : Type 0} (state : F → FlashState) (its : Config) (protocol : Protocol) (s t : DeviceState F)
+    (answer : Moved) (cache : PageCacheState) →
+    its.protocol ≡ protocol → FitsMounted state its cache.entries s → HoldsAlways state protocol t →
+    MovesDevice state s t answer →
+    Serves {R = R} state its command.StepAll (session.Mounted s) (Ok (moved_reply answer))
+    (session.Mounted t) cache cache
 moved_session {F = F} {R = R} state its protocol s t answer cache rule fits is moves =
     let was : HoldsAlways state protocol s = subst (λ (p : Protocol). HoldsAlways state p s) rule fits.always in
     let here = moved_serve state protocol s t answer was is moves in
@@ -36,13 +40,17 @@ moved_session {F = F} {R = R} state its protocol s t answer cache rule fits is m
       went_on = λ on. (refl, refl);
       was_cut = λ off. (let both = sym live ∙ off in cc);
     } in
-    mounted_serves {R = R} state its command.StepAll s t (moved_reply answer) (Ok (moved_reply answer)) new cache cache cache
-    (was_done state its protocol command.StepAll s t (moved_reply answer) cache.entries cache.entries rule fits refl here cached is) refl refl follows
+    mounted_serves {R = R} state its command.StepAll s t (moved_reply answer) (Ok (moved_reply answer)) new
+    cache cache cache
+    (was_done state its protocol command.StepAll s t (moved_reply answer) cache.entries cache.entries rule fits refl
+    here cached is) refl refl follows
 
 -- ---- a fault was met
 
-dropped_spends : {F : Type 0} (state : F → FlashState) (s t : DeviceState F) (b : Bool) → (state s.flash).live ≡ true → (state t.flash).live ≡ b →
-    DropsDevice state s t → BothTell (IsSpentBy command.StepAll (lost_reply b)) (state s.flash).told (state t.flash).told
+dropped_spends : {F : Type 0} (state : F → FlashState) (s t : DeviceState F) (b : Bool) → (state s.flash).live ≡ true →
+    (state t.flash).live ≡ b →
+    DropsDevice state s t → BothTell (IsSpentBy command.StepAll (lost_reply b)) (state s.flash).told
+    (state t.flash).told
 dropped_spends state s t true on is drops =
     spends_dropped command.StepAll (state s.flash).told (state t.flash).told drops.carries.no_more
     (subst (λ (b : Bool). BothTell (Spends b) (state s.flash).told (state t.flash).told) is (drops.carries.spends on))
@@ -51,8 +59,10 @@ dropped_spends state s t false on is drops =
     (subst (λ (b : Bool). BothTell (Spends b) (state s.flash).told (state t.flash).told) is (drops.carries.spends on))
 
 -- each page is mentioned in the image as often as it was seen at most
-dropped_seen : {F : Type 0} (state : F → FlashState) (protocol : Protocol) (s t : DeviceState F) → HoldsAlways state protocol s → DropsDevice state s t →
-    (seen : ℕ → ℕ) → IsSeen seen s → (page : ℕ) → page < s.config.logical → mention (records_in s.config.protocol (state t.flash).image) page ≤ seen page
+dropped_seen : {F : Type 0} (state : F → FlashState) (protocol : Protocol) (s t : DeviceState F) →
+    HoldsAlways state protocol s → DropsDevice state s t →
+    (seen : ℕ → ℕ) → IsSeen seen s → (page : ℕ) → page < s.config.logical →
+    mention (records_in s.config.protocol (state t.flash).image) page ≤ seen page
 dropped_seen state protocol s t always drops seen is page lt =
     let its = always.its in
     subst (λ (x : Config). mention (records_in x.protocol (state t.flash).image) page ≤ seen page) its
@@ -62,8 +72,10 @@ dropped_seen state protocol s t always drops seen is page lt =
     ])
 
 -- by whether power is on
-dropped_lost : {F : Type 0} (state : F → FlashState) (s t : DeviceState F) (entries : List CachedPage) (b : Bool) → (state t.flash).live ≡ b →
-    FitsMounted state s.config entries s → DropsDevice state s t → WasLost state s.config command.StepAll s t.flash (lost_reply b)
+dropped_lost : {F : Type 0} (state : F → FlashState) (s t : DeviceState F) (entries : List CachedPage) (b : Bool) →
+    (state t.flash).live ≡ b →
+    FitsMounted state s.config entries s → DropsDevice state s t →
+    WasLost state s.config command.StepAll s t.flash (lost_reply b)
 dropped_lost state s t entries b is fits drops =
     let its = s.config in
     let always = fits.always in
@@ -78,7 +90,8 @@ dropped_lost state s t entries b is fits drops =
       leaves = drops.array;
       most = dropped_seen state its.protocol s t always drops;
       moves = record {
-        moves = subst (λ (x : Shape). MovesTogether true x (moment_of (state s.flash)) (is_break (lost_reply b)) (moment_of (state t.flash))) always.shape (by_moves b);
+        moves = subst (λ (x : Shape). MovesTogether true x (moment_of (state s.flash)) (is_break (lost_reply b))
+            (moment_of (state t.flash))) always.shape (by_moves b);
         still = λ still. cc;
       };
       carries = drops.carries;
@@ -93,11 +106,13 @@ dropped_lost state s t entries b is fits drops =
     by_may true = inr (refl, refl)
     by_may false = inl (refl, tt)
 
-    by_moves : (b : Bool) → MovesTogether true (state s.flash).shape (moment_of (state s.flash)) (is_break (lost_reply b)) (moment_of (state t.flash))
+    by_moves : (b : Bool) → MovesTogether true (state s.flash).shape (moment_of (state s.flash))
+        (is_break (lost_reply b)) (moment_of (state t.flash))
     by_moves true = drops.moves
     by_moves false = drops.moves
 
-dropped_at : {F R : Type 0} (state : F → FlashState) (s t : DeviceState F) (result : Result Reply ServeError) (new : Session F R) (before after : PageCacheState) →
+dropped_at : {F R : Type 0} (state : F → FlashState) (s t : DeviceState F) (result : Result Reply ServeError)
+    (new : Session F R) (before after : PageCacheState) →
     FitsMounted state s.config before.entries s → DropsDevice state s t →
     FollowsLoss state s.config (session.Mounted t) (left new result) before after →
     Serves state s.config command.StepAll (session.Mounted s) result new before after
@@ -113,13 +128,15 @@ dropped_at {F = F} {R = R} state s t result new before after fits drops follows 
       serves = left_ok (λ (x : Session F R) q. ServesSession state its command.StepAll old q x) new result
           (again_serves state its command.StepAll s t.flash r (left new result) w follows.mounts);
       caches = left_ok (λ (x : Session F R) q. CachesSession state its command.StepAll old q x before after) new result
-          (again_caches state its command.StepAll s t.flash r before after (left new result) refl w.lost follows.emptied follows.mounts);
+          (again_caches state its command.StepAll s t.flash r before after (left new result) refl w.lost follows.emptied
+          follows.mounts);
       ends = left_err (λ flash why. EndsServing state its command.StepAll old flash why) new result
           (again_ends state its command.StepAll s t.flash r (left new result) w follows.mounts);
       size = ap (λ (x : PageCacheState). x.page_bytes) follows.emptied;
     }
 
-pub dropped_session : {F R : Type 0} (state : F → FlashState) (its : Config) (s t : DeviceState F) (result : Result Reply ServeError) (new : Session F R)
+pub dropped_session : {F R : Type 0} (state : F → FlashState) (its : Config) (s t : DeviceState F)
+    (result : Result Reply ServeError) (new : Session F R)
     (before after : PageCacheState) → FitsMounted state its before.entries s → DropsDevice state s t →
     FollowsLoss state its (session.Mounted t) (left new result) before after →
     Serves state its command.StepAll (session.Mounted s) result new before after
@@ -128,5 +145,6 @@ dropped_session {F = F} {R = R} state its s t result new before after fits drops
     let mid : Session F R = session.Mounted t in
     let is = fits.config in
     subst (λ (x : Config). Serves state x command.StepAll old result new before after) is
-    (dropped_at state s t result new before after (subst (λ (x : Config). FitsMounted state x before.entries s) (sym is) fits) drops
+    (dropped_at state s t result new before after (subst (λ (x : Config). FitsMounted state x before.entries s)
+    (sym is) fits) drops
     (subst (λ (x : Config). FollowsLoss state x mid (left new result) before after) (sym is) follows))

@@ -6,9 +6,11 @@ use Rattle.version_index.specs.Images.{written_in}
 use Rattle.array_runs.specs.Run.{IsClosedUnmounted}
 use Rattle.cut_replay.specs.FlashRun.{first_state}
 
-pub opening_length : (its : Config) (up : Bool) (from : Moment) → length (first_state its up from).machine.pages ≡ (limits_of its).logical
+pub opening_length : (its : Config) (up : Bool) (from : Moment) → length (first_state its up from).machine.pages
+    ≡ (limits_of its).logical
 unfolding array_in
-opening_length its up from = length-map-range_with_len (page_of its.protocol (written_in its.protocol from.image) its.logical) 0 its.logical
+opening_length its up from = length-map-range_with_len (page_of its.protocol (written_in its.protocol from.image)
+    its.logical) 0 its.logical
 
 pub opening_closed : (its : Config) (up : Bool) (from : Moment) → IsClosedUnmounted (first_state its up from)
 opening_closed its up from down = refl

@@ -6,7 +6,8 @@ use Rattle.dense_tables.proofs.linked_lists.LinkedLists.remove.Goals as goal
 
 pub unlink-requires-clause-place : goal.unlink-requires-clause-place
 unlink-requires-clause-place c =
-    let low = listed_below c.self.inside.next.items c.self.inside.before.items c.args.self.now c.self.invariant c.self.view_is c.args.at (
+    let low = listed_below c.self.inside.next.items c.self.inside.before.items c.args.self.now c.self.invariant
+    c.self.view_is c.args.at (
       c.args.key,
       c.requires,
     ) in
@@ -14,10 +15,12 @@ unlink-requires-clause-place c =
 
 pub unlink-requires-clause-root : goal.unlink-requires-clause-root
 unlink-requires-clause-root c =
-    let low = before_lies c.self.inside.next.items c.self.inside.before.items c.args.self.now c.self.invariant c.self.view_is c.args.key c.args.at c.requires in
+    let low = before_lies c.self.inside.next.items c.self.inside.before.items c.args.self.now c.self.invariant
+    c.self.view_is c.args.key c.args.at c.requires in
     omega arith
 
-stands : (c : goal.After-unlink) → Stand c.unlink.new.next.items c.unlink.new.before.items (without c.args.self.now c.args.key c.args.at)
+stands : (c : goal.After-unlink) → Stand c.unlink.new.next.items c.unlink.new.before.items
+    (without c.args.self.now c.args.key c.args.at)
 stands c =
     taken_out c.self.inside.next.items c.self.inside.before.items _ _ c.args.self.now c.self.invariant c.self.view_is
     c.args.key c.args.at c.requires c.unlink.ensures.next c.unlink.ensures.before
@@ -35,4 +38,5 @@ pub returns-clause-free : goal.returns-clause-free
 returns-clause-free c =
     let p = c.self.inside in
     let was = now_disjoint p.next.items p.before.items c.args.self.now c.self.invariant c.self.view_is in
-    subst (λ lists. IsListed lists c.args.at → ⊥) (sym (stands c).view) (not_listed_without c.args.self.now c.args.key c.args.at was c.requires)
+    subst (λ lists. IsListed lists c.args.at → ⊥) (sym (stands c).view)
+    (not_listed_without c.args.self.now c.args.key c.args.at was c.requires)

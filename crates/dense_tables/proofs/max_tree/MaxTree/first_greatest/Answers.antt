@@ -25,7 +25,8 @@ returns-then-peak-eq0-clause-none c =
     let p = c.self.inside in
     let h = c.self.invariant in
     let peak = rw c.deref.ensures.value at c.peak_at-peak.ensures in
-    let zero = all_zero (rooted p.cells.items) p.levels p.start (shape p h) (peaks p h) (first p h ∙ sym peak ∙ c.if-peak-eq0.true) in
+    let zero = all_zero (rooted p.cells.items) p.levels p.start (shape p h) (peaks p h) (first p h ∙ sym peak
+    ∙ c.if-peak-eq0.true) in
     (λ _. rw (← c.self.view_is) (rw (numbers p h) at zero), λ _. refl)
 
 pub unwrap-requires : goal.unwrap-requires
@@ -36,15 +37,22 @@ unwrap-requires c =
     let all = rooted cells in
     let at = c.loop-level.start + c.loop-level.place in
     let peak = rw c.deref.ensures.value at c.peak_at-peak.ensures ∙ sym (first p h) in
-    let found = peak_under all p.levels p.start (shape p h) (peaks p h) _ _ _ c.loop-level.invariant c.loop-level-test.true (omega arith) in
+    let found = peak_under all p.levels p.start (shape p h) (peaks p h) _ _ _ c.loop-level.invariant
+    c.loop-level-test.true (omega arith) in
     let place = first_place (under all at) (get_or all 0 0) found.0 found.1 found.2 in
     let reads : c.place_of.result ≡ position (λ x. eqb x (get_or all 0 0)) (under all at) =
-    rw (c.under.ensures, c.deref-in-loop-level.ensures.value, peak, ← under-set_first cells at (greatest (under cells 0))) at c.place_of.ensures in
+    rw (
+      c.under.ensures,
+      c.deref-in-loop-level.ensures.value,
+      peak,
+      ← under-set_first cells at (greatest (under cells 0)),
+    ) at c.place_of.ensures in
     rw (reads, place.1) (search rules)
 
 pub loop-level-init : goal.loop-level-init
 loop-level-init c =
-    let p = c.self.inside in way_begins (rooted p.cells.items) p.levels p.start (shape p c.self.invariant) (peaks p c.self.invariant)
+    let p = c.self.inside in way_begins (rooted p.cells.items) p.levels p.start (shape p c.self.invariant)
+    (peaks p c.self.invariant)
 
 pub loop-level-preserved : goal.loop-level-preserved
 loop-level-preserved c =
@@ -55,8 +63,14 @@ loop-level-preserved c =
     let at = c.loop-level.start + c.loop-level.place in
     let peak = rw c.deref.ensures.value at c.peak_at-peak.ensures ∙ sym (first p h) in
     let reads : c.place_of.result ≡ position (λ x. eqb x (get_or all 0 0)) (under all at) =
-    rw (c.under.ensures, c.deref-in-loop-level.ensures.value, peak, ← under-set_first cells at (greatest (under cells 0))) at c.place_of.ensures in
-    way_down all p.levels p.start (shape p h) (peaks p h) _ _ _ c.unwrap.result c.loop-level.invariant c.loop-level-test.true
+    rw (
+      c.under.ensures,
+      c.deref-in-loop-level.ensures.value,
+      peak,
+      ← under-set_first cells at (greatest (under cells 0)),
+    ) at c.place_of.ensures in
+    way_down all p.levels p.start (shape p h) (peaks p h) _ _ _ c.unwrap.result c.loop-level.invariant
+    c.loop-level-test.true
     (sym reads ∙ c.unwrap.ensures)
 
 pub returns-clause-none : goal.returns-clause-none
@@ -65,14 +79,19 @@ returns-clause-none c =
     let h = c.self.invariant in
     let peak = rw c.deref.ensures.value at c.peak_at-peak.ensures ∙ sym (first p h) in
     let last : c.loop-level._level ≡ p.levels = omega arith in
-    let ends = way_ends (rooted p.cells.items) p.levels p.start (shape p h) (peaks p h) _ _ (rw last at c.loop-level.invariant) in
-    let end = rw (numbers p h) at ends in
-    (λ no. cc, λ zero. let none = rw (← c.self.view_is) at zero in let is = none c.loop-level.place 0 end.0.within in absurd (omega (arith, end.1)))
+    let ends = way_ends (rooted p.cells.items) p.levels p.start (shape p h) (peaks p h)
+    _ _ (rw last at c.loop-level.invariant) in
+    let end = rw (numbers p h) at ends in (
+      λ no. cc,
+      λ zero. let none = rw (← c.self.view_is) at zero in let is = none c.loop-level.place 0 end.0.within in
+          absurd (omega (arith, end.1)),
+    )
 
 pub returns-clause-first : goal.returns-clause-first
 returns-clause-first c =
     let p = c.self.inside in
     let h = c.self.invariant in
     let last : c.loop-level._level ≡ p.levels = omega arith in
-    let ends = way_ends (rooted p.cells.items) p.levels p.start (shape p h) (peaks p h) _ _ (rw last at c.loop-level.invariant) in
+    let ends = way_ends (rooted p.cells.items) p.levels p.start (shape p h) (peaks p h)
+    _ _ (rw last at c.loop-level.invariant) in
     rw (← c.self.view_is) (rw (numbers p h) at ends.0)

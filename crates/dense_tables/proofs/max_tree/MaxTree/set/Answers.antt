@@ -12,7 +12,8 @@ peak_over-next-requires-clause-peak c =
     let rising = l.invariant.2 in
     let within = rising.within in
     let low : over l.cell < l.self-inside.start = omega (arith, l.invariant.0.most) in
-    rw c.deref.ensures.value (rising.peaks (over l.cell) (kept_over l.self-inside.top l.cell l.invariant.1 c.loop-self-test.true) low)
+    rw c.deref.ensures.value (rising.peaks (over l.cell)
+    (kept_over l.self-inside.top l.cell l.invariant.1 c.loop-self-test.true) low)
 
 pub invariant_of-self : goal.invariant_of-self
 invariant_of-self c =
@@ -20,7 +21,8 @@ invariant_of-self c =
     record {
       shape = l.invariant.0;
       top = l.invariant.1;
-      peaks = risen_top l.self-inside.cells.items l.self-inside.top l.self-inside.start l.cell l.was (omega arith) l.invariant.2;
+      peaks = risen_top l.self-inside.cells.items l.self-inside.top l.self-inside.start l.cell l.was (omega arith)
+          l.invariant.2;
     }
 
 pub invariant_of-self-then-next-peak : goal.invariant_of-self-then-next-peak
@@ -34,7 +36,8 @@ invariant_of-self-then-next-peak c =
     record {
       shape = l.invariant.0;
       top = l.invariant.1;
-      peaks = decided cells l.self-inside.top l.self-inside.start l.cell l.was rising (omega arith) (sym next ∙ c.if-next-peak.true ∙ peak);
+      peaks = decided cells l.self-inside.top l.self-inside.start l.cell l.was rising (omega arith) (sym next
+          ∙ c.if-next-peak.true ∙ peak);
     }
 
 pub loop-self-preserved : goal.loop-self-preserved
@@ -50,6 +53,7 @@ loop-self-preserved c =
     let low : over l.cell < start = omega (arith, shape.most) in (
       rw (length-set cells (over l.cell) c.peak_over-next.result) shape,
       l.invariant.1,
-      rw peak (rising_over cells l.self-inside.top start l.cell l.was rising (omega arith) c.peak_over-next.result next),
+      rw peak (rising_over cells l.self-inside.top start l.cell l.was rising (omega arith)
+          c.peak_over-next.result next),
       drop-set-lt start cells (over l.cell) c.peak_over-next.result low ∙ l.invariant.3,
     )

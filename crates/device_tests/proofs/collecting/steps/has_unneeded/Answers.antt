@@ -21,5 +21,6 @@ returns-then-at-pages g c off =
     let same = ap (λ (k : Config). c.args.block.0 * k.pages_per_block) c.config-pages.ensures.config in
     let per = ap (λ (k : Config). k.pages_per_block) c.config-pages.ensures.config in
     has_unneeded c.args.index.now c.args.block.0 slot
-    (in_range first c.args.index.now.config.pages_per_block slot (omega (arith, same)) (omega (arith, same, per, c.if-at-pages.true)))
+    (in_range first c.args.index.now.config.pages_per_block slot (omega (arith, same))
+    (omega (arith, same, per, c.if-at-pages.true)))
     (sym c.needed.ensures ∙ not-true c.needed.result off)

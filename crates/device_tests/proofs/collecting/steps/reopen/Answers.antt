@@ -12,7 +12,8 @@ pub returns-in_default-clause-matches : goal.returns-in_default-clause-matches
 returns-in_default-clause-matches g c =
     matches_still (state_of c.args.kept.now.flash) (state_of c.recover.new.flash) _ _ _
     (c.recover.ensures.carries.shape ∙ ap (λ (m : MemFlashState). m.shape) c.power_on.ensures.exact)
-    (ap (λ (m : Moment). m.image) c.recover.ensures.moment ∙ ap (λ (m : MemFlashState). m.image) c.power_on.ensures.exact) c.requires.matches
+    (ap (λ (m : Moment). m.image) c.recover.ensures.moment
+    ∙ ap (λ (m : MemFlashState). m.image) c.power_on.ensures.exact) c.requires.matches
 
 pub returns-clause-matches : goal.returns-clause-matches
 returns-clause-matches g c =
@@ -20,9 +21,11 @@ returns-clause-matches g c =
     let before = state_of c.power_on.new.self in
     let its = c.config-config.result in
     let still = matches_still (state_of c.args.kept.now.flash) before _ _ _
-    (ap (λ (m : MemFlashState). m.shape) c.power_on.ensures.exact) (ap (λ (m : MemFlashState). m.image) c.power_on.ensures.exact) c.requires.matches in
+    (ap (λ (m : MemFlashState). m.shape) c.power_on.ensures.exact)
+    (ap (λ (m : MemFlashState). m.image) c.power_on.ensures.exact) c.requires.matches in
     opened_matches c.opened_tables_match.ensures its before (state_of c.recover.new.flash) _ _
     (ap checked c.config-config.ensures.config ∙ still.noted.check ∙ ap Ok (sym still.shape)) still.flash
-    (subst (λ q. IsSoundImage q its.logical before.shape before.image) (sym (ap (λ (k : Config). k.protocol) c.config-config.ensures.config ∙
+    (subst (λ q. IsSoundImage q its.logical before.shape before.image)
+    (sym (ap (λ (k : Config). k.protocol) c.config-config.ensures.config ∙
     c.requires.rule)) opened.sound)
     opened.tables opened.carries.shape opened.moment

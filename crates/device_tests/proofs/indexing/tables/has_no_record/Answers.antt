@@ -23,7 +23,8 @@ loop-at-preserved g c =
     let within : at < length notes = omega arith in
     let none = no_some c.rec.result (sym c.is_some.ensures ∙ c.if-is_some.false) in
     found_in_more notes at within
-    ∙ ap₂ (λ xs o. xs ++ cons_option o []) c.loop-at.invariant (no_record (note_at notes at) (sym c.rec.ensures ∙ none) at)
+    ∙ ap₂ (λ xs o. xs ++ cons_option o []) c.loop-at.invariant
+    (no_record (note_at notes at) (sym c.rec.ensures ∙ none) at)
 
 pub returns : goal.returns
 returns g c none =

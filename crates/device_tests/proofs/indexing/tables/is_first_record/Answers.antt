@@ -7,7 +7,8 @@ use Rattle.device_tests.proofs.indexing.tables.is_first_record.Goals as goal
 pub returns : goal.returns
 returns c none =
     let config = c.config-config.ensures.config in
-    first_next c.args.index.now c.args.rec c.config-config.ensures.noted.rule (c.has_no_record.ensures c.if-not-has_no_record.false) (record {
+    first_next c.args.index.now c.args.rec c.config-config.ensures.noted.rule
+    (c.has_no_record.ensures c.if-not-has_no_record.false) (record {
       page = subst (λ its. c.args.rec.page < its.logical) config c.if-rec-config.false;
       low = c.if-rec-lt1.false;
       high = c.if-rec-gt-MAX_VERSION.false;

@@ -35,9 +35,12 @@ loop-at-preserved g c =
       | in-Some+in_ok-push w ↦ (
           let rec = w.in-Some.rec in
           ap (λ l. l.items) w.list-is ∙ w.in_ok-push.ensures.items
-          ∙ ap₂ (λ xs f. xs ++ f ∷ []) c.loop-at.invariant (found_is w.found.result at rec w.found.ensures.slot w.found.ensures.rec)
-          ∙ ap (λ o. front ++ cons_option o []) (sym (some_record (note_at notes at) rec (sym c.rec.ensures ∙ w.in-Some.is) at)) ∙ sym more)
+          ∙ ap₂ (λ xs f. xs ++ f ∷ []) c.loop-at.invariant
+          (found_is w.found.result at rec w.found.ensures.slot w.found.ensures.rec)
+          ∙ ap (λ o. front ++ cons_option o [])
+          (sym (some_record (note_at notes at) rec (sym c.rec.ensures ∙ w.in-Some.is) at)) ∙ sym more)
       | in_default w ↦ (
           ap (λ l. l.items) w.list-is ∙ c.loop-at.invariant ∙ sym (append-nil front)
-          ∙ ap (λ o. front ++ cons_option o []) (sym (no_record (note_at notes at) (sym c.rec.ensures ∙ w.in_default.is) at)) ∙ sym more)
+          ∙ ap (λ o. front ++ cons_option o [])
+          (sym (no_record (note_at notes at) (sym c.rec.ensures ∙ w.in_default.is) at)) ∙ sym more)
     ]

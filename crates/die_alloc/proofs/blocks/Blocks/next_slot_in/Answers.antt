@@ -11,21 +11,27 @@ returns-in_err-block-clause-full c =
 
 pub first_unused-requires-clause-within : goal.first_unused-requires-clause-within
 first_unused-requires-clause-within c =
-    let some : open_block c.args.self.now c.args.die ≡ Some c.in_ok-block.block = sym c.open_block.ensures.block ∙ c.in_ok-block.was in
+    let some : open_block c.args.self.now c.args.die ≡ Some c.in_ok-block.block = sym c.open_block.ensures.block
+    ∙ c.in_ok-block.was in
     (open_block_stands c.args.self.now c.open_block.ensures.table c.args.die c.in_ok-block.block c.requires some).within
 
 pub first_unused-requires-clause-room : goal.first_unused-requires-clause-room
 first_unused-requires-clause-room c =
-    let some : open_block c.args.self.now c.args.die ≡ Some c.in_ok-block.block = sym c.open_block.ensures.block ∙ c.in_ok-block.was in
+    let some : open_block c.args.self.now c.args.die ≡ Some c.in_ok-block.block = sym c.open_block.ensures.block
+    ∙ c.in_ok-block.was in
     (open_block_stands c.args.self.now c.open_block.ensures.table c.args.die c.in_ok-block.block c.requires some).room
 
 pub returns-clause-die : goal.returns-clause-die
 returns-clause-die c =
-    let some : open_block c.args.self.now c.args.die ≡ Some c.in_ok-block.block = sym c.open_block.ensures.block ∙ c.in_ok-block.was in
-    let stands = open_block_stands c.args.self.now c.open_block.ensures.table c.args.die c.in_ok-block.block c.requires some in
-    rw c.first_unused.ensures.slot (die_of-first_unused c.args.self.now c.open_block.ensures.table c.args.die c.in_ok-block.block stands)
+    let some : open_block c.args.self.now c.args.die ≡ Some c.in_ok-block.block = sym c.open_block.ensures.block
+    ∙ c.in_ok-block.was in
+    let stands = open_block_stands c.args.self.now c.open_block.ensures.table c.args.die c.in_ok-block.block
+    c.requires some in
+    rw c.first_unused.ensures.slot (die_of-first_unused c.args.self.now c.open_block.ensures.table c.args.die
+    c.in_ok-block.block stands)
 
 pub returns-clause-full : goal.returns-clause-full
 returns-clause-full c =
-    let some : open_block c.args.self.now c.args.die ≡ Some c.in_ok-block.block = sym c.open_block.ensures.block ∙ c.in_ok-block.was in
+    let some : open_block c.args.self.now c.args.die ≡ Some c.in_ok-block.block = sym c.open_block.ensures.block
+    ∙ c.in_ok-block.was in
     rw some at (no_open_block_where_full c.args.self.now c.open_block.ensures.table c.args.die c.requires)

@@ -15,10 +15,12 @@ returns-clause-exchanged c =
     (rw (c.keep-2.ensures.blocks, c.keep.ensures.blocks) refl) (rw (← c.self.view_is) at c.requires.not_the_spare))
 
 pub returns-clause-between : goal.returns-clause-between
-returns-clause-between c = spare_table c.args.self.now (before c) c.args.block.0 c.requires.exists c.requires.not_the_spare
+returns-clause-between c = spare_table c.args.self.now (before c) c.args.block.0 c.requires.exists
+    c.requires.not_the_spare
 
 pub returns-clause-table : goal.returns-clause-table
 returns-clause-table c =
     subst IsBlocksState (sym (returns-clause-exchanged c))
-    (swapped_table c.args.self.now (before c) c.args.block.0 c.args.state c.args.used c.requires.exists c.requires.not_the_spare c.requires.no_spare
+    (swapped_table c.args.self.now (before c) c.args.block.0 c.args.state c.args.used c.requires.exists
+    c.requires.not_the_spare c.requires.no_spare
     c.requires.fits)

@@ -5,7 +5,8 @@ use Rattle.host_protocol.specs.Replies.{line_of}
 use Rattle.drive_gen.specs.Summary.{spaced}
 
 -- words, each with a space behind it, and then a line
-line_front : (words : List (List ℕ)) (word : List ℕ) (more : List (List ℕ)) → line_of (words ++ word ∷ more) ≡ spaced words ++ line_of (word ∷ more)
+line_front : (words : List (List ℕ)) (word : List ℕ) (more : List (List ℕ)) →
+    line_of (words ++ word ∷ more) ≡ spaced words ++ line_of (word ∷ more)
 line_front [] word more = refl
 line_front (first ∷ []) word more = simp append_assoc
 line_front (first ∷ next ∷ words) word more = rw (line_front (next ∷ words) word more) (simp append_assoc)

@@ -75,7 +75,8 @@ lines_size bytes =
     let stripped = stripped_size (ended_parts parts) in
     omega arith
 
-kept_case : (part : List ℕ) (v : Bool) (kept parts : List (List ℕ)) → sizes kept ≤ sizes parts → sizes (cond v (part ∷ kept) kept) ≤ sizes (part ∷ parts)
+kept_case : (part : List ℕ) (v : Bool) (kept parts : List (List ℕ)) → sizes kept ≤ sizes parts →
+    sizes (cond v (part ∷ kept) kept) ≤ sizes (part ∷ parts)
 kept_case part true kept parts h =
     let old = sizes-cons part parts in
     let new = sizes-cons part kept in
@@ -93,7 +94,8 @@ words_size line =
     let kept = kept_size has_bytes (slice_split is_space_or_tab line) in
     omega arith
 
-word_case : (words : List (List ℕ)) (i n : ℕ) → sizes words ≤ n + 1 → (i < length words) ⊎ (length words ≤ i) → length (get_or words i []) ≤ n
+word_case : (words : List (List ℕ)) (i n : ℕ) → sizes words ≤ n + 1 → (i < length words) ⊎ (length words ≤ i) →
+    length (get_or words i []) ≤ n
 word_case words i n h (inl in') = let one = get_or-le-sum_by size words i [] in' in omega arith
 word_case words i n h (inr past) = rw (get_or_past words i [] past) (omega arith)
 

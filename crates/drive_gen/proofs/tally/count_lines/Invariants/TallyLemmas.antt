@@ -9,25 +9,30 @@ use Rattle.drive_gen.specs.declared.tally.Tally.{Tally}
 use Rattle.drive_gen.proofs.HexLemmas.{sum_most}
 use Rattle.drive_gen.proofs.tally.count_lines.Invariants.SizeLemmas.{size, sizes, sizes-cons, lines_size, word_size}
 
-step : (f : List ℕ → ℕ) (n : ℕ) (line : List ℕ) (lines : List (List ℕ)) → n + sum_by f (line ∷ lines) ≡ n + sum_by f (line ∷ []) + sum_by f lines
+step : (f : List ℕ → ℕ) (n : ℕ) (line : List ℕ) (lines : List (List ℕ)) →
+    n + sum_by f (line ∷ lines) ≡ n + sum_by f (line ∷ []) + sum_by f lines
 step f n line lines = let one = sum_by-cons f line [] in let all = sum_by-cons f line lines in omega arith
 
-count_step : (p : List ℕ → Bool) (n : ℕ) (line : List ℕ) (lines : List (List ℕ)) → n + count_by p (line ∷ lines) ≡ n + count_by p (line ∷ []) + count_by p lines
+count_step : (p : List ℕ → Bool) (n : ℕ) (line : List ℕ) (lines : List (List ℕ)) →
+    n + count_by p (line ∷ lines) ≡ n + count_by p (line ∷ []) + count_by p lines
 count_step p n line lines = step (λ l. cond (p l) 1 0) n line lines
 
 tally_with : ℕ → ℕ → ℕ → ℕ → ℕ → ℕ → Tally
 tally_with a b c d e f = record { done = a; aborted = b; cut = c; refused = d; unknown = e; sum = f }
 
-same : (s t : Tally) → s.done ≡ t.done → s.aborted ≡ t.aborted → s.cut ≡ t.cut → s.refused ≡ t.refused → s.unknown ≡ t.unknown → s.sum ≡ t.sum → s ≡ t
+same : (s t : Tally) → s.done ≡ t.done → s.aborted ≡ t.aborted → s.cut ≡ t.cut → s.refused ≡ t.refused →
+    s.unknown ≡ t.unknown → s.sum ≡ t.sum → s ≡ t
 unfolding tally_with
 same s t done aborted cut refused unknown sum =
-    let all : tally_with s.done s.aborted s.cut s.refused s.unknown s.sum ≡ tally_with t.done t.aborted t.cut t.refused t.unknown t.sum =
+    let all : tally_with s.done s.aborted s.cut s.refused s.unknown s.sum ≡ tally_with t.done t.aborted t.cut t.refused
+    t.unknown t.sum =
     rw (done, aborted, cut, refused, unknown, sum) refl
     in
     all
 
 -- one line more
-pub tally_more : (t : Tally) (line : List ℕ) (lines : List (List ℕ)) → plus t (tally_of (line ∷ lines)) ≡ plus (plus t (tally_of (line ∷ []))) (tally_of lines)
+pub tally_more : (t : Tally) (line : List ℕ) (lines : List (List ℕ)) →
+    plus t (tally_of (line ∷ lines)) ≡ plus (plus t (tally_of (line ∷ []))) (tally_of lines)
 tally_more t line lines =
     same (plus t (tally_of (line ∷ lines))) (plus (plus t (tally_of (line ∷ []))) (tally_of lines))
     (count_step (begins_with (codes "done")) t.done line lines)
@@ -39,7 +44,8 @@ tally_more t line lines =
 
 -- no line before
 pub tally_begin : (t : Tally) → plus (tally_of []) t ≡ t
-tally_begin t = same (plus (tally_of []) t) t (zero-add t.done) (zero-add t.aborted) (zero-add t.cut) (zero-add t.refused) (zero-add t.unknown) (zero-add t.sum)
+tally_begin t = same (plus (tally_of []) t) t (zero-add t.done) (zero-add t.aborted) (zero-add t.cut)
+    (zero-add t.refused) (zero-add t.unknown) (zero-add t.sum)
 
 -- ---- the counts are numbers of their types
 
@@ -58,7 +64,8 @@ pages_most : (lines : List (List ℕ)) → sum_by page_sum lines ≤ 128 * sizes
 pages_most [] = omega arith
 pages_most (line ∷ lines) =
     let word = word_or line 2 [] in
-    let here : page_sum line ≤ 128 * (length line + 1) = page_most (begins_with (codes "page") line) (sum_of_bytes word) (length word) (length line)
+    let here : page_sum line ≤ 128 * (length line + 1) = page_most (begins_with (codes "page") line) (sum_of_bytes word)
+    (length word) (length line)
     (sum_most word) (word_size line 2) in
     let rest = pages_most lines in
     let all = sum_by-cons page_sum line lines in
@@ -69,7 +76,8 @@ pages_most (line ∷ lines) =
 pub tally_small : (bytes : List ℕ) → length bytes < 2 ^ 63 → IsCounted (tally_of (lines_of bytes))
 tally_small bytes h =
     let long = lines_size bytes in
-    let count : (p : List ℕ → Bool) → count_by p (lines_of bytes) < 2 ^ 64 = λ p. omega (arith, count_most p (lines_of bytes)) in
+    let count : (p : List ℕ → Bool) → count_by p (lines_of bytes) < 2 ^ 64 =
+    λ p. omega (arith, count_most p (lines_of bytes)) in
     record {
       done = count (begins_with (codes "done"));
       aborted = count (begins_with (codes "aborted"));
@@ -90,9 +98,11 @@ part_small a b h = record {
 }
 
 -- so are those of the first lines
-pub some_small : (t all : Tally) (line : List ℕ) (lines : List (List ℕ)) → plus t (tally_of (line ∷ lines)) ≡ all → IsCounted all
+pub some_small : (t all : Tally) (line : List ℕ) (lines : List (List ℕ)) →
+    plus t (tally_of (line ∷ lines)) ≡ all → IsCounted all
     → IsCounted (plus t (tally_of (line ∷ [])))
-some_small t all line lines e h = part_small (plus t (tally_of (line ∷ []))) (tally_of lines) (rw (← tally_more t line lines, e) h)
+some_small t all line lines e h = part_small (plus t (tally_of (line ∷ []))) (tally_of lines)
+    (rw (← tally_more t line lines, e) h)
 
 -- ---- the last line of the numbers
 

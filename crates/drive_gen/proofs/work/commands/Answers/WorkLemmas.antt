@@ -12,11 +12,13 @@ use Rattle.drive_gen.specs.Work.{of_kind, transaction, drawn_kind, aborted}
 
 -- ---- each command suits the device
 
-all_append : {X : Type 0} (P : X → Type 0) (xs ys : List X) → AllByRecursion P xs → AllByRecursion P ys → AllByRecursion P (xs ++ ys)
+all_append : {X : Type 0} (P : X → Type 0) (xs ys : List X) → AllByRecursion P xs → AllByRecursion P ys →
+    AllByRecursion P (xs ++ ys)
 all_append P [] ys p q = q
 all_append P (x ∷ xs) ys p q = (p.0, all_append P xs ys p.1 q)
 
-all_flat : {X : Type 0} (P : X → Type 0) (f : ℕ → List X) (xs : List ℕ) → ((n : ℕ) → AllByRecursion P (f n)) → AllByRecursion P (flat_map f xs)
+all_flat : {X : Type 0} (P : X → Type 0) (f : ℕ → List X) (xs : List ℕ) → ((n : ℕ) → AllByRecursion P (f n)) →
+    AllByRecursion P (flat_map f xs)
 all_flat P f [] h = tt
 all_flat P f (x ∷ xs) h = all_append P (f x) (flat_map f xs) (h x) (all_flat P f xs h)
 
@@ -28,7 +30,8 @@ either : {X : Type 0} (P : List X → Type 0) (b : Bool) (xs ys : List X) → P 
 either P true xs ys p q = p
 either P false xs ys p q = q
 
-abort_suits : (size tag pages : ℕ) (batch : Writes) → batch.page_bytes ≡ size → AllByRecursion (Suits size) (aborted tag batch pages)
+abort_suits : (size tag pages : ℕ) (batch : Writes) → batch.page_bytes ≡ size →
+    AllByRecursion (Suits size) (aborted tag batch pages)
 abort_suits size tag pages batch e =
     let P = AllByRecursion (Suits size) in (
       e,

@@ -5,5 +5,6 @@ use Rattle.flash_picture.proofs.map.Map.write_cells.Goals as goal
 pub loop-at-preserved : goal.loop-at-preserved
 loop-at-preserved c =
     let m = c.args.self.now in
-    text_more (cell_text m.shape m.cells.now m.marks c.args.width c.args.block.0) c.loop-at.at c.args.text.now.items c.loop-at.text.items _
+    text_more (cell_text m.shape m.cells.now m.marks c.args.width c.args.block.0) c.loop-at.at c.args.text.now.items
+    c.loop-at.text.items _
     c.loop-at.invariant c.in_ok-write_cell.ensures

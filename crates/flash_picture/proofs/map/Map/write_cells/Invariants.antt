@@ -4,4 +4,5 @@ use Rattle.flash_picture.proofs.map.Map.write_cells.Given as goal
 
 abbrev pub invariant-loop-at : goal.invariant-loop-at
 invariant-loop-at l =
-    l.text.items ≡ l.initial.text.items ++ flat_map (cell_text l.self.shape l.self.cells.now l.self.marks l.width l.block.0) (range_with_len 0 l.at)
+    l.text.items ≡ l.initial.text.items ++ flat_map (cell_text l.self.shape l.self.cells.now l.self.marks l.width
+    l.block.0) (range_with_len 0 l.at)

@@ -10,7 +10,8 @@ returns c =
     let more = word_if (is_named c.args.self.now.marks.breach c.args.slot.0) (codes "!") in
     on_ok_weaker c.write_flag.result
     (λ end. end ∙ ap (λ b. c.write.new.text.items ++ after_spaces (word_if b (codes "!"))) c.is_named.ensures ∙
-    ap (λ t. t ++ after_spaces more) (c.in_ok-write.ensures ∙ ap (λ k. c.args.text.now.items ++ join_with_byte 32 (cell_words k)) c.cell.ensures)
+    ap (λ t. t ++ after_spaces more) (c.in_ok-write.ensures
+    ∙ ap (λ k. c.args.text.now.items ++ join_with_byte 32 (cell_words k)) c.cell.ensures)
     ∙ append_assoc c.args.text.now.items (join_with_byte 32 (cell_words cell)) (after_spaces more)
     ∙ ap (λ t. c.args.text.now.items ++ t) (sym (cell_joined cell more)))
     c.write_flag.ensures

@@ -6,9 +6,11 @@ pub returns : goal.returns
 returns c =
     let old = c.args.text.now.items in
     let begun = c.open_label.new.text.items in
-    let place = c.in_ok-open_words.ensures ∙ ap (λ top. begun ++ words_begin (record { left = 8; top = top + 72 })) c.top_of_block-top.ensures.top in
+    let place = c.in_ok-open_words.ensures ∙ ap (λ top. begun ++ words_begin (record { left = 8; top = top + 72 }))
+    c.top_of_block-top.ensures.top in
     let said = c.write_label_words.new.text.items in
-    let words = then begun _ said (codes "</text>") (said ++ codes "</text>") (then begun _ _ _ _ place c.in_ok-write_label_words.ensures) refl in
+    let words = then begun _ said (codes "</text>") (said ++ codes "</text>")
+    (then begun _ _ _ _ place c.in_ok-write_label_words.ensures) refl in
     on_ok_weaker c.add.result
     (λ end. then old _ _ _ _ (then old _ _ _ _ c.in_ok-open_label.ensures words)
     (end ∙ sym (append_assoc said (codes "</text>") (codes "</g>\n"))))

@@ -17,4 +17,5 @@ returns c =
     c.in_ok-add-2.ensures)
     c.in_ok-write_slot.ensures)
     links in
-    on_ok_weaker c.add-3.result (λ end. then old _ _ _ _ (then old (codes "<title>") begun _ _ refl said) end) c.add-3.ensures
+    on_ok_weaker c.add-3.result (λ end. then old _ _ _ _ (then old (codes "<title>") begun _ _ refl said) end)
+    c.add-3.ensures

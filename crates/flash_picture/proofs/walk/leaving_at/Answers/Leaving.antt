@@ -16,7 +16,8 @@ use Rattle.flash_picture.specs.Walks.{leaving, leaving_by}
 
 module _ (list : List Found) (start : Link) where
   -- a walk stays at a link to the newest version of its page that no record has
-  stuck : (turns : ℕ) (link : Link) → newest list link.page ≡ link.version → position (λ f. has_name link f.rec) list ≡ None →
+  stuck : (turns : ℕ) (link : Link) → newest list link.page ≡ link.version →
+      position (λ f. has_name link f.rec) list ≡ None →
       left_from list start turns link ≡ None
   stuck zero link same none = refl
   stuck (suc turns) link same none =
@@ -30,20 +31,29 @@ module _ (list : List Found) (start : Link) where
       ])
 
   -- at a link that leads to no place it leaves them, or stays
-  leaves : (turns : ℕ) (link : Link) → place_of list link ≡ None → left_from list start (suc turns) link ≡ leaving list link
+  leaves : (turns : ℕ) (link : Link) → place_of list link ≡ None →
+      left_from list start (suc turns) link ≡ leaving list link
   leaves turns link none = elim (cases_order (newest list link.page) link.version) [
     | inl same ↦ (
-        let nowhere = sym (cond-true _ (position (λ f. has_name link f.rec) list) None (eq-eqb (newest list link.page) link.version same)) ∙ none in
+        let nowhere = sym (cond-true _ (position (λ f. has_name link f.rec) list) None
+        (eq-eqb (newest list link.page) link.version same)) ∙ none in
         stuck (suc turns) link same nowhere
-        ∙ sym (rw (le-ltb (newest list link.page) link.version (omega arith), le-ltb link.version (newest list link.page) (omega arith)) refl))
+        ∙ sym (rw (
+          le-ltb (newest list link.page) link.version (omega arith),
+          le-ltb link.version (newest list link.page) (omega arith),
+        ) refl))
     | inr (inl ahead) ↦ rw (lt-ltb (newest list link.page) link.version ahead) refl
-    | inr (inr behind) ↦ rw (le-ltb (newest list link.page) link.version (omega arith), lt-ltb link.version (newest list link.page) behind) refl
+    | inr (inr behind) ↦ rw (
+      le-ltb (newest list link.page) link.version (omega arith),
+      lt-ltb link.version (newest list link.page) behind,
+    ) refl
   ]
 
   module _ (first : ℕ) (there : position (λ f. has_name start f.rec) list ≡ Some first) where
     -- from a link that leads to a place it goes on, but from the one to its start
     goes_by : (turns : ℕ) (link : Link) (y : ℕ) → place_of list link ≡ Some y →
-        left_from list start (suc turns) link ≡ cond (is_same link start) None (left_from list start turns (record_at list y).next)
+        left_from list start (suc turns) link ≡ cond (is_same link start) None
+        (left_from list start turns (record_at list y).next)
     goes_by turns link y at =
         let to = leads Scc list start first there link y at in
         let found = position-Some (λ f. has_name link f.rec) list y nothing to.1 in
@@ -60,7 +70,8 @@ module _ (list : List Found) (start : Link) where
         let at = (next_within Scc list start first there x y within next).0 in
         goes_by turns link y at
         ∙ cond-false (is_same link start) None (left_from list start turns (record_at list y).next)
-        (same_place Scc list start first there link y (leads Scc list start first there link y at).1 ∙ ne_eqb y first other)
+        (same_place Scc list start first there link y (leads Scc list start first there link y at).1
+        ∙ ne_eqb y first other)
 
     -- a walk to an end
     ended : (turns x after at : ℕ) → x < length list → IsEnd (link_graph list) x after at →
@@ -78,7 +89,8 @@ module _ (list : List Found) (start : Link) where
       | inl none ↦ absurd (let e = steps_stop (link_graph list) after x none in let f = end.leads in cc)
       | inr some ↦ (
           let (y, next) = some in
-          step_on turns x y within next (λ e. never 1 (omega arith) (steps_more (link_graph list) 0 x y next ∙ steps_none (link_graph list) y ∙ ap Some e))
+          step_on turns x y within next (λ e. never 1 (omega arith) (steps_more (link_graph list) 0 x y next
+          ∙ steps_none (link_graph list) y ∙ ap Some e))
           ∙ ended turns y after at (next_within Scc list start first there x y within next).1
           record { leads = sym (steps_more (link_graph list) after x y next) ∙ end.leads; last = end.last }
           (λ k more e. never (suc k) (omega arith) (steps_more (link_graph list) k x y next ∙ e)) (omega arith))
@@ -98,35 +110,45 @@ module _ (list : List Found) (start : Link) where
           ∙ elim (cases_Bool (is_same link start)) [
             | inl home ↦ cond-true (is_same link start) None (left_from list start turns (record_at list y).next) home
             | inr away ↦ cond-false (is_same link start) None (left_from list start turns (record_at list y).next) away
-                ∙ goes_on turns y to.1 (λ k low e. on (suc k) (omega arith) (steps_more (link_graph list) k x y next ∙ e))
+                ∙ goes_on turns y to.1 (λ k low e. on (suc k) (omega arith)
+                (steps_more (link_graph list) k x y next ∙ e))
           ])
     ]
 
     from_first : (logical : ℕ) (orbit : Orbit) → IsOrbit (link_graph list) first orbit →
         left_from list start (suc logical) (link_of list start) ≡ leaving_by list logical orbit
-    from_first logical orbit is = ap (left_from list start (suc logical)) (link_at list start first found.0 found.1 found.2) ∙ by_orbit orbit is
+    from_first logical orbit is = ap (left_from list start (suc logical))
+        (link_at list start first found.0 found.1 found.2) ∙ by_orbit orbit is
       where
-        found : (first < length list) × (has_name start (record_at list first) ≡ true) × ((k : ℕ) → k < first → has_name start (record_at list k) ≡ false)
+        found : (first < length list) × (has_name start (record_at list first) ≡ true)
+            × ((k : ℕ) → k < first → has_name start (record_at list k) ≡ false)
         found = position-Some (λ f. has_name start f.rec) list first nothing there
 
-        by_orbit : (o : Orbit) → IsOrbit (link_graph list) first o → left_from list start (suc logical) (record_at list first).next ≡ leaving_by list logical o
+        by_orbit : (o : Orbit) → IsOrbit (link_graph list) first o →
+            left_from list start (suc logical) (record_at list first).next ≡ leaving_by list logical o
         by_orbit (Ends after at) end = elim (cases_lt logical after) [
           | inl far ↦ goes_on (suc logical) first found.0
               (λ k low none. let (x, e) = steps_before (link_graph list) k after first at (omega arith) end.leads in cc)
-              ∙ sym (cond-true (nat_lt logical after) None (leaving list (record_at list at).next) (lt-ltb logical after far))
-          | inr near ↦ ended (suc logical) first after at found.0 end (end_never (link_graph list) first after at end) (omega arith)
-              ∙ sym (cond-false (nat_lt logical after) None (leaving list (record_at list at).next) (le-ltb logical after near))
+              ∙ sym (cond-true (nat_lt logical after) None (leaving list (record_at list at).next)
+              (lt-ltb logical after far))
+          | inr near ↦ ended (suc logical) first after at found.0 end (end_never (link_graph list) first after at end)
+              (omega arith)
+              ∙ sym (cond-false (nat_lt logical after) None (leaving list (record_at list at).next)
+              (le-ltb logical after near))
         ]
-        by_orbit (Round n) round = goes_on (suc logical) first found.0 (λ k low. round_goes_on (link_graph list) first n round k)
+        by_orbit (Round n) round = goes_on (suc logical) first found.0
+            (λ k low. round_goes_on (link_graph list) first n round k)
         by_orbit Aside aside = goes_on (suc logical) first found.0 (λ k low. aside.goes_on k)
 
 -- where the walk from the newest record of a page leaves them
 pub left_some : (list : List Found) (logical page : ℕ) (orbit : Orbit) → IsOrbitOfNewest list page (Some orbit) →
     leaving_by list logical orbit ≡ leaving_at list logical page
-left_some list logical page orbit (first, there, is) = sym (from_first list (newest_name list page) first there logical orbit is)
+left_some list logical page orbit (first, there, is) =
+    sym (from_first list (newest_name list page) first there logical orbit is)
 
 -- where the page has no record it does not
-pub left_none : (list : List Found) (logical page : ℕ) → IsOrbitOfNewest list page None → None ≡ leaving_at list logical page
+pub left_none : (list : List Found) (logical page : ℕ) → IsOrbitOfNewest list page None →
+    None ≡ leaving_at list logical page
 left_none list logical page none =
     sym (rw (
       absent_link list (newest_name list page) (absent_at list (newest_name list page) none),

@@ -20,7 +20,8 @@ no_digit : (o : Option ℕ) (n : ℕ) → ((v : ℕ) → o ≡ Some v → v < 16
 no_digit (Some v) n small is large = (let most = small v refl in absurd (omega (arith, is, most, large)))
 no_digit None n small is large = refl
 
-pub pair_read : (a b i m n : ℕ) → m ≡ unwrap_or (hex_digit_value a) 255 → n ≡ unwrap_or (hex_digit_value b) 255 → m < 16 → n < 16
+pub pair_read : (a b i m n : ℕ) → m ≡ unwrap_or (hex_digit_value a) 255 → n ≡ unwrap_or (hex_digit_value b) 255 →
+    m < 16 → n < 16
     → pair_value a b i ≡ Ok (m * 16 + n)
 pair_read a b i m n is_m is_n small_m small_n =
     rw (digit_read (hex_digit_value a) a i m is_m small_m, digit_read (hex_digit_value b) b (i + 1) n is_n small_n) refl
@@ -34,10 +35,17 @@ undecoded text (Ok bytes) other h = (let all = (decode_pairs-ok 0 text bytes h).
 undecoded text (Err e) other h = refl
 
 -- this byte is no digit
-other_at : (text : List ℕ) (k n : ℕ) → k < length text → n ≡ unwrap_or (hex_digit_value (slice_index text k)) 255 → 16 ≤ n → HasOther text
-other_at text k n within is large = (k, within, no_digit (hex_digit_value (slice_index text k)) n (digit_small (slice_index text k)) is large)
+other_at : (text : List ℕ) (k n : ℕ) → k < length text → n ≡ unwrap_or (hex_digit_value (slice_index text k)) 255 →
+    16 ≤ n → HasOther text
+other_at text k n within is large = (
+  k,
+  within,
+  no_digit (hex_digit_value (slice_index text k)) n
+      (digit_small (slice_index text k)) is large,
+)
 
-greatest_of : (before high low first second : ℕ) → first ≡ max before high → second ≡ max first low → 16 ≤ second → (16 ≤ before) ⊎ ((16 ≤ high) ⊎ (16 ≤ low))
+greatest_of : (before high low first second : ℕ) → first ≡ max before high → second ≡ max first low → 16 ≤ second →
+    (16 ≤ before) ⊎ ((16 ≤ high) ⊎ (16 ≤ low))
 greatest_of before high low first second is_first is_second large = elim (cases_lt before 16) [
   | inl small ↦ elim (cases_lt high 16) [
     | inl few ↦ inr (inr (grind (arith, is_first, is_second, large, small, few)))

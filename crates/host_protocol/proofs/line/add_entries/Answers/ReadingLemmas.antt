@@ -10,14 +10,16 @@ pub none_where_bad : {Y : Type 0} (e : LineError) (found : Option Y) → e ≡ B
 none_where_bad Bad found is h = h
 none_where_bad Memory found is h = absurd (cc)
 
-module _ (f : List ℕ → Option PageWrite) (words : List (List ℕ)) (entries : List PageWrite) (rest : List (List ℕ)) (word : List ℕ) (others : List (List ℕ))
+module _ (f : List ℕ → Option PageWrite) (words : List (List ℕ)) (entries : List PageWrite) (rest : List (List ℕ))
+    (word : List ℕ) (others : List (List ℕ))
     (read : map f words ≡ map Some entries ++ map f rest) (next : rest ≡ word ∷ others) where
   -- where the next word is no entry, the words are no entries
   pub other_among : f word ≡ None → (writes : List PageWrite) → map f words ≡ map Some writes → ⊥
   other_among none writes same = none_among entries writes (map f others) (sym same ∙ rw (next, none) at read)
 
   -- and where as many were read as may be, they are more
-  pub more_than : (entries_left : ℕ) → entries_left ≤ length entries → (writes : List PageWrite) → map f words ≡ map Some writes → entries_left < length writes
+  pub more_than : (entries_left : ℕ) → entries_left ≤ length entries → (writes : List PageWrite) →
+      map f words ≡ map Some writes → entries_left < length writes
   more_than entries_left many writes same =
       let sizes = simp (length-append, length-map) at (ap length (sym same ∙ rw next at read)) in
       omega (arith, sizes)

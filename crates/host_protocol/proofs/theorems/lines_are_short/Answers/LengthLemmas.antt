@@ -27,20 +27,38 @@ short32 : (n : ℕ) → n < 2 ^ 32 → length (decimal n) ≤ 20
 short32 n h = digits_64 n (omega arith)
 
 pub short_text : (what : Reply) → IsLine what → HasPage what → length (text_of what) ≤ max_reply_bytes
-short_text (reply.Blank page) h p = few (reply_words (reply.Blank page)) (omega arith, (short32 page h, tt)) (omega arith)
+short_text (reply.Blank page) h p = few (reply_words (reply.Blank page)) (
+  omega arith,
+  (short32 page h, tt),
+) (omega arith)
 short_text (reply.Page page bytes) h p =
     let number = digits_32 page h.0 in
     let digits = length-encode_with lower_digits bytes in
     omega (arith, length-append {A = ℕ})
-short_text (reply.Opened tag pages) h p = few (reply_words (reply.Opened tag pages)) (omega arith, (short32 tag h.0, (short32 pages h.1, tt))) (omega arith)
+short_text (reply.Opened tag pages) h p = few (reply_words (reply.Opened tag pages)) (
+  omega arith,
+  (short32 tag h.0, (short32 pages h.1, tt)),
+) (omega arith)
 short_text (reply.Wrote tag done all) h p =
-    few (reply_words (reply.Wrote tag done all)) (omega arith, (short32 tag h.0, (short32 done h.1, (short32 all h.2, tt)))) (omega arith)
+    few (reply_words (reply.Wrote tag done all)) (
+      omega arith,
+      (short32 tag h.0, (short32 done h.1, (short32 all h.2, tt))),
+    ) (omega arith)
 short_text (reply.Done tag) h p = few (reply_words (reply.Done tag)) (omega arith, (short32 tag h, tt)) (omega arith)
-short_text (reply.Aborted tag) h p = few (reply_words (reply.Aborted tag)) (omega arith, (short32 tag h, tt)) (omega arith)
+short_text (reply.Aborted tag) h p = few (reply_words (reply.Aborted tag)) (
+  omega arith,
+  (short32 tag h, tt),
+) (omega arith)
 short_text (reply.Late tag) h p = few (reply_words (reply.Late tag)) (omega arith, (short32 tag h, tt)) (omega arith)
-short_text (reply.Unknown tag) h p = few (reply_words (reply.Unknown tag)) (omega arith, (short32 tag h, tt)) (omega arith)
+short_text (reply.Unknown tag) h p = few (reply_words (reply.Unknown tag)) (
+  omega arith,
+  (short32 tag h, tt),
+) (omega arith)
 short_text (reply.Moved moved finished) h p =
-    few (reply_words (reply.Moved moved finished)) (omega arith, (short32 moved h.0, (omega arith, (short32 finished h.1, tt)))) (omega arith)
+    few (reply_words (reply.Moved moved finished)) (
+      omega arith,
+      (short32 moved h.0, (omega arith, (short32 finished h.1, tt))),
+    ) (omega arith)
 short_text reply.Collected h p = omega arith
 short_text reply.Nothing h p = omega arith
 short_text reply.Armed h p = omega arith
@@ -48,13 +66,31 @@ short_text reply.Cut h p = omega arith
 short_text reply.Fault h p = omega arith
 short_text reply.Dropped h p = omega arith
 short_text reply.RefusedEmpty h p = omega arith
-short_text (reply.RefusedRange page) h p = few (reply_words (reply.RefusedRange page)) (omega arith, (omega arith, (short32 page h, tt))) (omega arith)
-short_text (reply.RefusedRepeated page) h p = few (reply_words (reply.RefusedRepeated page)) (omega arith, (omega arith, (short32 page h, tt))) (omega arith)
-short_text (reply.RefusedTag tag) h p = few (reply_words (reply.RefusedTag tag)) (omega arith, (omega arith, (short32 tag h, tt))) (omega arith)
+short_text (reply.RefusedRange page) h p = few (reply_words (reply.RefusedRange page)) (
+  omega arith,
+  (omega arith, (short32 page h, tt)),
+) (omega arith)
+short_text (reply.RefusedRepeated page) h p = few (reply_words (reply.RefusedRepeated page)) (
+  omega arith,
+  (omega arith, (short32 page h, tt)),
+) (omega arith)
+short_text (reply.RefusedTag tag) h p = few (reply_words (reply.RefusedTag tag)) (
+  omega arith,
+  (omega arith, (short32 tag h, tt)),
+) (omega arith)
 short_text (reply.RefusedOverlap page tag) h p =
-    few (reply_words (reply.RefusedOverlap page tag)) (omega arith, (omega arith, (short32 page h.0, (short32 tag h.1, tt)))) (omega arith)
-short_text (reply.RefusedFull free) h p = few (reply_words (reply.RefusedFull free)) (omega arith, (omega arith, (short32 free h, tt))) (omega arith)
-short_text (reply.RefusedSpent page) h p = few (reply_words (reply.RefusedSpent page)) (omega arith, (omega arith, (short32 page h, tt))) (omega arith)
+    few (reply_words (reply.RefusedOverlap page tag)) (
+      omega arith,
+      (omega arith, (short32 page h.0, (short32 tag h.1, tt))),
+    ) (omega arith)
+short_text (reply.RefusedFull free) h p = few (reply_words (reply.RefusedFull free)) (
+  omega arith,
+  (omega arith, (short32 free h, tt)),
+) (omega arith)
+short_text (reply.RefusedSpent page) h p = few (reply_words (reply.RefusedSpent page)) (
+  omega arith,
+  (omega arith, (short32 page h, tt)),
+) (omega arith)
 short_text (reply.Stats s) h p =
     let written = short32 s.written h.0 in
     let tags = short32 s.tags h.1 in

@@ -34,7 +34,8 @@ record Cut (a xs b ys : List ℕ) (x y : ℕ) : Type 0 where
   at : x ≡ y
   behind : xs ≡ ys
 
-cut : (a xs b ys : List ℕ) (x y : ℕ) → list_all is_plain a ≡ true → list_all is_plain b ≡ true → is_plain x ≡ false → is_plain y ≡ false
+cut : (a xs b ys : List ℕ) (x y : ℕ) → list_all is_plain a ≡ true → list_all is_plain b ≡ true → is_plain x ≡ false →
+    is_plain y ≡ false
     → a ++ x ∷ xs ≡ b ++ y ∷ ys → Cut a xs b ys x y
 cut [] xs [] ys x y pa pb px py h = record { front = refl; at = cc; behind = cc }
 cut [] xs (c ∷ cs) ys x y pa pb px py h =
@@ -46,7 +47,8 @@ cut (c ∷ cs) xs [] ys x y pa pb px py h =
 cut (c ∷ cs) xs (d ∷ ds) ys x y pa pb px py h =
     let e : c ≡ d = cc in
     let tails : cs ++ x ∷ xs ≡ ds ++ y ∷ ys = cc in
-    let rest = cut cs xs ds ys x y (and_parts (is_plain c) (list_all is_plain cs) pa).1 (and_parts (is_plain d) (list_all is_plain ds) pb).1 px py tails in
+    let rest = cut cs xs ds ys x y (and_parts (is_plain c) (list_all is_plain cs) pa).1
+    (and_parts (is_plain d) (list_all is_plain ds) pb).1 px py tails in
     record { front = let f = rest.front in cc; at = rest.at; behind = rest.behind }
 
 -- a line and what is behind it
@@ -54,7 +56,8 @@ pub record LineTold (ws vs : List (List ℕ)) (X Y : List ℕ) : Type 0 where
   words : ws ≡ vs
   behind : X ≡ Y
 
-pub line_tells : (ws vs : List (List ℕ)) (X Y : List ℕ) → ArePlain ws → ArePlain vs → line_of ws ++ X ≡ line_of vs ++ Y → LineTold ws vs X Y
+pub line_tells : (ws vs : List (List ℕ)) (X Y : List ℕ) → ArePlain ws → ArePlain vs →
+    line_of ws ++ X ≡ line_of vs ++ Y → LineTold ws vs X Y
 line_tells [] vs X Y p q h = absurd p
 line_tells (w ∷ []) [] X Y p q h = absurd q
 line_tells (w ∷ u ∷ ws) [] X Y p q h = absurd q
@@ -71,7 +74,8 @@ line_tells (w ∷ u ∷ ws) (v ∷ []) X Y p q h =
     let no = (cut w (line_of (u ∷ ws) ++ X) v Y 32 10 p.0 q refl refl e).at in
     absurd (omega arith)
 line_tells (w ∷ u ∷ ws) (v ∷ t ∷ vs) X Y p q h =
-    let e : w ++ 32 ∷ (line_of (u ∷ ws) ++ X) ≡ v ++ 32 ∷ (line_of (t ∷ vs) ++ Y) = rw (append_assoc, append_assoc) at h in
+    let e : w ++ 32 ∷ (line_of (u ∷ ws) ++ X) ≡ v ++ 32 ∷ (line_of (t ∷ vs) ++ Y) =
+    rw (append_assoc, append_assoc) at h in
     let parts = cut w (line_of (u ∷ ws) ++ X) v (line_of (t ∷ vs) ++ Y) 32 32 p.0 q.0 refl refl e in
     let rest = line_tells (u ∷ ws) (t ∷ vs) X Y p.1 q.1 parts.behind in
     record { words = let f = parts.front in let r = rest.words in cc; behind = rest.behind }
@@ -109,13 +113,16 @@ wide n h = omega arith
 plain_words : (what : Reply) → IsLine what → ArePlain (reply_words what)
 plain_words (reply.Blank page) h = (refl, plain_decimal page (wide page h))
 plain_words (reply.Page page bytes) h = (refl, (plain_decimal page (wide page h.0), plain_hex bytes))
-plain_words (reply.Opened tag pages) h = (refl, (plain_decimal tag (wide tag h.0), plain_decimal pages (wide pages h.1)))
-plain_words (reply.Wrote tag done all) h = (refl, (plain_decimal tag (wide tag h.0), (plain_decimal done (wide done h.1), plain_decimal all (wide all h.2))))
+plain_words (reply.Opened tag pages) h =
+    (refl, (plain_decimal tag (wide tag h.0), plain_decimal pages (wide pages h.1)))
+plain_words (reply.Wrote tag done all) h =
+    (refl, (plain_decimal tag (wide tag h.0), (plain_decimal done (wide done h.1), plain_decimal all (wide all h.2))))
 plain_words (reply.Done tag) h = (refl, plain_decimal tag (wide tag h))
 plain_words (reply.Aborted tag) h = (refl, plain_decimal tag (wide tag h))
 plain_words (reply.Late tag) h = (refl, plain_decimal tag (wide tag h))
 plain_words (reply.Unknown tag) h = (refl, plain_decimal tag (wide tag h))
-plain_words (reply.Moved moved finished) h = (refl, (plain_decimal moved (wide moved h.0), (refl, plain_decimal finished (wide finished h.1))))
+plain_words (reply.Moved moved finished) h =
+    (refl, (plain_decimal moved (wide moved h.0), (refl, plain_decimal finished (wide finished h.1))))
 plain_words reply.Collected h = refl
 plain_words reply.Nothing h = refl
 plain_words reply.Armed h = refl
@@ -126,7 +133,8 @@ plain_words reply.RefusedEmpty h = (refl, refl)
 plain_words (reply.RefusedRange page) h = (refl, (refl, plain_decimal page (wide page h)))
 plain_words (reply.RefusedRepeated page) h = (refl, (refl, plain_decimal page (wide page h)))
 plain_words (reply.RefusedTag tag) h = (refl, (refl, plain_decimal tag (wide tag h)))
-plain_words (reply.RefusedOverlap page tag) h = (refl, (refl, (plain_decimal page (wide page h.0), plain_decimal tag (wide tag h.1))))
+plain_words (reply.RefusedOverlap page tag) h =
+    (refl, (refl, (plain_decimal page (wide page h.0), plain_decimal tag (wide tag h.1))))
 plain_words (reply.RefusedFull free) h = (refl, (refl, plain_decimal free (wide free h)))
 plain_words (reply.RefusedSpent page) h = (refl, (refl, plain_decimal page (wide page h)))
 plain_words (reply.Stats s) h = (
@@ -278,13 +286,15 @@ no_text what more is h =
     omega (arith, length-append {A = ℕ})
 
 -- the texts of replies of one line, one behind the other, are those of no other such replies
-pub texts_tell : (xs ys : List Reply) → AllByRecursion IsLine xs → AllByRecursion IsLine ys → flat_map text_of xs ≡ flat_map text_of ys → xs ≡ ys
+pub texts_tell : (xs ys : List Reply) → AllByRecursion IsLine xs → AllByRecursion IsLine ys →
+    flat_map text_of xs ≡ flat_map text_of ys → xs ≡ ys
 texts_tell [] [] p q h = refl
 texts_tell [] (y ∷ ys) p q h = absurd (no_text y (flat_map text_of ys) q.0 h)
 texts_tell (x ∷ xs) [] p q h = absurd (no_text x (flat_map text_of xs) p.0 (sym h))
 texts_tell (x ∷ xs) (y ∷ ys) p q h =
     let lines = rw (line_text x p.0, line_text y q.0) at h in
-    let told = line_tells (reply_words x) (reply_words y) (flat_map text_of xs) (flat_map text_of ys) (plain_words x p.0) (plain_words y q.0) lines in
+    let told = line_tells (reply_words x) (reply_words y) (flat_map text_of xs) (flat_map text_of ys)
+    (plain_words x p.0) (plain_words y q.0) lines in
     let first : x ≡ y = sym (read_back x p.0) ∙ (ap reply_from told.words ∙ read_back y q.0) in
     let rest = texts_tell xs ys p.1 q.1 told.behind in
     cc

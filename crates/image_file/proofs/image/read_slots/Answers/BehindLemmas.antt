@@ -18,7 +18,8 @@ pub record IsBehind (bytes : List ℕ) (shape : Shape) (head : ℕ) (seen : List
   pub known : wrong_state (slice_range bytes 64 head) ≡ None
   pub read : seen ≡ all_seen (slice_range bytes 64 head)
 
-slots_are : (bytes : List ℕ) (shape : Shape) (head : ℕ) (seen : List Seen) → IsBehind bytes shape head seen → length seen ≡ slots_of shape
+slots_are : (bytes : List ℕ) (shape : Shape) (head : ℕ) (seen : List Seen) → IsBehind bytes shape head seen →
+    length seen ≡ slots_of shape
 slots_are bytes shape head seen h =
     let long : length bytes ≡ 64 + slots_of shape * (65 + shape.page_bytes) = h.long in
     ap length h.read ∙ length-map (slice_range bytes 64 head) _
@@ -30,7 +31,8 @@ pub cells_fit : (bytes : List ℕ) (shape : Shape) (head : ℕ) (seen : List See
 cells_fit bytes shape head seen h =
     let slots = slots_of shape in
     let long : length bytes ≡ 64 + slots * (65 + shape.page_bytes) = h.long in
-    let all : length (drop head bytes) ≡ slots * cell_bytes shape.page_bytes = omega (arith, h.is_head, long, length-drop head bytes) in
+    let all : length (drop head bytes) ≡ slots * cell_bytes shape.page_bytes =
+    omega (arith, h.is_head, long, length-drop head bytes) in
     all ∙ ap (λ n. n * cell_bytes shape.page_bytes) (sym (slots_are bytes shape head seen h))
 
 module _ (bytes : List ℕ) (shape : Shape) (head : ℕ) (seen : List Seen) (h : IsBehind bytes shape head seen)

@@ -14,8 +14,10 @@ cells-blank n (suc count) =
     let more : cell_bytes n + count * cell_bytes n ≡ suc count * cell_bytes n = omega arith in
     let size = n + 64 in
     let one : replicate n 255 ++ replicate 64 255 ≡ replicate size 255 = replicate-append-replicate n 64 255 in
-    let both : replicate size 255 ++ replicate (count * size) 255 ≡ replicate (size + count * size) 255 = replicate-append-replicate size (count * size) 255 in
-    ap (λ bytes. bytes ++ flat_map (cell_of n) (replicate count blank)) one ∙ ap (λ bytes. replicate size 255 ++ bytes) (cells-blank n count)
+    let both : replicate size 255 ++ replicate (count * size) 255 ≡ replicate (size + count * size) 255 =
+    replicate-append-replicate size (count * size) 255 in
+    ap (λ bytes. bytes ++ flat_map (cell_of n) (replicate count blank)) one
+    ∙ ap (λ bytes. replicate size 255 ++ bytes) (cells-blank n count)
     ∙ both ∙ ap (λ k. replicate k 255) more
 
 -- a configuration that passes its check has a shape in bounds
@@ -28,7 +30,8 @@ pub IsImage-blank : (shape : Shape) → IsShape shape → IsImage shape (replica
 IsImage-blank shape bounds = record {
   bounds = bounds;
   slots = length-replicate (slots_of shape) blank;
-  whole = λ k d inside. rw (get_or-replicate (slots_of shape) k blank d (omega (arith, length-replicate (slots_of shape) blank))) tt;
+  whole = λ k d inside. rw (get_or-replicate (slots_of shape) k blank d
+      (omega (arith, length-replicate (slots_of shape) blank))) tt;
 }
 
 -- a list that is filled up to a length
@@ -39,12 +42,16 @@ filled_up front size len count x long whole =
     rw (take_all size front (omega arith), many) refl
 
 -- the header is filled up with states, and these with cells
-pub blank_parts : (header states all : List ℕ) (head size header_len states_len : ℕ) (shape : Shape) → length header ≡ 64
+pub blank_parts : (header states all : List ℕ) (head size header_len states_len : ℕ) (shape : Shape) →
+    length header ≡ 64
     → head ≡ 64 + slots_of shape → size ≡ image_bytes shape → header_len ≡ length header → states_len ≡ length states
-    → states ≡ take head header ++ replicate (head - header_len) 0 → all ≡ take size states ++ replicate (size - states_len) 255
-    → all ≡ header ++ map (λ slot. state_byte (seen_of slot)) (replicate (slots_of shape) blank) ++ flat_map (cell_of shape.page_bytes)
+    → states ≡ take head header ++ replicate (head - header_len) 0 →
+    all ≡ take size states ++ replicate (size - states_len) 255
+    → all ≡ header ++ map (λ slot. state_byte (seen_of slot)) (replicate (slots_of shape) blank)
+    ++ flat_map (cell_of shape.page_bytes)
     (replicate (slots_of shape) blank)
-blank_parts header states all head size header_len states_len shape long head_is size_is header_long states_long states_are all_are =
+blank_parts header states all head size header_len states_len shape long head_is size_is header_long states_long
+    states_are all_are =
     let count = slots_of shape in
     let n = shape.page_bytes in
     let front = states_are ∙ filled_up header head header_len count 0 header_long (omega arith) in

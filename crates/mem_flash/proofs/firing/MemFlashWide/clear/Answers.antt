@@ -8,7 +8,8 @@ invariant_of-self c =
     record {
       registers =
           subst (AreRegisters shape) (sym items)
-          (c.clear.ensures.room shape (subst (AreRegisters shape) (sym c.deref_mut.ensures.value) c.self.invariant.registers));
+          (c.clear.ensures.room shape (subst (AreRegisters shape) (sym c.deref_mut.ensures.value)
+          c.self.invariant.registers));
       within = c.self.invariant.within;
       few = c.self.invariant.few;
     }

@@ -22,7 +22,8 @@ returns-then-is_some-clause-carries c = record {
     operation_met c.self.inside.armed _ c.count_down-cut.result c.count_down-fault.result c.or-broken.result
         c.is_none-self-inside.result c.count_down-cut.ensures.due c.count_down-fault.ensures.due c.or-broken.ensures
         c.is_none-self-inside.ensures
-        (ap₂ (λ (cut : Option Arm) (fault : Option Arm). record c.self.inside.armed { cut = cut; fault = fault }) c.count_down-cut.ensures.left
+        (ap₂ (λ (cut : Option Arm) (fault : Option Arm). record c.self.inside.armed { cut = cut; fault = fault })
+        c.count_down-cut.ensures.left
         c.count_down-fault.ensures.left),
   );
 }
@@ -46,7 +47,8 @@ returns-else-is_some-clause-carries c = record {
     operation_met c.self.inside.armed _ c.count_down-cut.result c.count_down-fault.result c.or-broken.result
         c.is_none-self-inside.result c.count_down-cut.ensures.due c.count_down-fault.ensures.due c.or-broken.ensures
         c.is_none-self-inside.ensures
-        (ap₂ (λ (cut : Option Arm) (fault : Option Arm). record c.self.inside.armed { cut = cut; fault = fault }) c.count_down-cut.ensures.left
+        (ap₂ (λ (cut : Option Arm) (fault : Option Arm). record c.self.inside.armed { cut = cut; fault = fault })
+        c.count_down-cut.ensures.left
         c.count_down-fault.ensures.left),
   );
 }

@@ -15,7 +15,8 @@ returns-clause-reads c = record {
     no_more = search rules;
     extras = search rules;
     spends = search rules;
-    starts = starts_read c.args.self.now c.meet_bad_read.new.self false c.meet_bad_read.ensures.met (sym c.if-meet_bad_read.false ∙ c.meet_bad_read.ensures.broken);
+    starts = starts_read c.args.self.now c.meet_bad_read.new.self false c.meet_bad_read.ensures.met
+        (sym c.if-meet_bad_read.false ∙ c.meet_bad_read.ensures.broken);
   };
   powered = search rules;
   done = search rules;

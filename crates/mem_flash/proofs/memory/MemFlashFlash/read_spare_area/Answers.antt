@@ -19,7 +19,8 @@ returns-then-meet_bad_read-clause-reads c = (
       no_more = search rules;
       extras = search rules;
       spends = search rules;
-      starts = starts_read c.args.self.now c.meet_bad_read.new.self true c.meet_bad_read.ensures.met (sym c.if-meet_bad_read.true ∙ c.meet_bad_read.ensures.broken);
+      starts = starts_read c.args.self.now c.meet_bad_read.new.self true c.meet_bad_read.ensures.met
+          (sym c.if-meet_bad_read.true ∙ c.meet_bad_read.ensures.broken);
     };
     powered = search rules;
     done = search rules;
@@ -45,7 +46,8 @@ returns-clause-reads c = (
       no_more = search rules;
       extras = search rules;
       spends = search rules;
-      starts = starts_read c.args.self.now c.meet_bad_read.new.self false c.meet_bad_read.ensures.met (sym c.if-meet_bad_read.false ∙ c.meet_bad_read.ensures.broken);
+      starts = starts_read c.args.self.now c.meet_bad_read.new.self false c.meet_bad_read.ensures.met
+          (sym c.if-meet_bad_read.false ∙ c.meet_bad_read.ensures.broken);
     };
     powered = search rules;
     done = search rules;

@@ -5,7 +5,8 @@ use Rattle.mem_flash.proofs.slots.Slots.cell.Goals as goal
 pub cell_at-requires : goal.cell_at-requires
 cell_at-requires c =
     let below = rw (← c.self.view_is) at c.requires in
-    rw (c.cell_bytes.ensures, c.deref.ensures.value) (omega (arith, cell_within c.self.inside c.self.invariant c.args.at.0 below))
+    rw (c.cell_bytes.ensures, c.deref.ensures.value)
+    (omega (arith, cell_within c.self.inside c.self.invariant c.args.at.0 below))
 
 pub returns-clause-bytes : goal.returns-clause-bytes
 returns-clause-bytes c =

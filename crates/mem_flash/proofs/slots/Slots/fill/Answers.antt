@@ -13,7 +13,8 @@ invariant_of-self c =
     let exist = rw (← c.self.view_is) at c.requires.exist in
     let marked = with_items_is c.self.inside.seen c.mark.new.states (omega arith) in
     let filled = with_items_is c.self.inside.bytes c.fill_cells.new.cells (omega arith) in
-    AreStored-filled c.self.inside c.self.invariant c.args.first c.args.count c.args.how exist c.requires.bare _ refl refl (cc) (cc)
+    AreStored-filled c.self.inside c.self.invariant c.args.first c.args.count c.args.how exist c.requires.bare _ refl
+    refl (cc) (cc)
 
 pub returns-clause-slots : goal.returns-clause-slots
 returns-clause-slots c = rw (← c.self.view_is) ((IsImage-stored c.self.inside c.self.invariant).slots)
@@ -25,4 +26,5 @@ returns-clause-filled c =
     let filled = with_items_is c.self.inside.bytes c.fill_cells.new.cells (omega arith) in
     let slots : List Contents → SlotsState = λ image. record { shape = c.self.inside.shape; image = image } in
     rw (← c.self.view_is)
-    (ap slots (image-filled c.self.inside c.self.invariant c.args.first c.args.count c.args.how exist c.requires.bare _ _ (cc) (cc)))
+    (ap slots (image-filled c.self.inside c.self.invariant c.args.first c.args.count c.args.how exist c.requires.bare
+    _ _ (cc) (cc)))

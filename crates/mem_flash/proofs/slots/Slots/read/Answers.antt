@@ -5,7 +5,8 @@ use Rattle.mem_flash.proofs.slots.Slots.read.Goals as goal
 pub cell_at-cell-requires : goal.cell_at-cell-requires
 cell_at-cell-requires c =
     let below = rw (← c.self.view_is) at c.requires.exists in
-    rw (c.cell_bytes.ensures, c.deref.ensures.value) (omega (arith, cell_within c.self.inside c.self.invariant c.args.at.0 below))
+    rw (c.cell_bytes.ensures, c.deref.ensures.value)
+    (omega (arith, cell_within c.self.inside c.self.invariant c.args.at.0 below))
 
 pub returns : goal.returns
 returns c =
@@ -14,4 +15,8 @@ returns c =
     let its_page = page_of-slot c.self.inside c.self.invariant c.args.at.0 below in
     let its_spare_area = spare_area_of-slot c.self.inside c.self.invariant c.args.at.0 below in
     rw (← c.self.view_is)
-    (record { how_it_reads = seen_of-slot c.self.inside c.self.invariant c.args.at.0 below _ (search rules); its_page = cc; its_spare_area = cc })
+    (record {
+      how_it_reads = seen_of-slot c.self.inside c.self.invariant c.args.at.0 below _ (search rules);
+      its_page = cc;
+      its_spare_area = cc;
+    })

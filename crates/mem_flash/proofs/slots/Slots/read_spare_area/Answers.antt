@@ -5,7 +5,8 @@ use Rattle.mem_flash.proofs.slots.Slots.read_spare_area.Goals as goal
 pub cell_at-cell-requires : goal.cell_at-cell-requires
 cell_at-cell-requires c =
     let below = rw (← c.self.view_is) at c.requires in
-    rw (c.cell_bytes.ensures, c.deref.ensures.value) (omega (arith, cell_within c.self.inside c.self.invariant c.args.at.0 below))
+    rw (c.cell_bytes.ensures, c.deref.ensures.value)
+    (omega (arith, cell_within c.self.inside c.self.invariant c.args.at.0 below))
 
 pub returns-clause-how : goal.returns-clause-how
 returns-clause-how c =

@@ -7,7 +7,8 @@ invariant_of-self c =
     let below = rw (← c.self.view_is) at c.requires.exists in
     let page = rw (← c.self.view_is) at c.requires.page in
     let written = with_items_is c.self.inside.bytes c.write_cell.new.cells (omega arith) in
-    AreStored-programmed c.self.inside c.self.invariant c.args.at c.args.bytes.now c.args.spare_area.now below page (omega arith)
+    AreStored-programmed c.self.inside c.self.invariant c.args.at c.args.bytes.now c.args.spare_area.now below
+    page (omega arith)
     _ refl refl (search rules) (cc)
 
 pub returns : goal.returns
@@ -17,5 +18,6 @@ returns c =
     let written = with_items_is c.self.inside.bytes c.write_cell.new.cells (omega arith) in
     let slots : List Contents → SlotsState = λ image. record { shape = c.self.inside.shape; image = image } in
     rw (← c.self.view_is)
-    (ap slots (image-programmed c.self.inside c.self.invariant c.args.at c.args.bytes.now c.args.spare_area.now below page (omega arith)
+    (ap slots (image-programmed c.self.inside c.self.invariant c.args.at c.args.bytes.now c.args.spare_area.now below
+    page (omega arith)
     _ _ (search rules) (cc)))

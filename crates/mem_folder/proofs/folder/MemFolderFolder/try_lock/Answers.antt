@@ -17,6 +17,7 @@ returns c =
       c.begin-fault.ensures.notes,
       c.begin-fault.ensures.noted,
     )
-    (turned (Locks (handle_of c.args.file.now) (handle_of c.lock-lock.new.file) c.lock-lock.result) (answer_to_lock c.lock-lock.result)
+    (turned (Locks (handle_of c.args.file.now) (handle_of c.lock-lock.new.file) c.lock-lock.result)
+    (answer_to_lock c.lock-lock.result)
     c.note_of_lock.result self.changes self.befores.items self.notes.items self.noted.items self.changes.items
     (c.lock-lock.ensures self.changes.items) c.note_of_lock.ensures)

@@ -24,5 +24,6 @@ returns c =
     let many = pages_read os c.args.at c.index.result.now (omega arith) c.index.ensures in
     rw (← c.self.view_is)
     (c.deref.ensures.value
-    ∙ bytes_read c.self.inside c.args.at c.args.place c.index.result.now c.index-2.result.now c.self.invariant (omega arith) c.index.ensures
+    ∙ bytes_read c.self.inside c.args.at c.args.place c.index.result.now c.index-2.result.now c.self.invariant
+    (omega arith) c.index.ensures
     (omega arith) c.index-2.ensures)

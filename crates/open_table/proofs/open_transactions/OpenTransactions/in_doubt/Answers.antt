@@ -4,5 +4,9 @@ use Rattle.open_table.proofs.open_transactions.OpenTransactions.in_doubt.Goals a
 
 pub returns : goal.returns
 returns c =
-    rw (← c.self.view_is, position_of_transaction (λ o. is_doubted o.entry.mark) (λ o. is_doubted o.mark) (λ o. refl) c.self.inside.all.items)
+    rw (
+      ← c.self.view_is,
+      position_of_transaction (λ o. is_doubted o.entry.mark) (λ o. is_doubted o.mark) (λ o. refl)
+          c.self.inside.all.items,
+    )
     cc

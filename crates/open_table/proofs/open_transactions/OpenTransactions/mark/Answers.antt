@@ -13,4 +13,5 @@ returns c =
     let requires = rw (← c.self.view_is) at c.requires in
     let count = transactions_long c.self.inside.all.items in
     rw (← c.self.view_is)
-    (sym (ap (λ o. o.entry.mark) (transaction_read c.self.inside.all.items c.args.at c.index.result.now (omega arith) c.index.ensures)))
+    (sym (ap (λ o. o.entry.mark) (transaction_read c.self.inside.all.items c.args.at c.index.result.now (omega arith)
+    c.index.ensures)))

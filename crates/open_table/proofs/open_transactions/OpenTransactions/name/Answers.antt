@@ -22,5 +22,6 @@ returns c =
     let os = c.self.inside.all.items in
     let count = transactions_long os in
     let many = pages_read os c.args.at c.index.result.now (omega arith) c.index.ensures in
-    rw (← c.self.view_is) (name_read os c.args.at c.args.place c.index.result.now c.index-2.result.now (omega arith) c.index.ensures
+    rw (← c.self.view_is) (name_read os c.args.at c.args.place c.index.result.now c.index-2.result.now (omega arith)
+    c.index.ensures
     (omega arith) c.index-2.ensures)

@@ -26,14 +26,17 @@ taken_away c =
       all = c.remove-pages.ensures.items;
       capacity = c.remove-pages.ensures.capacity;
       owners = refilled c.self.inside.owners c.set_owner.new.owners
-          (ap length owners ∙ length-with_owner c.self.inside.owners.items None c.remove-pages.result.pages.items) ∙ owners;
+          (ap length owners ∙ length-with_owner c.self.inside.owners.items None c.remove-pages.result.pages.items)
+          ∙ owners;
       freed = c.free_pages.ensures;
       lists = rw c.unwrap.ensures at c.push.ensures.items;
       lists_capacity = c.push.ensures.capacity;
     }
 
 pub invariant_of-self : goal.invariant_of-self
-invariant_of-self c = kept_after_removal c.self.inside _ c.args.at c.remove-pages.result c.free_pages.new.pages c.self.invariant (taken_away c)
+invariant_of-self c = kept_after_removal c.self.inside _ c.args.at c.remove-pages.result c.free_pages.new.pages
+    c.self.invariant (taken_away c)
 
 pub returns : goal.returns
-returns c = rw (← c.self.view_is) (table_after_removal c.self.inside _ c.args.at c.remove-pages.result c.free_pages.new.pages (taken_away c))
+returns c = rw (← c.self.view_is) (table_after_removal c.self.inside _ c.args.at c.remove-pages.result
+    c.free_pages.new.pages (taken_away c))

@@ -14,7 +14,8 @@ invariant_of-self c =
     let requires = rw (← c.self.view_is) at c.requires in
     let count = transactions_long c.self.inside.all.items in
     let x = c.index_mut.result.now in
-    kept_with c.self.inside c.args.at x (record x { done = c.args.done }) c.self.invariant (omega arith) c.index_mut.ensures.value refl refl
+    kept_with c.self.inside c.args.at x (record x { done = c.args.done }) c.self.invariant (omega arith)
+    c.index_mut.ensures.value refl refl
 
 pub returns : goal.returns
 returns c =
@@ -22,4 +23,5 @@ returns c =
     let count = transactions_long c.self.inside.all.items in
     let x = c.index_mut.result.now in
     rw (← c.self.view_is)
-    (table_with c.self.inside c.args.at x (record x { done = c.args.done }) (λ o. with_done o c.args.done) (omega arith) c.index_mut.ensures.value refl)
+    (table_with c.self.inside c.args.at x (record x { done = c.args.done }) (λ o. with_done o c.args.done) (omega arith)
+    c.index_mut.ensures.value refl)

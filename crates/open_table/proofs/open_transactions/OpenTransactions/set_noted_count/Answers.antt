@@ -14,7 +14,8 @@ invariant_of-self c =
     let requires = rw (← c.self.view_is) at c.requires in
     let count = transactions_long c.self.inside.all.items in
     let x = c.index_mut.result.now in
-    kept_with c.self.inside c.args.at x (record x { noted_count = c.args.count }) c.self.invariant (omega arith) c.index_mut.ensures.value refl refl
+    kept_with c.self.inside c.args.at x (record x { noted_count = c.args.count }) c.self.invariant (omega arith)
+    c.index_mut.ensures.value refl refl
 
 pub returns : goal.returns
 returns c =
@@ -22,5 +23,6 @@ returns c =
     let count = transactions_long c.self.inside.all.items in
     let x = c.index_mut.result.now in
     rw (← c.self.view_is)
-    (table_with c.self.inside c.args.at x (record x { noted_count = c.args.count }) (λ o. with_noted_count o c.args.count)
+    (table_with c.self.inside c.args.at x (record x { noted_count = c.args.count })
+    (λ o. with_noted_count o c.args.count)
     (omega arith) c.index_mut.ensures.value refl)

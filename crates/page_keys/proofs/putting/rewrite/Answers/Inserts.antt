@@ -123,7 +123,8 @@ kept_and_put (c ∷ cs) differ es =
   where
     by_value : (v : Option (List ℕ)) → c.value ≡ v →
         passing (stays cs) (with_pair es c.key v) + passing puts_value cs ≤ length (changed (with_pair es c.key v) cs) →
-        passing (stays (c ∷ cs)) es + length (cond (is_some v) (c ∷ filter puts_value cs) (filter puts_value cs)) ≤ length (changed (with_pair es c.key v) cs)
+        passing (stays (c ∷ cs)) es + length (cond (is_some v) (c ∷ filter puts_value cs) (filter puts_value cs))
+        ≤ length (changed (with_pair es c.key v) cs)
     by_value None is rest =
         let kept = count_kept (stays (c ∷ cs)) (stays cs) (stays_yet c cs)
         (λ e. not (eq_by_cmp key_order c.key e.0)) (stays_there c cs) es in

@@ -25,7 +25,8 @@ module _ {F : Type 0} (state : F → FlashState) where
       Exits state b c broken → Moved state a c broken
   moved_then a b c broken first second = record {
     config = second.tables.config ∙ first.config;
-    moves = FlashMoves-then (state a.flash) (state b.flash) (state c.flash) broken first.carries.shape first.moves second.moves;
+    moves = FlashMoves-then (state a.flash) (state b.flash) (state c.flash) broken first.carries.shape
+        first.moves second.moves;
     carries = Carries-then (state a.flash) (state b.flash) (state c.flash) broken first.carries second.carries;
   }
 

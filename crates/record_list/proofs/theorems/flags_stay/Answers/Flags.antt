@@ -1,4 +1,5 @@
--- The flags of a transaction through the changes of a list: each record afterwards is the new one or equal to an old one.
+-- The flags of a transaction through the changes of a list: each record afterwards is the new one or equal to an old
+-- one.
 use Rattle.record_list.proofs.Common.{◌≡◌, ◌≢◌, Bool, List, [], ◌∷◌, zip, All, Contains, ap, subst, inl, inr, All-contains, all_from, from_filter, Contains-cases, Contains-nil, Contains-rest, Link, Found, name_of, left}
 use Rattle.list_lemmas.proofs.Membership.{Contains-here}
 use Rattle.record_list.specs.Counts.{HasItsFlag, HasFlags, WriteKeepsFlags, OthersKeepFlags, CopyKeepsFlags, LossKeepsFlags}
@@ -6,13 +7,15 @@ use Rattle.record_list.proofs.OfChanges.OneMore.{inserted_all}
 use Rattle.record_list.proofs.OfLosses.LossAmong.{IsAmong, IsEqual, among_of, copied_among}
 
 -- flags stay where each record is equal to one that was there
-among_flags : (l m : List Found) (names : List Link) (flags : List Bool) → IsAmong l m → HasFlags m names flags → HasFlags l names flags
+among_flags : (l m : List Found) (names : List Link) (flags : List Bool) → IsAmong l m → HasFlags m names flags →
+    HasFlags l names flags
 among_flags l m names flags fewer has = all_from (λ f. HasItsFlag names flags f.rec) l (λ f i.
     let x : IsEqual m f.rec = fewer.among f i in
     subst (HasItsFlag names flags) x.is (All-contains (λ (g : Found). HasItsFlag names flags g.rec) m x.at has x.is_in))
 
 pub write_keeps_flags : WriteKeepsFlags
-write_keeps_flags l l' names flags f added own has = inserted_all (λ g. HasItsFlag names flags g.rec) l l' f added has own
+write_keeps_flags l l' names flags f added own has = inserted_all (λ g. HasItsFlag names flags g.rec) l l'
+    f added has own
 
 pub others_keep_flags : OthersKeepFlags
 others_keep_flags l l' names others flags f added named apart has =
@@ -35,4 +38,5 @@ copy_keeps_flags l l' names flags f c has = among_flags l' l names flags (copied
 
 pub loss_keeps_flags : LossKeepsFlags
 loss_keeps_flags l names flags keep has =
-    among_flags (left keep l) l names flags (among_of (left keep l) l (λ g i. (from_filter (λ (x : Found). keep x.slot.0) g l i).0)) has
+    among_flags (left keep l) l names flags (among_of (left keep l) l
+    (λ g i. (from_filter (λ (x : Found). keep x.slot.0) g l i).0)) has

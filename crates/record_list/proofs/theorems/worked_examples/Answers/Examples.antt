@@ -86,7 +86,8 @@ pair_transaction : IsTransaction 3 pair
 pair_transaction = record {
   distinct = AllPairs-cons (λ a b. a.page ≢ b.page) (name 1 1) (name 2 1 ∷ [])
       (All-from_recursion (λ b. 1 ≢ b.page) (name 2 1 ∷ []) (omega arith, tt))
-      (AllPairs-cons (λ a b. a.page ≢ b.page) (name 2 1) [] (All-nil (λ b. 2 ≢ b.page)) (λ i j d less within. absurd (omega arith)));
+      (AllPairs-cons (λ a b. a.page ≢ b.page) (name 2 1) [] (All-nil (λ b. 2 ≢ b.page))
+      (λ i j d less within. absurd (omega arith)));
   in_range = All-from_recursion (λ a. (a.page < 3) × (1 ≤ a.version) × (a.version ≤ max_version)) pair
       ((omega arith, omega arith, omega arith), ((omega arith, omega arith, omega arith), tt));
   few = omega arith;
@@ -102,11 +103,13 @@ not_second e = let same = ap (λ (u : Link). u.page) e in absurd (omega arith)
 module _ (list : List Found) where
   -- the transaction asks for its two records, and for none of page 0
   asked_zero : (slot : ℕ) → IsAsked Scc list 3 pair (found slot 0 1 0 1 0).rec
-  asked_zero slot = All-from_recursion (IsAskedAt Scc list 3 pair (found slot 0 1 0 1 0).rec) (zip pair (next_names pair))
+  asked_zero slot = All-from_recursion (IsAskedAt Scc list 3 pair (found slot 0 1 0 1 0).rec)
+      (zip pair (next_names pair))
       (λ e. absurd (not_zero e), (λ e. absurd (not_zero e), tt))
 
   asked_first : IsAsked Scc list 3 pair (of_two (found 5 1 1 2 1 0)).rec
-  asked_first = All-from_recursion (IsAskedAt Scc list 3 pair (of_two (found 5 1 1 2 1 0)).rec) (zip pair (next_names pair))
+  asked_first = All-from_recursion (IsAskedAt Scc list 3 pair (of_two (found 5 1 1 2 1 0)).rec)
+      (zip pair (next_names pair))
       (λ e. (refl, refl, refl), (λ e. absurd (not_second e), tt))
 
   asked_second : IsAsked Scc list 3 pair second.rec
@@ -115,15 +118,20 @@ module _ (list : List Found) where
 
 -- a record of page 0 mentions no page of the transaction
 zero_below : (slot : ℕ) → All (λ a. mention_at a.page (found slot 0 1 0 1 0).rec < a.version) pair
-zero_below slot = All-from_recursion (λ a. mention_at a.page (found slot 0 1 0 1 0).rec < a.version) pair (let low : 0 < 1 = omega arith in (low, (low, tt)))
+zero_below slot = All-from_recursion (λ a. mention_at a.page (found slot 0 1 0 1 0).rec < a.version) pair
+    (let low : 0 < 1 = omega arith in (low, (low, tt)))
 
 -- it is in progress with its first record, and without
 begun_in_progress : InProgress Scc begun 3 pair
 begun_in_progress = record {
   begun = record {
     transaction = pair_transaction;
-    asked = All-from_recursion (λ f. IsAsked Scc begun 3 pair f.rec) begun (asked_zero begun 0, (asked_zero begun 4, (asked_first begun, tt)));
-    others = All-from_recursion (λ f. (Contains pair (name_of f.rec) → ⊥) → All (λ a. mention_at a.page f.rec < a.version) pair) begun
+    asked = All-from_recursion (λ f. IsAsked Scc begun 3 pair f.rec) begun (
+      asked_zero begun 0,
+      (asked_zero begun 4, (asked_first begun, tt)),
+    );
+    others = All-from_recursion (λ f. (Contains pair (name_of f.rec) → ⊥) →
+        All (λ a. mention_at a.page f.rec < a.version) pair) begun
         (λ out. zero_below 0, (λ out. zero_below 4, (λ out. absurd (out (0, omega arith, refl)), tt)));
   };
   absent = (1, name 2 1, omega arith, refl, refl);
@@ -135,15 +143,20 @@ lost_in_progress =
     record {
       begun = record {
         transaction = pair_transaction;
-        asked = All-from_recursion (λ f. IsAsked Scc list 3 pair f.rec) list (asked_zero list 0, (asked_zero list 4, tt));
-        others = All-from_recursion (λ f. (Contains pair (name_of f.rec) → ⊥) → All (λ a. mention_at a.page f.rec < a.version) pair) list
+        asked = All-from_recursion (λ f. IsAsked Scc list 3 pair f.rec) list (
+          asked_zero list 0,
+          (asked_zero list 4, tt),
+        );
+        others = All-from_recursion (λ f. (Contains pair (name_of f.rec) → ⊥) →
+            All (λ a. mention_at a.page f.rec < a.version) pair) list
             (λ out. zero_below 0, (λ out. zero_below 4, tt));
       };
       absent = (1, name 2 1, omega arith, refl, refl);
     }
 
 -- the lists are scanned
-scanned_cons : (f : Found) (list : List Found) → All (λ g. f.slot.0 < g.slot.0) list → (1 ≤ f.rec.version) × (1 ≤ f.rec.next.version) → IsScanned list →
+scanned_cons : (f : Found) (list : List Found) → All (λ g. f.slot.0 < g.slot.0) list → (1 ≤ f.rec.version)
+    × (1 ≤ f.rec.next.version) → IsScanned list →
     IsScanned (f ∷ list)
 scanned_cons f list below versions rest = record {
   ascending = AllPairs-cons (λ g h. g.slot.0 < h.slot.0) f list below rest.ascending;
@@ -159,11 +172,16 @@ ended_scanned =
     }) in
     let first = of_two (found 5 1 1 2 1 0) in
     let later : IsScanned (first ∷ second ∷ []) =
-    scanned_cons first (second ∷ []) (All-from_recursion (λ g. 5 < g.slot.0) (second ∷ []) (omega arith, tt)) (one, one) last in
-    let copy : IsScanned (found 4 0 1 0 1 0 ∷ first ∷ second ∷ []) = scanned_cons (found 4 0 1 0 1 0) (first ∷ second ∷ [])
+    scanned_cons first (second ∷ []) (All-from_recursion (λ g. 5 < g.slot.0) (second ∷ []) (omega arith, tt))
+    (one, one) last in
+    let copy : IsScanned (found 4 0 1 0 1 0 ∷ first ∷ second ∷ []) =
+    scanned_cons (found 4 0 1 0 1 0) (first ∷ second ∷ [])
     (All-from_recursion (λ g. 4 < g.slot.0) (first ∷ second ∷ []) (omega arith, (omega arith, tt))) (one, one) later in
     scanned_cons (found 0 0 1 0 1 0) (found 4 0 1 0 1 0 ∷ first ∷ second ∷ [])
-    (All-from_recursion (λ g. 0 < g.slot.0) (found 4 0 1 0 1 0 ∷ first ∷ second ∷ []) (omega arith, (omega arith, (omega arith, tt)))) (one, one) copy
+    (All-from_recursion (λ g. 0 < g.slot.0) (found 4 0 1 0 1 0 ∷ first ∷ second ∷ []) (
+      omega arith,
+      (omega arith, (omega arith, tt)),
+    )) (one, one) copy
 
 begun_scanned : IsScanned begun
 begun_scanned = left_scanned (λ slot. not (slot == 6)) ended ended_scanned
@@ -188,6 +206,7 @@ asked_after_loss = (
     named = (1, omega arith, refl);
     fresh = refl;
     asked = asked_second (left without_first begun);
-    clear = All-from_recursion (λ f. must_go Scc (left without_first begun) 3 2 1 f.rec ≡ false) (left without_first begun) (refl, (refl, tt));
+    clear = All-from_recursion (λ f. must_go Scc (left without_first begun) 3 2 1 f.rec ≡ false)
+        (left without_first begun) (refl, (refl, tt));
   },
 )

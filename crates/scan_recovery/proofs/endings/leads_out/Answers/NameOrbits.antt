@@ -17,16 +17,20 @@ module _ (l : List Found) where
   place name = position (λ f. has_name name f.rec) l
 
   -- an orbit that ends leads to an absent name
-  pub end_leads_out : (name : Link) (p after at : ℕ) → place name ≡ Some p → IsOrbit (name_graph l) p (Ends after at) → LeadsOut l name
+  pub end_leads_out : (name : Link) (p after at : ℕ) → place name ≡ Some p → IsOrbit (name_graph l) p (Ends after at) →
+      LeadsOut l name
   end_leads_out name p after at there end =
       let last = steps_follow l after name p at there end.leads in
       let within = place_within l (follow l name after) at last in
-      let link : (record_at l at).next ≡ link_of l (follow l name after) = link_found l (follow l name after) at (sym last) in
-      let none : place (link_of l (follow l name after)) ≡ None = ap place (sym link) ∙ sym (next_place l at within) ∙ end.last in
+      let link : (record_at l at).next ≡ link_of l (follow l name after) =
+      link_found l (follow l name after) at (sym last) in
+      let none : place (link_of l (follow l name after)) ≡ None = ap place (sym link)
+      ∙ sym (next_place l at within) ∙ end.last in
       (suc after, ap (is_present l) (follow_last l name after) ∙ absent_at l (link_of l (follow l name after)) none)
 
   -- one that does not end never does
-  pub goes_on : (name : Link) (p : ℕ) → place name ≡ Some p → ((k : ℕ) → steps (name_graph l) k p ≢ None) → LeadsOut l name → ⊥
+  pub goes_on : (name : Link) (p : ℕ) → place name ≡ Some p → ((k : ℕ) → steps (name_graph l) k p ≢ None) →
+      LeadsOut l name → ⊥
   goes_on name p there on (n, gone) = elim (some_or_none (steps (name_graph l) n p)) [
     | inl none ↦ on n none
     | inr (x, leads) ↦ (
@@ -34,14 +38,16 @@ module _ (l : List Found) where
         false≢true (sym gone ∙ sym (present_found l (follow l name n) (Some x) (sym here))))
   ]
 
-  pub round_never : (name : Link) (p turns : ℕ) → place name ≡ Some p → IsOrbit (name_graph l) p (Round turns) → LeadsOut l name → ⊥
+  pub round_never : (name : Link) (p turns : ℕ) → place name ≡ Some p → IsOrbit (name_graph l) p (Round turns) →
+      LeadsOut l name → ⊥
   round_never name p turns there round = goes_on name p there (round_goes_on (name_graph l) p turns round)
 
   pub aside_never : (name : Link) (p : ℕ) → place name ≡ Some p → IsOrbit (name_graph l) p Aside → LeadsOut l name → ⊥
   aside_never name p there aside = goes_on name p there aside.goes_on
 
   -- the orbit of a place that was found
-  pub orbit_at : (name : Link) (p : ℕ) (orbits : List Orbit) (orbit : Orbit) → Some p ≡ place name → AreOrbits (name_graph l) orbits →
+  pub orbit_at : (name : Link) (p : ℕ) (orbits : List Orbit) (orbit : Orbit) → Some p ≡ place name →
+      AreOrbits (name_graph l) orbits →
       orbit ≡ get_or orbits p Aside → IsOrbit (name_graph l) p orbit
   orbit_at name p orbits orbit at are is =
       let size = length-map l (λ f. place f.rec.next) in

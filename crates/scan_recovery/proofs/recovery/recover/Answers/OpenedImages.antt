@@ -42,18 +42,23 @@ slots_of_records l = map (λ f. f.slot.0) (records_of l)
 complete_given : (p : Protocol) (logical k : ℕ) (image : List Contents) → All (SlotReads p logical) image →
     slots_of_records (given (read_at p) k image) ≡ given numbered_complete k (map seen_of image)
 complete_given p logical k [] reads = refl
-complete_given p logical k (blank ∷ rest) reads = complete_given p logical (k + 1) rest (All-tail (SlotReads p logical) blank rest reads)
-complete_given p logical k (damaged ∷ rest) reads = complete_given p logical (k + 1) rest (All-tail (SlotReads p logical) damaged rest reads)
+complete_given p logical k (blank ∷ rest) reads = complete_given p logical (k + 1) rest
+    (All-tail (SlotReads p logical) blank rest reads)
+complete_given p logical k (damaged ∷ rest) reads = complete_given p logical (k + 1) rest
+    (All-tail (SlotReads p logical) damaged rest reads)
 complete_given p logical k (complete bytes spare ∷ rest) reads =
-    of_record (record_of p spare) (All-head (SlotReads p logical) (complete bytes spare) rest reads) (given (read_at p) (k + 1) rest)
-    ∙ ap (λ l. k ∷ l) (complete_given p logical (k + 1) rest (All-tail (SlotReads p logical) (complete bytes spare) rest reads))
+    of_record (record_of p spare) (All-head (SlotReads p logical) (complete bytes spare) rest reads)
+    (given (read_at p) (k + 1) rest)
+    ∙ ap (λ l. k ∷ l) (complete_given p logical (k + 1) rest
+    (All-tail (SlotReads p logical) (complete bytes spare) rest reads))
   where
     of_record : (o : Option Rec) → IsSomeAnd o (HasPages logical) → (more : List Written) →
         slots_of_records (cons_option (option_map (λ rec. written k rec bytes) o) more) ≡ k ∷ slots_of_records more
     of_record None h more = absurd h
     of_record (Some rec) h more = refl
 
-module _ (p : Protocol) (logical : ℕ) (image : List Contents) (slots : List Seen) (list : List Found) (scan : IsScanOf p logical image slots list) where
+module _ (p : Protocol) (logical : ℕ) (image : List Contents) (slots : List Seen) (list : List Found)
+    (scan : IsScanOf p logical image slots list) where
   pub scan_complete : map (λ f. f.slot.0) list ≡ complete_slots slots
   scan_complete =
       ap (map (λ (f : Found). f.slot.0)) (scan.records ∙ ap records_of (written_in_is p image))
@@ -67,7 +72,8 @@ module _ (p : Protocol) (logical : ℕ) (image : List Contents) (slots : List Se
       subst (All (PagesExist logical)) (sym scan.records)
       (All-map (PagesExist logical) found_of (written_in p image) (pages_hold p logical 0 image scan.reads))
 
-  pub copies_agree : All (KeepsWritten p (written_in p image) logical Copies) (written_in p image) → All (CopiesAgree list) list
+  pub copies_agree : All (KeepsWritten p (written_in p image) logical Copies) (written_in p image) →
+      All (CopiesAgree list) list
   copies_agree copies =
       subst (λ l. All (CopiesAgree l) l) (sym scan.records)
       (All-map (CopiesAgree (records_in p image)) found_of (written_in p image)
@@ -75,26 +81,62 @@ module _ (p : Protocol) (logical : ℕ) (image : List Contents) (slots : List Se
       (λ w i. (All-contains (KeepsWritten p (written_in p image) logical Copies) (written_in p image) w copies i).0)))
 
 -- the tables of the scan are those of the image
-noted_of_parts : (n : IndexState) (config : Config) (notes : List Note) (mentions : List ℕ) (spare : ℕ) → n.config ≡ config → n.notes ≡ notes →
+noted_of_parts : (n : IndexState) (config : Config) (notes : List Note) (mentions : List ℕ) (spare : ℕ) →
+    n.config ≡ config → n.notes ≡ notes →
     n.pins ≡ replicate config.logical 0 → n.mentions ≡ mentions →
-    with_spare n spare ≡ record { config = config; notes = notes; pins = replicate config.logical 0; spare = Some spare; mentions = mentions }
+    with_spare n spare ≡ record {
+      config = config;
+      notes = notes;
+      pins = replicate config.logical 0;
+      spare = Some spare;
+      mentions = mentions;
+    }
 noted_of_parts n config notes mentions spare e f g h =
-    ap (λ (k : Config). record { config = k; notes = n.notes; pins = n.pins; spare = Some spare; mentions = n.mentions }) e
-    ∙ ap (λ (l : List Note). record { config = config; notes = l; pins = n.pins; spare = Some spare; mentions = n.mentions }) f
-    ∙ ap (λ (l : List ℕ). record { config = config; notes = notes; pins = l; spare = Some spare; mentions = n.mentions }) g
-    ∙ ap (λ (l : List ℕ). record { config = config; notes = notes; pins = replicate config.logical 0; spare = Some spare; mentions = l }) h
+    ap (λ (k : Config). record {
+      config = k;
+      notes = n.notes;
+      pins = n.pins;
+      spare = Some spare;
+      mentions = n.mentions;
+    }) e
+    ∙ ap (λ (l : List Note). record {
+      config = config;
+      notes = l;
+      pins = n.pins;
+      spare = Some spare;
+      mentions = n.mentions;
+    }) f
+    ∙ ap (λ (l : List ℕ). record {
+      config = config;
+      notes = notes;
+      pins = l;
+      spare = Some spare;
+      mentions = n.mentions;
+    }) g
+    ∙ ap (λ (l : List ℕ). record {
+      config = config;
+      notes = notes;
+      pins = replicate config.logical 0;
+      spare = Some spare;
+      mentions = l;
+    }) h
 
 pub opened_image : (config : Config) (image : List Contents) (slots : List Seen) (list : List Found) →
     IsScanOf config.protocol config.logical image slots list →
-    (noted : IndexState) (table : BlocksState) → IsOpenedFrom config slots list noted table → IsOpened config image noted table
+    (noted : IndexState) (table : BlocksState) → IsOpenedFrom config slots list noted table →
+    IsOpened config image noted table
 opened_image config image slots list scan noted table h =
     let n = h.scanned in
-    let notes = scanned_notes config.protocol config.logical image h.scan.notes scan.reads (n.reads ∙ scan.seen) (n.found ∙ scan.records) in
+    let notes = scanned_notes config.protocol config.logical image h.scan.notes scan.reads (n.reads ∙ scan.seen)
+    (n.found ∙ scan.records) in
     record {
       spare = h.spare;
-      chosen = subst (λ l. IsChosenFrom config.protocol config.logical (shape_of config) (map seen_of image) l h.spare) scan.records
-          (subst (λ s. IsChosenFrom config.protocol config.logical (shape_of config) s list h.spare) scan.seen h.chosen);
-      noted_is = h.noted_is ∙ noted_of_parts h.scan config (notes_of config.protocol image) _ h.spare n.config notes n.pins
+      chosen = subst (λ l. IsChosenFrom config.protocol config.logical (shape_of config) (map seen_of image) l h.spare)
+          scan.records
+          (subst (λ s. IsChosenFrom config.protocol config.logical (shape_of config) s list h.spare)
+          scan.seen h.chosen);
+      noted_is = h.noted_is ∙ noted_of_parts h.scan config (notes_of config.protocol image) _ h.spare
+          n.config notes n.pins
           (n.mentions ∙ ap (λ l. map (mention l) (range_with_len 0 config.logical)) scan.records);
       table_is = h.table_is ∙ ap (λ s. opening_table (shape_of config) s h.spare) scan.seen;
     }
@@ -108,7 +150,8 @@ module _ (p : Protocol) (logical : ℕ) (shape : Shape) (image : List Contents) 
   records = records_in p image
 
   -- a record keeps a law with its bytes where it keeps it without
-  with_bytes : (l : Law) (w : Written) → BytesAgree ws w → Keeps p records logical l (found_of w) → KeepsWritten p ws logical l w
+  with_bytes : (l : Law) (w : Written) → BytesAgree ws w → Keeps p records logical l (found_of w) →
+      KeepsWritten p ws logical l w
   with_bytes Pages w b k = k
   with_bytes Copies w b k = (k, b)
   with_bytes Links w b k = k
@@ -133,7 +176,8 @@ module _ (p : Protocol) (logical : ℕ) (shape : Shape) (image : List Contents) 
   all_with_bytes l h = all_from (KeepsWritten p ws logical l) ws (λ w i. with_bytes l w (agree w i)
       (All-contains (Keeps p records logical l) records (found_of w) h (in_records ws w i)))
 
-  pub sound_image : IsSoundList p records logical × HasRemovable p records logical shape × HasCounts records → IsSoundImage p logical shape image
+  pub sound_image : IsSoundList p records logical × HasRemovable p records logical shape × HasCounts records →
+      IsSoundImage p logical shape image
   sound_image h = record {
     reads = reads;
     written = record {
@@ -161,7 +205,8 @@ module _ (p : Protocol) (logical : ℕ) (shape : Shape) (image : List Contents) 
           get_or_default ws i w no_written within,
           (
             ap (λ (f : Found). f.slot.0) (sym same) ∙ h.breaks.4.0,
-            λ protocol. h.breaks.4.1 (subst (Keeps p records logical h.law) (sym same) (without_bytes h.law w protocol)),
+            λ protocol. h.breaks.4.1 (subst (Keeps p records logical h.law) (sym same)
+                (without_bytes h.law w protocol)),
           ),
         );
         earlier_laws = λ l less. all_with_bytes l (h.earlier_laws l less);
@@ -186,15 +231,18 @@ module _ (p : Protocol) (logical : ℕ) (shape : Shape) (image : List Contents) 
   none_breaks P slot all (i, f, inside, is, both) = both.1 (subst P is (all i f inside))
 
   all_without_bytes : (l : Law) → All (KeepsWritten p ws logical l) ws → All (Keeps p records logical l) records
-  all_without_bytes l h = All-map (Keeps p records logical l) found_of ws (all_from (λ w. Keeps p records logical l (found_of w)) ws
+  all_without_bytes l h = All-map (Keeps p records logical l) found_of ws
+      (all_from (λ w. Keeps p records logical l (found_of w)) ws
       (λ w i. without_bytes l w (All-contains (KeepsWritten p ws logical l) ws w h i)))
 
   -- the law that is broken is neither law 1 nor law 2
-  broken_law : (b : Breach) (l : Law) → number l ≡ b.law → Any (λ f. (f.slot.0 ≡ b.slot.0) × (Keeps p records logical l f → ⊥)) records →
+  broken_law : (b : Breach) (l : Law) → number l ≡ b.law →
+      Any (λ f. (f.slot.0 ≡ b.slot.0) × (Keeps p records logical l f → ⊥)) records →
       reads_again records b ≡ 2 * compared records
   broken_law b Pages is breaks = absurd (none_breaks (Keeps p records logical Pages) b.slot.0
       (all_without_bytes Pages (pages_hold p logical 0 image reads)) breaks)
-  broken_law b Copies is breaks = absurd (none_breaks (Keeps p records logical Copies) b.slot.0 (all_without_bytes Copies copies) breaks)
+  broken_law b Copies is breaks = absurd (none_breaks (Keeps p records logical Copies) b.slot.0
+      (all_without_bytes Copies copies) breaks)
   broken_law b Links is breaks = rw (← is) refl
   broken_law b Present is breaks = rw (← is) refl
   broken_law b Counted is breaks = rw (← is) refl
@@ -206,27 +254,33 @@ module _ (p : Protocol) (logical : ℕ) (shape : Shape) (image : List Contents) 
   broken_reads b (inr (inl h)) = rw h.1 refl
   broken_reads b (inr (inr h)) = rw h.2.law refl
 
-module _ {T : Type 0} (p protocol : Protocol) (rule : p ≡ protocol) (logical : ℕ) (a d : FlashState) (shape : Shape) (its : shape ≡ a.shape) (slots : List Seen)
+module _ {T : Type 0} (p protocol : Protocol) (rule : p ≡ protocol) (logical : ℕ) (a d : FlashState) (shape : Shape)
+    (its : shape ≡ a.shape) (slots : List Seen)
     (list : List Found)
-    (scan : IsScanOf p logical a.image slots list) (copies : All (KeepsWritten p (written_in p a.image) logical Copies) (written_in p a.image))
+    (scan : IsScanOf p logical a.image slots list)
+    (copies : All (KeepsWritten p (written_in p a.image) logical Copies) (written_in p a.image))
     (r : Result T RecoverError) where
   -- a fact on the records of the scan is one on those of the image
   as_image : (P : Protocol → List Found → Shape → Type 0) → P protocol list shape → P p (records_in p a.image) a.shape
-  as_image P h = subst (λ q. P q (records_in p a.image) a.shape) (sym rule) (subst (P protocol (records_in p a.image)) its
+  as_image P h = subst (λ q. P q (records_in p a.image) a.shape) (sym rule)
+      (subst (P protocol (records_in p a.image)) its
       (subst (λ l. P protocol l shape) scan.records h))
 
-  pub recovered_sound : OnOk r (IsSoundList protocol list logical × HasRemovable protocol list logical shape × HasCounts list) →
+  pub recovered_sound : OnOk r (IsSoundList protocol list logical × HasRemovable protocol list logical shape
+      × HasCounts list) →
       OnOk r (IsSoundImage protocol logical a.shape a.image)
   recovered_sound h =
       on_ok_weaker r (λ both. subst (λ q. IsSoundImage q logical a.shape a.image) rule
-      (sound_image p logical a.shape a.image scan.reads copies (as_image (λ q l s. IsSoundList q l logical × HasRemovable q l logical s × HasCounts l) both))) h
+      (sound_image p logical a.shape a.image scan.reads copies
+      (as_image (λ q l s. IsSoundList q l logical × HasRemovable q l logical s × HasCounts l) both))) h
 
   pub recovered_unsound : IfErr r (λ e. IfUnsound e (IsBroken protocol list logical shape)) →
       IfErr r (λ e. IfUnsound e (IsLeastImageBreach protocol logical a.shape a.image))
   recovered_unsound h = IfErr-weaker r (λ e. IfUnsound e (IsBroken protocol list logical shape))
       (λ e. IfUnsound e (IsLeastImageBreach protocol logical a.shape a.image)) of_error h
     where
-      of_error : (e : RecoverError) → IfUnsound e (IsBroken protocol list logical shape) → IfUnsound e (IsLeastImageBreach protocol logical a.shape a.image)
+      of_error : (e : RecoverError) → IfUnsound e (IsBroken protocol list logical shape) →
+          IfUnsound e (IsLeastImageBreach protocol logical a.shape a.image)
       of_error error.Fault k = k
       of_error (error.Unsound law slot) k =
           subst (λ q. IsLeastImageBreach q logical a.shape a.image (record { law = law; slot = slot })) rule
@@ -238,11 +292,13 @@ module _ {T : Type 0} (p protocol : Protocol) (rule : p ≡ protocol) (logical :
       IfErr r (λ e. IfUnsound e (IsBroken protocol list logical shape)) → is_read_failure r ≡ false → ReadsFor p a d r
   recovered_reads read h fault = of_result r h fault
     where
-      of_result : (x : Result T RecoverError) → IfErr x (λ e. IfUnsound e (IsBroken protocol list logical shape)) → is_read_failure x ≡ false → ReadsFor p a d x
+      of_result : (x : Result T RecoverError) → IfErr x (λ e. IfUnsound e (IsBroken protocol list logical shape)) →
+          is_read_failure x ≡ false → ReadsFor p a d x
       of_result (Ok x) k f = read
       of_result (Err error.Fault) k f = absurd (false≢true (sym f))
       of_result (Err (error.Unsound law slot)) k f =
           subst (λ n. ReadsAll a d (slots_of a.shape + n))
           (sym (broken_reads p logical a.shape a.image scan.reads copies (record { law = law; slot = slot })
           (as_image (λ q l s. IsBroken q l logical s (record { law = law; slot = slot })) k))) read
-      of_result (Err error.Memory) k f = reads_some_all a d (slots_of a.shape + 2 * compared (records_in p a.image)) read
+      of_result (Err error.Memory) k f = reads_some_all a d (slots_of a.shape + 2 * compared (records_in p a.image))
+          read

@@ -17,22 +17,28 @@ module _ (p : Protocol) (logical : ℕ) (a b c : FlashState) (slots : List Seen)
       (as_before a b (slots_of a.shape) (λ s i. All (AgreesWithLowest s.page_bytes i list) list) read agrees))
 
   -- and the first that does not breaks it
-  pub scan_breach : (at : ℕ) (found : Found) → FindsFirst (AgreesWithLowest b.shape.page_bytes b.image list) list (Some at) → get_or list at nothing ≡ found →
+  pub scan_breach : (at : ℕ) (found : Found) → FindsFirst (AgreesWithLowest b.shape.page_bytes b.image list) list
+      (Some at) → get_or list at nothing ≡ found →
       IsLeastImageBreach p logical a.shape a.image (record { law = 2; slot = found.slot })
   scan_breach at found first here =
-      let all : FindsFirst (AgreesWithLowest a.shape.page_bytes a.image (records_in p a.image)) (records_in p a.image) (Some at) =
+      let all : FindsFirst (AgreesWithLowest a.shape.page_bytes a.image (records_in p a.image))
+      (records_in p a.image) (Some at) =
       subst (λ l. FindsFirst (AgreesWithLowest a.shape.page_bytes a.image l) l (Some at)) scan.records
-      (as_before a b (slots_of a.shape) (λ s i. FindsFirst (AgreesWithLowest s.page_bytes i list) list (Some at)) read first) in
-      two_broken p logical a.shape.page_bytes a.image a.shape at (record { law = 2; slot = found.slot }) scan.reads all refl
+      (as_before a b (slots_of a.shape) (λ s i. FindsFirst (AgreesWithLowest s.page_bytes i list) list (Some at))
+      read first) in
+      two_broken p logical a.shape.page_bytes a.image a.shape at (record { law = 2; slot = found.slot })
+      scan.reads all refl
       (ap (λ (f : Found). f.slot) (sym here ∙ ap (λ l. get_or l at nothing) scan.records))
 
   -- the reads of both
-  pub reads_whole : ReadsAll b c (2 * compared list) → ReadsAll a c (slots_of a.shape + 2 * compared (records_in p a.image))
+  pub reads_whole : ReadsAll b c (2 * compared list) →
+      ReadsAll a c (slots_of a.shape + 2 * compared (records_in p a.image))
   reads_whole then =
       subst (λ l. ReadsAll a c (slots_of a.shape + 2 * compared l)) scan.records
       (reads_all_then a b c (slots_of a.shape) (2 * compared list) read then)
 
-  pub reads_until : (at : ℕ) (found : Found) → at < length list → get_or list at nothing ≡ found → ReadsAll b c (2 * compared_to list (Some at)) →
+  pub reads_until : (at : ℕ) (found : Found) → at < length list → get_or list at nothing ≡ found →
+      ReadsAll b c (2 * compared_to list (Some at)) →
       ReadsAll a c (slots_of a.shape + 2 * compared_upto (records_in p a.image) found.slot.0)
   reads_until at found within here then =
       let up = subst (λ l. IsScanned l) (sym scan.records) (records_scanned p a.image) in
@@ -41,7 +47,8 @@ module _ (p : Protocol) (logical : ℕ) (a b c : FlashState) (slots : List Seen)
       (subst (λ n. ReadsAll a c (slots_of a.shape + 2 * n)) (compared_until list at up.ascending within)
       (reads_all_then a b c (slots_of a.shape) (2 * compared_to list (Some at)) read then)))
 
-  pub reads_fault : ReadsSome b c true (2 * compared list) → ReadsSome a c true (slots_of a.shape + 2 * compared (records_in p a.image))
+  pub reads_fault : ReadsSome b c true (2 * compared list) →
+      ReadsSome a c true (slots_of a.shape + 2 * compared (records_in p a.image))
   reads_fault then =
       subst (λ l. ReadsSome a c true (slots_of a.shape + 2 * compared l)) scan.records
       (reads_some_then a b c (slots_of a.shape) (2 * compared list) true read then)

@@ -33,7 +33,8 @@ count_upto p (x ∷ xs) zero up within =
     ∙ sym (counted p x [])
 count_upto p (x ∷ xs) (suc at) up within =
     let top = (get_or xs at nothing).slot.0 in
-    let low : x.slot.0 < top = pairs_head (λ f g. f.slot.0 < g.slot.0) x xs (get_or xs at nothing) up (Contains-get_or xs at nothing (omega arith)) in
+    let low : x.slot.0 < top = pairs_head (λ f g. f.slot.0 < g.slot.0) x xs (get_or xs at nothing) up
+    (Contains-get_or xs at nothing (omega arith)) in
     counted (upto top p) x xs
     ∙ ap₂ (λ (b : Bool) (n : ℕ). cond b 1 0 + n) (passes top p x (omega arith))
     (count_upto p xs at (pairs_tail (λ f g. f.slot.0 < g.slot.0) x xs up) (omega arith))

@@ -17,9 +17,11 @@ module _ (count : ℕ) (test : Found → ℕ → Bool) (list : List Found) where
     each = λ n d within. ap (λ m. get_or m n d) is ∙ get_or-replicate count n false d within;
   }
 
-  module _ (marks : List Bool) (at : ℕ) (within : at < length list) (before : AreMarked count test (take at list) marks) where
+  module _ (marks : List Bool) (at : ℕ) (within : at < length list)
+      (before : AreMarked count test (take at list) marks) where
     -- a record that passes with none leaves the marks
-    pub marked_same : ((n : ℕ) → n < count → test (get_or list at nothing) n ≡ false) → AreMarked count test (take (at + 1) list) marks
+    pub marked_same : ((n : ℕ) → n < count → test (get_or list at nothing) n ≡ false) →
+        AreMarked count test (take (at + 1) list) marks
     marked_same none = record {
       size = before.size;
       each = λ n d low.
@@ -39,7 +41,8 @@ module _ (count : ℕ) (test : Found → ℕ → Bool) (list : List Found) where
           ∙ sym (list_any_more (λ f. test f n) list at nothing within);
     }
       where
-        step : (n : ℕ) (d : Bool) → n < count → get_or (slice_set marks place true) n d ≡ (list_any (λ f. test f n) (take at list) || (place == n))
+        step : (n : ℕ) (d : Bool) → n < count → get_or (slice_set marks place true) n d
+            ≡ (list_any (λ f. test f n) (take at list) || (place == n))
         step n d low = elim (cases_eq place n) [
           | inl e ↦ (
               let here : place < length marks = (let s = before.size in omega arith) in

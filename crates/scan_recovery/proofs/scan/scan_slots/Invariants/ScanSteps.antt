@@ -28,7 +28,8 @@ pub record IsUnreadTo (protocol : Protocol) (logical : ℕ) (image : List Conten
   pub earlier_slots : (k : ℕ) → k < slot → SlotReads protocol logical (slot_at image k)
 
 -- nothing was scanned yet
-pub scan_first : (p : Protocol) (logical : ℕ) (image : List Contents) (slots : List Seen) (list : List Found) → slots ≡ [] → list ≡ [] →
+pub scan_first : (p : Protocol) (logical : ℕ) (image : List Contents) (slots : List Seen) (list : List Found) →
+    slots ≡ [] → list ≡ [] →
     IsScanTo p logical image 0 slots list
 scan_first p logical image slots list no_slots no_records = record {
   reads = λ k d within. absurd (omega arith);
@@ -38,7 +39,8 @@ scan_first p logical image slots list no_slots no_records = record {
 
 -- the records of one slot more
 records_more : (p : Protocol) (image : List Contents) (at : ℕ) → at < length image →
-    records_in p (take (at + 1) image) ≡ records_in p (take at image) ++ cons_option (found_at at (note_of p (slot_at image at))) []
+    records_in p (take (at + 1) image) ≡ records_in p (take at image)
+    ++ cons_option (found_at at (note_of p (slot_at image at))) []
 records_more p image at within =
     let noted = notes_of p image in
     let long : at < length noted = omega (arith, length-map image (note_of p)) in
@@ -55,20 +57,27 @@ module _ (p : Protocol) (logical : ℕ) (image : List Contents) (at : ℕ) (with
   scan_next slots list note h reads is = record {
     reads = subst (All (SlotReads p logical)) (sym (take_more image at blank within))
         (All-append (SlotReads p logical) (take at image) (slot_at image at ∷ []) h.reads (one_reads reads));
-    seen = ap₂ (λ (l : List Seen) (s : Seen). l ++ s ∷ []) h.seen (ap seen_as is ∙ note_reads p logical (slot_at image at) reads)
-        ∙ sym (ap (map seen_of) (take_more image at blank within) ∙ map-append seen_of (take at image) (slot_at image at ∷ []));
-    records = ap₂ (λ (l : List Found) (n : Note). l ++ cons_option (found_at at n) []) h.records is ∙ sym (records_more p image at within);
+    seen = ap₂ (λ (l : List Seen) (s : Seen). l ++ s ∷ []) h.seen (ap seen_as is
+        ∙ note_reads p logical (slot_at image at) reads)
+        ∙ sym (ap (map seen_of) (take_more image at blank within)
+        ∙ map-append seen_of (take at image) (slot_at image at ∷ []));
+    records = ap₂ (λ (l : List Found) (n : Note). l ++ cons_option (found_at at n) []) h.records is
+        ∙ sym (records_more p image at within);
   }
     where
       one_reads : SlotReads p logical (slot_at image at) → All (SlotReads p logical) (slot_at image at ∷ [])
-      one_reads reads = all_from (SlotReads p logical) (slot_at image at ∷ []) (λ x i. subst (SlotReads p logical) (Contains-one (slot_at image at) x i) reads)
+      one_reads reads = all_from (SlotReads p logical) (slot_at image at ∷ [])
+          (λ x i. subst (SlotReads p logical) (Contains-one (slot_at image at) x i) reads)
 
   abbrev pub IsFoundTo : ℕ → Option Slot → List Seen → List Found → Type 0
-  IsFoundTo to unread slots list = MatchOption unread (IsScanTo p logical image to slots list) (λ slot. IsUnreadTo p logical image to slot.0)
+  IsFoundTo to unread slots list = MatchOption unread (IsScanTo p logical image to slots list)
+      (λ slot. IsUnreadTo p logical image to slot.0)
 
   -- a slot that keeps law 1
-  pub found_note : (unread : Option Slot) (slots : List Seen) (list : List Found) (note : Note) → IsFoundTo at unread slots list →
-      IsNote p logical (slot_at image at) (Some note) → IsFoundTo (at + 1) unread (slots ++ seen_as note ∷ []) (list ++ cons_option (found_at at note) [])
+  pub found_note : (unread : Option Slot) (slots : List Seen) (list : List Found) (note : Note) →
+      IsFoundTo at unread slots list →
+      IsNote p logical (slot_at image at) (Some note) →
+      IsFoundTo (at + 1) unread (slots ++ seen_as note ∷ []) (list ++ cons_option (found_at at note) [])
   found_note None slots list note h is = scan_next slots list note h is.0 is.1
   found_note (Some slot) slots list note h is = record {
     below = (let below = h.below in omega arith);
@@ -78,7 +87,8 @@ module _ (p : Protocol) (logical : ℕ) (image : List Contents) (at : ℕ) (with
 
   -- a slot that breaks it
   pub found_unread : (unread : Option Slot) (slots : List Seen) (list : List Found) → IsFoundTo at unread slots list →
-      IsNote p logical (slot_at image at) None → IsUnreadTo p logical image (at + 1) (unwrap_or unread (record { 0 = at })).0
+      IsNote p logical (slot_at image at) None →
+      IsUnreadTo p logical image (at + 1) (unwrap_or unread (record { 0 = at })).0
   found_unread None slots list h breaks = record {
     below = omega arith;
     breaks = breaks;

@@ -36,16 +36,22 @@ complete_reads slots s i =
     }
 
 -- each slot with a record reads complete
-pub found_complete : (slots : List Seen) (list : List Found) (f : Found) → map (λ g. g.slot.0) list ≡ complete_slots slots → Contains list f →
+pub found_complete : (slots : List Seen) (list : List Found) (f : Found) →
+    map (λ g. g.slot.0) list ≡ complete_slots slots → Contains list f →
     get_or slots f.slot.0 Blank ≡ Complete
-found_complete slots list f e i = (complete_reads slots f.slot.0 (subst (λ l. Contains l f.slot.0) e (map_in (λ (g : Found). g.slot.0) list f i))).reads
+found_complete slots list f e i =
+    (complete_reads slots f.slot.0 (subst (λ l. Contains l f.slot.0) e
+    (map_in (λ (g : Found). g.slot.0) list f i))).reads
 
-pub slot_within : (slots : List Seen) (list : List Found) (f : Found) → map (λ g. g.slot.0) list ≡ complete_slots slots → Contains list f →
+pub slot_within : (slots : List Seen) (list : List Found) (f : Found) →
+    map (λ g. g.slot.0) list ≡ complete_slots slots → Contains list f →
     f.slot.0 < length slots
-slot_within slots list f e i = (complete_reads slots f.slot.0 (subst (λ l. Contains l f.slot.0) e (map_in (λ (g : Found). g.slot.0) list f i))).within
+slot_within slots list f e i = (complete_reads slots f.slot.0
+    (subst (λ l. Contains l f.slot.0) e (map_in (λ (g : Found). g.slot.0) list f i))).within
 
 -- no complete slot lies in a block that is all blank
-outside_blank : (shape : Shape) (slots : List Seen) (block at : ℕ) → 0 < shape.pages_per_block → IsBlankBlock shape slots block →
+outside_blank : (shape : Shape) (slots : List Seen) (block at : ℕ) → 0 < shape.pages_per_block →
+    IsBlankBlock shape slots block →
     at < length slots → get_or slots at Blank ≡ Complete → is_outside shape block at ≡ true
 outside_blank shape slots block at some blank within reads = elim (cases_Bool (is_outside shape block at)) [
   | inl out ↦ out
@@ -53,17 +59,22 @@ outside_blank shape slots block at some blank within reads = elim (cases_Bool (i
       let ends = inside_block shape.pages_per_block block at some (in_it shape block at inside) in
       let here = chunk_at slots shape.pages_per_block block at Blank ends.0 ends.1 in
       let there = length-chunk slots shape.pages_per_block block at ends.0 ends.1 within in
-      absurd (false≢true (sym (list_all_at reads_blank (seen_in_block shape slots block) (at - block * shape.pages_per_block) Blank there
+      absurd (false≢true (sym (list_all_at reads_blank (seen_in_block shape slots block)
+      (at - block * shape.pages_per_block) Blank there
       (ap reads_blank (here ∙ reads))) ∙ blank))
 ]
 
-pub blank_removable : (p : Protocol) (list : List Found) (logical : ℕ) (shape : Shape) (slots : List Seen) (block : ℕ) → 0 < shape.pages_per_block →
-    map (λ g. g.slot.0) list ≡ complete_slots slots → IsBlankBlock shape slots block → IsRemovable p list logical shape block
+pub blank_removable : (p : Protocol) (list : List Found) (logical : ℕ) (shape : Shape) (slots : List Seen) (block : ℕ) →
+    0 < shape.pages_per_block →
+    map (λ g. g.slot.0) list ≡ complete_slots slots → IsBlankBlock shape slots block →
+    IsRemovable p list logical shape block
 blank_removable p list logical shape slots block some e blank =
     all_from
-    (λ f. IsCurrent p list logical f.rec ⊎ (is_held p list logical f.rec ≡ true) → is_present (left (is_outside shape block) list) (name_of f.rec) ≡ true)
+    (λ f. IsCurrent p list logical f.rec ⊎ (is_held p list logical f.rec ≡ true) →
+    is_present (left (is_outside shape block) list) (name_of f.rec) ≡ true)
     list (λ f i counted.
-    let out = outside_blank shape slots block f.slot.0 some blank (slot_within slots list f e i) (found_complete slots list f e i) in
+    let out = outside_blank shape slots block f.slot.0 some blank (slot_within slots list f e i)
+    (found_complete slots list f e i) in
     present_in (left (is_outside shape block) list) f (in_filter (λ g. is_outside shape block g.slot.0) f list i out))
 
 module _ (p : Protocol) (logical : ℕ) (shape : Shape) (slots : List Seen) (list : List Found) where
@@ -72,11 +83,17 @@ module _ (p : Protocol) (logical : ℕ) (shape : Shape) (slots : List Seen) (lis
       IsChosenFrom p logical shape slots list block × HasRemovable p list logical shape
   chosen_blank block some e high = (
     inl high,
-    record { block = block; exists = high.exists; removable = blank_removable p list logical shape slots block some e high.holds },
+    record {
+      block = block;
+      exists = high.exists;
+      removable = blank_removable p list logical shape slots block some
+          e high.holds;
+    },
   )
 
   pub chosen_removable : (found : Option Block) → HasNoBlankBlock shape slots →
-      FindsHighest (IsRemovable p list logical shape) (blocks_of shape) found → FindsSpare p logical shape slots list found
+      FindsHighest (IsRemovable p list logical shape) (blocks_of shape) found →
+      FindsSpare p logical shape slots list found
   chosen_removable None none finds = λ h. finds h.block h.exists h.removable
   chosen_removable (Some block) none high = (
     inr (none, high),

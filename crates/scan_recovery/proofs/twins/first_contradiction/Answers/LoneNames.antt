@@ -30,15 +30,18 @@ differ l order next i j d less within = λ same.
     let shared : name_of (get_or l i nothing).rec ≡ name_of (get_or l (suc i) nothing).rec =
     ap (λ (f : Found). name_of f.rec) (get_or_default l i nothing d (omega arith)) ∙ one
     ∙ ap (λ (f : Found). name_of f.rec) (get_or_default l (suc i) d nothing (omega arith)) in
-    false≢true (sym (next i (omega arith)) ∙ has_own_name (name_of (get_or l (suc i) nothing).rec) (get_or l i nothing).rec shared)
+    false≢true (sym (next i (omega arith)) ∙ has_own_name (name_of (get_or l (suc i) nothing).rec)
+    (get_or l i nothing).rec shared)
 
 -- each is the first of its name
-lone : (l : List Found) → AllPairs Differ l → (f : Found) → Contains l f → find (λ g. has_name (name_of f.rec) g.rec) l ≡ Some f
+lone : (l : List Found) → AllPairs Differ l → (f : Found) → Contains l f →
+    find (λ g. has_name (name_of f.rec) g.rec) l ≡ Some f
 lone [] apart f i = absurd (Contains-nil f i)
 lone (g ∷ gs) apart f i = elim (Contains-cases g gs f i) [
   | inl same ↦
       subst (λ (h : Found). find (λ x. has_name (name_of h.rec) x.rec) (g ∷ gs) ≡ Some h) same
-      (cond-true (has_name (name_of g.rec) g.rec) (Some g) (find (λ x. has_name (name_of g.rec) x.rec) gs) (has_own_name (name_of g.rec) g.rec refl))
+      (cond-true (has_name (name_of g.rec) g.rec) (Some g) (find (λ x. has_name (name_of g.rec) x.rec) gs)
+      (has_own_name (name_of g.rec) g.rec refl))
   | inr later ↦
       let other : has_name (name_of f.rec) g.rec ≡ false =
       elim (cases_Bool (has_name (name_of f.rec) g.rec)) [
@@ -53,7 +56,8 @@ never : (b : Bool) → (b && not true) ≡ false
 never true = refl
 never false = refl
 
-module _ (list sorted : List Found) (is : Sorts list sorted) (next : (k : ℕ) → suc k < length sorted → NextDiffers sorted k) where
+module _ (list sorted : List Found) (is : Sorts list sorted) (next : (k : ℕ) → suc k < length sorted →
+    NextDiffers sorted k) where
   lowest : (f : Found) → Contains list f → find (λ g. has_name (name_of f.rec) g.rec) sorted ≡ Some f
   lowest f i = lone sorted (differ sorted is.order next) f (Contains-permutation list sorted f is.records i)
 
@@ -61,13 +65,15 @@ module _ (list sorted : List Found) (is : Sorts list sorted) (next : (k : ℕ) �
   pub all_agree : (page_bytes : ℕ) (image : List Contents) → All (AgreesWithLowest page_bytes image list) list
   all_agree page_bytes image = all_from (AgreesWithLowest page_bytes image list) list (λ f i.
       subst (λ (T : Type 0). T) (agrees_alike list sorted is page_bytes image f)
-      (subst (λ o. IfSome o (λ g. (g.rec ≡ f.rec) × (bytes_shown page_bytes image g ≡ bytes_shown page_bytes image f))) (sym (lowest f i)) (refl, refl)))
+      (subst (λ o. IfSome o (λ g. (g.rec ≡ f.rec) × (bytes_shown page_bytes image g ≡ bytes_shown page_bytes image f)))
+      (sym (lowest f i)) (refl, refl)))
 
   none_compared : compared list ≡ 0
   unfolding compared
   none_compared = none_counted (is_compared list) list (all_from (λ f. is_compared list f ≡ false) list (λ f i.
       sym (compared_alike list sorted is f)
-      ∙ ap (λ o. option_map_or (λ (g : Found). is_equal g.rec f.rec && not (eqb g.slot.0 f.slot.0)) o false) (lowest f i)
+      ∙ ap (λ o. option_map_or (λ (g : Found). is_equal g.rec f.rec && not (eqb g.slot.0 f.slot.0)) o false)
+      (lowest f i)
       ∙ ap (λ b. is_equal f.rec f.rec && not b) (eq-eqb f.slot.0 f.slot.0 refl) ∙ never (is_equal f.rec f.rec)))
 
   -- and no slot has to be read for it

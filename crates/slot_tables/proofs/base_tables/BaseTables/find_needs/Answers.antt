@@ -9,16 +9,20 @@ new-requires-clause-small c = rw c.blocks-blocks.ensures (omega (arith, c.requir
 pub mark_needed-requires-clause-slots : goal.mark_needed-requires-clause-slots
 mark_needed-requires-clause-slots c =
     let g = c.args.self.now in
-    let whole : c.blocks-blocks.result * g.shape.pages_per_block ≡ slots_of g.shape = rw c.blocks-blocks.ensures (omega arith) in
-    ap (λ m. length m.marks) c.in_ok-marks.ensures ∙ length-replicate {A = Bool} (c.blocks-blocks.result * g.shape.pages_per_block) false
+    let whole : c.blocks-blocks.result * g.shape.pages_per_block ≡ slots_of g.shape =
+    rw c.blocks-blocks.ensures (omega arith) in
+    ap (λ m. length m.marks) c.in_ok-marks.ensures
+    ∙ length-replicate {A = Bool} (c.blocks-blocks.result * g.shape.pages_per_block) false
     ∙ whole ∙ sym c.requires.sized.kept.slots
 
 pub mark_needed-requires-clause-none : goal.mark_needed-requires-clause-none
-mark_needed-requires-clause-none c at = rw c.in_ok-marks.ensures (unmarked (c.blocks-blocks.result * c.args.self.now.shape.pages_per_block) at)
+mark_needed-requires-clause-none c at = rw c.in_ok-marks.ensures
+    (unmarked (c.blocks-blocks.result * c.args.self.now.shape.pages_per_block) at)
 
 pub new-requires-2 : goal.new-requires-2
 new-requires-2 c =
     let g = c.args.self.now in
-    let whole : c.blocks-blocks.result * g.shape.pages_per_block ≡ slots_of g.shape = rw c.blocks-blocks.ensures (omega arith) in
+    let whole : c.blocks-blocks.result * g.shape.pages_per_block ≡ slots_of g.shape =
+    rw c.blocks-blocks.ensures (omega arith) in
     c.mark_needed.ensures.slots ∙ c.requires.sized.kept.slots ∙ sym whole
     ∙ ap (λ k. c.blocks-blocks.result * k) (sym (c.mark_needed.ensures.size ∙ ap (λ m. m.size) c.in_ok-marks.ensures))

@@ -6,7 +6,9 @@ use Rattle.slot_tables.proofs.base_tables.BaseTables.refresh_block.Goals as goal
 
 pub refresh_moved-requires-clause-before : goal.refresh_moved-requires-clause-before
 refresh_moved-requires-clause-before c =
-    rw c.home_by.ensures (home_lies (record (tables_state c.args.self.now) { spare = option_map (λ b. b.0) c.args.older }) c.number_in-number.result)
+    rw c.home_by.ensures (home_lies (record (tables_state c.args.self.now) {
+      spare = option_map (λ b. b.0) c.args.older;
+    }) c.number_in-number.result)
 
 pub loop-at-init : goal.loop-at-init
 loop-at-init c = none_refreshed _ _ _ c.args.live.now
@@ -19,6 +21,8 @@ loop-at-preserved c =
 
 pub returns : goal.returns
 returns c =
-    let all : c.loop-at.at ≡ c.args.block.0 * c.args.self.now.shape.pages_per_block + c.args.self.now.shape.pages_per_block = omega arith in
-    all_refreshed (tables_state c.args.self.now) (option_map (λ b. b.0) c.args.older) c.args.block.0 c.args.live.now c.loop-at.live
+    let all : c.loop-at.at ≡ c.args.block.0 * c.args.self.now.shape.pages_per_block
+    + c.args.self.now.shape.pages_per_block = omega arith in
+    all_refreshed (tables_state c.args.self.now) (option_map (λ b. b.0) c.args.older) c.args.block.0 c.args.live.now
+    c.loop-at.live
     (rw all at c.loop-at.invariant)

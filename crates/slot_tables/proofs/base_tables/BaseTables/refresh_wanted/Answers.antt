@@ -6,7 +6,8 @@ use Rattle.slot_tables.proofs.base_tables.BaseTables.refresh_wanted.Goals as goa
 pub set-requires : goal.set-requires
 set-requires c =
     let k = tables_state c.args.self.now in
-    rw c.requires.live (subst (λ o. IfSome o (λ s. s < length k.slots)) (sym c.requires.home ∙ c.in-Some.is) (home_lies k (Some c.args.number)))
+    rw c.requires.live (subst (λ o. IfSome o (λ s. s < length k.slots)) (sym c.requires.home ∙ c.in-Some.is)
+    (home_lies k (Some c.args.number)))
 
 pub returns-in-Some : goal.returns-in-Some
 returns-in-Some c =

@@ -10,15 +10,18 @@ invariant_of-result c =
     let counts = c.in_ok-vec-2.ensures.items_if_clones_equal (λ y same. same) in
     let size = c.args.size in
     let groups = c.args.groups in
-    let long : length c.in_ok-vec-2.field-0.items ≡ groups = rw counts (length-replicate {A = ℕ} groups c.if-mark.count) in
-    let whole : length c.in_ok-vec.field-0.items ≡ groups * size = rw marks (length-replicate {A = Bool} (groups * size) c.args.mark) in
+    let long : length c.in_ok-vec-2.field-0.items ≡ groups =
+    rw counts (length-replicate {A = ℕ} groups c.if-mark.count) in
+    let whole : length c.in_ok-vec.field-0.items ≡ groups * size =
+    rw marks (length-replicate {A = Bool} (groups * size) c.args.mark) in
     record {
       size = rw c.new.ensures c.requires.size;
       groups = rw (c.new.ensures, long) whole;
       small = omega (arith, whole, c.requires.small);
       counts = λ group low.
           let lies : group < groups = omega (arith, low, long) in
-          rw (c.new.ensures, marks, counts) (get_or-replicate {A = ℕ} groups group c.if-mark.count 0 lies ∙ count_is group lies);
+          rw (c.new.ensures, marks, counts) (get_or-replicate {A = ℕ} groups group c.if-mark.count 0 lies
+          ∙ count_is group lies);
     }
   where
     count_is : (group : ℕ) → group < c.args.groups

@@ -6,10 +6,13 @@ use Rattle.slot_tables.proofs.lazy_table.LazyTable.set.Goals as goal
 set_inside : {T : Type 0} (xs : List T) (n count : ℕ) (rest to : T) → n < length xs
     → set xs n to ++ replicate (count - length (set xs n to)) rest ≡ set (xs ++ replicate (count - length xs) rest) n to
 set_inside {T} xs n count rest to low =
-    ap (λ k. set xs n to ++ replicate (count - k) rest) (length-set xs n to) ∙ sym (set-append_left xs (replicate (count - length xs) rest) n to low)
+    ap (λ k. set xs n to ++ replicate (count - k) rest) (length-set xs n to)
+    ∙ sym (set-append_left xs (replicate (count - length xs) rest) n to low)
 
-set_behind : {T : Type 0} (xs ys : List T) (n count : ℕ) (rest to : T) → ys ≡ xs ++ replicate (n - length xs) rest → length xs ≤ n → n < count
-    → (ys ++ to ∷ []) ++ replicate (count - length (ys ++ to ∷ [])) rest ≡ set (xs ++ replicate (count - length xs) rest) n to
+set_behind : {T : Type 0} (xs ys : List T) (n count : ℕ) (rest to : T) → ys ≡ xs ++ replicate (n - length xs) rest →
+    length xs ≤ n → n < count
+    → (ys ++ to ∷ []) ++ replicate (count - length (ys ++ to ∷ [])) rest
+    ≡ set (xs ++ replicate (count - length xs) rest) n to
 set_behind {T} xs ys n count rest to is past low =
     let more = n - length xs in
     let behind = count - n - 1 in
@@ -30,7 +33,8 @@ set_behind {T} xs ys n count rest to is past low =
 pub returns-then-place-len : goal.returns-then-place-len
 returns-then-place-len g c =
     let t = c.self.inside in
-    set_inside t.first.items c.args.number t.count t.rest c.args.to (omega arith) ∙ ap (λ l. set l c.args.number c.args.to) c.self.view_is
+    set_inside t.first.items c.args.number t.count t.rest c.args.to (omega arith)
+    ∙ ap (λ l. set l c.args.number c.args.to) c.self.view_is
 
 pub returns : goal.returns
 returns g c =
@@ -41,5 +45,6 @@ returns g c =
     length-append xs (replicate more t.rest) ∙ ap (λ k. length xs + k) (length-replicate more t.rest) in
     let within : c.args.number < length (xs ++ replicate more t.rest) = rw c.self.view_is c.requires in
     let low : c.args.number < t.count = omega (arith, c.self.invariant.within) in
-    rw c.push_reserved.ensures.items (set_behind xs c.reach.new.first.items c.args.number t.count t.rest c.args.to c.reach.ensures.items (omega arith) low
+    rw c.push_reserved.ensures.items (set_behind xs c.reach.new.first.items c.args.number t.count t.rest c.args.to
+    c.reach.ensures.items (omega arith) low
     ∙ ap (λ l. set l c.args.number c.args.to) c.self.view_is)

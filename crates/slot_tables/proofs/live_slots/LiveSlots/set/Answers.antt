@@ -9,12 +9,14 @@ invariant_of-self c =
     let block = rw (c.set.ensures, c.self.invariant.size) at c.group.ensures in
     let count = rw (block, c.set.ensures, c.self.invariant.size) at c.count-count.ensures.count in
     rw (c.set.ensures, c.set-then-not-is_spare.ensures, block)
-    (marked_block n c.args.at c.args.needed c.self.invariant (rw (← c.self.view_is) at c.requires) _ (sym (rw block at c.is_spare.ensures)
+    (marked_block n c.args.at c.args.needed c.self.invariant (rw (← c.self.view_is) at c.requires)
+    _ (sym (rw block at c.is_spare.ensures)
     ∙ c.if-not-is_spare.true) (ap (λ k. n.size - k) count))
 
 pub invariant_of-self-else-not-is_spare : goal.invariant_of-self-else-not-is_spare
 invariant_of-self-else-not-is_spare c =
     let block = rw (c.set.ensures, c.self.invariant.size) at c.group.ensures in
     rw c.set.ensures
-    (marked_spare c.self.inside c.args.at c.args.needed c.self.invariant (rw (← c.self.view_is) at c.requires) (sym (rw block at c.is_spare.ensures)
+    (marked_spare c.self.inside c.args.at c.args.needed c.self.invariant (rw (← c.self.view_is) at c.requires)
+    (sym (rw block at c.is_spare.ensures)
     ∙ c.if-not-is_spare.false))

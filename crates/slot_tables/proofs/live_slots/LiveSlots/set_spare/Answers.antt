@@ -13,5 +13,6 @@ invariant_of-self c =
           let count = rw c.self.invariant.size at w.count-count.ensures.count in
           rw (c.set-2.ensures, w.self-inside-is, w.set.ensures)
           (next_spare n c.args.block w.in-Some.old _ c.self.invariant lies w.in-Some.is (ap (λ k. n.size - k) count))
-      | in_default w ↦ rw (c.set-2.ensures, w.self-inside-is) (first_spare n c.args.block c.self.invariant lies w.in_default.is)
+      | in_default w ↦ rw (c.set-2.ensures, w.self-inside-is)
+          (first_spare n c.args.block c.self.invariant lies w.in_default.is)
     ]

@@ -6,13 +6,16 @@ use Rattle.slot_tables.proofs.records.Records.number_of.Goals as goal
 pub loop-next-init : goal.loop-next-init
 loop-next-init c =
     let r = c.self.inside in
-    let low = rw (← c.self.view_is, pages_long r c.self.invariant) at c.requires in
-    (ahead_first r c.self.invariant c.args.page c.args.version low c.first-next.result c.first-next.ensures.order, c.first-next.ensures.listed)
+    let low = rw (← c.self.view_is, pages_long r c.self.invariant) at c.requires in (
+      ahead_first r c.self.invariant c.args.page c.args.version low c.first-next.result c.first-next.ensures.order,
+      c.first-next.ensures.listed,
+    )
 
 pub get-requires : goal.get-requires
 get-requires c =
     let r = c.self.inside in
-    let within = c.first-next.ensures.lists.within c.args.page c.in-Some.number (rw c.in-Some.is at c.loop-next.invariant.1) in
+    let within = c.first-next.ensures.lists.within c.args.page c.in-Some.number
+    (rw c.in-Some.is at c.loop-next.invariant.1) in
     rw c.self.invariant.places at within
 
 pub returns-in_default-get-clause-names : goal.returns-in_default-get-clause-names
@@ -39,7 +42,8 @@ returns-then-rec-version-2-clause-names c =
     let page = ap (λ f. f.page) (same_record c.in-Some-get.rec found.0 (sym is ∙ found.1)) ∙ found.2 in
     rw (← c.self.view_is)
     (λ number rec rec_is. (
-      λ names. ap Some (one_number r c.self.invariant c.args.page c.args.version low c.in-Some.number number c.in-Some-get.rec rec is
+      λ names. ap Some (one_number r c.self.invariant c.args.page c.args.version low c.in-Some.number number
+          c.in-Some-get.rec rec is
           rec_is (page, c.if-rec-version-2.true) names),
       λ e.
           let number_is : c.in-Some.number ≡ number = cc in
@@ -69,7 +73,8 @@ returns-else-rec-version-2-clause-names c =
     (c.first-next.ensures.lists.within c.args.page c.in-Some.number has) in
     let is : record_at r.records c.in-Some.number ≡ Some c.in-Some-get.rec =
     c.get.ensures None ∙ c.in-Some-get.is in
-    let older : c.in-Some-get.rec.version < c.args.version = omega (arith, c.if-rec-version.true, c.if-rec-version-2.false) in
+    let older : c.in-Some-get.rec.version < c.args.version =
+    omega (arith, c.if-rec-version.true, c.if-rec-version-2.false) in
     rw (← c.self.view_is)
     (λ number rec rec_is. (
       λ names. absurd (none_behind r c.self.invariant c.args.page c.args.version low c.in-Some.number c.in-Some-get.rec
@@ -87,6 +92,7 @@ loop-next-preserved c =
     let is : record_at r.records c.in-Some.number ≡ Some c.in-Some-get.rec =
     c.get.ensures None ∙ c.in-Some-get.is in (
       ahead_next r c.self.invariant c.args.page c.args.version low c.in-Some.number c.in-Some-get.rec c.next-next.result
-          (rw c.in-Some.is at c.loop-next.invariant.0) is (c.next-next.ensures.order c.args.page has) c.if-rec-version.false,
+          (rw c.in-Some.is at c.loop-next.invariant.0) is (c.next-next.ensures.order c.args.page has)
+          c.if-rec-version.false,
       c.next-next.ensures.listed c.args.page has,
     )

@@ -17,4 +17,5 @@ returns-in-Some c =
     let is : record_at r.records c.args.number ≡ Some c.in-Some.field-0 =
     c.get.ensures None ∙ c.in-Some.is in
     let listed = record_listed r c.args.number c.in-Some.field-0 c.self.invariant is in
-    rw (← c.self.view_is, is, page_list r c.in-Some.field-0.page listed.0) (c.next.ensures.next c.in-Some.field-0.page listed.1)
+    rw (← c.self.view_is, is, page_list r c.in-Some.field-0.page listed.0)
+    (c.next.ensures.next c.in-Some.field-0.page listed.1)

@@ -6,11 +6,19 @@ use Rattle.slot_tables.proofs.responsibilities.Responsibilities.forget.Goals as 
 
 pub get-count-requires : goal.get-count-requires
 get-count-requires c =
-    omega (arith, c.self.invariant.within c.args.number c.in-Some.other (c.get.ensures None ∙ c.in-Some.is), c.self.invariant.sizes)
+    omega (
+      arith,
+      c.self.invariant.within c.args.number c.in-Some.other (c.get.ensures None ∙ c.in-Some.is),
+      c.self.invariant.sizes,
+    )
 
 pub set-requires : goal.set-requires
 set-requires c =
-    omega (arith, c.self.invariant.within c.args.number c.in-Some.other (c.get.ensures None ∙ c.in-Some.is), c.self.invariant.sizes)
+    omega (
+      arith,
+      c.self.invariant.within c.args.number c.in-Some.other (c.get.ensures None ∙ c.in-Some.is),
+      c.self.invariant.sizes,
+    )
 
 pub returns-in_default : goal.returns-in_default
 returns-in_default c =
@@ -22,7 +30,8 @@ pub overflow_sub-count : goal.overflow_sub-count
 overflow_sub-count c =
     let a = c.self.inside in
     let low : c.args.number < length a.answerers = rw (← c.self.view_is) at c.requires in
-    let some = some_counted a.answerers a.counts c.self.invariant c.args.number low c.in-Some.other (c.get.ensures None ∙ c.in-Some.is) in
+    let some = some_counted a.answerers a.counts c.self.invariant c.args.number low c.in-Some.other (c.get.ensures None
+    ∙ c.in-Some.is) in
     omega (arith, c.get-count.ensures 0, some)
 
 pub invariant_of-self : goal.invariant_of-self
@@ -32,4 +41,5 @@ invariant_of-self c =
     let is = c.get.ensures None ∙ c.in-Some.is in
     let some = some_counted a.answerers a.counts c.self.invariant c.args.number low c.in-Some.other is in
     rw (c.set.ensures, c.set-in-Some.ensures)
-    (taken a.answerers a.counts c.self.invariant c.args.number low c.in-Some.other _ is (omega (arith, c.get-count.ensures 0, some)))
+    (taken a.answerers a.counts c.self.invariant c.args.number low c.in-Some.other _ is
+    (omega (arith, c.get-count.ensures 0, some)))

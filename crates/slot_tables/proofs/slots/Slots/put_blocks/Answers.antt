@@ -44,7 +44,8 @@ returns-clause-put c =
     let xs = list_of c.self.inside.copies c.args.number in
     let low : c.args.number < length c.self.inside.uses.items = rw (← c.self.view_is) at c.requires.number in
     let blocks = map (block_at c.args.size) in
-    sym (append-nil c.loop-slot.into.items) ∙ ap (λ s. c.loop-slot.into.items ++ blocks (rest_from xs s)) (sym c.in_default.is)
+    sym (append-nil c.loop-slot.into.items) ∙ ap (λ s. c.loop-slot.into.items ++ blocks (rest_from xs s))
+    (sym c.in_default.is)
     ∙ c.loop-slot.invariant.0
     ∙ ap (λ ys. c.args.into.now.items ++ blocks ys) (rw (← c.self.view_is) (c.self.invariant.copies c.args.number low))
 
@@ -52,6 +53,7 @@ pub returns-clause-len : goal.returns-clause-len
 returns-clause-len c =
     let xs = list_of c.self.inside.copies c.args.number in
     let low : c.args.number < length c.self.inside.uses.items = rw (← c.self.view_is) at c.requires.number in
-    let long = ap length (c.self.invariant.copies c.args.number low) ∙ ap (λ u. length (copies_of u c.args.number)) c.self.view_is in
+    let long = ap length (c.self.invariant.copies c.args.number low)
+    ∙ ap (λ u. length (copies_of u c.args.number)) c.self.view_is in
     let end = ap (λ s. length (rest_from xs s)) c.in_default.is in
     omega (arith, long, end, c.loop-slot.invariant.1)

@@ -12,7 +12,8 @@ in_block at block size some low = elim (cases_lt (at - block * size) size) [
       yes ∙ sym also
   | inr past ↦
       let last : at < at / size * size + size = lt-div-mul-add some in
-      let other : at / size ≢ block = λ e. (let less : at < block * size + size = rw e at last in absurd (omega arith)) in
+      let other : at / size ≢ block = λ e. (let less : at < block * size + size = rw e at last in
+      absurd (omega arith)) in
       let no : ltb (at - block * size) size ≡ false = grind (arith, nat_tests) in
       let nor : eqb (at / size) block ≡ false = grind (arith, nat_tests) in
       no ∙ sym nor

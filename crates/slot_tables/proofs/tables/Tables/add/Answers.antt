@@ -1,4 +1,4 @@
--- The home of the number is settled.
+-- The home of the number is refreshed.
 use Rattle.slot_tables.proofs.Common.{length, ◌∙◌, ap}
 use Rattle.std.proofs.lemmas.List.{length-set}
 use Rattle.slot_tables.proofs.OfBaseTables.Refreshing.{record_set}
@@ -8,5 +8,7 @@ pub invariant_of-self : goal.invariant_of-self
 invariant_of-self c =
     let t = c.self.inside in
     rw c.refresh_home.ensures
-    (record_set t c.self.invariant c.add-number.result c.add-number.new.self _ (ap (λ n. n.records) c.add-number.ensures.added)
-    (ap (λ n. length n.pages) c.add-number.ensures.added ∙ length-set t.base.records.pages c.args.rec.now.page _) c.add-number.ensures.versions)
+    (record_set t c.self.invariant c.add-number.result c.add-number.new.self
+    _ (ap (λ n. n.records) c.add-number.ensures.added)
+    (ap (λ n. length n.pages) c.add-number.ensures.added ∙ length-set t.base.records.pages c.args.rec.now.page _)
+    c.add-number.ensures.versions)

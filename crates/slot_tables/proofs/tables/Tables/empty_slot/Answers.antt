@@ -8,7 +8,8 @@ move_need-requires-clause-sized c =
     let t = c.self.inside in
     let h = c.self.invariant in
     let low : c.args.at.0 < length t.base.slots = rw h.sized.kept.slots (rw (← c.self.view_is) at c.requires.slot) in
-    rw c.set.ensures (set_sized t h c.args.at.0 c.args.to low (none_below (slots_of t.base.shape) c.args.to c.requires.none))
+    rw c.set.ensures (set_sized t h c.args.at.0 c.args.to low
+    (none_below (slots_of t.base.shape) c.args.to c.requires.none))
 
 pub invariant_of-self : goal.invariant_of-self
 invariant_of-self c =
@@ -17,10 +18,12 @@ invariant_of-self c =
     let at = c.args.at.0 in
     let low : at < length t.base.slots = rw h.sized.kept.slots (rw (← c.self.view_is) at c.requires.slot) in
     let numbered = none_below (slots_of t.base.shape) c.args.to c.requires.none in
-    let on : is_needed (tables_state t.base) at ≡ true = sym (h.live.needed at) ∙ sym c.is_needed.ensures ∙ c.if-is_needed.true in
+    let on : is_needed (tables_state t.base) at ≡ true = sym (h.live.needed at) ∙ sym c.is_needed.ensures
+    ∙ c.if-is_needed.true in
     rw (c.move_need.ensures, c.set-2.ensures, c.set.ensures, c.number_in-left.ensures, c.get.ensures)
     (slot_emptied t h at c.args.to low numbered c.requires.none c.is_blank-blank.result c.is_blank-blank.ensures _
-    (moved_lies t h at c.args.to low numbered c.requires.none) (needs_moved t h at c.args.to low numbered c.requires.none on))
+    (moved_lies t h at c.args.to low numbered c.requires.none)
+    (needs_moved t h at c.args.to low numbered c.requires.none on))
 
 pub invariant_of-self-else-is_needed : goal.invariant_of-self-else-is_needed
 invariant_of-self-else-is_needed c =
@@ -29,7 +32,9 @@ invariant_of-self-else-is_needed c =
     let at = c.args.at.0 in
     let low : at < length t.base.slots = rw h.sized.kept.slots (rw (← c.self.view_is) at c.requires.slot) in
     let numbered = none_below (slots_of t.base.shape) c.args.to c.requires.none in
-    let off : is_needed (tables_state t.base) at ≡ false = sym (h.live.needed at) ∙ sym c.is_needed.ensures ∙ c.if-is_needed.false in
+    let off : is_needed (tables_state t.base) at ≡ false = sym (h.live.needed at) ∙ sym c.is_needed.ensures
+    ∙ c.if-is_needed.false in
     rw (c.set-2.ensures, c.set.ensures)
-    (slot_emptied t h at c.args.to low numbered c.requires.none c.is_blank-blank.result c.is_blank-blank.ensures t.live.needed h.live.slots
+    (slot_emptied t h at c.args.to low numbered c.requires.none c.is_blank-blank.result c.is_blank-blank.ensures
+    t.live.needed h.live.slots
     (emptied_off t h at c.args.to low numbered c.requires.none off))

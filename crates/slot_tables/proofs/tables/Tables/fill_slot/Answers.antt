@@ -1,4 +1,4 @@
--- The homes of the old and of the new record, before and after, are settled.
+-- The homes of the old and of the new record, before and after, are refreshed.
 use Rattle.slot_tables.proofs.Common.{◌<◌, length}
 use Rattle.slot_tables.proofs.OfSlots.SlotSetting.{slot_set, set_sized, old_lies}
 use Rattle.slot_tables.proofs.tables.Tables.fill_slot.Goals as goal
@@ -25,7 +25,8 @@ refresh_moved-requires-2-clause-before c =
     let h = c.self.invariant in
     let low : c.args.at.0 < length t.base.slots = rw h.sized.kept.slots (rw (← c.self.view_is) at c.requires.slot) in
     let numbered = rw (← c.self.view_is) at c.requires.number in
-    rw (c.home_of-other.ensures, c.set.ensures) (old_lies t h c.args.at.0 c.args.to low numbered c.number_in-joined.result)
+    rw (c.home_of-other.ensures, c.set.ensures) (old_lies t h c.args.at.0 c.args.to low numbered
+    c.number_in-joined.result)
 
 pub refresh_moved-requires-clause-sized : goal.refresh_moved-requires-clause-sized
 refresh_moved-requires-clause-sized c =

@@ -7,12 +7,14 @@ pub returns-then-shut : goal.returns-then-shut
 returns-then-shut c =
     let t = c.self.invariant in
     rw (← c.self.view_is, c.if-shut.true)
-    (c.garbage-unneeded.ensures ∙ sym (garbage_shut (tables_state c.self.inside.base) t.sized.kept c.self.inside.live t.live c.args.block.0))
+    (c.garbage-unneeded.ensures ∙ sym (garbage_shut (tables_state c.self.inside.base) t.sized.kept c.self.inside.live
+    t.live c.args.block.0))
 
 pub count-requires : goal.count-requires
 count-requires c =
     let t = c.self.invariant in
-    blank_fits (tables_state c.self.inside.base) t.sized.kept c.self.inside.blanks t.blanks c.args.block.0 (rw (← c.self.view_is) at c.requires)
+    blank_fits (tables_state c.self.inside.base) t.sized.kept c.self.inside.blanks t.blanks c.args.block.0
+    (rw (← c.self.view_is) at c.requires)
 
 pub returns : goal.returns
 returns c =
@@ -20,4 +22,10 @@ returns c =
     let part = garbage_part (tables_state c.self.inside.base) t.sized.kept c.self.inside.live t.live c.args.block.0 in
     let blanks = blank_count (tables_state c.self.inside.base) t.sized.kept c.self.inside.blanks t.blanks c.args.block.0
     (rw (← c.self.view_is) at c.requires) in
-    rw (← c.self.view_is, c.if-shut.false) (omega (arith, part, blanks, c.garbage-unneeded.ensures, c.count.ensures.count))
+    rw (← c.self.view_is, c.if-shut.false) (omega (
+      arith,
+      part,
+      blanks,
+      c.garbage-unneeded.ensures,
+      c.count.ensures.count,
+    ))

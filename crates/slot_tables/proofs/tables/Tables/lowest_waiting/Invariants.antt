@@ -4,7 +4,8 @@ use Rattle.slot_tables.proofs.tables.Tables.lowest_waiting.Given as goal
 
 abbrev pub invariant-loop-next : goal.invariant-loop-next
 invariant-loop-next l =
-    IsLowestSoFar (tables_state l.self-inside.base) l.page l.below (rest_from (list_of l.waiting l.page) l.next) l.lowest
+    IsLowestSoFar (tables_state l.self-inside.base) l.page l.below
+    (rest_from (list_of l.waiting l.page) l.next) l.lowest
     × IfSome l.next (Contains (list_of l.waiting l.page))
 
 abbrev pub decreases-loop-next : goal.decreases-loop-next

@@ -6,9 +6,11 @@ use Rattle.slot_tables.proofs.tables.Tables.most_garbage.Goals as goal
 pub returns-clause-none : goal.returns-clause-none
 returns-clause-none c =
     let t = c.self.invariant in
-    rw (← c.self.view_is, garbage_numbers_are (tables_state c.self.inside.base) t.sized.kept c.self.inside.live t.live) c.most_garbage.ensures.none
+    rw (← c.self.view_is, garbage_numbers_are (tables_state c.self.inside.base) t.sized.kept c.self.inside.live t.live)
+    c.most_garbage.ensures.none
 
 pub returns-clause-first : goal.returns-clause-first
 returns-clause-first c =
     let t = c.self.invariant in
-    rw (← c.self.view_is, garbage_numbers_are (tables_state c.self.inside.base) t.sized.kept c.self.inside.live t.live) c.most_garbage.ensures.first
+    rw (← c.self.view_is, garbage_numbers_are (tables_state c.self.inside.base) t.sized.kept c.self.inside.live t.live)
+    c.most_garbage.ensures.first

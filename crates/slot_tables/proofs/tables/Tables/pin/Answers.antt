@@ -1,4 +1,4 @@
--- The homes of the records that the old and the new pin name are settled.
+-- The homes of the records that the old and the new pin name are refreshed.
 use Rattle.slot_tables.proofs.Common.{◌<◌, length, sym, ◌∙◌}
 use Rattle.slot_tables.proofs.OfBaseTables.Refreshing.{pin_set, found_lies}
 use Rattle.slot_tables.proofs.tables.Tables.pin.Goals as goal

@@ -12,7 +12,8 @@ loop-next-init c =
     let all : List ℕ → List ℕ = flat_map (copies_below k c.args.below) in
     let b = block_at k.shape.pages_per_block in
     let order = ap all c.first-next.ensures.order in (
-      ap (λ items. items ++ map b (all (rest_from (list_of c.by_page-waiting.result.now c.args.page) c.first-next.result))) c.requires.empty
+      ap (λ items. items ++ map b (all (rest_from (list_of c.by_page-waiting.result.now c.args.page)
+          c.first-next.result))) c.requires.empty
           ∙ ap (map b) order,
       (let long = ap length order in omega (arith, long, c.requires.none)),
       refl,
@@ -60,7 +61,8 @@ loop-next-preserved c =
       ap (λ items. items ++ map b rest) c.put_below.ensures.put ∙ append_assoc old (map b own) (map b rest)
           ∙ ap (λ r. old ++ r) (sym (map-append b own rest))
           ∙ ap (λ r. old ++ map b (all r)) (sym order) ∙ c.loop-next.invariant.0,
-      (let long = ap (λ r. length (all r)) order ∙ length-append own rest in omega (arith, long, c.put_below.ensures.len, c.loop-next.invariant.1)),
+      (let long = ap (λ r. length (all r)) order ∙ length-append own rest in
+          omega (arith, long, c.put_below.ensures.len, c.loop-next.invariant.1)),
       c.put_below.ensures.room ∙ c.loop-next.invariant.2,
       c.next-next.ensures.listed c.args.page has,
     )
@@ -72,7 +74,8 @@ returns-clause-gathered c =
     let all : List ℕ → List ℕ = flat_map (copies_below k c.args.below) in
     let b = block_at k.shape.pages_per_block in
     let is = sym (append-nil c.loop-next.into.items)
-    ∙ ap (λ s. c.loop-next.into.items ++ map b (all (rest_from xs s))) (sym c.in_default.is) ∙ c.loop-next.invariant.0 in
+    ∙ ap (λ s. c.loop-next.into.items ++ map b (all (rest_from xs s))) (sym c.in_default.is)
+    ∙ c.loop-next.invariant.0 in
     gathered k c.args.page c.args.below xs (c.by_page-waiting.ensures.disjoint.once c.args.page)
     (λ x. subst (λ (n : TablesState). Contains xs x ↔ (number_at n.waits x ≡ Some c.args.page)) c.self.view_is
     (c.by_page-waiting.ensures.waiting c.args.page x)) c.loop-next.into.items is
@@ -84,7 +87,8 @@ returns-clause-len c =
     let all : List ℕ → List ℕ = flat_map (copies_below k c.args.below) in
     let b = block_at k.shape.pages_per_block in
     let is = sym (append-nil c.loop-next.into.items)
-    ∙ ap (λ s. c.loop-next.into.items ++ map b (all (rest_from xs s))) (sym c.in_default.is) ∙ c.loop-next.invariant.0 in
+    ∙ ap (λ s. c.loop-next.into.items ++ map b (all (rest_from xs s))) (sym c.in_default.is)
+    ∙ c.loop-next.invariant.0 in
     let long = ap length is ∙ length-map (all xs) b in
     let end = ap (λ s. length (all (rest_from xs s))) c.in_default.is in
     omega (arith, long, end, c.loop-next.invariant.1)

@@ -1,4 +1,4 @@
--- The homes of the old and of the new answerer are settled.
+-- The homes of the old and of the new answerer are refreshed.
 use Rattle.slot_tables.proofs.Common.{sym, ◌∙◌}
 use Rattle.slot_tables.proofs.OfBaseTables.Refreshing.{answerer_set}
 use Rattle.slot_tables.proofs.tables.Tables.set_answerer.Goals as goal
@@ -13,4 +13,5 @@ invariant_of-self c =
     let t = c.self.inside in
     let kept = c.self.invariant.sized.kept in
     rw (c.refresh_home-2.ensures, c.refresh_home.ensures, c.set.ensures, c.get-before.ensures.answerer)
-    (answerer_set t c.self.invariant c.args.number c.args.to (rw kept.answerers (rw (← c.self.view_is) at c.requires.number)))
+    (answerer_set t c.self.invariant c.args.number c.args.to
+    (rw kept.answerers (rw (← c.self.view_is) at c.requires.number)))

@@ -1,4 +1,4 @@
--- The homes of the records in the old spare are settled, and then those in the new one.
+-- The homes of the records in the old spare are refreshed, and then those in the new one.
 mod SpareFrame
 use Rattle.slot_tables.proofs.Common.{◌<◌, Some, blocks_of, tables_state, IsRefreshedFrom}
 use Rattle.slot_tables.proofs.tables.Tables.set_spare.Answers.SpareFrame.{IsMiddle, spare_set, no_middle, middle}
@@ -18,7 +18,8 @@ invariant_of-self c =
           (middle k' w.in-Some.old.0 n0 w.refresh_block.new.live (rw c.set_spare.ensures at w.refresh_block.ensures)) in
           let then : IsRefreshedFrom k' k.spare c.args.block.0 w.refresh_block.new.live c.refresh_block-2.new.live =
           rw w.in-Some.is (rw (w.self-inside-is, w.before-is) at c.refresh_block-2.ensures) in
-          rw w.self-inside-is (spare_set t c.self.invariant c.args.block low w.refresh_block.new.live c.refresh_block-2.new.live first then)
+          rw w.self-inside-is (spare_set t c.self.invariant c.args.block low w.refresh_block.new.live
+          c.refresh_block-2.new.live first then)
       | in_default w ↦
           let n0 = record t.live { spare = Some c.args.block.0 } in
           let k' = tables_state (record t.base { spare = Some c.args.block }) in

@@ -1,4 +1,4 @@
--- The home of the record that the old pin names is settled, and the new pin names none.
+-- The home of the record that the old pin names is refreshed, and the new pin names none.
 use Rattle.slot_tables.proofs.Common.{◌<◌, None, length, sym, ◌∙◌, arith}
 use Rattle.slot_tables.proofs.OfBaseTables.Refreshing.{pin_set, found_lies}
 use Rattle.slot_tables.proofs.tables.Tables.unpin.Goals as goal

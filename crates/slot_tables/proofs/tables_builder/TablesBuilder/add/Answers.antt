@@ -9,5 +9,6 @@ invariant_of-self c =
     let f = c.self.inside in
     let after = record_set (as_tables f) (are_tables f c.self.invariant) c.add.result c.add.new.self _
     (ap (λ n. n.records) c.add.ensures.added)
-    (ap (λ n. length n.pages) c.add.ensures.added ∙ length-set f.base.records.pages c.args.rec.now.page _) c.add.ensures.versions in
+    (ap (λ n. length n.pages) c.add.ensures.added ∙ length-set f.base.records.pages c.args.rec.now.page _)
+    c.add.ensures.versions in
     record { sized = after.sized; blanks = after.blanks; spare = c.self.invariant.spare }

@@ -10,4 +10,8 @@ invariant_of-self c =
     let low : c.args.at.0 < length f.base.slots = rw h.sized.kept.slots (rw (← c.self.view_is) at c.requires.slot) in
     let numbered = rw (← c.self.view_is) at c.requires.number in
     let after = slot_set (as_tables f) h c.args.at.0 c.args.to low numbered c.is_blank.result c.is_blank.ensures in
-    rw (c.set-2.ensures, c.set.ensures) (record { sized = after.sized; blanks = after.blanks; spare = c.self.invariant.spare })
+    rw (c.set-2.ensures, c.set.ensures) (record {
+      sized = after.sized;
+      blanks = after.blanks;
+      spare = c.self.invariant.spare;
+    })

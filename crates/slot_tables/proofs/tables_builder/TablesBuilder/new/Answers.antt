@@ -10,4 +10,5 @@ new-requires-clause-small c = rw c.blocks-2.ensures (omega (arith, c.requires.sh
 
 pub invariant_of-result : goal.invariant_of-result
 invariant_of-result c =
-    first_filling c.args.shape c.args.logical c.requires.shape c.requires.pages _ (search rules) (search rules) (search rules) (search rules)
+    first_filling c.args.shape c.args.logical c.requires.shape c.requires.pages _ (search rules) (search rules)
+    (search rules) (search rules)

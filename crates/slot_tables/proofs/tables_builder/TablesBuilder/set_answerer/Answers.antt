@@ -6,5 +6,6 @@ pub invariant_of-self : goal.invariant_of-self
 invariant_of-self c =
     let f = c.self.inside in
     let h = are_tables f c.self.invariant in
-    let after = answerer_set (as_tables f) h c.args.number c.args.to (rw h.sized.kept.answerers (rw (← c.self.view_is) at c.requires.number)) in
+    let after = answerer_set (as_tables f) h c.args.number c.args.to
+    (rw h.sized.kept.answerers (rw (← c.self.view_is) at c.requires.number)) in
     rw c.set.ensures (record { sized = after.sized; blanks = after.blanks; spare = c.self.invariant.spare })

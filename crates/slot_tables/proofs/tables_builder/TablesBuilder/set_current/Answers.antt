@@ -7,6 +7,7 @@ invariant_of-self c =
     let f = c.self.inside in
     let h = are_tables f c.self.invariant in
     let kept = h.sized.kept in
-    let after = current_set (as_tables f) h c.args.page c.args.to (rw kept.current (rw (← c.self.view_is) at c.requires.page))
+    let after = current_set (as_tables f) h c.args.page c.args.to
+    (rw kept.current (rw (← c.self.view_is) at c.requires.page))
     (rw kept.slots (rw (← c.self.view_is) at c.requires.number)) in
     rw c.set.ensures (record { sized = after.sized; blanks = after.blanks; spare = c.self.invariant.spare })

@@ -13,6 +13,10 @@ invariant_of-self c =
     let w = c.self.inside in
     let low : c.args.number < length w.waits = rw (← c.self.view_is) at c.requires in
     let is = ap (λ v. number_at v.waits c.args.number) c.self.view_is ∙ sym c.get.ensures ∙ c.in-Some.is in
-    let less : w.count - 1 + 1 ≡ w.count = omega (arith, one_waits w c.self.invariant c.args.number low c.in-Some.page is) in
-    rw (c.remove.ensures.without, c.set.ensures) (forgot w c.self.invariant c.args.number low c.in-Some.page (w.count - 1) is less
+    let less : w.count - 1 + 1 ≡ w.count = omega (
+      arith,
+      one_waits w c.self.invariant c.args.number low c.in-Some.page is,
+    ) in
+    rw (c.remove.ensures.without, c.set.ensures) (forgot w c.self.invariant c.args.number low c.in-Some.page
+    (w.count - 1) is less
     (rw c.remove.ensures.without at c.remove.ensures.lists))

@@ -21,5 +21,6 @@ returns-then-page-self c =
     let within : c.args.page < length s.current.items = omega arith in
     get_or_read s.current.items c.args.page c.index.result.now within c.index.ensures 0
     ∙ ap (λ l. slice_index_or l c.args.page 0) c.self.invariant.current
-    ∙ get_or-map-range_with_len (cur s.protocol s.chart s.logical) 0 s.logical c.args.page c.args.page 0 (omega arith) (omega arith)
+    ∙ get_or-map-range_with_len (cur s.protocol s.chart s.logical) 0 s.logical c.args.page c.args.page 0
+    (omega arith) (omega arith)
     ∙ ap (λ (j : CurrentVersionsState). cur j.protocol j.list j.logical c.args.page) c.self.view_is

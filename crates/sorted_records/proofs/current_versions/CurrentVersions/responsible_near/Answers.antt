@@ -20,5 +20,6 @@ returns-then-name-self c =
     rw (c.deref.ensures.value) at c.straddling_up_to_bound.ensures
     ∙ ap (λ l. greatest (straddling_upto (get_or l name.page 0) name) s.chart) c.self.invariant.current
     ∙ ap (λ t. greatest (straddling_upto t name) s.chart)
-    (get_or-map-range_with_len (cur s.protocol s.chart s.logical) 0 s.logical name.page name.page 0 (omega arith) (omega arith))
+    (get_or-map-range_with_len (cur s.protocol s.chart s.logical) 0 s.logical name.page name.page 0 (omega arith)
+    (omega arith))
     ∙ ap (λ (j : CurrentVersionsState). responsible j.protocol j.list j.logical name) c.self.view_is

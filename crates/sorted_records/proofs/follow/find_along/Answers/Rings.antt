@@ -18,7 +18,8 @@ on_path (OnPath n) place = elim (cases_lt n place) [
 ]
 
 -- all its nodes are nodes of the graph
-pub path_within : (graph : List (Option ℕ)) (seen : List Seen) (path : List ℕ) (place : ℕ) → IsFollowed graph seen path →
+pub path_within : (graph : List (Option ℕ)) (seen : List Seen) (path : List ℕ) (place : ℕ) →
+    IsFollowed graph seen path →
     All (λ i. i < length seen) (drop place path)
 path_within graph seen path place is =
     All-from_get_or (λ i. i < length seen) (drop place path) 0
@@ -43,7 +44,8 @@ module _ (graph : List (Option ℕ)) (seen : List Seen) (path : List ℕ) (place
       steps graph k (get_or path i 0) ≡ Some (get_or path (place + n) 0)
   around k n i within sum short =
       let last : ℕ = length path - 1 in
-      steps_add graph (last - i) (suc n) k (get_or path i 0) (get_or path last 0) (omega arith) (along (last - i) last i (omega arith) (omega arith))
+      steps_add graph (last - i) (suc n) k (get_or path i 0) (get_or path last 0) (omega arith)
+      (along (last - i) last i (omega arith) (omega arith))
       ∙ steps_more graph n (get_or path last 0) (get_or path place 0) (ring last (omega arith))
       ∙ along n (place + n) place refl short
 
@@ -52,7 +54,8 @@ module _ (graph : List (Option ℕ)) (seen : List Seen) (path : List ℕ) (place
     some = omega arith;
     back =
         let e : place + (i - place) ≡ i = omega arith in
-        around (length path - place) (i - place) i within (omega arith) (omega arith) ∙ ap (λ n. Some (get_or path n 0)) e;
+        around (length path - place) (i - place) i within (omega arith) (omega arith)
+        ∙ ap (λ n. Some (get_or path n 0)) e;
     first = λ k some few leads. elim (cases_lt (i + k) (length path)) [
       | inl before ↦ (
           let e = along k (i + k) i refl before in
@@ -79,7 +82,8 @@ module _ (graph : List (Option ℕ)) (seen : List Seen) (path : List ℕ) (place
       let at = is.placed j k on in
       let l = length-drop place path in
       let sum : place + (k - place) ≡ k = omega arith in
-      let here : get_or (drop place path) (k - place) 0 ≡ j = get_or-drop place path (k - place) 0 ∙ ap (λ n. get_or path n 0) sum ∙ at.1 in
+      let here : get_or (drop place path) (k - place) 0 ≡ j = get_or-drop place path (k - place) 0
+      ∙ ap (λ n. get_or path n 0) sum ∙ at.1 in
       let within = seen_within seen j (λ new. cc) in
       subst (λ n. seen_at after n ≡ Known orbit) here
       (noted_in orbit (drop place path) seen (k - place) (let few = at.0 in omega arith) (rw here within))
@@ -154,9 +158,11 @@ module _ (graph : List (Option ℕ)) (seen : List Seen) (path : List ℕ) (place
     closed = closed;
     noted = λ k few. let l = length-take-le place path (omega arith) in
         rw (get_or-take place path k 0 (omega arith))
-        (out_of_ring (get_or path k 0) (λ n high on. let e = is.noted k (omega arith) in let f : k ≡ n = cc in omega arith) ∙ is.noted k (omega arith));
+        (out_of_ring (get_or path k 0) (λ n high on. let e = is.noted k (omega arith) in let f : k ≡ n = cc in
+        omega arith) ∙ is.noted k (omega arith));
     linked = λ k few. let l = length-take-le place path (omega arith) in
-        rw (get_or-take place path k 0 (omega arith), get_or-take place path (suc k) 0 (omega arith)) (is.linked k (omega arith));
+        rw (get_or-take place path k 0 (omega arith), get_or-take place path (suc k) 0 (omega arith))
+        (is.linked k (omega arith));
     placed = λ j k on. let l = length-take-le place path (omega arith) in elim (split j) [
       | inl same ↦ (
           let was = sym same.0 ∙ on in
@@ -170,7 +176,8 @@ module _ (graph : List (Option ℕ)) (seen : List Seen) (path : List ℕ) (place
   }
 
   -- and the ring comes after it
-  pub ring_behind : IsBehind graph (noted (Round (length path - place)) (drop place path) seen) (take place path) (Some (Round (length path - place)))
+  pub ring_behind : IsBehind graph (noted (Round (length path - place)) (drop place path) seen) (take place path)
+      (Some (Round (length path - place)))
   unfolding after orbit
   ring_behind = (
     get_or path place 0,

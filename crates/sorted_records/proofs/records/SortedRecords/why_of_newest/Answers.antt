@@ -5,7 +5,8 @@ use Rattle.sorted_records.proofs.records.SortedRecords.why_of_newest.Goals as go
 
 pub why_from_orbit-requires-clause-within : goal.why_from_orbit-requires-clause-within
 why_from_orbit-requires-clause-within c =
-    rw (c.deref.ensures.value, c.self.view_is) (ends_below c.args.self.now c.args.page c.in-Some.orbit c.in-Some.ensures)
+    rw (c.deref.ensures.value, c.self.view_is) (ends_below c.args.self.now c.args.page c.in-Some.orbit
+    c.in-Some.ensures)
 
 pub returns-in-Some : goal.returns-in-Some
 returns-in-Some c =

@@ -9,9 +9,11 @@ use Rattle.open_table.proofs.OfTransactions.OpenList.{first_of_own, with_first}
 use Rattle.tx_engine.proofs.OfSettle.SettledLists.{calm_all, calm_at}
 use Rattle.tx_engine.proofs.OfWrite.WriteAfter.{settled_kept}
 
-module _ {F : Type 0} (state : F → FlashState) (S : StoreState F) (O O' : OpenTransactionsState) (i : ℕ) (h : Stands state (device_in state S O))
+module _ {F : Type 0} (state : F → FlashState) (S : StoreState F) (O O' : OpenTransactionsState) (i : ℕ)
+    (h : Stands state (device_in state S O))
     (sure : S.unsure ≡ unsure.Nothing) (within : i < length O.all)
-    (plain : (transaction_at O i).entry.mark ≡ Plain) (ready : (transaction_at O i).entry.done < (transaction_at O i).naming.noted_count)
+    (plain : (transaction_at O i).entry.mark ≡ Plain)
+    (ready : (transaction_at O i).entry.done < (transaction_at O i).naming.noted_count)
     (opens : O' ≡ with_transaction O i (with_done (transaction_at O i) ((transaction_at O i).entry.done + 1))) where
   abbrev o : TransactionState
   o = transaction_at O i
@@ -23,7 +25,8 @@ module _ {F : Type 0} (state : F → FlashState) (S : StoreState F) (O O' : Open
   kept = settled_kept state S O h sure
 
   under : IsUnderWay (state S.flash).image S.noted o.entry o.naming
-  under = subst (IsAsMarked (state S.flash).image S.noted o.entry o.naming) plain (kept.each i no_transaction within).marked
+  under = subst (IsAsMarked (state S.flash).image S.noted o.entry o.naming) plain
+      (kept.each i no_transaction within).marked
 
   named : IsNamed S.noted.config.page_bytes S.noted.config.logical o.entry o.naming
   named = (kept.each i no_transaction within).named
@@ -45,12 +48,15 @@ module _ {F : Type 0} (state : F → FlashState) (S : StoreState F) (O O' : Open
         });
   }
 
-  more_calm : (j : ℕ) → j < length (slice_set O.all i more) → IsCalm (get_or (slice_set O.all i more) j no_transaction).entry
+  more_calm : (j : ℕ) → j < length (slice_set O.all i more) →
+      IsCalm (get_or (slice_set O.all i more) j no_transaction).entry
   more_calm j inside = elim (cases_eq j i) [
     | inl is ↦ subst (λ (x : TransactionState). IsCalm x.entry)
-        (sym (get_or-set_same O.all i more no_transaction within) ∙ ap (λ a. get_or (slice_set O.all i more) a no_transaction) (sym is))
+        (sym (get_or-set_same O.all i more no_transaction within)
+        ∙ ap (λ a. get_or (slice_set O.all i more) a no_transaction) (sym is))
         (calm_at O.all kept.doubt i within)
-    | inr other ↦ subst (λ (x : TransactionState). IsCalm x.entry) (sym (get_or-set_other O.all i j more no_transaction other))
+    | inr other ↦ subst (λ (x : TransactionState). IsCalm x.entry)
+        (sym (get_or-set_other O.all i j more no_transaction other))
         (calm_at O.all kept.doubt j (subst (λ len. j < len) (length-set O.all i more) inside))
   ]
 
@@ -60,9 +66,12 @@ module _ {F : Type 0} (state : F → FlashState) (S : StoreState F) (O O' : Open
   pub counted_stands : Stands state (device_in state S O')
   counted_stands =
       subst (λ t. Stands state (device_in state S t)) (sym opens)
-      (to_stands state S (with_transaction O i more) (subst (λ u. BlocksInvariant (state S.flash) S.noted S.table u (with_transaction O i more)) (sym sure)
-      (kept_with (state S.flash) (state S.flash) S.noted S.noted S.table S.table unsure.Nothing unsure.Nothing O i more kept within parts kept.matches refl refl
-      (λ j inside other. kept.each j no_transaction inside) more_transaction (calm_all (slice_set O.all i more) more_calm))))
+      (to_stands state S (with_transaction O i more)
+      (subst (λ u. BlocksInvariant (state S.flash) S.noted S.table u (with_transaction O i more)) (sym sure)
+      (kept_with (state S.flash) (state S.flash) S.noted S.noted S.table S.table unsure.Nothing unsure.Nothing O i more
+      kept within parts kept.matches refl refl
+      (λ j inside other. kept.each j no_transaction inside) more_transaction
+      (calm_all (slice_set O.all i more) more_calm))))
 
   pub counted_machine : (done all : ℕ) → done ≡ o.entry.done + 1 → all ≡ length o.entry.writes →
       Counts (device_in state S O).machine o.entry.tag o.entry (progress.Wrote done all) (device_in state S O').machine
@@ -82,7 +91,8 @@ module _ {F : Type 0} (state : F → FlashState) (S : StoreState F) (O O' : Open
       config = refl;
       versions = λ page low. inr (refl, refl);
       mentions = λ page low. inl refl;
-      names = names_before O.all (slice_set O.all i more) (map-set_same (λ (x : TransactionState). x.naming.names) O.all i more no_transaction refl);
+      names = names_before O.all (slice_set O.all i more) (map-set_same (λ (x : TransactionState). x.naming.names) O.all
+          i more no_transaction refl);
       kept = refl;
     };
     moves = FlashMoves-nothing (state S.flash) (state S.flash) false refl;

@@ -1,4 +1,5 @@
--- How a transaction of a settled device goes on, as a whole: it counts a page that is noted, or a page is written before, or its write broke off.
+-- How a transaction of a settled device goes on, as a whole: it counts a page that is noted, or a page is written
+-- before, or its write broke off.
 use Rattle.tx_engine.proofs.Common.{◌≡◌, ℕ, ◌<◌, true, false, List, [], length, Ok, Err, refl, sym, ap, ◌∙◌, subst, inl, inr, eq-eqb, ◌+◌, ◌≢◌, if◌then◌else◌, All-nil, PageWrite, Protocol, Broken, FlashState, current_of, Progress, Mark, Plain, Doubt, Whole, ArrayState, Entry, with_entry, AdvancesTo, IsReady, WritesPage, VersionsRise, is_plain, HasLimitsOf, IsDueAt, OpenTransactionsState, TransactionState, entries_of, name_due, transaction_at, Advances, AdvanceRises, Counts, CountsOn, must_program, with_next, DeviceState, StoreState, device_in, due_record, Config, IsThere, length-set, moment_of}
 use Rattle.array_machine.specs.declared.answers.Progress.TheVariants as progress
 use Rattle.tx_engine.specs.Calls.{CountsNext}
@@ -13,12 +14,18 @@ use Rattle.tx_engine.proofs.advancing.advance.Answers.NextThere.{adds_pinned, du
 use Rattle.open_table.proofs.OfTransactions.OpenList.{IsFirstTagged, first_of_own}
 use Rattle.tx_engine.proofs.OfWrite.RecordWrites.{writes_pinned}
 
-counts_advances : (s new : ArrayState) (tag : ℕ) (e : Entry) (p : Progress) → Counts s tag e p new → Advances s tag e (Ok p) new
+counts_advances : (s new : ArrayState) (tag : ℕ) (e : Entry) (p : Progress) → Counts s tag e p new →
+    Advances s tag e (Ok p) new
 counts_advances s new tag e (progress.Wrote done all) h = h
 counts_advances s new tag e progress.Done h = inl h
 
-none_rise : {F : Type 0} (a b : DeviceState F) → ((page : ℕ) → current_of b.noted page ≡ current_of a.noted page) → VersionsRise a b []
-none_rise a b same = record { rises = All-nil (λ (w : PageWrite). current_of a.noted w.page < current_of b.noted w.page); stays = λ page low others. same page }
+none_rise : {F : Type 0} (a b : DeviceState F) → ((page : ℕ) → current_of b.noted page ≡ current_of a.noted page) →
+    VersionsRise a b []
+none_rise a b same = record {
+  rises = All-nil (λ (w : PageWrite). current_of a.noted w.page < current_of b.noted
+      w.page);
+  stays = λ page low others. same page;
+}
 
 whole_writes : (m : Mark) (ws : List PageWrite) → m ≡ Whole → (if is_plain m then ws else []) ≡ []
 whole_writes Plain ws is = cc
@@ -29,24 +36,30 @@ counts_rises : {F : Type 0} (a b : DeviceState F) (s new : ArrayState) (tag : �
     ((page : ℕ) → current_of b.noted page ≡ current_of a.noted page) →
     Counts s tag e p new → AdvanceRises a b e (Ok p)
 counts_rises a b s new tag e (progress.Wrote done all) same h = none_rise a b same
-counts_rises a b s new tag e progress.Done same h = subst (VersionsRise a b) (sym (whole_writes e.mark e.writes h.0)) (none_rise a b same)
+counts_rises a b s new tag e progress.Done same h = subst (VersionsRise a b) (sym (whole_writes e.mark e.writes h.0))
+    (none_rise a b same)
 
-module _ {F : Type 0} (state : F → FlashState) (p : Protocol) (S : StoreState F) (O : OpenTransactionsState) (i : ℕ) (ready : IsReady state p S O)
+module _ {F : Type 0} (state : F → FlashState) (p : Protocol) (S : StoreState F) (O : OpenTransactionsState) (i : ℕ)
+    (ready : IsReady state p S O)
     (within : i < length O.all) where
   abbrev o : TransactionState
   o = transaction_at O i
 
-  pub counted_on : must_program o ≡ false → (S' : StoreState F) (O' : OpenTransactionsState) (done : Progress) → CountsNext state S S' O O' i done →
+  pub counted_on : must_program o ≡ false → (S' : StoreState F) (O' : OpenTransactionsState) (done : Progress) →
+      CountsNext state S S' O O' i done →
       AdvancesTo state S S' O O' i (Ok done)
   counted_on due S' O' done k = record {
     stands = k.stands;
-    advances = counts_advances (device_in state S O).machine (device_in state S' O').machine o.entry.tag o.entry done k.counts;
+    advances = counts_advances (device_in state S O).machine (device_in state S' O').machine o.entry.tag o.entry
+        done k.counts;
     exits = k.exits;
-    rises = counts_rises (device_in state S O) (device_in state S' O') (device_in state S O).machine (device_in state S' O').machine o.entry.tag o.entry
+    rises = counts_rises (device_in state S O) (device_in state S' O') (device_in state S O).machine
+        (device_in state S' O').machine o.entry.tag o.entry
         done k.versions k.counts;
     sure = k.sure;
     limits = k.limits;
-    costs = costs_still state (device_in state S O) (device_in state S' O') (name_due O i) (ap (λ (T : StoreState F). moment_of (state T.flash)) k.stays);
+    costs = costs_still state (device_in state S O) (device_in state S' O') (name_due O i)
+        (ap (λ (T : StoreState F). moment_of (state T.flash)) k.stays);
     found = λ here. k.stays;
     writes = λ absent. absurd (absent (not_due_there state S O i ready.stands ready.sure within due));
     fresh = λ name here. inl (subst (λ (T : StoreState F). IsThere T.noted name) k.stays here);
@@ -56,12 +69,14 @@ module _ {F : Type 0} (state : F → FlashState) (p : Protocol) (S : StoreState 
 
   module _ (due : must_program o ≡ true) where
     pub must_program_at : IsDueAt O i
-    must_program_at = let its = due_plain state S O i ready.stands ready.sure within due in record { exists = within; plain = its.0; unnoted = its.1 }
+    must_program_at = let its = due_plain state S O i ready.stands ready.sure within due in
+        record { exists = within; plain = its.0; unnoted = its.1 }
 
     not_there : IsThere S.noted (name_due O i) → ⊥
     not_there here = due_not_there state S O i ready.stands ready.sure within due here
 
-    pub advance_breaks : (S' : StoreState F) (O' : OpenTransactionsState) (x y : Broken) → WritesPage state S S' O O' i (Err x) → AdvancesTo state S S' O O' i (Err y)
+    pub advance_breaks : (S' : StoreState F) (O' : OpenTransactionsState) (x y : Broken) →
+        WritesPage state S S' O O' i (Err x) → AdvancesTo state S S' O O' i (Err y)
     advance_breaks S' O' x y w =
         let same : HasLimitsOf O O = record { page_bytes = refl; logical = refl; pending = refl } in
         record {
@@ -90,12 +105,19 @@ module _ {F : Type 0} (state : F → FlashState) (p : Protocol) (S : StoreState 
       counts_then = subst CountsOn (sym is_next) (next_ready o must_program_at.plain must_program_at.unnoted)
 
       pub exists_then : i < length O1.all
-      exists_then = subst (λ (t : OpenTransactionsState). i < length t.all) (sym w.next) (subst (λ len. i < len) (sym (length-set O.all i (with_next o))) within)
+      exists_then = subst (λ (t : OpenTransactionsState). i < length t.all) (sym w.next)
+          (subst (λ len. i < len) (sym (length-set O.all i (with_next o))) within)
 
       pub ready_then : IsReady state p S1 O1
-      ready_then = record { stands = w.stands; rule = ap (λ (k : Config). k.protocol) w.exits.tables.config ∙ ready.rule; sure = w.sure }
+      ready_then = record {
+        stands = w.stands;
+        rule = ap (λ (k : Config). k.protocol) w.exits.tables.config
+            ∙ ready.rule;
+        sure = w.sure;
+      }
 
-      module _ (S2 : StoreState F) (O2 : OpenTransactionsState) (done : Progress) (k : CountsNext state S1 S2 O1 O2 i done) where
+      module _ (S2 : StoreState F) (O2 : OpenTransactionsState) (done : Progress)
+          (k : CountsNext state S1 S2 O1 O2 i done) where
         abbrev a : DeviceState F
         a = device_in state S O
 
@@ -122,17 +144,24 @@ module _ {F : Type 0} (state : F → FlashState) (p : Protocol) (S : StoreState 
         whole last = ap (λ (x : TransactionState). x.entry) is_next ∙ (next_entry o must_program_at.unnoted).0 last
 
         same : o.entry.done + 1 ≢ length o.entry.writes →
-            ((transaction_at O1 i).entry ≡ o.entry) × (with_entry o.entry.tag o.entry a.machine.entries ≡ a.machine.entries)
-        same more = (ap (λ (x : TransactionState). x.entry) is_next ∙ (next_entry o must_program_at.unnoted).1 more, entries_same O i o.entry.tag first)
+            ((transaction_at O1 i).entry ≡ o.entry)
+            × (with_entry o.entry.tag o.entry a.machine.entries ≡ a.machine.entries)
+        same more = (
+          ap (λ (x : TransactionState). x.entry) is_next ∙ (next_entry o must_program_at.unnoted).1 more,
+          entries_same O i o.entry.tag first,
+        )
 
         pub advanced : AdvancesTo state S S2 O O2 i (Ok done)
         advanced = record {
           stands = k.stands;
-          advances = written_advances a.machine b.machine c.machine o.entry.tag o.entry (transaction_at O1 i).entry must_program_at.plain w.written.pages entries
+          advances = written_advances a.machine b.machine c.machine o.entry.tag o.entry (transaction_at O1 i).entry
+              must_program_at.plain w.written.pages entries
               (eq-eqb (transaction_at O1 i).entry.tag o.entry.tag tag) whole same done counts;
           exits = exits_then state a b c false refl refl w.exits k.exits;
-          rises = written_rises a.machine b.machine c.machine o.entry.tag o.entry (transaction_at O1 i).entry must_program_at.plain w.written.pages entries
-              (eq-eqb (transaction_at O1 i).entry.tag o.entry.tag tag) whole same a b c w.written.rises k.versions done counts;
+          rises = written_rises a.machine b.machine c.machine o.entry.tag o.entry (transaction_at O1 i).entry
+              must_program_at.plain w.written.pages entries
+              (eq-eqb (transaction_at O1 i).entry.tag o.entry.tag tag) whole same a b c w.written.rises
+              k.versions done counts;
           sure = k.sure;
           limits = record {
             page_bytes = k.limits.page_bytes ∙ ap (λ (t : OpenTransactionsState). t.page_bytes) w.next;
@@ -142,8 +171,10 @@ module _ {F : Type 0} (state : F → FlashState) (p : Protocol) (S : StoreState 
           costs = costs_flash state a b c (name_due O i) (ap (λ (T : StoreState F). T.flash) k.stays) w.costs;
           found = λ here. absurd (not_there here);
           writes = λ absent. writes_pinned state a b c (due_record S.noted.config.page_bytes o.entry o.naming)
-              (ap (λ (T : StoreState F). T.flash) k.stays) (ap (λ (T : StoreState F). T.table) k.stays) (ap (λ (T : StoreState F). T.noted) k.stays) w.writes;
-          fresh = adds_pinned (name_due O i) S.noted S1.noted S2.noted w.fresh (ap (λ (T : StoreState F). T.noted) k.stays);
+              (ap (λ (T : StoreState F). T.flash) k.stays) (ap (λ (T : StoreState F). T.table) k.stays)
+              (ap (λ (T : StoreState F). T.noted) k.stays) w.writes;
+          fresh = adds_pinned (name_due O i) S.noted S1.noted S2.noted w.fresh
+              (ap (λ (T : StoreState F). T.noted) k.stays);
           kept = tt;
           breaks = tt;
         }

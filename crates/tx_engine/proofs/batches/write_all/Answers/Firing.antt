@@ -19,16 +19,20 @@ use Rattle.tx_engine.proofs.OfStepAll.LoadLeft.{HasLaws, job_can, job_named, job
 use Rattle.tx_engine.proofs.batches.write_all.Answers.Wholes.{AllWhole, all_whole, entries_for}
 
 -- the transactions to which the programs belong are the first ones
-pub entries_first : (O : OpenTransactionsState) (jobs : List Job) (i : ℕ) → (n : IndexState) (t : BlocksState) → AreJobsDue n t O i jobs →
+pub entries_first : (O : OpenTransactionsState) (jobs : List Job) (i : ℕ) → (n : IndexState) (t : BlocksState) →
+    AreJobsDue n t O i jobs →
     entries_for O i jobs ≡ take (length jobs) (drop i (entries_of O))
 entries_first O [] i n t due = refl
 entries_first O (job ∷ jobs) i n t due =
-    let inside : i < length (entries_of O) = subst (λ len. i < len) (sym (length-map O.all (λ (o : TransactionState). o.entry))) due.0.due.exists in
-    ap₂ (λ (e : Entry) es. e ∷ es) (sym (get_or-map (λ (o : TransactionState). o.entry) O.all i no_transaction no_transaction.entry due.0.due.exists))
+    let inside : i < length (entries_of O) = subst (λ len. i < len)
+    (sym (length-map O.all (λ (o : TransactionState). o.entry))) due.0.due.exists in
+    ap₂ (λ (e : Entry) es. e ∷ es) (sym (get_or-map (λ (o : TransactionState). o.entry) O.all i no_transaction
+    no_transaction.entry due.0.due.exists))
     (entries_first O jobs (i + 1) n t due.1)
     ∙ ap (take (length (job ∷ jobs))) (sym (drop_more (entries_of O) i no_transaction.entry inside))
 
-module _ (s : FlashState) (n : IndexState) (t : BlocksState) (O : OpenTransactionsState) (laws : HasLaws n.config.protocol) (k : BlocksInvariant s n t unsure.Nothing O)
+module _ (s : FlashState) (n : IndexState) (t : BlocksState) (O : OpenTransactionsState)
+    (laws : HasLaws n.config.protocol) (k : BlocksInvariant s n t unsure.Nothing O)
     (size : O.page_bytes ≡ n.config.page_bytes) where
   slot_within : (i : ℕ) (job : Job) → IsJobDue n t O i job → job.slot.0 < slots_of s.shape
   slot_within i job h = omega (arith, h.first.free.within, ap slots_of k.matches.blocks)
@@ -47,7 +51,8 @@ module _ (s : FlashState) (n : IndexState) (t : BlocksState) (O : OpenTransactio
   loads_can : (jobs : List Job) (i : ℕ) → AreJobsDue n t O i jobs → All (CanLoad s.shape s.image) (loads_for n O i jobs)
   loads_can [] i due = All-nil (CanLoad s.shape s.image)
   loads_can (job ∷ jobs) i due =
-      All-cons (CanLoad s.shape s.image) _ (loads_for n O (i + 1) jobs) (job_can s n t O i job laws k size due.0) (loads_can jobs (i + 1) due.1)
+      All-cons (CanLoad s.shape s.image) _ (loads_for n O (i + 1) jobs) (job_can s n t O i job laws k size due.0)
+      (loads_can jobs (i + 1) due.1)
 
   behind : (die : ℕ) (jobs : List Job) (i : ℕ) → All (λ (x : Job). die < die_of s.shape x.slot.0) jobs →
       All (λ (l : Load). die < die_of s.shape l.at) (loads_for n O i jobs)
@@ -61,14 +66,19 @@ module _ (s : FlashState) (n : IndexState) (t : BlocksState) (O : OpenTransactio
       AllPairs (λ (a b : Load). die_of s.shape a.at ≢ die_of s.shape b.at) (loads_for n O i jobs)
   loads_apart [] i dies = λ a b d less inside. absurd (omega arith)
   loads_apart (job ∷ jobs) i dies =
-      let later = behind (die_of s.shape job.slot.0) jobs (i + 1) (all_from (λ (x : Job). die_of s.shape job.slot.0 < die_of s.shape x.slot.0) jobs
-      (λ x inside. pairs_head (λ (a b : Job). die_of s.shape a.slot.0 < die_of s.shape b.slot.0) job jobs x dies inside)) in
+      let later = behind (die_of s.shape job.slot.0) jobs (i + 1)
+      (all_from (λ (x : Job). die_of s.shape job.slot.0 < die_of s.shape x.slot.0) jobs
+      (λ x inside. pairs_head (λ (a b : Job). die_of s.shape a.slot.0 < die_of s.shape b.slot.0) job jobs x
+      dies inside)) in
       pairs_cons (λ (a b : Load). die_of s.shape a.at ≢ die_of s.shape b.at) _ (loads_for n O (i + 1) jobs)
-      (λ l inside same. let less = All-contains (λ (l : Load). die_of s.shape job.slot.0 < die_of s.shape l.at) (loads_for n O (i + 1) jobs) l later inside in
+      (λ l inside same. let less = All-contains (λ (l : Load). die_of s.shape job.slot.0 < die_of s.shape l.at)
+      (loads_for n O (i + 1) jobs) l later inside in
       absurd (omega (arith, less, same)))
-      (loads_apart jobs (i + 1) (pairs_tail (λ (a b : Job). die_of s.shape a.slot.0 < die_of s.shape b.slot.0) job jobs dies))
+      (loads_apart jobs (i + 1) (pairs_tail (λ (a b : Job). die_of s.shape a.slot.0 < die_of s.shape b.slot.0)
+      job jobs dies))
 
-  pub can_fire : (jobs : List Job) → AreJobsDue n t O 0 jobs → InOrderOfDies s.shape jobs → CanDo s.shape s.image (fire (loads_for n O 0 jobs))
+  pub can_fire : (jobs : List Job) → AreJobsDue n t O 0 jobs → InOrderOfDies s.shape jobs →
+      CanDo s.shape s.image (fire (loads_for n O 0 jobs))
   can_fire jobs due dies = (loads_can jobs 0 due, loads_apart jobs 0 dies)
 
   loads_long : (jobs : List Job) (i : ℕ) → length (loads_for n O i jobs) ≡ length jobs
@@ -76,20 +86,25 @@ module _ (s : FlashState) (n : IndexState) (t : BlocksState) (O : OpenTransactio
   loads_long (job ∷ jobs) i = ap suc (loads_long jobs (i + 1))
 
   module _ (s' : FlashState) (jobs : List Job) (due : AreJobsDue n t O 0 jobs) (dies : InOrderOfDies s.shape jobs) where
-    pub fire_done : {F : Type 0} (f : F) (x : Unit {0}) → Operates s s' (fire (loads_for n O 0 jobs)) (Ok x) → AllWhole f s s' n t O 0 jobs
+    pub fire_done : {F : Type 0} (f : F) (x : Unit {0}) → Operates s s' (fire (loads_for n O 0 jobs)) (Ok x) →
+        AllWhole f s s' n t O 0 jobs
     fire_done f x done =
         all_whole f jobs s s' n t O 0 laws k size due dies done.carries.shape
-        (done.done.image ∙ ap (λ count. left_each s.image (loads_for n O 0 jobs) (replicate count outcome.All)) (loads_long jobs 0))
+        (done.done.image ∙ ap (λ count. left_each s.image (loads_for n O 0 jobs) (replicate count outcome.All))
+        (loads_long jobs 0))
 
-    pub fire_torn : {F : Type 0} (f : F) (b : Broken) → Operates s s' (fire (loads_for n O 0 jobs)) (Err b) → SomeLeft f s s' n t O 0 jobs
+    pub fire_torn : {F : Type 0} (f : F) (b : Broken) → Operates s s' (fire (loads_for n O 0 jobs)) (Err b) →
+        SomeLeft f s s' n t O 0 jobs
     fire_torn f b torn =
-        some_left f jobs torn.torn.left.0 s s' n t O 0 laws k size due dies (torn.torn.left.1 ∙ loads_long jobs 0) torn.carries.shape torn.torn.left.2
+        some_left f jobs torn.torn.left.0 s s' n t O 0 laws k size due dies (torn.torn.left.1 ∙ loads_long jobs 0)
+        torn.carries.shape torn.torn.left.2
 
     pub fire_does : (x : Unit {0}) → Operates s s' (fire (loads_for n O 0 jobs)) (Ok x) →
         Does s.shape (moment_of s) (fire (loads_for n O 0 jobs) ∷ []) (moment_of s')
     fire_does x done = (
       can_fire jobs due dies,
-      same_moments (moment_of s') (after s.shape (moment_of s) (fire (loads_for n O 0 jobs))) done.done.image done.done.programs done.done.erases,
+      same_moments (moment_of s') (after s.shape (moment_of s) (fire (loads_for n O 0 jobs))) done.done.image
+          done.done.programs done.done.erases,
     )
 
 loads_some : (n : IndexState) (O : OpenTransactionsState) (jobs : List Job) → jobs ≢ [] → loads_for n O 0 jobs ≢ []
@@ -97,7 +112,8 @@ loads_some n O [] some none = some refl
 loads_some n O (job ∷ jobs) some none = (let long = ap length none in absurd (omega arith))
 
 -- what holds under the rule of a protocol
-pub laws_of : (p : Protocol) → ImageIsSound p → NotingKeeps p → ArrayStays p → WrittenPartialWriteLaw p → WrittenCompletingWriteLaw p → HasLaws p
+pub laws_of : (p : Protocol) → ImageIsSound p → NotingKeeps p → ArrayStays p → WrittenPartialWriteLaw p →
+    WrittenCompletingWriteLaw p → HasLaws p
 laws_of p images notes arrays partial completing = record {
   images = images;
   notes = notes;
@@ -106,24 +122,31 @@ laws_of p images notes arrays partial completing = record {
   completing = image_completing_law p completing;
 }
 
-module _ {F : Type 0} (state : F → FlashState) (p : Protocol) (S S' : StoreState F) (O : OpenTransactionsState) (jobs : List Job) (laws : HasLaws p)
+module _ {F : Type 0} (state : F → FlashState) (p : Protocol) (S S' : StoreState F) (O : OpenTransactionsState)
+    (jobs : List Job) (laws : HasLaws p)
     (can : CanWriteAll state p S O jobs) where
   its : HasLaws S.noted.config.protocol
   its = subst HasLaws (sym can.ready.rule) laws
 
   pub stands_now : BlocksInvariant (state S.flash) S.noted S.table unsure.Nothing O
-  stands_now = subst (λ u. BlocksInvariant (state S.flash) S.noted S.table u O) can.ready.sure (from_stands state S O can.ready.stands)
+  stands_now = subst (λ u. BlocksInvariant (state S.flash) S.noted S.table u O) can.ready.sure
+      (from_stands state S O can.ready.stands)
 
   pub can_load_all : CanLoadAll state S O jobs
-  can_load_all = record { each = jobs_loadable (state S.flash) S.noted S.table O its stands_now can.size jobs 0 can.due; dies = can.dies }
+  can_load_all = record {
+    each = jobs_loadable (state S.flash) S.noted S.table O its stands_now can.size jobs 0 can.due;
+    dies = can.dies;
+  }
 
   pub can_fire_all : CanDo (state S.flash).shape (state S.flash).image (fire (loads_for S.noted O 0 jobs))
   can_fire_all = can_fire (state S.flash) S.noted S.table O its stands_now can.size jobs can.due can.dies
 
   -- the fire of what was loaded, as the store has it
-  module _ (registers : F → List (Option Load)) (C : StoreState F) (load : LoadsEach state registers S C O jobs) (r : Result (Unit {0}) Broken)
+  module _ (registers : F → List (Option Load)) (C : StoreState F) (load : LoadsEach state registers S C O jobs)
+      (r : Result (Unit {0}) Broken)
       (call : FiresStored state registers C S' r) where
-    pub fired : (q : Result (Unit {0}) Broken) → r ≡ q → Operates (state S.flash) (state S'.flash) (fire (loads_for S.noted O 0 jobs)) q
+    pub fired : (q : Result (Unit {0}) Broken) → r ≡ q →
+        Operates (state S.flash) (state S'.flash) (fire (loads_for S.noted O 0 jobs)) q
     fired q is =
         subst (λ x. Operates (state S.flash) (state S'.flash) (fire (loads_for S.noted O 0 jobs)) x) is
         (subst (λ (s : FlashState). Operates s (state S'.flash) (fire (loads_for S.noted O 0 jobs)) r) load.keeps.same
@@ -133,9 +156,11 @@ module _ {F : Type 0} (state : F → FlashState) (p : Protocol) (S S' : StoreSta
     same_tables = call.stays ∙ ap (λ (T : StoreState F). record T { flash = S'.flash }) load.keeps.stays
 
   -- It was done
-  module _ (x : Unit {0}) (done : Operates (state S.flash) (state S'.flash) (fire (loads_for S.noted O 0 jobs)) (Ok x)) where
+  module _ (x : Unit {0}) (done : Operates (state S.flash) (state S'.flash)
+      (fire (loads_for S.noted O 0 jobs)) (Ok x)) where
     whole : AllWhole S.flash (state S.flash) (state S'.flash) S.noted S.table O 0 jobs
-    whole = fire_done (state S.flash) S.noted S.table O its stands_now can.size (state S'.flash) jobs can.due can.dies S.flash x done
+    whole = fire_done (state S.flash) S.noted S.table O its stands_now can.size (state S'.flash) jobs can.due can.dies
+        S.flash x done
 
     pub can_note_all : CanNoteEach S.noted S.table O 0 jobs
     can_note_all = whole.can
@@ -144,17 +169,25 @@ module _ {F : Type 0} (state : F → FlashState) (p : Protocol) (S S' : StoreSta
     first_ones = entries_first O jobs 0 S.noted S.table can.due
 
     abbrev then : StoreState F
-    then = record { flash = S'.flash; noted = noted_each S.noted jobs; table = used_each S.table jobs; unsure = unsure.Nothing }
+    then = record {
+      flash = S'.flash;
+      noted = noted_each S.noted jobs;
+      table = used_each S.table jobs;
+      unsure = unsure.Nothing;
+    }
 
     pub then_is : (T : StoreState F) → S' ≡ record S { flash = S'.flash } →
         T ≡ record S' { noted = noted_each S'.noted jobs; table = used_each S'.table jobs } → T ≡ then
     then_is T same is =
-        is ∙ ap (λ (X : StoreState F). record X { noted = noted_each X.noted jobs; table = used_each X.table jobs }) same
+        is ∙ ap (λ (X : StoreState F). record X { noted = noted_each X.noted jobs; table = used_each X.table jobs })
+        same
         ∙ ap (λ u. record then { unsure = u }) can.ready.sure
 
-    pub written_all : (T : StoreState F) (O' : OpenTransactionsState) → T ≡ then → O' ≡ nexts_noted 0 jobs O → WrittenAll state S T O O' jobs
+    pub written_all : (T : StoreState F) (O' : OpenTransactionsState) → T ≡ then → O' ≡ nexts_noted 0 jobs O →
+        WrittenAll state S T O O' jobs
     written_all T O' is opens =
-        subst (λ (X : StoreState F). WrittenAll state S X O O' jobs) (sym is) (subst (λ (X : OpenTransactionsState). WrittenAll state S then O X jobs) (sym opens) (record {
+        subst (λ (X : StoreState F). WrittenAll state S X O O' jobs) (sym is)
+        (subst (λ (X : OpenTransactionsState). WrittenAll state S then O X jobs) (sym opens) (record {
           stands = to_stands state then (nexts_noted 0 jobs O) whole.kept;
           noted = refl;
           table = refl;
@@ -168,27 +201,35 @@ module _ {F : Type 0} (state : F → FlashState) (p : Protocol) (S S' : StoreSta
               names = whole.tables.names;
               kept = refl;
             };
-            moves = FlashMoves-fires (state S.flash) (state S'.flash) (loads_for S.noted O 0 jobs) x (loads_some S.noted O jobs can.some) can_fire_all done;
+            moves = FlashMoves-fires (state S.flash) (state S'.flash) (loads_for S.noted O 0 jobs) x
+                (loads_some S.noted O jobs can.some) can_fire_all done;
             carries = done.carries;
           };
           rises = record {
-            rises = subst (λ es. All (λ w. current_of S.noted w.page < current_of (noted_each S.noted jobs) w.page) (flat_map taken_writes es)) first_ones
+            rises = subst (λ es. All (λ w. current_of S.noted w.page < current_of (noted_each S.noted jobs) w.page)
+                (flat_map taken_writes es)) first_ones
                 whole.rises.rises;
             stays = λ page low others. whole.rises.stays page low
-                (subst (λ es. All (λ (w : PageWrite). w.page ≢ page) (flat_map taken_writes es)) (sym first_ones) others);
+                (subst (λ es. All (λ (w : PageWrite). w.page ≢ page) (flat_map taken_writes es))
+                (sym first_ones) others);
           };
           pages = whole.pages ∙ ap (takes_each (array_known S.noted (state S.flash).image)) first_ones;
-          does = fire_does (state S.flash) S.noted S.table O its stands_now can.size (state S'.flash) jobs can.due can.dies x done;
+          does = fire_does (state S.flash) S.noted S.table O its stands_now can.size (state S'.flash) jobs can.due
+              can.dies x done;
           reads = done.reads;
-          low = subst (λ es. All (λ (w : PageWrite). w.page < S.noted.config.logical) (flat_map taken_writes es)) first_ones whole.low;
+          low = subst (λ es. All (λ (w : PageWrite). w.page < S.noted.config.logical) (flat_map taken_writes es))
+              first_ones whole.low;
         }))
 
   -- It was broken
-  pub dropped_all : (b : Broken) → Operates (state S.flash) (state S'.flash) (fire (loads_for S.noted O 0 jobs)) (Err b) →
+  pub dropped_all : (b : Broken) → Operates (state S.flash) (state S'.flash)
+      (fire (loads_for S.noted O 0 jobs)) (Err b) →
       S' ≡ record S { flash = S'.flash } → DroppedAll state S S' O jobs
   dropped_all b torn same =
-      let left = fire_torn (state S.flash) S.noted S.table O its stands_now can.size (state S'.flash) jobs can.due can.dies S.flash b torn in
-      let all : take (length jobs) (entries_of O) ++ drop (length jobs) (entries_of O) ≡ entries_of O = take-append-drop (length jobs) (entries_of O) in
+      let left = fire_torn (state S.flash) S.noted S.table O its stands_now can.size (state S'.flash) jobs can.due
+      can.dies S.flash b torn in
+      let all : take (length jobs) (entries_of O) ++ drop (length jobs) (entries_of O) ≡ entries_of O =
+      take-append-drop (length jobs) (entries_of O) in
       let pages : Pages = array_known S.noted (state S.flash).image in
       let after_it : Pages = array_in S.noted.config.protocol S.noted.config.logical (state S'.flash).image in
       record {

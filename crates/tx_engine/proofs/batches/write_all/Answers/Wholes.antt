@@ -1,4 +1,5 @@
--- Programs that were done together leave a device as one after another would: by induction over states in which no flash was.
+-- Programs that were done together leave a device as one after another would: by induction over states in which no
+-- flash was.
 use Rattle.tx_engine.proofs.Common.{◌≡◌, ◌≢◌, ℕ, ◌+◌, ◌<◌, false, List, [], ◌∷◌, length, replicate, All, refl, sym, ap, ap₂, ◌∙◌, subst, inl, inr, arith, eq-eqb, ne_eqb, slice_set, if◌then◌else◌, flat_map, map-set_same, cases_eq, cond-true, cond-false, cond_both, length-set, All-nil, All-append, all_from, pairs_head, pairs_tail, PageWrite, FlashState, Contents, die_of, left_each, load_left, IndexState, current_of, programmed, BlocksState, with_slot, array_known, Plain, Entry, page_at, put, AreJobsDue, CanNoteEach, InOrderOfDies, IsJobDue, load_of, loads_for, nexts_noted, noted_each, taken_writes, takes_each, used_each, ExitsTables, VersionsRise, is_plain, OpenTransactionsState, TransactionState, bytes_due, entries_of, namings_of, no_transaction, transaction_at, with_transaction, is_at_last, next_writes, with_next, DeviceState, Job}
 use Rattle.flash_model.specs.declared.outcome.Outcome.TheVariants as outcome
 use Rattle.collector.specs.declared.unsure.Unsure.TheVariants as unsure
@@ -14,7 +15,8 @@ use Rattle.tx_engine.proofs.OfStepAll.JobsStay.{due_beside}
 use Rattle.tx_engine.proofs.OfStepAll.LoadLeft.{HasLaws, job_named, kept_same, left_stay, whole_kept, whole_next}
 
 -- a device with these tables, over an image
-abbrev pub device_with : {F : Type 0} → F → List Contents → IndexState → BlocksState → OpenTransactionsState → DeviceState F
+abbrev pub device_with : {F : Type 0} → F → List Contents → IndexState → BlocksState →
+    OpenTransactionsState → DeviceState F
 device_with f image n t O = record {
   flash = f;
   config = n.config;
@@ -31,7 +33,8 @@ abbrev pub entries_for : OpenTransactionsState → ℕ → List Job → List Ent
 entries_for O i [] = []
 entries_for O i (job ∷ jobs) = (transaction_at O i).entry ∷ entries_for O (i + 1) jobs
 
-pub entries_beside : (O O' : OpenTransactionsState) (i : ℕ) → ((j : ℕ) → j ≢ i → transaction_at O' j ≡ transaction_at O j) → (jobs : List Job) (j : ℕ) → i < j →
+pub entries_beside : (O O' : OpenTransactionsState) (i : ℕ) →
+    ((j : ℕ) → j ≢ i → transaction_at O' j ≡ transaction_at O j) → (jobs : List Job) (j : ℕ) → i < j →
     entries_for O' j jobs ≡ entries_for O j jobs
 entries_beside O O' i opens [] j less = refl
 entries_beside O O' i opens (job ∷ jobs) j less =
@@ -42,8 +45,10 @@ entries_beside O O' i opens (job ∷ jobs) j less =
 pub taken_next : (e : Entry) → e.mark ≡ Plain → taken_writes e ≡ next_writes e
 taken_next e plain = ap (λ ws. if is_at_last e then ws else []) (ap (λ m. if is_plain m then e.writes else []) plain)
 
-module _ {F : Type 0} (f : F) (s : FlashState) (n : IndexState) (t : BlocksState) (O : OpenTransactionsState) (i : ℕ) (job : Job) (laws : HasLaws n.config.protocol)
-    (k : BlocksInvariant s n t unsure.Nothing O) (size : O.page_bytes ≡ n.config.page_bytes) (h : IsJobDue n t O i job) (s' : FlashState) (shape : s'.shape ≡ s.shape)
+module _ {F : Type 0} (f : F) (s : FlashState) (n : IndexState) (t : BlocksState) (O : OpenTransactionsState) (i : ℕ)
+    (job : Job) (laws : HasLaws n.config.protocol)
+    (k : BlocksInvariant s n t unsure.Nothing O) (size : O.page_bytes ≡ n.config.page_bytes) (h : IsJobDue n t O i job)
+    (s' : FlashState) (shape : s'.shape ≡ s.shape)
     (image : s'.image ≡ load_left s.image (load_of n job (bytes_due O i)) outcome.All) where
   abbrev o : TransactionState
   o = transaction_at O i
@@ -73,9 +78,11 @@ module _ {F : Type 0} (f : F) (s : FlashState) (n : IndexState) (t : BlocksState
   whole_tables = record {
     config = refl;
     versions = next_versions n.config.protocol laws.notes n job.slot.0 job.rec s.image s'.image o next stay;
-    mentions = next_mentions n.config.protocol laws.notes n job.slot.0 job.rec s.image s'.image o next O.all i h.due.exists refl;
+    mentions = next_mentions n.config.protocol laws.notes n job.slot.0 job.rec s.image s'.image o next O.all i
+        h.due.exists refl;
     names = names_before O.all (slice_set O.all i (with_next o))
-        (map-set_same (λ (x : TransactionState). x.naming.names) O.all i (with_next o) no_transaction (next_parts o).names);
+        (map-set_same (λ (x : TransactionState). x.naming.names) O.all i (with_next o) no_transaction
+        (next_parts o).names);
     kept = refl;
   }
 
@@ -94,20 +101,26 @@ module _ {F : Type 0} (f : F) (s : FlashState) (n : IndexState) (t : BlocksState
   ]
 
   pub whole_rises : VersionsRise before after (taken_writes o.entry)
-  whole_rises = subst (VersionsRise before after) (sym (taken_next o.entry h.due.plain)) (elim (cases_eq (o.entry.done + 1) (length o.entry.writes)) [
-    | inl last ↦ subst (VersionsRise before after)
-        (sym (cond-true (is_at_last o.entry) o.entry.writes [] (eq-eqb (o.entry.done + 1) (length o.entry.writes) last)))
-        (record {
-          rises = writes_rise n.config.protocol laws.notes n job.slot.0 job.rec s.image s'.image o next last;
-          stays = λ page low others. writes_stay n.config.protocol laws.notes n job.slot.0 job.rec s.image s'.image o next last page low others;
-        })
-    | inr more ↦ subst (VersionsRise before after)
-        (sym (cond-false (is_at_last o.entry) o.entry.writes [] (ne_eqb (o.entry.done + 1) (length o.entry.writes) more)))
-        (record {
-          rises = All-nil (λ (w : PageWrite). current_of n w.page < current_of n' w.page);
-          stays = λ page low others. next_stays n.config.protocol laws.notes n job.slot.0 job.rec s.image s'.image o next more page low;
-        })
-  ])
+  whole_rises = subst (VersionsRise before after) (sym (taken_next o.entry h.due.plain))
+      (elim (cases_eq (o.entry.done + 1) (length o.entry.writes)) [
+        | inl last ↦ subst (VersionsRise before after)
+            (sym (cond-true (is_at_last o.entry) o.entry.writes []
+            (eq-eqb (o.entry.done + 1) (length o.entry.writes) last)))
+            (record {
+              rises = writes_rise n.config.protocol laws.notes n job.slot.0 job.rec s.image s'.image o next last;
+              stays = λ page low others. writes_stay n.config.protocol laws.notes n job.slot.0 job.rec
+                  s.image s'.image o
+                  next last page low others;
+            })
+        | inr more ↦ subst (VersionsRise before after)
+            (sym (cond-false (is_at_last o.entry) o.entry.writes []
+            (ne_eqb (o.entry.done + 1) (length o.entry.writes) more)))
+            (record {
+              rises = All-nil (λ (w : PageWrite). current_of n w.page < current_of n' w.page);
+              stays = λ page low others. next_stays n.config.protocol laws.notes n job.slot.0 job.rec s.image s'.image o
+                  next more page low;
+            })
+      ])
 
   pub whole_note : CanNoteJob n t job
   whole_note = record { exists = next.within; was = next.was; asked = next.next; free = h.first.free }
@@ -125,12 +138,15 @@ module _ {F : Type 0} (f : F) (s : FlashState) (n : IndexState) (t : BlocksState
   abbrev others_stay : (j : ℕ) → j ≢ i → transaction_at O' j ≡ transaction_at O j
   others_stay j other = due_beside O i j (with_next o) other
 
-  pub whole_beside : (jobs : List Job) → InOrderOfDies s.shape (job ∷ jobs) → AreJobsDue n t O (i + 1) jobs → AreJobsDue n' t' O' (i + 1) jobs
+  pub whole_beside : (jobs : List Job) → InOrderOfDies s.shape (job ∷ jobs) → AreJobsDue n t O (i + 1) jobs →
+      AreJobsDue n' t' O' (i + 1) jobs
   whole_beside jobs dies due =
-      jobs_beside n n' t O O' s.shape k.matches.blocks i job.slot.0 (pages_low s n t O k) (whole_off s n t O i job laws k size h s' shape image) others_stay
+      jobs_beside n n' t O O' s.shape k.matches.blocks i job.slot.0 (pages_low s n t O k)
+      (whole_off s n t O i job laws k size h s' shape image) others_stay
       (length-set O.all i (with_next o)) jobs (i + 1) (omega arith)
       (all_from (λ (x : Job). die_of s.shape job.slot.0 < die_of s.shape x.slot.0) jobs
-      (λ x inside. pairs_head (λ (a b : Job). die_of s.shape a.slot.0 < die_of s.shape b.slot.0) job jobs x dies inside)) due
+      (λ x inside. pairs_head (λ (a b : Job). die_of s.shape a.slot.0 < die_of s.shape b.slot.0) job jobs x
+      dies inside)) due
 
   pub whole_loads : (jobs : List Job) → loads_for n' O' (i + 1) jobs ≡ loads_for n O (i + 1) jobs
   whole_loads jobs = loads_beside n n' O O' i refl refl others_stay jobs (i + 1) (omega arith)
@@ -139,19 +155,24 @@ module _ {F : Type 0} (f : F) (s : FlashState) (n : IndexState) (t : BlocksState
   whole_entries jobs = entries_beside O O' i others_stay jobs (i + 1) (omega arith)
 
 -- what programs leave that were all done
-pub record AllWhole {F : Type 0} (f : F) (s s' : FlashState) (n : IndexState) (t : BlocksState) (O : OpenTransactionsState) (i : ℕ) (jobs : List Job) : Type 0 where
+pub record AllWhole {F : Type 0} (f : F) (s s' : FlashState) (n : IndexState) (t : BlocksState)
+    (O : OpenTransactionsState) (i : ℕ) (jobs : List Job) : Type 0 where
   pub kept : BlocksInvariant s' (noted_each n jobs) (used_each t jobs) unsure.Nothing (nexts_noted i jobs O)
   pub can : CanNoteEach n t O i jobs
   pub tables : ExitsTables (device_with f s.image n t O)
       (device_with f s'.image (noted_each n jobs) (used_each t jobs) (nexts_noted i jobs O))
   pub pages : array_known (noted_each n jobs) s'.image ≡ takes_each (array_known n s.image) (entries_for O i jobs)
   pub rises : VersionsRise (device_with f s.image n t O)
-      (device_with f s'.image (noted_each n jobs) (used_each t jobs) (nexts_noted i jobs O)) (flat_map taken_writes (entries_for O i jobs))
+      (device_with f s'.image (noted_each n jobs) (used_each t jobs) (nexts_noted i jobs O))
+      (flat_map taken_writes (entries_for O i jobs))
   pub low : All (λ w. w.page < n.config.logical) (flat_map taken_writes (entries_for O i jobs))
 
-pub all_whole : {F : Type 0} (f : F) (jobs : List Job) (s s' : FlashState) (n : IndexState) (t : BlocksState) (O : OpenTransactionsState) (i : ℕ) → HasLaws n.config.protocol →
-    BlocksInvariant s n t unsure.Nothing O → O.page_bytes ≡ n.config.page_bytes → AreJobsDue n t O i jobs → InOrderOfDies s.shape jobs → s'.shape ≡ s.shape →
-    s'.image ≡ left_each s.image (loads_for n O i jobs) (replicate (length jobs) outcome.All) → AllWhole f s s' n t O i jobs
+pub all_whole : {F : Type 0} (f : F) (jobs : List Job) (s s' : FlashState) (n : IndexState) (t : BlocksState)
+    (O : OpenTransactionsState) (i : ℕ) → HasLaws n.config.protocol →
+    BlocksInvariant s n t unsure.Nothing O → O.page_bytes ≡ n.config.page_bytes → AreJobsDue n t O i jobs →
+    InOrderOfDies s.shape jobs → s'.shape ≡ s.shape →
+    s'.image ≡ left_each s.image (loads_for n O i jobs) (replicate (length jobs) outcome.All) →
+    AllWhole f s s' n t O i jobs
 all_whole {F} f [] s s' n t O i laws k size due dies shape image = record {
   kept = kept_same s s' n t unsure.Nothing O shape image k;
   can = tt;
@@ -163,7 +184,10 @@ all_whole {F} f [] s s' n t O i laws k size due dies shape image = record {
     kept = refl;
   };
   pages = ap (array_known n) image;
-  rises = record { rises = All-nil (λ (w : PageWrite). current_of n w.page < current_of n w.page); stays = λ page low others. refl };
+  rises = record {
+    rises = All-nil (λ (w : PageWrite). current_of n w.page < current_of n w.page);
+    stays = λ page low others. refl;
+  };
   low = All-nil (λ (w : PageWrite). w.page < n.config.logical);
 }
 all_whole {F} f (job ∷ jobs) s s' n t O i laws k size due dies shape image =
@@ -195,10 +219,13 @@ all_whole {F} f (job ∷ jobs) s s' n t O i laws k size due dies shape image =
         rest.can,
       );
       tables = tables_then (λ (x : F). s) a b c refl refl first rest.tables;
-      pages = rest.pages ∙ ap₂ (λ ps es. takes_each ps es) (whole_pages f s n t O i job laws k size due.0 mid refl refl) entries;
-      rises = rises_then (λ (x : F). s) a b c (taken_writes o.entry) (flat_map taken_writes (entries_for O (i + 1) jobs)) refl low later first.versions
+      pages = rest.pages ∙ ap₂ (λ ps es. takes_each ps es) (whole_pages f s n t O i job laws k size due.0 mid refl refl)
+          entries;
+      rises = rises_then (λ (x : F). s) a b c (taken_writes o.entry)
+          (flat_map taken_writes (entries_for O (i + 1) jobs)) refl low later first.versions
           rest.tables.versions
           (whole_rises f s n t O i job laws k size due.0 mid refl refl)
           (subst (λ es. VersionsRise b c (flat_map taken_writes es)) entries rest.rises);
-      low = All-append (λ (w : PageWrite). w.page < n.config.logical) (taken_writes o.entry) (flat_map taken_writes (entries_for O (i + 1) jobs)) low later;
+      low = All-append (λ (w : PageWrite). w.page < n.config.logical) (taken_writes o.entry)
+          (flat_map taken_writes (entries_for O (i + 1) jobs)) low later;
     }

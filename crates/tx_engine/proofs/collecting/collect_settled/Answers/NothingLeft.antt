@@ -37,12 +37,14 @@ cleaned_blank s n t u m slot within in_spare =
     note_at-in (shape_of n.config) some n.notes m.noted.slots t.spare below Blank slot (omega arith) (omega arith)
 
 -- a record of a transaction in progress is the newest of its page
-pub newest_own : (p : Protocol) (l : List Found) (logical : ℕ) (names : List Link) (f : Found) → InProgress p l logical names → Contains l f →
+pub newest_own : (p : Protocol) (l : List Found) (logical : ℕ) (names : List Link) (f : Found) →
+    InProgress p l logical names → Contains l f →
     Contains names (name_of f.rec) →
     f.rec.version ≡ newest l f.rec.page
 newest_own p l logical names f going i own =
     let least = greatest_bound (version_of f.rec.page) l f i in
-    let its : version_of f.rec.page f.rec ≡ f.rec.version = cond-true (eqb f.rec.page f.rec.page) f.rec.version 0 (eq-eqb f.rec.page f.rec.page refl) in
+    let its : version_of f.rec.page f.rec ≡ f.rec.version = cond-true (eqb f.rec.page f.rec.page) f.rec.version 0
+    (eq-eqb f.rec.page f.rec.page refl) in
     let most : newest l f.rec.page ≤ f.rec.version = greatest_least (version_of f.rec.page) l f.rec.version (λ g j.
     cond_both (eqb g.rec.page f.rec.page) g.rec.version 0 (λ v. v ≤ f.rec.version)
     (λ is.
@@ -52,14 +54,16 @@ newest_own p l logical names f going i own =
           elim (cases_eq also.0 own.0) [
             | inl same ↦ (
                 let name : name_of g.rec ≡ name_of f.rec =
-                sym also.2 ∙ get_or_default names also.0 (name_of g.rec) (name_of f.rec) also.1 ∙ ap (λ k. get_or names k (name_of f.rec)) same ∙ own.2 in
+                sym also.2 ∙ get_or_default names also.0 (name_of g.rec) (name_of f.rec) also.1
+                ∙ ap (λ k. get_or names k (name_of f.rec)) same ∙ own.2 in
                 let version : g.rec.version ≡ f.rec.version = ap (λ (a : Link). a.version) name in omega arith)
             | inr other ↦ absurd (apart_pages names also.0 own.0 going.begun.transaction.distinct also.1 own.1 other
                 (ap (λ (a : Link). a.page) (get_or_default names also.0 no_name (name_of g.rec) also.1 ∙ also.2) ∙ page
                 ∙ ap (λ (a : Link). a.page) (sym (get_or_default names own.0 no_name (name_of f.rec) own.1 ∙ own.2))))
           ])
       | inr foreign ↦ (
-          let below = All-contains (λ (g : Found). (Contains names (name_of g.rec) → ⊥) → All (λ (a : Link). mention_at a.page g.rec < a.version) names) l g
+          let below = All-contains (λ (g : Found). (Contains names (name_of g.rec) → ⊥) →
+          All (λ (a : Link). mention_at a.page g.rec < a.version) names) l g
           going.begun.others j foreign in
           let less = All-contains (λ (a : Link). mention_at a.page g.rec < a.version) names (name_of f.rec) below own in
           let part : g.rec.version < f.rec.version = (mention_parts g.rec (name_of f.rec) less).0 page in
@@ -68,28 +72,37 @@ newest_own p l logical names f going i own =
     (λ is. omega arith)) in
     omega (arith, least, its, most)
 
-whole_current : (n : IndexState) (x : Naming) (f : Found) → Contains x.names (name_of f.rec) → All (λ (a : Link). current_of n a.page ≡ a.version) x.names →
+whole_current : (n : IndexState) (x : Naming) (f : Found) → Contains x.names (name_of f.rec) →
+    All (λ (a : Link). current_of n a.page ≡ a.version) x.names →
     f.rec.version ≡ cur n.config.protocol (found_in n.notes) n.config.logical f.rec.page
 unfolding current_of
-whole_current n x f own all = sym (All-contains (λ (a : Link). current_of n a.page ≡ a.version) x.names (name_of f.rec) all own)
+whole_current n x f own all = sym (All-contains (λ (a : Link). current_of n a.page ≡ a.version) x.names
+    (name_of f.rec) all own)
 
-current_marked : (image : List Contents) (n : IndexState) (e : Entry) (x : Naming) (m : Mark) (f : Found) → IsAsMarked image n e x m →
+current_marked : (image : List Contents) (n : IndexState) (e : Entry) (x : Naming) (m : Mark) (f : Found) →
+    IsAsMarked image n e x m →
     Contains (found_in n.notes) f → Contains x.names (name_of f.rec) →
-    IsCurrent n.config.protocol (found_in n.notes) n.config.logical f.rec ⊎ (f.rec.version ≡ newest (found_in n.notes) f.rec.page)
-current_marked image n e x Plain f w i own = inr (newest_own n.config.protocol (found_in n.notes) n.config.logical x.names f w.in_progress i own)
-current_marked image n e x Doubt f w i own = inr (newest_own n.config.protocol (found_in n.notes) n.config.logical x.names f w.0.in_progress i own)
+    IsCurrent n.config.protocol (found_in n.notes) n.config.logical f.rec
+    ⊎ (f.rec.version ≡ newest (found_in n.notes) f.rec.page)
+current_marked image n e x Plain f w i own = inr (newest_own n.config.protocol (found_in n.notes) n.config.logical
+    x.names f w.in_progress i own)
+current_marked image n e x Doubt f w i own = inr (newest_own n.config.protocol (found_in n.notes) n.config.logical
+    x.names f w.0.in_progress i own)
 current_marked image n e x Whole f w i own = inl (whole_current n x f own w)
 
 -- a pinned record is current, or the newest of a page of an open transaction
-pinned_wanted : (s : FlashState) (n : IndexState) (t : BlocksState) (u : Unsure) (o : OpenTransactionsState) → BlocksInvariant s n t u o → (f : Found) → Contains (found_in n.notes) f →
+pinned_wanted : (s : FlashState) (n : IndexState) (t : BlocksState) (u : Unsure) (o : OpenTransactionsState) →
+    BlocksInvariant s n t u o → (f : Found) → Contains (found_in n.notes) f →
     Contains (pinned_names n.pins) (name_of f.rec) →
     IsCurrent n.config.protocol (found_in n.notes) n.config.logical f.rec
-    ⊎ (Any (λ e. Any (λ w. w.page ≡ f.rec.page) e.writes) (entries_of o) × (f.rec.version ≡ newest (found_in n.notes) f.rec.page))
+    ⊎ (Any (λ e. Any (λ w. w.page ≡ f.rec.page) e.writes) (entries_of o)
+    × (f.rec.version ≡ newest (found_in n.notes) f.rec.page))
 pinned_wanted s n t u o k f i pin =
     let any = (k.pinned (name_of f.rec)).0 pin in
     let its = get_or o.all any.0 no_transaction in
     let own : Contains its.naming.names (name_of f.rec) =
-    subst (λ (x : TransactionState). Contains x.naming.names (name_of f.rec)) (sym (get_or_default o.all any.0 no_transaction any.1 any.2 ∙ any.3)) any.4 in
+    subst (λ (x : TransactionState). Contains x.naming.names (name_of f.rec))
+    (sym (get_or_default o.all any.0 no_transaction any.1 any.2 ∙ any.3)) any.4 in
     let open_as = k.each any.0 no_transaction any.2 in
     elim (current_marked s.image n its.entry its.naming its.entry.mark f open_as.marked i own) [
       | inl current ↦ inl current
@@ -108,32 +121,39 @@ pinned_wanted s n t u o k f i pin =
                 within,
                 get_or_default its.entry.writes own.0 w no_write within,
                 sym (page_of_name its.naming.names its.entry.writes own.0 open_as.named.pages own.1)
-                    ∙ ap (λ (a : Link). a.page) (get_or_default its.naming.names own.0 no_name (name_of f.rec) own.1 ∙ own.2),
+                    ∙ ap (λ (a : Link). a.page) (get_or_default its.naming.names own.0 no_name (name_of f.rec) own.1
+                    ∙ own.2),
               )),
         ),
         newest,
       )
     ]
 
-pub nothing_left : {F : Type 0} (state : F → FlashState) (S S' : StoreState F) (O : OpenTransactionsState) → TidyLaw → ImageIsSound S'.noted.config.protocol →
-    (t : BlocksState) (u : Unsure) (s : FlashState) → Matches s S.noted t u → t ≡ S.table → Stands state (device_in state S' O) → S'.unsure ≡ unsure.Nothing →
+pub nothing_left : {F : Type 0} (state : F → FlashState) (S S' : StoreState F) (O : OpenTransactionsState) → TidyLaw →
+    ImageIsSound S'.noted.config.protocol →
+    (t : BlocksState) (u : Unsure) (s : FlashState) → Matches s S.noted t u → t ≡ S.table →
+    Stands state (device_in state S' O) → S'.unsure ≡ unsure.Nothing →
     CollectsNothing (state S.flash) (state S'.flash) S.noted S'.noted S.table S'.table →
     HasNothingToCollect S'.noted.config.protocol S'.noted.config.logical (state S'.flash).image (entries_of O)
 nothing_left state S S' O tidy settles t u s m table h sure nothing =
     let k = from_stands state S' O h in
     let n' = S'.noted in
-    let m' : Matches (state S'.flash) n' S'.table unsure.Nothing = subst (λ v. Matches (state S'.flash) n' S'.table v) sure k.matches in
+    let m' : Matches (state S'.flash) n' S'.table unsure.Nothing = subst (λ v. Matches (state S'.flash) n' S'.table v)
+    sure k.matches in
     let blank : AllOfBlock n' S'.table.spare (λ slot. note_at n'.notes slot ≡ Blank) =
     subst (λ n. AllOfBlock n S'.table.spare (λ slot. note_at n.notes slot ≡ Blank)) (sym nothing.noted)
-    (subst (λ v. AllOfBlock (noted_cleaned S.noted S.table.spare) v (λ slot. note_at (noted_cleaned S.noted S.table.spare).notes slot ≡ Blank))
+    (subst (λ v. AllOfBlock (noted_cleaned S.noted S.table.spare) v
+    (λ slot. note_at (noted_cleaned S.noted S.table.spare).notes slot ≡ Blank))
     (ap (λ (b : BlocksState). b.spare) (sym nothing.table))
-    (subst (λ (b : BlocksState). AllOfBlock (noted_cleaned S.noted b.spare) b.spare (λ slot. note_at (noted_cleaned S.noted b.spare).notes slot ≡ Blank)) table
+    (subst (λ (b : BlocksState). AllOfBlock (noted_cleaned S.noted b.spare) b.spare
+    (λ slot. note_at (noted_cleaned S.noted b.spare).notes slot ≡ Blank)) table
     (cleaned_blank s S.noted t u m))) in
     let none : HasNoGarbage n' S'.table =
     subst (λ n. HasNoGarbage n S'.table) (sym nothing.noted)
     (subst (λ b. HasNoGarbage (noted_cleaned S.noted S.table.spare) b) (sym nothing.table) nothing.none) in
     let is = tidy (state S'.flash) n' S'.table m' blank none in
-    let records : records_in n'.config.protocol (state S'.flash).image ≡ found_in n'.notes = settles.records (state S'.flash) n' S'.table unsure.Nothing m' tt
+    let records : records_in n'.config.protocol (state S'.flash).image ≡ found_in n'.notes =
+    settles.records (state S'.flash) n' S'.table unsure.Nothing m' tt
     refl in
     record {
       whole = is.whole;
@@ -146,14 +166,16 @@ nothing_left state S S' O tidy settles t u s m table h sure nothing =
             let there : Contains (found_in n'.notes) f = subst (λ l. Contains l f) records
             (Contains-get_or (records_in n'.config.protocol (state S'.flash).image) j d inside) in
             elim (pinned_wanted (state S'.flash) n' S'.table S'.unsure O k f there pin) [
-              | inl current ↦ inl (subst (λ l. IsCurrent n'.config.protocol l n'.config.logical f.rec) (sym records) current)
+              | inl current ↦ inl (subst (λ l. IsCurrent n'.config.protocol l n'.config.logical f.rec)
+                  (sym records) current)
               | inr own ↦ inr (inr (own.0, subst (λ l. f.rec.version ≡ newest l f.rec.page) (sym records) own.1))
             ])
       ];
     }
 
 -- what a collection ensures where there was nothing to collect
-pub nothing_of : (a b : StoreParts) (any : Bool) (answer : Collected) (r : Result Collected Broken) → answer ≡ answer_of any → r ≡ Ok answer → r ≡ Ok Nothing →
+pub nothing_of : (a b : StoreParts) (any : Bool) (answer : Collected) (r : Result Collected Broken) →
+    answer ≡ answer_of any → r ≡ Ok answer → r ≡ Ok Nothing →
     CollectsIfAny a b any →
     CollectsNothing a.flash b.flash a.noted b.noted a.table b.table
 nothing_of a b true answer r its is nothing h = absurd (let e = its in let k = is in let l = nothing in cc)

@@ -18,11 +18,14 @@ returns-in_default g c =
     let now = c.args.self.now in
     let flash = state now.flash in
     record {
-      aborts = subst (λ (s : DeviceState _). AbortsAs (is_there state s) s.machine s.machine c.args.tag (Err failed.Unknown))
+      aborts = subst (λ (s : DeviceState _). AbortsAs (is_there state s) s.machine s.machine c.args.tag
+          (Err failed.Unknown))
           (as_kept state c.self.inside _ c.self.view_is c.requires.kept)
           (let s = device_in state c.self.inside.store c.self.inside.transactions in
-          abort_missing (is_there state s) s.machine c.args.tag (entry_missing c.args.tag c.self.inside.transactions (sym c.position.ensures ∙ c.in_default.is)));
-      exits = exits_still state now now.flash _ now c.requires.kept refl (FlashMoves-nothing flash flash _ refl) (Carries-nothing flash);
+          abort_missing (is_there state s) s.machine c.args.tag
+          (entry_missing c.args.tag c.self.inside.transactions (sym c.position.ensures ∙ c.in_default.is)));
+      exits = exits_still state now now.flash _ now c.requires.kept refl (FlashMoves-nothing flash flash _ refl)
+          (Carries-nothing flash);
       moment = refl;
       rises = rises_unread now now refl;
       sure = tt;
@@ -35,7 +38,8 @@ returns-in_default g c =
 
 pub mark-requires : goal.mark-requires
 mark-requires g c =
-    (entry_settled _ c.self.inside.transactions c.settle.new.transactions c.in-Some.at (ap (λ (m : ArrayState). m.entries) c.in-Ok.ensures.settles.machine)
+    (entry_settled _ c.self.inside.transactions c.settle.new.transactions c.in-Some.at
+    (ap (λ (m : ArrayState). m.entries) c.in-Ok.ensures.settles.machine)
     (entry_found c.args.tag c.self.inside.transactions c.in-Some.at (sym c.position.ensures ∙ c.in-Some.is)).0).0
 
 pub close-requires : goal.close-requires
@@ -45,7 +49,8 @@ close-requires g c = record {
     rule = ap (λ (k : Config). k.protocol) c.in-Ok.ensures.exits.tables.config ∙ c.self.invariant.rule;
     sure = c.in-Ok.ensures.settles.sure;
   };
-  at = (entry_settled _ c.self.inside.transactions c.settle.new.transactions c.in-Some.at (ap (λ (m : ArrayState). m.entries) c.in-Ok.ensures.settles.machine)
+  at = (entry_settled _ c.self.inside.transactions c.settle.new.transactions c.in-Some.at
+      (ap (λ (m : ArrayState). m.entries) c.in-Ok.ensures.settles.machine)
       (entry_found c.args.tag c.self.inside.transactions c.in-Some.at (sym c.position.ensures ∙ c.in-Some.is)).0).0;
 }
 
@@ -55,13 +60,16 @@ settle-requires-clause-stands g c =
 
 pub invariant_of-self : goal.invariant_of-self
 invariant_of-self g c =
-    kept_is g.F.Flash.state g.R.CommitRule.protocol c.self.inside c.settle.new.store c.settle.new.transactions c.self.invariant
+    kept_is g.F.Flash.state g.R.CommitRule.protocol c.self.inside c.settle.new.store c.settle.new.transactions
+    c.self.invariant
     c.settle.ensures.stands c.settle.ensures.exits.tables.config c.settle.ensures.limits
 
 pub invariant_of-self-2 : goal.invariant_of-self-2
 invariant_of-self-2 g c =
-    let config = ap (λ (s : StoreState _). s.noted.config) c.close.ensures.pins ∙ c.settle.ensures.exits.tables.config in
-    kept_is g.F.Flash.state g.R.CommitRule.protocol c.self.inside c.close.new.store c.close.new.transactions c.self.invariant c.close.ensures.stands config
+    let config = ap (λ (s : StoreState _). s.noted.config) c.close.ensures.pins
+    ∙ c.settle.ensures.exits.tables.config in
+    kept_is g.F.Flash.state g.R.CommitRule.protocol c.self.inside c.close.new.store c.close.new.transactions
+    c.self.invariant c.close.ensures.stands config
     (limits_then _ _ _ c.settle.ensures.limits (record {
       page_bytes = ap (λ (o : OpenTransactionsState). o.page_bytes) c.close.ensures.gone;
       logical = ap (λ (o : OpenTransactionsState). o.logical) c.close.ensures.gone;
@@ -81,11 +89,13 @@ returns g c =
     let settles = c.in-Ok.ensures in let pins = c.close.ensures.pins in let gone = c.close.ensures.gone in
     let found = entry_found c.args.tag O i (sym c.position.ensures ∙ c.in-Some.is) in
     let at = entry_settled there O O1 i (ap (λ (m : ArrayState). m.entries) settles.settles.machine) found.0 in
-    let machine = closed_machine state S1 S2 O1 O2 i pins gone settles.stands at.0 c.args.tag (found.2 ∙ sym (ap (λ e. e.tag) at.1)) in
+    let machine = closed_machine state S1 S2 O1 O2 i pins gone settles.stands at.0 c.args.tag (found.2
+    ∙ sym (ap (λ e. e.tag) at.1)) in
     by_kept state c.self.inside _ c.self.view_is c.requires.kept S2 O2
     (λ (s t : DeviceState _). AbortsDevice state s t c.args.tag (Ok c.match-mark.aborted))
     (record {
-      aborts = abort_done there old.machine mid.machine new.machine c.args.tag (transaction_at O i).entry (transaction_at O1 i).entry c.match-mark.aborted found.1
+      aborts = abort_done there old.machine mid.machine new.machine c.args.tag (transaction_at O i).entry
+          (transaction_at O1 i).entry c.match-mark.aborted found.1
           settles.settles.machine at.1 machine
           (elim c.match-mark.branch [
             | in-Whole w ↦ inl (sym c.mark.ensures ∙ w.in-Whole.is, w.aborted-is)
@@ -93,7 +103,8 @@ returns g c =
           ]);
       exits = exits_then state old mid new false refl refl settles.exits (closed_exits state S1 S2 O1 O2 i pins gone);
       moment = ap (λ (s : StoreState _). moment_of (state s.flash)) pins ∙ c.settle.ensures.moment;
-      rises = rises_on old mid new (settled_writes there old.machine) settles.settles.rises (closed_current state S1 S2 O1 O2 i pins gone);
+      rises = rises_on old mid new (settled_writes there old.machine) settles.settles.rises
+          (closed_current state S1 S2 O1 O2 i pins gone);
       sure = ap (λ (s : StoreState _). s.unsure) pins ∙ settles.settles.sure;
       tables = has_tables state (settlement_of state old) S1 S2 O2 settles.tables.0 settles.tables.1 pins;
       reads = ap (λ (s : StoreState _). (state s.flash).reads) pins ∙ settles.reads;
@@ -109,13 +120,16 @@ returns-in_default-settle g c =
     let old = device_in state S O in
     let new = device_in state c.settle.new.store c.settle.new.transactions in
     let its = c.in_default-settle.ensures in
-    let stays = failed_stays state S c.settle.new.store O c.settle.new.transactions its.failed.0 its.failed.1 c.settle.ensures.moment in
+    let stays = failed_stays state S c.settle.new.store O c.settle.new.transactions its.failed.0 its.failed.1
+    c.settle.ensures.moment in
     by_kept state c.self.inside _ c.self.view_is c.requires.kept c.settle.new.store c.settle.new.transactions
     (λ (s t : DeviceState _). AbortsDevice state s t c.args.tag (Err failed.Fault))
     (record {
-      aborts = abort_failed (is_there state old) old.machine new.machine c.args.tag (transaction_at O c.in-Some.at).entry
+      aborts = abort_failed (is_there state old) old.machine new.machine c.args.tag
+          (transaction_at O c.in-Some.at).entry
           (entry_found c.args.tag O c.in-Some.at (sym c.position.ensures ∙ c.in-Some.is)).1
-          (failed_machine state S c.settle.new.store O c.settle.new.transactions its.failed.0 its.failed.1 c.settle.ensures.moment);
+          (failed_machine state S c.settle.new.store O c.settle.new.transactions its.failed.0 its.failed.1
+          c.settle.ensures.moment);
       exits = its.exits;
       moment = c.settle.ensures.moment;
       rises = rises_unread old new stays;

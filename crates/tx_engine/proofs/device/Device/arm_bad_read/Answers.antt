@@ -6,8 +6,10 @@ use Rattle.tx_engine.proofs.device.Device.arm_bad_read.Goals as goal
 
 pub invariant_of-self : goal.invariant_of-self
 invariant_of-self g c =
-    device_same g.F.Flash.state g.R.CommitRule.protocol c.self.inside c.arm_bad_read.new.self c.self.invariant c.arm_bad_read.ensures.stays
-    (ap (λ (s : FlashState). s.shape) c.arm_bad_read.ensures.arms.stays) (ap (λ (s : FlashState). s.image) c.arm_bad_read.ensures.arms.stays)
+    device_same g.F.Flash.state g.R.CommitRule.protocol c.self.inside c.arm_bad_read.new.self c.self.invariant
+    c.arm_bad_read.ensures.stays
+    (ap (λ (s : FlashState). s.shape) c.arm_bad_read.ensures.arms.stays)
+    (ap (λ (s : FlashState). s.image) c.arm_bad_read.ensures.arms.stays)
 
 pub returns : goal.returns
 returns g c =
@@ -18,6 +20,7 @@ returns g c =
     c.self.view_is (record {
       arms = c.arm_bad_read.ensures.arms;
       stays = ap (λ (s : DeviceState _). record s { dropped = c.self.inside.dropped })
-          (failed_stays state c.self.inside.store new c.self.inside.transactions c.self.inside.transactions c.arm_bad_read.ensures.stays refl
+          (failed_stays state c.self.inside.store new c.self.inside.transactions c.self.inside.transactions
+          c.arm_bad_read.ensures.stays refl
           (ap (λ (s : FlashState). moment_of s) c.arm_bad_read.ensures.arms.stays));
     })

@@ -17,18 +17,23 @@ settle-requires-clause-stands g c =
 
 pub invariant_of-self : goal.invariant_of-self
 invariant_of-self g c =
-    kept_is g.F.Flash.state g.R.CommitRule.protocol c.self.inside c.settle.new.store c.settle.new.transactions c.self.invariant
+    kept_is g.F.Flash.state g.R.CommitRule.protocol c.self.inside c.settle.new.store c.settle.new.transactions
+    c.self.invariant
     c.settle.ensures.stands c.settle.ensures.exits.tables.config c.settle.ensures.limits
 
 pub invariant_of-self-in_default-collect_settled : goal.invariant_of-self-in_default-collect_settled
 invariant_of-self-in_default-collect_settled g c =
-    kept_is g.F.Flash.state g.R.CommitRule.protocol c.self.inside c.collect_settled.new.store c.settle.new.transactions c.self.invariant
-    c.collect_settled.ensures.left.stands (c.collect_settled.ensures.left.exits.tables.config ∙ c.settle.ensures.exits.tables.config) c.settle.ensures.limits
+    kept_is g.F.Flash.state g.R.CommitRule.protocol c.self.inside c.collect_settled.new.store c.settle.new.transactions
+    c.self.invariant
+    c.collect_settled.ensures.left.stands (c.collect_settled.ensures.left.exits.tables.config
+    ∙ c.settle.ensures.exits.tables.config) c.settle.ensures.limits
 
 pub invariant_of-self-2 : goal.invariant_of-self-2
 invariant_of-self-2 g c =
-    kept_is g.F.Flash.state g.R.CommitRule.protocol c.self.inside c.collect_settled.new.store c.settle.new.transactions c.self.invariant
-    c.collect_settled.ensures.left.stands (c.collect_settled.ensures.left.exits.tables.config ∙ c.settle.ensures.exits.tables.config) c.settle.ensures.limits
+    kept_is g.F.Flash.state g.R.CommitRule.protocol c.self.inside c.collect_settled.new.store c.settle.new.transactions
+    c.self.invariant
+    c.collect_settled.ensures.left.stands (c.collect_settled.ensures.left.exits.tables.config
+    ∙ c.settle.ensures.exits.tables.config) c.settle.ensures.limits
 
 pub returns-in_default : goal.returns-in_default
 returns-in_default g c =
@@ -37,12 +42,18 @@ returns-in_default g c =
     let old = device_in state S O in
     let new = device_in state c.settle.new.store c.settle.new.transactions in
     let its = c.in_default.ensures in
-    let stays = failed_stays state S c.settle.new.store O c.settle.new.transactions its.failed.0 its.failed.1 c.settle.ensures.moment in
-    let unread : StaysUnread state old new = record { stays = stays; moment = c.settle.ensures.moment; reads = its.first_failed } in
+    let stays = failed_stays state S c.settle.new.store O c.settle.new.transactions its.failed.0 its.failed.1
+    c.settle.ensures.moment in
+    let unread : StaysUnread state old new = record {
+      stays = stays;
+      moment = c.settle.ensures.moment;
+      reads = its.first_failed;
+    } in
     by_kept state c.self.inside _ c.self.view_is c.requires.kept c.settle.new.store c.settle.new.transactions
     (λ (s t : DeviceState _). CollectsDevice state s t (Err (record {})))
     (record {
-      collects = inl (failed_machine state S c.settle.new.store O c.settle.new.transactions its.failed.0 its.failed.1 c.settle.ensures.moment);
+      collects = inl (failed_machine state S c.settle.new.store O c.settle.new.transactions its.failed.0 its.failed.1
+          c.settle.ensures.moment);
       exits = its.exits;
       rises = not_settled (is_there state old) old new stays;
       sure = tt;
@@ -61,7 +72,8 @@ returns-in_default-collect_settled g c =
     let new = device_in state c.collect_settled.new.store c.settle.new.transactions in
     let there = is_there state old in
     let settles = c.in-Ok.ensures in let its = c.in_default-collect_settled.ensures in
-    let stands = kept_stands state c.self.inside _ c.self.view_is c.requires.kept g.R.CommitRule.protocol c.self.invariant in
+    let stands = kept_stands state c.self.inside _ c.self.view_is c.requires.kept g.R.CommitRule.protocol
+    c.self.invariant in
     by_kept state c.self.inside _ c.self.view_is c.requires.kept c.collect_settled.new.store c.settle.new.transactions
     (λ (s t : DeviceState _). CollectsDevice state s t (Err (record {})))
     (record {
@@ -69,14 +81,21 @@ returns-in_default-collect_settled g c =
       exits = exits_then state old mid new true refl refl settles.exits its.left.exits;
       rises = inr (
         ap (λ m. m.pages) (its.left.machine ∙ settles.settles.machine),
-        rises_stay old mid new (settled_writes there old.machine) settles.exits.tables.config (settled_low state S O there stands)
+        rises_stay old mid new (settled_writes there old.machine) settles.exits.tables.config
+            (settled_low state S O there stands)
             settles.settles.rises its.left.versions,
       );
       sure = tt;
       tables = tt;
-      failed = inr (its.stays ∙ settles.tables.1, subst (λ (n : IndexState). Preserves n new.noted) settles.tables.0 its.left.kept);
-      breaks = inr (broke_then state S c.settle.new.store O settles.exits.carries.shape c.settle.ensures.moment settles.reads settles.tables.0
-          settles.tables.1 (λ between n t. RoomBreaksOff n t between (state new.flash) new.noted new.unsure) its.broken);
+      failed = inr (
+        its.stays ∙ settles.tables.1,
+        subst (λ (n : IndexState). Preserves n new.noted) settles.tables.0
+            its.left.kept,
+      );
+      breaks = inr (broke_then state S c.settle.new.store O settles.exits.carries.shape c.settle.ensures.moment
+          settles.reads settles.tables.0
+          settles.tables.1 (λ between n t. RoomBreaksOff n t between (state new.flash) new.noted new.unsure)
+          its.broken);
       nothing = λ is. cc;
     })
 
@@ -92,21 +111,26 @@ returns g c =
     let there = is_there state old in
     let settles = c.in-Ok.ensures in let its = c.in-Ok-collect_settled.ensures in
     let config : new.noted.config ≡ S.noted.config = its.left.exits.tables.config ∙ settles.exits.tables.config in
-    let stands = kept_stands state c.self.inside _ c.self.view_is c.requires.kept g.R.CommitRule.protocol c.self.invariant in
+    let stands = kept_stands state c.self.inside _ c.self.view_is c.requires.kept g.R.CommitRule.protocol
+    c.self.invariant in
     by_kept state c.self.inside _ c.self.view_is c.requires.kept c.collect_settled.new.store O1
     (λ (s t : DeviceState _). CollectsDevice state s t (Ok collected))
     (record {
       collects = its.left.machine ∙ settles.settles.machine;
       exits = exits_then state old mid new false refl refl settles.exits its.left.exits;
-      rises = rises_stay old mid new (settled_writes there old.machine) settles.exits.tables.config (settled_low state S O there stands)
+      rises = rises_stay old mid new (settled_writes there old.machine) settles.exits.tables.config
+          (settled_low state S O there stands)
           settles.settles.rises its.left.versions;
       sure = its.sure;
-      tables = collects_from (state S.flash) (state S1.flash) (state new.flash) (settlement_of state old).noted S1.noted new.noted
-          (settlement_of state old).table S1.table new.table collected c.settle.ensures.moment settles.exits.carries.shape settles.tables.0 settles.tables.1
+      tables = collects_from (state S.flash) (state S1.flash) (state new.flash) (settlement_of state old).noted
+          S1.noted new.noted
+          (settlement_of state old).table S1.table new.table collected c.settle.ensures.moment
+          settles.exits.carries.shape settles.tables.0 settles.tables.1
           its.tables;
       failed = tt;
       breaks = tt;
       nothing = λ is.
           let same : Ok collected ≡ Ok Nothing = (let its : collected ≡ Nothing = cc in ap (λ x. Ok x) its) in
-          subst (λ (k : Config). HasNothingToCollect k.protocol k.logical (state new.flash).image (entries_of O1)) config (its.nothing same);
+          subst (λ (k : Config). HasNothingToCollect k.protocol k.logical (state new.flash).image (entries_of O1))
+          config (its.nothing same);
     })

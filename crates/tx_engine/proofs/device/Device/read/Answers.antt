@@ -8,8 +8,10 @@ use Rattle.tx_engine.proofs.device.Device.read.Goals.{in-Ok-true, in-Ok-false, i
 
 pub invariant_of-self : goal.invariant_of-self
 invariant_of-self g c =
-    let same = read_same g.F.Flash.state c.self.inside.store c.read.new.self c.args.page c.args.into.now c.read.new.into c.read.result c.read.ensures.reads in
-    device_same g.F.Flash.state g.R.CommitRule.protocol c.self.inside c.read.new.self c.self.invariant c.read.ensures.stays same.0 same.1
+    let same = read_same g.F.Flash.state c.self.inside.store c.read.new.self c.args.page c.args.into.now c.read.new.into
+    c.read.result c.read.ensures.reads in
+    device_same g.F.Flash.state g.R.CommitRule.protocol c.self.inside c.read.new.self c.self.invariant
+    c.read.ensures.stays same.0 same.1
 
 pub read-requires-clause-stored : goal.read-requires-clause-stored
 read-requires-clause-stored g c =
@@ -36,9 +38,11 @@ returns g c =
       | in-Ok-false w ↦ w.result-is ∙ sym (ap answer_to (w.in-Ok-false.is ∙ ap (λ b. Ok b) w.in-Ok-false.field-0-test))
       | in-Err w ↦ w.result-is ∙ sym (ap answer_to w.in-Err.is)
     ] in
-    subst (ReadsDevice state c.args.self.now (device_of state (record c.self.inside { store = S1 })) c.args.page c.args.into.now c.read.new.into) (sym is)
+    subst (ReadsDevice state c.args.self.now (device_of state (record c.self.inside { store = S1 })) c.args.page
+    c.args.into.now c.read.new.into) (sym is)
     (by_kept state c.self.inside _ c.self.view_is c.requires.kept S1 O
-    (λ (s t : DeviceState g.row.F.Denot). ReadsDevice state s t c.args.page c.args.into.now c.read.new.into (answer_to c.read.result))
+    (λ (s t : DeviceState g.row.F.Denot). ReadsDevice state s t c.args.page c.args.into.now c.read.new.into
+    (answer_to c.read.result))
     (record {
       reads = reads_page state S S1 c.args.page c.args.into.now c.read.new.into c.read.result
           (subst (λ (k : Config). c.args.page < k.logical) c.config.ensures.config c.if-page-config.false) known;

@@ -20,7 +20,8 @@ returns-in_default g c =
       moves = tt;
       dropped = subst (λ (s : DeviceState _). DropsDevice state s (record (device_in state S1 O1) { dropped = true }))
           (as_kept state c.self.inside _ c.self.view_is c.requires.kept)
-          (drops_unsettled state p S S1 O O1 _ c.device_invariant.ensures c.crash_states.ensures c.self.invariant.rule c.in_default.ensures);
+          (drops_unsettled state p S S1 O O1 _ c.device_invariant.ensures c.crash_states.ensures c.self.invariant.rule
+          c.in_default.ensures);
     }
 
 pub invariant_of-self-in-Ok-move_all : goal.invariant_of-self-in-Ok-move_all
@@ -31,10 +32,19 @@ invariant_of-self-in-Ok-move_all g c =
     let S2 = c.move_all.new.store in let O2 = c.move_all.new.transactions in
     let stands = kept_stands state c.self.inside _ c.self.view_is c.requires.kept p c.self.invariant in
     let st = c.in-Ok.ensures in
-    let size = st.limits.page_bytes ∙ c.self.invariant.page_bytes ∙ ap (λ (k : Config). k.page_bytes) (sym st.exits.tables.config) in
-    let its = all_moved state p S S1 S2 O O1 O2 _ stands c.self.invariant.rule st size c.in-Ok-move_all.moved c.in-Ok-move_all.ensures.moves in
-    let kept = kept_is state p c.self.inside S2 O2 c.self.invariant its.still its.moves.exits.tables.config (limits_then O O1 O2 st.limits its.limits) in
-    record { stands = kept.stands; rule = kept.rule; page_bytes = kept.page_bytes; logical = kept.logical; pending = kept.pending }
+    let size = st.limits.page_bytes ∙ c.self.invariant.page_bytes
+    ∙ ap (λ (k : Config). k.page_bytes) (sym st.exits.tables.config) in
+    let its = all_moved state p S S1 S2 O O1 O2 _ stands c.self.invariant.rule st size c.in-Ok-move_all.moved
+    c.in-Ok-move_all.ensures.moves in
+    let kept = kept_is state p c.self.inside S2 O2 c.self.invariant its.still its.moves.exits.tables.config
+    (limits_then O O1 O2 st.limits its.limits) in
+    record {
+      stands = kept.stands;
+      rule = kept.rule;
+      page_bytes = kept.page_bytes;
+      logical = kept.logical;
+      pending = kept.pending;
+    }
 
 pub invariant_of-self-in_default-move_all : goal.invariant_of-self-in_default-move_all
 invariant_of-self-in_default-move_all g c =
@@ -44,8 +54,10 @@ invariant_of-self-in_default-move_all g c =
     let S2 = c.move_all.new.store in let O2 = c.move_all.new.transactions in
     let stands = kept_stands state c.self.inside _ c.self.view_is c.requires.kept p c.self.invariant in
     let st = c.in-Ok.ensures in
-    let size = st.limits.page_bytes ∙ c.self.invariant.page_bytes ∙ ap (λ (k : Config). k.page_bytes) (sym st.exits.tables.config) in
-    let its = all_dropped state p S S1 S2 O O1 O2 _ stands c.self.invariant.rule st size _ c.device_invariant.ensures c.crash_states.ensures
+    let size = st.limits.page_bytes ∙ c.self.invariant.page_bytes
+    ∙ ap (λ (k : Config). k.page_bytes) (sym st.exits.tables.config) in
+    let its = all_dropped state p S S1 S2 O O1 O2 _ stands c.self.invariant.rule st size _ c.device_invariant.ensures
+    c.crash_states.ensures
     c.in_default-move_all.ensures.moves in
     let limits = limits_then O O1 O2 st.limits its.limits in
     let config = its.drops.config in
@@ -65,8 +77,10 @@ returns-in_default-move_all g c =
     let S2 = c.move_all.new.store in let O2 = c.move_all.new.transactions in
     let stands = kept_stands state c.self.inside _ c.self.view_is c.requires.kept p c.self.invariant in
     let st = c.in-Ok.ensures in
-    let size = st.limits.page_bytes ∙ c.self.invariant.page_bytes ∙ ap (λ (k : Config). k.page_bytes) (sym st.exits.tables.config) in
-    let its = all_dropped state p S S1 S2 O O1 O2 _ stands c.self.invariant.rule st size _ c.device_invariant.ensures c.crash_states.ensures
+    let size = st.limits.page_bytes ∙ c.self.invariant.page_bytes
+    ∙ ap (λ (k : Config). k.page_bytes) (sym st.exits.tables.config) in
+    let its = all_dropped state p S S1 S2 O O1 O2 _ stands c.self.invariant.rule st size _ c.device_invariant.ensures
+    c.crash_states.ensures
     c.in_default-move_all.ensures.moves in
     record {
       moves = tt;
@@ -82,8 +96,10 @@ returns g c =
     let S2 = c.move_all.new.store in let O2 = c.move_all.new.transactions in
     let stands = kept_stands state c.self.inside _ c.self.view_is c.requires.kept p c.self.invariant in
     let st = c.in-Ok.ensures in
-    let size = st.limits.page_bytes ∙ c.self.invariant.page_bytes ∙ ap (λ (k : Config). k.page_bytes) (sym st.exits.tables.config) in
-    let its = all_moved state p S S1 S2 O O1 O2 _ stands c.self.invariant.rule st size c.in-Ok-move_all.moved c.in-Ok-move_all.ensures.moves in
+    let size = st.limits.page_bytes ∙ c.self.invariant.page_bytes
+    ∙ ap (λ (k : Config). k.page_bytes) (sym st.exits.tables.config) in
+    let its = all_moved state p S S1 S2 O O1 O2 _ stands c.self.invariant.rule st size c.in-Ok-move_all.moved
+    c.in-Ok-move_all.ensures.moves in
     record {
       moves = by_kept state c.self.inside _ c.self.view_is c.requires.kept S2 O2
           (λ (s t : DeviceState _). MovesDevice state s t c.in-Ok-move_all.moved) its.moves;

@@ -8,7 +8,10 @@ allocate_slot-requires-clause-sure g c = rw (← c.self.view_is) at c.requires.s
 pub invariant_of-self : goal.invariant_of-self
 invariant_of-self g c =
     let same = c.allocate_slot.ensures.finds.keeps.preserves.config in
-    record { room = as_long c.self.inside.room c.allocate_slot.new.room _ (c.self.invariant.room ∙ ap (λ (x : Config). x.page_bytes) (sym same)) }
+    record {
+      room = as_long c.self.inside.room c.allocate_slot.new.room _ (c.self.invariant.room
+          ∙ ap (λ (x : Config). x.page_bytes) (sym same));
+    }
 
 pub returns : goal.returns
 returns g c = rw (← c.self.view_is) (record {

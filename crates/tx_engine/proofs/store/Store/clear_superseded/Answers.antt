@@ -8,7 +8,10 @@ clear_superseded-requires-clause-sure g c = rw (← c.self.view_is) at c.require
 pub invariant_of-self : goal.invariant_of-self
 invariant_of-self g c =
     let same = c.clear_superseded.ensures.clears.keeps.preserves.config in
-    record { room = as_long c.self.inside.room c.clear_superseded.new.room _ (c.self.invariant.room ∙ ap (λ (x : Config). x.page_bytes) (sym same)) }
+    record {
+      room = as_long c.self.inside.room c.clear_superseded.new.room _ (c.self.invariant.room
+          ∙ ap (λ (x : Config). x.page_bytes) (sym same));
+    }
 
 pub returns : goal.returns
 returns g c = rw (← c.self.view_is) (record {

@@ -3,5 +3,6 @@ use Rattle.tx_engine.proofs.store.Store.count_written.Given as goal
 
 abbrev pub invariant-loop-page : goal.invariant-loop-page
 invariant-loop-page g l =
-    (l.count ≡ count_by is_some (map (page_known l.self.noted (g.F.Flash.state l.self.flash).image) (range_with_len 0 l.page)))
+    (l.count ≡ count_by is_some (map (page_known l.self.noted (g.F.Flash.state l.self.flash).image)
+    (range_with_len 0 l.page)))
     × (l.count ≤ l.page)

@@ -24,10 +24,12 @@ loop-at-preserved g c =
       items = elim c.match-rec.branch [
         | in-Some w ↦
             (ap (λ v. v.items) w.list-is ∙ w.push_reserved.ensures.items
-            ∙ with_record c.args.self.now.noted.notes c.loop-at.at within c.loop-at.list.items c.loop-at.invariant.items w.in-Some.rec (rw (← c.self.view_is)
+            ∙ with_record c.args.self.now.noted.notes c.loop-at.at within c.loop-at.list.items c.loop-at.invariant.items
+            w.in-Some.rec (rw (← c.self.view_is)
             (sym c.rec.ensures ∙ w.in-Some.is)))
         | in_default w ↦
-            (ap (λ v. v.items) w.list-is ∙ without_record c.args.self.now.noted.notes c.loop-at.at within c.loop-at.list.items c.loop-at.invariant.items (rw
+            (ap (λ v. v.items) w.list-is ∙ without_record c.args.self.now.noted.notes c.loop-at.at within
+            c.loop-at.list.items c.loop-at.invariant.items (rw
             (← c.self.view_is) (sym c.rec.ensures ∙ w.in_default.is)))
       ];
       len = let h = c.loop-at.invariant.len in elim c.match-rec.branch [

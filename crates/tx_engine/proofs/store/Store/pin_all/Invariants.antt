@@ -7,6 +7,11 @@ abbrev pub invariant-loop-at : goal.invariant-loop-at
 invariant-loop-at g l =
     let n = l.initial.self.noted in
     record {
-      pinned : l.self ≡ record l.initial.self { noted = record n { pins = with_pins n.pins (map (next_name n) (take l.at l.batch.entries)) } };
+      pinned : l.self ≡ record l.initial.self {
+        noted = record n {
+          pins = with_pins n.pins
+              (map (next_name n) (take l.at l.batch.entries));
+        };
+      };
       stored : IsStoreState g.F.Flash.state g.R.CommitRule.protocol l.self;
     }

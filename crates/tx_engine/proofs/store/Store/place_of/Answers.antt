@@ -15,7 +15,8 @@ returns-then-discards g c =
     let array = c.known_image_is_sound.ensures.array s d.index d.blocks d.unsure stored.matches stored.rule in
     let discards : discarded_of d.index c.args.page ≡ true = sym c.if-discards.ensures in
     rw (← c.self.view_is) (record {
-      none = discard_known g.R.CommitRule.protocol s d.index d.blocks d.unsure stored.matches stored.rule notes array c.args.page within discards;
+      none = discard_known g.R.CommitRule.protocol s d.index d.blocks d.unsure stored.matches stored.rule notes array
+          c.args.page within discards;
       place = tt;
       slot = nowhere d.index d.unsure c.args.page discards;
     })
@@ -24,9 +25,11 @@ pub returns-in-VictimErase : goal.returns-in-VictimErase
 returns-in-VictimErase g c =
     let s = g.F.Flash.state c.self.inside.flash in
     let d = c.self.inside in
-    let m = subst (Matches s d.index d.blocks) c.in-VictimErase.is (rw (← c.self.view_is) at c.requires.stored).matches in
+    let m = subst (Matches s d.index d.blocks) c.in-VictimErase.is
+    (rw (← c.self.view_is) at c.requires.stored).matches in
     let held : discarded_of d.index c.args.page ≡ false = sym c.if-discards.ensures in
-    let off = located_off s d.index d.blocks c.in-VictimErase.block m c.args.page c.locate_off.result c.locate_off.ensures.lowest held
+    let off = located_off s d.index d.blocks c.in-VictimErase.block m c.args.page c.locate_off.result
+    c.locate_off.ensures.lowest held
     c.locate_off.ensures.holds in
     rw (← c.self.view_is) (record {
       none = off.0;
@@ -48,5 +51,6 @@ returns-in-Nothing g c =
     rw (← c.self.view_is) (record {
       none = home.0;
       place = home.1;
-      slot = home_place d.index d.unsure c.args.page (option_map (λ at. at.0) c.locate.result) (not_victim d.unsure c.in-Nothing.is) c.locate.ensures.home;
+      slot = home_place d.index d.unsure c.args.page (option_map (λ at. at.0) c.locate.result)
+          (not_victim d.unsure c.in-Nothing.is) c.locate.ensures.home;
     })

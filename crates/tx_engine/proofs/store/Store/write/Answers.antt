@@ -8,7 +8,10 @@ pub write_record-requires-clause-can : goal.write_record-requires-clause-can
 write_record-requires-clause-can g c = rw (← c.self.view_is) at c.requires.can
 
 pub invariant_of-self : goal.invariant_of-self
-invariant_of-self g c = record { room = c.self.invariant.room ∙ ap (λ (x : Config). x.page_bytes) (sym c.write_record.ensures.config) }
+invariant_of-self g c = record {
+  room = c.self.invariant.room
+      ∙ ap (λ (x : Config). x.page_bytes) (sym c.write_record.ensures.config);
+}
 
 pub returns : goal.returns
 returns g c = rw (← c.self.view_is) c.write_record.ensures

@@ -17,7 +17,8 @@ returns-clause-bytes c =
     let below = rw (← c.self.view_is) at c.requires in
     let inside : c.args.i < count = omega (arith, length-writes_in size count cells) in
     let cell = rw c.deref.ensures.value at c.cell_at.ensures.cell in
-    let behind : length (drop 5 c.cell_at.result.now) ≤ length c.cell_at.result.now - 5 = simp length-drop (omega arith) in
+    let behind : length (drop 5 c.cell_at.result.now) ≤ length c.cell_at.result.now - 5 =
+    simp length-drop (omega arith) in
     rw (← c.self.view_is, get_or-writes_in size count cells c.args.i inside)
     (take_all (length c.cell_at.result.now - 5) (drop 5 c.cell_at.result.now) behind
     ∙ ap (drop 5) cell ∙ contents_at size count cells c.args.i inside c.self.invariant)

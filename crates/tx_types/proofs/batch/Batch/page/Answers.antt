@@ -17,4 +17,5 @@ returns c =
     let below = rw (← c.self.view_is) at c.requires in
     let inside : c.args.i < count = omega (arith, length-writes_in size count cells) in
     let cell = rw c.deref.ensures.value at c.cell_at.ensures.cell in
-    rw (← c.self.view_is, get_or-writes_in size count cells c.args.i inside) (c.read_u32.ensures ∙ ap (little_number 4) cell)
+    rw (← c.self.view_is, get_or-writes_in size count cells c.args.i inside) (c.read_u32.ensures
+    ∙ ap (little_number 4) cell)

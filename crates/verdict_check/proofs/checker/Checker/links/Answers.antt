@@ -4,7 +4,8 @@ use Rattle.verdict_check.proofs.checker.Checker.links.Goals as goal
 
 pub overflow_add-result : goal.overflow_add-result
 overflow_add-result c =
-    let low : c.in-Ends.after ≤ c.args.self.now.logical = subst (IsCounted c.args.self.now.logical) c.in-Ends.is c.requires.counted in
+    let low : c.in-Ends.after ≤ c.args.self.now.logical = subst (IsCounted c.args.self.now.logical) c.in-Ends.is
+    c.requires.counted in
     let few = c.requires.logical in
     omega arith
 

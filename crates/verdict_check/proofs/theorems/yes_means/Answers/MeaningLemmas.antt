@@ -39,17 +39,20 @@ no_space (b ∷ bs) h zero d within = plain_is b (and_parts (is_plain b) (list_a
 no_space (b ∷ bs) h (suc k) d within = no_space bs (and_parts (is_plain b) (list_all is_plain bs) h).1 k d (omega arith)
 
 -- words that are cut apart at their spaces are themselves
-cut_words : (word : List ℕ) (words : List (List ℕ)) → ArePlain (word ∷ words) → slice_split (λ b. b == 32) (join_with_byte 32 (word ∷ words)) ≡ word ∷ words
+cut_words : (word : List ℕ) (words : List (List ℕ)) → ArePlain (word ∷ words) →
+    slice_split (λ b. b == 32) (join_with_byte 32 (word ∷ words)) ≡ word ∷ words
 cut_words word [] h = slice_split_none (λ b. b == 32) word (no_space word h.0)
 cut_words word (next ∷ words) h =
     slice_split_at (λ b. b == 32) word 32 (join_with_byte 32 (next ∷ words)) (no_space word h.0) refl
     ∙ ap (λ ws. word ∷ ws) (cut_words next words h.1)
 
-same_words : (word other : List ℕ) (words others : List (List ℕ)) → ArePlain (word ∷ words) → ArePlain (other ∷ others) →
+same_words : (word other : List ℕ) (words others : List (List ℕ)) → ArePlain (word ∷ words) →
+    ArePlain (other ∷ others) →
     line_of (word ∷ words) ≡ line_of (other ∷ others) → word ∷ words ≡ other ∷ others
 same_words word other words others h k e =
     sym (cut_words word words h)
-    ∙ ap (slice_split (λ b. b == 32)) (append_cancel_right (join_with_byte 32 (word ∷ words)) (join_with_byte 32 (other ∷ others)) (10 ∷ []) e)
+    ∙ ap (slice_split (λ b. b == 32)) (append_cancel_right (join_with_byte 32 (word ∷ words))
+    (join_with_byte 32 (other ∷ others)) (10 ∷ []) e)
     ∙ cut_words other others k
 
 -- ---- the words tell what they say
@@ -62,7 +65,8 @@ pub record Told (r s : Why) (X Y : List (List ℕ)) : Type 0 where
   reason : r ≡ s
   rest : X ≡ Y
 
-reason_told : (r s : Why) (X Y : List (List ℕ)) → IsReason r → IsReason s → reason_words r ++ X ≡ reason_words s ++ Y → Told r s X Y
+reason_told : (r s : Why) (X Y : List (List ℕ)) → IsReason r → IsReason s →
+    reason_words r ++ X ≡ reason_words s ++ Y → Told r s X Y
 reason_told Cycle Cycle X Y h k e = record { reason = refl; rest = cc }
 reason_told Passed Passed X Y h k e = record { reason = refl; rest = cc }
 reason_told Absent Absent X Y h k e = record { reason = refl; rest = cc }
@@ -107,13 +111,15 @@ module _ (list : List Found) (fit : HaveVersions list) where
 back_fits : (list : List Found) → HaveVersions list → (name : Link) → back_of list name < 2 ^ 64
 back_fits [] fit name = omega arith
 back_fits (f ∷ fs) fit name =
-    both (has_name name f.rec) f.rec.back (back_of fs name) (fit 0 f (omega arith)).1 (back_fits fs (λ k d within. fit (suc k) d (omega arith)) name)
+    both (has_name name f.rec) f.rec.back (back_of fs name) (fit 0 f (omega arith)).1
+    (back_fits fs (λ k d within. fit (suc k) d (omega arith)) name)
   where
     both : (b : Bool) (m n : ℕ) → m < 2 ^ 64 → n < 2 ^ 64 → (if b then m else n) < 2 ^ 64
     both true m n h k = h
     both false m n h k = k
 
-pub current_fits : (protocol : Protocol) (list : List Found) (logical page : ℕ) → HaveVersions list → cur protocol list logical page < 2 ^ 64
+pub current_fits : (protocol : Protocol) (list : List Found) (logical page : ℕ) → HaveVersions list →
+    cur protocol list logical page < 2 ^ 64
 current_fits protocol list logical page fit = chosen (is_committed (why protocol list logical page))
   where
     fallback_fits : (p : Protocol) → fallback p list page < 2 ^ 64
@@ -132,23 +138,27 @@ walk_fits : (protocol : Protocol) (list : List Found) → HaveVersions list → 
     IsReason (walk protocol list start turns link)
 walk_fits protocol list fit start zero link = tt
 walk_fits protocol list fit start (suc turns) link =
-    reason_if (is_ahead list link) Absent _ tt (reason_if (is_behind list link) (why_below_newest protocol list link) _ (passed_fits protocol)
+    reason_if (is_ahead list link) Absent _ tt (reason_if (is_behind list link) (why_below_newest protocol list link)
+    _ (passed_fits protocol)
     (reason_if (is_same link start) Cycle (walk protocol list start turns (link_of list link)) tt
     (walk_fits protocol list fit start turns (link_of list link))))
   where
     passed_fits : (p : Protocol) → IsReason (why_below_newest p list link)
     passed_fits Scc = tt
-    passed_fits Bpcc = reason_if (straddling list link == 0) Passed (Straddled (straddling list link)) tt (straddling_fits list fit link)
+    passed_fits Bpcc = reason_if (straddling list link == 0) Passed (Straddled (straddling list link)) tt
+        (straddling_fits list fit link)
 
 -- ---- a true report
 
-report_text : (protocol : Protocol) (list : List Found) (logical : ℕ) (text : List ℕ) → text ≡ report protocol list logical →
+report_text : (protocol : Protocol) (list : List Found) (logical : ℕ) (text : List ℕ) →
+    text ≡ report protocol list logical →
     text_lines text ≡ report_lines protocol list logical
 unfolding report text_lines
 report_text protocol list logical text is =
     let lines = report_lines protocol list logical in
     ap text_lines (is ∙ sym (append-nil (concat lines)))
-    ∙ first_lines lines [] (lines_and_last _ _ (lines_of protocol list logical (pages list logical)) (last_is_line (length (pages list logical))))
+    ∙ first_lines lines [] (lines_and_last _ _ (lines_of protocol list logical (pages list logical))
+    (last_is_line (length (pages list logical))))
     ∙ append-nil lines
 
 -- the words of a line behind its first
@@ -157,8 +167,10 @@ words_behind page version reason current walk =
     decimal page ∷ codes "newest" ∷ decimal version ∷ verdict_word (verdict_of reason)
     ∷ (reason_words reason ++ codes "current" ∷ decimal current ∷ codes "walk" ∷ walk)
 
-line_tells : (protocol : Protocol) (list : List Found) (logical page version : ℕ) (reason : Why) (current : ℕ) (links : List Link) (p : ℕ) →
-    HaveVersions list → p < 2 ^ 64 → AreNumbers page version reason current → (p < logical) × (has_record list p ≡ true) →
+line_tells : (protocol : Protocol) (list : List Found) (logical page version : ℕ) (reason : Why) (current : ℕ)
+    (links : List Link) (p : ℕ) →
+    HaveVersions list → p < 2 ^ 64 → AreNumbers page version reason current →
+    (p < logical) × (has_record list p ≡ true) →
     verdict_line protocol list logical p ≡ page_line page version reason current (walk_words links) →
     IsMeant protocol list logical page version reason current links
 line_tells protocol list logical page version reason current links p fit low numbers (exists, recorded) e =
@@ -174,23 +186,35 @@ line_tells protocol list logical page version reason current links p fit low num
     let version_e : decimal newest_is ≡ decimal version = ap (λ ws. get_or ws 3 []) all in
     let rest : reason_words why_is ++ codes "current" ∷ decimal cur_is ∷ codes "walk" ∷ mine
     ≡ reason_words reason ++ codes "current" ∷ decimal current ∷ codes "walk" ∷ walk_words links = ap (drop 5) all in
-    let told = reason_told why_is reason _ _ (walk_fits protocol list fit (newest_name list p) (suc logical) (link_of list (newest_name list p)))
+    let told = reason_told why_is reason _ _ (walk_fits protocol list fit (newest_name list p) (suc logical)
+    (link_of list (newest_name list p)))
     numbers.reason_fits rest in
     let current_e : decimal cur_is ≡ decimal current = ap (λ ws. get_or ws 1 []) told.rest in
     let walk_e : mine ≡ walk_words links = ap (drop 3) told.rest in
     let same : p ≡ page = decimal_injective p page low numbers.page_fits page_e in
     let v = decimal_injective newest_is version (newest_fits list fit p) numbers.version_fits version_e in
-    let c = decimal_injective cur_is current (current_fits protocol list logical p fit) numbers.current_fits current_e in
+    let c = decimal_injective cur_is current (current_fits protocol list logical p fit)
+    numbers.current_fits current_e in
     subst (λ n. IsMeant protocol list logical n version reason current links) same
-    (record { exists = exists; recorded = recorded; newest_is = sym v; reason_is = sym told.reason; current_is = sym c; walk_is = sym walk_e })
+    (record {
+      exists = exists;
+      recorded = recorded;
+      newest_is = sym v;
+      reason_is = sym told.reason;
+      current_is = sym c;
+      walk_is = sym walk_e;
+    })
 
-pub says : (protocol : Protocol) (list : List Found) (logical : ℕ) (text : List ℕ) → logical ≤ 65536 → HaveVersions list → text ≡ report protocol list logical →
+pub says : (protocol : Protocol) (list : List Found) (logical : ℕ) (text : List ℕ) → logical ≤ 65536 →
+    HaveVersions list → text ≡ report protocol list logical →
     (page version : ℕ) (reason : Why) (current : ℕ) (links : List Link) → AreNumbers page version reason current →
-    Contains (text_lines text) (page_line page version reason current (walk_words links)) → IsMeant protocol list logical page version reason current links
+    Contains (text_lines text) (page_line page version reason current (walk_words links)) →
+    IsMeant protocol list logical page version reason current links
 says protocol list logical text few fit is page version reason current links numbers there =
     let line = verdict_line protocol list logical in
     let ps = pages list logical in
-    let here = subst (λ ls. Contains ls (page_line page version reason current (walk_words links))) (report_text protocol list logical text is) there in
+    let here = subst (λ ls. Contains ls (page_line page version reason current (walk_words links)))
+    (report_text protocol list logical text is) there in
     elim (Contains-append_cases (map line ps) (last_line (length ps) ∷ []) _ here) [
       | inl one ↦ (
           let (p, in_pages, e) = in_map line ps _ one in
@@ -200,7 +224,8 @@ says protocol list logical text few fit is page version reason current links num
       | inr last ↦ absurd (let e = Contains-one _ _ last in let n : 101 ≡ 118 = ap (λ t. get_or t 0 0) e in omega arith)
     ]
 
-pub all_said : (protocol : Protocol) (list : List Found) (logical : ℕ) (text : List ℕ) → text ≡ report protocol list logical →
+pub all_said : (protocol : Protocol) (list : List Found) (logical : ℕ) (text : List ℕ) →
+    text ≡ report protocol list logical →
     (page : ℕ) → page < logical → has_record list page ≡ true →
     (version : ℕ) × (reason : Why) × (current : ℕ) × (links : List Link)
     × Contains (text_lines text) (page_line page version reason current (walk_words links))

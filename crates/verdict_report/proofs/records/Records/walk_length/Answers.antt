@@ -21,7 +21,8 @@ returns-then-stays_at c =
     counted_most _ c.args.logical _ c.from-most.ensures
     (walk_stays c.args.self.now.chart c.args.logical c.args.page c.in-Some-Ends.after c.in-Some-Ends.at
     (orbit_is c.args.self.now.chart c.args.page c.in-Some-Ends.field-0-is c.in-Some-Ends.ensures)
-    (ap (λ l. stays_at c.args.self.now.chart (record_at l c.in-Some-Ends.at).next) (sym c.records.ensures.records) ∙ sym c.if-stays_at.ensures))
+    (ap (λ l. stays_at c.args.self.now.chart (record_at l c.in-Some-Ends.at).next) (sym c.records.ensures.records)
+    ∙ sym c.if-stays_at.ensures))
 
 pub returns-else-stays_at : goal.returns-else-stays_at
 returns-else-stays_at c =
@@ -30,7 +31,8 @@ returns-else-stays_at c =
     counted_least _ c.args.logical _ _ _ _ c.from-most.ensures links c.min.ensures
     (walk_stops c.args.self.now.chart c.args.logical c.args.page c.in-Some-Ends.after c.in-Some-Ends.at
     (orbit_is c.args.self.now.chart c.args.page c.in-Some-Ends.field-0-is c.in-Some-Ends.ensures)
-    (ap (λ l. stays_at c.args.self.now.chart (record_at l c.in-Some-Ends.at).next) (sym c.records.ensures.records) ∙ sym c.if-stays_at.ensures))
+    (ap (λ l. stays_at c.args.self.now.chart (record_at l c.in-Some-Ends.at).next) (sym c.records.ensures.records)
+    ∙ sym c.if-stays_at.ensures))
 
 pub returns-in-Some-Round : goal.returns-in-Some-Round
 returns-in-Some-Round c =
@@ -41,5 +43,6 @@ returns-in-Some-Round c =
 pub returns-in-Some-Aside : goal.returns-in-Some-Aside
 returns-in-Some-Aside c =
     counted_most _ c.args.logical _ c.from-most.ensures
-    (walk_length c.args.self.now.chart c.args.logical c.args.page Aside (orbit_is c.args.self.now.chart c.args.page c.in-Some-Aside.field-0-is
+    (walk_length c.args.self.now.chart c.args.logical c.args.page Aside
+    (orbit_is c.args.self.now.chart c.args.page c.in-Some-Aside.field-0-is
     c.in-Some-Aside.ensures))

@@ -20,9 +20,11 @@ module _ (list sorted : List Found) (is : Sorts list sorted) where
 
   end_alike : (start link : Link) → is_end sorted start link ≡ is_end list start link
   end_alike start link =
-      ap (λ n. (nat_lt n link.version || nat_lt link.version n) || is_same link start) (newest_alike list sorted is link.page)
+      ap (λ n. (nat_lt n link.version || nat_lt link.version n) || is_same link start)
+      (newest_alike list sorted is link.page)
 
-  walk_alike : (start : Link) (turns : ℕ) (link : Link) → walk_links sorted start turns link ≡ walk_links list start turns link
+  walk_alike : (start : Link) (turns : ℕ) (link : Link) → walk_links sorted start turns link
+      ≡ walk_links list start turns link
   walk_alike start zero link = refl
   walk_alike start (suc turns) link =
       ap₂ (λ b rest. link ∷ cond b [] rest) (end_alike start link)
@@ -36,7 +38,8 @@ module _ (list sorted : List Found) (is : Sorts list sorted) where
       ∙ ap₂ (λ start link. walk_links list start (suc logical) link) name
       (link_alike list sorted is (newest_name sorted page) ∙ ap (link_of list) name)
 
-  line_alike : (protocol : Protocol) (logical page : ℕ) → verdict_line protocol sorted logical page ≡ verdict_line protocol list logical page
+  line_alike : (protocol : Protocol) (logical page : ℕ) → verdict_line protocol sorted logical page
+      ≡ verdict_line protocol list logical page
   line_alike protocol logical page =
       ap₂ (λ v r. page_line page v r (cur protocol sorted logical page) (walk_words (links_of sorted logical page)))
       (newest_alike list sorted is page) (why_alike list sorted is protocol logical page)
@@ -46,4 +49,5 @@ module _ (list sorted : List Found) (is : Sorts list sorted) where
   pub report_alike : (protocol : Protocol) (logical : ℕ) → report protocol sorted logical ≡ report protocol list logical
   unfolding report
   report_alike protocol logical =
-      ap₂ (λ line ps. concat (map line ps ++ last_line (length ps) ∷ [])) (fun_ext (line_alike protocol logical)) (pages_alike logical)
+      ap₂ (λ line ps. concat (map line ps ++ last_line (length ps) ∷ [])) (fun_ext (line_alike protocol logical))
+      (pages_alike logical)

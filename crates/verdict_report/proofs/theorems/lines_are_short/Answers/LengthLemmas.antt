@@ -37,7 +37,8 @@ current_short : (current : ℕ) → current < 2 ^ 64 →
 current_short current h = let digits = digits_64 current h in simp length-append (omega arith)
 
 -- a link has at most 31 bytes, and a space before it
-links_short : (n : ℕ) (links : List Link) → AllByRecursion (λ link. (link.page < 2 ^ 32) × (link.version < 2 ^ 64)) links →
+links_short : (n : ℕ) (links : List Link) → AllByRecursion (λ link. (link.page < 2 ^ 32)
+    × (link.version < 2 ^ 64)) links →
     length (after_spaces (map link_word (take n links))) ≤ 32 * n
 links_short zero links h = omega arith
 links_short (suc n) [] h = omega arith
@@ -61,12 +62,14 @@ parts_short : (first a b c d e f : List ℕ) →
     length ((first ++ (a ++ (b ++ (c ++ (d ++ (e ++ f)))))) ++ 10 ∷ []) ≤ max_report_line_bytes
 parts_short first a b c d e f h0 h1 h2 h3 h4 h5 h6 = simp length-append (omega arith)
 
-pub line_short : (page version : ℕ) (reason : Why) (current : ℕ) (links : List Link) → FitTypes page version reason current links →
+pub line_short : (page version : ℕ) (reason : Why) (current : ℕ) (links : List Link) →
+    FitTypes page version reason current links →
     length (page_line page version reason current (walk_words links)) ≤ max_report_line_bytes
 line_short page version reason current links fit =
     let shown = map link_word (take most_links links) in
     let others = more_words (length links) in
-    subst (λ (text : List ℕ). length text ≤ max_report_line_bytes) (sym (line_parts page version reason current shown others))
+    subst (λ (text : List ℕ). length text ≤ max_report_line_bytes)
+    (sym (line_parts page version reason current shown others))
     (parts_short (codes "verdict") (after_spaces (decimal page ∷ codes "newest" ∷ decimal version ∷ []))
     (after_spaces (verdict_word (verdict_of reason) ∷ [])) (after_spaces (reason_words reason))
     (after_spaces (codes "current" ∷ decimal current ∷ codes "walk" ∷ [])) (after_spaces shown) (after_spaces others)

@@ -41,14 +41,17 @@ dropped_rise xs sorted i j d less within =
     let x = get_or ys i d in
     let y = get_or ys j d in
     let strict = IsStrictlySortedBy-dedup number_total (λ x y. unsigned_ties x.0 y.0) xs sorted in
-    subst (λ r. MatchOrdering r (x.0 < y.0) (x.0 ≡ y.0) (y.0 < x.0)) (Less-from_sorted by_number ys i j d strict less within) (ranks x.0 y.0)
+    subst (λ r. MatchOrdering r (x.0 < y.0) (x.0 ≡ y.0) (y.0 < x.0))
+    (Less-from_sorted by_number ys i j d strict less within) (ranks x.0 y.0)
 
 -- and has the same blocks
 pub dropped_same : (old xs : List Block) → IsPermutation old xs → (block : Block)
     → Contains (dedup same_number xs) block ↔ Contains old block
 dropped_same old xs moved block = (
-  λ has. Contains-permutation xs old block (IsPermutation-sym old xs moved) (Contains-from_dedup same_number xs block has),
-  λ has. Contains-dedup number_equiv (λ x y e. one x y (eqb-true x.0 y.0 e)) xs block (Contains-permutation old xs block moved has),
+  λ has. Contains-permutation xs old block (IsPermutation-sym old xs moved)
+      (Contains-from_dedup same_number xs block has),
+  λ has. Contains-dedup number_equiv (λ x y e. one x y (eqb-true x.0 y.0 e)) xs block
+      (Contains-permutation old xs block moved has),
 )
   where
     one : (x y : Block) → x.0 ≡ y.0 → x ≡ y

@@ -9,11 +9,13 @@ use Rattle.list_lemmas.proofs.Pairs.{pairs_cons}
 use Rattle.slot_tables.specs.Gathered.{block_at, blocks_of_copies, copies_of_all}
 use Rattle.slot_tables.proofs.OfSlots.GatheredSlots.{pairs_append, few_gathered}
 
-module _ (k : TablesState) (Such : ℕ → Type 0) (blocks : List Block) (g : AreGathered k Such blocks) (number : ℕ) (other : Such number → ⊥) where
+module _ (k : TablesState) (Such : ℕ → Type 0) (blocks : List Block) (g : AreGathered k Such blocks) (number : ℕ)
+    (other : Such number → ⊥) where
   once_more : AllPairs (λ x y. x ≢ y) (g.numbers ++ number ∷ [])
   once_more =
       pairs_append (λ x y. x ≢ y) g.numbers (number ∷ []) g.once
-      (pairs_cons (λ x y. x ≢ y) number [] (λ y has. absurd (Contains-nil y has)) (λ i j d less within. absurd (omega arith)))
+      (pairs_cons (λ x y. x ≢ y) number [] (λ y has. absurd (Contains-nil y has))
+      (λ i j d less within. absurd (omega arith)))
       (λ x y near far same. other (subst Such (same ∙ sym (Contains-one number y far)) ((g.such x).0 near)))
 
   all_more : copies_of_all k (g.numbers ++ number ∷ []) ≡ copies_of_all k g.numbers ++ copies_of k.slots number
@@ -31,7 +33,8 @@ module _ (k : TablesState) (Such : ℕ → Type 0) (blocks : List Block) (g : Ar
       omega (arith, long, all, few)
 
   -- and are gathered behind them
-  pub gathered_more : (More : ℕ → Type 0) → ((x : ℕ) → Such x → More x) → More number → ((x : ℕ) → More x → Such x ⊎ (number ≡ x))
+  pub gathered_more : (More : ℕ → Type 0) → ((x : ℕ) → Such x → More x) → More number →
+      ((x : ℕ) → More x → Such x ⊎ (number ≡ x))
       → AreGathered k More (blocks ++ blocks_of_copies k number)
   gathered_more More such more from =
       let b = block_at k.shape.pages_per_block in

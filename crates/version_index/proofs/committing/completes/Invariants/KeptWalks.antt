@@ -18,13 +18,16 @@ pub record IsWalking (k : TablesState) (r : Rec) (logical n : ℕ) (link : Link)
       × (comes_back (found_in (notes_in k)) (name_of r) (logical - n) link ≡ completes (noted_by its m k) r)
 
 -- the link of a record of the tables has a version
-link_some : (protocol : Protocol) (its : Config) (m : List ℕ) (k : TablesState) (r s : Rec) (x : ℕ) → MayComplete protocol its m k r →
+link_some : (protocol : Protocol) (its : Config) (m : List ℕ) (k : TablesState) (r s : Rec) (x : ℕ) →
+    MayComplete protocol its m k r →
     record_at k.records x ≡ Some s → 1 ≤ s.next.version
 link_some protocol its m k r s x may is =
     let f = kept_found k may.held x s is in
-    (All-contains (λ g. (1 ≤ g.rec.version) × (1 ≤ g.rec.next.version)) (found_in (notes_in k)) (found f.0 s) may.noted.scanned.versions f.2).1
+    (All-contains (λ g. (1 ≤ g.rec.version) × (1 ≤ g.rec.next.version)) (found_in (notes_in k)) (found f.0 s)
+    may.noted.scanned.versions f.2).1
 
-pub start_walk : (k : TablesState) (r : Rec) (logical : ℕ) → r.next.page < length k.pages → IsWalking k r logical 0 r.next
+pub start_walk : (k : TablesState) (r : Rec) (logical : ℕ) → r.next.page < length k.pages →
+    IsWalking k r logical 0 r.next
 unfolding completes
 start_walk k r logical page = record {
   page = page;
@@ -34,11 +37,15 @@ start_walk k r logical page = record {
   );
 }
 
-module _ (k : TablesState) (sizes : IsTablesState k) (r : Rec) (logical n : ℕ) (link : Link) (h : IsWalking k r logical n link) (below : n < logical)
-    (protocol : Protocol) (its : Config) (m : List ℕ) (may : MayComplete protocol its m k r) (same : its.logical ≡ logical) where
-  one_turn : comes_back (found_in (notes_in k)) (name_of r) (suc (logical - (n + 1))) link ≡ completes (noted_by its m k) r
+module _ (k : TablesState) (sizes : IsTablesState k) (r : Rec) (logical n : ℕ) (link : Link)
+    (h : IsWalking k r logical n link) (below : n < logical)
+    (protocol : Protocol) (its : Config) (m : List ℕ) (may : MayComplete protocol its m k r)
+    (same : its.logical ≡ logical) where
+  one_turn : comes_back (found_in (notes_in k)) (name_of r) (suc (logical - (n + 1))) link
+      ≡ completes (noted_by its m k) r
   one_turn =
-      ap (λ turns. comes_back (found_in (notes_in k)) (name_of r) turns link) (let more : suc (logical - (n + 1)) ≡ logical - n = omega arith in more)
+      ap (λ turns. comes_back (found_in (notes_in k)) (name_of r) turns link)
+      (let more : suc (logical - (n + 1)) ≡ logical - n = omega arith in more)
       ∙ (h.rest protocol its m may same).1
 
   pub walk_stops : newest_with_name k link ≡ None → false ≡ completes (noted_by its m k) r
@@ -52,12 +59,14 @@ module _ (k : TablesState) (sizes : IsTablesState k) (r : Rec) (logical n : ℕ)
             let second : Option Rec → Option Rec = option_and_then (with_version link.version) in
             let version : head.rec.version ≡ link.version = sym head.top ∙ top in
             let is = ap (option_and_then (λ y. second (record_at k.records y))) x.1 ∙ ap second head.is
-            ∙ cond-true (eqb head.rec.version link.version) (Some head.rec) None (eq-eqb head.rec.version link.version version) in
+            ∙ cond-true (eqb head.rec.version link.version) (Some head.rec) None
+            (eq-eqb head.rec.version link.version version) in
             absurd (none-some head.rec (sym none ∙ is)))
       ])) ∙ one_turn
 
   module _ (s : Rec) (is : newest_with_name k link ≡ Some s) where
-    its_step : ((name_of s ≡ name_of r) → comes_back (found_in (notes_in k)) (name_of r) (suc (logical - (n + 1))) link ≡ true)
+    its_step : ((name_of s ≡ name_of r) → comes_back (found_in (notes_in k)) (name_of r) (suc (logical - (n + 1))) link
+        ≡ true)
         × ((name_of s ≡ name_of r → ⊥) → comes_back (found_in (notes_in k)) (name_of r) (suc (logical - (n + 1))) link
         ≡ comes_back (found_in (notes_in k)) (name_of r) (logical - (n + 1)) s.next)
     its_step =
@@ -84,10 +93,12 @@ module _ (k : TablesState) (sizes : IsTablesState k) (r : Rec) (logical n : ℕ)
         let x = named_rec k link s is in (
           link_some protocol its m k r s x.number may x.is,
           sym (its_step.1 (λ e. false≢true (sym other ∙ and_from (eqb s.page r.page) (eqb s.version r.version)
-              (eq-eqb s.page r.page (ap (λ u. u.page) e)) (eq-eqb s.version r.version (ap (λ u. u.version) e))))) ∙ one_turn,
+              (eq-eqb s.page r.page (ap (λ u. u.page) e)) (eq-eqb s.version r.version (ap (λ u. u.version) e)))))
+              ∙ one_turn,
         )
 
-pub walk_more : (k : TablesState) → IsTablesState k → LinksExist k → (r : Rec) (logical n : ℕ) (link : Link) → IsWalking k r logical n link → n < logical →
+pub walk_more : (k : TablesState) → IsTablesState k → LinksExist k → (r : Rec) (logical n : ℕ) (link : Link) →
+    IsWalking k r logical n link → n < logical →
     (s : Rec) → newest_with_name k link ≡ Some s → has_name (name_of r) s ≡ false → IsWalking k r logical (n + 1) s.next
 walk_more k sizes links r logical n link h below s is other = record {
   page = (let x = named_rec k link s is in links x.number s x.is);
@@ -99,5 +110,6 @@ pub walk_ends : (k : TablesState) (r : Rec) (logical n : ℕ) (link : Link) → 
     (protocol : Protocol) (its : Config) (m : List ℕ) → MayComplete protocol its m k r → its.logical ≡ logical →
     false ≡ completes (noted_by its m k) r
 walk_ends k r logical n link h past protocol its m may same =
-    ap (λ turns. comes_back (found_in (notes_in k)) (name_of r) turns link) (let none : 0 ≡ logical - n = omega arith in none)
+    ap (λ turns. comes_back (found_in (notes_in k)) (name_of r) turns link)
+    (let none : 0 ≡ logical - n = omega arith in none)
     ∙ (h.rest protocol its m may same).1

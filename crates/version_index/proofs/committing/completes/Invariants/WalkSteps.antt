@@ -12,7 +12,8 @@ pub record LeadsTo (m : IndexState) (q : Link) (s : Rec) : Type 0 where
   pub version : s.version ≡ q.version
   pub top : newest (found_in m.notes) q.page ≡ s.version
 
-module _ (protocol : Protocol) (m : IndexState) (k : IsNoted protocol m) (r s : Rec) (q : Link) (turns : ℕ) (to : LeadsTo m q s) where
+module _ (protocol : Protocol) (m : IndexState) (k : IsNoted protocol m) (r s : Rec) (q : Link) (turns : ℕ)
+    (to : LeadsTo m q s) where
   its_name : name_of s ≡ q
   its_name = same_name (name_of s) q to.page to.version
 
@@ -20,7 +21,8 @@ module _ (protocol : Protocol) (m : IndexState) (k : IsNoted protocol m) (r s : 
   its_link =
       let f = in_any (λ f. f.rec ≡ s) (found_in m.notes) to.noted in
       let link = map_link (noted_map protocol m k) f.0 f.1 in
-      ap (link_of (found_in m.notes)) (sym its_name) ∙ sym (subst (λ (u : Rec). u.next ≡ link_of (found_in m.notes) (name_of u)) f.2 link)
+      ap (link_of (found_in m.notes)) (sym its_name)
+      ∙ sym (subst (λ (u : Rec). u.next ≡ link_of (found_in m.notes) (name_of u)) f.2 link)
 
   -- where this is the record itself the walk comes back
   pub walk_closes : name_of s ≡ name_of r → comes_back (found_in m.notes) (name_of r) (suc turns) q ≡ true
@@ -31,13 +33,16 @@ module _ (protocol : Protocol) (m : IndexState) (k : IsNoted protocol m) (r s : 
       (eq-eqb q.version r.version (ap (λ u. u.version) is)))
 
   -- and from another one it goes on by its link
-  pub walk_goes : (name_of s ≡ name_of r → ⊥) → comes_back (found_in m.notes) (name_of r) (suc turns) q ≡ comes_back (found_in m.notes)
+  pub walk_goes : (name_of s ≡ name_of r → ⊥) → comes_back (found_in m.notes) (name_of r) (suc turns) q
+      ≡ comes_back (found_in m.notes)
       (name_of r) turns s.next
   walk_goes other =
       let off : is_same q (name_of r) ≡ false = elim (cases_Bool (is_same q (name_of r))) [
         | inl same ↦ (
             let parts = and_parts (eqb q.page r.page) (eqb q.version r.version) same in
-            absurd (other (its_name ∙ same_name q (name_of r) (eqb-true q.page r.page parts.0) (eqb-true q.version r.version parts.1))))
+            absurd (other (its_name ∙ same_name q (name_of r) (eqb-true q.page r.page parts.0)
+            (eqb-true q.version r.version parts.1))))
         | inr differs ↦ differs
       ] in
-      back_goes (found_in m.notes) (name_of r) turns q (to.top ∙ to.version) off ∙ ap (comes_back (found_in m.notes) (name_of r) turns) its_link
+      back_goes (found_in m.notes) (name_of r) turns q (to.top ∙ to.version) off
+      ∙ ap (comes_back (found_in m.notes) (name_of r) turns) its_link

@@ -5,8 +5,9 @@ use Rattle.version_index.proofs.OfCommit.KeptRounds.{derives_then, derives_none,
 use Rattle.version_index.proofs.OfTables.Numbered.{made_answerer}
 use Rattle.version_index.proofs.OfCommit.RoundSteps.{answered_more}
 
--- so far a round answers: at which name it is, and what is judged
-pub record IsAnsweredSo (k t : TablesState) (start link : Link) (n its_pages : ℕ) (j : Derived) (round : List Link) : Type 0 where
+-- so far a round answers: at which name it is, and what is derived
+pub record IsAnsweredSo (k t : TablesState) (start link : Link) (n its_pages : ℕ) (j : Derived)
+    (round : List Link) : Type 0 where
   pub within : n < length round
   pub at : get_or round n start ≡ link
   pub judged : AreDerived (numbered_of t) its_pages (all_answered (take n round) j)
@@ -19,16 +20,18 @@ pub record IsAnsweringRound (k t : TablesState) (start link : Link) (n : ℕ) : 
       (its_pages : ℕ) (j : Derived) (round : List Link) → IsRoundIn k start round →
       AreDerived (numbered_of k) its_pages j → IsAnsweredSo k t start link n its_pages j round
 
-pub start_answering : (k : TablesState) (start : Link) → start.page < length k.pages → IsAnsweringRound k k start start 0
+pub start_answering : (k : TablesState) (start : Link) → start.page < length k.pages →
+    IsAnsweringRound k k start start 0
 start_answering k start page = record {
   judges = derives_none k;
   page = page;
   rounds = λ its_pages j round r judged. record { within = r.some; at = r.first; judged = judged };
 }
 
-module _ (k t u : TablesState) (start link : Link) (n : ℕ) (h : IsAnsweringRound k t start link n) (judges : OnlyDerives t u)
+module _ (k t u : TablesState) (start link : Link) (n : ℕ) (h : IsAnsweringRound k t start link n)
+    (judges : OnlyDerives t u)
     (answered : IsAnswered t u link.page) where
-  -- what is judged once its record answers
+  -- what is derived once its record answers
   one_answers : (its_pages : ℕ) (j : Derived) (round : List Link) → IsRoundIn k start round →
       AreDerived (numbered_of k) its_pages j →
       AreDerived (numbered_of u) its_pages (all_answered (take (n + 1) round) j)
@@ -41,7 +44,8 @@ module _ (k t u : TablesState) (start link : Link) (n : ℕ) (h : IsAnsweringRou
       let same = ap (λ (v : TablesState). v.records) h.judges.rest in
       let is : record_at t.records top.number ≡ Some top.rec = ap (λ l. record_at l top.number) same ∙ top.is in
       let newest : newest_at t link.page ≡ Some top.number =
-      ap (λ (v : TablesState). newest_at v link.page) h.judges.rest ∙ ap (newest_at k) (ap (λ (l : Link). l.page) (sym so.at)) ∙ top.newest in
+      ap (λ (v : TablesState). newest_at v link.page) h.judges.rest
+      ∙ ap (newest_at k) (ap (λ (l : Link). l.page) (sym so.at)) ∙ top.newest in
       let more = answered_more round j n start so.within in
       let its : with_answers (name_of top.rec) now ≡ all_answered (take (n + 1) round) j =
       ap (λ l. with_answers l now) top.its_name ∙ sym more in
@@ -57,7 +61,8 @@ module _ (k t u : TablesState) (start link : Link) (n : ℕ) (h : IsAnsweringRou
 
   -- the record of the name that it is at
   its_top : (its_pages : ℕ) (j : Derived) (round : List Link) (r : IsRoundIn k start round) →
-      AreDerived (numbered_of k) its_pages j → (rec : Rec) × (newest_with_name u link ≡ Some rec) × (rec.next ≡ get_or round (n + 1) start)
+      AreDerived (numbered_of k) its_pages j → (rec : Rec) × (newest_with_name u link ≡ Some rec)
+      × (rec.next ≡ get_or round (n + 1) start)
   its_top its_pages j round r judged =
       let so = h.rounds its_pages j round r judged in
       let top = r.tops n so.within in (
@@ -67,7 +72,8 @@ module _ (k t u : TablesState) (start link : Link) (n : ℕ) (h : IsAnsweringRou
         top.link,
       )
 
-  pub answering_ends : (logical : ℕ) (rec : Rec) → newest_with_name u link ≡ Some rec → rec.next.page ≡ start.page → ResolvesRound k u start logical
+  pub answering_ends : (logical : ℕ) (rec : Rec) → newest_with_name u link ≡ Some rec → rec.next.page ≡ start.page →
+      ResolvesRound k u start logical
   answering_ends logical rec is ends its_pages j round r short judged =
       let top = its_top its_pages j round r judged in
       let so = h.rounds its_pages j round r judged in
@@ -110,7 +116,8 @@ module _ (k t u : TablesState) (start link : Link) (n : ℕ) (h : IsAnsweringRou
       }
 
 -- a round of no more names than turns has an end
-pub answering_whole : (k t : TablesState) (start link : Link) (n logical : ℕ) → IsAnsweringRound k t start link n → logical ≤ n → ResolvesRound k t start logical
+pub answering_whole : (k t : TablesState) (start link : Link) (n logical : ℕ) → IsAnsweringRound k t start link n →
+    logical ≤ n → ResolvesRound k t start logical
 answering_whole k t start link n logical h past its_pages j round r short judged =
     let so = h.rounds its_pages j round r judged in
     let within = so.within in

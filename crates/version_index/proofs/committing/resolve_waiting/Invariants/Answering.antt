@@ -31,10 +31,12 @@ number_within xs y x e = elim (cases_lt y (length xs)) [
   | inr past ↦ absurd (none-some x (sym (get_or_past xs y None past) ∙ e))
 ]
 
-module _ (k new : TablesState) (page : ℕ) (newest : Option ℕ) (sizes : IsTablesState k) (h : IsAnswering k new page newest) (z : ℕ)
+module _ (k new : TablesState) (page : ℕ) (newest : Option ℕ) (sizes : IsTablesState k)
+    (h : IsAnswering k new page newest) (z : ℕ)
     (waits : number_at new.waits z ≡ Some page) where
   -- one more
-  pub one_answered : IsAnswering k (record new { answerers = set new.answerers z newest; waits = set new.waits z None }) page newest
+  pub one_answered : IsAnswering k (record new { answerers = set new.answerers z newest; waits = set new.waits z None })
+      page newest
   one_answered =
       let within = number_within new.waits z page waits in
       let a = h.answerers in
@@ -43,7 +45,10 @@ module _ (k new : TablesState) (page : ℕ) (newest : Option ℕ) (sizes : IsTab
       let d = sizes.waits in
       let within' : z < length new.answerers = omega arith in
       record {
-        rest = ap (λ (t : TablesState). record t { answerers = set new.answerers z newest; waits = set new.waits z None }) h.rest;
+        rest = ap (λ (t : TablesState). record t {
+          answerers = set new.answerers z newest;
+          waits = set new.waits z None;
+        }) h.rest;
         answerers = length-set new.answerers z newest ∙ h.answerers;
         waits = length-set new.waits z None ∙ h.waits;
         waited = λ y e. elim (cases_eq y z) [
@@ -52,14 +57,19 @@ module _ (k new : TablesState) (page : ℕ) (newest : Option ℕ) (sizes : IsTab
             ap (number_at (set new.waits z None)) here ∙ get_or-set_same new.waits z None None within,
           )
           | inr off ↦ elim (h.waited y e) [
-            | inl done ↦ inl (get_or-set_other new.answerers z y newest None off ∙ done.0, get_or-set_other new.waits z y None None off ∙ done.1)
+            | inl done ↦ inl (
+              get_or-set_other new.answerers z y newest None off ∙ done.0,
+              get_or-set_other new.waits z y None None off ∙ done.1,
+            )
             | inr still ↦ inr (get_or-set_other new.waits z y None None off ∙ still)
           ]
         ];
         others = λ y off_page. (
             let off : y ≢ z = λ here. off_page (sym (h.others y off_page).1 ∙ ap (number_at new.waits) here ∙ waits) in
-            let same = h.others y off_page in
-            (get_or-set_other new.answerers z y newest None off ∙ same.0, get_or-set_other new.waits z y None None off ∙ same.1));
+            let same = h.others y off_page in (
+              get_or-set_other new.answerers z y newest None off ∙ same.0,
+              get_or-set_other new.waits z y None None off ∙ same.1,
+            ));
       }
 
   -- and fewer wait
@@ -81,8 +91,10 @@ all_answering k new page h none = record {
 }
 
 -- and nothing else changes
-pub answering_derives : (k new : TablesState) (page : ℕ) (newest : Option ℕ) → IsAnswering k new page newest → OnlyDerives k new
+pub answering_derives : (k new : TablesState) (page : ℕ) (newest : Option ℕ) → IsAnswering k new page newest →
+    OnlyDerives k new
 answering_derives k new page newest h = record {
-  rest = h.rest ∙ ap (λ c. record k { current = c; answerers = new.answerers; waits = new.waits }) (sym (ap (λ (t : TablesState). t.current) h.rest));
+  rest = h.rest ∙ ap (λ c. record k { current = c; answerers = new.answerers; waits = new.waits })
+      (sym (ap (λ (t : TablesState). t.current) h.rest));
   unused = λ y none rests. h.others y (λ e. none-some page (sym rests ∙ e));
 }

@@ -1,4 +1,4 @@
--- What is judged of a few slots, by computation.
+-- What is derived from a few slots, by computation.
 use Rattle.version_index.proofs.Common.{refl, found_in, current_of, loose_of, answerer_of, waits_of, goes_of, completes}
 use Rattle.version_index.specs.DerivedExamples.{BegunWaits, WholeAnswers, StepsAnswer}
 

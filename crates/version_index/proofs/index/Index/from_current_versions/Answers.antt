@@ -32,11 +32,14 @@ invariant_of-result g c =
     let m = c.in_ok-mentions.mentions.items in
     let same : c.in-Ok.shape ≡ shape_of its =
     ap (λ r. result_unwrap_or r (shape_of its)) (sym c.in-Ok.is ∙ c.check.ensures.exact ∙ c.requires.check) in
-    let can = can_fill g.R.CommitRule.protocol its c.in-Ok.shape c.args.seen.now c.requires.scan.0 c.args.standing.now same c.requires.scan.1 in
+    let can = can_fill g.R.CommitRule.protocol its c.in-Ok.shape c.args.seen.now c.requires.scan.0 c.args.standing.now
+    same c.requires.scan.1 in
     let found = c.in_ok-filling.ensures.found c.requires.scan.0 can in
     let filled = subst (λ p. AreFilled p c.args.standing.now.list (shape_of its) its.logical t) c.requires.protocol
-    (subst (λ s. AreFilled c.args.standing.now.protocol c.args.standing.now.list s its.logical t) same c.in_ok-filling.ensures.filled) in
-    let noted = fresh_noted _ its c.args.seen.now c.requires.scan.0 (noted_by its m t) c.requires.check c.in-Ok.ensures.bounds c.requires.rule
+    (subst (λ s. AreFilled c.args.standing.now.protocol c.args.standing.now.list s its.logical t) same
+    c.in_ok-filling.ensures.filled) in
+    let noted = fresh_noted _ its c.args.seen.now c.requires.scan.0 (noted_by its m t) c.requires.check
+    c.in-Ok.ensures.bounds c.requires.rule
     c.requires.scan.1.reads c.requires.scan.1.slots c.requires.scan.1.sound (record {
       config = refl;
       reads = c.in_ok-filling.ensures.reads;
@@ -44,11 +47,13 @@ invariant_of-result g c =
       pins = filled.pins;
       spare = filled.spare;
       mentions = c.in_ok-mentions.ensures
-          ∙ mentions_sorted c.requires.scan.0 c.args.standing.now.list c.records.result.now c.requires.scan.1.sorts (c.records.ensures.records ∙
+          ∙ mentions_sorted c.requires.scan.0 c.args.standing.now.list c.records.result.now c.requires.scan.1.sorts
+          (c.records.ensures.records ∙
           c.sorted_records.ensures) (range_with_len 0 its.logical);
     }) in
     subst (λ (k : TablesState). AreIndexed g.R.CommitRule.protocol its m k) (sym c.in_ok-tables.ensures)
-    (filled_indexed _ its m t c.args.standing.now.list noted (subst (λ l. Sorts l c.args.standing.now.list) (sym found) c.requires.scan.1.sorts) filled)
+    (filled_indexed _ its m t c.args.standing.now.list noted
+    (subst (λ l. Sorts l c.args.standing.now.list) (sym found) c.requires.scan.1.sorts) filled)
 
 pub returns : goal.returns
 returns g c own scan =
@@ -58,7 +63,8 @@ returns g c own scan =
     ap (λ r. result_unwrap_or r (shape_of its)) (sym c.in-Ok.is ∙ c.check.ensures.exact ∙ c.requires.check) in
     let can = can_fill g.R.CommitRule.protocol its c.in-Ok.shape c.args.seen.now own c.args.standing.now same scan in
     let filled = c.in_ok-filling.ensures.filled in
-    subst (λ (k : TablesState). IsNotedFrom its c.args.seen.now own (noted_by its m k)) (sym c.in_ok-tables.ensures) (record {
+    subst (λ (k : TablesState). IsNotedFrom its c.args.seen.now own (noted_by its m k))
+    (sym c.in_ok-tables.ensures) (record {
       config = refl;
       reads = c.in_ok-filling.ensures.reads;
       found = c.in_ok-filling.ensures.found own can;
@@ -76,13 +82,15 @@ build_tables-requires-clause-pages g c =
     ap (λ r. result_unwrap_or r (shape_of its)) (sym c.in-Ok.is ∙ c.check.ensures.exact ∙ c.requires.check) in
     let blocks = blocks_of (shape_of its) in
     let less : blocks - 1 ≤ blocks = omega arith in
-    let most : (blocks - 1) * its.pages_per_block ≤ blocks * its.pages_per_block = mul-le-mul_right its.pages_per_block less in
+    let most : (blocks - 1) * its.pages_per_block ≤ blocks * its.pages_per_block =
+    mul-le-mul_right its.pages_per_block less in
     let space = c.in-Ok.ensures.bounds.space in
     subst (λ s. its.logical ≤ slots_of s) (sym same) (omega arith)
 
 pub build_tables-requires-clause-exist : goal.build_tables-requires-clause-exist
 build_tables-requires-clause-exist g c =
-    sorted_exist _ c.requires.scan.0 c.args.standing.now.list c.args.config.logical c.requires.scan.1.sound c.requires.scan.1.slots c.requires.scan.1.sorts
+    sorted_exist _ c.requires.scan.0 c.args.standing.now.list c.args.config.logical c.requires.scan.1.sound
+    c.requires.scan.1.slots c.requires.scan.1.sorts
 
 pub build_tables-requires-clause-shape : goal.build_tables-requires-clause-shape
 build_tables-requires-clause-shape g c =
@@ -96,5 +104,6 @@ build_tables-requires-clause-fills g c =
     let same : c.in-Ok.shape ≡ shape_of its =
     ap (λ r. result_unwrap_or r (shape_of its)) (sym c.in-Ok.is ∙ c.check.ensures.exact ∙ c.requires.check) in (
       c.requires.scan.0,
-      can_fill g.R.CommitRule.protocol its c.in-Ok.shape c.args.seen.now c.requires.scan.0 c.args.standing.now same c.requires.scan.1,
+      can_fill g.R.CommitRule.protocol its c.in-Ok.shape c.args.seen.now c.requires.scan.0 c.args.standing.now same
+          c.requires.scan.1,
     )

@@ -11,7 +11,8 @@ block_must_go-requires-clause-block g c =
 pub returns-in-Scc : goal.returns-in-Scc
 returns-in-Scc g c =
     let d = c.self.inside in
-    read_going_block _ d.config d.mentions.items d.tables c.self.invariant c.block_must_go.ensures.kept c.in-Scc.is c.args.page c.args.below c.args.block.0
+    read_going_block _ d.config d.mentions.items d.tables c.self.invariant c.block_must_go.ensures.kept c.in-Scc.is
+    c.args.page c.args.below c.args.block.0
     c.block_must_go.result c.block_must_go.ensures.goes
     ∙ ap (λ n. is_going n c.args.page c.args.below c.args.block.0) c.self.view_is
 

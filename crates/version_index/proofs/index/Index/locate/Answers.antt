@@ -6,7 +6,8 @@ use Rattle.version_index.proofs.index.Index.locate.Goals as goal
 pub returns-then-discards : goal.returns-then-discards
 returns-then-discards g c =
     let discards : discarded_of c.args.self.now c.args.page ≡ true = sym c.if-discards.ensures in record {
-      home = sym (cond-true (discarded_of c.args.self.now c.args.page) None (home_of c.args.self.now (current_name_of c.args.self.now c.args.page)) discards);
+      home = sym (cond-true (discarded_of c.args.self.now c.args.page) None
+          (home_of c.args.self.now (current_name_of c.args.self.now c.args.page)) discards);
       none = (λ none. inr discards, λ blank. refl);
       holds = tt;
     }
@@ -16,7 +17,8 @@ returns g c =
     let n = c.args.self.now in
     let page = c.args.page in
     let held : discarded_of n page ≡ false = sym c.if-discards.ensures in
-    let home = c.locate.ensures ∙ read_home _ _ _ _ c.self.invariant page (subst (λ n. page < n.config.logical) (sym c.self.view_is) c.requires)
+    let home = c.locate.ensures ∙ read_home _ _ _ _ c.self.invariant page
+    (subst (λ n. page < n.config.logical) (sym c.self.view_is) c.requires)
     ∙ ap (λ n. home_of n (current_name_of n page)) c.self.view_is in
     let noted = subst (IsNoted _) c.self.view_is c.self.invariant.noted in record {
       home = home ∙ sym (cond-false (discarded_of n page) None (home_of n (current_name_of n page)) held);

@@ -11,5 +11,6 @@ returns-clause-lowest g c =
 
 pub returns-clause-holds : goal.returns-clause-holds
 returns-clause-holds g c =
-    off_located _ c.args.self.now (subst (IsNoted _) c.self.view_is c.self.invariant.noted) c.args.block.0 (current_name_of c.args.self.now c.args.page)
+    off_located _ c.args.self.now (subst (IsNoted _) c.self.view_is c.self.invariant.noted) c.args.block.0
+    (current_name_of c.args.self.now c.args.page)
     c.locate_off.result (returns-clause-lowest g c)

@@ -12,7 +12,8 @@ invariant_of-self g c =
     let was = subst (λ n. note_at n.notes c.args.to.0 ≡ note.Blank) (sym c.self.view_is) c.requires.blank in
     let same = c.set_slot.ensures ∙ ap (λ u. record k { slots = set k.slots c.args.to.0 u }) c.slot-held.ensures.slot in
     subst (AreIndexed _ d.config d.mentions.items) (sym same)
-    (copied_indexed _ d.config d.mentions.items k c.self.invariant g.met.R.CommitRule.copy c.args.from.0 c.args.to.0 some exists was)
+    (copied_indexed _ d.config d.mentions.items k c.self.invariant g.met.R.CommitRule.copy c.args.from.0 c.args.to.0
+    some exists was)
 
 pub returns : goal.returns
 returns g c =

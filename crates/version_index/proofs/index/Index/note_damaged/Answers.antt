@@ -15,4 +15,5 @@ pub returns : goal.returns
 returns g c =
     let d = c.self.inside in
     ap (noted_by d.config d.mentions.items) c.set_slot.ensures
-    ∙ damaged_is _ d.config d.mentions.items d.tables c.self.invariant c.args.at.0 ∙ ap (λ n. damaged_at n c.args.at.0) c.self.view_is
+    ∙ damaged_is _ d.config d.mentions.items d.tables c.self.invariant c.args.at.0
+    ∙ ap (λ n. damaged_at n c.args.at.0) c.self.view_is

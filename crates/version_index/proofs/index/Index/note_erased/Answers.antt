@@ -20,7 +20,8 @@ invariant_of-self g c =
     let used = c.use_block.ensures.used
     ∙ ap (λ (s : Shape). used_from k (block * s.pages_per_block) slot.Blank s.pages_per_block) c.self.invariant.shape in
     subst (AreIndexed _ d.config d.mentions.items) (sym used)
-    (lost_indexed _ d.config d.mentions.items k c.self.invariant c.use_block.ensures.kept g.met.R.CommitRule.block_loss block exists lose
+    (lost_indexed _ d.config d.mentions.items k c.self.invariant c.use_block.ensures.kept g.met.R.CommitRule.block_loss
+    block exists lose
     slot.Blank tt note.Blank refl (λ _. refl))
 
 pub returns : goal.returns
@@ -33,6 +34,7 @@ returns g c =
     let used = c.use_block.ensures.used
     ∙ ap (λ (s : Shape). used_from k (block * s.pages_per_block) slot.Blank s.pages_per_block) c.self.invariant.shape in
     ap (noted_by d.config d.mentions.items) used
-    ∙ lost_is _ d.config d.mentions.items k c.self.invariant c.use_block.ensures.kept g.met.R.CommitRule.block_loss block exists lose
+    ∙ lost_is _ d.config d.mentions.items k c.self.invariant c.use_block.ensures.kept g.met.R.CommitRule.block_loss
+    block exists lose
     slot.Blank tt note.Blank refl (λ _. refl)
     ∙ ap (λ n. erased n block) c.self.view_is

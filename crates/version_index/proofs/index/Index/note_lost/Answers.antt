@@ -18,9 +18,11 @@ invariant_of-self g c =
     let exists = subst (λ n. block < blocks_of (shape_of n.config)) (sym c.self.view_is) c.requires.exists in
     let lose = subst (λ n. CanLose n block) (sym c.self.view_is) c.requires.outside in
     let used = c.use_block.ensures.used
-    ∙ ap (λ (s : Shape). used_from k (block * s.pages_per_block) slot.Damaged s.pages_per_block) c.self.invariant.shape in
+    ∙ ap (λ (s : Shape). used_from k (block * s.pages_per_block) slot.Damaged s.pages_per_block)
+    c.self.invariant.shape in
     subst (AreIndexed _ d.config d.mentions.items) (sym used)
-    (lost_indexed _ d.config d.mentions.items k c.self.invariant c.use_block.ensures.kept g.met.R.CommitRule.block_loss block exists lose
+    (lost_indexed _ d.config d.mentions.items k c.self.invariant c.use_block.ensures.kept g.met.R.CommitRule.block_loss
+    block exists lose
     slot.Damaged tt note.Damaged refl (λ _. refl))
 
 pub returns : goal.returns
@@ -31,8 +33,10 @@ returns g c =
     let exists = subst (λ n. block < blocks_of (shape_of n.config)) (sym c.self.view_is) c.requires.exists in
     let lose = subst (λ n. CanLose n block) (sym c.self.view_is) c.requires.outside in
     let used = c.use_block.ensures.used
-    ∙ ap (λ (s : Shape). used_from k (block * s.pages_per_block) slot.Damaged s.pages_per_block) c.self.invariant.shape in
+    ∙ ap (λ (s : Shape). used_from k (block * s.pages_per_block) slot.Damaged s.pages_per_block)
+    c.self.invariant.shape in
     ap (noted_by d.config d.mentions.items) used
-    ∙ lost_is _ d.config d.mentions.items k c.self.invariant c.use_block.ensures.kept g.met.R.CommitRule.block_loss block exists lose
+    ∙ lost_is _ d.config d.mentions.items k c.self.invariant c.use_block.ensures.kept g.met.R.CommitRule.block_loss
+    block exists lose
     slot.Damaged tt note.Damaged refl (λ _. refl)
     ∙ ap (λ n. lost n block) c.self.view_is

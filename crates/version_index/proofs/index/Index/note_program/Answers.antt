@@ -13,7 +13,8 @@ add-number-requires-clause-free g c =
     let exists = subst (λ n. c.args.at.0 < slots_of (shape_of n.config)) (sym c.self.view_is) c.requires.exists in
     let was = subst (λ n. note_at n.notes c.args.at.0 ≡ note.Blank) (sym c.self.view_is) c.requires.blank in
     let next = subst (λ n. IsNextRecord n c.args.rec) (sym c.self.view_is) c.requires.asked in
-    its_free _ d.config d.mentions.items d.tables c.self.invariant c.shape.ensures.kept c.args.at.0 c.args.rec exists was next
+    its_free _ d.config d.mentions.items d.tables c.self.invariant c.shape.ensures.kept c.args.at.0 c.args.rec
+    exists was next
 
 pub add-number-requires-clause-newest : goal.add-number-requires-clause-newest
 add-number-requires-clause-newest g c =
@@ -21,7 +22,8 @@ add-number-requires-clause-newest g c =
     let exists = subst (λ n. c.args.at.0 < slots_of (shape_of n.config)) (sym c.self.view_is) c.requires.exists in
     let was = subst (λ n. note_at n.notes c.args.at.0 ≡ note.Blank) (sym c.self.view_is) c.requires.blank in
     let next = subst (λ n. IsNextRecord n c.args.rec) (sym c.self.view_is) c.requires.asked in
-    its_newest _ d.config d.mentions.items d.tables c.self.invariant c.shape.ensures.kept c.args.at.0 c.args.rec exists was next
+    its_newest _ d.config d.mentions.items d.tables c.self.invariant c.shape.ensures.kept c.args.at.0 c.args.rec
+    exists was next
 
 pub set_waits-requires-clause-page : goal.set_waits-requires-clause-page
 set_waits-requires-clause-page g c =
@@ -64,9 +66,11 @@ commit_if_complete-requires-clause-links g c =
     let sizes = c.shape.ensures.kept in
     let is = c.set_waits.ensures
     ∙ ap (λ (t : TablesState). record t { waits = set t.waits x (Some rec.next.page) })
-    (c.set_slot.ensures ∙ ap (λ (t : TablesState). record t { slots = set t.slots c.args.at.0 (slot.Holds x) }) c.add-number.ensures.added) in
+    (c.set_slot.ensures ∙ ap (λ (t : TablesState). record t { slots = set t.slots c.args.at.0 (slot.Holds x) })
+    c.add-number.ensures.added) in
     subst LinksExist (sym is)
-    (with_links _ d.config d.mentions.items k c.self.invariant sizes at rec exists was next x c.add-number.ensures.free c.add-number.ensures.within
+    (with_links _ d.config d.mentions.items k c.self.invariant sizes at rec exists was next x c.add-number.ensures.free
+    c.add-number.ensures.within
     g.met.R.CommitRule.partial_write g.met.R.CommitRule.completing_write)
 
 pub commit_if_complete-requires-clause-page : goal.commit_if_complete-requires-clause-page
@@ -80,7 +84,10 @@ commit_if_complete-requires-clause-page g c =
     let link = spelled.next_page in
     let is = c.set_waits.ensures
     ∙ ap (λ (t : TablesState). record t { waits = set t.waits c.add-number.result (Some rec.next.page) })
-    (c.set_slot.ensures ∙ ap (λ (t : TablesState). record t { slots = set t.slots c.args.at.0 (slot.Holds c.add-number.result) }) c.add-number.ensures.added) in
+    (c.set_slot.ensures ∙ ap (λ (t : TablesState). record t {
+      slots = set t.slots c.args.at.0
+          (slot.Holds c.add-number.result);
+    }) c.add-number.ensures.added) in
     let long = ap (λ (t : TablesState). length t.pages) is ∙ length-set k.pages rec.page _ ∙ c.self.invariant.pages in
     omega arith
 
@@ -95,7 +102,10 @@ commit_if_complete-requires-clause-next g c =
     let link = spelled.next_page in
     let is = c.set_waits.ensures
     ∙ ap (λ (t : TablesState). record t { waits = set t.waits c.add-number.result (Some rec.next.page) })
-    (c.set_slot.ensures ∙ ap (λ (t : TablesState). record t { slots = set t.slots c.args.at.0 (slot.Holds c.add-number.result) }) c.add-number.ensures.added) in
+    (c.set_slot.ensures ∙ ap (λ (t : TablesState). record t {
+      slots = set t.slots c.args.at.0
+          (slot.Holds c.add-number.result);
+    }) c.add-number.ensures.added) in
     let long = ap (λ (t : TablesState). length t.pages) is ∙ length-set k.pages rec.page _ ∙ c.self.invariant.pages in
     omega arith
 
@@ -112,12 +122,16 @@ invariant_of-self g c =
     let sizes = c.shape.ensures.kept in
     let is = c.set_waits.ensures
     ∙ ap (λ (t : TablesState). record t { waits = set t.waits x (Some rec.next.page) })
-    (c.set_slot.ensures ∙ ap (λ (t : TablesState). record t { slots = set t.slots at (slot.Holds x) }) c.add-number.ensures.added) in
+    (c.set_slot.ensures ∙ ap (λ (t : TablesState). record t { slots = set t.slots at (slot.Holds x) })
+    c.add-number.ensures.added) in
     subst (λ m. AreIndexed _ d.config m c.commit_if_complete.new.tables) (sym c.raise.ensures)
-    (decided_indexed _ d.config d.mentions.items k c.self.invariant sizes at rec exists was next x c.add-number.ensures.free c.add-number.ensures.within
-    g.met.R.CommitRule.partial_write g.met.R.CommitRule.completing_write (subst IsTablesState is c.commit_if_complete.ensures.kept) c.commit_if_complete.new.tables
+    (decided_indexed _ d.config d.mentions.items k c.self.invariant sizes at rec exists was next x
+    c.add-number.ensures.free c.add-number.ensures.within
+    g.met.R.CommitRule.partial_write g.met.R.CommitRule.completing_write
+    (subst IsTablesState is c.commit_if_complete.ensures.kept) c.commit_if_complete.new.tables
     (subst (λ t. OnlyDerives t c.commit_if_complete.new.tables) is c.commit_if_complete.ensures.judges)
-    (subst (λ t. CommitsIfComplete d.config.protocol t c.commit_if_complete.new.tables rec d.config.logical) is c.commit_if_complete.ensures.settled))
+    (subst (λ t. CommitsIfComplete d.config.protocol t c.commit_if_complete.new.tables rec d.config.logical) is
+    c.commit_if_complete.ensures.settled))
 
 pub returns : goal.returns
 returns g c =
@@ -132,9 +146,11 @@ returns g c =
     let sizes = c.shape.ensures.kept in
     let is = c.set_waits.ensures
     ∙ ap (λ (t : TablesState). record t { waits = set t.waits x (Some rec.next.page) })
-    (c.set_slot.ensures ∙ ap (λ (t : TablesState). record t { slots = set t.slots c.args.at.0 (slot.Holds x) }) c.add-number.ensures.added) in
+    (c.set_slot.ensures ∙ ap (λ (t : TablesState). record t { slots = set t.slots c.args.at.0 (slot.Holds x) })
+    c.add-number.ensures.added) in
     ap (λ m. noted_by d.config m c.commit_if_complete.new.tables) c.raise.ensures
-    ∙ whole_is _ d.config d.mentions.items k c.self.invariant sizes at rec exists was next x c.add-number.ensures.free c.add-number.ensures.within
+    ∙ whole_is _ d.config d.mentions.items k c.self.invariant sizes at rec exists was next x c.add-number.ensures.free
+    c.add-number.ensures.within
     g.met.R.CommitRule.partial_write g.met.R.CommitRule.completing_write c.commit_if_complete.new.tables
     (subst (λ t. OnlyDerives t c.commit_if_complete.new.tables) is c.commit_if_complete.ensures.judges)
     ∙ ap (λ n. programmed n at rec) c.self.view_is

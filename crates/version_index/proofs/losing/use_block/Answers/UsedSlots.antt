@@ -26,4 +26,5 @@ module _ (k : TablesState) (first : ℕ) (to : SlotUse) where
   used_shape zero = refl
   used_shape (suc n) =
       let before = used_from k first to n in
-      without_shape (record before { slots = slice_set before.slots (first + n) to }) (number_in (use_at before.slots (first + n))) ∙ used_shape n
+      without_shape (record before { slots = slice_set before.slots (first + n) to })
+      (number_in (use_at before.slots (first + n))) ∙ used_shape n

@@ -53,7 +53,8 @@ misplaced_spelled = record {
 -- and so does a record of a page that does not exist
 misplaced_slot : SlotReads Scc 4 (complete [] (spelling Scc (rec 9 1 9 1 0))) → ⊥
 misplaced_slot reads =
-    let pages = subst (λ o. IsSomeAnd o (λ r. (r.page < 4) × (r.next.page < 4))) (record_of-spelling Scc (rec 9 1 9 1 0) misplaced_spelled) reads in
+    let pages = subst (λ o. IsSomeAnd o (λ r. (r.page < 4) × (r.next.page < 4)))
+    (record_of-spelling Scc (rec 9 1 9 1 0) misplaced_spelled) reads in
     let below : 9 < 4 = pages.0 in
     absurd (omega arith)
 
@@ -83,14 +84,16 @@ aborted_lost = record { slots = refl; kept = kept; lost = lost }
     kept zero e = refl
     kept (suc slot) e = let is = eqb-true (suc slot) 0 e in absurd (omega arith)
 
-    lost : (slot : ℕ) → page_0_stays slot ≡ false → (slot_at without_aborted slot ≡ blank) ⊎ (slot_at without_aborted slot ≡ damaged)
+    lost : (slot : ℕ) → page_0_stays slot ≡ false → (slot_at without_aborted slot ≡ blank)
+        ⊎ (slot_at without_aborted slot ≡ damaged)
     lost zero e = absurd (false≢true (sym e))
     lost (suc zero) e = inr refl
     lost (suc (suc zero)) e = inl refl
     lost (suc (suc (suc slot))) e = inl refl
 
 -- only the record of page 0 counts
-written_spared : IsSpared Scc (found 0 (rec 0 1 0 1 0) ∷ found 1 (rec 1 3 2 7 0) ∷ []) 3 (shape_of (config Scc)) page_0_stays
+written_spared : IsSpared Scc (found 0 (rec 0 1 0 1 0) ∷ found 1 (rec 1 3 2 7 0) ∷ []) 3
+    (shape_of (config Scc)) page_0_stays
 written_spared = record { block = 1; exists = omega arith; counted = counted }
   where
     list : List Found
@@ -103,7 +106,8 @@ written_spared = record { block = 1; exists = omega arith; counted = counted }
     counted : KeepsCounted Scc list 3 (λ slot. page_0_stays slot && is_outside (shape_of (config Scc)) 1 slot)
     counted =
         All-from_recursion (λ f. IsCurrent Scc list 3 f.rec ⊎ (is_held Scc list 3 f.rec ≡ true) →
-        is_present (left (λ slot. page_0_stays slot && is_outside (shape_of (config Scc)) 1 slot) list) (name_of f.rec) ≡ true) list
+        is_present (left (λ slot. page_0_stays slot && is_outside (shape_of (config Scc)) 1 slot) list) (name_of f.rec)
+        ≡ true) list
         (λ h. refl, (uncounted, tt))
 
 pub aborted_may_go : AbortedMayGo

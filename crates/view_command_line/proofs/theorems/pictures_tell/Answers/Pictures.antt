@@ -42,7 +42,8 @@ one_highest P blocks a b h k = elim (cases_order a b) [
   | inr (inr more) ↦ absurd (k.none_above a more h.exists h.holds)
 ]
 
-one_spare : (its : Config) (image : List Contents) (a b : ℕ) → IsChosenSpare its image a → IsChosenSpare its image b → a ≡ b
+one_spare : (its : Config) (image : List Contents) (a b : ℕ) → IsChosenSpare its image a →
+    IsChosenSpare its image b → a ≡ b
 one_spare its image a b (inl h) (inl k) = one_highest _ _ a b h k
 one_spare its image a b (inl h) (inr k) = absurd (k.0 a h.exists h.holds)
 one_spare its image a b (inr h) (inl k) = absurd (h.0 b k.exists k.holds)
@@ -54,7 +55,8 @@ abbrev IsOfOpening : Ending → Type 0
 IsOfOpening (Drawn form its image marks) = (opened : Opening) × IsOpening its image opened × (marks ≡ marks_of opened)
 IsOfOpening (Refused why) = Unit {0}
 
-opened_so : (form : Form) (unsound : Bool) (its : Config) (image : List Contents) (opened : Opening) → IsOpening its image opened →
+opened_so : (form : Form) (unsound : Bool) (its : Config) (image : List Contents) (opened : Opening) →
+    IsOpening its image opened →
     IsOfOpening (ending_of form unsound its image opened)
 opened_so form unsound its image (opening.Sound block) is = (opening.Sound block, is, refl)
 opened_so form true its image (opening.Unsound breach) is = (opening.Unsound breach, is, refl)
@@ -62,7 +64,8 @@ opened_so form false its image (opening.Unsound breach) is = tt
 
 read_so : (form : Form) (unsound : Bool) (read : Result (Config × List Contents × Extras) ImageError) (fate : Ending) →
     AfterReading form unsound read fate → IsOfOpening fate
-read_so form unsound (Ok read) fate (opened, is, e) = subst IsOfOpening (sym e) (opened_so form unsound read.0 read.1 opened is)
+read_so form unsound (Ok read) fate (opened, is, e) =
+    subst IsOfOpening (sym e) (opened_so form unsound read.0 read.1 opened is)
 read_so form unsound (Err rule) fate e = subst IsOfOpening (sym e) tt
 
 loaded_so : (a : Request) (there : FileFound) (fate : Ending) → AfterLoad a there fate → IsOfOpening fate
@@ -83,10 +86,13 @@ opening_rows its image (opening.Sound block) (_, chosen) sound = record {
   chosen = chosen;
   one = λ other k. one_spare its image other block.0 k chosen;
   label = λ other. (
-    λ says. subst (λ (n : ℕ). IsChosenSpare its image n) (marked other ((label_tells (marks_of (opening.Sound block)) other).0 says)) chosen,
-    λ k. (label_tells (marks_of (opening.Sound block)) other).1 (ap (λ n. Some (record { 0 = n })) (one_spare its image block.0 other chosen k)),
+    λ says. subst (λ (n : ℕ). IsChosenSpare its image n)
+        (marked other ((label_tells (marks_of (opening.Sound block)) other).0 says)) chosen,
+    λ k. (label_tells (marks_of (opening.Sound block)) other).1
+        (ap (λ n. Some (record { 0 = n })) (one_spare its image block.0 other chosen k)),
   );
-  mark = λ slot says. unnamed slot ((words_tell its (notes_of its.protocol image) (marks_of (opening.Sound block)) slot).mark.0 says);
+  mark = λ slot says. unnamed slot ((words_tell its (notes_of its.protocol image) (marks_of (opening.Sound block))
+      slot).mark.0 says);
 }
   where
     unnamed : (slot : ℕ) → IsNamed None slot → ⊥
@@ -94,18 +100,23 @@ opening_rows its image (opening.Sound block) (_, chosen) sound = record {
 
     marked : (other : ℕ) → Some block ≡ Some (record { 0 = other }) → block.0 ≡ other
     marked other e = ap (λ (o : Option Block). elim o [ Some b ↦ b.0 | None ↦ other ]) e
-opening_rows its image (opening.Unsound breach) broken sound = absurd (sound_unbroken its.protocol its.logical (shape_of its) image breach sound broken)
+opening_rows its image (opening.Unsound breach) broken sound =
+    absurd (sound_unbroken its.protocol its.logical (shape_of its) image breach sound broken)
 
-pub rows_tell : (task : Option Request) (desk : DeskState) (form : Form) (its : Config) (image : List Contents) (marks : Marks) →
-    IsEnding task desk (Drawn form its image marks) → IsSoundImage its.protocol its.logical (shape_of its) image → RowsTell its image marks
+pub rows_tell : (task : Option Request) (desk : DeskState) (form : Form) (its : Config) (image : List Contents)
+    (marks : Marks) →
+    IsEnding task desk (Drawn form its image marks) → IsSoundImage its.protocol its.logical (shape_of its) image →
+    RowsTell its image marks
 rows_tell task desk form its image marks fate sound =
     let drawn : IsOfOpening (Drawn form its image marks) = drawn_so task desk (Drawn form its image marks) fate in
     subst (λ m. RowsTell its image m) (sym drawn.2) (opening_rows its image drawn.0 drawn.1 sound)
 
 -- ---- a law that is broken
 
-opening_breach : (its : Config) (image : List Contents) (opened : Opening) → IsOpening its image opened → (breach : Breach) →
-    IsLeastImageBreach its.protocol its.logical (shape_of its) image breach → BreachTells its image (marks_of opened) breach
+opening_breach : (its : Config) (image : List Contents) (opened : Opening) → IsOpening its image opened →
+    (breach : Breach) →
+    IsLeastImageBreach its.protocol its.logical (shape_of its) image breach →
+    BreachTells its image (marks_of opened) breach
 opening_breach its image (opening.Sound block) (sound, chosen) breach broken =
     absurd (sound_unbroken its.protocol its.logical (shape_of its) image breach sound broken)
 opening_breach its image (opening.Unsound first) is breach broken =
@@ -132,8 +143,10 @@ opening_breach its image (opening.Unsound first) is breach broken =
     no_spare : (spare : Block) → None ≡ Some spare → ⊥
     no_spare spare e = cc
 
-pub breach_tells : (task : Option Request) (desk : DeskState) (form : Form) (its : Config) (image : List Contents) (marks : Marks) (breach : Breach) →
-    IsEnding task desk (Drawn form its image marks) → IsLeastImageBreach its.protocol its.logical (shape_of its) image breach → BreachTells its image marks breach
+pub breach_tells : (task : Option Request) (desk : DeskState) (form : Form) (its : Config) (image : List Contents)
+    (marks : Marks) (breach : Breach) →
+    IsEnding task desk (Drawn form its image marks) → IsLeastImageBreach its.protocol its.logical (shape_of its) image
+    breach → BreachTells its image marks breach
 breach_tells task desk form its image marks breach fate broken =
     let drawn : IsOfOpening (Drawn form its image marks) = drawn_so task desk (Drawn form its image marks) fate in
     subst (λ m. BreachTells its image m breach) (sym drawn.2) (opening_breach its image drawn.0 drawn.1 breach broken)
@@ -147,28 +160,35 @@ noted its image slot r holds = get_or-map (note_of its.protocol) image slot blan
 
 -- a slot with a record has the cell of the record
 cell_is : (its : Config) (image : List Contents) (slot : ℕ) (r : Rec) → HoldsRecord its image slot r →
-    cell_of its.protocol (records_in its.protocol image) its.logical (note.Holds r) ≡ cell_at (cells_of its (notes_of its.protocol image)) slot
+    cell_of its.protocol (records_in its.protocol image) its.logical (note.Holds r)
+    ≡ cell_at (cells_of its (notes_of its.protocol image)) slot
 cell_is its image slot r holds =
     let p = its.protocol in
     let notes = notes_of p image in
-    sym (get_or-map (cell_of p (found_in notes) its.logical) notes slot note.Blank ∙ ap (cell_of p (found_in notes) its.logical) (noted its image slot r holds)
+    sym (get_or-map (cell_of p (found_in notes) its.logical) notes slot note.Blank
+    ∙ ap (cell_of p (found_in notes) its.logical) (noted its image slot r holds)
     ∙ ap (λ list. cell_of p list its.logical (note.Holds r)) (found_in_notes p image))
 
-pub slots_tell : (its : Config) (image : List Contents) (slot : ℕ) (r : Rec) → HoldsRecord its image slot r → SlotTells its image slot r
+pub slots_tell : (its : Config) (image : List Contents) (slot : ℕ) (r : Rec) → HoldsRecord its image slot r →
+    SlotTells its image slot r
 slots_tell its image slot r holds =
     let tells = cell_tells its.protocol (records_in its.protocol image) its.logical r in
     record {
-      current = says (codes "current") (IsCurrent its.protocol (records_in its.protocol image) its.logical r) tells.current;
+      current = says (codes "current") (IsCurrent its.protocol (records_in its.protocol image) its.logical r)
+          tells.current;
       loose = says (codes "loose") (IsLoose its.protocol (records_in its.protocol image) its.logical r) tells.loose;
       stale = says (codes "stale") (IsStale its.protocol (records_in its.protocol image) its.logical r) tells.stale;
-      held = says (codes "held") (IsTrue (is_held its.protocol (records_in its.protocol image) its.logical r)) tells.held;
+      held = says (codes "held") (IsTrue (is_held its.protocol (records_in its.protocol image) its.logical r))
+          tells.held;
       discard = says (codes "discard") (IsTrue r.discard) tells.discard;
     }
   where
     says : (word : List ℕ) (P : Type 0) →
-        (Contains (cell_words (cell_of its.protocol (records_in its.protocol image) its.logical (note.Holds r))) word ↔ P) →
+        (Contains (cell_words (cell_of its.protocol (records_in its.protocol image) its.logical (note.Holds r))) word
+        ↔ P) →
         CellSays its image slot word ↔ P
-    says word P tells = subst (λ (cell : Cell). Contains (cell_words cell) word ↔ P) (cell_is its image slot r holds) tells
+    says word P tells = subst (λ (cell : Cell). Contains (cell_words cell) word ↔ P)
+        (cell_is its image slot r holds) tells
 
 -- ---- the slots without a record
 

@@ -4,9 +4,11 @@ use Rattle.std.proofs.Math.Nat.{div-mul-le_self, lt-div-mul-add, mul-le-mul_left
 use Rattle.std.proofs.lemmas.Nat.{div-mul-add, div_below}
 
 -- by a large number it is 0
-quotient_none : (units by of : ℕ) → 65536 < by → of < 65536 → 65536 * 65536 ≡ units → of * (units / by + 1) / units ≡ of / by
+quotient_none : (units by of : ℕ) → 65536 < by → of < 65536 → 65536 * 65536 ≡ units →
+    of * (units / by + 1) / units ≡ of / by
 quotient_none units by of large low e =
-    let whole : units / by < 65536 = div_below units by 65536 (omega arith) (let more : 65536 * 65536 < 65536 * by = omega arith in omega arith) in
+    let whole : units / by < 65536 = div_below units by 65536 (omega arith)
+    (let more : 65536 * 65536 < 65536 * by = omega arith in omega arith) in
     let most : of * (units / by + 1) ≤ of * 65536 = mul-le-mul_left of (omega arith) in
     let none : of * (units / by + 1) / units < 1 = div_below _ units 1 (omega arith) (omega arith) in
     let zero : of / by < 1 = div_below of by 1 (omega arith) (omega arith) in
@@ -45,7 +47,8 @@ module _ (units by of : ℕ) (some : 0 < by) (small : by ≤ 65536) (low : of < 
       let place : times * units + (of * (whole + 1) - times * units) ≡ of * (whole + 1) = omega arith in
       rw (sym place) (div-mul-add times units (of * (whole + 1) - times * units) rest)
 
-pub quotient_is : (units by of : ℕ) → 0 < by → of < 65536 → 65536 * 65536 ≡ units → of * (units / by + 1) / units ≡ of / by
+pub quotient_is : (units by of : ℕ) → 0 < by → of < 65536 → 65536 * 65536 ≡ units →
+    of * (units / by + 1) / units ≡ of / by
 quotient_is units by of some low e = elim (cases_lt 65536 by) [
   | inl large ↦ quotient_none units by of large low e
   | inr small ↦ quotient_some units by of some small low e

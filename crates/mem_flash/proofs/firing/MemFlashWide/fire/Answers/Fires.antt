@@ -50,7 +50,8 @@ without_power s how some off = cc
 is_some_number : (n : ℕ) → (n ≡ 0 → ⊥) → (n == 0) ≡ false
 is_some_number n some = grind (arith, nat_tests)
 
-pub is_busy : (live : Bool) (n m : ℕ) → n ≡ m → ((live ≡ true) × (n ≡ 0 → ⊥)) ⊎ (live ≡ false) → live && (m == 0) ≡ false
+pub is_busy : (live : Bool) (n m : ℕ) → n ≡ m → ((live ≡ true) × (n ≡ 0 → ⊥)) ⊎ (live ≡ false) →
+    live && (m == 0) ≡ false
 is_busy false n m same busy = refl
 is_busy true n m same (inl busy) = subst (λ k. (k == 0) ≡ false) same (is_some_number n busy.1)
 is_busy true n m same (inr off) = cc
@@ -71,7 +72,8 @@ module _ (s : MemFlashState) (busy : is_idle s ≡ false) where
   counts = by s.live (length loads == 0) busy
     where
       by : (live none : Bool) → live && none ≡ false
-          → (if live then counted s.started else s.started) ≡ (if live && not none then counted s.started else s.started)
+          → (if live then counted s.started else s.started) ≡ (if live && not none then counted s.started
+          else s.started)
       by false none is = refl
       by true false is = refl
       by true true is = cc
@@ -96,7 +98,8 @@ module _ (s : MemFlashState) (busy : is_idle s ≡ false) where
     carries =
         with_image (state_of s) (state_of (met s)) true _ _ carries
         (λ off. (
-          subst (λ h. left_each s.image loads (outcomes_from h (length loads)) ≡ s.image) (sym (without_power s how some off))
+          subst (λ h. left_each s.image loads (outcomes_from h (length loads)) ≡ s.image)
+              (sym (without_power s how some off))
               (left_from-none s.image loads),
           refl,
         ));

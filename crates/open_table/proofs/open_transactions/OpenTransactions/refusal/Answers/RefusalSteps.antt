@@ -5,7 +5,8 @@ use Rattle.array_machine.specs.Submit.{first_refusals, empty, tag_used, full, fr
 use Rattle.array_machine.specs.declared.answers.SubmitError.{SubmitError}
 use Rattle.array_machine.specs.declared.answers.SubmitError.TheVariants as refused
 
-then_rest : (a b c rest : Option SubmitError) → or_else a (or_else b c) ≡ None → or_else a (or_else b (or_else c rest)) ≡ rest
+then_rest : (a b c rest : Option SubmitError) → or_else a (or_else b c) ≡ None →
+    or_else a (or_else b (or_else c rest)) ≡ rest
 then_rest (Some x) b c rest is = cc
 then_rest None (Some x) c rest is = cc
 then_rest None None (Some x) rest is = cc
@@ -23,13 +24,17 @@ after_batch : (logical pending tag : ℕ) (es : List Entry) (ws : List PageWrite
 after_batch logical pending tag es ws none =
     then_rest (empty ws) (range logical ws) (repeated [] ws) (then_refused pending es tag ws) none
 
-pub refused_by_tag : (logical pending tag : ℕ) (es : List Entry) (ws : List PageWrite) → batch_refused logical ws ≡ None →
-    list_any (has_tag tag) es ≡ true → first_refusals (record { logical = logical; pending = pending }) es tag ws ≡ Some refused.Tag
+pub refused_by_tag : (logical pending tag : ℕ) (es : List Entry) (ws : List PageWrite) →
+    batch_refused logical ws ≡ None →
+    list_any (has_tag tag) es ≡ true → first_refusals (record { logical = logical; pending = pending }) es tag ws
+    ≡ Some refused.Tag
 refused_by_tag logical pending tag es ws none used = after_batch logical pending tag es ws none ∙ rw used refl
 
-pub refused_behind : (logical pending tag : ℕ) (es : List Entry) (ws : List PageWrite) → batch_refused logical ws ≡ None →
+pub refused_behind : (logical pending tag : ℕ) (es : List Entry) (ws : List PageWrite) →
+    batch_refused logical ws ≡ None →
     list_any (has_tag tag) es ≡ false →
-    first_refusals (record { logical = logical; pending = pending }) es tag ws ≡ or_else (overlap es ws) (full (free_of pending es) ws)
+    first_refusals (record { logical = logical; pending = pending }) es tag ws
+    ≡ or_else (overlap es ws) (full (free_of pending es) ws)
 refused_behind logical pending tag es ws none unused = after_batch logical pending tag es ws none ∙ rw unused refl
 
 both_none : (a b : Option SubmitError) → or_else a b ≡ None → (a ≡ None) × (b ≡ None)
@@ -44,7 +49,8 @@ all_in_range : (logical : ℕ) (ws : List PageWrite) → range logical ws ≡ No
 all_in_range logical [] h = All-nil (λ (w : PageWrite). w.page < logical)
 all_in_range logical (w ∷ ws) h =
     let parts = both_none (if nat_lt w.page logical then None else Some (refused.Range w.page)) (range logical ws) h in
-    All-cons (λ (w : PageWrite). w.page < logical) w ws (ltb-true w.page logical (cond_none (nat_lt w.page logical) (refused.Range w.page) parts.0))
+    All-cons (λ (w : PageWrite). w.page < logical) w ws
+    (ltb-true w.page logical (cond_none (nat_lt w.page logical) (refused.Range w.page) parts.0))
     (all_in_range logical ws parts.1)
 
 -- the pages of a batch that is not refused by itself exist

@@ -16,14 +16,18 @@ use Rattle.slot_tables.proofs.OfLiveSlots.Needing.{needed_some, needed_none, not
 find_same : {X : Type 0} (p q : X → Bool) (xs : List X) → ((x : X) → Contains xs x → p x ≡ q x) → find p xs ≡ find q xs
 find_same p q [] same = refl
 find_same p q (x ∷ xs) same =
-    ap₂ (λ b o. cond b (Some x) o) (same x (Contains-first x xs)) (find_same p q xs (λ y has. same y (Contains-rest x xs y has)))
+    ap₂ (λ b o. cond b (Some x) o) (same x (Contains-first x xs))
+    (find_same p q xs (λ y has. same y (Contains-rest x xs y has)))
 
 -- a slot of a block
-block_slot : (shape : Shape) (block slot : ℕ) → 0 < shape.pages_per_block → is_outside shape block slot ≡ false → Contains (slots_in shape block) slot
+block_slot : (shape : Shape) (block slot : ℕ) → 0 < shape.pages_per_block → is_outside shape block slot ≡ false →
+    Contains (slots_in shape block) slot
 block_slot shape block slot some off =
     let here : slot / shape.pages_per_block ≡ block = is_block (slot / shape.pages_per_block) off in
-    let first : slot / shape.pages_per_block * shape.pages_per_block ≤ slot = div-mul-le_self slot shape.pages_per_block in
-    let last : slot < slot / shape.pages_per_block * shape.pages_per_block + shape.pages_per_block = lt-div-mul-add some in
+    let first : slot / shape.pages_per_block * shape.pages_per_block ≤ slot =
+    div-mul-le_self slot shape.pages_per_block in
+    let last : slot < slot / shape.pages_per_block * shape.pages_per_block + shape.pages_per_block =
+    lt-div-mul-add some in
     in_range (block * shape.pages_per_block) shape.pages_per_block slot (rw here at first) (rw here at last)
   where
     is_block : (q : ℕ) → not (eqb q block) ≡ false → q ≡ block
@@ -63,15 +67,18 @@ pub record IsMiddle (k : TablesState) (older : Option ℕ) (old new : LiveSlotsS
 pub no_middle : (k : TablesState) (n : LiveSlotsState) → IsMiddle k None n n
 no_middle k n = record { size = refl; slots = refl; homes = λ block s e is. absurd (cc); others = λ s. inl refl }
 
-pub middle : (k : TablesState) (block : ℕ) (old new : LiveSlotsState) → IsRefreshedFrom k (Some block) block old new → IsMiddle k (Some block) old new
+pub middle : (k : TablesState) (block : ℕ) (old new : LiveSlotsState) → IsRefreshedFrom k (Some block) block old new →
+    IsMiddle k (Some block) old new
 middle k block old new h = record {
   size = h.size;
   slots = h.slots;
-  homes = λ b s e is. (let same : block ≡ b = cc in h.homes s (subst (λ x. IsHomeFrom k (Some block) x s) (sym same) is));
+  homes = λ b s e is. (let same : block ≡ b = cc in
+      h.homes s (subst (λ x. IsHomeFrom k (Some block) x s) (sym same) is));
   others = h.others;
 }
 
-module _ (t : Inside) (h : TablesInvariant t) (block : Block) (low : block.0 < blocks_of t.base.shape) (n1 n2 : LiveSlotsState) where
+module _ (t : Inside) (h : TablesInvariant t) (block : Block) (low : block.0 < blocks_of t.base.shape)
+    (n1 n2 : LiveSlotsState) where
   abbrev k : TablesState
   k = tables_state t.base
 
@@ -119,7 +126,8 @@ module _ (t : Inside) (h : TablesInvariant t) (block : Block) (low : block.0 < b
 
     -- where all copies lie outside both, the home stays
     far : (z : ℕ) → ((slot : ℕ) → Contains (copies_of k.slots z) slot → is_outside k.shape block.0 slot ≡ true)
-        → ((slot : ℕ) → Contains (copies_of k.slots z) slot → is_outside_spare k.shape k.spare slot ≡ true) → home k' z ≡ home k z
+        → ((slot : ℕ) → Contains (copies_of k.slots z) slot → is_outside_spare k.shape k.spare slot ≡ true) →
+        home k' z ≡ home k z
     far z new old =
         ap (λ o. option_or o (slice_get (copies_of k.slots z) 0))
         (find_same (is_outside_spare k.shape (Some block.0)) (is_outside_spare k.shape k.spare) (copies_of k.slots z)
@@ -137,30 +145,38 @@ module _ (t : Inside) (h : TablesInvariant t) (block : Block) (low : block.0 < b
 
     decide : (o : Option ℕ) (s : ℕ) → (o ≡ Some s) ⊎ (o ≡ Some s → ⊥)
     decide None s = inr (λ e. cc)
-    decide (Some y) s = elim (cases_eq y s) [ inl e ↦ inl (ap Some e) | inr other ↦ inr (λ e. other (let same : y ≡ s = cc in same)) ]
+    decide (Some y) s = elim (cases_eq y s) [
+      | inl e ↦ inl (ap Some e)
+      | inr other ↦ inr (λ e. other (let same : y ≡ s = cc in same))
+    ]
 
     -- where the home of the slot's record is as before
-    still_home : (s z : ℕ) → number_in (use_at k.slots s) ≡ Some z → home k' z ≡ home k z → is_marked n2.needed s ≡ is_needed k' s
+    still_home : (s z : ℕ) → number_in (use_at k.slots s) ≡ Some z → home k' z ≡ home k z →
+        is_marked n2.needed s ≡ is_needed k' s
     still_home s z held same =
         still s (needed_some k' s z held ∙ ap (λ o. is_slot s o && is_wanted k z) same ∙ sym (needed_some k s z held))
 
-    its_home : (s z : ℕ) → number_in (use_at k.slots s) ≡ Some z → home k z ≢ home k' z → (home k' z ≡ Some s) ⊎ (home k z ≡ Some s)
+    its_home : (s z : ℕ) → number_in (use_at k.slots s) ≡ Some z → home k z ≢ home k' z → (home k' z ≡ Some s)
+        ⊎ (home k z ≡ Some s)
         → is_marked n2.needed s ≡ is_needed k' s
     its_home s z held moved is = elim (near k block.0 z) [
       | inl copy ↦ then.homes s (home_from z block.0 copy.0 s copy.1 copy.2 moved is)
       | inr new ↦ by k.spare refl new
     ]
       where
-        by : (o : Option ℕ) → k.spare ≡ o → ((slot : ℕ) → Contains (copies_of k.slots z) slot → is_outside k.shape block.0 slot ≡ true)
+        by : (o : Option ℕ) → k.spare ≡ o → ((slot : ℕ) → Contains (copies_of k.slots z) slot →
+            is_outside k.shape block.0 slot ≡ true)
             → is_marked n2.needed s ≡ is_needed k' s
         by None e new = still_home s z held (far z new (λ slot has. ap (λ o. is_outside_spare k.shape o slot) e))
         by (Some b) e new = elim (near k b z) [
           | inl copy ↦ first_right s (first.homes b s e (home_from z b copy.0 s copy.1 copy.2 moved is))
-          | inr old ↦ still_home s z held (far z new (λ slot has. ap (λ o. is_outside_spare k.shape o slot) e ∙ old slot has))
+          | inr old ↦ still_home s z held (far z new (λ slot has. ap (λ o. is_outside_spare k.shape o slot) e
+              ∙ old slot has))
         ]
 
     -- where a slot is a home, or was
-    at_home : (s z : ℕ) → number_in (use_at k.slots s) ≡ Some z → (home k' z ≡ Some s) ⊎ (home k z ≡ Some s) → is_marked n2.needed s ≡ is_needed k' s
+    at_home : (s z : ℕ) → number_in (use_at k.slots s) ≡ Some z → (home k' z ≡ Some s) ⊎ (home k z ≡ Some s) →
+        is_marked n2.needed s ≡ is_needed k' s
     at_home s z held is = by (is_same_slot (home k z) (home k' z)) refl
       where
         by : (b : Bool) → is_same_slot (home k z) (home k' z) ≡ b → is_marked n2.needed s ≡ is_needed k' s

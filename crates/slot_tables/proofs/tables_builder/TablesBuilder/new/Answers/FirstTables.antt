@@ -34,7 +34,8 @@ module _ (s : Shape) (logical : ℕ) (shape : IsShape s) (few : logical ≤ slot
     pins = length-replicate {A = ℕ} logical 0 ∙ sym (length-replicate {A = List ℕ} logical []);
     spare = tt;
     held = λ at number is. absurd (none_held (slots_of s) at number is);
-    counts = λ page number is. absurd (let no : None ≡ Some number = sym (all_same {X = Option ℕ} logical page None) ∙ is in cc);
+    counts = λ page number is. absurd (let no : None ≡ Some number = sym (all_same {X = Option ℕ} logical page None)
+        ∙ is in cc);
     versions = no_versions (slots_of s) logical;
   }
 
@@ -42,7 +43,8 @@ module _ (s : Shape) (logical : ℕ) (shape : IsShape s) (few : logical ≤ slot
   whole = omega arith
 
   pub first_filling : (t : Inside) → tables_state t.base ≡ blank_tables s logical → t.base.waits.pages ≡ logical
-      → t.blanks ≡ record { marks = replicate (blocks_of s * s.pages_per_block) true; size = s.pages_per_block } → t.base.spare ≡ None
+      → t.blanks ≡ record { marks = replicate (blocks_of s * s.pages_per_block) true; size = s.pages_per_block } →
+      t.base.spare ≡ None
       → TablesBuilderInvariant t
   first_filling t kept waits blanks spare = record {
     sized = record {
@@ -51,14 +53,18 @@ module _ (s : Shape) (logical : ℕ) (shape : IsShape s) (few : logical ≤ slot
     };
     blanks = rw (kept, blanks) (record {
       marks =
-          ext_get_or false (replicate (blocks_of s * s.pages_per_block) true) (map is_blank (replicate (slots_of s) Blank))
+          ext_get_or false (replicate (blocks_of s * s.pages_per_block) true)
+          (map is_blank (replicate (slots_of s) Blank))
           (length-replicate {A = Bool} (blocks_of s * s.pages_per_block) true ∙ whole
-          ∙ sym (length-map (replicate (slots_of s) Blank) is_blank ∙ length-replicate {A = SlotUse} (slots_of s) Blank))
+          ∙ sym (length-map (replicate (slots_of s) Blank) is_blank
+          ∙ length-replicate {A = SlotUse} (slots_of s) Blank))
           (λ at low.
-          let lies : at < blocks_of s * s.pages_per_block = rw (length-replicate {A = Bool} (blocks_of s * s.pages_per_block) true) at low in
+          let lies : at < blocks_of s * s.pages_per_block =
+          rw (length-replicate {A = Bool} (blocks_of s * s.pages_per_block) true) at low in
           let lies_too : at < slots_of s = rw whole at lies in
           get_or-replicate {A = Bool} (blocks_of s * s.pages_per_block) at true false lies
-          ∙ sym (get_or-map is_blank (replicate (slots_of s) Blank) at Blank false (rw (length-replicate {A = SlotUse} (slots_of s) Blank) lies_too)
+          ∙ sym (get_or-map is_blank (replicate (slots_of s) Blank) at Blank false
+          (rw (length-replicate {A = SlotUse} (slots_of s) Blank) lies_too)
           ∙ ap is_blank (get_or-replicate {A = SlotUse} (slots_of s) at Blank Blank lies_too)));
       size = refl;
     });

@@ -22,13 +22,17 @@ use Rattle.tx_engine.proofs.OfSettle.SettleExits.{rises_unread}
 -- the flash was only read before
 module _ (a b c : FlashState) (carries : Carries a b false) (moves : FlashMoves a b false) (block : ℕ) where
   pub retired_after : moment_of b ≡ moment_of a → (n m : IndexState) (t v : BlocksState) → m ≡ n → v ≡ t →
-      RetiresAfter b c (retiring_first m b.image v.spare block) block → RetiresAfter a c (retiring_first n a.image t.spare block) block
+      RetiresAfter b c (retiring_first m b.image v.spare block) block →
+      RetiresAfter a c (retiring_first n a.image t.spare block) block
   retired_after moment n m t v noted table r = record {
     between = r.between;
-    does = subst (λ (k : IndexState). Does a.shape (moment_of a) (retiring_first k a.image t.spare block) (moment_of r.between)) noted
-        (subst (λ (k : BlocksState). Does a.shape (moment_of a) (retiring_first m a.image k.spare block) (moment_of r.between)) table
+    does = subst (λ (k : IndexState). Does a.shape (moment_of a) (retiring_first k a.image t.spare block)
+        (moment_of r.between)) noted
+        (subst (λ (k : BlocksState). Does a.shape (moment_of a) (retiring_first m a.image k.spare block)
+        (moment_of r.between)) table
         (subst (λ (q : Moment). Does a.shape q (retiring_first m q.image v.spare block) (moment_of r.between)) moment
-        (subst (λ (sh : Shape). Does sh (moment_of b) (retiring_first m b.image v.spare block) (moment_of r.between)) carries.shape r.does)));
+        (subst (λ (sh : Shape). Does sh (moment_of b) (retiring_first m b.image v.spare block) (moment_of r.between))
+        carries.shape r.does)));
     carries = Carries-then a b r.between false carries r.carries;
     replaced = r.replaced;
   }
@@ -44,7 +48,8 @@ module _ (a b c : FlashState) (carries : Carries a b false) (moves : FlashMoves 
   })
 
 -- how retiring a block breaks off, as it is told of the flash
-pub retiring_broke : (n : IndexState) (old new : FlashState) (spare block : ℕ) (n' : IndexState) (u : Unsure) → RetiringBreaks n old new spare block n' u →
+pub retiring_broke : (n : IndexState) (old new : FlashState) (spare block : ℕ) (n' : IndexState) (u : Unsure) →
+    RetiringBreaks n old new spare block n' u →
     RetiresNone old new ⊎ RetiresTorn old new block
 retiring_broke n old new spare block n' u breaks = elim (cases_eq block spare) [
   | inl same ↦ inr (record {
@@ -64,18 +69,22 @@ retiring_broke n old new spare block n' u breaks = elim (cases_eq block spare) [
     ends (unsure.VictimErase b) e = inr e
 
 -- the block is all blank then
-pub retired_blank : (old new : FlashState) (n : IndexState) (first : List Operation) (block : ℕ) → IsFlash old → old.shape ≡ shape_of n.config →
-    block < blocks_of old.shape → RetiresAfter old new first block → AllOfBlock n block (λ slot. slot_at new.image slot ≡ blank)
+pub retired_blank : (old new : FlashState) (n : IndexState) (first : List Operation) (block : ℕ) → IsFlash old →
+    old.shape ≡ shape_of n.config →
+    block < blocks_of old.shape → RetiresAfter old new first block →
+    AllOfBlock n block (λ slot. slot_at new.image slot ≡ blank)
 retired_blank old new n first block flash shape below r slot within here =
     let mid = r.between in
     let same : mid.shape ≡ old.shape = r.carries.shape in
     let image : IsImage mid.shape mid.image = subst (λ sh. IsImage sh mid.image) (sym same)
     (IsImage-does old.shape (moment_of old) (moment_of mid) first flash r.does) in
-    let per : mid.shape.pages_per_block ≡ n.config.pages_per_block = ap (λ (x : Shape). x.pages_per_block) (same ∙ shape) in
+    let per : mid.shape.pages_per_block ≡ n.config.pages_per_block =
+    ap (λ (x : Shape). x.pages_per_block) (same ∙ shape) in
     let some : 0 < mid.shape.pages_per_block = (let b = image.bounds.pages_least in omega arith) in
     let place = inside_block mid.shape.pages_per_block block slot some (ap (λ k. slot / k) per ∙ here) in
     ap (λ i. slot_at i slot) r.replaced.image
-    ∙ slot_at-with_block_in mid.shape mid.image image block (omega (arith, below, ap blocks_of same)) blank slot place.0 place.1
+    ∙ slot_at-with_block_in mid.shape mid.image image block (omega (arith, below, ap blocks_of same)) blank slot
+    place.0 place.1
 
 -- a refusal is none of a fault
 module _ (shape : Shape) (extras : Option Extras) (block : ℕ) where
@@ -95,7 +104,8 @@ module _ (shape : Shape) (extras : Option Extras) (block : ℕ) where
       by false e = cc
 
 -- so a refusal leaves all as it was
-pub refused_exits : {F : Type 0} (state : F → FlashState) (s : DeviceState F) (shape : Shape) (extras : Option Extras) (block : ℕ) (e : RetireError) →
+pub refused_exits : {F : Type 0} (state : F → FlashState) (s : DeviceState F) (shape : Shape) (extras : Option Extras)
+    (block : ℕ) (e : RetireError) →
     s.dropped ≡ false → retire_refusal shape extras block ≡ Some e → RetireExits state s s block (Err e)
 refused_exits state s shape extras block e kept is = record {
   tables = record {
@@ -120,7 +130,8 @@ refused_exits state s shape extras block e kept is = record {
     no_cause (failed.Worn allowance) is = refl
     no_cause failed.Fault is = absurd (no_fault shape extras block is)
 
-pub refused : {F : Type 0} (state : F → FlashState) (s : DeviceState F) (block : ℕ) (e : RetireError) → s.dropped ≡ false →
+pub refused : {F : Type 0} (state : F → FlashState) (s : DeviceState F) (block : ℕ) (e : RetireError) →
+    s.dropped ≡ false →
     retire_refusal (state s.flash).shape (state s.flash).extras block ≡ Some e → RetiresDevice state s s block (Err e)
 refused state s block failed.Range kept is = record {
   refusal = subst (λ (r : Option RetireError). AnswersRetire r s s (Err failed.Range)) (sym is) (refl, refl);
@@ -145,10 +156,13 @@ refused state s block (failed.Worn allowance) kept is = record {
 refused state s block failed.Fault kept is = absurd (no_fault (state s.flash).shape (state s.flash).extras block is)
 
 -- The tables are those that were known once the place was read.
-module _ {F : Type 0} (state : F → FlashState) (S T U : StoreState F) (O P : OpenTransactionsState) (p : Protocol) (block : ℕ)
-    (shape : (state T.flash).shape ≡ (state S.flash).shape) (moment : moment_of (state T.flash) ≡ moment_of (state S.flash))
+module _ {F : Type 0} (state : F → FlashState) (S T U : StoreState F) (O P : OpenTransactionsState)
+    (p : Protocol) (block : ℕ)
+    (shape : (state T.flash).shape ≡ (state S.flash).shape)
+    (moment : moment_of (state T.flash) ≡ moment_of (state S.flash))
     (reads : (state T.flash).reads ≡ reads_after (slots_read S.noted S.unsure) (state S.flash).reads)
-    (noted : T.noted ≡ (settlement_of state (device_in state S O)).noted) (table : T.table ≡ (settlement_of state (device_in state S O)).table) where
+    (noted : T.noted ≡ (settlement_of state (device_in state S O)).noted)
+    (table : T.table ≡ (settlement_of state (device_in state S O)).table) where
   abbrev found : Settlement
   found = settlement_of state (device_in state S O)
 
@@ -157,14 +171,16 @@ module _ {F : Type 0} (state : F → FlashState) (S T U : StoreState F) (O P : O
   retired_known r = record {
     treated = subst (λ (n : IndexState). IsEvicted n found.table block U.noted U.table) noted
         (subst (λ (t : BlocksState). IsEvicted T.noted t block U.noted U.table) table r.noted);
-    reads = subst (λ (n : IndexState). (state U.flash).reads ≡ reads_after (length (moved_slots n found.table.spare block))
+    reads = subst (λ (n : IndexState). (state U.flash).reads
+        ≡ reads_after (length (moved_slots n found.table.spare block))
         (reads_after (slots_read S.noted S.unsure) (state S.flash).reads)) noted
         (subst (λ (t : BlocksState). (state U.flash).reads ≡ reads_after (length (moved_slots T.noted t.spare block))
         (reads_after (slots_read S.noted S.unsure) (state S.flash).reads)) table
         (r.reads ∙ ap (reads_after (length (moved_slots T.noted T.table.spare block))) reads));
   }
 
-  pub retiring_fails : (x : Broken) → RetiresBlock p (store_in state T) (store_in state U) block (Err x) → Preserves T.noted U.noted →
+  pub retiring_fails : (x : Broken) → RetiresBlock p (store_in state T) (store_in state U) block (Err x) →
+      Preserves T.noted U.noted →
       RetiringFails state (device_in state S O) (device_in state U P) block
   retiring_fails x r kept = record {
     breaks = broke_then state S T O shape moment reads noted table

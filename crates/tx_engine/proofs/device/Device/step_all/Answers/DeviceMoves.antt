@@ -24,14 +24,20 @@ err_of b = Err b
 same_answer : (a b : Moved) → ok_of a ≡ ok_of b → a ≡ b
 same_answer a b is = cc
 
-module _ {F : Type 0} (state : F → FlashState) (p : Protocol) (S S1 S2 : StoreState F) (O O1 O2 : OpenTransactionsState) (u : Unit {0})
-    (stands : Stands state (device_in state S O)) (rule : S.noted.config.protocol ≡ p) (st : SettlesDevice state S S1 O O1 (Ok u))
+module _ {F : Type 0} (state : F → FlashState) (p : Protocol) (S S1 S2 : StoreState F) (O O1 O2 : OpenTransactionsState)
+    (u : Unit {0})
+    (stands : Stands state (device_in state S O)) (rule : S.noted.config.protocol ≡ p)
+    (st : SettlesDevice state S S1 O O1 (Ok u))
     (size : O1.page_bytes ≡ S1.noted.config.page_bytes) where
   abbrev old : DeviceState F
   old = device_in state S O
 
   ready : IsReady state p S1 O1
-  ready = record { stands = st.stands; rule = ap (λ (c : Config). c.protocol) st.exits.tables.config ∙ rule; sure = st.settles.sure }
+  ready = record {
+    stands = st.stands;
+    rule = ap (λ (c : Config). c.protocol) st.exits.tables.config ∙ rule;
+    sure = st.settles.sure;
+  }
 
   -- what is known of it where it went on
   pub record Moves (answer : Moved) : Type 0 where
@@ -39,7 +45,8 @@ module _ {F : Type 0} (state : F → FlashState) (p : Protocol) (S S1 S2 : Store
     pub still : Stands state (device_in state S2 O2)
     pub limits : HasLimitsOf O1 O2
 
-  by_first : (answer : Moved) (its : Result Progress Broken) → ok_of answer ≡ moved_by its → AdvancesTo state S1 S2 O1 O2 0 its → 0 < length O1.all →
+  by_first : (answer : Moved) (its : Result Progress Broken) → ok_of answer ≡ moved_by its →
+      AdvancesTo state S1 S2 O1 O2 0 its → 0 < length O1.all →
       chosen_now S1 O1 ≡ [] → Moves answer
   by_first answer (Err b) is adv any none = cc
   by_first answer (Ok progress) is adv any none =
@@ -66,13 +73,16 @@ module _ {F : Type 0} (state : F → FlashState) (p : Protocol) (S S1 S2 : Store
       | inr chosen ↦ (
           let its = h.chosen some chosen in
           let any = some_chosen S1.noted (chosen_now S1 O1) chosen in
-          let can : CanWriteAll state p S1 O1 (jobs_of S1.noted (chosen_now S1 O1)) = chosen_can state p S1 O1 ready size any in
+          let can : CanWriteAll state p S1 O1 (jobs_of S1.noted (chosen_now S1 O1)) =
+          chosen_can state p S1 O1 ready size any in
           record {
-            moves = moves_chosen state S S1 its.between S2 O O1 its.opens O2 u answer (length (chosen_now S1 O1)) stands st size any
+            moves = moves_chosen state S S1 its.between S2 O O1 its.opens O2 u answer (length (chosen_now S1 O1))
+                stands st size any
                 (are_due S1.noted S1.table O1 (jobs_of S1.noted (chosen_now S1 O1)) can.due) its.moved.0 its.moved.1
                 (sym (length-map (chosen_now S1 O1) _));
             still = its.moved.1.stands;
-            limits = limits_then O1 its.opens O2 (subst (HasLimitsOf O1) (sym its.moved.0.opens) (nexts_limits (jobs_of S1.noted (chosen_now S1 O1)) 0 O1))
+            limits = limits_then O1 its.opens O2 (subst (HasLimitsOf O1) (sym its.moved.0.opens)
+                (nexts_limits (jobs_of S1.noted (chosen_now S1 O1)) 0 O1))
                 its.moved.1.limits;
           })
     ]
@@ -83,7 +93,8 @@ module _ {F : Type 0} (state : F → FlashState) (p : Protocol) (S S1 S2 : Store
     pub drops : DropsDevice state old (record (device_in state S2 O2) { dropped = true })
     pub limits : HasLimitsOf O1 O2
 
-  drop_first : (b : Broken) (its : Result Progress Broken) → err_of b ≡ moved_by its → AdvancesTo state S1 S2 O1 O2 0 its → 0 < length O1.all →
+  drop_first : (b : Broken) (its : Result Progress Broken) → err_of b ≡ moved_by its →
+      AdvancesTo state S1 S2 O1 O2 0 its → 0 < length O1.all →
       chosen_now S1 O1 ≡ [] → DevicesStand state p → CutsLeave state p → Drops
   drop_first b (Ok progress) is adv any none devices cuts = cc
   drop_first b (Err x) is adv any none devices cuts = record {
@@ -95,12 +106,14 @@ module _ {F : Type 0} (state : F → FlashState) (p : Protocol) (S S1 S2 : Store
   all_dropped b devices cuts h = elim (cases_nil O1.all) [
     | inl none ↦ absurd (let no_answer = (h.none none).0 in cc)
     | inr some ↦ elim (cases_nil (chosen_now S1 O1)) [
-      | inl none ↦ (let its = h.first some none in drop_first b its.its its.answer its.advances its.some none devices cuts)
+      | inl none ↦ (let its = h.first some none in drop_first b its.its its.answer its.advances its.some
+          none devices cuts)
       | inr chosen ↦ (
           let its = h.chosen some chosen in
           record {
             drops = drops_fired state S S1 S2 O O1 O2 u st size its.broken;
-            limits = subst (HasLimitsOf O1) (sym its.kept) (record { page_bytes = refl; logical = refl; pending = refl });
+            limits = subst (HasLimitsOf O1) (sym its.kept)
+                (record { page_bytes = refl; logical = refl; pending = refl });
           })
     ]
   ]

@@ -20,9 +20,11 @@ found_none at Blank e = refl
 found_none at Damaged e = refl
 found_none at (Holds r) e = absurd (none-some r (sym e))
 
-module _ (notes : List Note) (at : ℕ) (within : at < length notes) (items : List Found) (so_far : items ≡ found_in (take at notes)) where
+module _ (notes : List Note) (at : ℕ) (within : at < length notes) (items : List Found)
+    (so_far : items ≡ found_in (take at notes)) where
   -- a slot with a record
-  pub with_record : (rec : Rec) → rec_of (note_at notes at) ≡ Some rec → items ++ found at rec ∷ [] ≡ found_in (take (at + 1) notes)
+  pub with_record : (rec : Rec) → rec_of (note_at notes at) ≡ Some rec →
+      items ++ found at rec ∷ [] ≡ found_in (take (at + 1) notes)
   with_record rec holds =
       ap (λ l. l ++ found at rec ∷ []) so_far
       ∙ ap (λ o. found_in (take at notes) ++ cons_option o []) (sym (found_some at (note_at notes at) rec holds))

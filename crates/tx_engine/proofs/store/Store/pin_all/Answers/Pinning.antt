@@ -14,15 +14,18 @@ use Rattle.collector.specs.declared.unsure.Unsure.TheVariants as unsure
 use Rattle.collector.specs.Matches.{IsPlace, IsFilledBy, VictimIsSpared}
 
 -- the name that a pin gives
-pinned_name : (page version : ℕ) (name : Link) → pinned_at page version ≡ Some name → name ≡ record { page = page; version = version }
+pinned_name : (page version : ℕ) (name : Link) → pinned_at page version ≡ Some name →
+    name ≡ record { page = page; version = version }
 pinned_name page version name e = elim (cases_Bool (eqb version 0)) [
-  | inl none ↦ absurd (none-some name (sym (cond-true (eqb version 0) None (Some (record { page = page; version = version })) none) ∙ e))
+  | inl none ↦ absurd (none-some name
+      (sym (cond-true (eqb version 0) None (Some (record { page = page; version = version })) none) ∙ e))
   | inr some ↦ sym (same_Some (record { page = page; version = version }) name
       (sym (cond-false (eqb version 0) None (Some (record { page = page; version = version })) some) ∙ e))
 ]
 
 -- a pinned name was pinned before, or is that of the page
-pub pinned_before : (pins : List ℕ) (page version : ℕ) (name : Link) → Contains (pinned_names (set pins page version)) name →
+pub pinned_before : (pins : List ℕ) (page version : ℕ) (name : Link) →
+    Contains (pinned_names (set pins page version)) name →
     (name ≡ record { page = page; version = version }) ⊎ Contains (pinned_names pins) name
 pinned_before pins page version name pin =
     let h = given_from numbered_pin 0 (set pins page version) name pin in
@@ -40,7 +43,8 @@ pinned_before pins page version name pin =
 
 module _ (n : IndexState) (page version : ℕ) where
   -- no record has the name of the new pin, so what can be spared can be spared still
-  pub pinned_spared : is_present (found_in n.notes) (record { page = page; version = version }) ≡ false → (block : ℕ) → CanSpare n block →
+  pub pinned_spared : is_present (found_in n.notes) (record { page = page; version = version }) ≡ false → (block : ℕ) →
+      CanSpare n block →
       CanSpare (pinned n page version) block
   pinned_spared absent block spared =
       let p = n.config.protocol in
@@ -48,9 +52,11 @@ module _ (n : IndexState) (page version : ℕ) where
       let keep = is_outside (shape_of n.config) block in
       let stays : (f : Found) → Contains old f → is_wanted p old n.config.logical (pinned_names n.pins) f.rec ≡ true →
       is_present (left keep old) (name_of f.rec) ≡ true =
-      λ f i w. All-contains (λ f. is_wanted p old n.config.logical (pinned_names n.pins) f.rec ≡ true → is_present (left keep old) (name_of f.rec) ≡ true) old f
+      λ f i w. All-contains (λ f. is_wanted p old n.config.logical (pinned_names n.pins) f.rec ≡ true →
+      is_present (left keep old) (name_of f.rec) ≡ true) old f
       spared i w in
-      all_from (λ f. is_wanted p old n.config.logical (pinned_names (set n.pins page version)) f.rec ≡ true → is_present (left keep old) (name_of f.rec) ≡ true)
+      all_from (λ f. is_wanted p old n.config.logical (pinned_names (set n.pins page version)) f.rec ≡ true →
+      is_present (left keep old) (name_of f.rec) ≡ true)
       old
       (λ f i w. elim (wanted_cases p old n.config.logical (pinned_names (set n.pins page version)) f.rec w) [
         | inl current ↦ stays f i (counted_wanted p old n.config.logical (pinned_names n.pins) f.rec (inl current))
@@ -61,7 +67,8 @@ module _ (n : IndexState) (page version : ℕ) where
         ]
       ])
 
-  pinned_victim : is_present (found_in n.notes) (record { page = page; version = version }) ≡ false → (u : Unsure) → VictimIsSpared n u →
+  pinned_victim : is_present (found_in n.notes) (record { page = page; version = version }) ≡ false → (u : Unsure) →
+      VictimIsSpared n u →
       VictimIsSpared (pinned n page version) u
   pinned_victim absent unsure.Nothing v = tt
   pinned_victim absent (unsure.Own at rec) v = tt
@@ -83,18 +90,21 @@ module _ (n : IndexState) (page version : ℕ) where
     mentioned = k.mentioned;
   }
 
-  pinned_place : (image : List Contents) (t : BlocksState) (u : Unsure) → IsPlace image n t u → IsPlace image (pinned n page version) t u
+  pinned_place : (image : List Contents) (t : BlocksState) (u : Unsure) → IsPlace image n t u →
+      IsPlace image (pinned n page version) t u
   pinned_place image t unsure.Nothing place = tt
   pinned_place image t (unsure.Own at rec) place = place
   pinned_place image t (unsure.Copy from to) place = place
   pinned_place image t unsure.SpareErase place = place
-  pinned_place image t (unsure.VictimErase block) place = (place.0, place.1, place.2, (place.3.0, filled place.3.1), place.4)
+  pinned_place image t (unsure.VictimErase block) place =
+      (place.0, place.1, place.2, (place.3.0, filled place.3.1), place.4)
     where
       filled : IsFilledBy n t.spare place.3.0 → IsFilledBy (pinned n page version) t.spare place.3.0
       filled f = record { within = f.within; records = f.records; tail = f.tail }
 
   -- the tables match still
-  pub pinned_matches : is_present (found_in n.notes) (record { page = page; version = version }) ≡ false → (s : FlashState) (t : BlocksState) (u : Unsure) →
+  pub pinned_matches : is_present (found_in n.notes) (record { page = page; version = version }) ≡ false →
+      (s : FlashState) (t : BlocksState) (u : Unsure) →
       Matches s n t u → Matches s (pinned n page version) t u
   pinned_matches absent s t u m = record {
     shape = m.shape;

@@ -1,4 +1,4 @@
--- Tables that are filled with the records of a scan are judged as what was noted.
+-- Tables that are filled with the records of a scan have what is derived from the notes.
 use Rattle.version_index.proofs.Common.{◌≡◌, ℕ, ◌<◌, true, List, length, get_or, Bool, cond, Option, Some, None, refl, sym, ap, ◌∙◌, subst, inl, inr, arith, position, option_map, Contains-get_or, IsPermutation-sym, Contains-permutation, none-some, same_Some, cases_Option, find_stands, Config, Protocol, Scc, Bpcc, Link, Rec, shape_of, Found, name_of, has_name, is_present, nothing, cur, has_name_true, present_as, Sorts, TablesState, record_at, number_at, derived_by, number_by, AreFilled, name_at, answerer, is_waiting, answerer_of, waits_of, derived_of, found_in, IsNoted, current_of, AreDerived, named, awaited, notes_in, noted_by, numbered_of, AreHeld, AreIndexed}
 use Rattle.list_lemmas.proofs.Positions.{position_some}
 use Rattle.list_lemmas.proofs.Tests.{find-position}
@@ -23,10 +23,16 @@ module _ (protocol : Protocol) (its : Config) (m : List ℕ) (t : TablesState) (
   placed_record x r is =
       let j = h.numbered.some x r is in
       let whole = h.whole in
-      let low = j.1 in
-      (j.0, omega arith, j.2, same_Some (records.record_at list j.0) r (sym (h.numbered.each j.0 j.1) ∙ ap (record_at t.records) j.2 ∙ is))
+      let low = j.1 in (
+        j.0,
+        omega arith,
+        j.2,
+        same_Some (records.record_at list j.0) r (sym (h.numbered.each j.0 j.1)
+            ∙ ap (record_at t.records) j.2 ∙ is),
+      )
 
-  place_record : (j : ℕ) → j < length list → record_at t.records (get_or h.numbers j 0) ≡ Some (records.record_at list j)
+  place_record : (j : ℕ) → j < length list → record_at t.records (get_or h.numbers j 0)
+      ≡ Some (records.record_at list j)
   place_record j low = let whole = h.whole in h.numbered.each j (omega arith)
 
   filled_held : AreHeld t
@@ -37,7 +43,8 @@ module _ (protocol : Protocol) (its : Config) (m : List ℕ) (t : TablesState) (
     used = λ x r is. (
         let j = placed_record x r is in
         let f = get_or list j.0 nothing in
-        let in_l = Contains-permutation list l f (IsPermutation-sym l list sorts.records) (Contains-get_or list j.0 nothing j.1) in
+        let in_l = Contains-permutation list l f (IsPermutation-sym l list sorts.records)
+        (Contains-get_or list j.0 nothing j.1) in
         let y = held_number t f.slot.0 f.rec (noted_from (notes_in t) f in_l).1 in
         let same = h.numbered.once y.number x f.rec r y.is is (ap name_of j.3) in
         (f.slot.0, y.holds ∙ ap slot.Holds same));
@@ -71,7 +78,10 @@ module _ (protocol : Protocol) (its : Config) (m : List ℕ) (t : TablesState) (
     where
       by_protocol : (p : Protocol) → answerer p list its.logical r ≡ answerer p l its.logical r
       by_protocol Scc = refl
-      by_protocol Bpcc = rw (cur_alike l list sorts Bpcc its.logical r.page, responsible_alike l list sorts Bpcc its.logical r.next) refl
+      by_protocol Bpcc = rw (
+        cur_alike l list sorts Bpcc its.logical r.page,
+        responsible_alike l list sorts Bpcc its.logical r.next,
+      ) refl
 
   same_waits : (r : Rec) → is_waiting its.protocol list its.logical r ≡ waits_of (noted_by its m t) r
   unfolding waits_of
@@ -79,7 +89,10 @@ module _ (protocol : Protocol) (its : Config) (m : List ℕ) (t : TablesState) (
     where
       by_protocol : (p : Protocol) → is_waiting p list its.logical r ≡ is_waiting p l its.logical r
       by_protocol Scc = rw (cur_alike l list sorts Scc its.logical r.page) refl
-      by_protocol Bpcc = rw (cur_alike l list sorts Bpcc its.logical r.page, cur_alike l list sorts Bpcc its.logical r.next.page) refl
+      by_protocol Bpcc = rw (
+        cur_alike l list sorts Bpcc its.logical r.page,
+        cur_alike l list sorts Bpcc its.logical r.next.page,
+      ) refl
 
   same_current : (page : ℕ) → cur its.protocol list its.logical page ≡ current_of (noted_by its m t) page
   unfolding current_of
@@ -97,7 +110,8 @@ module _ (protocol : Protocol) (its : Config) (m : List ℕ) (t : TablesState) (
             let is = name_at_is page (cur its.protocol list its.logical page) u e in
             present_alike l list sorts u ∙ (elim (noted_present protocol n noted page) [
               | inl none ↦ (let some = is.0 in absurd (omega arith))
-              | inr here ↦ subst (λ v. is_present l v ≡ true) (ap (λ v. record { page = page; version = v }) (sym version) ∙ sym is.1) here
+              | inr here ↦ subst (λ v. is_present l v ≡ true)
+                  (ap (λ v. record { page = page; version = v }) (sym version) ∙ sym is.1) here
             ])))
             ∙ ap (λ v. option_map Some (name_at page v)) version);
         answerers = λ x r is. (
@@ -118,4 +132,10 @@ module _ (protocol : Protocol) (its : Config) (m : List ℕ) (t : TablesState) (
 
   -- the tables have what was noted
   pub filled_indexed : AreIndexed protocol its m t
-  filled_indexed = record { noted = noted; shape = h.shape; pages = h.pages; held = filled_held; judged = filled_derived }
+  filled_indexed = record {
+    noted = noted;
+    shape = h.shape;
+    pages = h.pages;
+    held = filled_held;
+    judged = filled_derived;
+  }

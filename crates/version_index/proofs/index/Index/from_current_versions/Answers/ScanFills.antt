@@ -5,7 +5,8 @@ use Rattle.slot_tables.specs.TablesState.{blank_tables}
 use Rattle.version_index.specs.Scanned.{AreScanned, CanFill}
 use Rattle.version_index.proofs.index.Index.from_current_versions.Answers.ScanSizes.{sorted_agree}
 
-pub can_fill : (protocol : Protocol) (its : Config) (shape : Shape) (scanned : List Seen) (list : List Found) (judged : standing.CurrentVersionsState)
+pub can_fill : (protocol : Protocol) (its : Config) (shape : Shape) (scanned : List Seen) (list : List Found)
+    (judged : standing.CurrentVersionsState)
     → shape ≡ shape_of its → AreScanned protocol its scanned list judged
     → CanFill its.logical scanned list judged.list (blank_tables shape its.logical)
 can_fill protocol its shape scanned list judged same scan =

@@ -16,7 +16,8 @@ given_length of n (x ∷ xs) =
 pub complete_length : (all : List Seen) → length (complete_slots all) ≤ length all
 complete_length all = given_length numbered_complete 0 all
 
-module _ (protocol : Protocol) (list sorted : List Found) (logical : ℕ) (sound : IsSoundList protocol list logical) (scanned : IsScanned list)
+module _ (protocol : Protocol) (list sorted : List Found) (logical : ℕ) (sound : IsSoundList protocol list logical)
+    (scanned : IsScanned list)
     (sorts : Sorts list sorted) where
   from_sorted : (f : Found) → Contains sorted f → Contains list f
   from_sorted f i = Contains-permutation sorted list f (IsPermutation-sym list sorted sorts.records) i
@@ -27,4 +28,5 @@ module _ (protocol : Protocol) (list sorted : List Found) (logical : ℕ) (sound
       m.copies f (from_sorted f i) ∙ ap (record_named list) same ∙ sym (m.copies g (from_sorted g j))
 
   pub sorted_exist : All (PagesExist logical) sorted
-  sorted_exist = all_from (PagesExist logical) sorted (λ f i. All-contains (PagesExist logical) list f (sound Pages) (from_sorted f i))
+  sorted_exist = all_from (PagesExist logical) sorted (λ f i. All-contains (PagesExist logical) list f (sound Pages)
+      (from_sorted f i))

@@ -20,7 +20,8 @@ use Rattle.version_index.proofs.OfProgram.PartialWrites.{next_newest, next_newly
 use Rattle.version_index.proofs.OfCommit.RoundSteps.{round_by_index}
 use Rattle.version_index.proofs.OfChanges.WholeDerived.{derived_still}
 
-module _ (protocol : Protocol) (its : Config) (m : List ℕ) (k : TablesState) (i : AreIndexed protocol its m k) (sizes : IsTablesState k)
+module _ (protocol : Protocol) (its : Config) (m : List ℕ) (k : TablesState) (i : AreIndexed protocol its m k)
+    (sizes : IsTablesState k)
     (at : ℕ) (rec : Rec) (exists : at < slots_of (shape_of its)) (was : note_at (notes_in k) at ≡ note.Blank)
     (next : IsNextRecord (noted_by its m k) rec) where
   abbrev n : IndexState
@@ -35,7 +36,8 @@ module _ (protocol : Protocol) (its : Config) (m : List ℕ) (k : TablesState) (
   pub its_newest : IsNewest k.records rec
   its_newest x r is of_page =
       let f = kept_found k i.held x r is in
-      let bound = newest_bound (found_in (notes_in k)) (name_of r) (present_in (found_in (notes_in k)) (found f.0 r) f.2) in
+      let bound = newest_bound (found_in (notes_in k)) (name_of r)
+      (present_in (found_in (notes_in k)) (found f.0 r) f.2) in
       let least = next_newest protocol n i.noted rec next in
       let same = ap (newest (found_in (notes_in k))) of_page in
       omega arith
@@ -51,7 +53,10 @@ module _ (protocol : Protocol) (its : Config) (m : List ℕ) (k : TablesState) (
   module _ (x : ℕ) (free : record_at k.records x ≡ None) (low : x < slots_of k.shape) where
     -- the tables with the record
     abbrev pub with_record : TablesState
-    with_record = record (added k x rec) { slots = set k.slots at (slot.Holds x); waits = set k.waits x (Some rec.next.page) }
+    with_record = record (added k x rec) {
+      slots = set k.slots at (slot.Holds x);
+      waits = set k.waits x (Some rec.next.page);
+    }
 
     in_records : x < length k.records
     in_records = let r = sizes.records in omega arith
@@ -72,7 +77,8 @@ module _ (protocol : Protocol) (its : Config) (m : List ℕ) (k : TablesState) (
         get_or-map (note_in with_record.records) k.slots a slot.Blank ∙ of_use a (use_at k.slots a) refl
         ∙ sym (get_or-map (note_in k.records) k.slots a slot.Blank))
       where
-        of_use : (a : ℕ) (u : SlotUse) → use_at k.slots a ≡ u → note_in with_record.records (use_at k.slots a) ≡ note_in k.records (use_at k.slots a)
+        of_use : (a : ℕ) (u : SlotUse) → use_at k.slots a ≡ u → note_in with_record.records (use_at k.slots a)
+            ≡ note_in k.records (use_at k.slots a)
         of_use a slot.Blank e = ap (note_in with_record.records) e ∙ sym (ap (note_in k.records) e)
         of_use a slot.Damaged e = ap (note_in with_record.records) e ∙ sym (ap (note_in k.records) e)
         of_use a (slot.Holds y) e =
@@ -92,7 +98,8 @@ module _ (protocol : Protocol) (its : Config) (m : List ℕ) (k : TablesState) (
     programmed_held = record {
       held = λ a y e. elim (cases_eq a at) [
         | inl here ↦ (
-            let same = sym (get_or-set_same k.slots at (slot.Holds x) slot.Blank within) ∙ ap (use_at with_record.slots) (sym here) ∙ e in
+            let same = sym (get_or-set_same k.slots at (slot.Holds x) slot.Blank within)
+            ∙ ap (use_at with_record.slots) (sym here) ∙ e in
             let y_is : x ≡ y = same_number x y same in
             (rec, ap (record_at with_record.records) (sym y_is) ∙ its_own))
         | inr off ↦ (
@@ -110,10 +117,12 @@ module _ (protocol : Protocol) (its : Config) (m : List ℕ) (k : TablesState) (
       once = λ y z r s is_y is_z e. elim (cases_eq y x) [
         | inl y_here ↦ elim (cases_eq z x) [
           | inl z_here ↦ y_here ∙ sym z_here
-          | inr z_off ↦ absurd (newer z s z_off is_z (sym e ∙ ap name_of (same_Some r rec (sym is_y ∙ ap (record_at with_record.records) y_here ∙ its_own))))
+          | inr z_off ↦ absurd (newer z s z_off is_z (sym e
+              ∙ ap name_of (same_Some r rec (sym is_y ∙ ap (record_at with_record.records) y_here ∙ its_own))))
         ]
         | inr y_off ↦ elim (cases_eq z x) [
-          | inl z_here ↦ absurd (newer y r y_off is_y (e ∙ ap name_of (same_Some s rec (sym is_z ∙ ap (record_at with_record.records) z_here ∙ its_own))))
+          | inl z_here ↦ absurd (newer y r y_off is_y (e
+              ∙ ap name_of (same_Some s rec (sym is_z ∙ ap (record_at with_record.records) z_here ∙ its_own))))
           | inr z_off ↦ i.held.once y z r s (sym (others y y_off) ∙ is_y) (sym (others z z_off) ∙ is_z) e
         ]
       ];
@@ -137,7 +146,8 @@ module _ (protocol : Protocol) (its : Config) (m : List ℕ) (k : TablesState) (
         let loose = next_newly_loose protocol n i.noted rec next in
         let unused = i.held.unused x free in
         let w = sizes.waits in
-        added_derived (numbered_of k) (numbered_of with_record) its.logical (derived_of n) x rec i.judged loose.answerer loose.waits (record {
+        added_derived (numbered_of k) (numbered_of with_record) its.logical (derived_of n) x rec i.judged loose.answerer
+        loose.waits (record {
           free = free;
           own = its_own;
           others = others;
@@ -150,7 +160,8 @@ module _ (protocol : Protocol) (its : Config) (m : List ℕ) (k : TablesState) (
 
     module _ (partial : PartialWriteLaw protocol) (completing : CompletingWriteLaw protocol) where
       its_noted : IsNoted protocol (noted_by its (raised rec m) with_record)
-      its_noted = subst (IsNoted protocol) (sym programmed_is) (programmed_noted protocol n i.noted partial completing at rec exists was next)
+      its_noted = subst (IsNoted protocol) (sym programmed_is)
+          (programmed_noted protocol n i.noted partial completing at rec exists was next)
 
       pub may_complete : MayComplete protocol its (raised rec m) with_record rec
       may_complete = record { noted = its_noted; held = programmed_held; own = (x, its_own) }
@@ -158,51 +169,62 @@ module _ (protocol : Protocol) (its : Config) (m : List ℕ) (k : TablesState) (
       pub with_links : LinksExist with_record
       with_links y r is =
           let f = kept_found with_record programmed_held y r is in
-          let pages = All-contains (PagesExist its.logical) (found_in (notes_in with_record)) (found f.0 r) (its_noted.sound Pages) f.2 in
+          let pages = All-contains (PagesExist its.logical) (found_in (notes_in with_record)) (found f.0 r)
+          (its_noted.sound Pages) f.2 in
           let link = pages.1 in
           let long = length-set k.pages rec.page (x ∷ numbers_at k.pages rec.page) in
           let logical = i.pages in
           omega arith
 
       -- where the cycle is left open
-      pub open_indexed : completes (noted_by its (raised rec m) with_record) rec ≡ false → AreIndexed protocol its (raised rec m) with_record
+      pub open_indexed : completes (noted_by its (raised rec m) with_record) rec ≡ false →
+          AreIndexed protocol its (raised rec m) with_record
       open_indexed left = record {
         noted = its_noted;
         shape = i.shape;
         pages = length-set k.pages rec.page (x ∷ numbers_at k.pages rec.page) ∙ i.pages;
         held = programmed_held;
-        judged = derived_as (numbered_of with_record) (noted_by its (raised rec m) with_record) (derived_of n) programmed_derived
+        judged = derived_as (numbered_of with_record) (noted_by its (raised rec m) with_record) (derived_of n)
+            programmed_derived
             (subst (λ v. IsDerivedAs v (derived_of n)) (sym programmed_is) (derived_still n (programmed n at rec) refl
-            (open_write_law protocol partial n at rec next i.noted exists was (sym (ap (λ v. completes v rec) programmed_is) ∙ left)).nothing_moves))
+            (open_write_law protocol partial n at rec next i.noted exists was
+            (sym (ap (λ v. completes v rec) programmed_is) ∙ left)).nothing_moves))
             (kept_noted with_record programmed_held);
       }
 
-      pub whole_is : (new : TablesState) → OnlyDerives with_record new → noted_by its (raised rec m) new ≡ programmed n at rec
+      pub whole_is : (new : TablesState) → OnlyDerives with_record new →
+          noted_by its (raised rec m) new ≡ programmed n at rec
       whole_is new judges = ap (noted_by its (raised rec m)) judges.rest ∙ programmed_is
 
       -- where the cycle is whole
-      module _ (sizes' : IsTablesState with_record) (closed : completes (noted_by its (raised rec m) with_record) rec ≡ true) where
+      module _ (sizes' : IsTablesState with_record)
+          (closed : completes (noted_by its (raised rec m) with_record) rec ≡ true) where
         comp : IsCompleted n (programmed n at rec) next.names rec
-        comp = whole_write_law protocol completing n at rec next i.noted exists was (sym (ap (λ v. completes v rec) programmed_is) ∙ closed)
+        comp = whole_write_law protocol completing n at rec next i.noted exists was
+            (sym (ap (λ v. completes v rec) programmed_is) ∙ closed)
 
         top_at : (a b : Link) → is_present (found_in (programmed n at rec).notes) a ≡ true →
-            newest (found_in (programmed n at rec).notes) a.page ≡ a.version → link_of (found_in (programmed n at rec).notes) a ≡ b →
+            newest (found_in (programmed n at rec).notes) a.page ≡ a.version →
+            link_of (found_in (programmed n at rec).notes) a ≡ b →
             IsTop with_record a b
         top_at a b present top link =
             let l = found_in (notes_in with_record) in
-            let same : l ≡ found_in (programmed n at rec).notes = ap (λ (v : IndexState). found_in v.notes) programmed_is in
+            let same : l ≡ found_in (programmed n at rec).notes =
+            ap (λ (v : IndexState). found_in v.notes) programmed_is in
             let f = found_named (found_in (programmed n at rec).notes) a present in
             let f_in = subst (λ q. Contains q f.0) (sym same) f.1 in
             let y = found_number with_record programmed_held f.0 f_in in
             elim (cases_Option (newest_at with_record a.page)) [
-              | inl none ↦ absurd (no_number with_record sizes'.versions a.page none y.number f.0.rec y.is (ap (λ (u : Link). u.page) f.2))
+              | inl none ↦ absurd (no_number with_record sizes'.versions a.page none y.number f.0.rec y.is
+                  (ap (λ (u : Link). u.page) f.2))
               | inr z ↦ (
                   let head = newest_number with_record programmed_held sizes'.versions a.page z.0 z.1 in
                   let version : head.rec.version ≡ a.version = sym head.top ∙ ap (λ q. newest q a.page) same ∙ top in
                   let name = same_name (name_of head.rec) a head.own_page version in
                   let z_is = programmed_held.once z.0 y.number head.rec f.0.rec head.is y.is (name ∙ sym f.2) in
                   let one = same_Some head.rec f.0.rec (sym head.is ∙ ap (record_at with_record.records) z_is ∙ y.is) in
-                  let versions = All-contains (λ g. (1 ≤ g.rec.version) × (1 ≤ g.rec.next.version)) l f.0 its_noted.scanned.versions f_in in
+                  let versions = All-contains (λ g. (1 ≤ g.rec.version) × (1 ≤ g.rec.next.version)) l f.0
+                  its_noted.scanned.versions f_in in
                   let equal = ap (λ (u : Rec). u.version) one in
                   let least = versions.0 in
                   record {
@@ -225,10 +247,12 @@ module _ (protocol : Protocol) (its : Config) (m : List ℕ) (k : TablesState) (
               some = omega arith;
               before = by.before;
               tops = λ j low'. (let top = by.top j low' in
-                  top_at (get_or comp.round j (name_of rec)) (get_or comp.round (j + 1) (name_of rec)) top.0 top.1 (by.link j low'));
+                  top_at (get_or comp.round j (name_of rec)) (get_or comp.round (j + 1) (name_of rec)) top.0 top.1
+                  (by.link j low'));
             }
 
-        pub whole_indexed : (new : TablesState) → OnlyDerives with_record new → DerivesWhole its.protocol with_record new (name_of rec) its.logical →
+        pub whole_indexed : (new : TablesState) → OnlyDerives with_record new →
+            DerivesWhole its.protocol with_record new (name_of rec) its.logical →
             AreIndexed protocol its (raised rec m) new
         whole_indexed new judges whole =
             let noted = noted_by its (raised rec m) in
@@ -237,7 +261,8 @@ module _ (protocol : Protocol) (its : Config) (m : List ℕ) (k : TablesState) (
             sym (length-set k.pages rec.page (x ∷ numbers_at k.pages rec.page) ∙ i.pages) in
             let j = once_whole its.protocol comp.round (derived_of n) in
             let rests : Rests (derived_of n) = λ r low'. (let both = rested n r low' in (both.answerer, both.waits)) in
-            let judged = whole its.logical (derived_of n) comp.round round_in comp.is_round.short logical rests programmed_derived in
+            let judged = whole its.logical (derived_of n) comp.round round_in comp.is_round.short logical rests
+            programmed_derived in
             let h = programmed_held in
             let held : AreHeld new = subst AreHeld (sym judges.rest) (record {
               held = h.held;
@@ -253,14 +278,18 @@ module _ (protocol : Protocol) (its : Config) (m : List ℕ) (k : TablesState) (
               shape = ap (λ (t : TablesState). t.shape) judges.rest ∙ i.shape;
               pages = ap (λ (t : TablesState). length t.pages) judges.rest ∙ sym logical;
               held = held;
-              judged = derived_as (numbered_of new) (noted new) j judged (subst (λ v. IsDerivedAs v j) (sym (same ∙ programmed_is)) comp.judged)
+              judged = derived_as (numbered_of new) (noted new) j judged
+                  (subst (λ v. IsDerivedAs v j) (sym (same ∙ programmed_is)) comp.judged)
                   (kept_noted new held);
             }
 
       pub decided_indexed : IsTablesState with_record → (new : TablesState) → OnlyDerives with_record new →
           CommitsIfComplete its.protocol with_record new rec its.logical → AreIndexed protocol its (raised rec m) new
-      decided_indexed sizes' new judges settled = elim (cases_Bool (completes (noted_by its (raised rec m) with_record) rec)) [
-        | inl closed ↦ whole_indexed sizes' closed new judges (settled.whole_cycle protocol its (raised rec m) may_complete refl closed)
-        | inr left ↦ subst (AreIndexed protocol its (raised rec m)) (sym (settled.open_cycle protocol its (raised rec m) may_complete refl left))
-            (open_indexed left)
-      ]
+      decided_indexed sizes' new judges settled =
+          elim (cases_Bool (completes (noted_by its (raised rec m) with_record) rec)) [
+            | inl closed ↦ whole_indexed sizes' closed new judges
+                (settled.whole_cycle protocol its (raised rec m) may_complete refl closed)
+            | inr left ↦ subst (AreIndexed protocol its (raised rec m))
+                (sym (settled.open_cycle protocol its (raised rec m) may_complete refl left))
+                (open_indexed left)
+          ]
