@@ -1,7 +1,8 @@
-use Rattle.scan_recovery.proofs.Common.{◌≡◌, ◌<◌, length, sym, ap, ◌∙◌, subst, arith, slots_of, slot_at}
+use Rattle.scan_recovery.proofs.Common.{◌≡◌, ◌<◌, ◌≤◌, ◌+◌, true, length, sym, ap, ◌∙◌, subst, arith, slots_of, slot_at}
 use Rattle.std.proofs.Common.{vec_capacity}
 use Rattle.scan_recovery.specs.Scans.{IsNote}
-use Rattle.scan_recovery.proofs.OfScan.ReadingSteps.{reads_nothing, reads_all_then}
+use Rattle.std.proofs.lemmas.Result.{err_from_is_err_and}
+use Rattle.scan_recovery.proofs.OfScan.ReadingSteps.{reads_nothing, reads_all_then, reads_some_then, reads_some_within}
 use Rattle.scan_recovery.proofs.OfScan.ComparedSteps.{as_before}
 use Rattle.scan_recovery.proofs.scan.scan_slots.Invariants.ScanSteps.{scan_first, found_note, found_unread}
 use Rattle.scan_recovery.proofs.scan.scan_slots.Goals as goal
@@ -63,3 +64,15 @@ loop-at-preserved g c =
         | in-None w ↦ ap vec_capacity w.list-is ∙ c.loop-at.invariant.list_room
       ];
     }
+
+pub returns-in_err-note-clause-reads : goal.returns-in_err-note-clause-reads
+returns-in_err-note-clause-reads g c =
+    let p = err_from_is_err_and c.from_residual.result c.from_residual.ensures.1 in
+    let a = g.F.Flash.state c.args.flash.now in
+    let b = g.F.Flash.state c.loop-at.flash in
+    let last = g.F.Flash.state c.read_note.new.flash in
+    let at = c.loop-at.at in
+    let slots : c.slots-slots.result ≡ slots_of a.shape = c.slots-slots.ensures ∙ ap slots_of c.shape.ensures.shape in
+    let within : at + 1 ≤ slots_of a.shape = omega (arith, slots, c.loop-at-test.true) in
+    rw (p.1, p.2) (reads_some_within a last true (at + 1) (slots_of a.shape)
+    (reads_some_then a b last at 1 true c.loop-at.invariant.reads c.in_err-note.ensures.reads) within)

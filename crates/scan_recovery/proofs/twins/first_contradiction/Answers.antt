@@ -2,6 +2,7 @@ mod LoneNames
 use Rattle.scan_recovery.proofs.Common.{ℕ, suc, length, ◌<◌, ◌*◌, ◌∙◌, All, true, get_or, cond, sym, subst, arith, false≢true, get_or_default, slots_of, Found, nothing, ReadsAll, ReadsSome, NextDiffers, AgreesWithLowest}
 use Rattle.std.proofs.lemmas.Result.{err_from_is_err_and}
 use Rattle.scan_recovery.proofs.twins.first_contradiction.Answers.LoneNames.{all_agree, none_read}
+use Rattle.scan_recovery.proofs.OfScan.ReadingSteps.{reads_nothing}
 use Rattle.scan_recovery.proofs.OfScan.ComparedSteps.{first_compared, as_before, agree_more, compared_next, compared_fault, compared_whole}
 use Rattle.scan_recovery.proofs.OfLaws.TwinsAlike.{compared_alike, agrees_alike, all_alike}
 use Rattle.scan_recovery.proofs.twins.first_contradiction.Goals as goal
@@ -20,6 +21,12 @@ returns-then-names_differ-clause-reads g c =
     (subst (λ l. (k : ℕ) → suc k < length l → NextDiffers l k) c.records.ensures.records
     (c.names_differ.ensures.0 c.if-names_differ.true))
     (g.F.Flash.state c.args.flash.now)
+
+pub loop-at-init : goal.loop-at-init
+loop-at-init g c = record {
+  reads = reads_nothing (g.F.Flash.state c.args.flash.now);
+  agree = λ k d none. absurd (omega arith);
+}
 
 pub agrees-requires-clause-exists : goal.agrees-requires-clause-exists
 agrees-requires-clause-exists g c =

@@ -11,5 +11,5 @@ returns-clause-always g c =
     (c.device_invariant.ensures.sound s stands rule)
     (c.device_invariant.ensures.array s stands rule)
     (c.device_invariant.ensures.records s stands rule) (c.device_invariant.ensures.mentions s stands rule)
-    (λ old there tag. c.cuts_leave.ensures.step old s there tag stands rule)
-    (λ old there. c.cuts_leave.ensures.settled old s there stands rule)
+    (λ old there tag. c.crash_states.ensures.step old s there tag stands rule)
+    (λ old there. c.crash_states.ensures.settled old s there stands rule)

@@ -25,7 +25,7 @@ open-requires g c =
     c.refusal.result
     c.self.invariant.logical c.self.invariant.pending c.refusal.ensures c.in_default.is in
     let unspent : spent_page (is_spent n.mentions) c.args.batch.now.entries ≡ None = sym c.spent_refusal.ensures
-    ∙ c.in_default-spent.is in
+    ∙ c.in_default-spent_refusal.is in
     subst (λ (m : IndexState). CanOpen t m c.args.batch.now) (sym c.index.ensures)
     (can_open n t c.args.tag c.args.batch.now c.self.invariant.page_bytes c.self.invariant.logical
     c.self.invariant.pending
@@ -53,7 +53,7 @@ pub pin_all-requires-clause-unspent : goal.pin_all-requires-clause-unspent
 pin_all-requires-clause-unspent g c =
     let n = c.self.inside.store.noted in
     let none : spent_page (is_spent n.mentions) c.args.batch.now.entries ≡ None = sym c.spent_refusal.ensures
-    ∙ c.in_default-spent.is in
+    ∙ c.in_default-spent_refusal.is in
     version_left n.mentions c.args.batch.now.entries none
 
 pub invariant_of-self : goal.invariant_of-self
@@ -64,7 +64,7 @@ invariant_of-self g c =
     c.refusal.result
     c.self.invariant.logical c.self.invariant.pending c.refusal.ensures c.in_default.is in
     let second : spent_page (is_spent n.mentions) c.args.batch.now.entries ≡ None = sym c.spent_refusal.ensures
-    ∙ c.in_default-spent.is in
+    ∙ c.in_default-spent_refusal.is in
     let opens = c.open.ensures
     ∙ ap (λ (m : IndexState). record t { all = t.all ++ begun m c.args.tag c.args.batch.now.entries ∷ [] })
     c.index.ensures in
@@ -83,7 +83,7 @@ returns g c =
     c.refusal.result
     c.self.invariant.logical c.self.invariant.pending c.refusal.ensures c.in_default.is in
     let second : spent_page (is_spent n.mentions) c.args.batch.now.entries ≡ None = sym c.spent_refusal.ensures
-    ∙ c.in_default-spent.is in
+    ∙ c.in_default-spent_refusal.is in
     let opens = c.open.ensures
     ∙ ap (λ (m : IndexState). record t { all = t.all ++ begun m c.args.tag c.args.batch.now.entries ∷ [] })
     c.index.ensures in

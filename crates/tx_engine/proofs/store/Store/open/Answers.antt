@@ -1,4 +1,4 @@
-use Rattle.tx_engine.proofs.Common.{sym, ap, ◌∙◌, rules, subst, Shape, IsSoundImage, IndexState}
+use Rattle.tx_engine.proofs.Common.{sym, ap, ◌∙◌, rules, subst, Shape, IsSoundImage, IndexState, refl, arith, Carries-nothing}
 use Rattle.tx_engine.proofs.OfMount.Mounted.{opened_matches}
 use Rattle.tx_engine.proofs.store.Store.open.Goals as goal
 
@@ -35,3 +35,11 @@ returns-in-Ok-recover_tables g c =
       failed = tt;
       reads = tt;
     }
+
+pub returns-in_default : goal.returns-in_default
+returns-in_default g c = record {
+  opened = tt;
+  stored = tt;
+  failed = (refl, Carries-nothing (g.F.Flash.state c.args.flash));
+  reads = omega arith;
+}
