@@ -1,7 +1,7 @@
 #!/usr/bin/env python3
 """Refuses each allocation of the program in turn, and looks at the status and at the image.
 
-    allocations.py EXE [--room FOLDER]
+    allocations.py [EXE] [--room FOLDER]
 
 For each row of words the status must be 6, with the old image, or with the new one only where the saying was refused
 after the save. Where a page that was read is not kept it is 0, with the text and the image as ever. Then each is
@@ -16,7 +16,7 @@ from typing import Counter, List, NamedTuple, Optional, Tuple
 
 from image import DEFAULT
 from kills import read, write
-from program import Ended, Program
+from program import Ended, Program, found_program, program_argument
 
 HERE = os.path.dirname(os.path.abspath(__file__))
 IMAGE, COMMANDS, LONG, COUNT = "d.img", "c.txt", "long.txt", "count.txt"
@@ -137,10 +137,10 @@ def refuse_each(path: str, room: Optional[str]) -> int:
 
 def main() -> int:
     parser = argparse.ArgumentParser(description=__doc__, formatter_class=argparse.RawDescriptionHelpFormatter)
-    parser.add_argument("program")
+    program_argument(parser)
     parser.add_argument("--room")
     args = parser.parse_args()
-    return 1 if refuse_each(os.path.abspath(args.program), args.room) else 0
+    return 1 if refuse_each(found_program(args.program), args.room) else 0
 
 
 if __name__ == "__main__":

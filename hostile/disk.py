@@ -1,7 +1,7 @@
 #!/usr/bin/env python3
 """Fills the disk, takes rights and the output away, and looks at what each save left.
 
-    disk.py EXE
+    disk.py [EXE]
 
 A small tmpfs is mounted, so this is for the superuser; the runs without rights are those of the user 65534. After each
 run the image is the old one (status 5) or the new one (status 0), and no new file stands beside it. A file that is
@@ -17,7 +17,7 @@ from typing import Callable, List, NamedTuple, Optional
 
 from image import DEFAULT, blank_image, spell_image
 from kills import read, write
-from program import Ended, exit_code
+from program import Ended, exit_code, found_program, program_argument
 
 NOBODY = 65534
 # 64 slots of 4096 bytes: some 266 kB.
@@ -274,8 +274,8 @@ def try_disk(path: str) -> int:
 
 def main() -> int:
     parser = argparse.ArgumentParser(description=__doc__, formatter_class=argparse.RawDescriptionHelpFormatter)
-    parser.add_argument("program")
-    return 1 if try_disk(os.path.abspath(parser.parse_args().program)) else 0
+    program_argument(parser)
+    return 1 if try_disk(found_program(parser.parse_args().program)) else 0
 
 
 if __name__ == "__main__":

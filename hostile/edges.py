@@ -1,7 +1,7 @@
 #!/usr/bin/env python3
 """The edges of sizes and of files: a few fixed runs, compared like those of the sweep.
 
-    edges.py EXE [--room FOLDER]
+    edges.py [EXE] [--room FOLDER]
 
 Files of 134217728 bytes and one byte more, the largest devices, transactions of 2000 pages, names that are no files."""
 import argparse
@@ -14,7 +14,7 @@ from image import BPCC, HEADER, MAX_FILE, SCC, Config, Record, blank_image, comp
 from judge import Wrong, check_end, check_explain, check_run, check_said, check_try
 from kills import read as read_file, write
 from laws import read
-from program import Program
+from program import Program, found_program, program_argument
 
 IMAGE, COMMANDS = "d.img", "c.txt"
 # What is read here line by line or word by word has fewer bytes.
@@ -150,10 +150,10 @@ def try_edges(program: Program, room: Optional[str]) -> int:
 
 def main() -> int:
     parser = argparse.ArgumentParser(description=__doc__, formatter_class=argparse.RawDescriptionHelpFormatter)
-    parser.add_argument("program")
+    program_argument(parser)
     parser.add_argument("--room", default="/dev/shm" if os.path.isdir("/dev/shm") else None)
     args = parser.parse_args()
-    return 1 if try_edges(Program(os.path.abspath(args.program)), args.room) else 0
+    return 1 if try_edges(Program(found_program(args.program)), args.room) else 0
 
 
 if __name__ == "__main__":

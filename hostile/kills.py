@@ -1,7 +1,7 @@
 #!/usr/bin/env python3
 """Kills the program while it saves an image on real files, and looks at what each kill left.
 
-    kills.py EXE [--kills N] [--seed S] [--room FOLDER]
+    kills.py [EXE] [--kills N] [--seed S] [--room FOLDER]
 
 A kill counts only between the first byte of what is saved and the end of the run. By turns the run is given the image
 by its name, by a symbolic link from another folder, and as a file with two names, which is saved in place.
@@ -20,7 +20,7 @@ import tempfile
 import time
 from typing import Callable, Counter, List, NamedTuple, Optional, Set
 
-from program import Program, exit_code
+from program import Program, exit_code, found_program, program_argument
 
 # 1024 slots of 4096 bytes, so that an image has some 4 MB and a save takes some milliseconds. Each transaction goes
 # round eight of the dies, so the old image and the new one differ all over the file.
@@ -192,12 +192,12 @@ def kill_often(program: Program, kills: int, seed: int, room: Optional[str]) -> 
 
 def main() -> int:
     parser = argparse.ArgumentParser(description=__doc__, formatter_class=argparse.RawDescriptionHelpFormatter)
-    parser.add_argument("program")
+    program_argument(parser)
     parser.add_argument("--kills", type=int, default=200)
     parser.add_argument("--seed", type=int, default=1)
     parser.add_argument("--room")
     args = parser.parse_args()
-    return 1 if kill_often(Program(os.path.abspath(args.program)), args.kills, args.seed, args.room) else 0
+    return 1 if kill_often(Program(found_program(args.program)), args.kills, args.seed, args.room) else 0
 
 
 if __name__ == "__main__":

@@ -1,7 +1,7 @@
 #!/usr/bin/env python3
 """Starts two runs at once on one image, and looks at what they leave.
 
-    pairs.py EXE [--pairs N] [--seed S] [--room FOLDER]
+    pairs.py [EXE] [--pairs N] [--seed S] [--room FOLDER]
 
 Each of the two writes a page of its own. The second is started with the first one or while that runs. By turns both are
 given the image by its name, one of them by a symbolic link from another folder, and both as a file with two names,
@@ -21,7 +21,7 @@ import time
 from typing import Counter, Dict, List, NamedTuple, Optional
 
 from kills import DEVICE
-from program import Ended, Program, exit_code
+from program import Ended, Program, exit_code, found_program, program_argument
 
 IMAGE, LINK, SINGLE, SECOND = "images/disk.img", "links/disk", "images/single.img", "names/second"
 REFUSED_IN_PLACE = {3, 7}
@@ -158,12 +158,12 @@ def pair_often(program: Program, pairs: int, seed: int, room: Optional[str]) -> 
 
 def main() -> int:
     parser = argparse.ArgumentParser(description=__doc__, formatter_class=argparse.RawDescriptionHelpFormatter)
-    parser.add_argument("program")
+    program_argument(parser)
     parser.add_argument("--pairs", type=int, default=200)
     parser.add_argument("--seed", type=int, default=1)
     parser.add_argument("--room")
     args = parser.parse_args()
-    return 1 if pair_often(Program(os.path.abspath(args.program)), args.pairs, args.seed, args.room) else 0
+    return 1 if pair_often(Program(found_program(args.program)), args.pairs, args.seed, args.room) else 0
 
 
 if __name__ == "__main__":

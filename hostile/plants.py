@@ -1,7 +1,7 @@
 #!/usr/bin/env python3
 """Plants mistakes in copies of this folder, one at a time, and sees that a sweep notices each.
 
-    plants.py EXE [--seed S] [--number N]
+    plants.py [EXE] [--seed S] [--number N]
 
 A sweep with a wrong rule has to differ from a program with the right one. The status is 1 where one does not."""
 import argparse
@@ -11,6 +11,8 @@ import subprocess
 import sys
 import tempfile
 from typing import NamedTuple
+
+from program import found_program, program_argument
 
 HERE = os.path.dirname(os.path.abspath(__file__))
 
@@ -80,13 +82,13 @@ def is_noticed(program: str, plant: Plant, seed: int, number: int) -> bool:
 
 def main() -> int:
     parser = argparse.ArgumentParser(description=__doc__, formatter_class=argparse.RawDescriptionHelpFormatter)
-    parser.add_argument("program")
+    program_argument(parser)
     parser.add_argument("--seed", type=int, default=1)
     parser.add_argument("--number", type=int, default=3000)
     args = parser.parse_args()
-    missed = 0
+    program, missed = found_program(args.program), 0
     for plant in PLANTS:
-        noticed = is_noticed(os.path.abspath(args.program), plant, args.seed, args.number)
+        noticed = is_noticed(program, plant, args.seed, args.number)
         missed += not noticed
         said = "noticed" if noticed else "MISSED"
         print(f"plants: {said}: {plant.file}: {plant.old!r} became {plant.new!r}", flush=True)

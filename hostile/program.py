@@ -1,12 +1,27 @@
 """Runs of the built program: its words, its status, what it said, and how long it took."""
+import argparse
 import os
 import select
 import signal
 import time
 from typing import Dict, List, NamedTuple, Optional
 
+TOP = os.path.dirname(os.path.dirname(os.path.abspath(__file__)))
+BUILT = os.path.join(TOP, "crates", "txflash", "out", "txflash")
 LONGEST = 10.0
 KILLED_AFTER = 60.0
+
+
+def program_argument(parser: argparse.ArgumentParser) -> None:
+    """Lets the words name the built program. Where they do not, it is that of this repository."""
+    parser.add_argument("program", metavar="EXE", nargs="?", default=BUILT)
+
+
+def found_program(path: str) -> str:
+    """The whole path of a program. Where there is none, this ends the script with a sentence."""
+    if not os.access(path, os.X_OK) or os.path.isdir(path):
+        raise SystemExit(f"There is no program {path}: ./txflash builds it, or name another one.")
+    return os.path.abspath(path)
 
 
 class Ended(NamedTuple):

@@ -1,13 +1,14 @@
 #!/usr/bin/env python3
 """Sweeps the built program with hostile images and commands, and compares each run with what the documents say.
 
-    sweep.py EXE [--images N] [--commands N] [--findings N] [--keys N] [--retirements N] [--words N] [--seed S]
+    sweep.py [EXE] [--images N] [--commands N] [--findings N] [--keys N] [--retirements N] [--words N] [--seed S]
                  [--processes N] [--keep FOLDER] [--room FOLDER] [--edges] [--kills N] [--disk] [--allocations]
+    sweep.py [EXE] --quick [--seed S]
 
 N images are given to `explain` and `run`, N command files to `try` and `run`, N images with a report or with another
 image to `check` and `compare`, N images and key scripts to `keys`, N images to `retire`, and N lists of words to the
-program. Each run that differs has a line, its files are kept, and the status is 1. The README beside this says what is
-compared, and what the last four do."""
+program. Each run that differs has a line, its files are kept, and the status is 1. --quick draws some of each, in a
+minute or two. The README beside this says what is compared, and what the last four do."""
 import argparse
 import collections
 import multiprocessing
@@ -32,10 +33,12 @@ import words as drawn_words
 from image import DEFAULT, PROTOCOLS, blank_image, spell_image
 from judge import Wrong, check_end, check_explain, check_retire, check_run, check_said, check_try, need
 from laws import Reading, read
-from program import Ended, Program
+from program import Ended, Program, found_program, program_argument
 
 IMAGE, COMMANDS, REPORT, OTHER = "d.img", "c.txt", "r.txt", "e.img"
 WANTED, TOLD = 100, 20
+# What --quick draws.
+QUICK = {"images": 600, "commands": 600, "findings": 150, "keys": 200, "retirements": 100, "words": 100}
 
 
 class Job(NamedTuple):
@@ -336,7 +339,7 @@ def rare(counts: Counter[str]) -> List[str]:
 
 def sweep(args: argparse.Namespace) -> int:
     begun = time.monotonic()
-    program = os.path.abspath(args.program)
+    program = found_program(args.program)
     jobs = [Job(program, args.seed, it, args.processes, args.images, args.commands, args.findings, args.keys,
                 args.retirements, args.words, args.stop, args.room, os.path.abspath(args.keep))
             for it in range(args.processes)]
@@ -346,7 +349,7 @@ def sweep(args: argparse.Namespace) -> int:
     differ, slowest = sum(it.differ for it in found), max(it.slowest for it in found)
     for name in sorted(counts):
         print(f"{counts[name]:9} {name}")
-    seldom = rare(counts) if args.images else []
+    seldom = rare(counts) if args.images and not args.quick else []
     if seldom:
         print(f"sweep: met fewer than {WANTED} times: {', '.join(seldom)}")
     seconds = time.monotonic() - begun
@@ -367,7 +370,7 @@ def sweep(args: argparse.Namespace) -> int:
 
 def main() -> int:
     parser = argparse.ArgumentParser(description=__doc__, formatter_class=argparse.RawDescriptionHelpFormatter)
-    parser.add_argument("program")
+    program_argument(parser)
     parser.add_argument("--images", type=int, default=1000)
     parser.add_argument("--commands", type=int, default=1000)
     parser.add_argument("--findings", type=int, default=0)
@@ -376,6 +379,7 @@ def main() -> int:
     parser.add_argument("--words", type=int, default=0)
     parser.add_argument("--seed", type=int, default=1)
     parser.add_argument("--processes", type=int, default=2)
+    parser.add_argument("--quick", action="store_true", help="some of each, and no rule or law is wanted so often")
     parser.add_argument("--stop", action="store_true", help="each process ends at its first difference")
     parser.add_argument("--keep", default="differ")
     parser.add_argument("--edges", action="store_true")
@@ -383,7 +387,10 @@ def main() -> int:
     parser.add_argument("--disk", action="store_true")
     parser.add_argument("--allocations", action="store_true")
     parser.add_argument("--room", default="/dev/shm" if os.path.isdir("/dev/shm") else None)
-    return sweep(parser.parse_args())
+    args = parser.parse_args()
+    if args.quick:
+        vars(args).update(QUICK)
+    return sweep(args)
 
 
 if __name__ == "__main__":

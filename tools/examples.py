@@ -1,6 +1,7 @@
 #!/usr/bin/env python3
-"""examples.py: compares the files of the folder examples, and what docs/manual.md shows of calls, with the cases of
-the program `cases`. It says a line for each thing that differs, and then the status is 1."""
+"""examples.py: compares the files of examples/scripts, and what docs/manual.md shows of calls, with the cases of the
+program `cases`, which has the files under the names examples/NAME. It says a line for each thing that differs, and then
+the status is 1. `transcripts.py` gives the calls of the manual to the built program."""
 
 import os
 import re
@@ -9,6 +10,7 @@ import sys
 TOP = os.path.dirname(os.path.dirname(os.path.abspath(__file__)))
 CASES = "crates/cases/data/cases.txt"
 MANUAL = "docs/manual.md"
+SCRIPTS = "examples/scripts"
 
 
 def read_lines(name):
@@ -41,14 +43,12 @@ def read_cases():
 
 def compare_examples(files):
     """A line for each file of the examples that is not in the cases as it is."""
-    for name in sorted(os.listdir(f"{TOP}/examples")):
-        name = f"examples/{name}"
-        if not name.endswith(".txt"):
-            continue
-        if name not in files:
-            yield f"{name}: no case has this file"
-        elif any(text != read_lines(name) for text in files[name]):
-            yield f"{name}: a case has another text"
+    for name in sorted(os.listdir(f"{TOP}/{SCRIPTS}")):
+        in_cases = f"examples/{name}"
+        if in_cases not in files:
+            yield f"{SCRIPTS}/{name}: no case has this file"
+        elif any(text != read_lines(f"{SCRIPTS}/{name}") for text in files[in_cases]):
+            yield f"{SCRIPTS}/{name}: a case has another text"
 
 
 def blocks(lines):
@@ -66,26 +66,38 @@ def blocks(lines):
 
 def asked_in(text):
     """The last call that a text or a command asks for, if there is one."""
-    found = re.findall(r"\./(run|view) ([^`>\n]+)", text)
+    found = re.findall(r"\./(txflash|flash_view) ([^`>\n]+)", text)
     if found:
         program, words = found[-1]
-        return ("call" if program == "run" else "view"), words.strip()
-    found = re.findall(r"Example, `(examples/[\w-]+\.txt)`", text)
+        return ("call" if program == "txflash" else "view"), words.strip()
+    found = re.findall(rf"Example, `({SCRIPTS}/[\w-]+\.txt)`", text)
     return ("call", f"try {found[-1]}") if found else None
+
+
+def in_cases(asked):
+    """A call as the cases make it."""
+    return asked and (asked[0], asked[1].replace(f"{SCRIPTS}/", "examples/"))
 
 
 def differs(block, before, asked, is_answer, calls, said):
     """What is not so of a block, if anything: that it is a file of the examples, or an answer."""
-    named = re.findall(r"`(?:examples/)?([\w-]+\.txt)`", before)
+    named = re.findall(rf"`(?:{SCRIPTS}/)?([\w-]+\.txt)`", before)
     if block[0].startswith("#") and named:
-        name = f"examples/{named[-1]}"
+        name = f"{SCRIPTS}/{named[-1]}"
         return None if read_lines(name) == block else f"this is not {name}"
     if is_answer:
+        asked = in_cases(asked)
         if asked not in calls:
             return f"no case calls {' '.join(asked)}"
         return None if block in calls[asked] else f"no case says this after {' '.join(asked)}"
-    missing = [line for line in block if line not in said]
+    # What the script says of a mistake is no word of the program.
+    missing = [line for line in block if line not in said and not line.startswith("txflash: ")]
     return f"no case says {missing[0]}" if missing else None
+
+
+def is_command(line):
+    """Whether a line of the manual is one for a shell."""
+    return re.match(r"\./|cp |printf |python3 ", line) is not None
 
 
 def compare_manual(calls):
@@ -95,7 +107,7 @@ def compare_manual(calls):
     for number, before, block in blocks(read_lines(MANUAL)):
         inline = asked_in(before)
         asked = inline or asked
-        if re.match(r"\./|cp |python3 ", block[0]):
+        if is_command(block[0]):
             command = block[-1]
             asked = asked_in(command)
             continue

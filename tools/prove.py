@@ -1,9 +1,9 @@
 #!/usr/bin/env python3
-"""prove.py PROGRAM [SCRIPT]: proves the crates that a program of crates.txt stands on, and builds the program.
+"""prove.py PROGRAM: proves the crates that a program of crates.txt stands on, and builds the program.
 
 rt proves them side by side, as many as processors and memory allow. What is proved stays in the folders
 crates/NAME/out, also where this is stopped, and only what has changed is proved again. Notes go to standard error, in
-the name of the script. The status is 0 where the program is built, 125 where it is not, and 129, 130 or 143 where a
+the name of the program. The status is 0 where the program is built, 125 where it is not, and 129, 130 or 143 where a
 signal ended this.
 """
 
@@ -13,6 +13,9 @@ import signal
 import subprocess
 import sys
 import time
+from typing import IO, Dict, Iterator, List, Optional, Set
+
+from notes import tell, tell_text
 
 TOP = os.path.dirname(os.path.dirname(os.path.abspath(__file__)))
 
@@ -23,7 +26,12 @@ NEEDED = 3 << 30
 WORDS = {"txflash": ["try", "/dev/null"], "flash_view": ["/nowhere/at/all"]}
 
 
-def read_crates():
+def path_of(program: str) -> str:
+    """Where a program stands once it is built."""
+    return f"{TOP}/crates/{program}/out/{program}"
+
+
+def read_crates() -> Dict[str, List[str]]:
     """The crates of crates.txt, each with the crates of this repository that it lists."""
     listed = {}
     with open(f"{TOP}/crates.txt", encoding="utf-8") as file:
@@ -34,7 +42,7 @@ def read_crates():
     return {name: [it for it in below if it in listed] for name, below in listed.items()}
 
 
-def stands_on(program):
+def stands_on(program: str) -> Set[str]:
     """The program and all crates below it."""
     crates, found, waiting = read_crates(), set(), [program]
     while waiting:
@@ -45,20 +53,20 @@ def stands_on(program):
     return found
 
 
-def sources_of(name):
+def sources_of(name: str) -> Iterator[str]:
     """The files of source, definitions and proofs of a crate."""
     for at, folders, files in os.walk(f"{TOP}/crates/{name}"):
         folders[:] = [it for it in folders if it not in ("out", "data", "must-fail")]
         yield from (f"{at}/{it}" for it in files if it.endswith((".rt", ".antt")))
 
 
-def free_bytes():
+def free_bytes() -> int:
     """Bytes of memory that can be had now."""
     with open("/proc/meminfo", encoding="utf-8") as file:
         return int(re.search(r"MemAvailable:\s*(\d+)", file.read())[1]) << 10
 
 
-def at_once():
+def at_once() -> int:
     """How many crates are proved side by side. rt counts those that wait for others too, so these are a few more than
     the processors."""
     processors = len(os.sched_getaffinity(0))
@@ -68,33 +76,32 @@ def at_once():
 class Proofs:
     """The proofs of a program, and how far they are."""
 
-    def __init__(self, program, script):
+    def __init__(self, program: str) -> None:
         self.program = program
-        self.script = script
         self.names = stands_on(program)
-        self.stamp = f"{TOP}/crates/{program}/out/{program}.stamp"
+        self.stamp = f"{path_of(program)}.stamp"
         self.begun = time.time()
         self.done = 0
-        self.child = None
+        self.child: "Optional[subprocess.Popen[str]]" = None
 
-    def tell(self, text):
+    def tell(self, text: str) -> None:
         """Says a line."""
-        print(f"{self.script}: {text}", file=sys.stderr, flush=True)
+        tell(self.program, text)
 
-    def tell_progress(self, text):
+    def tell_progress(self, text: str) -> None:
         """Says a line, with how far the proofs are."""
         minutes = int(time.time() - self.begun) // 60
         self.tell(f"{text} ({self.done} of {len(self.names)} crates, {minutes} min so far)")
 
-    def is_current(self):
+    def is_current(self) -> bool:
         """Whether the program is built, and no source that it stands on is newer than its stamp."""
-        if not os.path.exists(self.stamp):
+        if not (os.path.exists(self.stamp) and os.path.exists(path_of(self.program))):
             return False
         made = os.stat(self.stamp).st_mtime
         paths = [f"{TOP}/crates.txt", *(path for name in self.names for path in sources_of(name))]
         return all(os.stat(path).st_mtime <= made for path in paths)
 
-    def lines_of(self, *words):
+    def lines_of(self, *words: str) -> IO[str]:
         """Starts rt in the folder of the program, and answers the lines that it says, as they come."""
         self.child = subprocess.Popen(
             ["rt", *words],
@@ -107,7 +114,7 @@ class Proofs:
         )
         return self.child.stdout
 
-    def prove(self):
+    def prove(self) -> bool:
         """Proves the crates. Answers whether all are proved; what rt says of the others is said."""
         said, name = {}, None
         for line in self.lines_of("all", "check", "--jobs", str(at_once())):
@@ -121,20 +128,20 @@ class Proofs:
             return True
         for line in said.get("summary", said.get(None, [])):
             failed = re.match(r"(\w+): failed", line)
-            sys.stderr.writelines(said.get(failed[1], []) if failed else [])
-            sys.stderr.write(line)
+            tell_text("".join(said.get(failed[1], []) if failed else []))
+            tell_text(line)
         return False
 
-    def build(self):
+    def build(self) -> bool:
         """Builds the program of proved crates. Answers whether it is built: rt makes its stamp then."""
         said = list(self.lines_of("run", "--", *WORDS[self.program]))
         self.child.wait()
         if os.path.exists(self.stamp):
             return True
-        sys.stderr.writelines(said)
+        tell_text("".join(said))
         return False
 
-    def run(self):
+    def run(self) -> int:
         """Proves and builds. Answers the status."""
         self.tell("proving and building the program first; docs/manual.md says how long that takes")
         if not (self.prove() and self.build()):
@@ -145,7 +152,7 @@ class Proofs:
         self.tell_progress("the program is built")
         return 0
 
-    def end(self, number, _frame):
+    def end(self, number: int, _frame: object) -> None:
         """Ends what runs, at a signal."""
         if self.child:
             try:
@@ -156,17 +163,21 @@ class Proofs:
         os._exit(128 + number)
 
 
-def main():
-    if len(sys.argv) not in (2, 3) or sys.argv[1] not in WORDS:
-        print(f"usage: prove.py {'|'.join(WORDS)} [SCRIPT]", file=sys.stderr)
-        return 125
-    proofs = Proofs(sys.argv[1], sys.argv[-1])
+def build(program: str) -> int:
+    """Proves and builds a program where it is not built, or a source is newer. Answers the status."""
+    proofs = Proofs(program)
     if proofs.is_current():
-        os.utime(proofs.stamp)
         return 0
     for number in (signal.SIGHUP, signal.SIGINT, signal.SIGTERM):
         signal.signal(number, proofs.end)
     return proofs.run()
+
+
+def main() -> int:
+    if len(sys.argv) != 2 or sys.argv[1] not in WORDS:
+        tell_text(f"usage: prove.py {'|'.join(WORDS)}\n")
+        return 125
+    return build(sys.argv[1])
 
 
 if __name__ == "__main__":

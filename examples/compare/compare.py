@@ -3,10 +3,10 @@
 
     compare.py PROGRAM [--out FOLDER] [--seed N] [--trace TRACE] [numbers of the work and the device]
 
-PROGRAM is the built program, or ./run. The tables go to FOLDER as CSV and the pictures as SVG, and the tables are said
-too. FOLDER is ./compare-out where it is left out; nothing else is written. One seed gives the same numbers each time,
-but for the times of `openings`. With TRACE (see traces.py) the requests of that trace are the work, and no other is
-served.
+PROGRAM is the built program, or ./txflash. The tables go to FOLDER as CSV and the pictures as SVG, and the tables are
+said too. FOLDER is ./compare-out where it is left out; nothing else is written. One seed gives the same numbers each
+time, but for the times of `openings`. With TRACE (see traces.py) the requests of that trace are the work, and no other
+is served.
 """
 from __future__ import annotations
 
@@ -49,7 +49,7 @@ NUMBERS = (
 
 def parser() -> argparse.ArgumentParser:
     made = argparse.ArgumentParser(description=(__doc__ or "").split("\n")[0])
-    made.add_argument("program", metavar="PROGRAM", help="the built program, or ./run")
+    made.add_argument("program", metavar="PROGRAM", help="the built program, or ./txflash")
     made.add_argument("--out", default="compare-out", metavar="FOLDER")
     made.add_argument("--seed", type=int, default=1, metavar="N")
     made.add_argument("--trace", metavar="TRACE", help="the text of blkparse, or an iolog of fio")

@@ -12,13 +12,13 @@ MOST_ENTRIES = 262144
 
 
 def built_program(path: str) -> str:
-    """The program that this path starts. The script `run` proves and builds it first, and is asked once."""
+    """The program that this path starts. The script `txflash` proves and builds it first, and is asked once."""
     done = subprocess.run([path, "try", os.devnull], stdout=subprocess.PIPE, check=False)
     if done.returncode:
         said = done.stdout.decode("ascii", "replace").strip()
         raise Problem(f"{path} ended with status {done.returncode} and said: {said or 'nothing'}")
     built = os.path.join(os.path.dirname(os.path.realpath(path)), "crates", "txflash", "out", "txflash")
-    return built if os.path.basename(os.path.realpath(path)) == "run" and os.path.exists(built) else path
+    return built if os.path.exists(built) else path
 
 
 class Memory:

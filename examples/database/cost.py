@@ -3,7 +3,7 @@
 
     cost.py PROGRAM [FRAMES]
 
-PROGRAM is the built program, or ./run. A table and a chart say how many pages are written for each commit. `handed
+PROGRAM is the built program, or ./txflash. A table and a chart say how many pages are written for each commit. `handed
 over` are the pages that SQLite gives to the system, counted by their bytes. Then come the pages that a device programs
 for them, collections included, where its logical pages are 50, 80 and 95 percent of its slots. A transaction has all
 pages of a commit. The pages of journal, log and database file are written each by itself, and the log or journal stands

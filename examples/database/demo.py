@@ -3,8 +3,8 @@
 
     demo.py PROGRAM [SEED]
 
-PROGRAM is the built program, or ./run. SQLite makes a history of accounts and transfers. Its commits are served on a
-fresh image under each protocol, and seeded breaks come in the middle of some. After each break the database is read
+PROGRAM is the built program, or ./txflash. SQLite makes a history of accounts and transfers. Its commits are served on
+a fresh image under each protocol, and seeded breaks come in the middle of some. After each break the database is read
 back: it has to be that before the commit or that after it, byte for byte. SQLite opens it without any journal, finds it
 sound, and the sum of all accounts is what it was.
 

@@ -65,13 +65,13 @@ class Program:
         return lines
 
     def build(self) -> None:
-        """Nothing is asked of it, so that `./run`, in its place, builds it where it is not built yet."""
+        """Nothing is asked of it, so that `./txflash`, in its place, builds it where it is not built yet."""
         self.say("try", os.devnull)
 
     def format(self, image: str, numbers: Sequence[str]) -> None:
         self.say("format", image, *numbers)
         if not os.path.exists(image):
-            raise Problem(f"{self.path} has written no image: name the built program or ./run")
+            raise Problem(f"{self.path} has written no image: name the built program or ./txflash")
 
     def run(self, image: str, commands: str) -> List[str]:
         return self.say("run", image, commands)

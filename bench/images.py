@@ -3,7 +3,7 @@
 
     images.py EXE [--repeat N]
 
-EXE is `crates/txflash/out/txflash`, which `./run` builds. The image has 65024 slots of 1968 bytes and their spare
+EXE is `crates/txflash/out/txflash`, which `./txflash` builds. The image has 65024 slots of 1968 bytes and their spare
 areas, 132 MB: once blank, and once with each of its 60000 pages written. The least of N runs is told, in seconds of
 processor time, user and system; and the most memory that was held at once, in MiB and as a multiple of the file.
 """

@@ -1,8 +1,8 @@
 #!/usr/bin/env python3
-"""Writes docs/clauses.md: for each clause of a function that has answers, the lemmas that they cite and where these stand.
+"""Writes docs/clauses.md: for each clause of a function that has answers, the lemmas that they cite, and their files.
 
-    docs/clauses.py            writes docs/clauses.md
-    docs/clauses.py --check    says whether docs/clauses.md is what would be written; the status is 1 where it is not
+    tools/clauses.py            writes docs/clauses.md
+    tools/clauses.py --check    says whether docs/clauses.md is what would be written; the status is 1 where it is not
 
 A clause without a row is proved by the prover's own search, or by an answer that cites no lemma of the repository.
 """
@@ -16,13 +16,14 @@ IDENTIFIER = re.compile(r"[^\W\d][\w'-]*(?:₁|₂|₃)?")
 
 HEAD = """# Clauses and their lemmas
 
-Where the proof of a clause is. This file is written by `docs/clauses.py`, and `docs/clauses.py --check` says whether it
-is true. A function's answers stand in `crates/CRATE/proofs`, in a folder with its path: those of `Device::step` are
-`crates/tx_engine/proofs/device/Device/step/Answers.antt`. For each clause that they prove this names the lemmas that they
-cite, and the files where these stand, in the same `proofs` where no crate is named. A field of a clause that is a record
-is named behind its clause, or alone where the function has one clause. `invariant` is that of a type, `ensures` a clause
-without a name, and `loops and conditions` are what else is shown: invariants of loops, and what the calls of the function
-ask for. What the prover's own search finds has no row, nor has what an answer shows by the clauses of its calls alone.
+Where the proof of a clause is. This file is written by `tools/clauses.py`, and `tools/clauses.py --check` says whether
+it is true. A function's answers stand in `crates/CRATE/proofs`, in a folder with its path: those of `Device::step` are
+`crates/tx_engine/proofs/device/Device/step/Answers.antt`. For each clause that they prove this names the lemmas that
+they cite, and the files where these stand, in the same `proofs` where no crate is named. A field of a clause that is a
+record is named behind its clause, or alone where the function has one clause. `invariant` is that of a type, `ensures`
+a clause without a name, and `loops and conditions` are what else is shown: invariants of loops, and what the calls of
+the function ask for. What the prover's own search finds has no row, nor has what an answer shows by the clauses of its
+calls alone.
 """
 
 
@@ -36,7 +37,8 @@ def imports(text):
         file = 'crates/%s/proofs/%s.antt' % (parts[0], '/'.join(parts[2:]))
         if (ROOT / file).exists():
             # what a crate's Common.antt passes on stands where that has it from
-            passed = imports((ROOT / file).read_text().replace('unfoldable pub use ', 'use ').replace('pub use ', 'use ')) if parts[-1] == 'Common' else None
+            text_there = (ROOT / file).read_text().replace('unfoldable pub use ', 'use ').replace('pub use ', 'use ')
+            passed = imports(text_there) if parts[-1] == 'Common' else None
             for name in names.split(','):
                 name = name.split(' as ')[-1].strip()
                 if passed is None:
@@ -146,7 +148,7 @@ def main():
     text = document()
     if sys.argv[1:] == ['--check']:
         same = OUT.exists() and OUT.read_text() == text
-        print('docs/clauses.md is %s' % ('true' if same else 'not what docs/clauses.py writes'))
+        print('docs/clauses.md is %s' % ('true' if same else 'not what tools/clauses.py writes'))
         return 0 if same else 1
     OUT.write_text(text)
     print('%d rows' % text.count('\n| `'))

@@ -3,12 +3,12 @@
 
     two_sizes.py EXE [--protocol scc|bpcc] [--repeat N] [--limit SECONDS] [--folder FOLDER]
 
-EXE is `crates/txflash/out/txflash`, which `./run` builds. The devices have pages of 16 bytes and blocks of 4 slots on
-4 dies. As many pages as fit are logical, and each of them was written once, by a transaction of its own. Each work is
-run N times on copies of their images, and the least time is told: processor time, user and system, in seconds. The
-third number is how often the first goes into the second, and the fourth the same where opening and saving is taken
-from both. The last one is the most memory that the run on 65536 slots held at once, in MiB. A work that takes longer
-than the limit is told as `over` it.
+EXE is `crates/txflash/out/txflash`, which `./txflash` builds. The devices have pages of 16 bytes and blocks of 4 slots
+on 4 dies. As many pages as fit are logical, and each of them was written once, by a transaction of its own. Each work
+is run N times on copies of their images, and the least time is told: processor time, user and system, in seconds. The
+third number is how often the first goes into the second, and the fourth the same where opening and saving is taken from
+both. The last one is the most memory that the run on 65536 slots held at once, in MiB. A work that takes longer than
+the limit is told as `over` it.
 """
 from __future__ import annotations
 

@@ -1,0 +1,110 @@
+"""The scripts ./txflash and ./flash_view, each with a small program in the place of the proved one."""
+import os
+import subprocess
+import tempfile
+import unittest
+
+from call_flash_view import asked_for, painted
+from programs import TOP
+
+# Answers as the program does where that is told by its words, and makes an image of nothing but a magic.
+PROGRAM = """#!/bin/sh
+case $1 in
+    try) [ "$2" != bad.txt ] || { echo "bad line 2"; exit 4; }; [ -f "$2" ] || { echo "no file $2"; exit 2; }; cat "$2" ;;
+    format) printf TXFLASH1 >"$2" && echo "formatted $2 32" ;;
+    run) [ -f "$2" ] || { echo "desk fault"; exit 5; }; printf ' run' >>"$2"; echo done ;;
+    drive) kill -TERM $$ ;;
+    *) echo "bad words"; exit 1 ;;
+esac
+"""
+
+
+class Calls(unittest.TestCase):
+    def setUp(self):
+        room = tempfile.TemporaryDirectory()
+        self.addCleanup(room.cleanup)
+        self.room = room.name
+        self.put("program", PROGRAM.encode())
+        os.chmod(f"{self.room}/program", 0o755)
+
+    def put(self, name, data):
+        with open(f"{self.room}/{name}", "wb") as file:
+            file.write(data)
+
+    def get(self, name):
+        with open(f"{self.room}/{name}", "rb") as file:
+            return file.read()
+
+    def call(self, *words, script="txflash"):
+        """The status, what was said and what was told beside it."""
+        program = f"{self.room}/program"
+        names = {"TXFLASH_PROGRAM": program, "FLASH_VIEW_PROGRAM": program}
+        done = subprocess.run([f"{TOP}/{script}", *words], cwd=self.room, env={**os.environ, **names},
+                              stdin=subprocess.DEVNULL, capture_output=True, check=False)
+        return done.returncode, done.stdout.decode(), done.stderr.decode()
+
+    def test_the_table_is_told_at_once(self):
+        self.assertEqual(self.call("--help")[::2], (0, ""))
+        self.assertIn("retire IMAGE BLOCK", self.call("--help")[1])
+        status, said, told = self.call()
+        self.assertEqual((status, said), (1, ""))
+        self.assertIn("docs/manual.md", told)
+
+    def test_a_bad_line_has_its_reason(self):
+        self.put("bad.txt", b"read 0\nREAD 0\n")
+        status, said, told = self.call("try", "bad.txt")
+        self.assertEqual((status, said), (4, "bad line 2\n"))
+        self.assertIn("line 2 of bad.txt is `READ 0`", told)
+        self.assertIn("lower case", told)
+
+    def test_bad_words_have_their_reason(self):
+        self.assertEqual(self.call("frob"), (1, "bad words\n", "txflash: there is no word `frob`\n"))
+
+    def test_a_fault_names_the_file(self):
+        self.assertEqual(self.call("run", "/", "c.txt"), (5, "desk fault\n", "txflash: / is a folder\n"))
+
+    def test_what_is_no_image_is_replaced_if_that_is_said(self):
+        words = ("format", "text.txt", "scc", "16", "4", "4", "2", "20", "7")
+        self.put("text.txt", b"precious")
+        self.assertEqual(self.call(*words)[:2], (125, ""))
+        self.assertEqual(self.get("text.txt"), b"precious")
+        self.assertEqual(self.call("--replace", *words)[0], 0)
+        self.assertEqual(self.call(*words)[0], 0)
+
+    def test_copies_change_no_file(self):
+        words = ("format", "d.img", "scc", "16", "4", "4", "2", "20", "7")
+        self.assertEqual(self.call("--unproved", *words)[:2], (0, "formatted d.img 32\n"))
+        self.assertFalse(os.path.exists(f"{self.room}/d.img"))
+        self.assertEqual(self.call("--unproved", "--keep", *words)[:2], (0, "formatted d.img 32\n"))
+        self.assertEqual(self.call("--unproved", "run", "d.img", "c.txt")[:2], (0, "done\n"))
+        self.assertEqual(self.get("d.img"), b"TXFLASH1")
+        self.assertEqual(self.call("--unproved", "--keep", "run", "d.img", "c.txt")[:2], (0, "done\n"))
+        self.assertEqual(self.get("d.img"), b"TXFLASH1 run")
+        self.assertEqual(self.call("--unproved", "try", "no.txt")[:2], (2, "no file no.txt\n"))
+
+    def test_a_signal_of_the_program_ends_the_script(self):
+        self.assertEqual(self.call("drive", "1", "1", "scc")[0], -15)
+
+    def test_a_picture_without_an_image(self):
+        self.assertEqual(self.call(script="flash_view")[0], 1)
+        self.assertEqual(self.call("--svg", script="flash_view")[:2], (1, ""))
+        self.assertEqual(self.call("--help", script="flash_view")[0], 0)
+
+
+class Pictures(unittest.TestCase):
+    def test_options_stand_in_any_order(self):
+        asked = asked_for(["d.img", "--svg", "--color=always", "--unsound"])
+        self.assertEqual((asked.names, asked.color, asked.wrong), (["d.img"], "always", None))
+        self.assertEqual(sorted(asked.options), ["--svg", "--unsound"])
+        self.assertEqual(asked_for(["--", "--svg"]).names, ["--svg"])
+        for words in ([], ["a", "b"], ["--color", "d.img"], ["--size", "d.img"], ["d.img", "--color"]):
+            self.assertIsNotNone(asked_for(words).wrong)
+
+    def test_states_of_cells_have_colours(self):
+        row = painted("block 0    |0.1 loose held|blank      |\nwalk 0.1 loose\n")
+        self.assertEqual(row, "block 0    |0.1 \x1b[33mloose\x1b[0m \x1b[36mheld\x1b[0m|\x1b[2mblank\x1b[0m      |\n"
+                              "walk 0.1 loose\n")
+
+
+if __name__ == "__main__":
+    unittest.main()
