@@ -67,7 +67,9 @@ fn add_parts(paragraph: &str, digits: &str, text: &mut String) -> Result<(), All
 /// Tries a case on a desk of its own.
 fn try_case(alloc: Global, text: &str, report: &mut Report) -> Result<(), Stop> {
     let mut stage = Stage::new(alloc);
-    try_lines(text, &mut stage, report)
+    let tried = try_lines(text, &mut stage, report);
+    drop(stage);
+    tried
 }
 
 /// Does what the lines of a case say, and reports each that is not so.

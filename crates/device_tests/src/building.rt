@@ -278,8 +278,8 @@ pub fn written(alloc: Global, config: Config, items: &str) -> Option<MemFlash>
 {
     let mut flash = blank_flash(alloc, config)?;
     if put_all(&mut flash, config.protocol, items) {
-        Some(flash)
-    } else {
-        None
+        return Some(flash);
     }
+    drop(flash);
+    None
 }

@@ -1,11 +1,12 @@
 //! What a loss of power leaves of a save, in a folder in memory.
+use crate::lines::{LineTest, assert_lines, word};
 use durable_folder::{Found, load, save, save_held};
 use std::alloc::{AllocError, Global};
 use std::io::ErrorKind;
 
 mod losing;
 
-use losing::{CrashingFolder, Setting};
+use losing::{CrashingFolder, Judge, Setting};
 
 const OLD: [u8; 100] = [b'o'; 100];
 
@@ -83,52 +84,47 @@ fn prepare(folder: &mut CrashingFolder, is_there: bool) -> Result<(), AllocError
     folder.put("f.saving", b"left")
 }
 
-/// The bytes that a loss of power leaves of a file, where it leaves one.
-fn bytes_of(left: &Option<Vec<u8>>) -> Option<&[u8]> {
-    match left {
-        Some(bytes) => Some(bytes.as_slice()),
-        None => None,
-    }
+/// What may be left of `f`: the new bytes alone, where it must be new.
+#[derive(Drop)]
+struct Whole {
+    it: Case,
+    is_in_place: bool,
+    must_be_new: bool,
 }
 
-/// Whether each that may be left may be so: the new bytes alone, where it must be new.
-fn are_whole(all: &[Option<Vec<u8>>], it: &Case, is_in_place: bool, must_be_new: bool) -> bool {
-    for each in all {
-        let left = bytes_of(each);
-        let is_new = left == Some(NEW.as_slice());
-        if !it.may_be_left(is_in_place, left) || (must_be_new && !is_new) {
-            return false;
-        }
+impl Judge for Whole {
+    fn may_be(&self, left: Option<&[u8]>) -> bool {
+        let may_be = self.it.may_be_left(self.is_in_place, left);
+        may_be && (!self.must_be_new || left == Some(NEW.as_slice()))
     }
-    true
 }
 
 /// Whether all that a loss of power may leave of `f` may be so: the new bytes alone, where a save that could sync
 /// answered Ok.
 fn is_left_whole(folder: &CrashingFolder, it: &Case, is_ok: bool) -> bool {
-    let must_be_new = is_ok && !folder.is_unsynced;
-    match folder.crash_contents("f") {
-        Ok(all) => are_whole(&all, it, folder.is_in_place, must_be_new),
-        Err(_) => false,
-    }
+    let whole = Whole {
+        it: *it,
+        is_in_place: folder.is_in_place,
+        must_be_new: is_ok && !folder.is_unsynced,
+    };
+    folder.may_be_left("f", &whole)
 }
 
-/// Whether each that may be left has these bytes.
-fn are_all(all: &[Option<Vec<u8>>], bytes: &[u8]) -> bool {
-    for each in all {
-        if bytes_of(each) != Some(bytes) {
-            return false;
-        }
+/// These bytes, which are all that may be left.
+#[derive(Drop)]
+struct Same {
+    bytes: &'static [u8],
+}
+
+impl Judge for Same {
+    fn may_be(&self, left: Option<&[u8]>) -> bool {
+        left == Some(self.bytes)
     }
-    true
 }
 
 /// Whether a file stays as it is, whatever a loss of power leaves.
-fn stays(folder: &CrashingFolder, name: &str, bytes: &[u8]) -> bool {
-    match folder.crash_contents(name) {
-        Ok(all) => are_all(&all, bytes),
-        Err(_) => false,
-    }
+fn stays(folder: &CrashingFolder, name: &str, bytes: &'static [u8]) -> bool {
+    folder.may_be_left(name, &Same { bytes })
 }
 
 /// Whether a save of which no call fails is in place only where it has to be, and returns Ok. A file that was made
@@ -162,7 +158,9 @@ fn save_over(folder: &mut CrashingFolder, alloc: Global, it: &Case) -> Option<u3
 /// The number of calls of a save in a folder of its own, where all that a loss of power may leave is as it should be.
 fn save_counting_calls(alloc: Global, it: &Case) -> Option<u32> {
     let mut folder = CrashingFolder::new(alloc, it.setting, it.fails, it.kind, it.is_cut);
-    save_over(&mut folder, alloc, it)
+    let calls = save_over(&mut folder, alloc, it);
+    drop(folder);
+    calls
 }
 
 /// Whether all is well where a call of a save fails, or loses power.
@@ -218,11 +216,9 @@ fn each_call_may_fail_or_lose_power(rt: HostRuntime) {
     }
 }
 
-/// A folder of this kind in which the file `f` is, and no call fails.
-fn folder_of(alloc: Global, setting: Setting) -> Result<CrashingFolder, AllocError> {
-    let mut folder = CrashingFolder::new(alloc, setting, 0, ErrorKind::Other, false);
-    prepare(&mut folder, true)?;
-    Ok(folder)
+/// A folder of this kind in which no call fails.
+fn folder_of(alloc: Global, setting: Setting) -> CrashingFolder {
+    CrashingFolder::new(alloc, setting, 0, ErrorKind::Other, false)
 }
 
 /// Whether a save that claims the file first returns Ok and keeps it open.
@@ -248,22 +244,31 @@ fn load_found(folder: &mut CrashingFolder, name: &str) -> Option<Found> {
 
 /// Whether a file is not saved that another program holds.
 fn is_refused_where_taken(alloc: Global, name: &str) -> bool {
-    match folder_of(alloc, Setting::LockedElsewhere) {
-        Ok(folder) => {
-            let mut folder = folder;
-            !is_saved(&mut folder, alloc, name, &None) && stays(&folder, "f", &OLD)
-        }
-        Err(_) => false,
-    }
+    let mut folder = folder_of(alloc, Setting::LockedElsewhere);
+    let is_refused = prepare(&mut folder, true).is_ok()
+        && !is_saved(&mut folder, alloc, name, &None)
+        && stays(&folder, "f", &OLD);
+    drop(folder);
+    is_refused
 }
 
 /// What is done to a file once it was loaded.
-#[derive(Clone, Copy, PartialEq, Eq)]
+#[derive(Clone, Copy)]
 enum Since {
     Nothing,
     Replaced,
     ReplacedBySpecial,
     Rewritten,
+}
+
+/// What a word says was done.
+fn since_of(word: &str) -> Since {
+    match word {
+        "nothing" => Since::Nothing,
+        "replaced" => Since::Replaced,
+        "replaced-by-special" => Since::ReplacedBySpecial,
+        _ => Since::Rewritten,
+    }
 }
 
 /// Whether a file that was loaded is saved, where nothing was done to it since, and only there.
@@ -282,41 +287,53 @@ fn is_saved_if_unchanged(
     };
     found.is_some()
         && done.is_ok()
-        && is_saved(folder, alloc, name, &found) == (since == Since::Nothing)
+        && is_saved(folder, alloc, name, &found) == matches!(since, Since::Nothing)
 }
 
 /// Whether a file that was loaded in a folder of its own is saved, where nothing was done to it since, and only there.
 fn is_saved_only_if_unchanged(alloc: Global, name: &str, setting: Setting, since: Since) -> bool {
-    match folder_of(alloc, setting) {
-        Ok(folder) => {
-            let mut folder = folder;
-            is_saved_if_unchanged(&mut folder, alloc, name, since)
-        }
-        Err(_) => false,
-    }
+    let mut folder = folder_of(alloc, setting);
+    let is_so = prepare(&mut folder, true).is_ok()
+        && is_saved_if_unchanged(&mut folder, alloc, name, since);
+    drop(folder);
+    is_so
 }
 
 #[test]
 fn what_another_program_holds_is_not_saved(rt: HostRuntime) {
-    for name in ["f", "link"] {
-        assert!(rt; is_refused_where_taken(rt.alloc(), name), "{name}");
+    let is_refused = is_refused_where_taken(rt.alloc(), "f")
+        && is_refused_where_taken(rt.alloc(), "link");
+    assert!(rt; is_refused);
+}
+
+/// What is done to a file since it was loaded, and its kind and its name.
+struct Changed;
+
+impl LineTest for Changed {
+    fn is_right(alloc: Global, line: &str) -> bool {
+        let setting = if word(line, 1) == "special" {
+            Setting::Special
+        } else {
+            Setting::Plain
+        };
+        is_saved_only_if_unchanged(alloc, word(line, 2), setting, since_of(word(line, 0)))
     }
 }
 
+/// A file that is not a plain one is saved where nothing was done to it.
+const CHANGED: &str = "\
+nothing plain f
+nothing plain link
+replaced plain f
+replaced plain link
+replaced-by-special plain f
+replaced-by-special plain link
+rewritten plain f
+rewritten plain link
+nothing special f
+nothing special link";
+
 #[test]
 fn what_was_written_since_it_was_loaded_is_not_saved(rt: HostRuntime) {
-    for (setting, since) in [
-        (Setting::Plain, Since::Nothing),
-        (Setting::Plain, Since::Replaced),
-        (Setting::Plain, Since::ReplacedBySpecial),
-        (Setting::Plain, Since::Rewritten),
-        (Setting::Special, Since::Nothing),
-    ] {
-        for name in ["f", "link"] {
-            assert!(rt;
-                is_saved_only_if_unchanged(rt.alloc(), name, setting, since),
-                "{name}"
-            );
-        }
-    }
+    assert_lines::<Changed>(&rt, rt.alloc(), CHANGED);
 }

@@ -202,7 +202,11 @@ fn are_linked(alloc: Global, chains: &mut LinkedLists) -> bool
 /// Whether they do so on new lists.
 fn are_new_linked(alloc: Global) -> bool {
     match LinkedLists::new(alloc, KEYS, PLACES) {
-        Ok(mut chains) => are_linked(alloc, &mut chains),
+        Ok(mut chains) => {
+            let is_so = are_linked(alloc, &mut chains);
+            drop(chains);
+            is_so
+        }
         Err(_) => false,
     }
 }
@@ -302,7 +306,11 @@ fn follow_new_lists(alloc: Global, chains: &mut LinkedLists) -> bool
 
 fn is_history(alloc: Global) -> bool {
     match LinkedLists::new(alloc, KEYS, PLACES) {
-        Ok(mut chains) => follow_new_lists(alloc, &mut chains),
+        Ok(mut chains) => {
+            let is_so = follow_new_lists(alloc, &mut chains);
+            drop(chains);
+            is_so
+        }
         Err(_) => false,
     }
 }
@@ -387,16 +395,24 @@ fn are_followed(alloc: Global, made: Result<MaxTree, AllocError>) -> bool
     requires { IfOk made (λ peaks. length peaks ≡ COUNT) }
 {
     match made {
-        Ok(mut peaks) => follow_zeros(alloc, &mut peaks),
+        Ok(mut peaks) => {
+            let is_so = follow_zeros(alloc, &mut peaks);
+            drop(peaks);
+            is_so
+        }
         Err(_) => false,
     }
 }
 
+/// Whether peaks of both kinds follow.
+fn are_both_followed(alloc: Global) -> bool {
+    are_followed(alloc, MaxTree::new(alloc, COUNT))
+        && are_followed(alloc, MaxTree::for_changes(alloc, COUNT))
+}
+
 #[test]
 fn the_first_greatest_number_is_known(rt: HostRuntime) {
-    let alloc = rt.alloc();
-    assert!(rt; are_followed(alloc, MaxTree::new(alloc, COUNT)));
-    assert!(rt; are_followed(alloc, MaxTree::for_changes(alloc, COUNT)));
+    assert!(rt; are_both_followed(rt.alloc()));
 }
 
 /// Divisors, numbers below 65536, and how many times the one goes into the other.

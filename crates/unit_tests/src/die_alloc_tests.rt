@@ -76,7 +76,11 @@ fn gives_rest(blocks: &mut Blocks) -> bool
 /// Whether a new table gives all its slots.
 fn is_new_given(alloc: Global) -> bool {
     match Blocks::new(alloc, WIDE) {
-        Ok(mut blocks) => gives_all(&mut blocks),
+        Ok(mut blocks) => {
+            let is_so = gives_all(&mut blocks);
+            drop(blocks);
+            is_so
+        }
         Err(_) => false,
     }
 }
@@ -84,15 +88,19 @@ fn is_new_given(alloc: Global) -> bool {
 /// Whether a table of used slots gives the rest.
 fn is_rest_given(alloc: Global) -> bool {
     match Blocks::new(alloc, WIDE) {
-        Ok(mut blocks) => gives_rest(&mut blocks),
+        Ok(mut blocks) => {
+            let is_so = gives_rest(&mut blocks);
+            drop(blocks);
+            is_so
+        }
         Err(_) => false,
     }
 }
 
 #[test]
 fn slots_are_taken_die_after_die(rt: HostRuntime) {
-    assert!(rt; is_new_given(rt.alloc()));
-    assert!(rt; is_rest_given(rt.alloc()));
+    let is_given = is_new_given(rt.alloc()) && is_rest_given(rt.alloc());
+    assert!(rt; is_given);
 }
 
 /// Two dies of two blocks of two slots.
@@ -154,7 +162,11 @@ fn changes_spares(blocks: &mut Blocks) -> bool
 /// Whether a new table does so.
 fn is_spare_changed(alloc: Global) -> bool {
     match Blocks::new(alloc, SMALL) {
-        Ok(mut blocks) => changes_spares(&mut blocks),
+        Ok(mut blocks) => {
+            let is_so = changes_spares(&mut blocks);
+            drop(blocks);
+            is_so
+        }
         Err(_) => false,
     }
 }

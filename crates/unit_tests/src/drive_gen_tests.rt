@@ -140,26 +140,25 @@ fn are_usual(alloc: Global) -> bool {
         && is_usual(alloc, 0, 20000, 41790, 7449287161162735624)
 }
 
+/// Whether the lists of devices of few and of many pages are too.
+fn are_unusual(alloc: Global) -> bool {
+    is_made(
+        alloc,
+        list(alloc, 99, 300, FEW_PAGES),
+        631,
+        10142257825993847075,
+    ) && is_made(
+        alloc,
+        list(alloc, 3, 300, MANY_PAGES),
+        1508,
+        997634164607678974,
+    )
+}
+
 #[test]
 fn lists_are_as_a_second_program_makes_them(rt: HostRuntime) {
-    let alloc = rt.alloc();
-    assert!(rt; are_usual(alloc));
-    assert!(rt;
-        is_made(
-            alloc,
-            list(alloc, 99, 300, FEW_PAGES),
-            631,
-            10142257825993847075
-        )
-    );
-    assert!(rt;
-        is_made(
-            alloc,
-            list(alloc, 3, 300, MANY_PAGES),
-            1508,
-            997634164607678974
-        )
-    );
+    let are_made = are_usual(rt.alloc()) && are_unusual(rt.alloc());
+    assert!(rt; are_made);
 }
 
 /// Appends the text of a reply. Returns whether there is memory.
@@ -290,6 +289,7 @@ fn are_mixed_summed_up(alloc: Global, list: &[Command]) -> bool {
 
 #[test]
 fn replies_are_summed_up(rt: HostRuntime) {
-    assert!(rt; is_filling_summed_up(rt.alloc()));
-    assert!(rt; are_mixed_summed_up(rt.alloc(), &[Command::Collect, Command::Stats]));
+    let are_summed_up = is_filling_summed_up(rt.alloc())
+        && are_mixed_summed_up(rt.alloc(), &[Command::Collect, Command::Stats]);
+    assert!(rt; are_summed_up);
 }

@@ -273,6 +273,6 @@ fn are_long_walks_drawn_in_svg(alloc: Global) -> bool {
 
 #[test]
 fn draws_long_walks(rt: HostRuntime) {
-    assert!(rt; are_long_walks_drawn(rt.alloc()));
-    assert!(rt; are_long_walks_drawn_in_svg(rt.alloc()));
+    let are_drawn = are_long_walks_drawn(rt.alloc()) && are_long_walks_drawn_in_svg(rt.alloc());
+    assert!(rt; are_drawn);
 }

@@ -85,7 +85,11 @@ fn new_flash(alloc: Global, config: &Config) -> Option<MemFlash>
 /// The image of a blank device, as its flash is written.
 fn written(alloc: Global, config: &Config) -> Option<Vec<u8>> {
     match new_flash(alloc, config) {
-        Some(flash) => write_image(alloc, config, &flash).ok(),
+        Some(flash) => {
+            let image = write_image(alloc, config, &flash).ok();
+            drop(flash);
+            image
+        }
         None => None,
     }
 }
@@ -108,7 +112,10 @@ fn are(bytes: Option<Vec<u8>>, image: Option<Vec<u8>>) -> bool {
 /// Whether the image has this length and this configuration.
 fn has(alloc: Global, bytes: &[u8], length: usize, config: &Config) -> bool {
     match read_image(alloc, bytes) {
-        Ok((read, _)) => bytes.len() == length && read == *config,
+        Ok((read, flash)) => {
+            drop(flash);
+            bytes.len() == length && read == *config
+        }
         Err(_) => false,
     }
 }
@@ -121,12 +128,16 @@ fn is_ordinary(alloc: Global) -> bool {
     }
 }
 
+/// Whether the images of blank devices are.
+fn are_blank(alloc: Global) -> bool {
+    are(written(alloc, &SMALL), blank_image(alloc))
+        && are(blank(alloc, &SMALL, 0), blank_image(alloc))
+        && is_ordinary(alloc)
+}
+
 #[test]
 fn a_blank_flash_is_spelled(rt: HostRuntime) {
-    let alloc = rt.alloc();
-    assert!(rt; are(written(alloc, &SMALL), blank_image(alloc)));
-    assert!(rt; are(blank(alloc, &SMALL, 0), blank_image(alloc)));
-    assert!(rt; is_ordinary(alloc));
+    assert!(rt; are_blank(rt.alloc()));
 }
 
 /// The bytes of a page.
@@ -189,7 +200,11 @@ fn filled_image(alloc: Global, flash: &mut MemFlash) -> Option<Vec<u8>>
 /// The image of each kind, as its flash is written.
 fn each_kind_written(alloc: Global) -> Option<Vec<u8>> {
     match MemFlash::new(alloc, SMALL_SHAPE) {
-        Ok(mut flash) => filled_image(alloc, &mut flash),
+        Ok(mut flash) => {
+            let image = filled_image(alloc, &mut flash);
+            drop(flash);
+            image
+        }
         Err(_) => None,
     }
 }
@@ -218,7 +233,11 @@ fn is_new(flash: &MemFlash) -> bool {
 fn is_small(alloc: Global, bytes: &[u8]) -> bool {
     match read_image(alloc, bytes) {
         Ok((config, flash)) => {
-            config == SMALL && is_new(&flash) && spells(alloc, &config, &flash, bytes)
+            let is_small = config == SMALL
+                && is_new(&flash)
+                && spells(alloc, &config, &flash, bytes);
+            drop(flash);
+            is_small
         }
         Err(_) => false,
     }
@@ -265,10 +284,14 @@ fn made(alloc: Global) -> Option<Vec<u8>> {
     }
 }
 
+/// Whether the image of each kind comes back, and that of a blank flash.
+fn are_back(alloc: Global) -> bool {
+    are(each_kind_back(alloc), each_kind(alloc)) && are(made(alloc), blank_image(alloc))
+}
+
 #[test]
 fn bytes_that_are_handed_over_come_back(rt: HostRuntime) {
-    assert!(rt; are(each_kind_back(rt.alloc()), each_kind(rt.alloc())));
-    assert!(rt; are(made(rt.alloc()), blank_image(rt.alloc())));
+    assert!(rt; are_back(rt.alloc()));
 }
 
 /// The image of a small device of which 515 blocks may be retired and 2 are.
@@ -279,27 +302,33 @@ fn retired(alloc: Global) -> Option<Vec<u8>> {
     match new_flash(alloc, &SMALL) {
         Some(mut flash) => {
             flash.set_extras(515, 2);
-            write_image(alloc, &SMALL, &flash).ok()
+            let image = write_image(alloc, &SMALL, &flash).ok();
+            drop(flash);
+            image
         }
         None => None,
     }
 }
 
+/// Whether the images are those of a flash with retired blocks, and of one of which seven may be retired.
+fn are_retired(alloc: Global) -> bool {
+    are(retired(alloc), changed(alloc, RETIRED))
+        && are(blank(alloc, &SMALL, 7), changed(alloc, "7=32 36=7"))
+}
+
 #[test]
 fn retired_blocks_are_written(rt: HostRuntime) {
-    assert!(rt; are(retired(rt.alloc()), changed(rt.alloc(), RETIRED)));
-    assert!(rt;
-        are(
-            blank(rt.alloc(), &SMALL, 7),
-            changed(rt.alloc(), "7=32 36=7")
-        )
-    );
+    assert!(rt; are_retired(rt.alloc()));
 }
 
 /// Whether this many blocks may be retired, and are.
 fn has_extras(image: Result<(Config, MemFlash), ImageError>, allowance: u32, retired: u32) -> bool {
     match image {
-        Ok((_, flash)) => flash.allowance() == allowance && flash.retired() == retired,
+        Ok((_, flash)) => {
+            let is_so = flash.allowance() == allowance && flash.retired() == retired;
+            drop(flash);
+            is_so
+        }
         Err(_) => false,
     }
 }
@@ -322,8 +351,8 @@ fn takes_none(alloc: Global) -> bool {
 
 #[test]
 fn retired_blocks_are_read(rt: HostRuntime) {
-    assert!(rt; reads_extras(rt.alloc()));
-    assert!(rt; takes_none(rt.alloc()));
+    let are_read = reads_extras(rt.alloc()) && takes_none(rt.alloc());
+    assert!(rt; are_read);
 }
 
 /// Whether a small device's image of this many bytes is read, or breaks the rule that it should.

@@ -322,7 +322,9 @@ impl LineTest for Steps {
         match MemFlash::new(alloc, SHAPE) {
             Ok(mut flash) => {
                 flash.set_extras(2, 0);
-                comes_to(&mut flash, steps, want)
+                let is_so = comes_to(&mut flash, steps, want);
+                drop(flash);
+                is_so
             }
             Err(_) => false,
         }

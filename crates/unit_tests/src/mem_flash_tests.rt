@@ -45,7 +45,11 @@ fn reads_back(flash: &mut MemFlash) -> bool
 /// Whether a new flash reads back.
 fn is_read_back(alloc: Global) -> bool {
     match MemFlash::new(alloc, SHAPE) {
-        Ok(mut flash) => reads_back(&mut flash),
+        Ok(mut flash) => {
+            let is_so = reads_back(&mut flash);
+            drop(flash);
+            is_so
+        }
         Err(_) => false,
     }
 }
@@ -121,7 +125,11 @@ fn comes_back(alloc: Global, shape: Shape) -> bool
     requires { IsShape shape }
 {
     match numbered(alloc, shape) {
-        Ok(mut flash) => is_back(&mut flash, shape),
+        Ok(mut flash) => {
+            let is_so = is_back(&mut flash, shape);
+            drop(flash);
+            is_so
+        }
         Err(_) => false,
     }
 }
@@ -136,8 +144,8 @@ const LARGEST: Shape = Shape {
 
 #[test]
 fn slots_come_back_as_they_were_given(rt: HostRuntime) {
-    assert!(rt; comes_back(rt.alloc(), SHAPE));
-    assert!(rt; comes_back(rt.alloc(), LARGEST));
+    let come_back = comes_back(rt.alloc(), SHAPE) && comes_back(rt.alloc(), LARGEST);
+    assert!(rt; come_back);
 }
 
 /// On any flash: retires a block if it may, and tells how many may be retired and how many are.
@@ -184,7 +192,11 @@ fn answers(flash: &mut MemFlash) -> bool
 /// Whether a new one does so.
 fn is_answered(alloc: Global) -> bool {
     match MemFlash::new(alloc, SHAPE) {
-        Ok(mut flash) => answers(&mut flash),
+        Ok(mut flash) => {
+            let is_so = answers(&mut flash);
+            drop(flash);
+            is_so
+        }
         Err(_) => false,
     }
 }
@@ -208,7 +220,11 @@ fn keeps_allowance(flash: &mut MemFlash) -> bool
 /// Whether none are of a new flash.
 fn is_allowance_kept(alloc: Global) -> bool {
     match MemFlash::new(alloc, SHAPE) {
-        Ok(mut flash) => keeps_allowance(&mut flash),
+        Ok(mut flash) => {
+            let is_so = keeps_allowance(&mut flash);
+            drop(flash);
+            is_so
+        }
         Err(_) => false,
     }
 }

@@ -128,7 +128,11 @@ fn are_done(cache: &mut PageCache, steps: &str) -> bool
 /// Whether the steps of both texts are done by a new cache.
 fn is_held(alloc: Global) -> bool {
     match PageCache::new(alloc, 4) {
-        Ok(mut cache) => are_done(&mut cache, NAMES) && are_done(&mut cache, ORDER),
+        Ok(mut cache) => {
+            let is_so = are_done(&mut cache, NAMES) && are_done(&mut cache, ORDER);
+            drop(cache);
+            is_so
+        }
         Err(_) => false,
     }
 }

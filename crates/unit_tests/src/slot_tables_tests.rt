@@ -308,7 +308,11 @@ fn are_changed(tables: &mut Tables) -> bool
 /// Whether new tables are right.
 fn is_history(alloc: Global) -> bool {
     match Tables::new(alloc, SHAPE, PAGES) {
-        Ok(mut tables) => are_changed(&mut tables),
+        Ok(mut tables) => {
+            let is_so = are_changed(&mut tables);
+            drop(tables);
+            is_so
+        }
         Err(_) => false,
     }
 }

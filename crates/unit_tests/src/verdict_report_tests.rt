@@ -140,11 +140,16 @@ fn is_walk_cut(alloc: Global, pages: u32, rest: &str, last: &str) -> bool {
     }
 }
 
+/// Whether those on cycles of 16 pages and of more do.
+fn are_walks_cut(alloc: Global) -> bool {
+    is_walk_cut(alloc, 16, " 0:1\n", "\nexplained 16\n")
+        && is_walk_cut(alloc, 17, " 16:1 more 1\n", "\nexplained 17\n")
+        && is_walk_cut(alloc, 300, " 16:1 more 284\n", "\nexplained 300\n")
+}
+
 #[test]
 fn walks_of_many_links(rt: HostRuntime) {
-    assert!(rt; is_walk_cut(rt.alloc(), 16, " 0:1\n", "\nexplained 16\n"));
-    assert!(rt; is_walk_cut(rt.alloc(), 17, " 16:1 more 1\n", "\nexplained 17\n"));
-    assert!(rt; is_walk_cut(rt.alloc(), 300, " 16:1 more 284\n", "\nexplained 300\n"));
+    assert!(rt; are_walks_cut(rt.alloc()));
 }
 
 /// The report on a list in which page 0 leads to a cycle of others, of a device of three pages: its walk takes one

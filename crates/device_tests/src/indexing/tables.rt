@@ -140,18 +140,24 @@ fn link(page: u32, version: u64) -> Link {
     Link { page, version }
 }
 
+/// A record in a slot: its page and its version, those of its link, and its back version.
+fn placed(slot: u32, name: (u32, u64), next: (u32, u64), back: u64) -> Found
+    ensures { result.slot.0 ≡ slot }
+{
+    found(slot, rec(link(name.0, name.1), link(next.0, next.1), back))
+}
+
 /// A record of page 0 with a copy in each of the blocks 0 to 2, a damaged slot, and an aborted record.
 pub fn doubled(alloc: Global) -> Option<Index<Scc>> {
     let seen = [
         Blank, Complete, Blank, Damaged, Complete, Blank, Complete, Complete, Blank, Blank, Blank,
         Blank,
     ];
-    let whole = rec(link(0, 1), link(0, 1), 0);
     let list = [
-        found(1, whole),
-        found(4, whole),
-        found(6, rec(link(1, 3), link(2, 7), 0)),
-        found(7, whole),
+        placed(1, (0, 1), (0, 1), 0),
+        placed(4, (0, 1), (0, 1), 0),
+        placed(6, (1, 3), (2, 7), 0),
+        placed(7, (0, 1), (0, 1), 0),
     ];
     opened::<Scc>(alloc, CONFIG, &seen, &list)
 }
@@ -264,14 +270,14 @@ fn held(alloc: Global) -> Option<Index<Bpcc>> {
         Blank, Blank, Blank, Blank, Blank, Blank, Blank, Blank, Blank, Blank,
     ];
     let list = [
-        found(0, rec(link(0, 1), link(1, 1), 0)),
-        found(1, rec(link(1, 3), link(1, 3), 2)),
-        found(2, rec(link(3, 1), link(3, 1), 0)),
-        found(3, rec(link(4, 1), link(4, 1), 0)),
-        found(16, rec(link(1, 2), link(1, 2), 0)),
-        found(17, rec(link(2, 1), link(2, 1), 0)),
-        found(18, rec(link(2, 2), link(2, 2), 1)),
-        found(19, rec(link(2, 3), link(2, 3), 2)),
+        placed(0, (0, 1), (1, 1), 0),
+        placed(1, (1, 3), (1, 3), 2),
+        placed(2, (3, 1), (3, 1), 0),
+        placed(3, (4, 1), (4, 1), 0),
+        placed(16, (1, 2), (1, 2), 0),
+        placed(17, (2, 1), (2, 1), 0),
+        placed(18, (2, 2), (2, 2), 1),
+        placed(19, (2, 3), (2, 3), 2),
     ];
     opened::<Bpcc>(alloc, BACK_POINTER, &seen, &list)
 }

@@ -68,6 +68,21 @@ fn tell(alloc: Global, flash: &mut MemFlash, config: Config, items: &str, text: 
     write_refusal(text, refusal, flash.reads()).is_ok()
 }
 
+/// Whether a new flash is refused as it is wanted once these items were done to it.
+fn is_refused_so(
+    alloc: Global,
+    flash: &mut MemFlash,
+    config: Config,
+    items: &str,
+    wanted: &str,
+) -> bool
+    requires check { checked config ≡ Ok flash.old.shape }
+    requires page { flash.old.shape.page_bytes ≡ 16 }
+{
+    let mut text = String::new(alloc);
+    tell(alloc, flash, config, items, &mut text) && is_like(text.as_str(), wanted)
+}
+
 /// Whether a flash with these items is refused as it is wanted.
 fn is_refused(alloc: Global, config: Config, items: &str, wanted: &str) -> bool
     requires check { checked config ≡ Ok (shape_of config) }
@@ -76,8 +91,9 @@ fn is_refused(alloc: Global, config: Config, items: &str, wanted: &str) -> bool
     let Some(mut flash) = blank_flash(alloc, config) else {
         return false;
     };
-    let mut text = String::new(alloc);
-    tell(alloc, &mut flash, config, items, &mut text) && is_like(text.as_str(), wanted)
+    let is_so = is_refused_so(alloc, &mut flash, config, items, wanted);
+    drop(flash);
+    is_so
 }
 
 /// Whether the flash of a line is refused as it says behind `=>`: by the law that is broken and the slot that is

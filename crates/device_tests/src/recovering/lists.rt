@@ -321,7 +321,11 @@ fn is_round_right(
         return false;
     }
     match blank_flash(alloc, config) {
-        Some(mut flash) => is_judged(alloc, &mut flash, config, &items, refusals),
+        Some(mut flash) => {
+            let is_so = is_judged(alloc, &mut flash, config, &items, refusals);
+            drop(flash);
+            is_so
+        }
         None => false,
     }
 }

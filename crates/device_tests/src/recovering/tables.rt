@@ -112,7 +112,11 @@ fn wrong_in_sound(alloc: Global, flash: &mut MemFlash) -> &'static str
 /// What is wrong of the flash with the items above.
 fn wrong_of_kept(alloc: Global) -> &'static str {
     match written(alloc, BACK_POINTER, KEPT) {
-        Some(mut flash) => wrong_in_sound(alloc, &mut flash),
+        Some(mut flash) => {
+            let wrong = wrong_in_sound(alloc, &mut flash);
+            drop(flash);
+            wrong
+        }
         None => "no flash",
     }
 }
@@ -146,7 +150,11 @@ fn wrong_in_loose(alloc: Global, flash: &mut MemFlash) -> &'static str
 /// What is wrong of the flash with the items above.
 fn wrong_of_loose(alloc: Global) -> &'static str {
     match written(alloc, SIMPLE, LOOSE) {
-        Some(mut flash) => wrong_in_loose(alloc, &mut flash),
+        Some(mut flash) => {
+            let wrong = wrong_in_loose(alloc, &mut flash);
+            drop(flash);
+            wrong
+        }
         None => "no flash",
     }
 }

@@ -2,13 +2,26 @@ use desk_io::LockFile;
 use durable_folder::Lock;
 use std::alloc::{Allocator, Global};
 use std::cell::{Cell, RefCell};
-use std::fmt::Display;
-use std::fs::{Metadata, OpenFile, OpenOptions, Permissions};
+use std::fs::{File, Metadata, OpenFile, OpenOptions, Permissions};
 use std::io;
 use std::io::{Error, ErrorKind, Read, Seek, SeekFrom, Write};
 use std::os::unix::fs::PermissionsExt;
 use std::path::{Path, PathBuf};
 use std::rt::Files;
+
+/// The folder that is saved in, and the names that a save asks for there.
+const NAMES: &str = "saves f link f.saving f.saving2";
+
+/// The last part of a path, if it is one of those names.
+fn last_part(path: &str) -> &'static str {
+    let file = Path::new(path).file_name().unwrap_or(path);
+    for name in NAMES.split(' ') {
+        if name == file {
+            return name;
+        }
+    }
+    "other"
+}
 
 /// The calls that were made of a system, one of which fails.
 #[derive(Drop)]
@@ -36,6 +49,14 @@ impl Log {
         self.left.get() == 0
     }
 
+    /// Whether these calls were made.
+    pub fn has(&self, calls: &str) -> bool {
+        match self.text.try_borrow() {
+            Ok(text) => text.as_str().trim_ascii_end() == calls,
+            Err(_) => false,
+        }
+    }
+
     /// What was called, where there is memory for it.
     pub fn text(&self, alloc: Global) -> Option<String> {
         match self.text.try_borrow() {
@@ -46,9 +67,8 @@ impl Log {
 
     /// Adds a call to the text, where there is memory for it.
     fn add(&self, call: &str, name: &str) -> bool {
-        let file = Path::new(name).file_name().unwrap_or(name);
         match self.text.try_borrow_mut() {
-            Ok(mut text) => write!(text, "{call} {file}; ").is_ok(),
+            Ok(mut text) => write!(text, "{call} {name}; ").is_ok(),
             Err(_) => false,
         }
     }
@@ -70,32 +90,20 @@ impl Log {
 
 /// A system that notes the calls that are made of it.
 #[derive(Drop)]
-pub struct Recorder<'a, R> {
-    pub rt: &'a R,
+pub struct Recorder<'a> {
+    pub rt: &'a HostRuntime,
     pub log: &'a Log,
 }
 
 /// An open file of such a system.
 #[derive(Drop)]
-pub struct Recorded<'a, F> {
-    file: F,
-    name: String,
+pub struct Recorded<'a> {
+    file: File,
+    name: &'static str,
     log: &'a Log,
 }
 
-impl<'a, R: AllocGlobal> Recorder<'a, R> {
-    /// A file of this name, once it was opened.
-    fn record<F: Drop>(&self, opened: io::Result<F>, name: &str) -> io::Result<Recorded<'a, F>> {
-        let file = opened?;
-        Ok(Recorded {
-            file,
-            name: String::from_str(self.rt.alloc(), name)?,
-            log: self.log,
-        })
-    }
-}
-
-impl<'a, R: AllocGlobal> Alloc for Recorder<'a, R> {
+impl<'a> Alloc for Recorder<'a> {
     type A = Global;
 
     fn alloc(&self) -> Global {
@@ -103,30 +111,15 @@ impl<'a, R: AllocGlobal> Alloc for Recorder<'a, R> {
     }
 }
 
-/// Its output is closed.
-impl<'a, R> Print for Recorder<'a, R> {
-    fn print<D: Display + Drop>(&self, _value: D) -> io::Result<()> {
-        Err(Error::from(ErrorKind::BrokenPipe))
-    }
-
-    fn println<D: Display + Drop>(&self, _value: D) -> io::Result<()> {
-        Err(Error::from(ErrorKind::BrokenPipe))
-    }
-
-    fn write_all(&self, _bytes: &[u8]) -> io::Result<()> {
-        Err(Error::from(ErrorKind::BrokenPipe))
-    }
-}
-
-impl<'a, F: Read> Read for Recorded<'a, F> {
+impl<'a> Read for Recorded<'a> {
     fn read(&mut self, buf: &mut [u8]) -> io::Result<usize> {
         self.file.read(buf)
     }
 }
 
-impl<'a, F: Write> Write for Recorded<'a, F> {
+impl<'a> Write for Recorded<'a> {
     fn write(&mut self, buf: &[u8]) -> io::Result<usize> {
-        self.log.note("write", self.name.as_str())?;
+        self.log.note("write", self.name)?;
         self.file.write(buf)
     }
 
@@ -135,24 +128,24 @@ impl<'a, F: Write> Write for Recorded<'a, F> {
     }
 }
 
-impl<'a, F: Seek> Seek for Recorded<'a, F> {
+impl<'a> Seek for Recorded<'a> {
     fn seek(&mut self, to: SeekFrom) -> io::Result<u64> {
         self.file.seek(to)
     }
 }
 
-impl<'a, F: OpenFile> OpenFile for Recorded<'a, F> {
+impl<'a> OpenFile for Recorded<'a> {
     fn metadata(&self) -> io::Result<Metadata> {
         self.file.metadata()
     }
 
     fn set_len(&self, size: u64) -> io::Result<()> {
-        self.log.note("length", self.name.as_str())?;
+        self.log.note("length", self.name)?;
         self.file.set_len(size)
     }
 
     fn sync_all(&self) -> io::Result<()> {
-        self.log.note("sync", self.name.as_str())?;
+        self.log.note("sync", self.name)?;
         self.file.sync_all()
     }
 
@@ -161,74 +154,85 @@ impl<'a, F: OpenFile> OpenFile for Recorded<'a, F> {
     }
 
     fn set_permissions(&self, perm: Permissions) -> io::Result<()> {
-        self.log.note("chmod", self.name.as_str())?;
+        self.log.note("chmod", self.name)?;
         self.file.set_permissions(perm)
     }
 }
 
-impl<'a, F: LockFile> LockFile for Recorded<'a, F> {
+impl<'a> LockFile for Recorded<'a> {
     fn take_lock(&self) -> io::Result<Lock> {
-        self.log.note("lock", self.name.as_str())?;
+        self.log.note("lock", self.name)?;
         self.file.take_lock()
     }
 }
 
-impl<'a, R: Files + AllocGlobal> Files for Recorder<'a, R> {
-    type File = Recorded<'a, R::File>;
+/// The answer to a call that no load and no save makes.
+fn refuse<T: Drop>() -> io::Result<T> {
+    Err(Error::from(ErrorKind::Unsupported))
+}
 
-    type Dir = R::Dir;
+impl<'a> Files for Recorder<'a> {
+    type File = Recorded<'a>;
 
-    fn open_file(&self, how: &OpenOptions, path: &str) -> io::Result<Recorded<'a, R::File>> {
+    type Dir = Recorded<'a>;
+
+    fn open_file(&self, how: &OpenOptions, path: &str) -> io::Result<Recorded<'a>> {
+        let name = last_part(path);
         let call = if how.asks_create_new() {
             "create"
         } else {
             "open"
         };
-        self.log.note(call, path)?;
-        self.record(self.rt.open_file(how, path), path)
+        self.log.note(call, name)?;
+        let file = self.rt.open_file(how, path)?;
+        Ok(Recorded {
+            file,
+            name,
+            log: self.log,
+        })
     }
 
-    fn open_dir(&self, path: &str) -> io::Result<R::Dir> {
-        self.rt.open_dir(path)
+    fn open_dir(&self, _path: &str) -> io::Result<Recorded<'a>> {
+        refuse()
     }
 
-    fn metadata(&self, path: &str) -> io::Result<Metadata> {
-        self.rt.metadata(path)
+    fn metadata(&self, _path: &str) -> io::Result<Metadata> {
+        refuse()
     }
 
     fn symlink_metadata(&self, path: &str) -> io::Result<Metadata> {
-        self.log.note("stat", path)?;
+        self.log.note("stat", last_part(path))?;
         self.rt.symlink_metadata(path)
     }
 
-    fn copy(&self, from: &str, to: &str) -> io::Result<u64> {
-        self.rt.copy(from, to)
+    fn copy(&self, _from: &str, _to: &str) -> io::Result<u64> {
+        refuse()
     }
 
     fn rename(&self, from: &str, to: &str) -> io::Result<()> {
-        self.log.note("rename", from)?;
+        self.log.note("rename", last_part(from))?;
         self.rt.rename(from, to)
     }
 
     fn remove_file(&self, path: &str) -> io::Result<()> {
-        self.log.note("remove", path)?;
+        self.log.note("remove", last_part(path))?;
         self.rt.remove_file(path)
     }
 
-    fn create_dir(&self, path: &str) -> io::Result<()> {
-        self.rt.create_dir(path)
+    fn create_dir(&self, _path: &str) -> io::Result<()> {
+        refuse()
     }
 
-    fn remove_dir(&self, path: &str) -> io::Result<()> {
-        self.rt.remove_dir(path)
+    fn remove_dir(&self, _path: &str) -> io::Result<()> {
+        refuse()
     }
 
-    fn remove_dir_all<B: Allocator>(&self, alloc: B, path: &str) -> io::Result<()> {
-        self.rt.remove_dir_all(alloc, path)
+    fn remove_dir_all<B: Allocator>(&self, _alloc: B, _path: &str) -> io::Result<()> {
+        refuse()
     }
 
     fn canonicalize<B: Allocator>(&self, alloc: B, path: &str) -> io::Result<PathBuf<B>> {
-        self.log.note("resolve", path)?;
+        self.log.note("resolve", last_part(path))?;
         self.rt.canonicalize(alloc, path)
     }
 
@@ -239,7 +243,7 @@ impl<'a, R: Files + AllocGlobal> Files for Recorder<'a, R> {
         } else {
             "chown too open"
         };
-        self.log.note(call, path)?;
+        self.log.note(call, last_part(path))?;
         self.rt.lchown(path, uid, gid)
     }
 }

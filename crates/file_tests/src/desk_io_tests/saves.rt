@@ -1,12 +1,11 @@
 //! How files are saved, and what is left where a call of the system fails.
 use super::recording::{Log, Recorder};
-use super::{is_absent, is_made, is_removed};
+use super::steps::{has, has_mode, is_absent, is_made, is_removed, is_written, sets_mode};
 use crate::lines::{word, word_count};
 use desk_io::{Desk, LockFile, RealDesk, RealFolder};
 use std::fs;
-use std::fs::Permissions;
 use std::io::ErrorKind;
-use std::os::unix::fs::{MetadataExt, PermissionsExt, symlink};
+use std::os::unix::fs::{MetadataExt, symlink};
 use std::rt::Files;
 
 /// What stands in the folder before a save, the name that is saved, and the calls that the save makes: first those by
@@ -26,35 +25,9 @@ f other | f | stat f; open f; lock f; open f; stat f; open f; write f; sync f; l
 f f.saving | f | stat f; open f; lock f; open f; stat f; open f; open saves; create f.saving; create f.saving2; \
 chown f.saving2; chmod f.saving2; write f.saving2; sync f.saving2; stat f.saving2; rename f.saving2; sync saves;";
 
-pub const OLD: &[u8] = b"the old bytes";
+const OLD: &[u8] = b"the old bytes";
 
-pub const NEW: &[u8] = b"new";
-
-/// Whether the file has these bytes.
-pub fn has(rt: &HostRuntime, name: &str, bytes: &[u8]) -> bool {
-    match fs::read(rt, name) {
-        Ok(found) => found.as_slice() == bytes,
-        Err(_) => false,
-    }
-}
-
-/// Whether the file may be read and written by those of this mode.
-pub fn has_mode(rt: &HostRuntime, name: &str, mode: u32) -> bool {
-    match fs::metadata(rt, name) {
-        Ok(found) => found.permissions().mode() & 0o777 == mode,
-        Err(_) => false,
-    }
-}
-
-/// Whether these are written to a file.
-pub fn is_written(rt: &HostRuntime, name: &str, bytes: &[u8]) -> bool {
-    fs::write(rt, name, bytes).is_ok()
-}
-
-/// Whether the mode of a file or a folder is set.
-pub fn sets_mode(rt: &HostRuntime, name: &str, mode: u32) -> bool {
-    fs::set_permissions(rt, name, Permissions::from_mode(mode)).is_ok()
-}
+const NEW: &[u8] = b"new";
 
 /// A save: what stands there before, the name that is saved, and the calls that it makes.
 #[derive(Clone, Copy)]
@@ -122,47 +95,20 @@ fn is_prepared(rt: &HostRuntime, it: &Case) -> bool {
         && is_file_there(rt, it)
 }
 
-/// A save that was made: whether it answered Ok, its calls, and whether the one that was to fail is among them.
-#[derive(Drop)]
-struct Saved {
-    is_ok: bool,
-    has_failed: bool,
-    calls: String,
-}
-
-/// Whether a save over a system returns Ok.
-fn is_saved_over<R: Files + Print + AllocGlobal>(system: &R, name: &str) -> bool
+/// Whether a save over a system answers Ok.
+fn is_saved_over<R: Files + AllocGlobal>(rt: &HostRuntime, system: &R, name: &str) -> bool
 where
     R::File: LockFile,
 {
-    RealDesk::new(system, RealFolder { rt: system })
-        .save(name, NEW)
-        .is_ok()
+    let mut desk = RealDesk::new(rt, RealFolder { rt: system });
+    let is_saved = desk.save(name, NEW).is_ok();
+    drop(desk);
+    is_saved
 }
 
-/// Whether a save returns Ok whose calls are noted.
+/// Whether a save answers Ok whose calls are noted.
 fn is_saved(rt: &HostRuntime, name: &str, log: &Log) -> bool {
-    is_saved_over(&Recorder { rt, log }, name)
-}
-
-/// Saves once with this log.
-fn save_with(rt: &HostRuntime, it: &Case, log: &Log) -> Option<Saved> {
-    if !is_prepared(rt, it) {
-        return None;
-    }
-    let is_ok = is_saved(rt, it.path(), log);
-    let calls = log.text(rt.alloc())?;
-    Some(Saved {
-        is_ok,
-        has_failed: log.has_failed(),
-        calls,
-    })
-}
-
-/// Saves once, where the call of this number fails in this way, or none for 0.
-fn save(rt: &HostRuntime, it: &Case, fails: u32, kind: ErrorKind) -> Option<Saved> {
-    let log = Log::new(rt.alloc(), fails, kind);
-    save_with(rt, it, &log)
+    is_saved_over(rt, &Recorder { rt, log }, name)
 }
 
 /// Whether a file has two names.
@@ -188,19 +134,19 @@ fn stay_others(rt: &HostRuntime, it: &Case) -> bool {
         && (!it.had("other") || has_two_names(rt, "saves/f"))
 }
 
-/// Whether a save that returns Ok leaves the new bytes, with the mode of the old file.
+/// Whether a save that answers Ok leaves the new bytes, with the mode of the old file.
 fn is_new(rt: &HostRuntime, it: &Case) -> bool {
     has(rt, "saves/f", NEW)
         && (!it.had("f") || has_mode(rt, "saves/f", 0o640))
         && stay_others(rt, it)
 }
 
-/// Whether a save returns Ok and makes the calls that it should.
+/// Whether a save answers Ok and makes the calls that it should.
 fn makes_calls(rt: &HostRuntime, it: &Case) -> bool {
-    match save(rt, it, 0, ErrorKind::Other) {
-        Some(saved) => saved.is_ok && saved.calls.as_str().trim_ascii_end() == it.calls,
-        None => false,
-    }
+    let log = Log::new(rt.alloc(), 0, ErrorKind::Other);
+    let makes_calls = is_prepared(rt, it) && is_saved(rt, it.path(), &log) && log.has(it.calls);
+    drop(log);
+    makes_calls
 }
 
 /// Whether a save makes the calls of the line, and leaves the new bytes.
@@ -226,31 +172,48 @@ fn is_new_file_gone(rt: &HostRuntime, it: &Case, calls: &str) -> bool {
 }
 
 /// Whether a save was in place.
-fn is_in_place(saved: &Saved) -> bool {
-    let calls = saved.calls.as_str();
+fn is_in_place(calls: &str) -> bool {
     calls.contains("write f; ") || calls.contains("write link; ")
 }
 
 /// Whether a save that was not in place left the old file or the new one, and the new one where it answered Ok.
-fn is_file_whole(rt: &HostRuntime, it: &Case, saved: &Saved) -> bool {
+fn is_file_whole(rt: &HostRuntime, it: &Case, is_ok: bool, calls: &str) -> bool {
     has(rt, "saves/f", NEW)
-        || (!saved.is_ok && (is_in_place(saved) || !it.had("f") || has(rt, "saves/f", OLD)))
+        || (!is_ok && (is_in_place(calls) || !it.had("f") || has(rt, "saves/f", OLD)))
 }
 
-/// Whether all is well with the files after a save.
-fn is_well(rt: &HostRuntime, it: &Case, saved: &Saved) -> bool {
-    stay_others(rt, it)
-        && is_file_whole(rt, it, saved)
-        && is_new_file_gone(rt, it, saved.calls.as_str())
+/// Whether all is well with the files after a save that made these calls.
+fn is_well(rt: &HostRuntime, it: &Case, is_ok: bool, calls: &str) -> bool {
+    stay_others(rt, it) && is_file_whole(rt, it, is_ok, calls) && is_new_file_gone(rt, it, calls)
 }
 
-/// Whether the call of this number of a save may fail; nothing, where the save has fewer calls.
-fn may_fail(rt: &HostRuntime, it: &Case, fails: u32, kind: ErrorKind) -> Option<bool> {
-    match save(rt, it, fails, kind) {
-        Some(saved) if !saved.has_failed => None,
-        Some(saved) => Some(is_well(rt, it, &saved)),
-        None => Some(false),
+/// The same, where the calls are noted.
+fn is_well_after(rt: &HostRuntime, it: &Case, is_ok: bool, log: &Log) -> bool {
+    match log.text(rt.alloc()) {
+        Some(calls) => is_well(rt, it, is_ok, calls.as_str()),
+        None => false,
     }
+}
+
+/// Whether the call of a save may fail that the log says; nothing, where the save has fewer calls.
+fn may_fail_with(rt: &HostRuntime, it: &Case, log: &Log) -> Option<bool> {
+    if !is_prepared(rt, it) {
+        return Some(false);
+    }
+    let is_ok = is_saved(rt, it.path(), log);
+    if log.has_failed() {
+        Some(is_well_after(rt, it, is_ok, log))
+    } else {
+        None
+    }
+}
+
+/// The same of the call of this number.
+fn may_fail(rt: &HostRuntime, it: &Case, fails: u32, kind: ErrorKind) -> Option<bool> {
+    let log = Log::new(rt.alloc(), fails, kind);
+    let may_fail = may_fail_with(rt, it, &log);
+    drop(log);
+    may_fail
 }
 
 /// Whether each call of a save may fail in this way.

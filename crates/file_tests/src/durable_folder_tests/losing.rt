@@ -2,12 +2,18 @@ mod calls;
 mod mixes;
 
 use durable_folder::Found;
-use mixes::mixes;
+use mixes::may_mixes_be;
 use std::alloc::{AllocError, Global};
 use std::fs::Permissions;
 use std::io;
 use std::io::{Error, ErrorKind};
 use std::os::unix::fs::PermissionsExt;
+
+/// What a loss of power may leave at a name.
+pub trait Judge {
+    /// Whether these bytes may be left, or nothing.
+    fn may_be(&self, left: Option<&[u8]>) -> bool;
+}
 
 /// An open file.
 #[derive(Drop)]
@@ -228,39 +234,32 @@ impl CrashingFolder {
         }
     }
 
-    /// Adds all that a loss of power may leave of a file, or nothing where there is none.
-    fn add_left(
-        &self,
-        file: Option<usize>,
-        all: &mut Vec<Option<Vec<u8>>>,
-    ) -> Result<(), AllocError> {
+    /// Whether all that a loss of power may leave of a file may be left, or nothing where there is none.
+    fn may_file_be<J: Judge>(&self, file: Option<usize>, judge: &J) -> bool {
         let Some(file) = file else {
-            all.push(None)?;
-            return Ok(());
+            return judge.may_be(None);
         };
         match self.files.get(file) {
-            Some(versions) => mixes(self.alloc, versions, all),
-            None => Ok(()),
+            Some(versions) => may_mixes_be(self.alloc, versions, judge),
+            None => true,
         }
     }
 
-    /// Adds all that a loss of power may leave at a name.
-    fn add_all_left(&self, name: &str, all: &mut Vec<Option<Vec<u8>>>) -> Result<(), AllocError> {
-        match self.find_name(name) {
-            Some(found) => {
-                for file in &found.files {
-                    self.add_left(*file, all)?;
-                }
-                Ok(())
+    /// The same of all files that a name had.
+    fn may_files_be<J: Judge>(&self, name: &Name, judge: &J) -> bool {
+        for file in &name.files {
+            if !self.may_file_be(*file, judge) {
+                return false;
             }
-            None => self.add_left(None, all),
         }
+        true
     }
 
-    /// All that a loss of power may leave at a name, where files have two blocks at most.
-    pub fn crash_contents(&self, name: &str) -> Result<Vec<Option<Vec<u8>>>, AllocError> {
-        let mut all = Vec::new(self.alloc);
-        self.add_all_left(name, &mut all)?;
-        Ok(all)
+    /// Whether all that a loss of power may leave at a name may be left, where files have two blocks at most.
+    pub fn may_be_left<J: Judge>(&self, name: &str, judge: &J) -> bool {
+        match self.find_name(name) {
+            Some(found) => self.may_files_be(found, judge),
+            None => judge.may_be(None),
+        }
     }
 }

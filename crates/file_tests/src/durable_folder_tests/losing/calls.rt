@@ -1,8 +1,8 @@
 //! The calls of a folder that loses power.
-use super::mixes::mix;
+use super::mixes::add_mix;
 use super::{CrashingFolder, Opened, Setting};
 use durable_folder::{Folder, Found, Lock};
-use std::alloc::{AllocError, Global};
+use std::alloc::AllocError;
 use std::fs::Permissions;
 use std::io;
 use std::io::{Error, ErrorKind};
@@ -13,17 +13,14 @@ fn follow_link(name: &str) -> &str {
     if name == "link" { "f" } else { name }
 }
 
-/// What a file holds once bytes were written to it at an offset.
-fn overwritten(
-    alloc: Global,
-    seen: &[u8],
-    offset: usize,
-    bytes: &[u8],
-) -> Result<Vec<u8>, AllocError> {
-    let mut written = mix(alloc, seen, seen, offset)?;
-    written.extend_from_slice(bytes)?;
-    written.extend_from_slice(seen.get(written.len()..).unwrap_or(&[]))?;
-    Ok(written)
+/// Adds what a file holds once bytes were written to it at an offset. Tells whether there was memory.
+fn add_overwritten(seen: &[u8], offset: usize, bytes: &[u8], written: &mut Vec<u8>) -> bool {
+    let end = offset.saturating_add(bytes.len());
+    add_mix(seen, seen, offset, written)
+        && written.extend_from_slice(bytes).is_ok()
+        && written
+            .extend_from_slice(seen.get(end..).unwrap_or(&[]))
+            .is_ok()
 }
 
 impl CrashingFolder {
@@ -182,7 +179,11 @@ impl Folder for CrashingFolder {
     }
 
     fn write(&mut self, file: &mut Opened, bytes: &[u8]) -> io::Result<()> {
-        let written = overwritten(self.alloc, self.contents(file.file), file.offset, bytes)?;
+        let mut written = Vec::new(self.alloc);
+        let seen = self.contents(file.file);
+        if !add_overwritten(seen, file.offset, bytes, &mut written) {
+            return Err(Error::from(ErrorKind::OutOfMemory));
+        }
         let answer = self.call_and_change(file.file, written);
         self.is_in_place = self.is_in_place || self.file("f") == Some(file.file);
         file.offset = file.offset.saturating_add(bytes.len());
@@ -196,8 +197,16 @@ impl Folder for CrashingFolder {
     }
 
     fn set_length(&mut self, file: &Opened, length: u64) -> io::Result<()> {
+        let mut resized = Vec::new(self.alloc);
         let seen = self.contents(file.file);
-        let resized = mix(self.alloc, seen, seen, usize::try_from(length).unwrap_or(0))?;
+        if !add_mix(
+            seen,
+            seen,
+            usize::try_from(length).unwrap_or(0),
+            &mut resized,
+        ) {
+            return Err(Error::from(ErrorKind::OutOfMemory));
+        }
         self.call_and_change(file.file, resized)
     }
 

@@ -1,51 +1,62 @@
 //! What a file with several contents may hold.
-use std::alloc::{AllocError, Global};
+use super::Judge;
+use std::alloc::Global;
 
 /// Where the disk tears a file: bytes that are written at once.
 const BLOCK: usize = 64;
 
-/// Adds each mix of two files: with the length of one version, of another, or one between them.
-fn add_lengths(
-    alloc: Global,
-    versions: &[Vec<u8>],
-    (first, second): (&[u8], &[u8]),
-    all: &mut Vec<Option<Vec<u8>>>,
-) -> Result<(), AllocError> {
-    for one in versions {
-        for other in versions {
-            let length = one.len().midpoint(other.len());
-            all.push(Some(mix(alloc, first, second, length)?))?;
+/// Adds the first block of one version and the rest of another, with zeros behind their ends. Tells whether there was
+/// memory.
+pub fn add_mix(first: &[u8], second: &[u8], length: usize, bytes: &mut Vec<u8>) -> bool {
+    for at in 0..length {
+        let from = if at < BLOCK { first } else { second };
+        if bytes.push(from.get(at).copied().unwrap_or(0)).is_err() {
+            return false;
         }
     }
-    Ok(())
+    true
 }
 
-/// Adds each mix of the first block of one version and the second of another, with the length of a third or one
-/// between it and that of a fourth.
-pub fn mixes(
-    alloc: Global,
-    versions: &[Vec<u8>],
-    all: &mut Vec<Option<Vec<u8>>>,
-) -> Result<(), AllocError> {
-    for first in versions {
-        for second in versions {
-            add_lengths(alloc, versions, (first, second), all)?;
-        }
-    }
-    Ok(())
-}
-
-/// The first block of one version and the rest of another, with zeros behind their ends.
-pub fn mix(
+/// Whether a mix of this length may be left.
+fn may_mix_be<J: Judge>(
     alloc: Global,
     first: &[u8],
     second: &[u8],
     length: usize,
-) -> Result<Vec<u8>, AllocError> {
+    judge: &J,
+) -> bool {
     let mut bytes = Vec::new(alloc);
-    for i in 0..length {
-        let from = if i < BLOCK { first } else { second };
-        bytes.push(from.get(i).copied().unwrap_or(0))?;
+    add_mix(first, second, length, &mut bytes) && judge.may_be(Some(bytes.as_slice()))
+}
+
+/// Whether each mix of two files may be left: with the length of one version, of another, or one between them.
+fn may_lengths_be<J: Judge>(
+    alloc: Global,
+    versions: &[Vec<u8>],
+    first: &[u8],
+    second: &[u8],
+    judge: &J,
+) -> bool {
+    for one in versions {
+        for other in versions {
+            let length = one.len().midpoint(other.len());
+            if !may_mix_be(alloc, first, second, length, judge) {
+                return false;
+            }
+        }
     }
-    Ok(bytes)
+    true
+}
+
+/// Whether each mix may be left of the first block of one version and the second of another, with the length of a
+/// third or one between it and that of a fourth.
+pub fn may_mixes_be<J: Judge>(alloc: Global, versions: &[Vec<u8>], judge: &J) -> bool {
+    for first in versions {
+        for second in versions {
+            if !may_lengths_be(alloc, versions, first, second, judge) {
+                return false;
+            }
+        }
+    }
+    true
 }
