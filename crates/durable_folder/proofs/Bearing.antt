@@ -1,16 +1,18 @@
 -- A file that is made in place, where there was nothing.
-use Rattle.durable_folder.proofs.Common.{◌≡◌, ◌≢◌, ◌⊎◌, inl, inr, ℕ, ◌<◌, ◌++◌, Bool, true, false, List, [], ◌∷◌, Option, None, Some, Result, Ok, Err, refl, sym, ap, ◌∙◌, arith, IsErr, error_kind, Error, Replaced, FolderState, SomeOf, MayHold, LeavesOf, IsFree, file_of, newest, target, Handle, SparesNames, OfFile, quiet, IsLate, History, Answer, Turns, Runs, HasFile, IsSaved, AfterOk, Overwrites, WritesOver, folder_of, Prepares, ReplaceOrNotEnds, ReplacesOrNot, IsInPlace, SavesAt}
+use Rattle.durable_folder.proofs.Common.{◌≡◌, ◌≢◌, ◌⊎◌, inl, inr, ℕ, ◌++◌, Bool, true, false, List, [], ◌∷◌, Option, None, Some, Result, Ok, Err, refl, sym, ap, ◌∙◌, IsErr, error_kind, Error, Replaced, FolderState, SomeOf, MayHold, LeavesOf, IsFree, file_of, newest, target, Handle, SparesNames, OfFile, quiet, IsLate, History, Answer, Turns, Runs, HasFile, IsSaved, AfterOk, Overwrites, WritesOver, folder_of, Prepares, ReplaceOrNotEnds, ReplacesOrNot, IsInPlace, SavesAt}
 use Rattle.durable_folder.specs.declared.answers.Replaced.TheVariants as replaced
 use Rattle.durable_folder.specs.FolderState.{Leaves}
 use Rattle.durable_folder.specs.Calls.{Makes, OpensOrCreates, OpensFolder, SyncsNames, Resolves, opened_at}
 use Rattle.durable_folder.specs.Counting.{is_denied, these_if}
-use Rattle.durable_folder.specs.Histories.{CannotSync}
-use Rattle.durable_folder.specs.Saving.{MaySyncNames, SyncsNamesOf}
-use Rattle.durable_folder.specs.Ways.{KeepsOrTears, IsTornLeft, IsBorn, Bears, WritesNew, AddsNoName, SyncsFolderOf, MakesThrough}
+use Rattle.durable_folder.specs.Histories.{CannotSync, RefusedSince}
+use Rattle.durable_folder.specs.Saving.{IsReason, IsOwner, MaySyncNames, SyncsNamesOf}
+use Rattle.durable_folder.specs.Ways.{IsOwnedBy, KeepsOrTears, IsTornLeft, IsBorn, Bears, WritesNew, AddsNoName, SyncsFolderOf, MakesThrough}
 use Rattle.durable_folder.proofs.Blocks.{holds_one}
 use Rattle.durable_folder.proofs.Heads.{after_err, after_ok_map}
 use Rattle.durable_folder.proofs.Passing.{runs_of, runs_weaker, runs_then, runs_counted}
 use Rattle.durable_folder.proofs.Putting.{synced_file}
+use Rattle.durable_folder.proofs.Refusing.{refused_kept, refused_weaker}
+use Rattle.durable_folder.proofs.Reasons.{reason_owned}
 use Rattle.durable_folder.proofs.Replacements.{some_entry, entry_some, leaves_of_files, saved_file, prepares_keeps}
 use Rattle.durable_folder.proofs.Tearing.{tears_less}
 
@@ -217,9 +219,17 @@ free_still name s t (inr p) free = record {
 }
 
 none_refused : (name bytes : List ℕ) (r : Result Replaced Error) (answer : Replaced) → r ≡ Ok answer → answer ≡ replaced.Refused → (h k : History) →
-    ReplaceOrNotEnds name None bytes r h k → Prepares name h.now k.now × (h.refusals < k.refusals)
+    ReplaceOrNotEnds name None bytes r h k →
+    Prepares name h.now k.now × RefusedSince (IsReason name (IsOwnedBy h.now name) h.now) h k
 none_refused name bytes (Ok replaced.Done) answer is refused h k x = absurd (cc)
-none_refused name bytes (Ok replaced.Refused) answer is refused h k x = (x.0, elim x.1 [ inl mounted ↦ absurd mounted | inr more ↦ more ])
+none_refused name bytes (Ok replaced.Refused) answer is refused h k x = (
+  x.0,
+  elim x.1 [
+    | inl mounted ↦ absurd mounted
+    | inr why ↦ refused_weaker (IsReason name (IsOwner None) h.now) (IsReason name (IsOwnedBy h.now name) h.now) h k
+        (reason_owned name (IsOwner None) (IsOwnedBy h.now name) h.now (λ user group none. absurd none)) why
+  ],
+)
 none_refused name bytes (Err e) answer is refused h k x = absurd (cc)
 
 pub made_new : (name bytes : List ℕ) (Known : FolderState → Type 0) (r : Result Replaced Error) (result : Result (Unit {0}) Error) (a b : Option History)
@@ -229,7 +239,7 @@ made_new name bytes Known r result a b ends replaces = inl (runs_weaker a b repl
 
 -- a refusal, and a new file in place
 pub record IsMaking (name bytes : List ℕ) (w : Result (Unit {0}) Error) (h k : History) : Type 0 where
-  pub refused : h.refusals < k.refusals
+  pub refused : RefusedSince (IsReason name (IsOwnedBy h.now name) h.now) h k
   pub keeps : IsFree h.now name → (v : FolderState) → AddsNoName k.now v → KeepsOrTears name bytes h.now v
   pub whole : IsFree h.now name → AfterOk w ((file : ℕ) × (file_of k.now name ≡ Some file) × (k.now.files file ≡ bytes ∷ []))
 
@@ -248,7 +258,7 @@ making name bytes r answer w a b c is refused replaces writes =
     (λ h k l x y.
     let p = none_refused name bytes r answer is refused h k x in
     record {
-      refused = omega (arith, p.1, y.0);
+      refused = refused_kept (IsReason name (IsOwnedBy h.now name) h.now) h k l p.1 y.0;
       keeps = λ free v settles.
           let still = free_still name h.now k.now p.0 free in
           grown_keeps name bytes h.now k.now l.now v p.0 (bears_here name bytes k.now l.now still (λ nothing. (y.1 nothing).0)) settles;
@@ -278,7 +288,7 @@ pub made : (name bytes : List ℕ) (w result : Result (Unit {0}) Error) (a c d :
 made name bytes w result a c d ok runs syncs =
     inr (runs_then a c d runs (runs_counted c d syncs) (λ s t x. x) (λ h k u x y free. x.keeps free u y)
     (λ h k l x y free. (
-      inr (inr (inr (omega (arith, x.refused, y.0)))),
+      inr (inr (inr (refused_kept (IsReason name (IsOwnedBy h.now name) h.now) h k l x.refused y.0))),
       after_ok_map result (HasFile name (file_of k.now name) l) (IsInPlace name bytes h l)
           (λ synced.
           let f = after_ok w ((file : ℕ) × (file_of k.now name ≡ Some file) × (k.now.files file ≡ bytes ∷ [])) ok (x.whole free) in

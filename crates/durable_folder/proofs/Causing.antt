@@ -8,7 +8,9 @@ use Rattle.durable_folder.specs.declared.answers.Replaced.TheVariants as replace
 use Rattle.durable_folder.specs.Calls.{Creates}
 use Rattle.durable_folder.specs.Answers.{sync_answer, unless_unable, IsNamesSyncAnswer}
 use Rattle.durable_folder.specs.Counting.{unless_so, is_unable, is_denied, is_presence, is_passed_over}
-use Rattle.durable_folder.specs.Counting.{answer_to, answer_to_sync_folder, noted_answer}
+use Rattle.durable_folder.specs.Counting.{answer_to, answer_to_sync_folder, not_opened_answer, not_synced_answer, refused_answer}
+use Rattle.durable_folder.specs.Histories.{Refusal, Making}
+use Rattle.durable_folder.specs.declared.replacing.Owner.{Owner}
 use Rattle.durable_folder.specs.Saving.{Tries, FillEnds}
 use Rattle.durable_folder.specs.Causes.{HasFailed, HasFault, HasCause, IsNamed, TakenBelow, IsCause, IsPassedOver}
 use Rattle.durable_folder.specs.Places.{IsBeside}
@@ -50,7 +52,7 @@ pub sync_failed : (S : FolderState → FolderState → Type 0) (place : List ℕ
     Turns S (answer_to_sync_folder place r) a b → IsErr (sync_answer r) → HasFailed a b
 sync_failed S place (Ok done) a b turn err = absurd (cc)
 sync_failed S place (Err e) a b turn err =
-    unless_failed S (noted_answer is_unable place e) (is_unable (error_kind e)) a b turn refl (sync_err (is_unable (error_kind e)) e err)
+    unless_failed S (not_synced_answer place e) (is_unable (error_kind e)) a b turn refl (sync_err (is_unable (error_kind e)) e err)
 
 pub file_sync_failed : (S : FolderState → FolderState → Type 0) (r : Result (Unit {0}) Error) (a b : Option History) →
     Turns S (answer_to r) a b → IsErr (sync_answer r) → HasFailed a b
@@ -72,17 +74,17 @@ refusal_err : (t : Bool) (e : Error) → IsErr (cond t (Ok replaced.Refused) (Er
 refusal_err true e err = absurd (cc)
 refusal_err false e err = refl
 
-pub refused_failed : (S : FolderState → FolderState → Type 0) (e : Error) (a b : Option History) → Turns S (error_answer is_refusal e) a b →
+pub refused_failed : (S : FolderState → FolderState → Type 0) (q : Refusal) (e : Error) (a b : Option History) → Turns S (refused_answer is_refusal q e) a b →
     IsErr (refusal_of e) → HasFailed a b
-refused_failed S e a b turn err =
-    unless_failed S (error_answer is_refusal e) (is_refusal (error_kind e)) a b turn refl (refusal_err (is_refusal (error_kind e)) e err)
+refused_failed S q e a b turn err =
+    unless_failed S (refused_answer is_refusal q e) (is_refusal (error_kind e)) a b turn refl (refusal_err (is_refusal (error_kind e)) e err)
 
-pub refused_fault : (S R : FolderState → FolderState → Type 0) (e : Error) (m : Answer) (a b c : Option History) →
-    Turns S (error_answer is_refusal e) a b → Turns R m b c → HasFault (refusal_of e) a c
-refused_fault S R e m a b c first last =
+pub refused_fault : (S R : FolderState → FolderState → Type 0) (q : Refusal) (e : Error) (m : Answer) (a b c : Option History) →
+    Turns S (refused_answer is_refusal q e) a b → Turns R m b c → HasFault (refusal_of e) a c
+refused_fault S R q e m a b c first last =
     let later = turn_later R m b c last in (
-      later_then a b c (turn_later S (error_answer is_refusal e) a b first) later,
-      λ err. failed_then a b c (refused_failed S e a b first err) later,
+      later_then a b c (turn_later S (refused_answer is_refusal q e) a b first) later,
+      λ err. failed_then a b c (refused_failed S q e a b first err) later,
     )
 
 -- a folder that may not be opened
@@ -95,15 +97,15 @@ denied_refused kind.PermissionDenied is = absurd (cc)
 denied_refused _ is = refl
 
 pub not_opened_failed : (S : FolderState → FolderState → Type 0) (folder : List ℕ) (e : Error) (a b : Option History) →
-    Turns S (noted_answer is_denied folder e) a b → error_kind e ≢ kind.PermissionDenied → HasFailed a b
+    Turns S (not_opened_answer folder e) a b → error_kind e ≢ kind.PermissionDenied → HasFailed a b
 not_opened_failed S folder e a b turn apart =
-    unless_failed S (noted_answer is_denied folder e) (is_denied (error_kind e)) a b turn refl (not_denied (error_kind e) apart)
+    unless_failed S (not_opened_answer folder e) (is_denied (error_kind e)) a b turn refl (not_denied (error_kind e) apart)
 
 pub not_opened_cause : (S : FolderState → FolderState → Type 0) (folder : List ℕ) (e : Error) (a b : Option History) →
-    Turns S (noted_answer is_denied folder e) a b → HasFault (refusal_of e) a b
+    Turns S (not_opened_answer folder e) a b → HasFault (refusal_of e) a b
 not_opened_cause S folder e a b turn = (
-  turn_later S (noted_answer is_denied folder e) a b turn,
-  λ err. unless_failed S (noted_answer is_denied folder e) (is_denied (error_kind e)) a b turn refl
+  turn_later S (not_opened_answer folder e) a b turn,
+  λ err. unless_failed S (not_opened_answer folder e) (is_denied (error_kind e)) a b turn refl
       (denied_refused (error_kind e) (refusal_err (is_refusal (error_kind e)) e err)),
 )
 
@@ -203,8 +205,8 @@ pub try_later : {F : Type 0} (handle : F → Handle) (beside : F → List ℕ) (
     Tries handle beside text r a b → IsLater a b
 try_later handle beside text (Ok (Some new)) a b tries = turn_later (Creates handle text (Ok new)) quiet a b tries.1
 try_later handle beside text (Ok None) a b tries =
-    turn_later (Creates handle text (Err tries.0)) (error_answer is_passed_over tries.0) a b tries.2
-try_later handle beside text (Err e) a b tries = turn_later (Creates handle text (Err e)) (error_answer is_passed_over e) a b tries.1
+    turn_later (Creates handle text (Err tries.0)) (refused_answer is_passed_over (Making text) tries.0) a b tries.2
+try_later handle beside text (Err e) a b tries = turn_later (Creates handle text (Err e)) (refused_answer is_passed_over (Making text) e) a b tries.1
 
 passes_over : {F : Type 0} (taken : Type 0) (handle : F → Handle) (beside : F → List ℕ) (text : List ℕ) (e : Error) (t : Bool) (a b c : Option History) →
     IsLater a b → Tries handle beside text (Err e) b c → is_refusal (error_kind e) ≡ t → IsLater a c × IsPassedOver taken e a c
@@ -212,7 +214,7 @@ passes_over taken handle beside text e true a b c later tries is =
     (later_then a b c later (try_later handle beside text (Err e) b c tries), inl is)
 passes_over taken handle beside text e false a b c later tries is = (
   later_then a b c later (try_later handle beside text (Err e) b c tries),
-  inr (inl (then_failed a b c later (turn_failed (Creates handle text (Err e)) (error_answer is_passed_over e) b c tries.1
+  inr (inl (then_failed a b c later (turn_failed (Creates handle text (Err e)) (refused_answer is_passed_over (Making text) e) b c tries.1
       (ap (λ p. unless_so (p || is_refusal (error_kind e))) (not_present (error_kind e) tries.0) ∙ ap unless_so is)))),
 )
 
@@ -232,19 +234,19 @@ pub refused_cause : (taken : Type 0) (e : Error) (a b : Option History) → IsLa
 refused_cause taken e a b x = refuses taken (is_refusal (error_kind e)) e a b x.0 x.1 refl
 
 -- the new file keeps its name while it is filled
-fill_names : (handle : Handle) (bytes : List ℕ) (filled : Result Replaced Error) (h k : History) → FillEnds handle bytes filled h k → (n : List ℕ) →
+fill_names : (handle : Handle) (beside : List ℕ) (owner : Option Owner) (bytes : List ℕ) (filled : Result Replaced Error) (h k : History) → FillEnds handle beside owner bytes filled h k → (n : List ℕ) →
     k.now.names n ≡ h.now.names n
-fill_names handle bytes (Ok replaced.Done) h k x n =
+fill_names handle beside owner bytes (Ok replaced.Done) h k x n =
     of_file_names (λ old new. handle.offset ≡ 0 → old ≡ [] ∷ [] → new ≡ bytes ∷ []) handle.file h.now k.now x n
-fill_names handle bytes (Ok replaced.Refused) h k x n = ap (λ u. u.names n) x.0
-fill_names handle bytes (Err e) h k x n = of_file_names (λ old new. Unit {0}) handle.file h.now k.now x n
+fill_names handle beside owner bytes (Ok replaced.Refused) h k x n = ap (λ u. u.names n) x.0
+fill_names handle beside owner bytes (Err e) h k x n = of_file_names (λ old new. Unit {0}) handle.file h.now k.now x n
 
-pub fills_named : (handle : Handle) (bytes : List ℕ) (filled : Result Replaced Error) (opened : Option ℕ) (beside : List ℕ) (a b : Option History) →
-    Fills handle bytes filled a b → AtNow (IsNamed opened beside) a → AtNow (IsNamed opened beside) b
-fills_named handle bytes filled opened beside a None fills named = tt
-fills_named handle bytes filled opened beside None (Some k) fills named = absurd fills.run
-fills_named handle bytes filled opened beside (Some h) (Some k) fills named =
-    (named.0, named.1, ap (newest None) (fill_names handle bytes filled h k fills.run.4 beside) ∙ named.2)
+pub fills_named : (handle : Handle) (beside : List ℕ) (owner : Option Owner) (bytes : List ℕ) (filled : Result Replaced Error) (opened : Option ℕ) (a b : Option History) →
+    Fills handle beside owner bytes filled a b → AtNow (IsNamed opened beside) a → AtNow (IsNamed opened beside) b
+fills_named handle beside owner bytes filled opened a None fills named = tt
+fills_named handle beside owner bytes filled opened None (Some k) fills named = absurd fills.run
+fills_named handle beside owner bytes filled opened (Some h) (Some k) fills named =
+    (named.0, named.1, ap (newest None) (fill_names handle beside owner bytes filled h k fills.run.4 beside) ∙ named.2)
 
 pub made_named : {P : FolderState → FolderState → Type 0} (handle : Handle) (name beside : List ℕ) (a b : Option History) →
     Runs P (λ h k. (f : ℕ) × IsMade handle name beside f h.now k.now) a b → AtNow (IsNamed handle.file beside) b

@@ -10,7 +10,7 @@ pub use Rattle.std.specs.declared.io.Error.{Error}
 pub use Rattle.durable_folder.specs.Answers.{IsLate, refusal_of}
 pub use Rattle.durable_folder.specs.Calls.{Handle, SparesNames, OfFile, Finds, FindsOpen, Opens, Written, Writes, Synced, SyncsFile, SparesFiles}
 pub use Rattle.durable_folder.specs.Causes.{IsLater, AtNow, AllTaken}
-pub use Rattle.durable_folder.specs.Counting.{quiet, is_refusal, is_absence, error_answer, never, if_so}
+pub use Rattle.durable_folder.specs.Counting.{quiet, is_refusal, is_absence, error_answer, never}
 pub use Rattle.durable_folder.specs.FolderState.{FolderState, SomeOf, MayHold, LeavesOf, IsFree, file_of, newest, target, byte_at}
 pub use Rattle.durable_folder.specs.Histories.{History, Answer, Turns, Runs, HasFile, IsSaved, Learns, Rests}
 pub use Rattle.durable_folder.specs.InPlace.{AfterOk, Overwrites, WritesOver, OneSuch, MayTear, AllTorn, WholeOrTorn, IsCleared, IsHeadless, FileRuns}

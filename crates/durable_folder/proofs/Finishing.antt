@@ -1,14 +1,16 @@
 -- A replacement, part after part.
-use Rattle.durable_folder.proofs.Common.{◌≡◌, ◌≢◌, inl, inr, ℕ, ◌+◌, ◌<◌, ◌≤◌, Bool, true, false, cond, List, [], ◌∷◌, Option, None, Some, Result, Ok, Err, refl, sym, ap, ◌∙◌, arith, IsErr, error_kind, Error, Replaced, FolderState, SomeOf, file_of, newest, Handle, SparesNames, SparesFiles, OfFile, is_refusal, if_so, refusal_of, History, Turns, Runs, Answer, Rests, HasFile, folder_of, Found, KeepsOrReplaces, IsNew, IsMade, Prepares, Fills, Shifts, ReplaceOrNotEnds, ReplacesOrNot}
+use Rattle.durable_folder.proofs.Common.{◌≡◌, ◌≢◌, inl, inr, ℕ, ◌++◌, Bool, true, false, cond, List, [], ◌∷◌, Option, None, Some, Result, Ok, Err, refl, sym, ap, ◌∙◌, IsErr, error_kind, Error, Replaced, FolderState, SomeOf, file_of, newest, Handle, SparesNames, SparesFiles, OfFile, is_refusal, refusal_of, History, Turns, Runs, Answer, Rests, HasFile, folder_of, Found, KeepsOrReplaces, IsNew, IsMade, Prepares, Fills, Shifts, ReplaceOrNotEnds, ReplacesOrNot}
 use Rattle.std.proofs.Common.{not, nat_eq, eq-eqb}
 use Rattle.durable_folder.specs.declared.answers.Replaced.TheVariants as replaced
 use Rattle.durable_folder.specs.Calls.{Removes, OpensFolder, FindsFolder}
-use Rattle.durable_folder.specs.Histories.{IsPlaceOf, IsTold}
+use Rattle.durable_folder.specs.Counting.{refused_if}
+use Rattle.durable_folder.specs.Histories.{Refusal, Making, Moving, Opening, KeepsRefusals, RefusedSince, IsPlaceOf, IsTold}
 use Rattle.durable_folder.specs.declared.replacing.Owner.{Owner}
-use Rattle.durable_folder.specs.Saving.{WasRefused, FillEnds, PutEnds, Puts, Aside, FinishSteps}
+use Rattle.durable_folder.specs.Saving.{IsReason, IsOwner, IsNotMade, IsGiving, WasRefused, FillEnds, PutEnds, Puts, Aside, FinishSteps}
 use Rattle.durable_folder.specs.Saving.{FinishEnds, Ends, ReplaceEnds, ReplacesBy, Replaces, Mounted}
 use Rattle.durable_folder.proofs.Passing.{runs_of, runs_weaker, runs_then, runs_counted, runs_ended}
 use Rattle.durable_folder.proofs.Putting.{put_err}
+use Rattle.durable_folder.proofs.Refusing.{refused_at, refused_kept, kept_refused, refused_weaker, refused_one}
 use Rattle.durable_folder.proofs.Replacements.{prepares_keeps, shifts_keeps, saved_file, aside_prepares, new_filled, differs}
 
 aside_none : (beside : List ℕ) (s t : FolderState) → t ≡ s → Aside beside s t
@@ -51,23 +53,24 @@ rests_ends beside name filled result a b apart err rests =
     runs_weaker a b rests (λ s t x. steps_aside beside name filled s t apart (aside_none beside s t x))
     (λ h k x. ends_err beside name filled result h k err)
 
-put_from : (beside name : List ℕ) (result : Result Replaced Error) (h k l : History) → h.refusals ≤ k.refusals → k.now ≡ h.now →
+put_from : (beside name : List ℕ) (result : Result Replaced Error) (h k l : History) → KeepsRefusals h k → k.now ≡ h.now →
     PutEnds beside name result k l → PutEnds beside name result h l
-put_from beside name (Ok replaced.Done) h k l more same x = rw same at x
-put_from beside name (Ok replaced.Refused) h k l more same x = (λ n away. x.0 n away ∙ ap (λ s. s.names n) same, omega (arith, x.1, more))
-put_from beside name (Err e) h k l more same x = tt
+put_from beside name (Ok replaced.Done) h k l kept same x = rw same at x
+put_from beside name (Ok replaced.Refused) h k l kept same x =
+    (λ n away. x.0 n away ∙ ap (λ s. s.names n) same, kept_refused (λ r. r ≡ Moving beside name) h k l kept x.1)
+put_from beside name (Err e) h k l kept same x = tt
 
 steps_still : (beside name : List ℕ) (filled : Result Replaced Error) (s t : FolderState) → t ≡ s → FinishSteps beside name filled s t
 steps_still beside name filled s t same = rw same (steps_none beside name filled s)
 
-ends_from : (beside name : List ℕ) (filled result : Result Replaced Error) (h k l : History) → h.refusals ≤ k.refusals → k.now ≡ h.now →
+ends_from : (beside name : List ℕ) (filled result : Result Replaced Error) (h k l : History) → KeepsRefusals h k → k.now ≡ h.now →
     FinishEnds beside name filled result k l → FinishEnds beside name filled result h l
-ends_from beside name (Ok replaced.Done) result h k l more same x =
-    λ differ. let there : file_of k.now beside ≢ file_of k.now name = rw same differ in put_from beside name result h k l more same (x there)
-ends_from beside name (Ok replaced.Refused) (Ok answer) h k l more same x = (x.0, rw same at x.1)
-ends_from beside name (Ok replaced.Refused) (Err e) h k l more same x = tt
-ends_from beside name (Err e) (Ok answer) h k l more same x = (x.0, rw same at x.1)
-ends_from beside name (Err e) (Err other) h k l more same x = tt
+ends_from beside name (Ok replaced.Done) result h k l kept same x =
+    λ differ. let there : file_of k.now beside ≢ file_of k.now name = rw same differ in put_from beside name result h k l kept same (x there)
+ends_from beside name (Ok replaced.Refused) (Ok answer) h k l kept same x = (x.0, rw same at x.1)
+ends_from beside name (Ok replaced.Refused) (Err e) h k l kept same x = tt
+ends_from beside name (Err e) (Ok answer) h k l kept same x = (x.0, rw same at x.1)
+ends_from beside name (Err e) (Err other) h k l kept same x = tt
 
 pub ends_after : (beside name : List ℕ) (filled result : Result Replaced Error) (a b c : Option History) → beside ≢ name → Rests a b →
     Ends beside name filled result b c → Ends beside name filled result a c
@@ -114,60 +117,77 @@ still_named : (handle : Handle) (name beside : List ℕ) (f : ℕ) (s t u : Fold
     file_of u beside ≡ Some f
 still_named handle name beside f s t u made same = ap (newest None) (same.names beside) ∙ made.named
 
-finish_keeps : (handle : Handle) (name beside bytes : List ℕ) (filled : Result Replaced Error) (f : ℕ) (s : FolderState) (h k : History)
+finish_keeps : (handle : Handle) (name beside : List ℕ) (owner : Option Owner) (bytes : List ℕ) (filled : Result Replaced Error) (f : ℕ) (s : FolderState) (h k : History)
     (u : FolderState) → IsMade handle name beside f s h.now →
-    FillEnds handle bytes filled h k → FinishSteps beside name filled k.now u → KeepsOrReplaces name bytes s u
-finish_keeps handle name beside bytes (Ok replaced.Done) f s h k u made x y =
+    FillEnds handle beside owner bytes filled h k → FinishSteps beside name filled k.now u → KeepsOrReplaces name bytes s u
+finish_keeps handle name beside owner bytes (Ok replaced.Done) f s h k u made x y =
     let b = made_bytes handle name beside bytes f s h.now k.now made x in
     let new = new_filled name beside f s h.now k.now made.new b.0 in
     let named = still_named handle name beside f s h.now k.now made b.0 in
     shifts_keeps name beside bytes f s k.now u new named b.1 (y (differs name beside f s k.now new named))
-finish_keeps handle name beside bytes (Ok replaced.Refused) f s h k u made x y =
+finish_keeps handle name beside owner bytes (Ok replaced.Refused) f s h k u made x y =
     let new : IsNew name beside f s k.now = rw x.0 made.new in
     prepares_keeps name bytes s u (aside_prepares name beside f s k.now u new y.names y.files)
-finish_keeps handle name beside bytes (Err e) f s h k u made x y =
+finish_keeps handle name beside owner bytes (Err e) f s h k u made x y =
     let new = new_filled name beside f s h.now k.now made.new (made_new_file handle name beside f s h.now k.now made x) in
     prepares_keeps name bytes s u (aside_prepares name beside f s k.now u new y.names y.files)
 
-finish_shifts : (handle : Handle) (name beside bytes : List ℕ) (f : ℕ) (s : FolderState) (h k : History) (u : FolderState) →
+finish_shifts : (handle : Handle) (name beside : List ℕ) (owner : Option Owner) (bytes : List ℕ) (f : ℕ) (s : FolderState) (h k : History) (u : FolderState) →
     IsMade handle name beside f s h.now →
-    FillEnds handle bytes (Ok replaced.Done) h k → FinishSteps beside name (Ok replaced.Done) k.now u → SparesFiles k.now u
-finish_shifts handle name beside bytes f s h k u made x y =
+    FillEnds handle beside owner bytes (Ok replaced.Done) h k → FinishSteps beside name (Ok replaced.Done) k.now u → SparesFiles k.now u
+finish_shifts handle name beside owner bytes f s h k u made x y =
     let b = made_bytes handle name beside bytes f s h.now k.now made x in
     let new = new_filled name beside f s h.now k.now made.new b.0 in
     let shifts = y (differs name beside f s k.now new (still_named handle name beside f s h.now k.now made b.0)) in shifts.files
 
-finish_ends : (handle : Handle) (name beside bytes : List ℕ) (filled result : Result Replaced Error) (f : ℕ) (s : FolderState) (h k l : History) →
+-- what giving a new file to its owner refused is a reason, and so is what putting it in its place refused
+giving_reason : (handle : Handle) (name beside : List ℕ) (owner : Option Owner) (f : ℕ) (s t : FolderState) → IsMade handle name beside f s t →
+    (r : Refusal) → IsGiving beside handle.file owner t r → IsReason name (IsOwner owner) s r
+giving_reason handle name beside owner f s t made r (inl is) = rw is (f, ap (λ h. h.file) made.opened, made.new.is_fresh)
+giving_reason handle name beside owner f s t made r (inr x) = rw x.3 ((f, made.named, made.new.is_fresh), x.2)
+
+moving_reason : (name beside : List ℕ) (owner : Option Owner) (f : ℕ) (s t : FolderState) → IsNew name beside f s t → (r : Refusal) →
+    r ≡ Moving beside name → IsReason name (IsOwner owner) s r
+moving_reason name beside owner f s t new r is = rw is (new.leftover, refl)
+
+making_reason : (name : List ℕ) (owner : Option Owner) (s : FolderState) (r : Refusal) → IsNotMade name r → IsReason name (IsOwner owner) s r
+making_reason name owner s r x = rw x.1 x.2
+
+finish_ends : (handle : Handle) (name beside : List ℕ) (owner : Option Owner) (bytes : List ℕ) (filled result : Result Replaced Error) (f : ℕ) (s : FolderState) (h k l : History) →
     IsMade handle name beside f s h.now →
-    FillEnds handle bytes filled h k → h.refusals ≤ k.refusals → FinishSteps beside name filled k.now l.now →
-    FinishEnds beside name filled result k l → k.refusals ≤ l.refusals → ReplaceEnds name bytes result s h l
-finish_ends handle name beside bytes filled (Err e) f s h k l made x more y z last = tt
-finish_ends handle name beside bytes (Ok replaced.Done) (Ok replaced.Done) f s h k l made x more y z last =
+    FillEnds handle beside owner bytes filled h k → KeepsRefusals h k → FinishSteps beside name filled k.now l.now →
+    FinishEnds beside name filled result k l → KeepsRefusals k l → ReplaceEnds name owner bytes result s h l
+finish_ends handle name beside owner bytes filled (Err e) f s h k l made x more y z last = tt
+finish_ends handle name beside owner bytes (Ok replaced.Done) (Ok replaced.Done) f s h k l made x more y z last =
     let b = made_bytes handle name beside bytes f s h.now k.now made x in
     let new = new_filled name beside f s h.now k.now made.new b.0 in
     let named = still_named handle name beside f s h.now k.now made b.0 in
     let put : HasFile name (file_of k.now beside) l = z (differs name beside f s k.now new named) in
     let has : HasFile name (Some f) l = rw named at put in
-    let files = finish_shifts handle name beside bytes f s h k l.now made x y in
+    let files = finish_shifts handle name beside owner bytes f s h k l.now made x y in
     saved_file name bytes f l has (files.files f ∙ b.1)
-finish_ends handle name beside bytes (Ok replaced.Done) (Ok replaced.Refused) f s h k l made x more y z last =
+finish_ends handle name beside owner bytes (Ok replaced.Done) (Ok replaced.Refused) f s h k l made x more y z last =
     let b = made_bytes handle name beside bytes f s h.now k.now made x in
     let new = new_filled name beside f s h.now k.now made.new b.0 in
     let ends = z (differs name beside f s k.now new (still_named handle name beside f s h.now k.now made b.0)) in (
-      aside_prepares name beside f s k.now l.now new ends.0 (finish_shifts handle name beside bytes f s h k l.now made x y),
-      omega
-          (arith, ends.1, more),
+      aside_prepares name beside f s k.now l.now new ends.0 (finish_shifts handle name beside owner bytes f s h k l.now made x y),
+      kept_refused (IsReason name (IsOwner owner) s) h k l more
+          (refused_weaker (λ r. r ≡ Moving beside name) (IsReason name (IsOwner owner) s) k l (moving_reason name beside owner f s k.now new) ends.1),
     )
-finish_ends handle name beside bytes (Ok replaced.Refused) (Ok replaced.Done) f s h k l made x more y z last = absurd (cc)
-finish_ends handle name beside bytes (Ok replaced.Refused) (Ok replaced.Refused) f s h k l made x more y z last =
-    let new : IsNew name beside f s k.now = rw x.0 made.new in
-    (aside_prepares name beside f s k.now l.now new y.names y.files, omega (arith, x.1, last))
-finish_ends handle name beside bytes (Err e) (Ok answer) f s h k l made x more y z last = absurd (cc)
+finish_ends handle name beside owner bytes (Ok replaced.Refused) (Ok replaced.Done) f s h k l made x more y z last = absurd (cc)
+finish_ends handle name beside owner bytes (Ok replaced.Refused) (Ok replaced.Refused) f s h k l made x more y z last =
+    let new : IsNew name beside f s k.now = rw x.0 made.new in (
+      aside_prepares name beside f s k.now l.now new y.names y.files,
+      refused_kept (IsReason name (IsOwner owner) s) h k l
+          (refused_weaker (IsGiving beside handle.file owner h.now) (IsReason name (IsOwner owner) s) h k
+          (giving_reason handle name beside owner f s h.now made) x.1) last,
+    )
+finish_ends handle name beside owner bytes (Err e) (Ok answer) f s h k l made x more y z last = absurd (cc)
 
-pub replaced_by : (handle : Handle) (name beside bytes : List ℕ) (filled result : Result Replaced Error) (a b c : Option History) →
-    Fills handle bytes filled a b → Ends beside name filled result b c →
-    ReplacesBy handle beside name bytes result a c
-replaced_by handle name beside bytes filled result a b c fills ends =
+pub replaced_by : (handle : Handle) (name beside : List ℕ) (owner : Option Owner) (bytes : List ℕ) (filled result : Result Replaced Error) (a b c : Option History) →
+    Fills handle beside owner bytes filled a b → Ends beside name filled result b c →
+    ReplacesBy handle beside name owner bytes result a c
+replaced_by handle name beside owner bytes filled result a b c fills ends =
     runs_then a b c (runs_counted a b fills) (runs_counted b c (runs_ended b c (steps_none beside name filled) ends))
     (λ t u x s f made. prepares_keeps name bytes s u (inr (
       beside,
@@ -175,35 +195,36 @@ replaced_by handle name beside bytes filled result a b c fills ends =
       new_filled name beside f s t u made.new
           (made_new_file handle name beside f s t u made x),
     )))
-    (λ h k u x y s f made. finish_keeps handle name beside bytes filled f s h k u made x.1 y)
-    (λ h k l x y s f made. finish_ends handle name beside bytes filled result f s h k l made x.1 x.0 y.1.0 y.1.1 y.0)
+    (λ h k u x y s f made. finish_keeps handle name beside owner bytes filled f s h k u made x.1 y)
+    (λ h k l x y s f made. finish_ends handle name beside owner bytes filled result f s h k l made x.1 x.0 y.1.0 y.1.1 y.0)
 
 -- from before the new file on
 prepared_first : (name bytes : List ℕ) (s t : FolderState) → Prepares name s t → KeepsOrReplaces name bytes s t
 prepared_first name bytes s t p = prepares_keeps name bytes s t p
 
-more_refusals : (name bytes : List ℕ) (result : Result Replaced Error) (s : FolderState) (h k l : History) → h.refusals ≤ k.refusals →
-    ReplaceEnds name bytes result s k l → ReplaceEnds name bytes result s h l
-more_refusals name bytes (Ok replaced.Done) s h k l more x = x
-more_refusals name bytes (Ok replaced.Refused) s h k l more x = (x.0, omega (arith, x.1, more))
-more_refusals name bytes (Err e) s h k l more x = tt
+kept_ends : (name : List ℕ) (owner : Option Owner) (bytes : List ℕ) (result : Result Replaced Error) (s : FolderState) (h k l : History) →
+    KeepsRefusals h k → ReplaceEnds name owner bytes result s k l → ReplaceEnds name owner bytes result s h l
+kept_ends name owner bytes (Ok replaced.Done) s h k l kept x = x
+kept_ends name owner bytes (Ok replaced.Refused) s h k l kept x = (x.0, kept_refused (IsReason name (IsOwner owner) s) h k l kept x.1)
+kept_ends name owner bytes (Err e) s h k l kept x = tt
 
-pub replaced_in : (handle : Handle) (name beside bytes : List ℕ) (result : Result Replaced Error) (a b c : Option History) →
-    Runs (Prepares name) (λ h k. (f : ℕ) × IsMade handle name beside f h.now k.now) a b → ReplacesBy handle beside name bytes result b c →
-    Replaces name bytes result a c
-replaced_in handle name beside bytes result a b c makes by =
+pub replaced_in : (handle : Handle) (name beside : List ℕ) (owner : Option Owner) (bytes : List ℕ) (result : Result Replaced Error) (a b c : Option History) →
+    Runs (Prepares name) (λ h k. (f : ℕ) × IsMade handle name beside f h.now k.now) a b → ReplacesBy handle beside name owner bytes result b c →
+    Replaces name owner bytes result a c
+replaced_in handle name beside owner bytes result a b c makes by =
     runs_then a b c (runs_counted a b makes) by (prepared_first name bytes) (λ h k u x y. y h.now x.1.0 x.1.1)
-    (λ h k l x y. more_refusals name bytes result h.now h k l x.0 (y h.now x.1.0 x.1.1))
+    (λ h k l x y. kept_ends name owner bytes result h.now h k l x.0 (y h.now x.1.0 x.1.1))
 
-refused_ends : (name bytes : List ℕ) (refuses : Bool) (e : Error) (h k : History) → k.now ≡ h.now → (refuses ≡ true → h.refusals < k.refusals) →
-    ReplaceEnds name bytes (cond refuses (Ok replaced.Refused) (Err e)) h.now h k
-refused_ends name bytes true e h k same more = (inl same, more refl)
-refused_ends name bytes false e h k same more = tt
+refused_ends : (name : List ℕ) (owner : Option Owner) (bytes : List ℕ) (refuses : Bool) (e : Error) (h k : History) → k.now ≡ h.now →
+    (refuses ≡ true → RefusedSince (IsNotMade name) h k) → ReplaceEnds name owner bytes (cond refuses (Ok replaced.Refused) (Err e)) h.now h k
+refused_ends name owner bytes true e h k same why =
+    (inl same, refused_weaker (IsNotMade name) (IsReason name (IsOwner owner) h.now) h k (making_reason name owner h.now) (why refl))
+refused_ends name owner bytes false e h k same why = tt
 
-pub not_made : (name bytes : List ℕ) (e : Error) (a b : Option History) → Runs (Prepares name) (λ h k. (k.now ≡ h.now) × WasRefused e h k) a b →
-    Replaces name bytes (refusal_of e) a b
-not_made name bytes e a b makes =
-    runs_weaker a b makes (prepared_first name bytes) (λ h k x. refused_ends name bytes (is_refusal (error_kind e)) e h k x.0 x.1)
+pub not_made : (name : List ℕ) (owner : Option Owner) (bytes : List ℕ) (e : Error) (a b : Option History) →
+    Runs (Prepares name) (λ h k. (k.now ≡ h.now) × WasRefused name e h k) a b → Replaces name owner bytes (refusal_of e) a b
+not_made name owner bytes e a b makes =
+    runs_weaker a b makes (prepared_first name bytes) (λ h k x. refused_ends name owner bytes (is_refusal (error_kind e)) e h k x.0 x.1)
 
 pub is_error : (e : Error) → IsErr {T = Replaced} {E = Error} (Err e)
 is_error e = refl
@@ -231,17 +252,20 @@ no_change_keeps : (name bytes : List ℕ) (s t : FolderState) → t ≡ s → Ke
 no_change_keeps name bytes s t same = prepares_keeps name bytes s t (inl same)
 
 by_refusal : (name : List ℕ) (owner : Option Owner) (bytes : List ℕ) (refuses : Bool) (e : Error) (h k : History) → k.now ≡ h.now →
-    k.refusals ≡ h.refusals + if_so refuses →
+    (place : List ℕ) → place ≡ folder_of name → k.refusals ≡ refused_if refuses (Opening place) ++ h.refusals →
     ReplaceOrNotEnds name owner bytes (cond refuses (Ok replaced.Refused) (Err e)) h k
-by_refusal name owner bytes true e h k same more = (inl same, inr (omega (arith, more)))
-by_refusal name owner bytes false e h k same more = tt
+by_refusal name owner bytes true e h k same place is more =
+    (inl same, inr (refused_one (IsReason name (IsOwner owner) h.now) (Opening place) h k more is))
+by_refusal name owner bytes false e h k same place is more = tt
 
 pub not_opened : {X : Type 0} (place : X → List ℕ) (folder name : List ℕ) (owner : Option Owner) (bytes : List ℕ) (e : Error) (n : Answer)
     (a b : Option History) →
-    n.refusals ≡ if_so (is_refusal (error_kind e)) → Turns (OpensFolder place folder (Err e)) n a b → ReplacesOrNot name owner bytes (refusal_of e) a b
-not_opened place folder name owner bytes e n a b counts turn =
+    folder ≡ folder_of name → n.refusals ≡ refused_if (is_refusal (error_kind e)) (Opening folder) →
+    Turns (OpensFolder place folder (Err e)) n a b → ReplacesOrNot name owner bytes (refusal_of e) a b
+not_opened place folder name owner bytes e n a b is counts turn =
     runs_weaker a b (runs_of (OpensFolder place folder (Err e)) n a b turn) (no_change_keeps name bytes)
-    (λ h k x. by_refusal name owner bytes (is_refusal (error_kind e)) e h k x.0 (x.1 ∙ ap (λ i. h.refusals + i) counts))
+    (λ h k x. by_refusal name owner bytes (is_refusal (error_kind e)) e h k x.0 folder is
+    (x.1 ∙ ap (λ i. i ++ h.refusals) counts))
 
 -- a folder of the name, of which it is told whether the file is mounted
 pub mounted_at : (place name : List ℕ) (owner : Option Owner) (r : Result Bool Error) (a b : Option History) → IsPlaceOf place name a →
@@ -250,14 +274,14 @@ mounted_at place name owner r None None at mounted = record { run = tt }
 mounted_at place name owner r None (Some k) at mounted = absurd mounted.run
 mounted_at place name owner r (Some h) b at mounted = rw (at.is tt) at mounted
 
-or_not_from : (name : List ℕ) (owner : Option Owner) (bytes : List ℕ) (result : Result Replaced Error) (h k l : History) → h.refusals ≤ k.refusals →
+or_not_from : (name : List ℕ) (owner : Option Owner) (bytes : List ℕ) (result : Result Replaced Error) (h k l : History) → KeepsRefusals h k →
     k.now ≡ h.now → ReplaceOrNotEnds name owner bytes result k l → ReplaceOrNotEnds name owner bytes result h l
-or_not_from name owner bytes (Ok replaced.Done) h k l more same x = x
-or_not_from name owner bytes (Ok replaced.Refused) h k l more same x = (
+or_not_from name owner bytes (Ok replaced.Done) h k l kept same x = x
+or_not_from name owner bytes (Ok replaced.Refused) h k l kept same x = (
   rw same at x.0,
-  elim x.1 [ inl mounted ↦ inl (rw same at mounted) | inr again ↦ inr (omega (arith, again, more)) ],
+  elim x.1 [ inl mounted ↦ inl (rw same at mounted) | inr again ↦ inr (kept_refused (IsReason name (IsOwner owner) h.now) h k l kept (refused_at (IsReason name (IsOwner owner)) h.now k.now k l same again)) ],
 )
-or_not_from name owner bytes (Err e) h k l more same x = tt
+or_not_from name owner bytes (Err e) h k l kept same x = tt
 
 -- a replacement in a folder that was opened
 pub opened_replaced : {X : Type 0} (place : X → List ℕ) (folder : List ℕ) (opened : X) (name : List ℕ) (owner : Option Owner) (bytes : List ℕ)
@@ -268,11 +292,15 @@ opened_replaced place folder opened name owner bytes result n a b c turn replace
     (λ s t x. no_change_keeps name bytes s t x.0) (λ h k u x y. rw x.1.0.0 at y)
     (λ h k l x y. or_not_from name owner bytes result h k l x.0 x.1.0.0 y)
 
-not_or_ends : (name : List ℕ) (owner : Option Owner) (bytes : List ℕ) (result : Result Replaced Error) (h k l : History) → h.refusals ≤ k.refusals →
+not_or_ends : (name : List ℕ) (owner : Option Owner) (bytes : List ℕ) (result : Result Replaced Error) (h k l : History) → KeepsRefusals h k →
     k.now ≡ h.now →
-    ReplaceEnds name bytes result k.now k l → ReplaceOrNotEnds name owner bytes result h l
+    ReplaceEnds name owner bytes result k.now k l → ReplaceOrNotEnds name owner bytes result h l
 not_or_ends name owner bytes (Ok replaced.Done) h k l more same x = x
-not_or_ends name owner bytes (Ok replaced.Refused) h k l more same x = (rw same at x.0, inr (omega (arith, x.1, more)))
+not_or_ends name owner bytes (Ok replaced.Refused) h k l more same x = (
+  rw same at x.0,
+  inr (kept_refused (IsReason name (IsOwner owner) h.now) h k l more
+      (refused_at (IsReason name (IsOwner owner)) h.now k.now k l same x.1)),
+)
 not_or_ends name owner bytes (Err e) h k l more same x = tt
 
 err_or_not : (name : List ℕ) (owner : Option Owner) (bytes : List ℕ) (result : Result Replaced Error) (h k : History) → IsErr result →
@@ -293,7 +321,7 @@ mounted_refused name owner bytes r a b is mounted =
 
 pub then_replaced : (name : List ℕ) (owner : Option Owner) (bytes : List ℕ) (r : Result Bool Error) (result : Result Replaced Error)
     (a b c : Option History) →
-    Mounted (folder_of name) owner r a b → Replaces name bytes result b c → ReplacesOrNot name owner bytes result a c
+    Mounted (folder_of name) owner r a b → Replaces name owner bytes result b c → ReplacesOrNot name owner bytes result a c
 then_replaced name owner bytes r result a b c mounted replaces =
     runs_then a b c (runs_counted a b mounted) replaces (no_change_keeps name bytes)
     (λ h k u x y. rw x.1.0 at y) (λ h k l x y. not_or_ends name owner bytes result h k l x.0 x.1.0 y)

@@ -1,11 +1,15 @@
 -- A save from the name to where it leads.
-use Rattle.durable_folder.proofs.Common.{◌≡◌, ◌≢◌, ◌⊎◌, inl, inr, ℕ, ◌<◌, ◌≤◌, true, false, List, Option, None, Some, Result, Ok, Err, refl, sym, ap, ◌∙◌, arith, IsErr, error_kind, Error, Found, FolderState, file_of, target, Handle, Finds, Opens, AtNow, AllTaken, History, Answer, Turns, Runs, Learns, IsSaved, AfterOk, WritesOver, KeepsOrReplaces, IsInPlace, SavesAt, IsSeen, WasFound}
+use Rattle.durable_folder.proofs.Common.{◌≡◌, ◌≢◌, ◌⊎◌, inl, inr, ℕ, true, false, List, Option, None, Some, Result, Ok, Err, refl, sym, ap, ◌∙◌, IsErr, error_kind, Error, Found, FolderState, file_of, target, Handle, Finds, Opens, AtNow, AllTaken, History, Answer, Turns, Runs, Learns, IsSaved, AfterOk, WritesOver, KeepsOrReplaces, IsInPlace, SavesAt, IsSeen, WasFound}
 use Rattle.std.specs.declared.io.ErrorKind.TheVariants as kind
 use Rattle.durable_folder.specs.Calls.{Resolves}
-use Rattle.durable_folder.specs.Ways.{MustBeInPlace, Looks, is_link, MakesThrough, LeadsNowhere, LeadsTo, Saves}
+use Rattle.durable_folder.specs.Counting.{not_given}
+use Rattle.durable_folder.specs.Histories.{Leading, KeepsRefusals, RefusedSince, end_at}
+use Rattle.durable_folder.specs.Saving.{IsReason}
+use Rattle.durable_folder.specs.Ways.{IsOwnedBy, IsUntold, MustBeInPlace, Looks, is_link, MakesThrough, LeadsNowhere, LeadsTo, Saves}
 use Rattle.durable_folder.proofs.Heads.{after_err, after_ok_map}
 use Rattle.durable_folder.proofs.Learning.{learns, learns_then}
 use Rattle.durable_folder.proofs.Passing.{runs_of, runs_none, runs_weaker, runs_then, runs_counted}
+use Rattle.durable_folder.proofs.Refusing.{kept_refused, refused_at, refused_kept, refused_one}
 use Rattle.durable_folder.proofs.Replacements.{prepares_keeps}
 use Rattle.durable_folder.proofs.Bearing.{resolves_stays}
 use Rattle.durable_folder.proofs.Tearing.{OpenedFor, opens_stays, tears_less, over_opened, over_arrived}
@@ -49,11 +53,13 @@ pub nothing_saved : (P : FolderState → Type 0) (name bytes : List ℕ) (result
 nothing_saved P name bytes result a b err known =
     inl (runs_weaker a b known (λ s t x. keeps_none (target s name) bytes s t x) (λ h k x. after_err result _ err))
 
-must_from : (name : List ℕ) (h k l : History) → h.refusals ≤ k.refusals → k.now ≡ h.now → MustBeInPlace name k l → MustBeInPlace name h l
+must_from : (name : List ℕ) (h k l : History) → KeepsRefusals h k → k.now ≡ h.now → MustBeInPlace name k l → MustBeInPlace name h l
 must_from name h k l more same (inl special) = inl (rw same at special)
 must_from name h k l more same (inr (inl shared)) = inr (inl (rw same at shared))
 must_from name h k l more same (inr (inr (inl mounted))) = inr (inr (inl (rw same at mounted)))
-must_from name h k l more same (inr (inr (inr refused))) = inr (inr (inr (omega (arith, more, refused))))
+must_from name h k l more same (inr (inr (inr why))) =
+    inr (inr (inr (kept_refused (IsReason name (IsOwnedBy h.now name) h.now) h k l more
+    (refused_at (λ s. IsReason name (IsOwnedBy s name) s) h.now k.now k l same why))))
 
 in_place_from : (name bytes : List ℕ) (h k l : History) → k.now ≡ h.now → IsInPlace name bytes k l → IsInPlace name bytes h l
 in_place_from name bytes h k l same x = record {
@@ -110,7 +116,7 @@ saved_nowhere name bytes result a b c known makes =
     (λ h k u y z. let nowhere : LeadsNowhere k.now name = rw (sym y.0) at y.1 in rw y.0 at (z nowhere.nothing))
     (λ h k l y z.
     let nowhere : LeadsNowhere k.now name = rw (sym y.0) at y.1 in (
-      inr y.1,
+      inr (inl y.1),
       after_ok_map result (IsSaved (target k.now name) bytes l) (IsInPlace (target h.now name) bytes h l)
           (λ there. record {
             over = λ g is plain. let both : None ≡ Some g = sym y.1.nothing ∙ is in absurd (cc);
@@ -168,21 +174,35 @@ saved_target name at bytes found looked result a b c d ok known looks saves =
     (λ s x y. (x.0, record { no_link = ap (λ m. target s m) x.0 ∙ x.1 ∙ sym x.0; seen = y }))) (λ s x. x) saves
 
 -- a link whose end cannot be told
+leading_runs : {P : Type 0} (text : P → List ℕ) (name : List ℕ) (e : Error) (a b : Option History) →
+    Turns (Resolves text name (Err e)) (not_given (Leading (end_at name a))) a b → Runs (λ s t. t ≡ s) (λ h k. (k.now ≡ h.now) × IsUntold name h k) a b
+leading_runs text name e None None turn = record { run = tt }
+leading_runs text name e None (Some k) turn = absurd turn
+leading_runs text name e (Some h) None turn = absurd turn
+leading_runs text name e (Some h) (Some k) turn =
+    let end = Leading (file_of h.now (target h.now name)) in
+    let once = (runs_of (Resolves text name (Err e)) (not_given end) (Some h) (Some k) turn).run in
+    record { run = (once.0, once.1, once.2, once.3, (turn.0, refused_one (λ r. r ≡ end) end h k turn.2 refl)) }
+
 pub saved_unresolved : {X P : Type 0} (handle : X → Handle) (text : P → List ℕ) (name bytes : List ℕ) (file : X) (e : Error)
-    (result : Result (Unit {0}) Error) (n : Answer) (a b c d : Option History) → n.refusals ≡ 1 →
-    Learns (λ s. Opens handle name (Ok file) s s) a b → Turns (Resolves text name (Err e)) n b c → WritesOver (handle file) bytes result c d →
-    Saves name bytes result a d
-saved_unresolved handle text name bytes file e result n a b c d counts known turn writes =
-    let first : Runs (λ s t. t ≡ s) (λ h k. (h.refusals < k.refusals) × OpenedFor handle name file h k) a c =
-    runs_then a b c (runs_counted a b known) (runs_of (Resolves text name (Err e)) n b c turn) (λ s t x. x) (λ h k u x y. y ∙ x.1.0)
-    (λ h k l x y. let more : h.refusals < l.refusals = omega (arith, x.0, y.1, counts) in (
-      more,
-      record { more = omega (arith, more); opens = x.1.1; prepares = inl (y.0 ∙ x.1.0) },
+    (result : Result (Unit {0}) Error) (a b c d : Option History) →
+    Learns (λ s. Opens handle name (Ok file) s s) a b → Turns (Resolves text name (Err e)) (not_given (Leading (end_at name b))) b c →
+    WritesOver (handle file) bytes result c d → Saves name bytes result a d
+saved_unresolved handle text name bytes file e result a b c d known turn writes =
+    let first : Runs (λ s t. t ≡ s) (λ h k. IsUntold name h k × OpenedFor handle name file h k) a c =
+    runs_then a b c (runs_counted a b known) (leading_runs text name e b c turn) (λ s t x. x) (λ h k u x y. y ∙ x.1.0)
+    (λ h k l x y. (
+      kept_refused (λ r. r ≡ Leading (file_of h.now (target h.now name))) h k l x.0
+          (refused_at (λ s r. r ≡ Leading (file_of s (target s name))) h.now k.now k l x.1.0 y.1),
+      record { opens = x.1.1; prepares = inl (y.0 ∙ x.1.0) },
     )) in
     inr (runs_then a c d first (runs_counted c d writes.run)
     (λ s t y. tears_less (target s name) bytes s t (keeps_none (target s name) bytes s t y))
     (λ h k u x y. over_opened handle name file bytes h k u x.1 y)
-    (λ h k l x y. (inl (inr (inr (inr (omega (arith, x.0, y.0))))), over_arrived handle name file bytes result h k l x.1 y.1)))
+    (λ h k l x y. (
+      inr (inr (refused_kept (λ r. r ≡ Leading (file_of h.now (target h.now name))) h k l x.0 y.0)),
+      over_arrived handle name file bytes result h k l x.1 y.1,
+    )))
 
 -- what is taken where the name leads
 abbrev pub TakenThere : List ℕ → FolderState → Type 0
@@ -206,12 +226,16 @@ there_taken name at (Some h) (Some k) known taken =
 links_from : (name : List ℕ) (h k : History) → k.now ≡ h.now → LeadsNowhere k.now name → LeadsNowhere h.now name
 links_from name h k same x = rw same at x
 
-reason_from : (name : List ℕ) (h k l : History) → h.refusals ≤ k.refusals → k.now ≡ h.now →
-    MustBeInPlace (target k.now name) k l ⊎ LeadsNowhere k.now name → MustBeInPlace (target h.now name) h l ⊎ LeadsNowhere h.now name
+reason_from : (name : List ℕ) (h k l : History) → KeepsRefusals h k → k.now ≡ h.now →
+    MustBeInPlace (target k.now name) k l ⊎ (LeadsNowhere k.now name ⊎ IsUntold name k l) →
+    MustBeInPlace (target h.now name) h l ⊎ (LeadsNowhere h.now name ⊎ IsUntold name h l)
 reason_from name h k l more same (inl must) =
     let leads : target k.now name ≡ target h.now name = ap (λ s. target s name) same in
     let at : MustBeInPlace (target h.now name) k l = rw leads at must in inl (must_from (target h.now name) h k l more same at)
-reason_from name h k l more same (inr nowhere) = inr (links_from name h k same nowhere)
+reason_from name h k l more same (inr (inl nowhere)) = inr (inl (links_from name h k same nowhere))
+reason_from name h k l more same (inr (inr untold)) =
+    inr (inr (kept_refused (λ r. r ≡ Leading (file_of h.now (target h.now name))) h k l more
+    (refused_at (λ s r. r ≡ Leading (file_of s (target s name))) h.now k.now k l same untold)))
 
 pub saves_after : (P : FolderState → Type 0) (name bytes : List ℕ) (result : Result (Unit {0}) Error) (a b c : Option History) → Learns P a b →
     Saves name bytes result b c → Saves name bytes result a c

@@ -13,6 +13,8 @@ mod Overwriting
 mod Passing
 mod Putting
 mod Reading
+mod Reasons
+mod Refusing
 mod Replacements
 mod Tearing
 mod Versions

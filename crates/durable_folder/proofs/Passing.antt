@@ -1,8 +1,9 @@
 -- Runs of calls follow one another.
-use Rattle.durable_folder.proofs.Common.{◌≡◌, ◌+◌, List, [], ◌∷◌, ◌++◌, Option, None, Some, refl, sym, ap, ◌∙◌, arith, ◌≤◌, FolderState, newest, History, Turns, Runs, Answer}
+use Rattle.durable_folder.proofs.Common.{◌≡◌, List, [], ◌∷◌, ◌++◌, Option, None, Some, refl, sym, ap, ◌∙◌, FolderState, newest, History, Turns, Runs, Answer}
 use Rattle.std.proofs.Common.{append_assoc}
 use Rattle.std.specs.List.{AllByRecursion}
-use Rattle.durable_folder.specs.Histories.{IsTold}
+use Rattle.durable_folder.specs.Histories.{KeepsRefusals, IsTold}
+use Rattle.durable_folder.proofs.Refusing.{kept_none, kept_then}
 
 -- what holds of each of two lists holds of both
 all_of_both : {X : Type 0} (P : X → Type 0) (xs ys : List X) → AllByRecursion P xs → AllByRecursion P ys → AllByRecursion P (xs ++ ys)
@@ -16,7 +17,7 @@ all_weaker P Q (x ∷ xs) f hs = (f x hs.0, all_weaker P Q xs f hs.1)
 -- what a call says of two histories
 abbrev pub Turned : (FolderState → FolderState → Type 0) → Answer → History → History → Type 0
 Turned step answer h k =
-    step h.now k.now × (k.refusals ≡ h.refusals + answer.refusals) × (k.unsynced ≡ answer.unsynced ++ h.unsynced)
+    step h.now k.now × (k.refusals ≡ answer.refusals ++ h.refusals) × (k.unsynced ≡ answer.unsynced ++ h.unsynced)
 
 -- one call is a run
 pub runs_of : (step : FolderState → FolderState → Type 0) (n : Answer) (a b : Option History) → Turns step n a b → Runs step (Turned step n) a b
@@ -24,13 +25,13 @@ runs_of step n None None t = record { run = tt }
 runs_of step n None (Some k) t = absurd t
 runs_of step n (Some h) None t = absurd t
 runs_of step n (Some h) (Some k) t =
-    record { run = (k.now ∷ [], ap (λ before. k.now ∷ before) t.1, (t.0, tt), omega (arith, t.2), (t.0, t.2, t.4)) }
+    record { run = (k.now ∷ [], ap (λ before. k.now ∷ before) t.1, (t.0, tt), record { since = n.refusals; are = t.2 }, (t.0, t.2, t.4)) }
 
 -- no call is a run
 pub runs_none : {P : FolderState → FolderState → Type 0} {E : History → History → Type 0} (a : Option History) → ((h : History) → E h h) →
     Runs P E a a
 runs_none None e = record { run = tt }
-runs_none (Some h) e = record { run = ([], refl, tt, omega arith, e h) }
+runs_none (Some h) e = record { run = ([], refl, tt, kept_none h, e h) }
 
 -- a run of which less is said
 pub runs_weaker : {P Q : FolderState → FolderState → Type 0} {E F : History → History → Type 0} (a b : Option History) → Runs P E a b →
@@ -61,14 +62,14 @@ runs_then {P} {Q} {R} (Some h) (Some k) (Some l) x y p q e =
         all_of_both (R h.now) more first
             (all_weaker (Q k.now) (R h.now) more (λ u. q h k u x.run.4) y.run.2)
             (all_weaker (P h.now) (R h.now) first (p h.now) x.run.2),
-        omega (arith, x.run.3, y.run.3),
+        kept_then h k l x.run.3 y.run.3,
         e h k l x.run.4 y.run.4,
       );
     }
 
 -- a run in which refusals are counted
 pub runs_counted : {P : FolderState → FolderState → Type 0} {E : History → History → Type 0} (a b : Option History) → Runs P E a b →
-    Runs P (λ h k. (h.refusals ≤ k.refusals) × E h k) a b
+    Runs P (λ h k. KeepsRefusals h k × E h k) a b
 runs_counted None None r = record { run = tt }
 runs_counted None (Some k) r = absurd r.run
 runs_counted (Some h) None r = absurd r.run

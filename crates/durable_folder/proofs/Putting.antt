@@ -1,13 +1,14 @@
 -- Putting a new file in its place.
-use Rattle.durable_folder.proofs.Common.{◌≡◌, ◌≢◌, ◌⊎◌, inl, inr, ℕ, ◌+◌, ◌≤◌, Bool, true, false, cond, List, [], ◌∷◌, Option, None, Some, Result, Ok, Err, refl, sym, ap, ◌∙◌, ◌++◌, arith, IsErr, error_kind, Error, Replaced, FolderState, SomeOf, file_of, newest, SparesFiles, is_refusal, if_so, error_answer, refusal_of, IsLate, folder_of, History, Turns, Answer, HasFile, AfterOk, Shifts}
+use Rattle.durable_folder.proofs.Common.{◌≡◌, ◌≢◌, ◌⊎◌, inl, inr, ℕ, Bool, true, false, cond, List, [], ◌∷◌, Option, None, Some, Result, Ok, Err, refl, sym, ap, ◌∙◌, ◌++◌, IsErr, error_kind, Error, Replaced, FolderState, SomeOf, file_of, newest, SparesFiles, is_refusal, refusal_of, IsLate, folder_of, History, Turns, Answer, HasFile, AfterOk, Shifts}
 use Rattle.durable_folder.specs.declared.answers.Replaced.TheVariants as replaced
 use Rattle.durable_folder.specs.Calls.{Moves, Renames, Drops, Removes, SyncsFolder, SyncsNames}
-use Rattle.durable_folder.specs.Counting.{is_unable, these_if, answer_to_sync_folder}
+use Rattle.durable_folder.specs.Counting.{is_unable, refused_answer, refused_if, these_if, answer_to_sync_folder}
 use Rattle.durable_folder.specs.Answers.{sync_answer, unless_unable, IsNamesSyncAnswer}
-use Rattle.durable_folder.specs.Histories.{IsPlaceOf, CannotSync}
+use Rattle.durable_folder.specs.Histories.{Moving, KeepsRefusals, IsPlaceOf, CannotSync}
 use Rattle.durable_folder.specs.Saving.{PutEnds, Puts, MaySyncNames, SyncsNamesOf}
 use Rattle.durable_folder.proofs.Heads.{after_ok_map}
 use Rattle.durable_folder.proofs.Passing.{runs_of, runs_weaker, runs_then, runs_counted}
+use Rattle.durable_folder.proofs.Refusing.{refused_kept, refused_one}
 
 no_files_change : (s : FolderState) → SparesFiles s s
 no_files_change s = record { files = λ f. refl; fixed = refl }
@@ -163,16 +164,17 @@ removes_others beside (Err error) s t x n apart = ap (λ u. u.names n) x
 
 pub refusal_ends : (beside name : List ℕ) (refuses : Bool) (e : Error) (h k l : History) →
     ((n : List ℕ) → n ≢ beside → l.now.names n ≡ h.now.names n) →
-    k.refusals ≡ h.refusals + if_so refuses → k.refusals ≤ l.refusals → PutEnds beside name (cond refuses (Ok replaced.Refused) (Err e)) h l
-refusal_ends beside name true e h k l same more last = (same, omega (arith, more, last))
+    k.refusals ≡ refused_if refuses (Moving beside name) ++ h.refusals → KeepsRefusals k l → PutEnds beside name (cond refuses (Ok replaced.Refused) (Err e)) h l
+refusal_ends beside name true e h k l same more last =
+    (same, refused_kept (λ r. r ≡ Moving beside name) h k l (refused_one (λ r. r ≡ Moving beside name) (Moving beside name) h k more refl) last)
 refusal_ends beside name false e h k l same more last = tt
 
 pub put_refused : (beside name : List ℕ) (e : Error) (r : Result (Unit {0}) Error) (m : Answer) (a b c : Option History) → beside ≢ name →
-    Turns (Renames beside name (Err e)) (error_answer is_refusal e) a b → Turns (Removes beside r) m b c →
+    Turns (Renames beside name (Err e)) (refused_answer is_refusal (Moving beside name) e) a b → Turns (Removes beside r) m b c →
     Puts beside name (refusal_of e) a c
 put_refused beside name e r m a b c apart first last =
     record {
-      run = runs_then a b c (runs_of (Renames beside name (Err e)) (error_answer is_refusal e) a b first)
+      run = runs_then a b c (runs_of (Renames beside name (Err e)) (refused_answer is_refusal (Moving beside name) e) a b first)
           (runs_counted b c (runs_of (Removes beside r) m b c last))
           (λ s t x differ. stays_shifts beside name s t x)
           (λ h k u x y differ. let at : Removes beside r h.now u = rw x.0 at y in removes_shifts beside name r h.now u apart at)
@@ -196,5 +198,5 @@ put_failed beside name e result r n m a b c apart err first last =
 
 pub put_refused_so : (beside name : List ℕ) (e : Error) (result : Result Replaced Error) (r : Result (Unit {0}) Error) (m : Answer)
     (a b c : Option History) → beside ≢ name → result ≡ refusal_of e →
-    Turns (Renames beside name (Err e)) (error_answer is_refusal e) a b → Turns (Removes beside r) m b c → Puts beside name result a c
+    Turns (Renames beside name (Err e)) (refused_answer is_refusal (Moving beside name) e) a b → Turns (Removes beside r) m b c → Puts beside name result a c
 put_refused_so beside name e result r m a b c apart is first last = rw is (put_refused beside name e r m a b c apart first last)

@@ -4,10 +4,13 @@ use Rattle.durable_folder.specs.declared.answers.Replaced.TheVariants as replace
 use Rattle.durable_folder.specs.declared.replacing.Owner.{Owner}
 use Rattle.durable_folder.specs.FolderState.{IsShared}
 use Rattle.durable_folder.specs.Calls.{IsFound, if_plain}
-use Rattle.durable_folder.specs.Saving.{IsOther}
-use Rattle.durable_folder.specs.Ways.{IsTornLeft, KeepsOrTears, IsSpecial, MustBeInPlace, MustStay, ReplacesFound}
+use Rattle.durable_folder.specs.Histories.{KeepsRefusals, RefusedSince}
+use Rattle.durable_folder.specs.Saving.{IsOther, IsOwner, IsReason}
+use Rattle.durable_folder.specs.Ways.{IsTornLeft, KeepsOrTears, IsSpecial, IsOwnedBy, MustBeInPlace, MustStay, ReplacesFound}
 use Rattle.durable_folder.proofs.Heads.{after_ok_map, after_err}
 use Rattle.durable_folder.proofs.Passing.{runs_of, runs_weaker, runs_then, runs_counted}
+use Rattle.durable_folder.proofs.Reasons.{reason_owned}
+use Rattle.durable_folder.proofs.Refusing.{kept_refused, refused_at, refused_kept, refused_weaker}
 use Rattle.durable_folder.proofs.Replacements.{taken_apart, prepares_keeps}
 use Rattle.durable_folder.proofs.Writing.{of_file_names}
 
@@ -171,7 +174,6 @@ arrived handle name opened bytes h k x same has = record {
 
 -- what is known of a file that was opened, and of which nothing else has changed but for a new file
 pub record OpenedFor {X : Type 0} (handle : X → Handle) (name : List ℕ) (opened : X) (h k : History) : Type 0 where
-  pub more : h.refusals ≤ k.refusals
   pub opens : Opens handle name (Ok opened) h.now h.now
   pub prepares : Prepares (target h.now name) h.now k.now
 
@@ -192,9 +194,9 @@ over_arrived handle name opened bytes result h k l x y =
     after_ok_map result ((g : ℕ) → (handle opened).file ≡ Some g → l.now.files g ≡ bytes ∷ []) (IsInPlace at bytes h l)
     (λ has. arrived handle name opened bytes h l x.opens same has) both.1
 
-pub opened_for : {X : Type 0} (handle : X → Handle) (name : List ℕ) (opened : X) (h k : History) → h.refusals ≤ k.refusals →
+pub opened_for : {X : Type 0} (handle : X → Handle) (name : List ℕ) (opened : X) (h k : History) →
     Opens handle name (Ok opened) h.now k.now → OpenedFor handle name opened h k
-opened_for handle name opened h k more x = record { more = more; opens = (refl, x.1, x.2, x.3); prepares = inl x.0 }
+opened_for handle name opened h k x = record { opens = (refl, x.1, x.2, x.3); prepares = inl x.0 }
 
 -- the reason to write in place what was found
 found_special : (name : List ℕ) (old : Found) (s : FolderState) (file : ℕ) → IsFound s name file old → old.is_file ≡ false → IsSpecial s name
@@ -216,63 +218,80 @@ in_place : {X : Type 0} (handle : X → Handle) (name : List ℕ) (old : Found) 
     MustStay old → Turns (Opens handle name (Ok opened)) n a b → WritesOver (handle opened) bytes result b c →
     SavesAt (WasFound name (Some old)) name bytes result a c
 in_place handle name old bytes opened result n a b c why turn writes =
-    inr (runs_then a b c (runs_counted a b (runs_of (Opens handle name (Ok opened)) n a b turn)) writes.run
+    inr (runs_then a b c (runs_of (Opens handle name (Ok opened)) n a b turn) writes.run
     (λ s t x known. no_tear name bytes s t (inl x.0))
-    (λ h k u x y known. rw known.no_link at (over_opened handle name opened bytes h k u (opened_for handle name opened h k x.0 x.1.0) y))
+    (λ h k u x y known. rw known.no_link at (over_opened handle name opened bytes h k u (opened_for handle name opened h k x.0) y))
     (λ h k l x y known. (
       found_reason name old h l known.seen.0 known.seen.1 why,
-      rw known.no_link at (over_arrived handle name opened bytes result h k l (opened_for handle name opened h k x.0 x.1.0) y),
+      rw known.no_link at (over_arrived handle name opened bytes result h k l (opened_for handle name opened h k x.0) y),
     )))
+
+-- why a replacement was refused: the file is a mount point, or so was one of its calls
+abbrev pub IsHindered : List ℕ → Owner → History → History → Type 0
+IsHindered name owner h k =
+    (owner.device ≢ h.now.fixed.folder_device (folder_of name)) ⊎ RefusedSince (IsReason name (IsOwner (Some owner)) h.now) h k
 
 -- a replacement that was refused, and then the file in place
 refused_ends : (name : List ℕ) (owner : Owner) (bytes : List ℕ) (r : Result Replaced Error) (answer : Replaced) → r ≡ Ok answer →
     answer ≡ replaced.Refused → (h k : History) →
-    ReplaceOrNotEnds name (Some owner) bytes r h k → Prepares name h.now k.now ×
-    ((owner.device ≢ h.now.fixed.folder_device (folder_of name)) ⊎ (h.refusals < k.refusals))
+    ReplaceOrNotEnds name (Some owner) bytes r h k → Prepares name h.now k.now × IsHindered name owner h k
 refused_ends name owner bytes (Ok replaced.Done) answer is refused h k x = absurd (cc)
 refused_ends name owner bytes (Ok replaced.Refused) answer is refused h k x = x
 refused_ends name owner bytes (Err e) answer is refused h k x = absurd (cc)
 
+-- the owner is that of what was found, on its device
+record IsGivenBy (owner : Owner) (found : Found) : Type 0 where
+  pub user : owner.user ≡ found.user
+  pub group : owner.group ≡ found.group
+  pub device : owner.device ≡ found.device
+
 -- what is known once a replacement was refused
 abbrev pub WasRefusedFor : {X : Type 0} → (X → Handle) → List ℕ → X → Owner → History → History → Type 0
 WasRefusedFor handle name opened owner h k =
-    (target h.now name ≡ name → OpenedFor handle name opened h k) ×
-    ((owner.device ≢ h.now.fixed.folder_device (folder_of name)) ⊎ (h.refusals < k.refusals))
+    (target h.now name ≡ name → OpenedFor handle name opened h k) × IsHindered name owner h k
 
 was_refused : {X : Type 0} (handle : X → Handle) (name bytes : List ℕ) (opened : X) (owner : Owner) (r : Result Replaced Error) (answer : Replaced) →
-    r ≡ Ok answer → answer ≡ replaced.Refused → (h k l : History) → h.refusals ≤ k.refusals → Opens handle name (Ok opened) h.now k.now →
-    k.refusals ≤ l.refusals → ReplaceOrNotEnds name (Some owner) bytes r k l → WasRefusedFor handle name opened owner h l
-was_refused handle name bytes opened owner r answer is refused h k l more x later y =
+    r ≡ Ok answer → answer ≡ replaced.Refused → (h k l : History) → KeepsRefusals h k → Opens handle name (Ok opened) h.now k.now →
+    ReplaceOrNotEnds name (Some owner) bytes r k l → WasRefusedFor handle name opened owner h l
+was_refused handle name bytes opened owner r answer is refused h k l kept x y =
     let ends = refused_ends name owner bytes r answer is refused k l y in
     let prepares : Prepares name h.now l.now = rw x.0 at ends.0 in (
-      λ no_link. record { more = omega (arith, more, later); opens = (refl, x.1, x.2, x.3); prepares = rw (← no_link) at prepares },
+      λ no_link. record { opens = (refl, x.1, x.2, x.3); prepares = rw (← no_link) at prepares },
       elim ends.1 [
         | inl other ↦ inl (λ same. other (same ∙ ap (λ s. s.fixed.folder_device (folder_of name)) (sym x.0)))
-        | inr again ↦ inr (omega (arith, again, more))
+        | inr why ↦ inr (kept_refused (IsReason name (IsOwner (Some owner)) h.now) h k l kept
+            (refused_at (IsReason name (IsOwner (Some owner))) h.now k.now k l x.0 why))
       ],
     )
 
-mount_reason : (name : List ℕ) (old : Found) (owner : Owner) (h k l : History) (file : ℕ) → IsFound h.now name file old → owner.device ≡ old.device →
-    k.refusals ≤ l.refusals →
-    (owner.device ≢ h.now.fixed.folder_device (folder_of name)) ⊎ (h.refusals < k.refusals) → MustBeInPlace name h l
-mount_reason name old owner h k l file found device later (inl other) =
-    inr (inr (inl (file, found.there, λ same. other (device ∙ found.device ∙ same))))
-mount_reason name old owner h k l file found device later (inr more) = inr (inr (inr (omega (arith, more, later))))
+hindered_reason : (name : List ℕ) (old : Found) (owner : Owner) (h k l : History) (file : ℕ) → IsFound h.now name file old → IsGivenBy owner old →
+    KeepsRefusals k l → IsHindered name owner h k → MustBeInPlace name h l
+hindered_reason name old owner h k l file found given later (inl other) =
+    inr (inr (inl (file, found.there, λ same. other (given.device ∙ found.device ∙ same))))
+hindered_reason name old owner h k l file found given later (inr why) =
+    let owned = reason_owned name (IsOwner (Some owner)) (IsOwnedBy h.now name) h.now (λ user group is. (
+      file,
+      found.there,
+      sym found.user ∙ sym given.user ∙ is.0,
+      sym found.group ∙ sym given.group ∙ is.1,
+    )) in
+    let reason = IsReason name (IsOwnedBy h.now name) h.now in
+    inr (inr (inr (refused_kept reason h k l (refused_weaker (IsReason name (IsOwner (Some owner)) h.now) reason h k owned why) later)))
 
 after_refusal : {X : Type 0} (handle : X → Handle) (name : List ℕ) (old : Found) (bytes : List ℕ) (opened : X) (owner : Owner)
     (r : Result Replaced Error) (answer : Replaced)
-    (result : Result (Unit {0}) Error) (n : Answer) (a b c d : Option History) → owner.device ≡ old.device → r ≡ Ok answer → answer ≡ replaced.Refused →
+    (result : Result (Unit {0}) Error) (n : Answer) (a b c d : Option History) → IsGivenBy owner old → r ≡ Ok answer → answer ≡ replaced.Refused →
     Turns (Opens handle name (Ok opened)) n a b →
     ReplacesOrNot name (Some owner) bytes r b c → WritesOver (handle opened) bytes result c d → SavesAt (WasFound name (Some old)) name bytes result a d
-after_refusal handle name old bytes opened owner r answer result n a b c d device is refused turn replaces writes =
+after_refusal handle name old bytes opened owner r answer result n a b c d given is refused turn replaces writes =
     let first : Runs (KeepsOrReplaces name bytes) (WasRefusedFor handle name opened owner) a c =
-    runs_then a b c (runs_counted a b (runs_of (Opens handle name (Ok opened)) n a b turn)) (runs_counted b c replaces)
+    runs_then a b c (runs_counted a b (runs_of (Opens handle name (Ok opened)) n a b turn)) replaces
     (λ s t x. keeps_none name bytes s t x.0) (λ h k u x y. let at : KeepsOrReplaces name bytes h.now u = rw x.1.0.0 at y in at)
-    (λ h k l x y. was_refused handle name bytes opened owner r answer is refused h k l x.0 x.1.0 y.0 y.1) in
+    (λ h k l x y. was_refused handle name bytes opened owner r answer is refused h k l x.0 x.1.0 y) in
     inr (runs_then a c d first (runs_counted c d writes.run) (λ s t x known. tears_less name bytes s t x)
     (λ h k u x y known. rw known.no_link at (over_opened handle name opened bytes h k u (x.0 known.no_link) y))
     (λ h k l x y known. (
-      mount_reason name old owner h k l known.seen.0 known.seen.1 device y.0 x.1,
+      hindered_reason name old owner h k l known.seen.0 known.seen.1 given y.0 x.1,
       rw known.no_link at (over_arrived handle name opened bytes result h k l (x.0 known.no_link) y.1),
     )))
 
@@ -281,6 +300,7 @@ pub over_refused : {X : Type 0} (handle : X → Handle) (name : List ℕ) (old :
     (n : Answer) (a b c d : Option History) → Turns (Opens handle name (Ok opened)) n a b → ReplacesFound name old bytes (Ok replaced.Refused) b c →
     WritesOver (handle opened) bytes result c d → SavesAt (WasFound name (Some old)) name bytes result a d
 over_refused handle name old bytes opened result n a b c d turn (inl x) writes =
-    after_refusal handle name old bytes opened x.owner (Ok replaced.Refused) replaced.Refused result n a b c d x.device refl refl turn x.replaces writes
+    after_refusal handle name old bytes opened x.owner (Ok replaced.Refused) replaced.Refused result n a b c d
+    (record { user = x.user; group = x.group; device = x.device }) refl refl turn x.replaces writes
 over_refused handle name old bytes opened result n a b c d turn (inr x) writes =
     in_place handle name old bytes opened result n a b d x.0 turn (rw x.2 at writes)

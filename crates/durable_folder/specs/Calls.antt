@@ -47,6 +47,8 @@ pub record IsFound (s : FolderState) (name : List ℕ) (file : ℕ) (found : Fou
   pub shared : found.is_file ≡ true → 1 < found.names → IsShared s name
   pub device : found.device ≡ s.fixed.device file
   pub inode : found.inode ≡ s.fixed.inode file
+  pub user : found.user ≡ s.fixed.user file
+  pub group : found.group ≡ s.fixed.group file
 
 abbrev pub Finds : List ℕ → Result Found Error → FolderState → FolderState → Type 0
 Finds name (Ok found) s t = (t ≡ s) × (file : ℕ) × IsFound s name file found

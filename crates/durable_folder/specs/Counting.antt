@@ -6,7 +6,7 @@ use Rattle.std.specs.declared.io.ErrorKind.{ErrorKind}
 use Rattle.std.specs.declared.io.ErrorKind.TheVariants as kind
 use Rattle.durable_folder.specs.declared.folder.Lock.{Lock}
 use Rattle.durable_folder.specs.declared.folder.Lock.TheVariants as lock
-use Rattle.durable_folder.specs.Histories.{Answer}
+use Rattle.durable_folder.specs.Histories.{Answer, Refusal, Making, Moving, Opening}
 
 -- by the kind of an error, whether the system gave no leave
 abbrev pub is_refusal : ErrorKind → Bool
@@ -35,13 +35,13 @@ abbrev pub is_presence : ErrorKind → Bool
 is_presence kind.AlreadyExists = true
 is_presence _ = false
 
-abbrev pub if_so : Bool → ℕ
-if_so true = 1
-if_so false = 0
-
 abbrev pub unless_so : Bool → ℕ
 unless_so true = 0
 unless_so false = 1
+
+abbrev pub refused_if : Bool → Refusal → List Refusal
+refused_if true refusal = refusal ∷ []
+refused_if false refusal = []
 
 abbrev pub these_if : Bool → List ℕ → List (List ℕ)
 these_if true place = place ∷ []
@@ -49,13 +49,18 @@ these_if false place = []
 
 -- an answer that is no error
 abbrev pub quiet : Answer
-quiet = record { refusals = 0; failures = 0; unsynced = [] }
+quiet = record { refusals = []; failures = 0; unsynced = [] }
 
 -- an error, of which this says whether it is no fault
 abbrev pub error_answer : (ErrorKind → Bool) → Error → Answer
 error_answer excuses error =
+    record { refusals = []; failures = unless_so (excuses (error_kind error)); unsynced = [] }
+
+-- the same where this may have been refused
+abbrev pub refused_answer : (ErrorKind → Bool) → Refusal → Error → Answer
+refused_answer excuses refusal error =
     record {
-      refusals = if_so (is_refusal (error_kind error));
+      refusals = refused_if (is_refusal (error_kind error)) refusal;
       failures = unless_so (excuses (error_kind error));
       unsynced = [];
     }
@@ -75,42 +80,51 @@ answer_to_find (Err error) = error_answer is_absence error
 
 -- another program that holds the lock gives no leave for what has to be, and where there are no locks none is needed
 abbrev pub answer_to_lock : Result Lock Error → Answer
-answer_to_lock (Ok lock.Elsewhere) = record { refusals = 0; failures = 1; unsynced = [] }
+answer_to_lock (Ok lock.Elsewhere) = record { refusals = []; failures = 1; unsynced = [] }
 answer_to_lock _ = quiet
 
 -- A new file is not needed where there is no leave for it, and another name is tried where there is something.
 abbrev pub is_passed_over : ErrorKind → Bool
 is_passed_over k = is_presence k || is_refusal k
 
-abbrev pub answer_to_create : {T : Type 0} → Result T Error → Answer
-answer_to_create (Ok x) = quiet
-answer_to_create (Err error) = error_answer is_passed_over error
+abbrev pub answer_to_create : {T : Type 0} → List ℕ → Result T Error → Answer
+answer_to_create name (Ok x) = quiet
+answer_to_create name (Err error) = refused_answer is_passed_over (Making name) error
 
-abbrev pub answer_to_rename : {T : Type 0} → Result T Error → Answer
-answer_to_rename (Ok x) = quiet
-answer_to_rename (Err error) = error_answer is_refusal error
+abbrev pub answer_to_rename : {T : Type 0} → List ℕ → List ℕ → Result T Error → Answer
+answer_to_rename from to (Ok x) = quiet
+answer_to_rename from to (Err error) = refused_answer is_refusal (Moving from to) error
 
 -- an error of a call that only makes a file what it is to be, or tells where a link leads: it counts as a refusal
-abbrev pub not_given : Answer
-not_given = record { refusals = 1; failures = 0; unsynced = [] }
+abbrev pub not_given : Refusal → Answer
+not_given refusal = record { refusals = refusal ∷ []; failures = 0; unsynced = [] }
 
-abbrev pub answer_to_give : {T : Type 0} → Result T Error → Answer
-answer_to_give (Ok x) = quiet
-answer_to_give (Err error) = not_given
+abbrev pub answer_to_give : {T : Type 0} → Refusal → Result T Error → Answer
+answer_to_give refusal (Ok x) = quiet
+answer_to_give refusal (Err error) = not_given refusal
 
--- a folder that may not be opened, or that cannot be synced, is noted
-abbrev pub noted_answer : (ErrorKind → Bool) → List ℕ → Error → Answer
-noted_answer notes folder error =
+-- a folder that may not be opened is noted
+abbrev pub not_opened_answer : List ℕ → Error → Answer
+not_opened_answer folder error =
     record {
-      refusals = if_so (is_refusal (error_kind error));
-      failures = unless_so (notes (error_kind error));
-      unsynced = these_if (notes (error_kind error)) folder;
+      refusals = refused_if (is_refusal (error_kind error)) (Opening folder);
+      failures = unless_so (is_denied (error_kind error));
+      unsynced = these_if (is_denied (error_kind error)) folder;
+    }
+
+-- and so is one that cannot be synced
+abbrev pub not_synced_answer : List ℕ → Error → Answer
+not_synced_answer folder error =
+    record {
+      refusals = [];
+      failures = unless_so (is_unable (error_kind error));
+      unsynced = these_if (is_unable (error_kind error)) folder;
     }
 
 abbrev pub answer_to_open_folder : {T : Type 0} → List ℕ → Result T Error → Answer
 answer_to_open_folder folder (Ok x) = quiet
-answer_to_open_folder folder (Err error) = noted_answer is_denied folder error
+answer_to_open_folder folder (Err error) = not_opened_answer folder error
 
 abbrev pub answer_to_sync_folder : {T : Type 0} → List ℕ → Result T Error → Answer
 answer_to_sync_folder folder (Ok x) = quiet
-answer_to_sync_folder folder (Err error) = noted_answer is_unable folder error
+answer_to_sync_folder folder (Err error) = not_synced_answer folder error

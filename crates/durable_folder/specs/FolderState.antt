@@ -7,6 +7,9 @@ pub record Fixed : Type 0 where
   pub leads : List ℕ → List ℕ
   -- whether a file is a plain one, and no folder, link, device or pipe
   pub is_plain : ℕ → Bool
+  -- whose a file is that a name has when a save begins
+  pub user : ℕ → ℕ
+  pub group : ℕ → ℕ
   -- on which device a file is, and which number it has there; on which device a folder is
   pub device : ℕ → ℕ
   pub inode : ℕ → ℕ

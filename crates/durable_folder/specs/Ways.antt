@@ -3,10 +3,10 @@ use Rattle.std.specs.Prelude.{◌≡◌, ◌≢◌, ◌⊎◌, ℕ, ◌<◌, ◌
 use Rattle.std.specs.declared.io.Error.{Error}
 use Rattle.durable_folder.specs.FolderState.{FolderState, SomeOf, Leaves, IsFree, IsShared, file_of, target}
 use Rattle.durable_folder.specs.Calls.{Spares, SparesFiles, IsFound}
-use Rattle.durable_folder.specs.Histories.{History, Runs, Learns, HasFile, IsSaved}
+use Rattle.durable_folder.specs.Histories.{History, Leading, RefusedSince, Runs, Learns, HasFile, IsSaved}
 use Rattle.durable_folder.specs.InPlace.{IsTorn, AfterOk, Overwrites}
 use Rattle.durable_folder.specs.Places.{folder_of}
-use Rattle.durable_folder.specs.Saving.{KeepsOrReplaces, IsOther, ReplacesOrNot}
+use Rattle.durable_folder.specs.Saving.{IsReason, KeepsOrReplaces, IsOther, ReplacesOrNot}
 use Rattle.durable_folder.specs.declared.answers.Replaced.{Replaced}
 use Rattle.durable_folder.specs.declared.answers.Replaced.TheVariants as replaced
 use Rattle.durable_folder.specs.declared.folder.Found.{Found}
@@ -57,11 +57,17 @@ abbrev pub IsMountPoint : FolderState → List ℕ → Type 0
 IsMountPoint s name =
     (file : ℕ) × (file_of s name ≡ Some file) × (s.fixed.device file ≢ s.fixed.folder_device (folder_of name))
 
--- Why a file is written in place: it is no plain file, it has several names, it is a mount point, or the system gave no
--- leave for a new file.
+-- this user and this group have the file of the name
+abbrev pub IsOwnedBy : FolderState → List ℕ → ℕ → ℕ → Type 0
+IsOwnedBy s name user group =
+    (file : ℕ) × (file_of s name ≡ Some file) × (s.fixed.user file ≡ user) × (s.fixed.group file ≡ group)
+
+-- Why a file is written in place: it is no plain file, it has several names, it is a mount point, or no new file came to its
+-- name since the system refused what that takes.
 abbrev pub MustBeInPlace : List ℕ → History → History → Type 0
 MustBeInPlace name h k =
-    IsSpecial h.now name ⊎ (IsShared h.now name ⊎ (IsMountPoint h.now name ⊎ (h.refusals < k.refusals)))
+    IsSpecial h.now name ⊎ (IsShared h.now name ⊎ (IsMountPoint h.now name ⊎
+    RefusedSince (IsReason name (IsOwnedBy h.now name) h.now) h k))
 
 -- The new bytes are there: durably in a plain file that was at the name and still is, and, where there was nothing, saved
 -- at the name.
@@ -147,6 +153,10 @@ pub record LeadsNowhere (s : FolderState) (name : List ℕ) : Type 0 where
   pub link : target s name ≢ name
   pub nothing : file_of s (target s name) ≡ None
 
+-- it was not told where the link ends that leads to the file of this name
+abbrev pub IsUntold : List ℕ → History → History → Type 0
+IsUntold name h k = RefusedSince (λ r. r ≡ Leading (file_of h.now (target h.now name))) h k
+
 -- The file to which the name leads was replaced, or stays.
 abbrev pub SavesTargetByNew : List ℕ → List ℕ → Result (Unit {0}) Error → Option History → Option History → Type 0
 SavesTargetByNew name bytes result =
@@ -157,7 +167,7 @@ SavesTargetByNew name bytes result =
 abbrev pub SavesTargetInPlace : List ℕ → List ℕ → Result (Unit {0}) Error → Option History → Option History → Type 0
 SavesTargetInPlace name bytes result =
     Runs (λ s t. KeepsOrTears (target s name) bytes s t)
-    (λ h k. (MustBeInPlace (target h.now name) h k ⊎ LeadsNowhere h.now name) ×
+    (λ h k. (MustBeInPlace (target h.now name) h k ⊎ (LeadsNowhere h.now name ⊎ IsUntold name h k)) ×
     AfterOk result (IsInPlace (target h.now name) bytes h k))
 
 -- A save.

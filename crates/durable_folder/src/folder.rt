@@ -44,7 +44,7 @@ pub enum Lock {
 /// The calls of a file system that a load or a save makes, each of them one call of the system. What a
 /// loss of power leaves after each is `Leaves` of the states that the folder tells.
 pub trait Folder {
-    ghost use Rattle.durable_folder.specs.Histories.{History, Turns};
+    ghost use Rattle.durable_folder.specs.Histories.{History, Giving, Leading, Setting, Turns, end_at, file_at};
     ghost use Rattle.durable_folder.specs.Calls.{Handle, Finds, FindsOpen, FindsFolder, Resolves, Opens, OpensFolder, OpensOrCreates, Creates, Reads, Locks, Writes, ResizesFile, SyncsFile, Seeks, Renames, Removes, SyncsFolder, Stays};
     ghost use Rattle.durable_folder.specs.Counting.{answer_to, answer_to_find, answer_to_create, answer_to_rename, answer_to_give, answer_to_lock, answer_to_open_folder, answer_to_sync_folder};
 
@@ -77,7 +77,7 @@ pub trait Folder {
 
     /// Where a link leads in the end.
     fn resolve(&mut self, name: &str) -> io::Result<PathBuf>
-        ensures { Turns (Resolves path_buf_bytes name.now result) (answer_to_give result) (told self.old) (told self.new) };
+        ensures { Turns (Resolves path_buf_bytes name.now result) (answer_to_give (Leading (end_at name.now (told self.old))) result) (told self.old) (told self.new) };
 
     /// Opens a file for writing that is there. It is not truncated, and links are followed.
     fn open(&mut self, name: &str) -> io::Result<Self::File>
@@ -104,7 +104,7 @@ pub trait Folder {
 
     /// Makes a file of this mode for writing, where there is nothing of its name.
     fn create_new(&mut self, name: &str, mode: u32) -> io::Result<Self::File>
-        ensures { Turns (Creates handle name.now result) (answer_to_create result) (told self.old) (told self.new) };
+        ensures { Turns (Creates handle name.now result) (answer_to_create name.now result) (told self.old) (told self.new) };
 
     /// Opens a folder.
     fn open_folder(&mut self, folder: &str) -> io::Result<Self::Place>
@@ -112,11 +112,11 @@ pub trait Folder {
 
     /// Gives the file of this name to a user and a group.
     fn set_owner(&mut self, name: &str, user: u32, group: u32) -> io::Result<()>
-        ensures { Turns Stays (answer_to_give result) (told self.old) (told self.new) };
+        ensures { Turns Stays (answer_to_give (Giving (file_at name.now (told self.old)) user group) result) (told self.old) (told self.new) };
 
     /// Says who may do what with a file.
     fn set_permissions(&mut self, file: &Self::File, permissions: Permissions) -> io::Result<()>
-        ensures { Turns Stays (answer_to_give result) (told self.old) (told self.new) };
+        ensures { Turns Stays (answer_to_give (Setting (handle file.now).file) result) (told self.old) (told self.new) };
 
     /// Writes bytes where the next ones go.
     fn write(&mut self, file: &mut Self::File, bytes: &[u8]) -> io::Result<()>
@@ -138,7 +138,7 @@ pub trait Folder {
 
     /// Puts a file at another name, in the place of what is there.
     fn rename(&mut self, from: &str, to: &str) -> io::Result<()>
-        ensures { Turns (Renames from.now to.now result) (answer_to_rename result) (told self.old) (told self.new) };
+        ensures { Turns (Renames from.now to.now result) (answer_to_rename from.now to.now result) (told self.old) (told self.new) };
 
     /// Waits until the names of a folder are in the system's store.
     fn sync_folder(&mut self, folder: &Self::Place) -> io::Result<()>

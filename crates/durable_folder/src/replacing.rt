@@ -27,7 +27,7 @@ pub struct Owner {
 
 /// Gives a new file its owner and mode, if it is to have them. Answers whether the system gave leave.
 fn give<F: Folder>(folder: &mut F, file: &F::File, beside: &str, owner: Option<Owner>) -> bool
-    ensures gives { Gives result (F.told folder.old) (F.told folder.new) }
+    ensures gives { Gives beside.now (F.handle file.now).file owner result (F.told folder.old) (F.told folder.new) }
     ensures later { IsLater (F.told folder.old) (F.told folder.new) }
 {
     let Some(owner) = owner else {
@@ -59,7 +59,7 @@ fn fill<F: Folder>(
     bytes: &[u8],
 ) -> io::Result<Replaced>
     ensures same { (F.handle file.new).file ≡ (F.handle file.old).file }
-    ensures fills { Fills (F.handle file.old) bytes.now result (F.told folder.old) (F.told folder.new) }
+    ensures fills { Fills (F.handle file.old) beside.now owner bytes.now result (F.told folder.old) (F.told folder.new) }
     ensures fault { HasFault result (F.told folder.old) (F.told folder.new) }
 {
     if !give(folder, file, beside, owner) {
@@ -168,7 +168,7 @@ fn replace_by<F: Folder>(
     bytes: &[u8],
 ) -> io::Result<Replaced>
     ensures replaces { beside_of new ≢ name.now → IsPlaceOf (F.place place.now) name.now (F.told folder.old) →
-        ReplacesBy (handle_of F.handle new) (beside_of new) name.now bytes.now result (F.told folder.old) (F.told folder.new) }
+        ReplacesBy (handle_of F.handle new) (beside_of new) name.now owner bytes.now result (F.told folder.old) (F.told folder.new) }
     ensures later { IsLater (F.told folder.old) (F.told folder.new) }
     ensures fault { AtNow (IsNamed (handle_of F.handle new).file (beside_of new)) (F.told folder.old) → IsErr result → HasFailed (F.told folder.old) (F.told folder.new) }
 {

@@ -15,7 +15,7 @@ pub turned_noting : (step : FolderState → FolderState → Type 0) (answer : An
 turned_noting step answer note before befores notes old new changes goes count noted = (
   goes,
   refl,
-  ap (λ k. refusals_in notes + k) (sym count.refusals),
+  ap (λ refused. refused ++ refusals_in notes) (sym count.refusals),
   ap (λ k. failures_in notes + k) (sym count.failures),
   noted,
 )

@@ -54,11 +54,13 @@ named changes name = named_from name (None ∷ []) changes
 abbrev pub held : List Change → ℕ → List (List ℕ)
 held changes file = held_from file ([] ∷ []) changes
 
--- No name is a link, each file is a plain one, all is on one device, and no other program holds a lock.
+-- No name is a link, each file is a plain one and is root's, all is on one device, and no other program holds a lock.
 abbrev pub the_fixed : Fixed
 the_fixed = record {
   leads = λ name. name;
   is_plain = λ file. true;
+  user = λ file. 0;
+  group = λ file. 0;
   device = λ file. 0;
   inode = λ file. file;
   folder_device = λ name. 0;

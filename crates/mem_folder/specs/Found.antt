@@ -12,6 +12,8 @@ pub record IsOf (changes : List Change) (file : ℕ) (found : Found) : Type 0 wh
   pub names : found.names ≡ 1
   pub device : found.device ≡ 0
   pub inode : found.inode ≡ file
+  pub user : found.user ≡ 0
+  pub group : found.group ≡ 0
   pub size : found.size ≡ length (newest [] (held changes file))
   pub seconds : found.seconds ≡ pos 0
   pub billionths : found.billionths ≡ pos 0

@@ -1,22 +1,37 @@
 -- What a folder in memory tells of the calls that were made.
-use Rattle.std.specs.Prelude.{◌≡◌, ◌⊎◌, ℕ, ◌+◌, List, [], ◌∷◌, ◌++◌, map, reverse, Some, Vec, string_bytes}
+use Rattle.std.specs.Prelude.{◌≡◌, ◌⊎◌, ℕ, ◌+◌, List, [], ◌∷◌, ◌++◌, map, reverse, Option, None, Some, Vec, string_bytes}
 use Rattle.std.specs.Global.{Global}
 use Rattle.std.specs.IoError.{error_kind}
 use Rattle.std.specs.declared.io.Error.{Error}
 use Rattle.std.specs.declared.io.ErrorKind.TheVariants as kind
 use Rattle.durable_folder.specs.Calls.{Handle}
-use Rattle.durable_folder.specs.Counting.{if_so, unless_so}
-use Rattle.durable_folder.specs.Histories.{Answer, History}
+use Rattle.durable_folder.specs.Counting.{unless_so}
+use Rattle.durable_folder.specs.Histories.{Answer, History, Refusal, Giving, Leading, Making, Moving, Opening, Setting}
 use Rattle.mem_folder.specs.Changes.{state_of}
 use Rattle.mem_folder.specs.declared.change.Change.{Change}
+use Rattle.mem_folder.specs.declared.note.Denied.{Denied}
+use Rattle.mem_folder.specs.declared.note.Denied.TheVariants as denied
 use Rattle.mem_folder.specs.declared.note.Note.{Note}
 use Rattle.mem_folder.specs.declared.files.MemFile.{MemFile}
 use Rattle.mem_folder.specs.declared.files.MemPlace.{MemPlace}
 
--- how many of these give no leave, and how many are faults
-abbrev pub refusals_in : List Note → ℕ
-refusals_in [] = 0
-refusals_in (note ∷ notes) = refusals_in notes + if_so note.is_refusal
+-- what was refused, as durable_folder says it
+abbrev pub refusal_of : Denied → Refusal
+refusal_of (denied.Giving file user group) = Giving file user group
+refusal_of (denied.Setting file) = Setting (Some file)
+refusal_of (denied.Making name) = Making (string_bytes name)
+refusal_of (denied.Moving from to) = Moving (string_bytes from) (string_bytes to)
+refusal_of (denied.Opening place) = Opening (string_bytes place)
+refusal_of (denied.Leading file) = Leading file
+
+abbrev pub refused_by : Option Denied → List Refusal
+refused_by None = []
+refused_by (Some it) = refusal_of it ∷ []
+
+-- what these refuse, and how many are faults
+abbrev pub refusals_in : List Note → List Refusal
+refusals_in [] = []
+refusals_in (note ∷ notes) = refused_by note.refused ++ refusals_in notes
 
 abbrev pub failures_in : List Note → ℕ
 failures_in [] = 0
@@ -47,7 +62,7 @@ IsStarved error = error_kind error ≡ kind.OutOfMemory
 
 -- The note says what this answer counts as.
 pub record IsCountOf (answer : Answer) (note : Note) : Type 0 where
-  pub refusals : answer.refusals ≡ if_so note.is_refusal
+  pub refusals : answer.refusals ≡ refused_by note.refused
   pub failures : answer.failures ≡ unless_so note.is_excused
 
 -- The note has the count of an answer that notes no folder.

@@ -9,14 +9,16 @@ use crate::fault::Fault;
 use crate::files::{MemFile, MemPlace};
 use crate::log::Log;
 use crate::note::{
-    Note, note_of, note_of_create, note_of_find, note_of_give, note_of_lock, note_of_open_folder,
-    note_of_rename, note_of_sync_folder,
+    Denied, Note, note_of, note_of_create, note_of_find, note_of_give, note_of_lock,
+    note_of_open_folder, note_of_rename, note_of_starving, note_of_sync_folder,
 };
+use crate::reading::file_of;
 use crate::{finding, naming, settling, writing};
 use durable_folder::{Folder, Found, Lock};
 use std::alloc::Global;
 use std::fs::Permissions;
 use std::io;
+use std::io::{Error, ErrorKind};
 use std::path::PathBuf;
 
 /// A folder in memory: all that was done to it. What is read is what these changes left.
@@ -135,7 +137,8 @@ impl Folder for MemFolder {
     fn resolve(&mut self, name: &str) -> io::Result<PathBuf> {
         let fault = self.begin();
         let path = finding::resolve(fault, self.alloc, name);
-        self.end(note_of_give(&path));
+        let led = Denied::Leading(file_of(self.changes.as_slice(), name));
+        self.end(note_of_give(&path, led));
         path
     }
 
@@ -176,27 +179,46 @@ impl Folder for MemFolder {
 
     fn create_new(&mut self, name: &str, _mode: u32) -> io::Result<MemFile> {
         let fault = self.begin();
-        let file = naming::create(fault, self.alloc, &mut self.changes, name);
-        self.end(note_of_create(&file));
-        file
+        match naming::copy(self.alloc, name) {
+            Ok(own) => {
+                let file = naming::create(fault, self.alloc, &mut self.changes, name);
+                self.end(note_of_create(&file, own));
+                file
+            }
+            Err(error) => {
+                let starved = Err(error);
+                self.end(note_of_starving(&starved));
+                starved
+            }
+        }
     }
 
     fn open_folder(&mut self, folder: &str) -> io::Result<MemPlace> {
         let fault = self.begin();
-        let place = settling::open_folder(fault, self.alloc, &mut self.noted, folder);
-        self.end(note_of_open_folder(&place));
-        place
+        match naming::copy(self.alloc, folder) {
+            Ok(name) => {
+                let place = settling::open_folder(fault, self.alloc, &mut self.noted, folder);
+                self.end(note_of_open_folder(&place, name));
+                place
+            }
+            Err(error) => {
+                let starved = Err(error);
+                self.end(note_of_starving(&starved));
+                starved
+            }
+        }
     }
 
-    fn set_owner(&mut self, _name: &str, _user: u32, _group: u32) -> io::Result<()> {
+    fn set_owner(&mut self, name: &str, user: u32, group: u32) -> io::Result<()> {
         let done = self.begin();
-        self.end(note_of_give(&done));
+        let given = Denied::Giving(file_of(self.changes.as_slice(), name), user, group);
+        self.end(note_of_give(&done, given));
         done
     }
 
-    fn set_permissions(&mut self, _file: &MemFile, _permissions: Permissions) -> io::Result<()> {
+    fn set_permissions(&mut self, file: &MemFile, _permissions: Permissions) -> io::Result<()> {
         let done = self.begin();
-        self.end(note_of_give(&done));
+        self.end(note_of_give(&done, Denied::Setting(file.number)));
         done
     }
 
@@ -230,9 +252,18 @@ impl Folder for MemFolder {
 
     fn rename(&mut self, from: &str, to: &str) -> io::Result<()> {
         let fault = self.begin();
-        let done = naming::rename(fault, self.alloc, &mut self.changes, from, to);
-        self.end(note_of_rename(&done));
-        done
+        match (naming::copy(self.alloc, from), naming::copy(self.alloc, to)) {
+            (Ok(old), Ok(new)) => {
+                let done = naming::rename(fault, self.alloc, &mut self.changes, from, to);
+                self.end(note_of_rename(&done, old, new));
+                done
+            }
+            _ => {
+                let starved = Err(Error::from(ErrorKind::OutOfMemory));
+                self.end(note_of_starving(&starved));
+                starved
+            }
+        }
     }
 
     fn sync_folder(&mut self, folder: &MemPlace) -> io::Result<()> {

@@ -36,6 +36,7 @@ pub returns-in-Err-clause-makes : goal.returns-in-Err-clause-makes
 returns-in-Err-clause-makes g c =
     failed_tried (handle_of g.F.Folder.handle) beside_of c.args.name.now (path_buf_bytes c.in-Ok.beside) c.in-Err.error
     (g.F.Folder.told c.args.folder.now) (g.F.Folder.told c.loop-number.folder) (g.F.Folder.told c.try_name.new.folder)
+    (record { number = c.loop-number.number; least = c.loop-number.auto.number; most = omega (arith, c.loop-number-test.true); beside = c.in-Ok.ensures })
     c.loop-number.invariant.0 c.in-Err.ensures
 
 pub returns-in-Ok-Some-clause-makes : goal.returns-in-Ok-Some-clause-makes

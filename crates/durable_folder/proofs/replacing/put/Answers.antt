@@ -18,5 +18,5 @@ returns-in_ok-remove-in-Err-clause-puts g c apart is = search (put_refused_so, a
 
 pub returns-in_ok-remove-in-Err-clause-fault : goal.returns-in_ok-remove-in-Err-clause-fault
 returns-in_ok-remove-in-Err-clause-fault g c =
-    rw c.refusal_of.ensures (refused_fault _ _ c.in-Err.error _ (g.F.Folder.told c.args.folder.now) (g.F.Folder.told c.rename.new.self)
+    rw c.refusal_of.ensures (refused_fault _ _ _ c.in-Err.error _ (g.F.Folder.told c.args.folder.now) (g.F.Folder.told c.rename.new.self)
     (g.F.Folder.told c.remove.new.self) c.in-Err.ensures c.remove.ensures)

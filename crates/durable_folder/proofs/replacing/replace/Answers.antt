@@ -7,7 +7,7 @@ pub returns-in-Err-clause-replaces : goal.returns-in-Err-clause-replaces
 returns-in-Err-clause-replaces g c =
     rw c.refusal_of.ensures (not_opened g.F.Folder.place c.folder_of.result.now c.args.name.now c.args.owner c.args.bytes.now c.in-Err.closed _
     (g.F.Folder.told c.args.folder.now)
-    (g.F.Folder.told c.open_folder.new.self) refl c.in-Err.ensures)
+    (g.F.Folder.told c.open_folder.new.self) c.folder_of.ensures refl c.in-Err.ensures)
 
 pub returns-in-Ok-clause-replaces : goal.returns-in-Ok-clause-replaces
 returns-in-Ok-clause-replaces g c =

@@ -1,4 +1,4 @@
-use Rattle.durable_folder.proofs.Common.{inl, inr, AtNow, beside_of, handle_of}
+use Rattle.durable_folder.proofs.Common.{inl, inr, AtNow, Fills, beside_of, handle_of}
 use Rattle.durable_folder.specs.Causes.{IsNamed}
 use Rattle.durable_folder.specs.Saving.{Ends}
 use Rattle.durable_folder.proofs.Causing.{then_failed, failed_then, fills_named}
@@ -9,15 +9,17 @@ use Rattle.durable_folder.proofs.replacing.replace_by.Goals as goal
 pub returns-clause-replaces : goal.returns-clause-replaces
 returns-clause-replaces g c apart is =
     let beside = beside_of c.args.new in
+    let fills : Fills (handle_of g.F.Folder.handle c.args.new) beside c.args.owner c.args.bytes.now c.fill-filled.result
+    (g.F.Folder.told c.args.folder.now) (g.F.Folder.told c.fill-filled.new.folder) = rw c.as_str.ensures at c.fill-filled.ensures.fills in
     let ends : Ends beside c.args.name.now c.fill-filled.result c.finish.result (g.F.Folder.told c.fill-filled.new.folder)
     (g.F.Folder.told c.finish.new.folder) =
     (rw c.as_str-2.ensures at c.finish.ensures.ends) apart (record {
       is = λ told. is.is (told_before (g.F.Folder.told c.args.folder.now)
-          (g.F.Folder.told c.fill-filled.new.folder) c.fill-filled.ensures.fills told);
+          (g.F.Folder.told c.fill-filled.new.folder) fills told);
     }) in
-    replaced_by (handle_of g.F.Folder.handle c.args.new) c.args.name.now beside c.args.bytes.now c.fill-filled.result c.finish.result
+    replaced_by (handle_of g.F.Folder.handle c.args.new) c.args.name.now beside c.args.owner c.args.bytes.now c.fill-filled.result c.finish.result
     (g.F.Folder.told c.args.folder.now)
-    (g.F.Folder.told c.fill-filled.new.folder) (g.F.Folder.told c.finish.new.folder) c.fill-filled.ensures.fills ends
+    (g.F.Folder.told c.fill-filled.new.folder) (g.F.Folder.told c.finish.new.folder) fills ends
 
 pub returns-clause-fault : goal.returns-clause-fault
 returns-clause-fault g c named err =
@@ -27,7 +29,8 @@ returns-clause-fault g c named err =
     let handle = handle_of g.F.Folder.handle c.args.new in
     let beside = beside_of c.args.new in
     let there : AtNow (IsNamed (g.F.Folder.handle c.fill-filled.new.file).file beside) after = rw c.fill-filled.ensures.same
-    (fills_named handle c.args.bytes.now c.fill-filled.result handle.file beside before after c.fill-filled.ensures.fills named) in
+    (fills_named handle beside c.args.owner c.args.bytes.now c.fill-filled.result handle.file before after
+    (rw c.as_str.ensures at c.fill-filled.ensures.fills) named) in
     elim ((rw c.as_str-2.ensures at c.finish.ensures.fault) there err) [
       | inl bad ↦ failed_then before after last (c.fill-filled.ensures.fault.1 bad) c.finish.ensures.later
       | inr failed ↦ then_failed before after last c.fill-filled.ensures.fault.0 failed

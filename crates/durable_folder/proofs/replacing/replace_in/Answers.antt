@@ -26,7 +26,7 @@ returns-in-Ok-clause-replaces g c at =
     let last = g.F.Folder.told c.replace_by.new.folder in
     then_replaced c.args.name.now c.args.owner c.args.bytes.now c.is_mounted.result c.replace_by.result before looked last
     (mounted_at (g.F.Folder.place c.args.place.now) c.args.name.now c.args.owner c.is_mounted.result before looked at c.is_mounted.ensures.mounted)
-    (replaced_in (handle_of g.F.Folder.handle c.in-Ok.new) c.args.name.now (beside_of c.in-Ok.new) c.args.bytes.now c.replace_by.result looked made last
+    (replaced_in (handle_of g.F.Folder.handle c.in-Ok.new) c.args.name.now (beside_of c.in-Ok.new) c.args.owner c.args.bytes.now c.replace_by.result looked made last
     c.in-Ok.ensures.makes
     (c.replace_by.ensures.replaces c.in-Ok.ensures.apart (record {
       is = λ told. at.is (told_before before looked c.is_mounted.ensures.mounted (told_before looked made c.in-Ok.ensures.makes told));
@@ -39,7 +39,7 @@ returns-in-Err-clause-replaces g c at =
     let made = g.F.Folder.told c.new_file.new.folder in
     then_replaced c.args.name.now c.args.owner c.args.bytes.now c.is_mounted.result c.refusal_of.result before looked made
     (mounted_at (g.F.Folder.place c.args.place.now) c.args.name.now c.args.owner c.is_mounted.result before looked at c.is_mounted.ensures.mounted)
-    (rw c.refusal_of.ensures (not_made c.args.name.now c.args.bytes.now c.in-Err.error looked made c.in-Err.ensures.makes))
+    (rw c.refusal_of.ensures (not_made c.args.name.now c.args.owner c.args.bytes.now c.in-Err.error looked made c.in-Err.ensures.makes))
 
 pub returns-in-Ok-clause-cause : goal.returns-in-Ok-clause-cause
 returns-in-Ok-clause-cause g c =

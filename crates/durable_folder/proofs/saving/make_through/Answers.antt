@@ -1,5 +1,6 @@
 use Rattle.durable_folder.proofs.Common.{Ok, Err, Global, path_buf_bytes, quiet}
 use Rattle.durable_folder.specs.Counting.{not_given}
+use Rattle.durable_folder.specs.Histories.{Leading, end_at}
 use Rattle.durable_folder.proofs.Bearing.{through_not_written, through_resolved, through_not_resolved, through_synced, late_err}
 use Rattle.durable_folder.proofs.saving.make_through.Goals as goal
 
@@ -24,5 +25,6 @@ returns-in-Err-clause-makes g c =
     let after = g.F.Folder.told c.resolve.new.self in
     through_not_resolved (path_buf_bytes {A = Global}) c.args.name.now c.args.bytes.now c.write_new.result (Err c.in-Err.error) c.as_fault.result before after
     (late_err c.in-Err.error c.as_fault.result c.as_fault.ensures)
-    (through_resolved (path_buf_bytes {A = Global}) c.args.name.now c.args.bytes.now c.write_new.result (Err c.in-Err.error) not_given before
+    (through_resolved (path_buf_bytes {A = Global}) c.args.name.now c.args.bytes.now c.write_new.result (Err c.in-Err.error)
+    (not_given (Leading (end_at c.args.name.now (g.F.Folder.told c.write_new.new.folder)))) before
     (g.F.Folder.told c.write_new.new.folder) after c.write_new.ensures.writes c.in-Err.ensures)

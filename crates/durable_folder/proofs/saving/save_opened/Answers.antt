@@ -1,5 +1,4 @@
 use Rattle.durable_folder.proofs.Common.{refl, Err, Global, path_buf_bytes, Opens, AtNow, AllTaken, quiet, Ok}
-use Rattle.durable_folder.specs.Counting.{not_given}
 use Rattle.durable_folder.proofs.Causing.{turn_later, cause_later}
 use Rattle.durable_folder.proofs.Leading.{resolved, resolved_only, not_resolved, saved_unresolved, TakenThere, there_taken}
 use Rattle.durable_folder.proofs.saving.save_opened.Goals as goal
@@ -19,8 +18,8 @@ returns-in-Err-clause-saves g c start first known =
 pub returns-in-Err-2-clause-saves : goal.returns-in-Err-2-clause-saves
 returns-in-Err-2-clause-saves g c start first known =
     saved_unresolved g.F.Folder.handle (path_buf_bytes {A = Global}) c.args.name.now c.args.bytes.now c.args.file c.in-Err.error
-    c.write_through.result not_given first (g.F.Folder.told c.args.folder.now) (g.F.Folder.told c.resolve.new.self)
-    (g.F.Folder.told c.write_through.new.folder) refl known c.in-Err.ensures (c.write_through.ensures.writes start)
+    c.write_through.result first (g.F.Folder.told c.args.folder.now) (g.F.Folder.told c.resolve.new.self)
+    (g.F.Folder.told c.write_through.new.folder) known c.in-Err.ensures (c.write_through.ensures.writes start)
 
 pub returns-in-Ok-clause-cause : goal.returns-in-Ok-clause-cause
 returns-in-Ok-clause-cause g c =
