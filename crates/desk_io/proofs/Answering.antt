@@ -1,5 +1,5 @@
 -- What a desk makes of a load and a save of durable_folder.
-use Rattle.std.proofs.Common.{◌≡◌, inl, inr, ℕ, ◌<◌, ◌≤◌, true, false, List, length, take, Option, None, Some, Result, Ok, Err, refl, sym, ap, ◌∙◌, arith}
+use Rattle.std.proofs.Common.{◌≡◌, inl, inr, ℕ, ◌<◌, ◌≤◌, Bool, true, false, if◌then◌else◌, List, length, take, Option, None, Some, Result, Ok, Err, refl, sym, ap, ◌∙◌, arith}
 use Rattle.std.specs.Prelude.{IfErr, IfOk, IsErr, OnOk, Vec, nat_le}
 use Rattle.std.specs.Result.{IsErrAnd}
 use Rattle.std.specs.Global.{Global}
@@ -11,15 +11,15 @@ use Rattle.std.proofs.lemmas.List.{length-take, take_all}
 use Rattle.std.proofs.lemmas.Bool.{cases_lt}
 use Rattle.std.proofs.lemmas.Bool.Decides.{nat_tests}
 use Rattle.durable_folder.specs.Calls.{IsUnchanged}
-use Rattle.durable_folder.specs.Causes.{AllTaken, AtNow}
+use Rattle.durable_folder.specs.Causes.{AllTaken, AtNow, HasFailed}
 use Rattle.durable_folder.specs.FolderState.{FolderState, bytes_of, target}
 use Rattle.durable_folder.specs.Histories.{History, Learns}
-use Rattle.durable_folder.specs.Locking.{HasSaveCause, IsStale, LeadsToFile, Loads, WhereFirst}
+use Rattle.durable_folder.specs.Locking.{HasLoadCause, HasSaveCause, IsStale, LeadsToFile, Loads, WhereFirst}
 use Rattle.durable_folder.specs.declared.loading.Loaded.{Loaded}
 use Rattle.durable_folder.proofs.Learning.{learns_rests, learns_weaker}
-use Rattle.desk_io.specs.Causes.{FailsWithCause}
+use Rattle.desk_io.specs.Causes.{FailsWithCause, LoadHasCause}
 use Rattle.desk_io.specs.Desk.{max_file_bytes}
-use Rattle.desk_io.specs.Disk.{LoadsOnDisk}
+use Rattle.desk_io.specs.Disk.{LeadsSomewhere, LoadsOnDisk}
 use Rattle.desk_io.specs.Noted.{IsNoted, noted}
 use Rattle.desk_io.specs.System.{load_answer, load_error, save_answer, save_error}
 use Rattle.desk_io.specs.declared.desk.LoadError.{LoadError}
@@ -32,6 +32,7 @@ use Rattle.desk_io.specs.declared.findings.Findings.{Findings}
 
 -- this is the plain file to which the name leads, and what is found of it is so
 pub record IsWhole (name : List ℕ) (loaded : Loaded) (s : FolderState) : Type 0 where
+  pub there : LeadsSomewhere name s
   pub bytes : (file : ℕ) → LeadsToFile name file s → loaded.bytes.items ≡ bytes_of s file
   pub found : (file : ℕ) → LeadsToFile name file s → IsUnchanged loaded.found file s
 
@@ -53,10 +54,11 @@ file_answers : (name : List ℕ) (most : ℕ) (loaded : Loaded) (a b : Option Hi
 file_answers name most loaded a b above loads = elim (cases_lt max_file_bytes (length loaded.bytes.items)) [
   | inl long ↦
       let no : nat_le (length loaded.bytes.items) max_file_bytes ≡ false = grind (arith, nat_tests) in
-      rw no (learns_weaker _ _ a b loads (λ s is file leads. long_of most (bytes_of s file) loaded.bytes.items (is.bytes file leads) long))
+      rw no (learns_weaker _ _ a b loads (λ s is. (is.there, λ file leads. long_of most (bytes_of s file) loaded.bytes.items (is.bytes file leads) long)))
   | inr short ↦
       let yes : nat_le (length loaded.bytes.items) max_file_bytes ≡ true = grind (arith, nat_tests) in
       rw yes (learns_weaker _ _ a b loads (λ s is. record {
+        there = is.there;
         bytes = λ file leads. whole_of most (bytes_of s file) loaded.bytes.items above (is.bytes file leads) (omega arith);
         found = is.found;
       }))
@@ -86,7 +88,7 @@ error_passed name error (Err other) a b passed answers = rw passed answers
 -- the bytes of a file are given once what was found of it is noted
 pub bytes_given : (name : List ℕ) (loaded : Loaded) (result : Result (Vec ℕ Global) LoadError) (a b : Option History) →
     Answers name (Ok loaded) a b → IfOk result (λ bytes. bytes ≡ loaded.bytes) → IfErr result (λ error. error ≡ load.Memory) → LoadsOnDisk name result a b
-bytes_given name loaded (Ok bytes) a b answers is memory = rw is (learns_weaker (IsWhole name loaded) _ a b answers (λ s whole. whole.bytes))
+bytes_given name loaded (Ok bytes) a b answers is memory = rw is (learns_weaker (IsWhole name loaded) _ a b answers (λ s whole. (whole.there, whole.bytes)))
 bytes_given name loaded (Err error) a b answers is memory = rw memory (learns_rests (IsWhole name loaded) a b answers)
 
 -- what was found of a file is noted, and so it is still
@@ -101,6 +103,34 @@ pub loaded_noted : (name : List ℕ) (loaded : Loaded) (findings : Findings) (re
     Answers name (Ok loaded) a b → OnOk result (noted findings name ≡ Some loaded.found) → OnOk result (AtNow (IsNoted name findings) b)
 loaded_noted name loaded findings (Ok bytes) a b answers is = noted_now name loaded findings a b answers is
 loaded_noted name loaded findings (Err error) a b answers is = tt
+
+-- a load that failed met a fault: of the errors of the folder that one alone is passed on so
+load_failed : (name : List ℕ) (error : Error) (a b : Option History) → HasLoadCause {T = Loaded} name (Err error) a b →
+    load_error (error_kind error) ≡ load.Failed → HasFailed a b
+load_failed name error a b cause failed = elim cause [
+  | inl fault ↦ fault
+  | inr absent ↦ let both : load.Missing ≡ load.Failed = ap load_error (sym absent.0) ∙ failed in absurd (cc)
+]
+
+load_fails : (name : List ℕ) (read : Result Loaded Error) (a b : Option History) → HasLoadCause name read a b → LoadHasCause (load_answer read) a b
+load_fails name (Err error) a b cause failed = load_failed name error a b cause (let is = failed in cc)
+load_fails name (Ok loaded) a b cause failed = by_size (nat_le (length loaded.bytes.items) max_file_bytes) failed
+  where
+    by_size : (short : Bool) → (if short then Ok loaded else Err load.TooLong) ≡ Err load.Failed → HasFailed a b
+    by_size true is = absurd (cc)
+    by_size false is = absurd (cc)
+
+pub load_cause : (name : List ℕ) (read : Result Loaded Error) (result : Result (Vec ℕ Global) LoadError) (error : LoadError) (a b : Option History) →
+    HasLoadCause name read a b → Err error ≡ load_answer read → IsErrAnd result (λ other. other ≡ error) → LoadHasCause result a b
+load_cause name read (Ok bytes) error a b cause is passed failed = absurd passed
+load_cause name read (Err other) error a b cause is passed failed =
+    load_fails name read a b cause (sym is ∙ (let same : other ≡ load.Failed = cc in ap (λ e. Err e) (sym passed ∙ same)))
+
+-- nothing else fails
+pub memory_alone : (result : Result (Vec ℕ Global) LoadError) (a b : Option History) → IfErr result (λ error. error ≡ load.Memory) →
+    LoadHasCause result a b
+memory_alone (Ok bytes) a b memory failed = absurd (cc)
+memory_alone (Err error) a b memory failed = absurd (let is = memory in cc)
 
 -- ---- saving
 

@@ -3,7 +3,7 @@ ghost use Rattle.std.specs.Option.{option_map};
 ghost use Rattle.durable_folder.specs.Causes.{AtNow, IsLater};
 ghost use Rattle.durable_folder.specs.Histories.{Rests};
 ghost use Rattle.durable_folder.specs.Locking.{IsClaimed, IsStale, IsTaken, WhereFirst};
-ghost use Rattle.desk_io.specs.Causes.{FailsWithCause};
+ghost use Rattle.desk_io.specs.Causes.{FailsWithCause, LoadHasCause};
 ghost use Rattle.desk_io.specs.Desk.{Loads, Saves, Says};
 ghost use Rattle.desk_io.specs.Disk.{LoadsOnDisk, SavesOnDisk};
 ghost use Rattle.desk_io.specs.Noted.{IsNoted, KeepsNotes, noted};
@@ -54,6 +54,7 @@ impl<'a, R: Print + AllocGlobal, F: Folder + Drop> Desk for RealDesk<'a, R, F> {
         ensures keeps { KeepsNotes name.now result self.old.findings self.new.findings }
         ensures holds { self.new.held ≡ self.old.held }
         ensures later { IsLater (F.told self.old.folder) (F.told self.new.folder) }
+        ensures cause { LoadHasCause result (F.told self.old.folder) (F.told self.new.folder) }
     {
         load_through(&mut self.folder, name, &mut self.findings, &mut self.faults)
     }

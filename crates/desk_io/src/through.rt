@@ -4,7 +4,7 @@ ghost use Rattle.std.specs.Option.{option_map};
 ghost use Rattle.durable_folder.specs.Causes.{AtNow, IsLater};
 ghost use Rattle.durable_folder.specs.Histories.{Rests};
 ghost use Rattle.durable_folder.specs.Locking.{IsClaimed, IsStale, IsTaken, WhereFirst};
-ghost use Rattle.desk_io.specs.Causes.{FailsWithCause};
+ghost use Rattle.desk_io.specs.Causes.{FailsWithCause, LoadHasCause};
 ghost use Rattle.desk_io.specs.Desk.{max_file_bytes};
 ghost use Rattle.desk_io.specs.Disk.{LoadsOnDisk, SavesOnDisk};
 ghost use Rattle.desk_io.specs.Noted.{IsNoted, KeepsNotes, noted};
@@ -84,6 +84,7 @@ pub fn load_through<F: Folder>(
     ensures notes { OnOk result (AtNow (IsNoted name.now findings.new) (F.told folder.new)) }
     ensures keeps { KeepsNotes name.now result findings.old findings.new }
     ensures later { IsLater (F.told folder.old) (F.told folder.new) }
+    ensures cause { LoadHasCause result (F.told folder.old) (F.told folder.new) }
     ensures faults { faults.new ≡ load_faults result faults.old }
     ensures short { IfOk result (λ bytes. length bytes.items ≤ max_file_bytes) }
 {

@@ -1,5 +1,5 @@
 use Rattle.std.proofs.Common.{arith, Ok, Err}
-use Rattle.desk_io.proofs.Answering.{bytes_given, error_passed, load_answers, loaded_noted}
+use Rattle.desk_io.proofs.Answering.{bytes_given, error_passed, load_answers, load_cause, loaded_noted, memory_alone}
 use Rattle.desk_io.proofs.through.load_through.Goals as goal
 
 pub returns-in_err-file-clause-disk : goal.returns-in_err-file-clause-disk
@@ -27,3 +27,12 @@ returns-clause-notes g c =
     loaded_noted c.args.name.now file c.note.new.findings c.note.result before after
     (load_answers c.args.name.now 134217729 c.load.result (Ok file) before after (omega arith) c.load.ensures.loads c.in_ok-file.ensures.answer)
     c.note.ensures.notes
+
+pub returns-in_err-file-clause-cause : goal.returns-in_err-file-clause-cause
+returns-in_err-file-clause-cause g c =
+    load_cause c.args.name.now c.load.result c.from_residual.result c.in_err-file.field-0.0 (g.F.Folder.told c.args.folder.now)
+    (g.F.Folder.told c.load.new.folder) c.load.ensures.cause c.in_err-file.ensures.answer c.from_residual.ensures.1
+
+pub returns-clause-cause : goal.returns-clause-cause
+returns-clause-cause g c =
+    memory_alone c.note.result (g.F.Folder.told c.args.folder.now) (g.F.Folder.told c.load.new.folder) c.note.ensures.error
