@@ -25,21 +25,26 @@ abbrev pub TriesOnDisk : Option SavedFile → Option History → Option History 
 TriesOnDisk file first last =
     (mid : Option History) × (result : Result (Unit {0}) SinkError) × PutsOnDisk file result first mid × Rests mid last
 
--- How what the work gives is saved and said on a desk, by what the desk tells of itself and of its disk. Where that is done,
--- there is a desk in between on which the file is saved and nothing is said yet.
-pub data DeliversOnDisk {D : Type 0} (state : D → DeskState) (disk : D → Option History) (given : OutputState) (old new : D) (answer : ℕ) : Type 0 where
+-- How what the work gives is saved and said on a desk, by what the desk tells of itself and of its disk. Where that is
+-- done, there is a desk in between on which the file is saved and nothing is said yet.
+pub data DeliversOnDisk {D : Type 0} (state : D → DeskState) (disk : D → Option History) (given : OutputState)
+    (old new : D) (answer : ℕ) : Type 0 where
   Whole : answer ≡ 0 → (mid : D) → state mid ≡ after_save given.saved (state old) →
       PutsOnDisk given.saved (Ok tt) (disk old) (disk mid) → state new ≡ after_text given.text (state mid) →
       Rests (disk mid) (disk new) → DeliversOnDisk state disk given old new answer
-  Short : (answer ≡ 5) ⊎ (answer ≡ 6) → TriesOnDisk given.saved (disk old) (disk new) → DeliversOnDisk state disk given old new answer
+  Short : (answer ≡ 5) ⊎ (answer ≡ 6) → TriesOnDisk given.saved (disk old) (disk new) →
+      DeliversOnDisk state disk given old new answer
 
--- How a call ends. Where its fate is decided, there is a desk in between on which what the fate gives is saved and nothing is
--- said yet, and from then on nothing changes on the disk. Else a call of the desk failed or memory ran out: nothing has
--- changed on the disk, or what a fate gives was saved or was not.
-pub data EndsOnDisk {D : Type 0} (state : D → DeskState) (disk : D → Option History) (task : Option Request) (old new : D) (answer : ℕ) : Type 0 where
-  Done : (it : Decision task (state old)) → answer ≡ status it.fate → (mid : D) → state mid ≡ after_saving (state old) it →
+-- How a call ends. Where its fate is decided, there is a desk in between on which what the fate gives is saved and
+-- nothing is said yet, and from then on nothing changes on the disk. Else a call of the desk failed or memory ran out:
+-- nothing has changed on the disk, or what a fate gives was saved or was not.
+pub data EndsOnDisk {D : Type 0} (state : D → DeskState) (disk : D → Option History) (task : Option Request)
+    (old new : D) (answer : ℕ) : Type 0 where
+  Done : (it : Decision task (state old)) → answer ≡ status it.fate → (mid : D) →
+      state mid ≡ after_saving (state old) it →
       PutsOnDisk it.given.saved (Ok tt) (disk old) (disk mid) → state new ≡ after_text it.given.text (state mid) →
       Rests (disk mid) (disk new) → EndsOnDisk state disk task old new answer
   Stopped : (answer ≡ 5) ⊎ (answer ≡ 6) →
-      Rests (disk old) (disk new) ⊎ ((it : Decision task (state old)) × TriesOnDisk it.given.saved (disk old) (disk new)) →
+      Rests (disk old) (disk new) ⊎ ((it : Decision task (state old))
+      × TriesOnDisk it.given.saved (disk old) (disk new)) →
       EndsOnDisk state disk task old new answer

@@ -1,13 +1,12 @@
 ghost use Rattle.std.specs.Prelude.{◌≡◌, ◌<◌, true, false, Some, length, IfOk, OnErr};
-ghost use Rattle.flash_model.specs.Calls.{Carries};
 ghost use Rattle.array_machine.specs.ArrayState.{page_at};
-ghost use Rattle.tx_engine.specs.Read.{is_read_fault};
 ghost use Rattle.array_machine.specs.Read.{ReadsPage};
-ghost use Rattle.tx_engine.specs.Always.{HoldsAlways};
-ghost use Rattle.cut_replay.specs.Mounted.{IsCached, StaysQuiet, ServesHere};
-ghost use Rattle.cut_replay.specs.Mounted.{ReadsThrough, is_cached, brought_forward};
-ghost use Rattle.cut_replay.specs.Mounted.{KeepsPage, CachesRead, CachesPage, ReadsOnce};
 ghost use Rattle.array_runs.specs.Run.{read_reply};
+ghost use Rattle.flash_model.specs.Calls.{Carries};
+ghost use Rattle.flash_model.specs.Operations.{moment_of};
+ghost use Rattle.tx_engine.specs.Always.{HoldsAlways};
+ghost use Rattle.tx_engine.specs.Read.{is_read_fault};
+ghost use Rattle.cut_replay.specs.Mounted.{IsCached, StaysQuiet, ServesHere, ReadsThrough, is_cached, brought_forward, KeepsPage, CachesRead, CachesPage, ReadsOnce};
 
 use flash_model::Flash;
 use host_protocol::{Command, Reply};

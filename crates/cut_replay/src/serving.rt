@@ -2,9 +2,11 @@ ghost use Rattle.std.specs.Prelude.{◌≡◌, Ok, true, false, [], length, OnOk
 ghost use Rattle.tx_types.specs.Config.{checked};
 ghost use Rattle.host_protocol.specs.Commands.{Suits};
 ghost use Rattle.array_runs.specs.Run.{is_arm};
+ghost use Rattle.flash_model.specs.Flash.{FlashState, IsSteady};
+ghost use Rattle.flash_model.specs.Operations.{moment_of};
+ghost use Rattle.cut_replay.specs.Beginning.{Begins, MountsFirst};
 ghost use Rattle.cut_replay.specs.Bounds.{CountsBreaks};
 ghost use Rattle.cut_replay.specs.Mounted.{IsCached};
-ghost use Rattle.cut_replay.specs.Run.{is_arm};
 ghost use Rattle.cut_replay.specs.Served.{ServesSound, ServesUnsound, RefusesUnsound};
 ghost use Rattle.cut_replay.specs.Sessions.{flash_in, is_mounted, Fits, Serves, Unmounted, IsSoundFlash, IsSoundOrSame};
 

@@ -1,11 +1,12 @@
 //! What holds of all runs on a flash. The functions do nothing: each is there for what it ensures.
 ghost use Rattle.std.specs.Prelude.{◌≡◌, Bool, List, length};
 ghost use Rattle.tx_types.specs.declared.config.Config.{Config};
+ghost use Rattle.flash_model.specs.Operations.{Moment};
+ghost use Rattle.tx_engine.specs.DeviceState.{limits_of};
 ghost use Rattle.host_protocol.specs.declared.command.Command.{Command};
 ghost use Rattle.host_protocol.specs.declared.reply.Reply.{Reply};
 ghost use Rattle.array_runs.specs.Run.{Run, IsClosedUnmounted};
-ghost use Rattle.cut_replay.specs.FlashRun.{Point, IsFlashRun, mentions_in};
-ghost use Rattle.cut_replay.specs.FlashRun.{first_state, last_state};
+ghost use Rattle.cut_replay.specs.FlashRun.{Point, IsFlashRun, first_state, last_state, mentions_in};
 
 /// The state at which a run on a flash begins has an array of all logical pages, and nothing open.
 pub fn first_states()

@@ -42,24 +42,31 @@ Answers name (Ok loaded) a b = Learns (IsWhole name loaded) a b
 Answers name (Err error) a b = LoadsOnDisk name (Err error) a b
 
 -- a list is whole where it is short, and longer than the most where its start is
-whole_of : (most : ℕ) (all start : List ℕ) → max_file_bytes < most → start ≡ take most all → length start ≤ max_file_bytes → start ≡ all
+whole_of : (most : ℕ) (all start : List ℕ) → max_file_bytes < most → start ≡ take most all →
+    length start ≤ max_file_bytes → start ≡ all
 whole_of most all start above is short =
     let size = ap length is ∙ length-take most all in is ∙ take_all most all (omega arith)
 
-long_of : (most : ℕ) (all start : List ℕ) → start ≡ take most all → max_file_bytes < length start → max_file_bytes < length all
+long_of : (most : ℕ) (all start : List ℕ) → start ≡ take most all → max_file_bytes < length start →
+    max_file_bytes < length all
 long_of most all start is long = let size = ap length is ∙ length-take most all in omega arith
 
-file_answers : (name : List ℕ) (most : ℕ) (loaded : Loaded) (a b : Option History) → max_file_bytes < most → Loads name most (Ok loaded) a b →
+file_answers : (name : List ℕ) (most : ℕ) (loaded : Loaded) (a b : Option History) → max_file_bytes < most →
+    Loads name most (Ok loaded) a b →
     Answers name (load_answer (Ok loaded)) a b
 file_answers name most loaded a b above loads = elim (cases_lt max_file_bytes (length loaded.bytes.items)) [
   | inl long ↦
       let no : nat_le (length loaded.bytes.items) max_file_bytes ≡ false = grind (arith, nat_tests) in
-      rw no (learns_weaker _ _ a b loads (λ s is. (is.there, λ file leads. long_of most (bytes_of s file) loaded.bytes.items (is.bytes file leads) long)))
+      rw no (learns_weaker _ _ a b loads (λ s is. (
+        is.there,
+        λ file leads. long_of most (bytes_of s file) loaded.bytes.items (is.bytes file leads) long,
+      )))
   | inr short ↦
       let yes : nat_le (length loaded.bytes.items) max_file_bytes ≡ true = grind (arith, nat_tests) in
       rw yes (learns_weaker _ _ a b loads (λ s is. record {
         there = is.there;
-        bytes = λ file leads. whole_of most (bytes_of s file) loaded.bytes.items above (is.bytes file leads) (omega arith);
+        bytes = λ file leads. whole_of most (bytes_of s file) loaded.bytes.items above (is.bytes file leads)
+            (omega arith);
         found = is.found;
       }))
 ]
@@ -74,33 +81,40 @@ error_answers name most error a b loads = by_kind (error_kind error) refl
     by_kind _ is = learns_rests _ a b loads
 
 -- the answer of a desk says what the answer of the folder does
-pub load_answers : (name : List ℕ) (most : ℕ) (read : Result Loaded Error) (answer : Result Loaded LoadError) (a b : Option History) → max_file_bytes < most →
+pub load_answers : (name : List ℕ) (most : ℕ) (read : Result Loaded Error) (answer : Result Loaded LoadError)
+    (a b : Option History) → max_file_bytes < most →
     Loads name most read a b → answer ≡ load_answer read → Answers name answer a b
 load_answers name most (Ok loaded) answer a b above loads is = rw is (file_answers name most loaded a b above loads)
 load_answers name most (Err error) answer a b above loads is = rw is (error_answers name most error a b loads)
 
 -- an error is passed on
-pub error_passed : (name : List ℕ) (error : LoadError) (result : Result (Vec ℕ Global) LoadError) (a b : Option History) →
+pub error_passed : (name : List ℕ) (error : LoadError) (result : Result (Vec ℕ Global) LoadError)
+    (a b : Option History) →
     IsErrAnd result (λ other. other ≡ error) → Answers name (Err error) a b → LoadsOnDisk name result a b
 error_passed name error (Ok bytes) a b passed answers = absurd passed
 error_passed name error (Err other) a b passed answers = rw passed answers
 
 -- the bytes of a file are given once what was found of it is noted
 pub bytes_given : (name : List ℕ) (loaded : Loaded) (result : Result (Vec ℕ Global) LoadError) (a b : Option History) →
-    Answers name (Ok loaded) a b → IfOk result (λ bytes. bytes ≡ loaded.bytes) → IfErr result (λ error. error ≡ load.Memory) → LoadsOnDisk name result a b
-bytes_given name loaded (Ok bytes) a b answers is memory = rw is (learns_weaker (IsWhole name loaded) _ a b answers (λ s whole. (whole.there, whole.bytes)))
+    Answers name (Ok loaded) a b → IfOk result (λ bytes. bytes ≡ loaded.bytes) →
+    IfErr result (λ error. error ≡ load.Memory) → LoadsOnDisk name result a b
+bytes_given name loaded (Ok bytes) a b answers is memory =
+    rw is (learns_weaker (IsWhole name loaded) _ a b answers (λ s whole. (whole.there, whole.bytes)))
 bytes_given name loaded (Err error) a b answers is memory = rw memory (learns_rests (IsWhole name loaded) a b answers)
 
 -- what was found of a file is noted, and so it is still
-noted_now : (name : List ℕ) (loaded : Loaded) (findings : Findings) (a b : Option History) → Answers name (Ok loaded) a b →
+noted_now : (name : List ℕ) (loaded : Loaded) (findings : Findings) (a b : Option History) →
+    Answers name (Ok loaded) a b →
     noted findings name ≡ Some loaded.found → AtNow (IsNoted name findings) b
 noted_now name loaded findings a None answers is = tt
 noted_now name loaded findings None (Some k) answers is = absurd answers.run
 noted_now name loaded findings (Some h) (Some k) answers is =
     (loaded.found, is, rw (sym answers.run.4.0) at answers.run.4.1.found)
 
-pub loaded_noted : (name : List ℕ) (loaded : Loaded) (findings : Findings) (result : Result (Vec ℕ Global) LoadError) (a b : Option History) →
-    Answers name (Ok loaded) a b → OnOk result (noted findings name ≡ Some loaded.found) → OnOk result (AtNow (IsNoted name findings) b)
+pub loaded_noted : (name : List ℕ) (loaded : Loaded) (findings : Findings) (result : Result (Vec ℕ Global) LoadError)
+    (a b : Option History) →
+    Answers name (Ok loaded) a b → OnOk result (noted findings name ≡ Some loaded.found) →
+    OnOk result (AtNow (IsNoted name findings) b)
 loaded_noted name loaded findings (Ok bytes) a b answers is = noted_now name loaded findings a b answers is
 loaded_noted name loaded findings (Err error) a b answers is = tt
 
@@ -112,7 +126,8 @@ load_failed name error a b cause failed = elim cause [
   | inr absent ↦ let both : load.Missing ≡ load.Failed = ap load_error (sym absent.0) ∙ failed in absurd (cc)
 ]
 
-load_fails : (name : List ℕ) (read : Result Loaded Error) (a b : Option History) → HasLoadCause name read a b → LoadHasCause (load_answer read) a b
+load_fails : (name : List ℕ) (read : Result Loaded Error) (a b : Option History) → HasLoadCause name read a b →
+    LoadHasCause (load_answer read) a b
 load_fails name (Err error) a b cause failed = load_failed name error a b cause (let is = failed in cc)
 load_fails name (Ok loaded) a b cause failed = by_size (nat_le (length loaded.bytes.items) max_file_bytes) failed
   where
@@ -120,21 +135,26 @@ load_fails name (Ok loaded) a b cause failed = by_size (nat_le (length loaded.by
     by_size true is = absurd (cc)
     by_size false is = absurd (cc)
 
-pub load_cause : (name : List ℕ) (read : Result Loaded Error) (result : Result (Vec ℕ Global) LoadError) (error : LoadError) (a b : Option History) →
-    HasLoadCause name read a b → Err error ≡ load_answer read → IsErrAnd result (λ other. other ≡ error) → LoadHasCause result a b
+pub load_cause : (name : List ℕ) (read : Result Loaded Error) (result : Result (Vec ℕ Global) LoadError)
+    (error : LoadError) (a b : Option History) →
+    HasLoadCause name read a b → Err error ≡ load_answer read → IsErrAnd result (λ other. other ≡ error) →
+    LoadHasCause result a b
 load_cause name read (Ok bytes) error a b cause is passed failed = absurd passed
 load_cause name read (Err other) error a b cause is passed failed =
-    load_fails name read a b cause (sym is ∙ (let same : other ≡ load.Failed = cc in ap (λ e. Err e) (sym passed ∙ same)))
+    load_fails name read a b cause (sym is ∙ (let same : other ≡ load.Failed = cc in
+    ap (λ e. Err e) (sym passed ∙ same)))
 
 -- nothing else fails
-pub memory_alone : (result : Result (Vec ℕ Global) LoadError) (a b : Option History) → IfErr result (λ error. error ≡ load.Memory) →
+pub memory_alone : (result : Result (Vec ℕ Global) LoadError) (a b : Option History) →
+    IfErr result (λ error. error ≡ load.Memory) →
     LoadHasCause result a b
 memory_alone (Ok bytes) a b memory failed = absurd (cc)
 memory_alone (Err error) a b memory failed = absurd (let is = memory in cc)
 
 -- ---- saving
 
-pub refused_too : (P : FolderState → Type 0) (Q : Type 0) (done : Result (Unit {0}) Error) (result : Result (Unit {0}) SinkError) (a : Option History) →
+pub refused_too : (P : FolderState → Type 0) (Q : Type 0) (done : Result (Unit {0}) Error)
+    (result : Result (Unit {0}) SinkError) (a : Option History) →
     result ≡ save_answer done → WhereFirst P (IsErr done × Q) a → WhereFirst P (IsErr result × Q) a
 refused_too P Q done result None is refuses = tt
 refused_too P Q done result (Some h) is refuses = λ holds. (by_done done is (refuses holds).0, (refuses holds).1)
@@ -144,8 +164,10 @@ refused_too P Q done result (Some h) is refuses = λ holds. (by_done done is (re
     by_done (Err error) is err = rw is refl
 
 -- a desk fails for the reason that the folder has
-pub fails_too : (findings : Findings) (name : List ℕ) (done : Result (Unit {0}) Error) (result : Result (Unit {0}) SinkError) (a b : Option History) →
-    result ≡ save_answer done → HasSaveCause (AtNow (λ s. AllTaken (target s name) s) a) (IsStale (noted findings name) name) done a b →
+pub fails_too : (findings : Findings) (name : List ℕ) (done : Result (Unit {0}) Error)
+    (result : Result (Unit {0}) SinkError) (a b : Option History) →
+    result ≡ save_answer done → HasSaveCause (AtNow (λ s. AllTaken (target s name) s) a)
+    (IsStale (noted findings name) name) done a b →
     FailsWithCause findings name result a b
 fails_too findings name (Ok done) result a b is cause = (cause.0, λ failed. absurd (cc))
 fails_too findings name (Err error) result a b is cause = (
@@ -155,7 +177,8 @@ fails_too findings name (Err error) result a b is cause = (
       | inl fault ↦ inl fault
       | inr rest ↦ elim rest [
         | inl memory ↦
-            let both : Err sink.Memory ≡ Err sink.Failed = ap (λ k. Err (save_error k)) (sym memory) ∙ sym is ∙ failed in absurd (cc)
+            let both : Err sink.Memory ≡ Err sink.Failed = ap (λ k. Err (save_error k)) (sym memory) ∙ sym is
+            ∙ failed in absurd (cc)
         | inr taken ↦ inr (inl taken.1)
       ]
     ]

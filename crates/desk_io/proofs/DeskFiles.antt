@@ -36,7 +36,8 @@ find-kept_file name (e ∷ es) =
 -- a file is what the map has at its name
 pub file_at-kept : (m : Kept) (name : List ℕ)
     → file_at (files.from_entries (map kept_file m.entries)) name ≡ option_map bytes_of (get_by_text m name)
-file_at-kept m name = files.get-from_entries nat_list_cmp_total (map kept_file m.entries) name ∙ find-kept_file name m.entries
+file_at-kept m name = files.get-from_entries nat_list_cmp_total (map kept_file m.entries) name
+    ∙ find-kept_file name m.entries
 
 option_map-cond : (b : Bool) (v : Vec ℕ Global) (o : Option (Vec ℕ Global))
     → option_map bytes_of (cond b (Some v) o) ≡ cond b (Some v.items) (option_map bytes_of o)
@@ -50,7 +51,8 @@ ties name q = sym (is_eq-slice_cmp name q) ∙ (eq_by_cmp_equiv nat_list_cmp_tot
 -- a new value in the map is a new file
 pub insert-kept : (m n : Kept) (key : String Global) (v : Vec ℕ Global) (name : List ℕ) → string_bytes key ≡ name
     → Updates string_cmp m n key (Some v)
-    → ◌≡◌ {A = Files} (files.from_entries (map kept_file n.entries)) (files.insert (files.from_entries (map kept_file m.entries)) name v.items)
+    → ◌≡◌ {A = Files} (files.from_entries (map kept_file n.entries))
+    (files.insert (files.from_entries (map kept_file m.entries)) name v.items)
 insert-kept m n key v name is updates =
     files.same_map nat_list_cmp_total (files.slice_cmp-IsAntisymmetric files.nat_cmp-IsAntisymmetric) _ _ (λ q.
     file_at-kept n q ∙ ap (option_map bytes_of) (btree_map_updates_text (string_bytes key) m n (Some v) updates q)

@@ -10,7 +10,8 @@ abbrev pub answer_of : Bool → Result (Unit {0}) SinkError
 answer_of fails = if fails then Err Failed else Ok tt
 
 pub says_kept : (old new : MemDeskState) (bytes : List ℕ) (fails : Bool) (result : Result (Unit {0}) SinkError) →
-    new ≡ after_call (with_said (kept_of bytes fails)) fails old → result ≡ answer_of fails → Says (open_desk old) (open_desk new) bytes result
+    new ≡ after_call (with_said (kept_of bytes fails)) fails old → result ≡ answer_of fails →
+    Says (open_desk old) (open_desk new) bytes result
 says_kept old new bytes true result state answer = rw (state, answer) (length bytes / 2, refl)
 says_kept old new bytes false result state answer = rw (state, answer) refl
 

@@ -16,9 +16,12 @@ refuted : {P : Type 0} (r : Bool) → Decides r P → ¬ P → r ≡ false
 refuted true decides refutes = absurd (refutes (decides.0 refl))
 refuted false decides refutes = refl
 
-pub others_stay : (key name : List ℕ) (old new : BTreeMap (String Global) (Option Found)) (change : Option (Option Found)) → key ≡ name →
-    UpdatesBy string_cmp (λ k. slice_cmp nat_cmp key (string_bytes k)) old new change → (other : List ℕ) → other ≢ name →
+pub others_stay : (key name : List ℕ) (old new : BTreeMap (String Global) (Option Found))
+    (change : Option (Option Found)) → key ≡ name →
+    UpdatesBy string_cmp (λ k. slice_cmp nat_cmp key (string_bytes k)) old new change → (other : List ℕ) →
+    other ≢ name →
     unwrap_or (get_by_text new other) None ≡ unwrap_or (get_by_text old other) None
 others_stay key name old new change is updates other apart =
     let differs = refuted (bytes_eq key other) (bytes_eq-Decides key other) (λ same. apart (sym same ∙ is)) in
-    ap (λ found. unwrap_or found None) (btree_map_updates_text key old new change updates other ∙ update_other bytes_eq (get_by_text old) key change other differs)
+    ap (λ found. unwrap_or found None) (btree_map_updates_text key old new change updates other
+    ∙ update_other bytes_eq (get_by_text old) key change other differs)

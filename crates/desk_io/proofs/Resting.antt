@@ -10,7 +10,8 @@ use Rattle.desk_io.specs.Disk.{LoadsOnDisk}
 use Rattle.desk_io.specs.declared.desk.LoadError.{LoadError}
 use Rattle.desk_io.specs.declared.desk.LoadError.TheVariants as load
 
-pub loads_rests : (name : List ℕ) (result : Result (Vec ℕ Global) LoadError) (a b : Option History) → LoadsOnDisk name result a b → Rests a b
+pub loads_rests : (name : List ℕ) (result : Result (Vec ℕ Global) LoadError) (a b : Option History) →
+    LoadsOnDisk name result a b → Rests a b
 loads_rests name (Ok loaded) a b loads = learns_rests _ a b loads
 loads_rests name (Err load.Missing) a b loads = learns_rests _ a b loads
 loads_rests name (Err load.TooLong) a b loads = learns_rests _ a b loads

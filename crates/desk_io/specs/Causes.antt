@@ -15,8 +15,8 @@ use Rattle.desk_io.specs.declared.findings.Findings.{Findings}
 abbrev pub LoadHasCause : {T : Type 0} → Result T LoadError → Option History → Option History → Type 0
 LoadHasCause result a b = result ≡ Err load.Failed → HasFailed a b
 
--- A save fails where the system met a fault or another program holds the file, where all names for a new file were taken, or
--- where the file is not as it was when it was loaded.
+-- A save fails where the system met a fault or another program holds the file, where all names for a new file were
+-- taken, or where the file is not as it was when it was loaded.
 abbrev pub FailsWithCause : Findings → List ℕ → Result (Unit {0}) SinkError → Option History → Option History → Type 0
 FailsWithCause findings name result a b =
     IsLater a b ×

@@ -16,7 +16,8 @@ use Rattle.desk_io.specs.Desk.{Bytes, DeskState, FileFound, Finds, Missing, TooL
 abbrev pub LeadsSomewhere : List ℕ → FolderState → Type 0
 LeadsSomewhere name s = (file : ℕ) × (file_of s (target s name) ≡ Some file)
 
--- This is what the name leads to: nothing, or something. Where that is a plain file, these are its bytes, or they are too many.
+-- This is what the name leads to: nothing, or something. Where that is a plain file, these are its bytes, or they are
+-- too many.
 abbrev pub IsThere : List ℕ → FileFound → FolderState → Type 0
 IsThere name Missing s = file_of s (target s name) ≡ None
 IsThere name TooLong s =

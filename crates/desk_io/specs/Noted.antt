@@ -23,4 +23,5 @@ KeepsNotes name (Err error) old new = (other : List ℕ) → noted new other ≡
 -- What was found of the plain file to which a name leads is noted, and it is so still.
 abbrev pub IsNoted : List ℕ → Findings → FolderState → Type 0
 IsNoted name findings s =
-    (found : Found) × (noted findings name ≡ Some found) × ((file : ℕ) → LeadsToFile name file s → IsUnchanged found file s)
+    (found : Found) × (noted findings name ≡ Some found) × ((file : ℕ) → LeadsToFile name file s →
+    IsUnchanged found file s)

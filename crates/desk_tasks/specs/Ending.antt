@@ -11,7 +11,8 @@ use Rattle.host_protocol.specs.declared.command.Command.{Command}
 use Rattle.page_keys.specs.declared.command.KeyCommand.{KeyCommand}
 use Rattle.program_base.specs.Refusals.{ImageEnding, image_line, image_status, line}
 
--- a device is its configuration and what its flash holds; what a call for an image file is refused for is so in each program
+-- a device is its configuration and what its flash holds; what a call for an image file is refused for is so in each
+-- program
 pub data Ending : Type 0 where
   Tried : (commands : List Command) → Ending
   Formatted : (name : List ℕ) → (config : Config) → (allowance : ℕ) → Ending

@@ -36,7 +36,8 @@ pub record IsTried (commands : List Command) (p : OutputState) : Type 0 where
   pub left : List Contents
   pub run : IsRun (default_config Scc) (blank_image (default_config Scc)) commands left p.text
 
--- the file of a blank image, of which so many blocks may be retired and none is, and a line with the number of its slots
+-- the file of a blank image, of which so many blocks may be retired and none is, and a line with the number of its
+-- slots
 pub record IsFormatted (name : List ℕ) (its : Config) (allowance : ℕ) (p : OutputState) : Type 0 where
   pub bytes : List ℕ
   pub saves : p.saved ≡ Some (record { name = name; bytes = bytes })
@@ -72,8 +73,8 @@ pub record IsDriven (start count : ℕ) (protocol : Protocol) (p : OutputState) 
       ≡ summary_line start count protocol
       (length (generated start count (default_config protocol))) replies
 
--- the replies of a run of the map machine from this image on, whose pages are buckets, and the file of the image with which
--- the run ends, under the same configuration and with the same retired blocks
+-- the replies of a run of the map machine from this image on, whose pages are buckets, and the file of the image with
+-- which the run ends, under the same configuration and with the same retired blocks
 pub record IsKeyed (name : List ℕ) (its : Config) (image : List Contents) (extras : Extras)
     (commands : List KeyCommand) (p : OutputState) : Type 0 where
   pub bytes : List ℕ
@@ -82,8 +83,8 @@ pub record IsKeyed (name : List ℕ) (its : Config) (image : List Contents) (ext
   pub run : IsKeysRun its image commands left p.text
   pub spelled : Spells bytes its left extras
 
--- the file of the image in which a block was retired, under the same configuration and with one block more retired, and a
--- line that names the block
+-- the file of the image in which a block was retired, under the same configuration and with one block more retired, and
+-- a line that names the block
 pub record IsRetired (name : List ℕ) (its : Config) (image : List Contents) (extras : Extras)
     (block : ℕ) (p : OutputState) : Type 0 where
   pub bytes : List ℕ

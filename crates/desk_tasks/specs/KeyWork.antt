@@ -14,9 +14,9 @@ use Rattle.page_keys.specs.declared.key_reply.KeyReply.{KeyReply}
 use Rattle.desk_tasks.specs.Ending.{Ending, BadLine, BadBucket}
 use Rattle.desk_tasks.specs.Runs.{first_moment}
 
--- There is a run of the map machine over these commands, from the map of this image on, with nothing counted. It ends with
--- that image, and the text is that of its replies. Among the replies to the first so many commands there are at most as many
--- cuts as were armed among these, and no fault.
+-- There is a run of the map machine over these commands, from the map of this image on, with nothing counted. It ends
+-- with that image, and the text is that of its replies. Among the replies to the first so many commands there are at
+-- most as many cuts as were armed among these, and no fault.
 pub record IsKeysRun (its : Config) (image : List Contents) (commands : List KeyCommand)
     (left : List Contents) (text : List ℕ) : Type 0 where
   pub first : KeyPoint

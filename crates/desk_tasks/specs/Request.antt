@@ -5,8 +5,8 @@ use Rattle.tx_types.specs.declared.config.Protocol.{Protocol}
 
 -- A task of the program, with the names of its files: to try commands on a fresh device, to write a
 -- blank image, to run commands on an image, to report on an image, to drive a fresh device by
--- commands that are drawn, to check a report on an image, to compare the arrays of two images, to serve a key script on an
--- image, to retire a block of an image.
+-- commands that are drawn, to check a report on an image, to compare the arrays of two images, to serve a key script on
+-- an image, to retire a block of an image.
 pub data Request : Type 0 where
   Try : (commands : List ℕ) → Request
   Format : (image : List ℕ) → (config : Config) → (allowance : ℕ) → Request

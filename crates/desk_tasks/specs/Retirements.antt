@@ -37,8 +37,8 @@ pub record EmptiesBlock (its : Config) (image : List Contents) (block : ℕ)
   pub array : array_in its.protocol its.logical left ≡ array_in its.protocol its.logical image
   pub blank : IsBlankBlock its left block
 
--- A block of a device with nothing open was retired. The image is sound, its array is that of the device, and the block is
--- all blank in it.
+-- A block of a device with nothing open was retired. The image is sound, its array is that of the device, and the block
+-- is all blank in it.
 pub record RetiresIdle (old new : DeviceState MemFlashState) (block : ℕ) : Type 0 where
   pub shape : new.flash.shape ≡ old.flash.shape
   pub extras : new.flash.extras ≡ one_more old.flash.extras

@@ -35,8 +35,8 @@ abbrev pub first_moment : List Contents → Moment
 first_moment its_image = record { image = its_image; programs = 0; erases = 0 }
 
 -- The image is sound, and there is a run on a flash over these commands, from it on, with nothing
--- counted. It begins with a mounted device. The run ends with that image, and the text is that of its replies. Among the replies to
--- the first so many commands there are at most as many cuts and faults as were armed among these.
+-- counted. It begins with a mounted device. The run ends with that image, and the text is that of its replies. Among
+-- the replies to the first so many commands there are at most as many cuts and faults as were armed among these.
 pub record IsRun (its : Config) (image : List Contents) (commands : List Command)
     (left : List Contents) (text : List ℕ) : Type 0 where
   pub sound : IsSoundImage its.protocol its.logical (shape_of its) image

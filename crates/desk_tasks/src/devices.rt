@@ -8,7 +8,6 @@ ghost use Rattle.host_protocol.specs.Commands.{Suits};
 ghost use Rattle.host_protocol.specs.Files.{IsFile};
 ghost use Rattle.host_protocol.specs.declared.file.TheConstants.{MAX_FILE_BYTES};
 ghost use Rattle.version_index.specs.Images.{IsSoundImage, records_in};
-ghost use Rattle.version_index.specs.Notes.{found_in};
 ghost use Rattle.verdict_report.specs.Report.{report};
 ghost use Rattle.desk_tasks.specs.Runs.{IsRun, blank_image, default_config};
 ghost use Rattle.desk_tasks.specs.Stops.{RefusesDevice, RefusesLine, StopsBy};
@@ -192,7 +191,7 @@ fn report_on<R: CommitRule>(
     logical: u32,
 ) -> Result<Vec<u8>, Failure<'static>>
     ensures ok { IfOk result (λ text. text.items ≡ report R.protocol list.now logical) }
-    ensures err { IfErr result (λ e. e ≡ Stop.Memory) }
+    ensures err { IfErr result (λ e. e ≡ Failure.Memory) }
 {
     let mut text = Vec::new(alloc);
     explain::<R>(alloc, list, logical, &mut text)?;

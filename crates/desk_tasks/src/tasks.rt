@@ -206,7 +206,7 @@ fn sum_up(
     requires { All (Suits (default_config protocol).page_bytes) list.now }
     ensures ok { IfOk result (λ line. (replies : List ℕ) × RepliesFresh protocol list.now replies
         × (line.items ≡ summary_line start count protocol (length list.now) replies)) }
-    ensures err { IfErr result (λ e. e ≡ Stop.Memory) }
+    ensures err { IfErr result (λ e. e ≡ Failure.Memory) }
 {
     let replies = serve_fresh(alloc, protocol, list)?;
     let mut line = Vec::new(alloc);
@@ -230,7 +230,7 @@ fn serve_fresh(
 ) -> Result<Lines, Failure<'static>>
     requires { All (Suits (default_config protocol).page_bytes) list.now }
     ensures ok { IfOk result (RepliesFresh protocol list.now) }
-    ensures err { IfErr result (λ e. e ≡ Stop.Memory) }
+    ensures err { IfErr result (λ e. e ≡ Failure.Memory) }
 {
     let config = default_config(protocol);
     let blank = blank_flash(alloc, config)?;

@@ -23,7 +23,8 @@ holds_one v c h =
     some_one (HasBlock c (i / 64)) v (h.blocks (i / 64)) i (within_block i).0 (within_block i).1 below)
 
 -- the first byte of a file is that of one of its versions
-first_zero : (c : List ℕ) (vs : List (List ℕ)) → 64 < length c → AllByRecursion (λ v. byte_at v 0 ≡ 0) vs → SomeOf (HasBlock c 0) vs → byte_at c 0 ≡ 0
+first_zero : (c : List ℕ) (vs : List (List ℕ)) → 64 < length c → AllByRecursion (λ v. byte_at v 0 ≡ 0) vs →
+    SomeOf (HasBlock c 0) vs → byte_at c 0 ≡ 0
 first_zero c [] long zeros none = absurd none
 first_zero c (v ∷ vs) long zeros (inl block) = block 0 (omega arith) (omega arith) (omega arith) ∙ zeros.0
 first_zero c (v ∷ vs) long zeros (inr rest) = first_zero c vs long zeros.1 rest
@@ -39,7 +40,8 @@ all_torn c vs zeros h = elim (cases_lt 64 (length c)) [
 below_block : (c z v : List ℕ) (vs : List (List ℕ)) → ((i : ℕ) → 64 ≤ i → byte_at z i ≡ byte_at v i) →
     SomeOf (HasBlock c 0) (v ∷ vs) → (k : ℕ) → SomeOf (HasBlock c k) (z ∷ v ∷ vs) → SomeOf (HasBlock c k) (v ∷ vs)
 below_block c z v vs same first zero some = first
-below_block c z v vs same first (suc k) (inl block) = inl (λ i from to below. block i from to below ∙ same i (omega (arith, from)))
+below_block c z v vs same first (suc k) (inl block) = inl (λ i from to below. block i from to below
+    ∙ same i (omega (arith, from)))
 below_block c z v vs same first (suc k) (inr rest) = rest
 
 -- what a file holds whose first block was cleared
@@ -65,11 +67,13 @@ above_block : (c bytes z : List ℕ) → ((i : ℕ) → 64 ≤ i → byte_at z i
     (k : ℕ) → SomeOf (HasBlock c k) (bytes ∷ z ∷ []) → SomeOf (HasBlock c k) (bytes ∷ [])
 above_block c bytes z same first zero some = inl first
 above_block c bytes z same first (suc k) (inl block) = inl block
-above_block c bytes z same first (suc k) (inr (inl block)) = inl (λ i from to below. block i from to below ∙ same i (omega (arith, from)))
+above_block c bytes z same first (suc k) (inr (inl block)) =
+    inl (λ i from to below. block i from to below ∙ same i (omega (arith, from)))
 above_block c bytes z same first (suc k) (inr (inr none)) = absurd none
 
 -- what a file holds that gets its head
-pub finished_holds : (c bytes z : List ℕ) → byte_at z 0 ≡ 0 → length z ≡ length bytes → ((i : ℕ) → 64 ≤ i → byte_at z i ≡ byte_at bytes i) →
+pub finished_holds : (c bytes z : List ℕ) → byte_at z 0 ≡ 0 → length z ≡ length bytes →
+    ((i : ℕ) → 64 ≤ i → byte_at z i ≡ byte_at bytes i) →
     MayHold (bytes ∷ z ∷ []) c → (c ≡ bytes) ⊎ IsTorn c
 finished_holds c bytes z zero_first size same h =
     elim (cases_lt 64 (length c)) [
@@ -77,8 +81,16 @@ finished_holds c bytes z zero_first size same h =
       | inl long ↦ elim (h.blocks 0) [
         | inl first ↦ inl (holds_one bytes c (record {
           blocks = λ k. above_block c bytes z same first k (h.blocks k);
-          least = elim h.least [ inl le ↦ inl le | inr rest ↦ inl (elim rest [ inl le ↦ omega arith | inr none ↦ absurd none ]) ];
-          most = elim h.most [ inl le ↦ inl le | inr rest ↦ inl (elim rest [ inl le ↦ omega arith | inr none ↦ absurd none ]) ];
+          least = elim h.least [
+            | inl le ↦ inl le
+            | inr rest ↦
+                inl (elim rest [ inl le ↦ omega arith | inr none ↦ absurd none ])
+          ];
+          most = elim h.most [
+            | inl le ↦ inl le
+            | inr rest ↦
+                inl (elim rest [ inl le ↦ omega arith | inr none ↦ absurd none ])
+          ];
         }))
         | inr rest ↦ elim rest [
           | inl block ↦ inr (inl (block 0 (omega arith) (omega arith) (omega arith) ∙ zero_first))

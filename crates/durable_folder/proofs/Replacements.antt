@@ -20,7 +20,8 @@ newest_some f [] is = absurd (cc)
 newest_some f (e ∷ es) is = inl is
 
 -- a file that no name had matters to none
-some_spared : (f : ℕ) (s t : FolderState) (left : Option (List ℕ)) → ((g : ℕ) → g ≢ f → t.files g ≡ s.files g) → (es : List (Option ℕ)) →
+some_spared : (f : ℕ) (s t : FolderState) (left : Option (List ℕ)) → ((g : ℕ) → g ≢ f → t.files g ≡ s.files g) →
+    (es : List (Option ℕ)) →
     (SomeOf (λ e. e ≡ Some f) es → ⊥) →
     SomeOf (LeavesOf t left) es → SomeOf (LeavesOf s left) es
 some_spared f s t left same [] fresh none = absurd none
@@ -29,31 +30,37 @@ some_spared f s t left same (Some g ∷ es) fresh (inl x) =
     let at : MayHold (s.files g) x.0 = rw (same g (λ is. fresh (inl (ap Some is)))) at x.1 in inl (x.0, at, x.2)
 some_spared f s t left same (e ∷ es) fresh (inr rest) = inr (some_spared f s t left same es (λ x. fresh (inr x)) rest)
 
-leaves_spared : (name beside : List ℕ) (f : ℕ) (s t : FolderState) → IsNew name beside f s t → (n : List ℕ) → n ≢ beside → (left : Option (List ℕ)) →
+leaves_spared : (name beside : List ℕ) (f : ℕ) (s t : FolderState) → IsNew name beside f s t → (n : List ℕ) →
+    n ≢ beside → (left : Option (List ℕ)) →
     Leaves t n left → Leaves s n left
 leaves_spared name beside f s t new n apart left x =
     let at : SomeOf (LeavesOf t left) (s.names n) = rw (new.spares.names n apart) at x in
     some_spared f s t left new.spares.files (s.names n) (new.is_fresh n) at
 
 -- a name that has a file is not the new one
-pub taken_apart : (name beside : List ℕ) (f : ℕ) (s t : FolderState) → IsNew name beside f s t → (n : List ℕ) → IsOther name s n → n ≢ beside
+pub taken_apart : (name beside : List ℕ) (f : ℕ) (s t : FolderState) → IsNew name beside f s t → (n : List ℕ) →
+    IsOther name s n → n ≢ beside
 taken_apart name beside f s t new n (inl taken) same = taken (ap (λ m. file_of s m) same ∙ new.is_free)
 taken_apart name beside f s t new n (inr away) same = away (rw same new.leftover)
 
 pub prepares_keeps : (name bytes : List ℕ) (s t : FolderState) → Prepares name s t → KeepsOrReplaces name bytes s t
-prepares_keeps name bytes s t (inl same) = rw same (record { here = λ left x. inl x; others = λ n apart taken left x. x })
+prepares_keeps name bytes s t (inl same) =
+    rw same (record { here = λ left x. inl x; others = λ n apart taken left x. x })
 prepares_keeps name bytes s t (inr p) = record {
   here = λ left x. inl (leaves_spared name p.0 p.1 s t p.2 name (λ is. p.2.apart (sym is)) left x);
-  others = λ n apart taken left x. leaves_spared name p.0 p.1 s t p.2 n (taken_apart name p.0 p.1 s t p.2 n taken) left x;
+  others = λ n apart taken left x. leaves_spared name p.0 p.1 s t p.2 n
+      (taken_apart name p.0 p.1 s t p.2 n taken) left x;
 }
 
-pub leaves_of_files : (s t : FolderState) (left : Option (List ℕ)) (e : Option ℕ) → ((f : ℕ) → t.files f ≡ s.files f) → LeavesOf t left e →
+pub leaves_of_files : (s t : FolderState) (left : Option (List ℕ)) (e : Option ℕ) → ((f : ℕ) → t.files f ≡ s.files f) →
+    LeavesOf t left e →
     LeavesOf s left e
 leaves_of_files s t left None same x = x
 leaves_of_files s t left (Some f) same x = let at : MayHold (s.files f) x.0 = rw (same f) at x.1 in (x.0, at, x.2)
 
 -- a file that has its bytes durably
-pub leaves_bytes : (t : FolderState) (f : ℕ) (bytes : List ℕ) (left : Option (List ℕ)) (e : Option ℕ) → e ≡ Some f → t.files f ≡ bytes ∷ [] →
+pub leaves_bytes : (t : FolderState) (f : ℕ) (bytes : List ℕ) (left : Option (List ℕ)) (e : Option ℕ) → e ≡ Some f →
+    t.files f ≡ bytes ∷ [] →
     LeavesOf t left e → left ≡ Some bytes
 leaves_bytes t f bytes left None is whole x = absurd (cc)
 leaves_bytes t f bytes left (Some g) is whole x =
@@ -64,9 +71,11 @@ leaves_bytes t f bytes left (Some g) is whole x =
 pub differs : (name beside : List ℕ) (f : ℕ) (s t : FolderState) → IsNew name beside f s t → file_of t beside ≡ Some f →
     file_of t beside ≢ file_of t name
 differs name beside f s t new named same =
-    new.is_fresh name (newest_some f (s.names name) (ap (newest None) (sym (new.spares.names name (λ is. new.apart (sym is)))) ∙ sym same ∙ named))
+    new.is_fresh name (newest_some f (s.names name)
+    (ap (newest None) (sym (new.spares.names name (λ is. new.apart (sym is)))) ∙ sym same ∙ named))
 
-pub shifts_keeps : (name beside bytes : List ℕ) (f : ℕ) (s t u : FolderState) → IsNew name beside f s t → file_of t beside ≡ Some f →
+pub shifts_keeps : (name beside bytes : List ℕ) (f : ℕ) (s t u : FolderState) → IsNew name beside f s t →
+    file_of t beside ≡ Some f →
     t.files f ≡ bytes ∷ [] → Shifts beside name t u →
     KeepsOrReplaces name bytes s u
 shifts_keeps name beside bytes f s t u new named whole shifts = record {
@@ -81,11 +90,13 @@ shifts_keeps name beside bytes f s t u new named whole shifts = record {
       let e = some_entry (LeavesOf u left) (u.names n) x in
       let away = taken_apart name beside f s t new n taken in
       leaves_spared name beside f s t new n away left
-      (entry_some (LeavesOf t left) e.0 (t.names n) (shifts.others n away apart e.0 e.1) (leaves_of_files t u left e.0 shifts.files.files e.2));
+      (entry_some (LeavesOf t left) e.0 (t.names n) (shifts.others n away apart e.0 e.1)
+      (leaves_of_files t u left e.0 shifts.files.files e.2));
 }
 
 -- a name that has a file which was synced with these bytes
-pub saved_file : (name bytes : List ℕ) (f : ℕ) (k : History) → HasFile name (Some f) k → k.now.files f ≡ bytes ∷ [] → IsSaved name bytes k
+pub saved_file : (name bytes : List ℕ) (f : ℕ) (k : History) → HasFile name (Some f) k → k.now.files f ≡ bytes ∷ [] →
+    IsSaved name bytes k
 saved_file name bytes f k has whole = (
   (f, has.0, whole),
   elim has.1 [
@@ -117,7 +128,8 @@ aside_prepares name beside f s t u new names files = inr (
 )
 
 -- a new file whose bytes change is still that
-pub new_filled : (name beside : List ℕ) (f : ℕ) (s t u : FolderState) → IsNew name beside f s t → SparesNames f t u → IsNew name beside f s u
+pub new_filled : (name beside : List ℕ) (f : ℕ) (s t u : FolderState) → IsNew name beside f s t → SparesNames f t u →
+    IsNew name beside f s u
 new_filled name beside f s t u new same = record {
   apart = new.apart;
   leftover = new.leftover;

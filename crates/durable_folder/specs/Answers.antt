@@ -20,7 +20,8 @@ abbrev pub sync_answer : Result (Unit {0}) Error → Result (Unit {0}) Error
 sync_answer (Ok done) = Ok done
 sync_answer (Err error) = unless_unable (is_unable (error_kind error)) error
 
--- an answer that comes when the file may have changed, in place of this one: an error stays one, and is no want of memory
+-- an answer that comes when the file may have changed, in place of this one: an error stays one, and is no want of
+-- memory
 abbrev pub IsLate : Result (Unit {0}) Error → Result (Unit {0}) Error → Type 0
 IsLate (Ok done) (Ok answer) = Unit {0}
 IsLate (Err error) (Err answer) = error_kind answer ≢ kind.OutOfMemory

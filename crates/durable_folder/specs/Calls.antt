@@ -103,7 +103,8 @@ abbrev pub locked_by : Result Lock Error → Handle → Handle
 locked_by (Ok lock.Elsewhere) handle = handle
 locked_by _ handle = record handle { is_held = true }
 
--- The lock of an open file is taken, unless another program holds it. Any error is taken to say that there are no locks.
+-- The lock of an open file is taken, unless another program holds it. Any error is taken to say that there are no
+-- locks.
 abbrev pub Locks : Handle → Handle → Result Lock Error → FolderState → FolderState → Type 0
 Locks before after result s t =
     (t ≡ s) × ((file : ℕ) → before.file ≡ Some file → s.fixed.is_taken file ≡ is_elsewhere result) ×
@@ -198,7 +199,8 @@ pub record Moves (from to : List ℕ) (s t : FolderState) : Type 0 where
   pub files : SparesFiles s t
 
 abbrev pub Renames : List ℕ → List ℕ → Result (Unit {0}) Error → FolderState → FolderState → Type 0
-Renames from to (Ok done) s t = (file_of s from ≢ file_of s to → Moves from to s t) × (file_of s from ≡ file_of s to → t ≡ s)
+Renames from to (Ok done) s t = (file_of s from ≢ file_of s to → Moves from to s t)
+    × (file_of s from ≡ file_of s to → t ≡ s)
 Renames from to (Err error) s t = t ≡ s
 
 -- a name has no file any more

@@ -38,7 +38,8 @@ AtNow P (Some h) = P h.now
 -- At each name that a save tries for a new file there is something, or it is the name that is saved.
 abbrev pub TakenBelow : ℕ → List ℕ → FolderState → Type 0
 TakenBelow most name s =
-    (number : ℕ) → 1 ≤ number → number < most → (text : List ℕ) × IsBeside name number text × ((text ≡ name) ⊎ (file_of s text ≢ None))
+    (number : ℕ) → 1 ≤ number → number < most → (text : List ℕ) × IsBeside name number text
+    × ((text ≡ name) ⊎ (file_of s text ≢ None))
 
 abbrev pub AllTaken : List ℕ → FolderState → Type 0
 AllTaken name s = TakenBelow 100 name s

@@ -36,7 +36,8 @@ pub record Answer : Type 0 where
   pub failures : ℕ
   pub unsynced : List (List ℕ)
 
--- A call of the system went from one state to the next, which stands in this relation to the one before, and was answered so.
+-- A call of the system went from one state to the next, which stands in this relation to the one before, and was
+-- answered so.
 abbrev pub Turns : (FolderState → FolderState → Type 0) → Answer → Option History → Option History → Type 0
 Turns step answer (Some h) (Some k) =
     step h.now k.now × (k.before ≡ h.now ∷ h.before) × (k.refusals ≡ answer.refusals ++ h.refusals) ×
@@ -61,8 +62,8 @@ CannotSync name h = SomeOf (λ place. place ≡ folder_of name) h.unsynced
 abbrev pub HasFile : List ℕ → Option ℕ → History → Type 0
 HasFile name file h = (file_of h.now name ≡ file) × ((h.now.names name ≡ file ∷ []) ⊎ CannotSync name h)
 
--- The name has a file now that was synced with these bytes, and a loss of power leaves them there and nothing else, unless
--- its folder cannot be synced.
+-- The name has a file now that was synced with these bytes, and a loss of power leaves them there and nothing else,
+-- unless its folder cannot be synced.
 abbrev pub IsSaved : List ℕ → List ℕ → History → Type 0
 IsSaved name bytes h = HasNow h.now name bytes × (IsDurable h.now name bytes ⊎ CannotSync name h)
 
@@ -79,7 +80,8 @@ pub record RefusedSince (P : Refusal → Type 0) (h k : History) : Type 0 where
 
 -- Since the first history, every state stands in this relation to the first one, and the last history in that relation
 -- to it. Refusals were not forgotten.
-abbrev pub Passes : (FolderState → FolderState → Type 0) → (History → History → Type 0) → Option History → Option History → Type 0
+abbrev pub Passes : (FolderState → FolderState → Type 0) → (History → History → Type 0) → Option History →
+    Option History → Type 0
 Passes every last (Some h) (Some k) =
     (since : List FolderState) × (k.now ∷ k.before ≡ since ++ h.now ∷ h.before) × AllByRecursion (every h.now) since ×
     KeepsRefusals h k × last h k
@@ -87,7 +89,8 @@ Passes every last None None = Unit {0}
 Passes every last _ _ = ⊥
 
 -- the same, as a fact by which its parts are found
-pub record Runs (every : FolderState → FolderState → Type 0) (last : History → History → Type 0) (old new : Option History) : Type 0 where
+pub record Runs (every : FolderState → FolderState → Type 0) (last : History → History → Type 0)
+    (old new : Option History) : Type 0 where
   pub run : Passes every last old new
 
 -- Nothing has changed, and this holds of the state.

@@ -50,7 +50,8 @@ abbrev pub IsHead : ℕ → List ℕ → Type 0
 IsHead head bytes = head ≡ min (length bytes) block_bytes
 
 -- Of one file: every state since the first one, and the last one.
-pub record FileRuns (file : Option ℕ) (every last : List (List ℕ) → List (List ℕ) → Type 0) (old new : Option History) : Type 0 where
+pub record FileRuns (file : Option ℕ) (every last : List (List ℕ) → List (List ℕ) → Type 0)
+    (old new : Option History) : Type 0 where
   pub run : Runs (OfFile every file) (λ h k. OfFile last file h.now k.now) old new
 
 -- nothing has changed, and what is open is no plain file

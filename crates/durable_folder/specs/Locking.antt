@@ -22,8 +22,8 @@ pub record LeadsToFile (name : List ℕ) (file : ℕ) (s : FolderState) : Type 0
 abbrev pub IsTaken : List ℕ → FolderState → Type 0
 IsTaken name s = (file : ℕ) × LeadsToFile name file s × (s.fixed.is_taken file ≡ true)
 
--- A file was loaded, and the name now leads to nothing, or to a plain file that is another one or was written since. Or a
--- plain file was loaded, and it leads to what is none.
+-- A file was loaded, and the name now leads to nothing, or to a plain file that is another one or was written since. Or
+-- a plain file was loaded, and it leads to what is none.
 abbrev pub IsStale : Option Found → List ℕ → FolderState → Type 0
 IsStale None name s = ⊥
 IsStale (Some loaded) name s =
@@ -35,23 +35,26 @@ abbrev pub IsHeldBy : ℕ → Option Handle → Type 0
 IsHeldBy file None = ⊥
 IsHeldBy file (Some handle) = (handle.file ≡ Some file) × (handle.is_held ≡ true)
 
--- The plain file to which the name leads, if there is one, is held by this open one and by no other program, and is as it
--- was loaded, if it was.
+-- The plain file to which the name leads, if there is one, is held by this open one and by no other program, and is as
+-- it was loaded, if it was.
 pub record IsClaimed (loaded : Option Found) (name : List ℕ) (held : Option Handle) (s : FolderState) : Type 0 where
   pub is_free : IsTaken name s → ⊥
   pub is_current : IsStale loaded name s → ⊥
   pub is_held : (file : ℕ) → LeadsToFile name file s → IsHeldBy file held
 
 -- What claiming a file comes to: it is claimed, or nothing is known.
-abbrev pub Claims : {H : Type 0} → (H → Handle) → Option Found → List ℕ → Result (Option H) Error → Option History → Option History → Type 0
+abbrev pub Claims : {H : Type 0} → (H → Handle) → Option Found → List ℕ → Result (Option H) Error → Option History →
+    Option History → Type 0
 Claims handle loaded name (Ok held) = Learns (IsClaimed loaded name (option_map handle held))
 Claims handle loaded name (Err error) = Rests
 
--- Why it fails: the system met a fault, or another program holds the file, or it is not as it was loaded, in this sense.
+-- Why it fails: the system met a fault, or another program holds the file, or it is not as it was loaded, in this
+-- sense.
 abbrev pub IsClaimCause : (FolderState → Type 0) → Error → Option History → Option History → Type 0
 IsClaimCause stale error a b = HasFailed a b ⊎ ((error_kind error ≡ kind.Other) × Learns stale a b)
 
-abbrev pub HasClaimCause : {T : Type 0} → (FolderState → Type 0) → Result T Error → Option History → Option History → Type 0
+abbrev pub HasClaimCause : {T : Type 0} → (FolderState → Type 0) → Result T Error → Option History →
+    Option History → Type 0
 HasClaimCause stale result a b = IsLater a b × IfErr result (λ error. IsClaimCause stale error a b)
 
 -- this is open on the name
@@ -60,7 +63,8 @@ IsOpenAt handle name s =
     (file : ℕ) × (file_of s (target s name) ≡ Some file) × (handle.file ≡ if_plain (s.fixed.is_plain file) file)
 
 -- the same, of a file that is claimed when it is open
-abbrev pub Holds : Handle → Handle → Option Found → List ℕ → Result (Unit {0}) Error → Option History → Option History → Type 0
+abbrev pub Holds : Handle → Handle → Option Found → List ℕ → Result (Unit {0}) Error → Option History →
+    Option History → Type 0
 Holds before after loaded name (Ok done) = Learns (λ s. IsOpenAt before name s → IsClaimed loaded name (Some after) s)
 Holds before after loaded name (Err error) = Rests
 
@@ -132,7 +136,8 @@ Loads name most (Err error) = Learns (λ s. error_kind error ≡ kind.NotFound �
 -- Why a load fails: the system met a fault, or there is nothing to which the name leads.
 abbrev pub HasLoadCause : {T : Type 0} → List ℕ → Result T Error → Option History → Option History → Type 0
 HasLoadCause name result a b =
-    IfErr result (λ error. HasFailed a b ⊎ ((error_kind error ≡ kind.NotFound) × Learns (λ s. file_of s (target s name) ≡ None) a b))
+    IfErr result (λ error. HasFailed a b ⊎ ((error_kind error ≡ kind.NotFound)
+    × Learns (λ s. file_of s (target s name) ≡ None) a b))
 
 -- the same of an open file
 pub record IsRead (handle : Handle) (most : ℕ) (loaded : Loaded) (s : FolderState) : Type 0 where
@@ -154,6 +159,7 @@ WhereFirst P Q None = Unit {0}
 WhereFirst P Q (Some h) = P h.now → Q
 
 -- Why a save of a file that is claimed first fails.
-abbrev pub HasSaveCause : Type 0 → (FolderState → Type 0) → Result (Unit {0}) Error → Option History → Option History → Type 0
+abbrev pub HasSaveCause : Type 0 → (FolderState → Type 0) → Result (Unit {0}) Error → Option History →
+    Option History → Type 0
 HasSaveCause taken stale result a b =
     IsLater a b × IfErr result (λ error. IsCause taken error a b ⊎ ((error_kind error ≡ kind.Other) × Learns stale a b))

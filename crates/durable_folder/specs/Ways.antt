@@ -17,7 +17,8 @@ abbrev pub MustStay : Found → Type 0
 MustStay found = (found.is_file ≡ false) ⊎ (1 < found.names)
 
 -- a plain file with one name is replaced by a file of its owner and mode
-pub record ReplacesOwned (name : List ℕ) (found : Found) (bytes : List ℕ) (result : Result Replaced Error) (a b : Option History) : Type 0 where
+pub record ReplacesOwned (name : List ℕ) (found : Found) (bytes : List ℕ) (result : Result Replaced Error)
+    (a b : Option History) : Type 0 where
   pub is_file : found.is_file ≡ true
   pub one_name : found.names ≤ 1
   pub owner : Owner
@@ -41,10 +42,12 @@ IsTornLeft (Some bytes) = IsTorn bytes
 abbrev pub Shares : FolderState → List ℕ → List ℕ → Type 0
 Shares s name n = (file : ℕ) × (file_of s name ≡ Some file) × SomeOf (λ f. f ≡ Some file) (s.names n)
 
--- A loss of power leaves at the name what it might have left before, the new bytes, or what is torn, and so at the other
--- names of this file. At each other name it leaves what it might have left before, but for names beside it that had no file.
+-- A loss of power leaves at the name what it might have left before, the new bytes, or what is torn, and so at the
+-- other names of this file. At each other name it leaves what it might have left before, but for names beside it that
+-- had no file.
 pub record KeepsOrTears (name bytes : List ℕ) (s t : FolderState) : Type 0 where
-  pub here : (left : Option (List ℕ)) → Leaves t name left → Leaves s name left ⊎ ((left ≡ Some bytes) ⊎ IsTornLeft left)
+  pub here : (left : Option (List ℕ)) → Leaves t name left → Leaves s name left
+      ⊎ ((left ≡ Some bytes) ⊎ IsTornLeft left)
   pub others : (n : List ℕ) → n ≢ name → IsOther name s n → (left : Option (List ℕ)) → Leaves t n left →
       Leaves s n left ⊎ (Shares s name n × ((left ≡ Some bytes) ⊎ IsTornLeft left))
 
@@ -62,17 +65,18 @@ abbrev pub IsOwnedBy : FolderState → List ℕ → ℕ → ℕ → Type 0
 IsOwnedBy s name user group =
     (file : ℕ) × (file_of s name ≡ Some file) × (s.fixed.user file ≡ user) × (s.fixed.group file ≡ group)
 
--- Why a file is written in place: it is no plain file, it has several names, it is a mount point, or no new file came to its
--- name since the system refused what that takes.
+-- Why a file is written in place: it is no plain file, it has several names, it is a mount point, or no new file came
+-- to its name since the system refused what that takes.
 abbrev pub MustBeInPlace : List ℕ → History → History → Type 0
 MustBeInPlace name h k =
     IsSpecial h.now name ⊎ (IsShared h.now name ⊎ (IsMountPoint h.now name ⊎
     RefusedSince (IsReason name (IsOwnedBy h.now name) h.now) h k))
 
--- The new bytes are there: durably in a plain file that was at the name and still is, and, where there was nothing, saved
--- at the name.
+-- The new bytes are there: durably in a plain file that was at the name and still is, and, where there was nothing,
+-- saved at the name.
 pub record IsInPlace (name bytes : List ℕ) (h k : History) : Type 0 where
-  pub over : (file : ℕ) → file_of h.now name ≡ Some file → h.now.fixed.is_plain file ≡ true → k.now.files file ≡ bytes ∷ []
+  pub over : (file : ℕ) → file_of h.now name ≡ Some file → h.now.fixed.is_plain file ≡ true →
+      k.now.files file ≡ bytes ∷ []
   pub stays : (file : ℕ) → file_of h.now name ≡ Some file → k.now.names name ≡ h.now.names name
   pub anew : file_of h.now name ≡ None → IsSaved name bytes k
 
@@ -90,7 +94,8 @@ SavesInPlace Known name bytes result =
     (λ h k. Known h.now → MustBeInPlace name h k × AfterOk result (IsInPlace name bytes h k))
 
 -- A save at a name that is no link.
-abbrev pub SavesAt : (FolderState → Type 0) → List ℕ → List ℕ → Result (Unit {0}) Error → Option History → Option History →
+abbrev pub SavesAt : (FolderState → Type 0) → List ℕ → List ℕ → Result (Unit {0}) Error → Option History →
+    Option History →
     Type 0
 SavesAt Known name bytes result a b = SavesByNew name bytes result a b ⊎ SavesInPlace Known name bytes result a b
 
@@ -113,7 +118,8 @@ pub record WasFound (name : List ℕ) (found : Option Found) (s : FolderState) :
   pub no_link : target s name ≡ name
   pub seen : IsSeen name (Ok found) s
 
--- A new file came to a name, and nothing else has changed. A loss of power leaves in it nothing, the new bytes, or what is torn.
+-- A new file came to a name, and nothing else has changed. A loss of power leaves in it nothing, the new bytes, or what
+-- is torn.
 pub record IsBorn (name bytes : List ℕ) (file : ℕ) (s t : FolderState) : Type 0 where
   pub is_fresh : (n : List ℕ) → SomeOf (λ f. f ≡ Some file) (s.names n) → ⊥
   pub named : t.names name ≡ Some file ∷ s.names name
@@ -179,5 +185,7 @@ abbrev pub LeadsTo : List ℕ → List ℕ → FolderState → Type 0
 LeadsTo name at s = (at ≡ target s name) × (target s (target s name) ≡ target s name)
 
 -- A save, from any earlier history since which nothing has changed and this was learned.
-abbrev pub SavesKnowing : (FolderState → Type 0) → List ℕ → List ℕ → Result (Unit {0}) Error → Option History → Option History → Type 0
-SavesKnowing Known name bytes result a b = (first : Option History) → Learns Known first a → Saves name bytes result first b
+abbrev pub SavesKnowing : (FolderState → Type 0) → List ℕ → List ℕ → Result (Unit {0}) Error → Option History →
+    Option History → Type 0
+SavesKnowing Known name bytes result a b = (first : Option History) → Learns Known first a →
+    Saves name bytes result first b

@@ -1,5 +1,7 @@
+ghost use Rattle.std.specs.List.{AllByRecursion};
 ghost use Rattle.std.specs.Prelude.{◌≡◌, List, ◌<◌, ◌≤◌, ◌+◌, ◌^◌, [], None, Some, true, false, length, IfOk, IfErr, OnOk};
 ghost use Rattle.array_machine.specs.ArrayState.{page_at};
+ghost use Rattle.page_keys.specs.Buckets.{EncodesMap};
 ghost use Rattle.page_keys.specs.Groups.{changes_of};
 ghost use Rattle.page_keys.specs.KeyMaps.{KeyMap, of_page, pages_of};
 ghost use Rattle.page_keys.specs.Puts.{IsKeyChange, repeated};

@@ -4,7 +4,6 @@ ghost use Rattle.std.specs.Prelude.{◌≡◌, ◌<◌, ℕ, List, Some};
 ghost use Rattle.tx_types.specs.declared.config.Config.{Config};
 ghost use Rattle.array_machine.specs.ArrayState.{Pages};
 ghost use Rattle.flash_model.specs.Flash.{Told};
-ghost use Rattle.tx_engine.specs.ArrayState.{Pages};
 ghost use Rattle.page_keys.specs.Buckets.{AreBuckets, EncodesMap};
 ghost use Rattle.page_keys.specs.KeyMaps.{KeyMap};
 ghost use Rattle.page_keys.specs.KeyRuns.{KeyPoint, KeyRun, ChangesAtOnce, AreFewBreaks, IsKeyPoint, IsKeyRun, last_point};

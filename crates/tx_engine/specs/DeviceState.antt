@@ -1,9 +1,7 @@
 -- A device as its callers see it, and when it stands for an array.
-use Rattle.std.specs.Prelude.{◌≡◌, ◌≢◌, ◌↔◌, ℕ, ◌+◌, ◌<◌, ◌≤◌, ◌==◌, nat_lt, Bool, false, is_none, List, length, map, slice_index_or, slice_get, All, Any}
-use Rattle.std.specs.Prelude.{AllPairs}
-use Rattle.std.specs.Prelude.{Contains, Some}
+use Rattle.std.specs.Prelude.{◌≡◌, ◌≢◌, ◌↔◌, ℕ, ◌+◌, ◌<◌, ◌≤◌, ◌==◌, nat_lt, Bool, false, is_none, List, length, map, slice_get, All, AllPairs, Any, Contains, Some}
 use Rattle.std.specs.List.{AllZip}
-use Rattle.tx_types.specs.Batch.{PageWrite, no_write, bytes_in}
+use Rattle.tx_types.specs.Batch.{PageWrite, bytes_in}
 use Rattle.tx_types.specs.declared.config.Config.{Config}
 use Rattle.tx_types.specs.declared.config.Slot.{Slot}
 use Rattle.tx_types.specs.declared.record.Link.{Link}
@@ -24,6 +22,7 @@ use Rattle.array_machine.specs.ArrayState.{ArrayState, Entry, is_doubted, pendin
 use Rattle.array_machine.specs.declared.mark.Mark.{Mark}
 use Rattle.array_machine.specs.declared.mark.Mark.TheVariants.{Plain, Doubt, Whole}
 use Rattle.array_machine.specs.Submit.{Limits}
+use Rattle.open_table.specs.OpenTransactionsState.{Naming, name_at, write_at}
 
 -- A device: its flash, its configuration, the array machine that it stands for, the names of each open transaction in
 -- the order of their opening, what is noted of its slots, what is kept of its blocks, and the place whose contents are

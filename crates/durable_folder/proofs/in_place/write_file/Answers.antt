@@ -19,7 +19,8 @@ returns-in_err-write_rest-clause-writes g c start =
     let rest = g.F.Folder.told c.write_rest.new.folder in
     rest_not_put file head c.args.bytes.now c.write_rest.result c.from_residual-in_err-write_rest.result before rest
     c.from_residual-in_err-write_rest.ensures.0
-    (rest_put file (g.F.Folder.handle c.clear_head.new.file) head c.args.bytes.now c.clear_head.result c.write_rest.result before clear rest
+    (rest_put file (g.F.Folder.handle c.clear_head.new.file) head c.args.bytes.now c.clear_head.result
+    c.write_rest.result before clear rest
     c.clear_head.ensures.same
     c.in_ok-clear_head.was
     (head_cleared file c.args.bytes.now c.clear_head.result before clear (c.clear_head.ensures.clears start))
@@ -33,10 +34,12 @@ returns-clause-writes g c start =
     let before = g.F.Folder.told c.args.folder.now in
     let clear = g.F.Folder.told c.clear_head.new.folder in
     let rest = g.F.Folder.told c.write_rest.new.folder in
-    head_put file (g.F.Folder.handle c.write_rest.new.file) head c.args.bytes.now c.write_rest.result c.write_head.result before rest
+    head_put file (g.F.Folder.handle c.write_rest.new.file) head c.args.bytes.now c.write_rest.result
+    c.write_head.result before rest
     (g.F.Folder.told c.write_head.new.folder)
     (c.write_rest.ensures.same ∙ c.clear_head.ensures.same) c.in_ok-write_rest.was
-    (rest_put file (g.F.Folder.handle c.clear_head.new.file) head c.args.bytes.now c.clear_head.result c.write_rest.result before clear rest
+    (rest_put file (g.F.Folder.handle c.clear_head.new.file) head c.args.bytes.now c.clear_head.result
+    c.write_rest.result before clear rest
     c.clear_head.ensures.same
     c.in_ok-clear_head.was
     (head_cleared file c.args.bytes.now c.clear_head.result before clear (c.clear_head.ensures.clears start))

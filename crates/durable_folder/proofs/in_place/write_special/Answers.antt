@@ -9,7 +9,8 @@ returns-in_err-write-clause-writes g c first known =
     let before = g.F.Folder.told c.args.folder.now in
     let after = g.F.Folder.told c.write.new.self in
     no_file_over file c.args.bytes.now c.from_residual.result first after
-    (no_file_written file.file file c.args.bytes.now c.write.result _ first before after refl known c.write.ensures.writes)
+    (no_file_written file.file file c.args.bytes.now c.write.result _ first before after refl known
+    c.write.ensures.writes)
 
 pub returns-clause-writes : goal.returns-clause-writes
 returns-clause-writes g c first known =
@@ -19,7 +20,8 @@ returns-clause-writes g c first known =
     let last = g.F.Folder.told c.sync.new.self in
     no_file_over file c.args.bytes.now c.sync_answer.result first last
     (no_file_synced file.file (g.F.Folder.handle c.write.new.file) c.sync.result _ first after last c.write.ensures.same
-    (no_file_written file.file file c.args.bytes.now c.write.result _ first before after refl known c.write.ensures.writes) c.sync.ensures)
+    (no_file_written file.file file c.args.bytes.now c.write.result _ first before after refl known
+    c.write.ensures.writes) c.sync.ensures)
 
 pub returns-clause-fault : goal.returns-clause-fault
 returns-clause-fault g c =
@@ -28,5 +30,6 @@ returns-clause-fault g c =
     let last = g.F.Folder.told c.sync.new.self in
     let written = turn_later _ _ before after c.write.ensures.writes in (
       later_then before after last written (turn_later _ _ after last c.sync.ensures),
-      λ err. then_failed before after last written (file_sync_failed _ c.sync.result after last c.sync.ensures (rw c.sync_answer.ensures at err)),
+      λ err. then_failed before after last written (file_sync_failed _ c.sync.result after last c.sync.ensures
+          (rw c.sync_answer.ensures at err)),
     )

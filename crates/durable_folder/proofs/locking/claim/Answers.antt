@@ -6,19 +6,23 @@ pub returns-in-Ok-Some-clause-claims : goal.returns-in-Ok-Some-clause-claims
 returns-in-Ok-Some-clause-claims g c =
     let before = g.F.Folder.told c.args.folder.now in
     let looked = g.F.Folder.told c.stat.new.folder in
-    claims_after g.F.Folder.handle c.args.loaded.now c.args.name.now c.claim_there.result before looked (g.F.Folder.told c.claim_there.new.folder)
+    claims_after g.F.Folder.handle c.args.loaded.now c.args.name.now c.claim_there.result before looked
+    (g.F.Folder.told c.claim_there.new.folder)
     (looks_rests c.args.name.now c.stat.result before looked c.stat.ensures.looks) c.claim_there.ensures.claims
 
 pub returns-in-Ok-Some-clause-cause : goal.returns-in-Ok-Some-clause-cause
 returns-in-Ok-Some-clause-cause g c =
     let before = g.F.Folder.told c.args.folder.now in
     let looked = g.F.Folder.told c.stat.new.folder in
-    cause_after (IsStale c.args.loaded.now c.args.name.now) c.claim_there.result before looked (g.F.Folder.told c.claim_there.new.folder)
-    c.stat.ensures.fault.0 (looks_rests c.args.name.now c.stat.result before looked c.stat.ensures.looks) c.claim_there.ensures.cause
+    cause_after (IsStale c.args.loaded.now c.args.name.now) c.claim_there.result before looked
+    (g.F.Folder.told c.claim_there.new.folder)
+    c.stat.ensures.fault.0 (looks_rests c.args.name.now c.stat.result before looked c.stat.ensures.looks)
+    c.claim_there.ensures.cause
 
 pub returns-in-Ok-None-clause-claims : goal.returns-in-Ok-None-clause-claims
 returns-in-Ok-None-clause-claims g c =
     let before = g.F.Folder.told c.args.folder.now in
     let looked = g.F.Folder.told c.stat.new.folder in
     nothing_claimed g.F.Folder.handle c.args.loaded.now c.args.name.now c.nothing_there.result before looked
-    (free_known c.args.name.now before looked (rw c.in-Ok-None.field-0-is at c.in-Ok-None.ensures.looks)) c.nothing_there.ensures
+    (free_known c.args.name.now before looked (rw c.in-Ok-None.field-0-is at c.in-Ok-None.ensures.looks))
+    c.nothing_there.ensures

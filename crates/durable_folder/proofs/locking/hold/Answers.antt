@@ -10,18 +10,23 @@ returns-in_err-find_open-clause-holds g c =
     let file = g.F.Folder.handle c.args.file.now in
     let before = g.F.Folder.told c.args.folder.now in
     let found = g.F.Folder.told c.find_open.new.self in
-    holds_failed file file c.args.loaded.now c.args.name.now c.from_residual.result before found c.from_residual.ensures.0
+    holds_failed file file c.args.loaded.now c.args.name.now c.from_residual.result before found
+    c.from_residual.ensures.0
     (finds_rests file c.find_open.result _ before found c.find_open.ensures)
 
 pub returns-then-not-branch-clause-holds : goal.returns-then-not-branch-clause-holds
 returns-then-not-branch-clause-holds g c =
-    special_held (g.F.Folder.handle c.args.file.now) c.in_ok-find_open.field-0 c.args.loaded.now c.args.name.now c.no_plain.result quiet
-    (g.F.Folder.told c.args.folder.now) (g.F.Folder.told c.find_open.new.self) c.if-not-branch.true c.no_plain.ensures c.in_ok-find_open.ensures
+    special_held (g.F.Folder.handle c.args.file.now) c.in_ok-find_open.field-0 c.args.loaded.now c.args.name.now
+    c.no_plain.result quiet
+    (g.F.Folder.told c.args.folder.now) (g.F.Folder.told c.find_open.new.self) c.if-not-branch.true c.no_plain.ensures
+    c.in_ok-find_open.ensures
 
 pub returns-then-not-branch-clause-cause : goal.returns-then-not-branch-clause-cause
 returns-then-not-branch-clause-cause g c =
-    special_cause (g.F.Folder.handle c.args.file.now) c.in_ok-find_open.field-0 c.args.loaded.now c.args.name.now c.no_plain.result quiet
-    (g.F.Folder.told c.args.folder.now) (g.F.Folder.told c.find_open.new.self) c.if-not-branch.true c.no_plain.ensures c.in_ok-find_open.ensures
+    special_cause (g.F.Folder.handle c.args.file.now) c.in_ok-find_open.field-0 c.args.loaded.now c.args.name.now
+    c.no_plain.result quiet
+    (g.F.Folder.told c.args.folder.now) (g.F.Folder.told c.find_open.new.self) c.if-not-branch.true c.no_plain.ensures
+    c.in_ok-find_open.ensures
 
 pub returns-in_err-lock-clause-holds : goal.returns-in_err-lock-clause-holds
 returns-in_err-lock-clause-holds g c =
@@ -30,7 +35,8 @@ returns-in_err-lock-clause-holds g c =
     let before = g.F.Folder.told c.args.folder.now in
     let found = g.F.Folder.told c.find_open.new.self in
     let locked = g.F.Folder.told c.lock.new.folder in
-    holds_failed file after c.args.loaded.now c.args.name.now c.from_residual-in_err-lock.result before locked c.from_residual-in_err-lock.ensures.0
+    holds_failed file after c.args.loaded.now c.args.name.now c.from_residual-in_err-lock.result before locked
+    c.from_residual-in_err-lock.ensures.0
     (rests_then before found locked (finds_rests file c.find_open.result _ before found c.find_open.ensures)
     (asks_rests file after c.lock.result found locked c.lock.ensures.asks))
 
@@ -47,7 +53,8 @@ returns-in_err-is_current-clause-holds g c =
     (rests_then before locked last
     (rests_then before found locked (finds_rests file c.find_open.result _ before found c.find_open.ensures)
     (asks_rests file after c.lock.result found locked c.lock.ensures.asks))
-    (compares_rests after c.args.loaded.now c.args.name.now c.is_current.result locked last c.is_current.ensures.compares))
+    (compares_rests after c.args.loaded.now c.args.name.now c.is_current.result locked last
+    c.is_current.ensures.compares))
 
 pub returns-then-branch-clause-holds : goal.returns-then-branch-clause-holds
 returns-then-branch-clause-holds g c =
@@ -57,8 +64,10 @@ returns-then-branch-clause-holds g c =
     let found = g.F.Folder.told c.find_open.new.self in
     let locked = g.F.Folder.told c.lock.new.folder in
     let last = g.F.Folder.told c.is_current.new.folder in
-    let yes : Compares after c.args.loaded.now c.args.name.now (Ok true) locked last = rw c.if-branch.true at c.in_ok-is_current.ensures.compares in
-    plain_held file after c.in_ok-find_open.field-0 c.args.loaded.now c.args.name.now quiet before found locked last c.if-not-branch.false
+    let yes : Compares after c.args.loaded.now c.args.name.now (Ok true) locked last =
+    rw c.if-branch.true at c.in_ok-is_current.ensures.compares in
+    plain_held file after c.in_ok-find_open.field-0 c.args.loaded.now c.args.name.now quiet before found locked last
+    c.if-not-branch.false
     c.in_ok-find_open.ensures c.in_ok-lock.ensures.asks yes
 
 pub returns-else-branch-clause-holds : goal.returns-else-branch-clause-holds
@@ -72,7 +81,8 @@ returns-else-branch-clause-holds g c =
     rests_then before locked last
     (rests_then before found locked (finds_rests file c.find_open.result _ before found c.find_open.ensures)
     (asks_rests file after c.lock.result found locked c.lock.ensures.asks))
-    (compares_rests after c.args.loaded.now c.args.name.now c.is_current.result locked last c.is_current.ensures.compares)
+    (compares_rests after c.args.loaded.now c.args.name.now c.is_current.result locked last
+    c.is_current.ensures.compares)
 
 pub returns-else-branch-clause-cause : goal.returns-else-branch-clause-cause
 returns-else-branch-clause-cause g c =
@@ -82,13 +92,16 @@ returns-else-branch-clause-cause g c =
     let found = g.F.Folder.told c.find_open.new.self in
     let locked = g.F.Folder.told c.lock.new.folder in
     let last = g.F.Folder.told c.is_current.new.folder in
-    let no : Compares after c.args.loaded.now c.args.name.now (Ok false) locked last = rw c.if-branch.false at c.in_ok-is_current.ensures.compares in (
+    let no : Compares after c.args.loaded.now c.args.name.now (Ok false) locked last =
+    rw c.if-branch.false at c.in_ok-is_current.ensures.compares in (
       later_then before locked last
-          (later_then before found locked (turn_later _ quiet before found c.in_ok-find_open.ensures) c.lock.ensures.fault.0)
+          (later_then before found locked (turn_later _ quiet before found c.in_ok-find_open.ensures)
+          c.lock.ensures.fault.0)
           c.is_current.ensures.fault.0,
       inr (
         c.from.ensures,
-        plain_stale file after c.in_ok-find_open.field-0 c.args.loaded.now c.args.name.now quiet before found locked last c.if-not-branch.false
+        plain_stale file after c.in_ok-find_open.field-0 c.args.loaded.now c.args.name.now quiet before found locked
+            last c.if-not-branch.false
             c.in_ok-find_open.ensures c.in_ok-lock.ensures.asks no,
       ),
     )

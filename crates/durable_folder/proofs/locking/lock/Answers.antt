@@ -4,10 +4,12 @@ use Rattle.durable_folder.proofs.locking.lock.Goals as goal
 
 pub returns-then-is_elsewhere-clause-asks : goal.returns-then-is_elsewhere-clause-asks
 returns-then-is_elsewhere-clause-asks g c =
-    lock_refused (g.F.Folder.handle c.args.file.now) (g.F.Folder.handle c.try_lock.new.file) c.try_lock.result _ (g.F.Folder.told c.args.folder.now)
+    lock_refused (g.F.Folder.handle c.args.file.now) (g.F.Folder.handle c.try_lock.new.file) c.try_lock.result
+    _ (g.F.Folder.told c.args.folder.now)
     (g.F.Folder.told c.try_lock.new.self) c.try_lock.ensures
 
 pub returns-clause-asks : goal.returns-clause-asks
 returns-clause-asks g c =
-    lock_taken (g.F.Folder.handle c.args.file.now) (g.F.Folder.handle c.try_lock.new.file) c.try_lock.result _ (g.F.Folder.told c.args.folder.now)
+    lock_taken (g.F.Folder.handle c.args.file.now) (g.F.Folder.handle c.try_lock.new.file) c.try_lock.result
+    _ (g.F.Folder.told c.args.folder.now)
     (g.F.Folder.told c.try_lock.new.self) (sym c.is_elsewhere.ensures ∙ c.if-is_elsewhere.false) c.try_lock.ensures

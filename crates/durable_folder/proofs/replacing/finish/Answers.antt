@@ -4,19 +4,23 @@ use Rattle.durable_folder.proofs.replacing.finish.Goals as goal
 
 pub returns-in_err-has_name-clause-ends : goal.returns-in_err-has_name-clause-ends
 returns-in_err-has_name-clause-ends g c apart is =
-    rests_ends c.args.beside.now c.args.name.now c.args.filled c.from_residual.result (g.F.Folder.told c.args.folder.now)
+    rests_ends c.args.beside.now c.args.name.now c.args.filled c.from_residual.result
+    (g.F.Folder.told c.args.folder.now)
     (g.F.Folder.told c.has_name.new.folder) apart
     c.from_residual.ensures.0 c.has_name.ensures.rests
 
 pub returns-then-not-branch-clause-ends : goal.returns-then-not-branch-clause-ends
 returns-then-not-branch-clause-ends g c apart is =
-    rests_ends c.args.beside.now c.args.name.now c.args.filled _ (g.F.Folder.told c.args.folder.now) (g.F.Folder.told c.has_name.new.folder) apart
+    rests_ends c.args.beside.now c.args.name.now c.args.filled _ (g.F.Folder.told c.args.folder.now)
+    (g.F.Folder.told c.has_name.new.folder) apart
     (is_error c.from.result) c.has_name.ensures.rests
 
 pub returns-clause-ends : goal.returns-clause-ends
 returns-clause-ends g c apart is =
-    ends_after c.args.beside.now c.args.name.now c.args.filled c.put_or_remove.result (g.F.Folder.told c.args.folder.now)
+    ends_after c.args.beside.now c.args.name.now c.args.filled c.put_or_remove.result
+    (g.F.Folder.told c.args.folder.now)
     (g.F.Folder.told c.has_name.new.folder) (g.F.Folder.told c.put_or_remove.new.folder) apart c.has_name.ensures.rests
     (c.put_or_remove.ensures.ends apart (record {
-      is = λ told. is.is (told_before (g.F.Folder.told c.args.folder.now) (g.F.Folder.told c.has_name.new.folder) c.has_name.ensures.rests told);
+      is = λ told. is.is (told_before (g.F.Folder.told c.args.folder.now) (g.F.Folder.told c.has_name.new.folder)
+          c.has_name.ensures.rests told);
     }))

@@ -5,29 +5,35 @@ use Rattle.durable_folder.proofs.replacing.has_name.Goals as goal
 
 pub returns-in_err-named-clause-rests : goal.returns-in_err-named-clause-rests
 returns-in_err-named-clause-rests g c =
-    finds_still c.args.beside.now c.find.result _ (g.F.Folder.told c.args.folder.now) (g.F.Folder.told c.find.new.self) c.find.ensures
+    finds_still c.args.beside.now c.find.result _ (g.F.Folder.told c.args.folder.now) (g.F.Folder.told c.find.new.self)
+    c.find.ensures
 
 pub returns-in_err-made-clause-rests : goal.returns-in_err-made-clause-rests
 returns-in_err-made-clause-rests g c =
-    both_still c.args.beside.now (g.F.Folder.handle c.args.file.now) c.find.result c.find_open.result _ _ (g.F.Folder.told c.args.folder.now)
+    both_still c.args.beside.now (g.F.Folder.handle c.args.file.now) c.find.result c.find_open.result
+    _ _ (g.F.Folder.told c.args.folder.now)
     (g.F.Folder.told c.find.new.self)
     (g.F.Folder.told c.find_open.new.self) c.find.ensures c.find_open.ensures
 
 pub returns-clause-rests : goal.returns-clause-rests
 returns-clause-rests g c =
-    both_still c.args.beside.now (g.F.Folder.handle c.args.file.now) c.find.result c.find_open.result _ _ (g.F.Folder.told c.args.folder.now)
+    both_still c.args.beside.now (g.F.Folder.handle c.args.file.now) c.find.result c.find_open.result
+    _ _ (g.F.Folder.told c.args.folder.now)
     (g.F.Folder.told c.find.new.self)
     (g.F.Folder.told c.find_open.new.self) c.find.ensures c.find_open.ensures
 
 pub returns-in_err-named-clause-named : goal.returns-in_err-named-clause-named
 returns-in_err-named-clause-named g c named =
-    inr (named_not_found c.args.beside.now (g.F.Folder.handle c.args.file.now).file c.in_err-named.field-0.0 (g.F.Folder.told c.args.folder.now)
+    inr (named_not_found c.args.beside.now (g.F.Folder.handle c.args.file.now).file c.in_err-named.field-0.0
+    (g.F.Folder.told c.args.folder.now)
     (g.F.Folder.told c.find.new.self) named c.in_err-named.ensures)
 
 pub returns-clause-named : goal.returns-clause-named
 returns-clause-named g c named =
-    elim (named_found (g.F.Folder.handle c.args.file.now) c.args.beside.now c.in_ok-named.named c.in_ok-made.made quiet quiet
-    (g.F.Folder.told c.args.folder.now) (g.F.Folder.told c.find.new.self) (g.F.Folder.told c.find_open.new.self) named c.in_ok-named.ensures
+    elim (named_found (g.F.Folder.handle c.args.file.now) c.args.beside.now c.in_ok-named.named
+    c.in_ok-made.made quiet quiet
+    (g.F.Folder.told c.args.folder.now) (g.F.Folder.told c.find.new.self) (g.F.Folder.told c.find_open.new.self) named
+    c.in_ok-named.ensures
     c.in_ok-made.ensures) [
       | inl same ↦ inl (ap Ok (c.is_same.ensures.1 same))
       | inr failed ↦ inr failed

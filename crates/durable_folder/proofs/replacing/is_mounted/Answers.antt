@@ -9,6 +9,7 @@ returns-in_err-found-clause-mounted g c =
 
 pub returns-clause-mounted : goal.returns-clause-mounted
 returns-clause-mounted g c =
-    folder_found (g.F.Folder.place c.args.place.now) c.in-Some.old c.args.owner.now c.in_ok-found.found c.find_folder.result _
+    folder_found (g.F.Folder.place c.args.place.now) c.in-Some.old c.args.owner.now c.in_ok-found.found
+    c.find_folder.result _
     (g.F.Folder.told c.args.folder.now)
     (g.F.Folder.told c.find_folder.new.self) c.in-Some.is c.in_ok-found.was c.find_folder.ensures

@@ -10,14 +10,17 @@ pub returns-clause-replaces : goal.returns-clause-replaces
 returns-clause-replaces g c apart is =
     let beside = beside_of c.args.new in
     let fills : Fills (handle_of g.F.Folder.handle c.args.new) beside c.args.owner c.args.bytes.now c.fill-filled.result
-    (g.F.Folder.told c.args.folder.now) (g.F.Folder.told c.fill-filled.new.folder) = rw c.as_str.ensures at c.fill-filled.ensures.fills in
-    let ends : Ends beside c.args.name.now c.fill-filled.result c.finish.result (g.F.Folder.told c.fill-filled.new.folder)
+    (g.F.Folder.told c.args.folder.now) (g.F.Folder.told c.fill-filled.new.folder) =
+    rw c.as_str.ensures at c.fill-filled.ensures.fills in
+    let ends : Ends beside c.args.name.now c.fill-filled.result c.finish.result
+    (g.F.Folder.told c.fill-filled.new.folder)
     (g.F.Folder.told c.finish.new.folder) =
     (rw c.as_str-2.ensures at c.finish.ensures.ends) apart (record {
       is = λ told. is.is (told_before (g.F.Folder.told c.args.folder.now)
           (g.F.Folder.told c.fill-filled.new.folder) fills told);
     }) in
-    replaced_by (handle_of g.F.Folder.handle c.args.new) c.args.name.now beside c.args.owner c.args.bytes.now c.fill-filled.result c.finish.result
+    replaced_by (handle_of g.F.Folder.handle c.args.new) c.args.name.now beside c.args.owner c.args.bytes.now
+    c.fill-filled.result c.finish.result
     (g.F.Folder.told c.args.folder.now)
     (g.F.Folder.told c.fill-filled.new.folder) (g.F.Folder.told c.finish.new.folder) fills ends
 
@@ -28,7 +31,8 @@ returns-clause-fault g c named err =
     let last = g.F.Folder.told c.finish.new.folder in
     let handle = handle_of g.F.Folder.handle c.args.new in
     let beside = beside_of c.args.new in
-    let there : AtNow (IsNamed (g.F.Folder.handle c.fill-filled.new.file).file beside) after = rw c.fill-filled.ensures.same
+    let there : AtNow (IsNamed (g.F.Folder.handle c.fill-filled.new.file).file beside) after =
+    rw c.fill-filled.ensures.same
     (fills_named handle beside c.args.owner c.args.bytes.now c.fill-filled.result handle.file before after
     (rw c.as_str.ensures at c.fill-filled.ensures.fills) named) in
     elim ((rw c.as_str-2.ensures at c.finish.ensures.fault) there err) [

@@ -5,17 +5,21 @@ pub returns-in_err-write_new-in-Refused-clause-saves : goal.returns-in_err-write
 returns-in_err-write_new-in-Refused-clause-saves g c =
     let before = g.F.Folder.told c.args.folder.now in
     let after = g.F.Folder.told c.write_new.new.folder in
-    not_making c.args.name.now c.args.bytes.now c.write_new.result c.from_residual-in_err-write_new-in-Refused.result before after
+    not_making c.args.name.now c.args.bytes.now c.write_new.result c.from_residual-in_err-write_new-in-Refused.result
+    before after
     c.from_residual-in_err-write_new-in-Refused.ensures.0
     (making c.args.name.now c.args.bytes.now c.replace.result c.in_ok-replace.field-0 c.write_new.result before
-    (g.F.Folder.told c.replace.new.folder) after c.in_ok-replace.was c.in-Refused.is c.replace.ensures.replaces c.write_new.ensures.writes)
+    (g.F.Folder.told c.replace.new.folder) after c.in_ok-replace.was c.in-Refused.is c.replace.ensures.replaces
+    c.write_new.ensures.writes)
 
 pub returns-in_ok-write_new-in-Refused-clause-saves : goal.returns-in_ok-write_new-in-Refused-clause-saves
 returns-in_ok-write_new-in-Refused-clause-saves g c =
     let before = g.F.Folder.told c.args.folder.now in
     let after = g.F.Folder.told c.write_new.new.folder in
-    made c.args.name.now c.args.bytes.now c.write_new.result c.sync_folder_of.result before after (g.F.Folder.told c.sync_folder_of.new.folder)
+    made c.args.name.now c.args.bytes.now c.write_new.result c.sync_folder_of.result before after
+    (g.F.Folder.told c.sync_folder_of.new.folder)
     c.in_ok-write_new-in-Refused.was
     (making c.args.name.now c.args.bytes.now c.replace.result c.in_ok-replace.field-0 c.write_new.result before
-    (g.F.Folder.told c.replace.new.folder) after c.in_ok-replace.was c.in-Refused.is c.replace.ensures.replaces c.write_new.ensures.writes)
+    (g.F.Folder.told c.replace.new.folder) after c.in_ok-replace.was c.in-Refused.is c.replace.ensures.replaces
+    c.write_new.ensures.writes)
     c.sync_folder_of.ensures.syncs

@@ -6,18 +6,22 @@ use Rattle.durable_folder.proofs.saving.save_opened.Goals as goal
 pub returns-in-Ok-clause-saves : goal.returns-in-Ok-clause-saves
 returns-in-Ok-clause-saves g c start first known =
     (rw c.as_str.ensures at c.save_target.ensures.saves) c.args.name.now first
-    (resolved path_buf_bytes (λ s. Opens g.F.Folder.handle c.args.name.now (Ok c.args.file) s s) c.args.name.now c.in-Ok.target quiet first
+    (resolved path_buf_bytes (λ s. Opens g.F.Folder.handle c.args.name.now (Ok c.args.file) s s) c.args.name.now
+    c.in-Ok.target quiet first
     (g.F.Folder.told c.args.folder.now) (g.F.Folder.told c.resolve.new.self) known c.in-Ok.ensures)
 
 pub returns-in-Err-clause-saves : goal.returns-in-Err-clause-saves
 returns-in-Err-clause-saves g c start first known =
-    not_resolved (path_buf_bytes {A = Global}) (λ s. Opens g.F.Folder.handle c.args.name.now (Ok c.args.file) s s) c.args.name.now
-    c.args.bytes.now c.resolve.result (Err c.in-Err.error) _ first (g.F.Folder.told c.args.folder.now) (g.F.Folder.told c.resolve.new.self) refl
+    not_resolved (path_buf_bytes {A = Global}) (λ s. Opens g.F.Folder.handle c.args.name.now (Ok c.args.file) s s)
+    c.args.name.now
+    c.args.bytes.now c.resolve.result (Err c.in-Err.error) _ first (g.F.Folder.told c.args.folder.now)
+    (g.F.Folder.told c.resolve.new.self) refl
     known c.resolve.ensures
 
 pub returns-in-Err-2-clause-saves : goal.returns-in-Err-2-clause-saves
 returns-in-Err-2-clause-saves g c start first known =
-    saved_unresolved g.F.Folder.handle (path_buf_bytes {A = Global}) c.args.name.now c.args.bytes.now c.args.file c.in-Err.error
+    saved_unresolved g.F.Folder.handle (path_buf_bytes {A = Global}) c.args.name.now c.args.bytes.now c.args.file
+    c.in-Err.error
     c.write_through.result first (g.F.Folder.told c.args.folder.now) (g.F.Folder.told c.resolve.new.self)
     (g.F.Folder.told c.write_through.new.folder) known c.in-Err.ensures (c.write_through.ensures.writes start)
 
@@ -28,5 +32,6 @@ returns-in-Ok-clause-cause g c =
     let at = path_buf_bytes c.in-Ok.target in
     cause_later (AtNow (AllTaken at) led) (AtNow (TakenThere c.args.name.now) before) c.save_target.result before led
     (g.F.Folder.told c.save_target.new.folder) (turn_later _ quiet before led c.in-Ok.ensures)
-    (there_taken c.args.name.now at before led (resolved_only path_buf_bytes c.args.name.now c.in-Ok.target quiet before led c.in-Ok.ensures))
+    (there_taken c.args.name.now at before led (resolved_only path_buf_bytes c.args.name.now c.in-Ok.target quiet before
+    led c.in-Ok.ensures))
     (rw c.as_str.ensures at c.save_target.ensures.cause)

@@ -6,13 +6,15 @@ use Rattle.durable_folder.proofs.saving.sync_folder_of.Goals as goal
 pub returns-in-Ok-clause-syncs : goal.returns-in-Ok-clause-syncs
 returns-in-Ok-clause-syncs g c =
     folder_synced g.F.Folder.place c.args.name.now c.folder_of.result.now c.in-Ok.place c.sync_names.result
-    (g.F.Folder.told c.args.folder.now) (g.F.Folder.told c.open_folder.new.self) (g.F.Folder.told c.sync_names.new.folder)
+    (g.F.Folder.told c.args.folder.now) (g.F.Folder.told c.open_folder.new.self)
+    (g.F.Folder.told c.sync_names.new.folder)
     c.folder_of.ensures c.in-Ok.ensures c.sync_names.ensures.settles
 
 pub returns-in-Err-clause-syncs : goal.returns-in-Err-clause-syncs
 returns-in-Err-clause-syncs g c =
     folder_denied g.F.Folder.place c.args.name.now c.folder_of.result.now c.in-Err.error _
-    (g.F.Folder.told c.args.folder.now) (g.F.Folder.told c.open_folder.new.self) c.folder_of.ensures (search rules) refl c.in-Err.ensures
+    (g.F.Folder.told c.args.folder.now) (g.F.Folder.told c.open_folder.new.self) c.folder_of.ensures (search rules) refl
+    c.in-Err.ensures
 
 pub returns-in-Err-2-clause-syncs : goal.returns-in-Err-2-clause-syncs
 returns-in-Err-2-clause-syncs g c =

@@ -1,10 +1,40 @@
-use Rattle.page_keys.proofs.Common.{◌<◌, ◌≡◌, ℕ, Bool, false, inl, inr, ap, subst, ◌∙◌, arith, Result, Ok, cases_lt, Config, IsBucket, encodes, page_at}
+use Rattle.page_keys.proofs.Common.{◌<◌, ◌≡◌, ℕ, Bool, false, inl, inr, ap, subst, ◌∙◌, arith, Result, Ok, cases_lt, Config, IsBucket, encodes, page_at, sym, OnlyReads, true}
+use Rattle.std.proofs.Common.{rules}
+use Rattle.std.specs.Prelude.{Err, IfErr}
 use Rattle.tx_types.specs.declared.memory.Memory.{Memory}
+use Rattle.page_keys.specs.declared.answers.KeyError.{KeyError}
 use Rattle.page_keys.proofs.OfStore.StoreReads.{reads_then, bucket_read, bucket_back}
+use Rattle.page_keys.specs.Stores.{is_key_fault}
 use Rattle.page_keys.proofs.pages.check_all.Goals as goal
 
 okay : (b d : Bool) → b ≡ d → let left : Result Bool Memory = Ok b in left ≡ Ok d
 okay b d same = ap (λ (x : Bool). let r : Result Bool Memory = Ok x in r) same
+
+-- what holds by whether an error is a fault
+by_fault : {X : Type 0} (r : Result X KeyError) (P : Bool → Type 0) (b : Bool) → IfErr r (λ e. is_key_fault e ≡ b) →
+    P b → IfErr r (λ e. P (is_key_fault e))
+by_fault (Ok x) P b is h = tt
+by_fault (Err e) P b is h = subst P (sym is) h
+
+pub returns-in_err-read_page-clause-stopped : goal.returns-in_err-read_page-clause-stopped
+returns-in_err-read_page-clause-stopped g c =
+    let s = c.args.device.now in
+    by_fault c.from_residual.result (OnlyReads g.F.Flash.state s c.read_page.new.device) true (search rules)
+    (reads_then g.F.Flash.state s c.loop-page.device c.read_page.new.device true c.loop-page.invariant.reads
+    c.in_err-read_page.ensures.reads)
+
+pub returns-in_err-read-clause-stopped : goal.returns-in_err-read-clause-stopped
+returns-in_err-read-clause-stopped g c =
+    let s = c.args.device.now in
+    by_fault c.from_residual-in_err-read.result (OnlyReads g.F.Flash.state s c.read_page.new.device) false
+    (search rules)
+    (reads_then g.F.Flash.state s c.loop-page.device c.read_page.new.device false c.loop-page.invariant.reads
+    c.in_ok-read_page.ensures.reads)
+
+pub returns-then-not-branch-clause-stopped : goal.returns-then-not-branch-clause-stopped
+returns-then-not-branch-clause-stopped g c =
+    reads_then g.F.Flash.state c.args.device.now c.loop-page.device c.read_page.new.device false
+    c.loop-page.invariant.reads c.in_ok-read_page.ensures.reads
 
 pub returns-then-not-branch-clause-err : goal.returns-then-not-branch-clause-err
 returns-then-not-branch-clause-err g c =

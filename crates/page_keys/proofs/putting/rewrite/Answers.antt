@@ -3,7 +3,7 @@ use Rattle.page_keys.proofs.Common.{ℕ, List, ◌++◌, length, flat_map, refl,
 use Rattle.page_keys.proofs.OfBucket.BucketChanges.{merged_are, each_after, each_changed}
 use Rattle.page_keys.proofs.putting.rewrite.Answers.Inserts.{puts_most}
 use Rattle.page_keys.proofs.OfPut.EntriesLeft.{length_entries}
-use Rattle.page_keys.proofs.OfStore.StoreReads.{entries_read, holds_read, is_over_by, is_more, is_within}
+use Rattle.page_keys.proofs.OfStore.StoreReads.{reads_nothing, entries_read, holds_read, is_over_by, is_more, is_within}
 use Rattle.page_keys.proofs.putting.rewrite.Goals as goal
 
 pub entries_in-requires-clause-bucket : goal.entries_in-requires-clause-bucket
@@ -93,3 +93,6 @@ returns-clause-within g c =
     ∙ ap (flat_map entry_bytes) c.deref.ensures.value in
     let size = ap length bytes ∙ length_entries _ each in
     omega (arith, size, few.0)
+
+pub returns-then-count_values-most-clause-reads : goal.returns-then-count_values-most-clause-reads
+returns-then-count_values-most-clause-reads g c = reads_nothing g.F.Flash.state c.args.device.now

@@ -1,19 +1,27 @@
 mod PutLoop
-use Rattle.page_keys.proofs.Common.{◌<◌, false, get_or, length, ap, sym, subst, ◌∙◌, arith, AllByRecursion, IsErrAnd, Config, IsFull, PutError, DeviceState, KeyMap, apply, is_in, EncodesMap, IsKeyChange, is_over}
+use Rattle.page_keys.proofs.Common.{◌<◌, false, get_or, length, ap, sym, subst, ◌∙◌, arith, AllByRecursion, IsErrAnd, Config, IsFull, PutError, DeviceState, KeyMap, apply, is_in, EncodesMap, IsKeyChange, is_over, Bool, ◌≡◌, OnlyReads}
+use Rattle.std.proofs.Common.{rules}
 use Rattle.std.specs.Prelude.{Result, Ok, Err, IfErr}
 use Rattle.std.specs.List.Sorted.{IsNonDecreasingBy}
 use Rattle.tx_types.specs.Batch.{Writes}
 use Rattle.page_keys.proofs.OfBucket.BucketChanges.{all_filtered}
 use Rattle.page_keys.proofs.OfPut.PlacedChanges.{page_in, group_is}
-use Rattle.page_keys.proofs.OfStore.StoreReads.{keeps_keys, reads_then}
+use Rattle.page_keys.proofs.OfStore.StoreReads.{keeps_keys, reads_nothing, reads_then}
 use Rattle.page_keys.proofs.putting.rewrite_all.Answers.PutLoop.{page_exists, find_past, is_full, all_written, entry_added, shows_there, bytes_back}
 use Rattle.page_keys.proofs.putting.rewrite_all.Answers.PutLoop.{much_back}
+use Rattle.page_keys.specs.Putting.{is_failed, is_put_fault}
 use Rattle.page_keys.proofs.putting.rewrite_all.Goals as goal
 
 if_err : {X E : Type 0} (r : Result X E) (P Q : E → Type 0) → IsErrAnd r P →
     ((e : E) → P e → Q e) → IfErr r Q
 if_err (Ok x) P Q h f = tt
 if_err (Err e) P Q h f = f e h
+
+-- whether a put failed is told by its error
+failed_by : {X : Type 0} (r : Result X PutError) (e : PutError) → IsErrAnd r (λ x. x ≡ e) →
+    is_put_fault e ≡ is_failed r
+failed_by (Ok x) e is = absurd is
+failed_by (Err y) e is = ap is_put_fault (sym is)
 
 pub rewrite-requires-clause-keys : goal.rewrite-requires-clause-keys
 rewrite-requires-clause-keys g c =
@@ -113,3 +121,40 @@ returns-clause-writes g c m shows =
     all_written c.args.device.now.config m c.args.changes.now c.args.pages.now
     c.loop-page.page-index c.requires.pages before.1 c.loop-page.batch.entries
     c.loop-page-test.false c.loop-page.auto.page-index-end before.0
+
+pub returns-in_err-placed-clause-reads : goal.returns-in_err-placed-clause-reads
+returns-in_err-placed-clause-reads g c =
+    let s = c.args.device.now in
+    let calm : false ≡ is_failed c.from_residual.result = search rules in
+    subst (OnlyReads g.F.Flash.state s s) calm (reads_nothing g.F.Flash.state s)
+
+pub returns-in_err-batch-clause-reads : goal.returns-in_err-batch-clause-reads
+returns-in_err-batch-clause-reads g c =
+    let s = c.args.device.now in
+    let calm : false ≡ is_failed c.from_residual-in_err-batch.result = search rules in
+    subst (OnlyReads g.F.Flash.state s s) calm (reads_nothing g.F.Flash.state s)
+
+pub loop-page-init : goal.loop-page-init
+loop-page-init g c = record {
+  size = search rules;
+  reads = reads_nothing g.F.Flash.state c.args.device.now;
+  count = omega arith;
+  writes = λ m shows. search rules;
+}
+
+pub returns-in_err-rewrite-clause-reads : goal.returns-in_err-rewrite-clause-reads
+returns-in_err-rewrite-clause-reads g c =
+    let s = c.args.device.now in
+    let e = c.in_err-rewrite.field-0.0 in
+    subst (OnlyReads g.F.Flash.state s c.rewrite.new.device)
+    (failed_by c.from_residual-in_err-rewrite.result e c.from_residual-in_err-rewrite.ensures.1)
+    (reads_then g.F.Flash.state s c.loop-page.device c.rewrite.new.device (is_put_fault e) c.loop-page.invariant.reads
+    c.in_err-rewrite.ensures.reads)
+
+pub returns-in_err-add-clause-reads : goal.returns-in_err-add-clause-reads
+returns-in_err-add-clause-reads g c =
+    let s = c.args.device.now in
+    let calm : false ≡ is_failed c.from_residual-in_err-add.result = search rules in
+    subst (OnlyReads g.F.Flash.state s c.rewrite.new.device) calm
+    (reads_then g.F.Flash.state s c.loop-page.device c.rewrite.new.device false c.loop-page.invariant.reads
+    c.in_ok-rewrite.ensures.reads)

@@ -9,5 +9,6 @@ pub returns-clause-ok : goal.returns-clause-ok
 returns-clause-ok c =
     let before = desk_of c.self.inside in
     let with : Files → MemDeskState = λ files. record before { contents = record before.contents { files = files } } in
-    rw (← c.self.view_is, ← c.in_ok-copy.ensures) (ap with (insert-kept c.self.inside.files c.insert.new.self c.in_ok-key.key c.in_ok-copy.copy
+    rw (← c.self.view_is, ← c.in_ok-copy.ensures)
+    (ap with (insert-kept c.self.inside.files c.insert.new.self c.in_ok-key.key c.in_ok-copy.copy
     c.args.name.now c.in_ok-key.ensures.ok c.in_ok-insert.ensures.updates))

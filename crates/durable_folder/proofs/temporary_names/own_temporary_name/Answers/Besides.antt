@@ -7,7 +7,8 @@ use Rattle.std.specs.Str.{IsCharBoundary}
 use Rattle.durable_folder.specs.Places.{IsOwnBeside, number_text}
 
 -- a text is not cut where it is short
-kept_whole : (own : List ℕ) (kept : ℕ) → kept ≤ length own → ((i : ℕ) → kept < i → i ≤ 246 → (IsCharBoundary own i → ⊥)) → length own ≤ 246 →
+kept_whole : (own : List ℕ) (kept : ℕ) → kept ≤ length own →
+    ((i : ℕ) → kept < i → i ≤ 246 → (IsCharBoundary own i → ⊥)) → length own ≤ 246 →
     length own ≤ kept
 kept_whole own kept within nearest short = elim (cases_lt kept (length own)) [
   | inl cut ↦ absurd (nearest (length own) cut short (omega arith, λ below. absurd (omega (arith, below))))
@@ -15,7 +16,8 @@ kept_whole own kept within nearest short = elim (cases_lt kept (length own)) [
 ]
 
 own_text : (own : List ℕ) (number kept : ℕ) (text tail : List ℕ) → kept ≤ 246 → IsCharBoundary own kept →
-    ((i : ℕ) → kept < i → i ≤ 246 → (IsCharBoundary own i → ⊥)) → tail ≡ number_text number → text ≡ slice_range own 0 kept ++ codes ".saving" ++ tail →
+    ((i : ℕ) → kept < i → i ≤ 246 → (IsCharBoundary own i → ⊥)) → tail ≡ number_text number →
+    text ≡ slice_range own 0 kept ++ codes ".saving" ++ tail →
     IsOwnBeside own number text
 own_text own number kept text tail bound boundary nearest same is = record {
   kept = kept;
@@ -24,9 +26,11 @@ own_text own number kept text tail bound boundary nearest same is = record {
   is = is ∙ ap (λ t. slice_range own 0 kept ++ codes ".saving" ++ t) same;
 }
 
-pub own_if_ok : {S E : Type 0} (bytes : S → List ℕ) (own front : List ℕ) (number kept : ℕ) (tail : List ℕ) (r : Result S E) → kept ≤ 246 →
+pub own_if_ok : {S E : Type 0} (bytes : S → List ℕ) (own front : List ℕ) (number kept : ℕ) (tail : List ℕ)
+    (r : Result S E) → kept ≤ 246 →
     IsCharBoundary own kept → ((i : ℕ) → kept < i → i ≤ 246 → (IsCharBoundary own i → ⊥)) → tail ≡ number_text number →
-    front ≡ slice_range own 0 kept → IfOk r (λ s. bytes s ≡ front ++ codes ".saving" ++ tail) → IfOk r (λ s. IsOwnBeside own number (bytes s))
+    front ≡ slice_range own 0 kept → IfOk r (λ s. bytes s ≡ front ++ codes ".saving" ++ tail) →
+    IfOk r (λ s. IsOwnBeside own number (bytes s))
 own_if_ok bytes own front number kept tail (Ok s) bound boundary nearest same is text =
     own_text own number kept (bytes s) tail bound boundary nearest same (rw is at text)
 own_if_ok bytes own front number kept tail (Err e) bound boundary nearest same is text = tt

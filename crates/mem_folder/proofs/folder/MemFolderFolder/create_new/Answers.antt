@@ -20,7 +20,8 @@ returns-in-Err c =
       c.begin-fault.ensures.notes,
       c.begin-fault.ensures.noted,
     )
-    (turned (Creates handle_of c.args.name.now (Err c.in-Err.error)) (answer_to_create {T = MemFile} c.args.name.now (Err c.in-Err.error))
+    (turned (Creates handle_of c.args.name.now (Err c.in-Err.error))
+    (answer_to_create {T = MemFile} c.args.name.now (Err c.in-Err.error))
     c.note_of_starving.result self.changes self.befores.items self.notes.items self.noted.items self.changes.items (
       refl,
       λ exists. let both : kind.OutOfMemory ≡ kind.AlreadyExists = sym c.in-Err.ensures.err ∙ exists in absurd (cc),

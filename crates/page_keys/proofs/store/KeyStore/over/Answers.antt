@@ -1,5 +1,5 @@
 use Rattle.page_keys.proofs.Common.{◌≡◌, length, refl, ap, sym, ◌∙◌, Config, DeviceState}
-use Rattle.page_keys.proofs.OfStore.StoreReads.{keeps_keys, room_is}
+use Rattle.page_keys.proofs.OfStore.StoreReads.{keeps_keys, reads_nothing, room_is}
 use Rattle.page_keys.proofs.store.KeyStore.over.Goals as goal
 
 pub invariant_of-result : goal.invariant_of-result
@@ -23,3 +23,6 @@ returns-in-Ok-check_all-clause-keys g c = (
       (record { closed = c.requires.closed; buckets = c.in-Ok-check_all.ensures.ok }),
   refl,
 )
+
+pub returns-in_default-clause-back : goal.returns-in_default-clause-back
+returns-in_default-clause-back g c = reads_nothing g.F.Flash.state c.args.device

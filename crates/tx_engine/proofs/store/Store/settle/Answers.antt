@@ -26,8 +26,8 @@ settles_idle : {F : Type 0} (state : F → FlashState) (s : StoreState F) →
 settles_idle state s matches idle = record {
   settles = subst
       (λ (u : Unsure). Matches (state s.flash) s.noted s.table u →
-          Settles (store_parts (state s.flash) s.noted s.table u)
-              (store_parts (state s.flash) s.noted s.table u) (Ok Other))
+      Settles (store_parts (state s.flash) s.noted s.table u)
+      (store_parts (state s.flash) s.noted s.table u) (Ok Other))
       (sym idle) (settles_nothing (state s.flash) s.noted s.table) matches;
   failed = tt;
   idle = λ is. (refl, refl);
@@ -36,14 +36,19 @@ settles_idle state s matches idle = record {
 pub settle-requires : goal.settle-requires
 settle-requires g c =
     let stored = rw (← c.self.view_is) at c.requires.stored in
-    record { kept = record { matches = stored.matches; rule = stored.rule };
-        own = rw (← c.self.view_is) at c.requires.own; room = search rules }
+    record {
+      kept = record { matches = stored.matches; rule = stored.rule };
+      own = rw (← c.self.view_is) at c.requires.own;
+      room = search rules;
+    }
 
 pub invariant_of-self : goal.invariant_of-self
 invariant_of-self g c =
     let same = same_config _ _ c.settle.result c.settle.ensures in
-    record { room = as_long c.self.inside.room c.settle.new.room _ (c.self.invariant.room
-        ∙ ap (λ (x : Config). x.page_bytes) (sym same)) }
+    record {
+      room = as_long c.self.inside.room c.settle.new.room _ (c.self.invariant.room
+          ∙ ap (λ (x : Config). x.page_bytes) (sym same));
+    }
 
 pub returns : goal.returns
 returns g c = record {
