@@ -7,6 +7,7 @@ use Rattle.durable_folder.specs.Histories.{History, Rests}
 use Rattle.durable_folder.proofs.Leading.{saves_after}
 use Rattle.durable_folder.proofs.Learning.{rests_known, rests_then}
 use Rattle.desk_io.specs.Desk.{DeskState}
+use Rattle.desk_io.specs.Disk.{FindsBoth}
 use Rattle.desk_io.specs.declared.desk.SinkError.{SinkError}
 use Rattle.desk_io.specs.declared.desk.SinkError.TheVariants as sink
 use Rattle.program_base.specs.Saying.{FaultTold, MemoryTold, Refuses, Speaks}
@@ -76,12 +77,13 @@ puts_after (Some file) (Err why) a b c rests puts =
 -- the end after an ending that gives something
 pub ends_put : {D : Type 0} (state : D → DeskState) (disk : D → Option History) (task : Option Request)
     (old mid new : D) (fate : Ending) (given : OutputState)
-    (answer : ℕ) → Comes task (state old) (state mid) fate → Gives fate given → status fate ≡ 0 →
+    (answer : ℕ) → Comes task (FindsBoth (state old) (disk old)) (state old) (state mid) fate → Gives fate given →
+    status fate ≡ 0 →
     Rests (disk old) (disk mid) →
     DeliversOnDisk state disk given mid new answer → EndsOnDisk state disk task old new answer
 ends_put state disk task old mid new fate given answer (loads, is, at) gives zero rested delivers = ending delivers
   where
-    it : Decision task (state old)
+    it : Decision task (FindsBoth (state old) (disk old))
     it = record { fate = fate; loads = loads; given = given; is_fate = is; gives = gives }
 
     ending : DeliversOnDisk state disk given mid new answer → EndsOnDisk state disk task old new answer
@@ -110,14 +112,15 @@ ends_rested state disk task old mid new answer stopped first last =
 
 ends_told : {D : Type 0} (state : D → DeskState) (disk : D → Option History) (task : Option Request) (old mid new : D)
     (r : Refusal) (text : List ℕ)
-    (wanted answer : ℕ) → Comes task (state old) (state mid) (refused r) → text ≡ refusal_line (refused r) →
+    (wanted answer : ℕ) → Comes task (FindsBoth (state old) (disk old)) (state old) (state mid) (refused r) →
+    text ≡ refusal_line (refused r) →
     wanted ≡ status (refused r) →
     Rests (disk old) (disk mid) → Rests (disk mid) (disk new) → Speaks (state mid) (state new) text wanted answer →
     EndsOnDisk state disk task old new answer
 ends_told state disk task old mid new r text wanted answer (loads, is, at) is_line same first last (inl (said, after)) =
     Done it (said ∙ same) mid at first after last
   where
-    it : Decision task (state old)
+    it : Decision task (FindsBoth (state old) (disk old))
     it = record {
       fate = refused r;
       loads = loads;
@@ -133,7 +136,8 @@ ends_told state disk task old mid new r text wanted answer comes is_line same fi
 -- the end after a refusal
 pub ends_unput : {D : Type 0} (state : D → DeskState) (disk : D → Option History) (task : Option Request)
     (old mid new : D) (r : Refusal)
-    (line : Result (String Global) AllocError) (wanted answer : ℕ) → Comes task (state old) (state mid) (refused r) →
+    (line : Result (String Global) AllocError) (wanted answer : ℕ) →
+    Comes task (FindsBoth (state old) (disk old)) (state old) (state mid) (refused r) →
     IfOk line (λ l. string_bytes l ≡ refusal_line (refused r)) → wanted ≡ status (refused r) →
     Refuses (state mid) (state new) line wanted answer →
     Rests (disk old) (disk mid) → Rests (disk mid) (disk new) → EndsOnDisk state disk task old new answer

@@ -4,7 +4,7 @@ use Rattle.std.specs.Prelude.{IfOk, String, string_bytes}
 use Rattle.std.specs.Global.{Global}
 use Rattle.std.specs.declared.alloc.AllocError.{AllocError}
 use Rattle.std.specs.Option.{option_map}
-use Rattle.desk_io.specs.Desk.{DeskContents, DeskState, Files, Rose, as_before, called, counted, files_with, with_file}
+use Rattle.desk_io.specs.Desk.{DeskContents, DeskState, Files, Finds, Rose, as_before, called, counted, files_with, with_file}
 use Rattle.desk_io.specs.declared.desk.SinkError.TheVariants as sink
 use Rattle.program_base.specs.Refusals.{image_refused}
 use Rattle.program_base.specs.Saying.{MemoryTold, Refuses, Speaks, files_in}
@@ -28,12 +28,13 @@ use Rattle.command_line.proofs.Saving.{ending_saves, gives_saves, never_five, re
 -- after an ending, what it gives is saved and said
 pub ends_delivered : (task : Option Request) (old mid new : DeskState) (fate : Ending) (given : OutputState)
     (wanted answer : ℕ) →
-    Comes task old mid fate → Gives fate given → wanted ≡ status fate → Delivers mid new given wanted answer →
+    Comes task (Finds old) old mid fate → Gives fate given → wanted ≡ status fate →
+    Delivers mid new given wanted answer →
     EndsCall task old new answer
 ends_delivered task old mid new fate given wanted answer (loads, is, at) gives same delivers =
     ending (subst (λ desk. Delivers desk new given wanted answer) at delivers)
   where
-    it : Decision task old
+    it : Decision task (Finds old)
     it = record { fate = fate; loads = loads; given = given; is_fate = is; gives = gives }
 
     ending : Delivers (after_loading old it) new given wanted answer → EndsCall task old new answer
@@ -85,7 +86,7 @@ exact task old new answer ends = record {
   fate_gives = gives ends;
 }
   where
-    gives : EndsCall task old new answer → (fate : Ending) (loads : ℕ) → IsEnding task old fate loads →
+    gives : EndsCall task old new answer → (fate : Ending) (loads : ℕ) → IsEnding task (Finds old) fate loads →
         TellsEnding task old →
         (Rose old.faults new.faults → ⊥) → (answer ≡ status fate) ⊎ (answer ≡ 6)
     gives (Decided it same said) fate loads is tells steady =
@@ -121,19 +122,19 @@ leaves_also (Some name) old mid new (inl h) e = inl (e ∙ h)
 leaves_also (Some name) old mid new (inr (left, h)) e = inr (left, e ∙ h)
 
 -- the file that an ending gives is that of its task
-saves_its : (task : Option Request) (old : DeskState) (it : Decision task old) (file : SavedFile) →
+saves_its : (task : Option Request) (old : DeskState) (it : Decision task (Finds old)) (file : SavedFile) →
     it.given.saved ≡ Some file →
     file_of task ≡ Some file.name
 saves_its task old it file e =
     let named : Some file.name ≡ saver it.fate = sym (ap (option_map (λ f. f.name)) e)
     ∙ gives_saves it.fate it.given it.gives in
-    elim (ending_saves task old it.fate it.loads it.is_fate) [
+    elim (ending_saves task (Finds old) it.fate it.loads it.is_fate) [
       | inl none ↦ absurd (cc)
       | inr some ↦ sym (named ∙ some)
     ]
 
 -- so is the one that is changed
-leaves_file : (task : Option Request) (old new : DeskState) (it : Decision task old) (file : SavedFile)
+leaves_file : (task : Option Request) (old new : DeskState) (it : Decision task (Finds old)) (file : SavedFile)
     (left : Option (List ℕ)) →
     it.given.saved ≡ Some file → files_in new ≡ option_map (λ files. files_with files file.name left)
     (files_in (after_loading old it)) →
@@ -145,7 +146,7 @@ leaves_file task old new it file left e changed =
           (files_loads it.loads old),
     ))
 
-leaves_saved : (task : Option Request) (old : DeskState) (it : Decision task old) →
+leaves_saved : (task : Option Request) (old : DeskState) (it : Decision task (Finds old)) →
     Leaves (file_of task) (files_in old) (files_in (after_saving old it))
 leaves_saved task old it = by_file it.given.saved refl
   where
@@ -157,7 +158,7 @@ leaves_saved task old it = by_file it.given.saved refl
         leaves_file task old (after_save (Some file) (after_loading old it)) it file (Some file.bytes) e
         (other_files file.name (Some file.bytes) (after_loading old it).told)
 
-leaves_failed : (task : Option Request) (old new : DeskState) (it : Decision task old) →
+leaves_failed : (task : Option Request) (old new : DeskState) (it : Decision task (Finds old)) →
     FileStops sink.Failed it.given.saved (after_loading old it) new →
     Leaves (file_of task) (files_in old) (files_in new)
 leaves_failed task old new it fails = by_file it.given.saved refl fails
@@ -214,7 +215,7 @@ others task old new answer (Starved six (mid, out, (result, says))) =
     (files_said mid new _ result says)
 
 -- a refusal saves nothing
-unsaved : (task : Option Request) (old : DeskState) (it : Decision task old) → (status it.fate ≡ 0 → ⊥) →
+unsaved : (task : Option Request) (old : DeskState) (it : Decision task (Finds old)) → (status it.fate ≡ 0 → ⊥) →
     files_in (after_saving old it) ≡ files_in old
 unsaved task old it refused = by_file it.given.saved (gives_saves it.fate it.given it.gives
     ∙ refusal_saves it.fate refused)
@@ -256,7 +257,7 @@ refusal_gives (refusal.DifferAt page at) text e = record { saves_nothing = refl;
 
 -- the end after a refusal whose line is tried
 ends_refused : (task : Option Request) (old mid new : DeskState) (r : Refusal) (text : List ℕ) (wanted answer : ℕ) →
-    Comes task old mid (refused r) → text ≡ refusal_line (refused r) → wanted ≡ status (refused r) →
+    Comes task (Finds old) old mid (refused r) → text ≡ refusal_line (refused r) → wanted ≡ status (refused r) →
     Speaks mid new text wanted answer →
     EndsCall task old new answer
 ends_refused task old mid new r text wanted answer comes is_line same speaks =
@@ -265,11 +266,11 @@ ends_refused task old mid new r text wanted answer comes is_line same speaks =
 
 -- the end after a refusal for whose line there was no memory
 ends_unsaid : (task : Option Request) (old mid new : DeskState) (r : Refusal) (answer : ℕ) →
-    Comes task old mid (refused r) → MemoryTold mid new answer → EndsCall task old new answer
+    Comes task (Finds old) old mid (refused r) → MemoryTold mid new answer → EndsCall task old new answer
 ends_unsaid task old mid new r answer (loads, is, at) told =
     Starved told.0 (mid, inl (inr (it, never_done r, at)), told.1)
   where
-    it : Decision task old
+    it : Decision task (Finds old)
     it = record {
       fate = refused r;
       loads = loads;
@@ -294,7 +295,7 @@ ends_unsaid task old mid new r answer (loads, is, at) told =
 -- the end after a refusal
 pub ends_stopped : (task : Option Request) (old mid new : DeskState) (r : Refusal)
     (line : Result (String Global) AllocError) (wanted answer : ℕ) →
-    Comes task old mid (refused r) → IfOk line (λ l. string_bytes l ≡ refusal_line (refused r)) →
+    Comes task (Finds old) old mid (refused r) → IfOk line (λ l. string_bytes l ≡ refusal_line (refused r)) →
     wanted ≡ status (refused r) →
     Refuses mid new line wanted answer → EndsCall task old new answer
 ends_stopped task old mid new r (Ok text) wanted answer comes is_line same speaks =

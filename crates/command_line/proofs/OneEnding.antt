@@ -9,7 +9,7 @@ use Rattle.host_protocol.specs.declared.command.Command.{Command}
 use Rattle.host_protocol.proofs.FileLemmas.{file_bad, file_same, first_same}
 use Rattle.image_file.specs.declared.error.ImageError.{ImageError}
 use Rattle.desk_io.specs.Desk as found
-use Rattle.desk_io.specs.Desk.{DeskContents, DeskState, FileFound, file_at, file_found}
+use Rattle.desk_io.specs.Desk.{DeskContents, DeskState, FileFound, Finds, file_at, file_found}
 use Rattle.desk_tasks.specs.Ending.{Ending}
 use Rattle.desk_tasks.specs.Steps.{AfterLoad, AfterOpening, AfterParsing, AfterReading, AfterOpened, Opening, ReadingOn, Judging, Comparing, Keying, Explaining}
 use Rattle.desk_tasks.specs.Steps.{IsEnding, Loading, OpensAndServes, Opens, Parses, Parsing, Reading, Retiring, Running, Trying, WithoutLoad}
@@ -31,7 +31,7 @@ one_found (Some c) name a b tells h k = sym h ∙ k
 
 one_loading : (desk : DeskState) (name : List ℕ) (next : List ℕ → Ending → ℕ → Type 0) → IsSome desk.told →
     ((bytes : List ℕ) (a b : Ending) (m n : ℕ) → next bytes a m → next bytes b n → a ≡ b) →
-    (a b : Ending) (m n : ℕ) → Loading desk name next a m → Loading desk name next b n → a ≡ b
+    (a b : Ending) (m n : ℕ) → Loading (Finds desk) name next a m → Loading (Finds desk) name next b n → a ≡ b
 one_loading desk name next tells one a b m n h k =
     let same = one_found desk.told name h.0 k.0 tells h.1.1 k.1.1 in
     after k.0 (subst (λ found. AfterLoad name next found a m) same h.2) k.2
@@ -147,7 +147,7 @@ one_retirement name bytes block =
 
 -- where the desk tells what it hangs on, the ending of a task is the only one
 pub one_ending : (task : Option Request) (desk : DeskState) (a b : Ending) (m n : ℕ) → TellsEnding task desk →
-    IsEnding task desk a m → IsEnding task desk b n → a ≡ b
+    IsEnding task (Finds desk) a m → IsEnding task (Finds desk) b n → a ≡ b
 one_ending None desk a b m n tells h k = h.0 ∙ sym k.0
 one_ending (Some (Format image its allowance)) desk a b m n tells h k = h.0 ∙ sym k.0
 one_ending (Some (Drive start count protocol)) desk a b m n tells h k = h.0 ∙ sym k.0

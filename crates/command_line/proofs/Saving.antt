@@ -12,7 +12,7 @@ use Rattle.record_list.specs.declared.found.Breach.{Breach}
 use Rattle.host_protocol.specs.declared.command.Command.{Command}
 use Rattle.image_file.specs.declared.error.ImageError.{ImageError}
 use Rattle.desk_io.specs.Desk as found
-use Rattle.desk_io.specs.Desk.{DeskState, FileFound}
+use Rattle.desk_io.specs.Desk.{FileFound}
 use Rattle.program_base.specs.Refusals.{Missing, TooLong, BadImage, Unsound}
 use Rattle.program_base.proofs.Refusing.{never_fault}
 use Rattle.desk_tasks.specs.Ending.{Ending, Tried, Formatted, Ran, Explained, Driven, Keyed, Retired, RefusedBlock, RefusedWorn, Good, WrongLine, Same, DifferShape}
@@ -102,11 +102,12 @@ never_five BadAllowance e = absurd (omega arith)
 
 -- ---- what holds of each ending to which a step may lead
 
-loading_all : (P : Ending → Type 0) (desk : DeskState) (name : List ℕ) (next : List ℕ → Ending → ℕ → Type 0) →
+loading_all : (P : Ending → Type 0) (finds : List ℕ → FileFound → Type 0) (name : List ℕ)
+    (next : List ℕ → Ending → ℕ → Type 0) →
     P (Image (Missing name)) → P (Image (TooLong name)) →
     ((bytes : List ℕ) (fate : Ending) (more : ℕ) → next bytes fate more → P fate) →
-    (fate : Ending) (loads : ℕ) → Loading desk name next fate loads → P fate
-loading_all P desk name next missing long leads fate loads (there, finds, h) = after there h
+    (fate : Ending) (loads : ℕ) → Loading finds name next fate loads → P fate
+loading_all P finds name next missing long leads fate loads (there, is, h) = after there h
   where
     after : (there : FileFound) → AfterLoad name next there fate loads → P fate
     after found.Missing h = rw h.0 missing
@@ -241,37 +242,37 @@ format_saves name its allowance (Ok shape) = by_allowance (nat_lt max_allowance 
 format_saves name its allowance (Err rule) = inl refl
 
 -- it saves no other file than that of the task
-pub ending_saves : (task : Option Request) (desk : DeskState) (fate : Ending) (loads : ℕ) →
-    IsEnding task desk fate loads → SavesAtMost (file_of task) fate
-ending_saves None desk fate loads h = rw h.0 (inl refl)
-ending_saves (Some (Format image its allowance)) desk fate loads h =
+pub ending_saves : (task : Option Request) (finds : List ℕ → FileFound → Type 0) (fate : Ending) (loads : ℕ) →
+    IsEnding task finds fate loads → SavesAtMost (file_of task) fate
+ending_saves None finds fate loads h = rw h.0 (inl refl)
+ending_saves (Some (Format image its allowance)) finds fate loads h =
     rw h.0 (format_saves image its allowance (checked its))
-ending_saves (Some (Drive start count protocol)) desk fate loads h = rw h.0 (inl refl)
-ending_saves (Some (Try commands)) desk fate loads h =
-    loading_all (SavesAtMost None) desk commands _ (inl refl) (inl refl)
+ending_saves (Some (Drive start count protocol)) finds fate loads h = rw h.0 (inl refl)
+ending_saves (Some (Try commands)) finds fate loads h =
+    loading_all (SavesAtMost None) finds commands _ (inl refl) (inl refl)
     (λ lines fate more h. try_saves lines fate h.0) fate loads h
-ending_saves (Some (Explain image)) desk fate loads h =
-    loading_all (SavesAtMost None) desk image _ (inl refl) (inl refl)
+ending_saves (Some (Explain image)) finds fate loads h =
+    loading_all (SavesAtMost None) finds image _ (inl refl) (inl refl)
     (λ bytes fate more h. explanation_saves bytes fate h.0) fate loads h
-ending_saves (Some (Retire image block)) desk fate loads h =
-    loading_all (SavesAtMost (Some image)) desk image _ (inl refl) (inl refl)
+ending_saves (Some (Retire image block)) finds fate loads h =
+    loading_all (SavesAtMost (Some image)) finds image _ (inl refl) (inl refl)
     (λ bytes fate more h. retire_saves image bytes block fate h.0) fate loads h
-ending_saves (Some (Keys image script)) desk fate loads h =
-    loading_all (SavesAtMost (Some image)) desk image _ (inl refl) (inl refl)
-    (λ bytes. loading_all (SavesAtMost (Some image)) desk script _ (inl refl) (inl refl)
+ending_saves (Some (Keys image script)) finds fate loads h =
+    loading_all (SavesAtMost (Some image)) finds image _ (inl refl) (inl refl)
+    (λ bytes. loading_all (SavesAtMost (Some image)) finds script _ (inl refl) (inl refl)
     (λ lines fate more h. keys_saves image bytes lines fate h.0)) fate loads h
-ending_saves (Some (Run image commands)) desk fate loads h =
-    loading_all (SavesAtMost (Some image)) desk image _ (inl refl) (inl refl)
-    (λ bytes. loading_all (SavesAtMost (Some image)) desk commands _ (inl refl) (inl refl)
+ending_saves (Some (Run image commands)) finds fate loads h =
+    loading_all (SavesAtMost (Some image)) finds image _ (inl refl) (inl refl)
+    (λ bytes. loading_all (SavesAtMost (Some image)) finds commands _ (inl refl) (inl refl)
     (λ lines fate more h. run_saves image bytes lines fate h.0)) fate loads h
-ending_saves (Some (Check image report)) desk fate loads h =
-    loading_all (SavesAtMost None) desk image _ (inl refl) (inl refl)
-    (λ bytes. loading_all (SavesAtMost None) desk report _ (inl refl) (inl refl)
+ending_saves (Some (Check image report)) finds fate loads h =
+    loading_all (SavesAtMost None) finds image _ (inl refl) (inl refl)
+    (λ bytes. loading_all (SavesAtMost None) finds report _ (inl refl) (inl refl)
     (λ text fate more h. check_saves bytes text fate h.0)) fate loads h
-ending_saves (Some (Compare first second)) desk fate loads h =
-    loading_all (SavesAtMost None) desk first _ (inl refl) (inl refl)
+ending_saves (Some (Compare first second)) finds fate loads h =
+    loading_all (SavesAtMost None) finds first _ (inl refl) (inl refl)
     (λ bytes. reading_on_all (SavesAtMost None) bytes _ (λ rule. inl refl)
-    (λ a image extras. loading_all (SavesAtMost None) desk second _ (inl refl) (inl refl)
+    (λ a image extras. loading_all (SavesAtMost None) finds second _ (inl refl) (inl refl)
     (λ others fate more h. reading_all (SavesAtMost None) others _ (λ rule. inl refl)
     (λ b other extras. comparison_saves a image b other) fate h.0)))
     fate loads h

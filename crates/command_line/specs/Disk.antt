@@ -2,7 +2,7 @@
 use Rattle.std.specs.Prelude.{◌≡◌, ◌⊎◌, ℕ, Option, None, Some, Result, Ok}
 use Rattle.durable_folder.specs.Histories.{History, Rests}
 use Rattle.desk_io.specs.Desk.{DeskState, Saves}
-use Rattle.desk_io.specs.Disk.{SavesOnDisk}
+use Rattle.desk_io.specs.Disk.{FindsBoth, SavesOnDisk}
 use Rattle.desk_io.specs.declared.desk.SinkError.{SinkError}
 use Rattle.program_base.specs.Saying.{after_text}
 use Rattle.desk_tasks.specs.Request.{Request}
@@ -35,16 +35,17 @@ pub data DeliversOnDisk {D : Type 0} (state : D → DeskState) (disk : D → Opt
   Short : (answer ≡ 5) ⊎ (answer ≡ 6) → TriesOnDisk given.saved (disk old) (disk new) →
       DeliversOnDisk state disk given old new answer
 
--- How a call ends. Where its fate is decided, there is a desk in between on which what the fate gives is saved and
--- nothing is said yet, and from then on nothing changes on the disk. Else a call of the desk failed or memory ran out:
--- nothing has changed on the disk, or what a fate gives was saved or was not.
+-- How a call ends. Where its ending is decided, by what the desk and its disk had at a name, there is a desk in between
+-- on which what the ending gives is saved and nothing is said yet, and from then on nothing changes on the disk. Else a
+-- call of the desk failed or memory ran out: nothing has changed on the disk, or what an ending gives was saved or was
+-- not.
 pub data EndsOnDisk {D : Type 0} (state : D → DeskState) (disk : D → Option History) (task : Option Request)
     (old new : D) (answer : ℕ) : Type 0 where
-  Done : (it : Decision task (state old)) → answer ≡ status it.fate → (mid : D) →
+  Done : (it : Decision task (FindsBoth (state old) (disk old))) → answer ≡ status it.fate → (mid : D) →
       state mid ≡ after_saving (state old) it →
       PutsOnDisk it.given.saved (Ok tt) (disk old) (disk mid) → state new ≡ after_text it.given.text (state mid) →
       Rests (disk mid) (disk new) → EndsOnDisk state disk task old new answer
   Stopped : (answer ≡ 5) ⊎ (answer ≡ 6) →
-      Rests (disk old) (disk new) ⊎ ((it : Decision task (state old))
+      Rests (disk old) (disk new) ⊎ ((it : Decision task (FindsBoth (state old) (disk old)))
       × TriesOnDisk it.given.saved (disk old) (disk new)) →
       EndsOnDisk state disk task old new answer

@@ -1,7 +1,7 @@
 -- What the program answers, what it says and saves, and why.
 use Rattle.std.specs.Prelude.{◌≡◌, ◌≢◌, ◌⊎◌, ℕ, List, [], codes, Option, None, Some, IsSome, Err}
 use Rattle.std.specs.Option.{option_map}
-use Rattle.desk_io.specs.Desk.{DeskState, Files, Rose, Saves, after_answer, files_with, with_file}
+use Rattle.desk_io.specs.Desk.{DeskState, FileFound, Files, Finds, Rose, Saves, after_answer, files_with, with_file}
 use Rattle.desk_io.specs.declared.desk.SinkError.{SinkError}
 use Rattle.desk_io.specs.declared.desk.SinkError.TheVariants as sink
 use Rattle.program_base.specs.Refusals.{line}
@@ -19,21 +19,21 @@ abbrev pub after_save : Option SavedFile → DeskState → DeskState
 after_save None desk = desk
 after_save (Some saved) desk = after_answer (with_file saved.name (Some saved.bytes)) desk
 
--- a fate of a task, how many loads it comes after, and what it gives
-pub record Decision (task : Option Request) (desk : DeskState) : Type 0 where
+-- a fate of a task, by what is found at a name, how many loads it comes after, and what it gives
+pub record Decision (task : Option Request) (finds : List ℕ → FileFound → Type 0) : Type 0 where
   pub fate : Ending
   pub loads : ℕ
   pub given : OutputState
-  pub is_fate : IsEnding task desk fate loads
+  pub is_fate : IsEnding task finds fate loads
   pub gives : Gives fate given
 
 -- the desk before the saving, and before the saying, of what a decision gives
-abbrev pub after_loading : {task : Option Request} → (desk : DeskState) → Decision task desk →
-    DeskState
+abbrev pub after_loading : {task : Option Request} {finds : List ℕ → FileFound → Type 0} → DeskState →
+    Decision task finds → DeskState
 after_loading desk it = after_loads it.loads desk
 
-abbrev pub after_saving : {task : Option Request} → (desk : DeskState) → Decision task desk →
-    DeskState
+abbrev pub after_saving : {task : Option Request} {finds : List ℕ → FileFound → Type 0} → DeskState →
+    Decision task finds → DeskState
 after_saving desk it = after_save it.given.saved (after_loading desk it)
 
 -- ---- how a call fails
@@ -54,12 +54,12 @@ Delivers old new p status answer =
 -- the saving of what a fate gives was answered by an error
 abbrev pub SaveStops : SinkError → (task : Option Request) → DeskState → DeskState → Type 0
 SaveStops error task old new =
-    (it : Decision task old) × FileStops error it.given.saved (after_loading old it) new
+    (it : Decision task (Finds old)) × FileStops error it.given.saved (after_loading old it) new
 
 -- the saying of a fate's text was answered by an error, after what the fate gives was saved
 abbrev pub SayStops : SinkError → (task : Option Request) → DeskState → DeskState → Type 0
 SayStops error task old new =
-    (it : Decision task old) × TextStops error it.given.text (after_saving old it) new
+    (it : Decision task (Finds old)) × TextStops error it.given.text (after_saving old it) new
 
 -- a call of the desk failed
 abbrev pub CallFails : Option Request → DeskState → DeskState → Type 0
@@ -74,7 +74,7 @@ IsFaulted task old new =
 -- there was no memory for the line of a refusal
 abbrev pub LineStarves : Option Request → DeskState → DeskState → Type 0
 LineStarves task old new =
-    (it : Decision task old) × (status it.fate ≢ 0) × (new ≡ after_loading old it)
+    (it : Decision task (Finds old)) × (status it.fate ≢ 0) × (new ≡ after_loading old it)
 
 -- Memory ran out before a fate was decided, or for its line, or in the saving of what it gives, or
 -- in the saying.
@@ -91,7 +91,7 @@ IsStarved task old new =
 -- How a call of the program ends, with which status: a fate decided, what it gives was saved, and
 -- its text was said whole; or a call of the desk failed; or memory ran out.
 pub data EndsCall (task : Option Request) (old new : DeskState) (answer : ℕ) : Type 0 where
-  Decided : (it : Decision task old) → answer ≡ status it.fate →
+  Decided : (it : Decision task (Finds old)) → answer ≡ status it.fate →
       new ≡ after_text it.given.text (after_saving old it) →
       EndsCall task old new answer
   Faulted : answer ≡ 5 → IsFaulted task old new → EndsCall task old new answer
@@ -106,9 +106,9 @@ TellsEnding task desk = (files_of task ≡ []) ⊎ IsSome desk.told
 -- Where the desk tells it, a task has one fate, which gives its status, unless the desk's count of
 -- faults rose or memory ran out.
 pub record IsExact (task : Option Request) (old new : DeskState) (answer : ℕ) : Type 0 where
-  pub one_fate : (a b : Ending) (m n : ℕ) → TellsEnding task old → IsEnding task old a m →
-      IsEnding task old b n → a ≡ b
-  pub fate_gives : (fate : Ending) (loads : ℕ) → IsEnding task old fate loads → TellsEnding task old →
+  pub one_fate : (a b : Ending) (m n : ℕ) → TellsEnding task old → IsEnding task (Finds old) a m →
+      IsEnding task (Finds old) b n → a ≡ b
+  pub fate_gives : (fate : Ending) (loads : ℕ) → IsEnding task (Finds old) fate loads → TellsEnding task old →
       (Rose old.faults new.faults → ⊥) → (answer ≡ status fate) ⊎ (answer ≡ 6)
 
 -- ---- which file changes

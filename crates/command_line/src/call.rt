@@ -2,6 +2,7 @@ ghost use Rattle.std.specs.Prelude.{◌≡◌};
 ghost use Rattle.std.specs.Option.{option_map};
 ghost use Rattle.durable_folder.specs.Histories.{Rests};
 ghost use Rattle.desk_io.specs.Desk.{Rose};
+ghost use Rattle.desk_io.specs.Disk.{FindsBoth};
 ghost use Rattle.desk_tasks.specs.Stops.{Works, file_saved, output_of};
 ghost use Rattle.command_line.specs.Disk.{DeliversOnDisk, EndsOnDisk, PutsFile, PutsOnDisk};
 ghost use Rattle.command_line.specs.Top.{Delivers, EndsCall, IsExact, LeavesFiles};
@@ -58,7 +59,8 @@ fn work<'a, D: Desk>(
     words: &'a [String],
     desk: &mut D,
 ) -> Result<Output<'a>, Failure<'a>>
-    ensures works { Works (request_by words.now) (D.state desk.old) (D.state desk.new) result }
+    ensures works { Works (request_by words.now) (FindsBoth (D.state desk.old) (D.disk desk.old))
+        (D.state desk.old) (D.state desk.new) result }
     ensures disk { Rests (D.disk desk.old) (D.disk desk.new) }
 {
     match parse_words(words) {

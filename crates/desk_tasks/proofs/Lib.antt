@@ -1,6 +1,7 @@
 mod Common
 pub mod RunLemmas
 pub mod Sound
+pub mod Weakening
 pub mod Works
 pub mod Parts
 pub mod Findings

@@ -4,8 +4,11 @@ use Rattle.std.specs.Prelude.{IfErr, IfSome}
 use Rattle.std.specs.Option.{option_map}
 use Rattle.std.specs.Result.{IsErrAnd}
 use Rattle.std.proofs.lemmas.List.Elements.{All-cons, All-nil}
+use Rattle.durable_folder.specs.Histories.{History, Rests}
 use Rattle.desk_io.specs.Desk as found
 use Rattle.desk_io.specs.Desk.{DeskContents, DeskState, FileFound, Finds, after_memory, called, file_at, file_found}
+use Rattle.desk_io.specs.Disk.{FindsBoth, IsThere}
+use Rattle.desk_io.proofs.Resting.{there_before}
 use Rattle.program_base.specs.Loading.{Fetches, ImageStops, RefusesImage}
 use Rattle.program_base.specs.Refusals.{ImageEnding, Missing, TooLong, image_refused}
 use Rattle.program_base.specs.declared.stop.ImageStop.{ImageStop}
@@ -85,42 +88,47 @@ unread_image bytes next result e same h =
     (λ why refuses. (Err refuses.0, refuses.1, (ap Image refuses.2, refl))) h
 
 -- after its loads, the work of a task comes to what its last part comes to
-pub works : (task : Option Request) (old new : DeskState) (n : ℕ) (comes : Ending → Type 0)
+pub works : (task : Option Request) (finds : List ℕ → FileFound → Type 0) (old new : DeskState) (n : ℕ)
+    (comes : Ending → Type 0)
     (result : Result Output Failure) →
     new ≡ after_loads n old → IsWorkedAfter task n → CameThrough task old n →
-    ((fate : Ending) → comes fate → IsEnding task old fate n) → WorksTo comes result → Works task old new result
-works task old new n comes (Ok product) loaded all came leads h = (h.0, (n, leads h.0 h.1, loaded), h.2, h.3)
-works task old new n comes (Err (stop.Refused refusal)) loaded all came leads h = (n, leads (refused refusal) h, loaded)
-works task old new n comes (Err stop.Fault) loaded all came leads h = absurd h
-works task old new n comes (Err stop.Memory) loaded all came leads h =
+    ((fate : Ending) → comes fate → IsEnding task finds fate n) → WorksTo comes result → Works task finds old new result
+works task finds old new n comes (Ok product) loaded all came leads h = (h.0, (n, leads h.0 h.1, loaded), h.2, h.3)
+works task finds old new n comes (Err (stop.Refused refusal)) loaded all came leads h =
+    (n, leads (refused refusal) h, loaded)
+works task finds old new n comes (Err stop.Fault) loaded all came leads h = absurd h
+works task finds old new n comes (Err stop.Memory) loaded all came leads h =
     inr (n, all, came, loaded)
 
 -- the work of a task ends where a load gives no bytes
-unfetched_by : (task : Option Request) (old mid new : DeskState) (n : ℕ) (name : List ℕ) (stopped : ImageStop) →
+unfetched_by : (task : Option Request) (finds here : List ℕ → FileFound → Type 0) (old mid new : DeskState) (n : ℕ)
+    (name : List ℕ) (stopped : ImageStop) →
     mid ≡ after_loads n old → n < length (files_of task) → CameThrough task old n →
-    (Finds mid name found.Missing → IsEnding task old (Image (Missing name)) (suc n)) →
-    (Finds mid name found.TooLong → IsEnding task old (Image (TooLong name)) (suc n)) →
-    Fetches mid new name (Err stopped) → Works task old new (Err (failure_of stopped))
-unfetched_by task old mid new n name (image.Refused refusal) loaded most came missing long h =
+    (here name found.Missing → IsEnding task finds (Image (Missing name)) (suc n)) →
+    (here name found.TooLong → IsEnding task finds (Image (TooLong name)) (suc n)) →
+    Fetches here mid new name (Err stopped) → Works task finds old new (Err (failure_of stopped))
+unfetched_by task finds here old mid new n name (image.Refused refusal) loaded most came missing long h =
     let after : new ≡ after_loads (suc n) old = h.0 ∙ ap (after_answer as_before) loaded in
     elim h.1 [
       | inl none ↦ (suc n, rw none.1 (missing none.0), after)
       | inr much ↦ (suc n, rw much.1 (long much.0), after)
     ]
-unfetched_by task old mid new n name image.Fault loaded most came missing long h = (n, most, came, rw (← loaded) h)
-unfetched_by task old mid new n name image.Memory loaded most came missing long h =
+unfetched_by task finds here old mid new n name image.Fault loaded most came missing long h =
+    (n, most, came, rw (← loaded) h)
+unfetched_by task finds here old mid new n name image.Memory loaded most came missing long h =
     inl (n, most, came, h ∙ ap after_memory loaded)
 
-pub unfetched : (task : Option Request) (old mid new : DeskState) (n : ℕ) (name : List ℕ) (stopped : ImageStop)
+pub unfetched : (task : Option Request) (finds here : List ℕ → FileFound → Type 0) (old mid new : DeskState) (n : ℕ)
+    (name : List ℕ) (stopped : ImageStop)
     (result : Result Output Failure) →
     IsErrAnd result (λ x. x ≡ failure_of stopped) → mid ≡ after_loads n old → n < length (files_of task) →
     CameThrough task old n →
-    (Finds mid name found.Missing → IsEnding task old (Image (Missing name)) (suc n)) →
-    (Finds mid name found.TooLong → IsEnding task old (Image (TooLong name)) (suc n)) →
-    Fetches mid new name (Err stopped) → Works task old new result
-unfetched task old mid new n name stopped (Ok product) same loaded most came missing long h = absurd same
-unfetched task old mid new n name stopped (Err x) same loaded most came missing long h =
-    rw same (unfetched_by task old mid new n name stopped loaded most came missing long h)
+    (here name found.Missing → IsEnding task finds (Image (Missing name)) (suc n)) →
+    (here name found.TooLong → IsEnding task finds (Image (TooLong name)) (suc n)) →
+    Fetches here mid new name (Err stopped) → Works task finds old new result
+unfetched task finds here old mid new n name stopped (Ok product) same loaded most came missing long h = absurd same
+unfetched task finds here old mid new n name stopped (Err x) same loaded most came missing long h =
+    rw same (unfetched_by task finds here old mid new n name stopped loaded most came missing long h)
 
 -- a load changes no file
 found_before : (told : Option DeskContents) (name : List ℕ) (found : FileFound) →
@@ -130,11 +138,12 @@ found_before None name found h = h
 found_before (Some c) name found h = h
 
 -- what is found after a load was there before it
-pub finds_before : (old mid : DeskState) (name : List ℕ) (found : FileFound) → mid ≡ after_answer as_before old →
-    Finds mid name found → Finds old name found
-finds_before old mid name found e h =
-    let now : Finds (after_answer as_before old) name found = rw e at h in
-    (now.0, found_before old.told name found now.1)
+pub finds_before : (old mid : DeskState) (before after : Option History) (name : List ℕ) (found : FileFound) →
+    mid ≡ after_answer as_before old →
+    Rests before after → FindsBoth mid after name found → FindsBoth old before name found
+finds_before old mid before after name found e rests h =
+    let now : Finds (after_answer as_before old) name found = rw e at h.0 in
+    ((now.0, found_before old.told name found now.1), there_before (IsThere name found) before after rests h.1)
 
 -- ---- the loads that found bytes
 

@@ -13,7 +13,7 @@ use Rattle.host_protocol.specs.Files.{IsFile, IsFirstBad}
 use Rattle.host_protocol.specs.declared.command.Command.{Command}
 use Rattle.image_file.specs.declared.error.ImageError.{ImageError}
 use Rattle.desk_io.specs.Desk as found
-use Rattle.desk_io.specs.Desk.{DeskState, FileFound, Finds}
+use Rattle.desk_io.specs.Desk.{FileFound}
 use Rattle.tx_types.specs.declared.config.Protocol.TheVariants.{Scc}
 use Rattle.program_base.specs.Loading.{ReadsImage}
 use Rattle.program_base.specs.Refusals.{BadWords, Missing, TooLong, BadImage, Unsound}
@@ -33,10 +33,10 @@ AfterLoad name next found.TooLong fate loads = (fate ≡ Image (TooLong name)) �
 AfterLoad name next (found.Bytes bytes) fate loads =
     (more : ℕ) × next bytes fate more × (loads ≡ more + 1)
 
--- the file of this name is loaded, and then comes what its bytes give
-abbrev pub Loading : DeskState → List ℕ → (List ℕ → Ending → ℕ → Type 0) → Ending → ℕ → Type 0
-Loading desk name next fate loads =
-    (found : FileFound) × Finds desk name found × AfterLoad name next found fate loads
+-- the file of this name is loaded, and then comes what its bytes give; what is found at a name is so in this sense
+abbrev pub Loading : (List ℕ → FileFound → Type 0) → List ℕ → (List ℕ → Ending → ℕ → Type 0) → Ending → ℕ → Type 0
+Loading finds name next fate loads =
+    (found : FileFound) × finds name found × AfterLoad name next found fate loads
 
 -- no file more is loaded
 abbrev pub WithoutLoad : (Ending → Type 0) → Ending → ℕ → Type 0
@@ -153,26 +153,26 @@ formatting name its allowance (Ok shape) =
     if nat_lt max_allowance allowance then BadAllowance else Formatted name its allowance
 formatting name its allowance (Err rule) = BadConfiguration rule
 
--- The fate of a task on a desk, which comes after so many loads.
-abbrev pub IsEnding : Option Request → DeskState → Ending → ℕ → Type 0
-IsEnding None desk = WithoutLoad (λ fate. fate ≡ Image BadWords)
-IsEnding (Some (Try commands)) desk = Loading desk commands (λ lines. WithoutLoad (Trying lines))
-IsEnding (Some (Format image its allowance)) desk =
+-- The fate of a task, by what is found at a name, which comes after so many loads.
+abbrev pub IsEnding : Option Request → (List ℕ → FileFound → Type 0) → Ending → ℕ → Type 0
+IsEnding None finds = WithoutLoad (λ fate. fate ≡ Image BadWords)
+IsEnding (Some (Try commands)) finds = Loading finds commands (λ lines. WithoutLoad (Trying lines))
+IsEnding (Some (Format image its allowance)) finds =
     WithoutLoad (λ fate. fate ≡ formatting image its allowance (checked its))
-IsEnding (Some (Run image commands)) desk =
-    Loading desk image
-    (λ bytes. Loading desk commands (λ lines. WithoutLoad (Running image bytes lines)))
-IsEnding (Some (Explain image)) desk = Loading desk image (λ bytes. WithoutLoad (Explaining bytes))
-IsEnding (Some (Drive start count protocol)) desk =
+IsEnding (Some (Run image commands)) finds =
+    Loading finds image
+    (λ bytes. Loading finds commands (λ lines. WithoutLoad (Running image bytes lines)))
+IsEnding (Some (Explain image)) finds = Loading finds image (λ bytes. WithoutLoad (Explaining bytes))
+IsEnding (Some (Drive start count protocol)) finds =
     WithoutLoad (λ fate. fate ≡ Driven start count protocol)
-IsEnding (Some (Check image report)) desk =
-    Loading desk image (λ bytes. Loading desk report (λ text. WithoutLoad (Checking bytes text)))
-IsEnding (Some (Compare first second)) desk =
-    Loading desk first
-    (λ bytes. ReadingOn bytes (λ a image extras. Loading desk second
+IsEnding (Some (Check image report)) finds =
+    Loading finds image (λ bytes. Loading finds report (λ text. WithoutLoad (Checking bytes text)))
+IsEnding (Some (Compare first second)) finds =
+    Loading finds first
+    (λ bytes. ReadingOn bytes (λ a image extras. Loading finds second
     (λ others. WithoutLoad (Reading others (λ b other more. Comparing a image b other)))))
-IsEnding (Some (Keys image script)) desk =
-    Loading desk image
-    (λ bytes. Loading desk script (λ lines. WithoutLoad (Keying image bytes lines)))
-IsEnding (Some (Retire image block)) desk =
-    Loading desk image (λ bytes. WithoutLoad (Retiring image bytes block))
+IsEnding (Some (Keys image script)) finds =
+    Loading finds image
+    (λ bytes. Loading finds script (λ lines. WithoutLoad (Keying image bytes lines)))
+IsEnding (Some (Retire image block)) finds =
+    Loading finds image (λ bytes. WithoutLoad (Retiring image bytes block))

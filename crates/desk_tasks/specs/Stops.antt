@@ -4,7 +4,7 @@ use Rattle.std.specs.Option.{option_map}
 use Rattle.tx_types.specs.declared.config.Config.{Config}
 use Rattle.flash_model.specs.Flash.{Contents, Extras}
 use Rattle.record_list.specs.declared.found.Breach.{Breach}
-use Rattle.desk_io.specs.Desk.{DeskState}
+use Rattle.desk_io.specs.Desk.{DeskState, FileFound}
 use Rattle.program_base.specs.Refusals.{Unsound, image_refused}
 use Rattle.program_base.specs.declared.stop.ImageStop.{ImageStop}
 use Rattle.program_base.specs.declared.stop.ImageStop.TheVariants as image
@@ -95,14 +95,15 @@ WorksTo comes (Ok product) =
     (fate : Ending) × comes fate × (status fate ≡ 0) × Gives fate (output_of product)
 WorksTo comes (Err stopped) = StopsBy comes stopped
 
--- a fate decides, and its loads were made
-abbrev pub Comes : Option Request → DeskState → DeskState → Ending → Type 0
-Comes task old new fate = (loads : ℕ) × IsEnding task old fate loads × (new ≡ after_loads loads old)
+-- a fate decides, by what is found at a name, and its loads were made
+abbrev pub Comes : Option Request → (List ℕ → FileFound → Type 0) → DeskState → DeskState → Ending → Type 0
+Comes task finds old new fate = (loads : ℕ) × IsEnding task finds fate loads × (new ≡ after_loads loads old)
 
 -- the work for a task gives what its fate gives, or stops
-abbrev pub Works : Option Request → DeskState → DeskState → Result Output Failure → Type 0
-Works task old new (Ok product) =
-    (fate : Ending) × Comes task old new fate × (status fate ≡ 0) × Gives fate (output_of product)
-Works task old new (Err (stop.Refused refusal)) = Comes task old new (refused refusal)
-Works task old new (Err stop.Fault) = LoadFails task old new
-Works task old new (Err stop.Memory) = WorkRunsOut task old new
+abbrev pub Works : Option Request → (List ℕ → FileFound → Type 0) → DeskState → DeskState →
+    Result Output Failure → Type 0
+Works task finds old new (Ok product) =
+    (fate : Ending) × Comes task finds old new fate × (status fate ≡ 0) × Gives fate (output_of product)
+Works task finds old new (Err (stop.Refused refusal)) = Comes task finds old new (refused refusal)
+Works task finds old new (Err stop.Fault) = LoadFails task old new
+Works task finds old new (Err stop.Memory) = WorkRunsOut task old new

@@ -4,6 +4,7 @@ ghost use Rattle.tx_types.specs.Config.{checked, shape_of};
 ghost use Rattle.mem_flash.specs.MemFlashState.{loaded};
 ghost use Rattle.record_list.specs.Records.{IsScanned};
 ghost use Rattle.durable_folder.specs.Histories.{Rests};
+ghost use Rattle.desk_io.specs.Disk.{FindsBoth};
 ghost use Rattle.desk_tasks.specs.Checking.{ChecksList};
 ghost use Rattle.program_base.specs.Refusals.{line};
 ghost use Rattle.desk_tasks.specs.Ending.{Good};
@@ -31,7 +32,8 @@ pub fn do_check<'a, D: Desk>(
     report: &'a str,
     desk: &mut D,
 ) -> Result<Output<'a>, Failure<'a>>
-    ensures works { Works (Some (Check image.now report.now)) (D.state desk.old) (D.state desk.new) result }
+    ensures works { Works (Some (Check image.now report.now)) (FindsBoth (D.state desk.old) (D.disk desk.old))
+        (D.state desk.old) (D.state desk.new) result }
     ensures disk { Rests (D.disk desk.old) (D.disk desk.new) }
 {
     let bytes = load_file(image, desk)?;

@@ -4,6 +4,7 @@ ghost use Rattle.tx_types.specs.Config.{checked, shape_of};
 ghost use Rattle.flash_model.specs.Flash.{IsSteady};
 ghost use Rattle.mem_flash.specs.MemFlashState.{loaded, state_of};
 ghost use Rattle.durable_folder.specs.Histories.{Rests};
+ghost use Rattle.desk_io.specs.Disk.{FindsBoth};
 ghost use Rattle.program_base.specs.Refusals.{line};
 ghost use Rattle.desk_tasks.specs.Ending.{Same};
 ghost use Rattle.desk_tasks.specs.Checking.{HaveOneShape, array_of_device};
@@ -39,7 +40,8 @@ pub fn do_compare<'a, D: Desk>(
     second: &'a str,
     desk: &mut D,
 ) -> Result<Output<'a>, Failure<'a>>
-    ensures works { Works (Some (Compare first.now second.now)) (D.state desk.old) (D.state desk.new) result }
+    ensures works { Works (Some (Compare first.now second.now)) (FindsBoth (D.state desk.old) (D.disk desk.old))
+        (D.state desk.old) (D.state desk.new) result }
     ensures disk { Rests (D.disk desk.old) (D.disk desk.new) }
 {
     let bytes = load_file(first, desk)?;

@@ -1,5 +1,6 @@
 ghost use Rattle.std.specs.Prelude.{◌≡◌, ◌≤◌, All, Ok, Some, IfOk, IfErr, length};
 ghost use Rattle.durable_folder.specs.Histories.{Rests};
+ghost use Rattle.desk_io.specs.Disk.{FindsBoth};
 ghost use Rattle.desk_io.specs.Desk.{max_file_bytes};
 ghost use Rattle.host_protocol.specs.declared.file.TheConstants.{MAX_FILE_BYTES};
 ghost use Rattle.mem_flash.specs.MemFlashState.{loaded};
@@ -39,7 +40,8 @@ pub fn do_keys<'a, D: Desk>(
     script: &'a str,
     desk: &mut D,
 ) -> Result<Output<'a>, Failure<'a>>
-    ensures works { Works (Some (Keys image.now script.now)) (D.state desk.old) (D.state desk.new) result }
+    ensures works { Works (Some (Keys image.now script.now)) (FindsBoth (D.state desk.old) (D.disk desk.old))
+        (D.state desk.old) (D.state desk.new) result }
     ensures disk { Rests (D.disk desk.old) (D.disk desk.new) }
 {
     let bytes = load_file(image, desk)?;

@@ -5,6 +5,7 @@ ghost use Rattle.flash_model.specs.Flash.{IsSteady};
 ghost use Rattle.mem_flash.specs.MemFlashState.{loaded, state_of};
 ghost use Rattle.array_machine.specs.ArrayState.{idle};
 ghost use Rattle.durable_folder.specs.Histories.{Rests};
+ghost use Rattle.desk_io.specs.Disk.{FindsBoth};
 ghost use Rattle.program_base.specs.Refusals.{line};
 ghost use Rattle.desk_tasks.specs.Retirements.{LeavesRetired, RetiresIdle, block_refusal};
 ghost use Rattle.desk_tasks.specs.Steps.{Retiring};
@@ -34,7 +35,8 @@ pub fn do_retire<'a, D: Desk>(
     block: Block,
     desk: &mut D,
 ) -> Result<Output<'a>, Failure<'a>>
-    ensures works { Works (Some (Retire image.now block.0)) (D.state desk.old) (D.state desk.new) result }
+    ensures works { Works (Some (Retire image.now block.0)) (FindsBoth (D.state desk.old) (D.disk desk.old))
+        (D.state desk.old) (D.state desk.new) result }
     ensures disk { Rests (D.disk desk.old) (D.disk desk.new) }
 {
     let bytes = load_file(image, desk)?;

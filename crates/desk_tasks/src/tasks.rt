@@ -1,6 +1,7 @@
 ghost use Rattle.std.specs.Prelude.{◌≡◌, ◌≤◌, ◌++◌, ℕ, List, All, Ok, Some, IfOk, IfErr, codes, length};
 ghost use Rattle.std.specs.Fmt.{decimal};
 ghost use Rattle.durable_folder.specs.Histories.{Rests};
+ghost use Rattle.desk_io.specs.Disk.{FindsBoth};
 ghost use Rattle.desk_io.specs.Desk.{DeskState, max_file_bytes};
 ghost use Rattle.drive_gen.specs.Summary.{summary_line};
 ghost use Rattle.host_protocol.specs.Commands.{Suits};
@@ -36,7 +37,8 @@ pub fn do_try<'a, D: Desk>(
     name: &'a str,
     desk: &mut D,
 ) -> Result<Output<'a>, Failure<'a>>
-    ensures works { Works (Some (Try name.now)) (D.state desk.old) (D.state desk.new) result }
+    ensures works { Works (Some (Try name.now)) (FindsBoth (D.state desk.old) (D.disk desk.old))
+        (D.state desk.old) (D.state desk.new) result }
     ensures disk { Rests (D.disk desk.old) (D.disk desk.new) }
 {
     let lines = load_file(name, desk)?;
@@ -50,7 +52,8 @@ pub fn do_run<'a, D: Desk>(
     script: &'a str,
     desk: &mut D,
 ) -> Result<Output<'a>, Failure<'a>>
-    ensures works { Works (Some (Run image.now script.now)) (D.state desk.old) (D.state desk.new) result }
+    ensures works { Works (Some (Run image.now script.now)) (FindsBoth (D.state desk.old) (D.disk desk.old))
+        (D.state desk.old) (D.state desk.new) result }
     ensures disk { Rests (D.disk desk.old) (D.disk desk.new) }
 {
     let bytes = load_file(image, desk)?;
@@ -64,7 +67,8 @@ pub fn do_explain<'a, D: Desk>(
     image: &'a str,
     desk: &mut D,
 ) -> Result<Output<'a>, Failure<'a>>
-    ensures works { Works (Some (Explain image.now)) (D.state desk.old) (D.state desk.new) result }
+    ensures works { Works (Some (Explain image.now)) (FindsBoth (D.state desk.old) (D.disk desk.old))
+        (D.state desk.old) (D.state desk.new) result }
     ensures disk { Rests (D.disk desk.old) (D.disk desk.new) }
 {
     let bytes = load_file(image, desk)?;

@@ -1,3 +1,4 @@
+mod Fetching
 pub mod Refusing
 pub mod Spoken
 mod Torn

@@ -7,7 +7,7 @@ use Rattle.image_file.specs.Rules.{reading}
 use Rattle.image_file.specs.Spelling.{Spells}
 use Rattle.image_file.specs.declared.error.ImageError.{ImageError}
 use Rattle.desk_io.specs.Desk as found
-use Rattle.desk_io.specs.Desk.{DeskState, Finds, after_answer, after_fault, after_memory, as_before}
+use Rattle.desk_io.specs.Desk.{DeskState, FileFound, after_answer, after_fault, after_memory, as_before}
 use Rattle.program_base.specs.Refusals.{ImageEnding, Missing, TooLong, BadImage, image_refused}
 use Rattle.program_base.specs.declared.stop.ImageStop.{ImageStop}
 use Rattle.program_base.specs.declared.stop.ImageStop.TheVariants as stop
@@ -27,13 +27,14 @@ ImageStops comes (stop.Refused refusal) = comes (image_refused refusal)
 ImageStops comes stop.Fault = ⊥
 ImageStops comes stop.Memory = Unit {0}
 
--- a load: a file that is missing or too long is refused
-abbrev pub Fetches : DeskState → DeskState → List ℕ → Result (Vec ℕ Global) ImageStop → Type 0
-Fetches old new name (Ok bytes) =
-    Finds old name (found.Bytes bytes.items) × (new ≡ after_answer as_before old)
-Fetches old new name (Err (stop.Refused refusal)) =
+-- a load, by what is found at a name: its bytes are given, and a file that is missing or too long is refused
+abbrev pub Fetches : (List ℕ → FileFound → Type 0) → DeskState → DeskState → List ℕ →
+    Result (Vec ℕ Global) ImageStop → Type 0
+Fetches finds old new name (Ok bytes) =
+    finds name (found.Bytes bytes.items) × (new ≡ after_answer as_before old)
+Fetches finds old new name (Err (stop.Refused refusal)) =
     (new ≡ after_answer as_before old)
-    × ((Finds old name found.Missing × (image_refused refusal ≡ Missing name))
-    ⊎ (Finds old name found.TooLong × (image_refused refusal ≡ TooLong name)))
-Fetches old new name (Err stop.Fault) = new ≡ after_fault as_before old
-Fetches old new name (Err stop.Memory) = new ≡ after_memory old
+    × ((finds name found.Missing × (image_refused refusal ≡ Missing name))
+    ⊎ (finds name found.TooLong × (image_refused refusal ≡ TooLong name)))
+Fetches finds old new name (Err stop.Fault) = new ≡ after_fault as_before old
+Fetches finds old new name (Err stop.Memory) = new ≡ after_memory old

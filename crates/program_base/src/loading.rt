@@ -2,6 +2,7 @@ ghost use Rattle.std.specs.Prelude.{◌≡◌, Ok, IfOk, IfErr};
 ghost use Rattle.tx_types.specs.Config.{checked, shape_of};
 ghost use Rattle.mem_flash.specs.MemFlashState.{loaded};
 ghost use Rattle.durable_folder.specs.Histories.{Rests};
+ghost use Rattle.desk_io.specs.Disk.{FindsBoth};
 ghost use Rattle.program_base.specs.Loading.{Fetches, ImageStops, ReadsImage, RefusesImage};
 
 use crate::refusal::ImageRefusal;
@@ -14,7 +15,8 @@ use tx_types::Config;
 
 /// The bytes of a file.
 pub fn load_file<'a, D: Desk>(name: &'a str, desk: &mut D) -> Result<Vec<u8>, ImageStop<'a>>
-    ensures fetches { Fetches (D.state desk.old) (D.state desk.new) name.now result }
+    ensures fetches { Fetches (FindsBoth (D.state desk.old) (D.disk desk.old))
+        (D.state desk.old) (D.state desk.new) name.now result }
     ensures disk { Rests (D.disk desk.old) (D.disk desk.new) }
 {
     desk.load(name).map_err(|error| match error {

@@ -1,13 +1,15 @@
 -- What comes of the bytes of an image.
-use Rattle.std.proofs.Common.{◌≡◌, inl, inr, ℕ, Bool, List, Some, Result, Ok, Err, refl, sym, ap}
+use Rattle.std.proofs.Common.{◌≡◌, inl, inr, ℕ, Bool, List, Option, Some, Result, Ok, Err, refl, sym, ap}
 use Rattle.std.specs.Prelude.{IfOk, IfErr, Vec}
 use Rattle.std.specs.Global.{Global}
 use Rattle.std.specs.Result.{IsErrAnd}
 use Rattle.tx_types.specs.declared.config.Config.{Config}
 use Rattle.flash_model.specs.Flash.{Contents}
 use Rattle.version_index.specs.Notes.{notes_of}
+use Rattle.durable_folder.specs.Histories.{History}
 use Rattle.desk_io.specs.Desk as found
 use Rattle.desk_io.specs.Desk.{DeskState, Finds, after_answer, as_before}
+use Rattle.desk_io.specs.Disk.{FindsBoth}
 use Rattle.program_base.specs.Loading.{Fetches, ImageStops}
 use Rattle.program_base.specs.declared.stop.ImageStop.{ImageStop}
 use Rattle.program_base.specs.declared.stop.ImageStop.TheVariants as stop
@@ -29,18 +31,21 @@ opens_drawn form unsound its image opened text is drawn text_is =
 -- ---- the work of a call
 
 -- a load gives no bytes
-unfetched_by : (a : Request) (old new : DeskState) (e : ImageStop) → Fetches old new a.image (Err e) →
+unfetched_by : (a : Request) (old new : DeskState) (disk : Option History) (e : ImageStop) →
+    Fetches (FindsBoth old disk) old new a.image (Err e) →
     Works (Some a) old new (Err e)
-unfetched_by a old new (stop.Refused refusal) (after, inl (none, is)) = ((found.Missing, none, ap Refused is), after)
-unfetched_by a old new (stop.Refused refusal) (after, inr (much, is)) = ((found.TooLong, much, ap Refused is), after)
-unfetched_by a old new stop.Fault fault = fault
-unfetched_by a old new stop.Memory starved = inl starved
+unfetched_by a old new disk (stop.Refused refusal) (after, inl (none, is)) =
+    ((found.Missing, none.0, ap Refused is), after)
+unfetched_by a old new disk (stop.Refused refusal) (after, inr (much, is)) =
+    ((found.TooLong, much.0, ap Refused is), after)
+unfetched_by a old new disk stop.Fault fault = fault
+unfetched_by a old new disk stop.Memory starved = inl starved
 
-pub unfetched : (a : Request) (old new : DeskState) (e : ImageStop) (result : Result (Vec ℕ Global) ImageStop) →
-    IsErrAnd result (λ x. x ≡ e) →
-    Fetches old new a.image (Err e) → Works (Some a) old new result
-unfetched a old new e (Ok text) same fetches = absurd same
-unfetched a old new e (Err x) same fetches = rw same (unfetched_by a old new e fetches)
+pub unfetched : (a : Request) (old new : DeskState) (disk : Option History) (e : ImageStop)
+    (result : Result (Vec ℕ Global) ImageStop) →
+    IsErrAnd result (λ x. x ≡ e) → Fetches (FindsBoth old disk) old new a.image (Err e) → Works (Some a) old new result
+unfetched a old new disk e (Ok text) same fetches = absurd same
+unfetched a old new disk e (Err x) same fetches = rw same (unfetched_by a old new disk e fetches)
 
 -- it gives bytes, and the work comes to what they come to
 pub fetched : (a : Request) (old new : DeskState) (bytes : List ℕ) (result : Result (Vec ℕ Global) ImageStop) →

@@ -1,5 +1,6 @@
 use Rattle.std.proofs.Common.{inl, inr, sym}
-use Rattle.desk_tasks.specs.Stops.{output_of}
+use Rattle.desk_tasks.specs.Stops.{output_of, refused}
+use Rattle.desk_tasks.proofs.Weakening.{comes_seen}
 use Rattle.command_line.specs.Words.{request_by}
 use Rattle.command_line.proofs.DiskEndings.{ends_put, ends_rested, ends_unput}
 use Rattle.command_line.proofs.Endings.{ends_delivered, ends_stopped}
@@ -7,17 +8,25 @@ use Rattle.command_line.proofs.call.run.Goals as goal
 
 pub returns-in-Ok-clause-ends : goal.returns-in-Ok-clause-ends
 returns-in-Ok-clause-ends g c =
+    let task = request_by c.args.words.now in
+    let old = g.D.Desk.state c.args.desk.now in
+    let mid = g.D.Desk.state c.work.new.desk in
     let work = c.in-Ok.ensures.works in
-    ends_delivered (request_by c.args.words.now) (g.D.Desk.state c.args.desk.now) (g.D.Desk.state c.work.new.desk)
-    (g.D.Desk.state c.deliver.new.desk)
-    work.0 (output_of c.in-Ok.product) 0 c.deliver.result work.1 work.3 (sym work.2) c.deliver.ensures.delivers
+    ends_delivered task old mid (g.D.Desk.state c.deliver.new.desk) work.0 (output_of c.in-Ok.product) 0
+    c.deliver.result
+    (comes_seen task old mid (g.D.Desk.disk c.args.desk.now) work.0 work.1) work.3 (sym work.2)
+    c.deliver.ensures.delivers
 
 pub returns-in-Err-Refused-clause-ends : goal.returns-in-Err-Refused-clause-ends
 returns-in-Err-Refused-clause-ends g c =
-    ends_stopped (request_by c.args.words.now) (g.D.Desk.state c.args.desk.now) (g.D.Desk.state c.work.new.desk)
-    (g.D.Desk.state c.refuse.new.desk)
-    c.in-Err-Refused.refusal c.line.result c.status.result c.refuse.result
-    (rw c.in-Err-Refused.field-0-is at c.in-Err-Refused.ensures.works) c.line.ensures c.status.ensures
+    let task = request_by c.args.words.now in
+    let old = g.D.Desk.state c.args.desk.now in
+    let mid = g.D.Desk.state c.work.new.desk in
+    ends_stopped task old mid (g.D.Desk.state c.refuse.new.desk) c.in-Err-Refused.refusal c.line.result c.status.result
+    c.refuse.result
+    (comes_seen task old mid (g.D.Desk.disk c.args.desk.now) (refused c.in-Err-Refused.refusal)
+    (rw c.in-Err-Refused.field-0-is at c.in-Err-Refused.ensures.works))
+    c.line.ensures c.status.ensures
     c.refuse.ensures.refuses
 
 pub returns-in-Ok-clause-disk : goal.returns-in-Ok-clause-disk

@@ -1,5 +1,6 @@
 use Rattle.std.proofs.Common.{◌≡◌, refl, arith, Some}
 use Rattle.tx_types.specs.Config.{checked}
+use Rattle.desk_io.specs.Disk.{FindsBoth}
 use Rattle.desk_tasks.specs.Ending.{Ending, Driven}
 use Rattle.desk_tasks.specs.Steps.{formatting}
 use Rattle.desk_tasks.specs.Request.{Drive, Format}
@@ -13,7 +14,8 @@ returns-in-Some-Format-clause-works g c =
     let its = c.in-Some-Format.config in
     let allowance = c.in-Some-Format.allowance in
     let desk = g.D.Desk.state c.args.desk.now in
-    let done = works (Some (Format image its allowance)) desk desk 0 (λ (fate : Ending). fate
+    let done = works (Some (Format image its allowance)) (FindsBoth desk (g.D.Desk.disk c.args.desk.now)) desk desk 0
+    (λ (fate : Ending). fate
     ≡ formatting image its allowance (checked its))
     c.do_format.result refl (omega arith) (found_none desk) (λ fate h. (h, refl)) c.do_format.ensures in
     rw (← asks) done
@@ -25,7 +27,8 @@ returns-in-Some-Drive-clause-works g c =
     let count = c.in-Some-Drive.count in
     let protocol = c.in-Some-Drive.protocol in
     let desk = g.D.Desk.state c.args.desk.now in
-    let done = works (Some (Drive start count protocol)) desk desk 0 (λ (fate : Ending). fate
+    let done = works (Some (Drive start count protocol)) (FindsBoth desk (g.D.Desk.disk c.args.desk.now)) desk desk 0
+    (λ (fate : Ending). fate
     ≡ Driven start count protocol) c.do_drive.result
     refl (omega arith) (found_none desk) (λ fate h. (h, refl)) c.do_drive.ensures in
     rw (← asks) done

@@ -1,4 +1,5 @@
 use Rattle.desk_tasks.proofs.Common.{[], ◌∷◌, refl, ap, arith, Some, ◌∙◌, rests_then, Bytes, Missing, TooLong, after_answer, as_before, Keying}
+use Rattle.desk_io.specs.Disk.{FindsBoth}
 use Rattle.desk_tasks.specs.Request.{Keys}
 use Rattle.desk_tasks.proofs.Works.{finds_before, found_more, found_none, unfetched, works}
 use Rattle.desk_tasks.proofs.keying.do_keys.Goals as goal
@@ -6,8 +7,10 @@ use Rattle.desk_tasks.proofs.keying.do_keys.Goals as goal
 pub returns-in_err-bytes-clause-works : goal.returns-in_err-bytes-clause-works
 returns-in_err-bytes-clause-works g c =
     let old = g.D.Desk.state c.args.desk.now in
+    let finds = FindsBoth old (g.D.Desk.disk c.args.desk.now) in
     let new = g.D.Desk.state c.load_file.new.desk in
-    unfetched (Some (Keys c.args.image.now c.args.script.now)) old old new 0 c.args.image.now c.in_err-bytes.field-0.0
+    unfetched (Some (Keys c.args.image.now c.args.script.now)) finds finds old old new 0 c.args.image.now
+    c.in_err-bytes.field-0.0
     c.from_residual.result
     c.from_residual.ensures.1 refl (omega arith) (found_none old)
     (λ found. (Missing, found, (refl, refl))) (λ found. (TooLong, found, (refl, refl))) c.in_err-bytes.ensures.fetches
@@ -15,41 +18,58 @@ returns-in_err-bytes-clause-works g c =
 pub returns-in_err-lines-clause-works : goal.returns-in_err-lines-clause-works
 returns-in_err-lines-clause-works g c =
     let old = g.D.Desk.state c.args.desk.now in
+    let before = g.D.Desk.disk c.args.desk.now in
+    let finds = FindsBoth old before in
     let mid = g.D.Desk.state c.load_file.new.desk in
+    let between = g.D.Desk.disk c.load_file.new.desk in
+    let rested = c.in_ok-bytes.ensures.disk in
     let new = g.D.Desk.state c.load_file-2.new.desk in
     let image = c.in_ok-bytes.ensures.fetches in
-    unfetched (Some (Keys c.args.image.now c.args.script.now)) old mid new 1 c.args.script.now c.in_err-lines.field-0.0
+    unfetched (Some (Keys c.args.image.now c.args.script.now)) finds (FindsBoth mid between) old mid new 1
+    c.args.script.now c.in_err-lines.field-0.0
     c.from_residual-in_err-lines.result
     c.from_residual-in_err-lines.ensures.1 image.1 (omega arith)
-    (found_more old c.args.image.now c.in_ok-bytes.bytes.items [] image.0 (found_none old))
+    (found_more old c.args.image.now c.in_ok-bytes.bytes.items [] image.0.0 (found_none old))
     (λ found. (
       Bytes c.in_ok-bytes.bytes.items,
       image.0,
-      (1, (Missing, finds_before old mid c.args.script.now Missing image.1 found, (refl, refl)), refl),
+      (
+        1,
+        (Missing, finds_before old mid before between c.args.script.now Missing image.1 rested found, (refl, refl)),
+        refl,
+      ),
     ))
     (λ found. (
       Bytes c.in_ok-bytes.bytes.items,
       image.0,
-      (1, (TooLong, finds_before old mid c.args.script.now TooLong image.1 found, (refl, refl)), refl),
+      (
+        1,
+        (TooLong, finds_before old mid before between c.args.script.now TooLong image.1 rested found, (refl, refl)),
+        refl,
+      ),
     ))
     c.in_err-lines.ensures.fetches
 
 pub returns-clause-works : goal.returns-clause-works
 returns-clause-works g c =
     let old = g.D.Desk.state c.args.desk.now in
+    let before = g.D.Desk.disk c.args.desk.now in
+    let finds = FindsBoth old before in
     let mid = g.D.Desk.state c.load_file.new.desk in
+    let between = g.D.Desk.disk c.load_file.new.desk in
+    let rested = c.in_ok-bytes.ensures.disk in
     let new = g.D.Desk.state c.load_file-2.new.desk in
     let image = c.in_ok-bytes.ensures.fetches in
     let commands = c.in_ok-lines.ensures.fetches in
     let bytes = c.in_ok-bytes.bytes.items in
     let lines = c.in_ok-lines.lines.items in
     let done = rw c.deref.ensures.value at c.keys_from_bytes.ensures in
-    let script = finds_before old mid c.args.script.now (Bytes lines) image.1 commands.0 in
-    works (Some (Keys c.args.image.now c.args.script.now)) old new 2
+    let script = finds_before old mid before between c.args.script.now (Bytes lines) image.1 rested commands.0 in
+    works (Some (Keys c.args.image.now c.args.script.now)) finds old new 2
     (Keying c.args.image.now bytes lines) c.keys_from_bytes.result (commands.1
     ∙ ap (after_answer as_before) image.1) (omega arith)
-    (found_more old c.args.image.now bytes (c.args.script.now ∷ []) image.0
-    (found_more old c.args.script.now lines [] script (found_none old)))
+    (found_more old c.args.image.now bytes (c.args.script.now ∷ []) image.0.0
+    (found_more old c.args.script.now lines [] script.0 (found_none old)))
     (λ fate h. (Bytes bytes, image.0, (1, (Bytes lines, script, (0, (h, refl), refl)), refl))) done
 
 pub returns-in_err-lines-clause-disk : goal.returns-in_err-lines-clause-disk

@@ -1,4 +1,5 @@
 use Rattle.desk_tasks.proofs.Common.{[], refl, arith, Some, Bytes, Missing, TooLong, Retiring}
+use Rattle.desk_io.specs.Disk.{FindsBoth}
 use Rattle.desk_tasks.specs.Request.{Retire}
 use Rattle.desk_tasks.proofs.Works.{found_more, found_none, unfetched, works}
 use Rattle.desk_tasks.proofs.retiring.do_retire.Goals as goal
@@ -6,8 +7,10 @@ use Rattle.desk_tasks.proofs.retiring.do_retire.Goals as goal
 pub returns-in_err-bytes-clause-works : goal.returns-in_err-bytes-clause-works
 returns-in_err-bytes-clause-works g c =
     let old = g.D.Desk.state c.args.desk.now in
+    let finds = FindsBoth old (g.D.Desk.disk c.args.desk.now) in
     let new = g.D.Desk.state c.load_file.new.desk in
-    unfetched (Some (Retire c.args.image.now c.args.block.0)) old old new 0 c.args.image.now c.in_err-bytes.field-0.0
+    unfetched (Some (Retire c.args.image.now c.args.block.0)) finds finds old old new 0 c.args.image.now
+    c.in_err-bytes.field-0.0
     c.from_residual.result
     c.from_residual.ensures.1 refl (omega arith) (found_none old)
     (λ found. (Missing, found, (refl, refl))) (λ found. (TooLong, found, (refl, refl))) c.in_err-bytes.ensures.fetches
@@ -16,8 +19,9 @@ pub returns-clause-works : goal.returns-clause-works
 returns-clause-works g c =
     let fetched = c.in_ok-bytes.ensures.fetches in
     let old = g.D.Desk.state c.args.desk.now in
-    works (Some (Retire c.args.image.now c.args.block.0)) old (g.D.Desk.state c.load_file.new.desk) 1
+    let finds = FindsBoth old (g.D.Desk.disk c.args.desk.now) in
+    works (Some (Retire c.args.image.now c.args.block.0)) finds old (g.D.Desk.state c.load_file.new.desk) 1
     (Retiring c.args.image.now c.in_ok-bytes.bytes.items c.args.block.0) c.retire_from_bytes.result
     fetched.1 (omega arith)
-    (found_more old c.args.image.now c.in_ok-bytes.bytes.items [] fetched.0 (found_none old))
+    (found_more old c.args.image.now c.in_ok-bytes.bytes.items [] fetched.0.0 (found_none old))
     (λ fate h. (Bytes c.in_ok-bytes.bytes.items, fetched.0, (0, (h, refl), refl))) c.retire_from_bytes.ensures
