@@ -1,20 +1,22 @@
 //! The program on real files, in a folder of the test's own. What it says is written to a file there.
-use crate::calls::{behind_lines, status_of};
+use crate::calls::{lines_of, status_of};
 use desk_io::{RealDesk, RealFolder};
-use std::alloc::Global;
+use std::alloc::{AllocError, Allocator, Global};
 use std::fmt::Display;
-use std::fs::OpenOptions;
-use std::io::{Error, ErrorKind, Write};
+use std::fs::{Metadata, OpenOptions};
+use std::io::Write;
+use std::path::PathBuf;
+use std::rt::Files;
 use std::{fs, io};
 
-/// A runtime whose standard output is a file, and which prints bytes alone.
+/// A runtime whose standard output is a file.
 #[derive(Drop)]
-struct Printing<'a> {
-    rt: &'a HostRuntime,
+struct Printing<'a, R> {
+    rt: &'a R,
     output: &'a str,
 }
 
-impl Alloc for Printing<'_> {
+impl<R: AllocGlobal> Alloc for Printing<'_, R> {
     type A = Global;
 
     fn alloc(&self) -> Global {
@@ -22,13 +24,15 @@ impl Alloc for Printing<'_> {
     }
 }
 
-impl Print for Printing<'_> {
-    fn print<D: Display + Drop>(&self, _value: D) -> io::Result<()> {
-        Err(Error::from(ErrorKind::Unsupported))
+impl<R: Files + AllocGlobal> Print for Printing<'_, R> {
+    fn print<D: Display + Drop>(&self, value: D) -> io::Result<()> {
+        let text = format!(in self.rt.alloc(); "{value}")?;
+        self.write_all(text.as_bytes())
     }
 
-    fn println<D: Display + Drop>(&self, _value: D) -> io::Result<()> {
-        Err(Error::from(ErrorKind::Unsupported))
+    fn println<D: Display + Drop>(&self, value: D) -> io::Result<()> {
+        let text = format!(in self.rt.alloc(); "{value}\n")?;
+        self.write_all(text.as_bytes())
     }
 
     fn write_all(&self, bytes: &[u8]) -> io::Result<()> {
@@ -38,16 +42,68 @@ impl Print for Printing<'_> {
     }
 }
 
+impl<R: Files> Files for Printing<'_, R> {
+    type File = R::File;
+
+    type Dir = R::Dir;
+
+    fn open_file(&self, how: &OpenOptions, path: &str) -> io::Result<R::File> {
+        self.rt.open_file(how, path)
+    }
+
+    fn open_dir(&self, path: &str) -> io::Result<R::Dir> {
+        self.rt.open_dir(path)
+    }
+
+    fn metadata(&self, path: &str) -> io::Result<Metadata> {
+        self.rt.metadata(path)
+    }
+
+    fn symlink_metadata(&self, path: &str) -> io::Result<Metadata> {
+        self.rt.symlink_metadata(path)
+    }
+
+    fn copy(&self, from: &str, to: &str) -> io::Result<u64> {
+        self.rt.copy(from, to)
+    }
+
+    fn rename(&self, from: &str, to: &str) -> io::Result<()> {
+        self.rt.rename(from, to)
+    }
+
+    fn remove_file(&self, path: &str) -> io::Result<()> {
+        self.rt.remove_file(path)
+    }
+
+    fn create_dir(&self, path: &str) -> io::Result<()> {
+        self.rt.create_dir(path)
+    }
+
+    fn remove_dir(&self, path: &str) -> io::Result<()> {
+        self.rt.remove_dir(path)
+    }
+
+    fn remove_dir_all<B: Allocator>(&self, alloc: B, path: &str) -> io::Result<()> {
+        self.rt.remove_dir_all(alloc, path)
+    }
+
+    fn canonicalize<B: Allocator>(&self, alloc: B, path: &str) -> io::Result<PathBuf<B>> {
+        self.rt.canonicalize(alloc, path)
+    }
+
+    fn lchown(&self, path: &str, uid: Option<u32>, gid: Option<u32>) -> io::Result<()> {
+        self.rt.lchown(path, uid, gid)
+    }
+}
+
 /// The file of what is said.
 const SAID: &str = "test_files/said.txt";
 
 /// The status of a call of txflash on the files of the system, with what it says at the end of a file.
-fn ended(rt: &HostRuntime, output: &str, text: &str) -> u8 {
+fn ended(rt: &HostRuntime, output: &str, text: &str) -> Result<u8, AllocError> {
     let printing = Printing { rt, output };
-    let mut desk = RealDesk::new(&printing, RealFolder { rt });
-    let status = status_of(rt.alloc(), text, &mut desk);
-    drop(desk);
-    status
+    let mut desk = RealDesk::new(&printing, RealFolder { rt: &printing });
+    status_of(rt.alloc(), text, &mut desk)
 }
 
 /// A line for each call, one after the other: the status, what is said, and the words. First a
@@ -79,25 +135,19 @@ fn said(rt: &HostRuntime) -> Vec<u8> {
 
 /// Whether these lines and no more were said behind this many bytes.
 fn is_said(rt: &HostRuntime, before: usize, text: &str) -> bool {
-    match behind_lines(said(rt).get(before..).unwrap_or(b""), text) {
-        Some(rest) => rest.is_empty(),
-        None => false,
+    match lines_of(rt.alloc(), text) {
+        Ok(lines) => said(rt).get(before..) == Some(lines.as_slice()),
+        Err(_) => false,
     }
 }
 
 /// Whether a call is answered as its line says.
 fn is_answered(rt: &HostRuntime, line: &str) -> bool {
     let mut parts = line.split('|');
-    let status = parts.next().unwrap_or("").parse::<u8>().unwrap_or(254);
+    let status = parts.next().unwrap_or("").parse::<u8>().unwrap_or(255);
     let text = parts.next().unwrap_or("");
     let before = said(rt).len();
-    ended(rt, SAID, parts.next().unwrap_or("")) == status && is_said(rt, before, text)
-}
-
-/// Whether a run fails whose replies cannot be said, after the image was saved.
-fn is_saved_unsaid(rt: &HostRuntime) -> bool {
-    ended(rt, "/dev/full", "run test_files/d.img test_files/other.txt") == 5
-        && is_answered(rt, "0|page 0 42..|run test_files/d.img test_files/read.txt")
+    ended(rt, SAID, parts.next().unwrap_or("")) == Ok(status) && is_said(rt, before, text)
 }
 
 /// Whether the folder of the test could be made, with files of commands.
@@ -109,25 +159,25 @@ fn is_folder_made(rt: &HostRuntime) -> bool {
         && fs::write(rt, "test_files/other.txt", "write 1 0=42\nfinish 1\n").is_ok()
 }
 
-/// The first call that is not answered as it is to be, or nothing.
-fn wrong_call(rt: &HostRuntime) -> &'static str {
-    if !is_folder_made(rt) {
-        return "no folder";
-    }
-    for line in CALLS.split('\n') {
-        if !is_answered(rt, line) {
-            return line;
-        }
-    }
-    if is_saved_unsaid(rt) && fs::remove_dir_all(rt, "test_files").is_ok() {
-        ""
-    } else {
-        "/dev/full"
-    }
-}
-
 #[test]
 fn files_of_the_system_are_served(rt: HostRuntime) {
-    let wrong = wrong_call(&rt);
-    assert!(rt; wrong.is_empty(), "{wrong}");
+    assert!(rt; is_folder_made(&rt));
+    for line in CALLS.split('\n') {
+        assert!(rt; is_answered(&rt, line), "{line}");
+    }
+    // The replies cannot be said, after the image was saved.
+    assert!(rt;
+        ended(
+            &rt,
+            "/dev/full",
+            "run test_files/d.img test_files/other.txt"
+        ) == Ok(5)
+    );
+    assert!(rt;
+        is_answered(
+            &rt,
+            "0|page 0 42..|run test_files/d.img test_files/read.txt"
+        )
+    );
+    assert!(rt; fs::remove_dir_all(&rt, "test_files").is_ok());
 }

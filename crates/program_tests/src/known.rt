@@ -1,251 +1,228 @@
 //! Which devices are possible after the replies to some commands.
 use crate::moves::{Arm, Kind, Move, move_of};
-use crate::worlds::{Mark, Open, World, entry_count};
+use crate::worlds::{Mark, Open, World, page_of};
 use std::alloc::{AllocError, Global};
-
-/// The numbers that a reply may have.
-const NUMBERS: &str = "0 1 2 3 4 5 6 7 8 9";
-
-/// The word of a number.
-fn number_word(number: usize) -> &'static str {
-    NUMBERS.split(' ').nth(number).unwrap_or("many")
-}
-
-/// Whether a text has these words and no others.
-fn are_words(text: &str, words: &[&str]) -> bool {
-    let mut at: usize = 0;
-    for word in text.split(' ') {
-        if at >= words.len() || words[at] != word {
-            return false;
-        }
-        at = at.saturating_add(1);
-    }
-    at == words.len()
-}
-
-/// Whether a text begins with these words, and has others behind them.
-fn begins_with(text: &str, words: &[&str]) -> bool {
-    let mut at: usize = 0;
-    for word in text.split(' ') {
-        if at >= words.len() {
-            return true;
-        }
-        if words[at] != word {
-            return false;
-        }
-        at = at.saturating_add(1);
-    }
-    false
-}
-
-/// The bytes of a page behind its first.
-const ZEROS: &str = "000000000000000000000000000000";
 
 /// The devices that a reply leaves possible, and what it was given under.
 #[derive(Drop)]
 struct Fitting<'a, 'r> {
+    alloc: Global,
     reply: &'r str,
     arm: Option<Arm>,
     worlds: Vec<World<'a>>,
-    /// Whether there was memory for all of them.
-    is_whole: bool,
 }
 
 impl<'a, 'r> Fitting<'a, 'r> {
-    /// Takes a device in.
-    fn push(&mut self, world: &World<'a>) {
-        if self.worlds.push(*world).is_err() {
-            self.is_whole = false;
+    /// Takes a device in where the reply is this one.
+    fn offer(&mut self, reply: &str, world: World<'a>) -> Result<(), AllocError> {
+        if self.reply == reply {
+            self.worlds.push(world)?;
         }
+        Ok(())
     }
 
-    /// Takes a device in where the reply has these words.
-    fn offer(&mut self, words: &[&str], world: &World<'a>) {
-        if are_words(self.reply, words) {
-            self.push(world);
-        }
+    /// Takes a device in where the reply is this one, which was made if there was memory for it.
+    fn offer_made(
+        &mut self,
+        reply: Result<String, AllocError>,
+        world: World<'a>,
+    ) -> Result<(), AllocError> {
+        let reply = reply?;
+        self.offer(reply.as_str(), world)
     }
 
-    /// Takes the device of a command in that the arm came due in, which left this one.
-    fn break_in(&mut self, world: &World<'a>) {
+    /// Takes a device in where the reply is a word and a tag.
+    fn offer_of(&mut self, word: &str, tag: &str, world: World<'a>) -> Result<(), AllocError> {
+        self.offer_made(format!(in self.alloc; "{word} {tag}"), world)
+    }
+
+    /// Takes the devices of a command in that the arm came due in, which left one of these.
+    fn break_in(&mut self, left: &[World<'a>]) -> Result<(), AllocError> {
         match self.arm {
-            Some(arm) => self.broken(arm.kind, world),
-            None => {}
+            Some(arm) => {
+                for world in left {
+                    self.broken(arm.kind, *world)?;
+                }
+                Ok(())
+            }
+            None => Ok(()),
         }
     }
 
-    /// The same of an arm of a kind.
-    fn broken(&mut self, kind: Kind, world: &World<'a>) {
-        match kind {
-            Kind::Cut => self.offer(&["cut"], &world.reopened()),
-            Kind::Fault | Kind::BadRead => self.offer(&["fault"], world),
+    /// Takes in one of the devices of a command in which the arm came due.
+    fn broken(&mut self, kind: Kind, world: World<'a>) -> Result<(), AllocError> {
+        if kind == Kind::Cut {
+            self.offer("cut", world.reopened())
+        } else {
+            self.offer("fault", world)
         }
     }
 
     /// Takes in what a command may leave of a device.
-    fn answer(&mut self, command: Move<'a>, world: &World<'a>) {
+    fn answer(&mut self, command: Move<'a>, world: World<'a>) -> Result<(), AllocError> {
         match command {
             Move::Write(tag, pages) => self.write(tag, pages, world),
-            Move::Step(tag) => self.go_on(tag, false, world),
-            Move::Finish(tag) => self.go_on(tag, true, world),
-            Move::Abort(tag) => self.abort(tag, world),
+            Move::Step(tag) | Move::Finish(tag) | Move::Abort(tag) => {
+                match world.settled().find(tag) {
+                    Some(open) => self.go_on(command, open, world.settled()),
+                    None => self.offer_of("unknown", tag, world),
+                }
+            }
             Move::Read(page) => self.read(page, world),
-            Move::Collect => self.collect(&world.settled()),
+            Move::Collect => self.collect(world.settled()),
             Move::Stats => self.count(world),
-            Move::Arm(_) => self.offer(&["armed"], world),
+            Move::Arm(_) => self.offer("armed", world),
         }
     }
 
-    /// The same of a collection.
-    fn collect(&mut self, world: &World<'a>) {
-        self.offer(&["collected"], world);
-        self.offer(&["nothing"], world);
-        self.break_in(world);
+    /// Takes in what a collection leaves of a device.
+    fn collect(&mut self, world: World<'a>) -> Result<(), AllocError> {
+        self.offer("collected", world)?;
+        self.offer("nothing", world)?;
+        self.break_in(&[world])
     }
 
-    /// The same of the numbers of a device, of which the first three are known.
-    fn count(&mut self, world: &World<'a>) {
-        let front = [
-            "stats",
-            "written",
-            number_word(world.written()),
-            "open",
-            number_word(world.tags()),
-            "pending",
-            number_word(world.pending()),
-        ];
-        if begins_with(self.reply, &front) {
-            self.push(world);
+    /// Takes a device in where the reply is its numbers, of which the first three are known.
+    fn count(&mut self, world: World<'a>) -> Result<(), AllocError> {
+        let written = world
+            .array
+            .iter()
+            .filter(|digits| !digits.is_empty())
+            .count();
+        let (tags, pages) = world.pending();
+        let front = format!(in self.alloc; "stats written {written} open {tags} pending {pages} ");
+        self.offer_front(front, world)
+    }
+
+    /// Takes a device in where the reply begins so, if there is memory for that.
+    fn offer_front(
+        &mut self,
+        front: Result<String, AllocError>,
+        world: World<'a>,
+    ) -> Result<(), AllocError> {
+        let front = front?;
+        if self.reply.starts_with(front.as_str()) {
+            self.worlds.push(world)?;
         }
+        Ok(())
     }
 
-    /// The same of a read.
-    fn read(&mut self, page: &str, world: &World<'a>) {
+    /// Takes a device in where the reply is that of a read of a page.
+    fn read(&mut self, page: &str, world: World<'a>) -> Result<(), AllocError> {
         let digits = world.digits(page);
         if digits.is_empty() {
-            self.offer(&["blank", page], world);
-        } else {
-            self.offer_page(page, digits, world);
+            return self.offer_of("blank", page, world);
         }
-    }
-
-    /// The same of a read of a page that was written.
-    fn offer_page(&mut self, page: &str, digits: &str, world: &World<'a>) {
-        let front = self.reply.strip_suffix(ZEROS).unwrap_or("");
-        if are_words(front, &["page", page, digits]) {
-            self.push(world);
-        }
+        let reply = format!(in self.alloc; "page {page} {digits}000000000000000000000000000000");
+        self.offer_made(reply, world)?;
         if self.is_read_bad() {
-            self.break_in(world);
+            self.break_in(&[world])
+        } else {
+            Ok(())
         }
     }
 
-    /// The same of a write.
-    fn write(&mut self, tag: &'a str, pages: &'a str, world: &World<'a>) {
+    /// Takes in what a write may leave of a device.
+    fn write(&mut self, tag: &'a str, pages: &'a str, world: World<'a>) -> Result<(), AllocError> {
         if world.find(tag).is_some() {
-            self.offer(&["refused", "tag", tag], world);
-        } else {
-            match world.overlap(pages) {
-                Some((page, owner)) => self.offer(&["refused", "overlap", page, owner], world),
-                None => self.open(tag, pages, world),
+            return self.offer_of("refused tag", tag, world);
+        }
+        for entry in pages.split(' ') {
+            let (page, _) = page_of(entry);
+            if let Some(owner) = world.owner(page) {
+                let reply = format!(in self.alloc; "refused overlap {page} {}", owner.tag);
+                return self.offer_made(reply, world);
             }
         }
+        self.open(tag, pages, world)
     }
 
-    /// The same of a write of pages that no other transaction has.
-    fn open(&mut self, tag: &'a str, pages: &'a str, world: &World<'a>) {
-        let count = entry_count(pages);
-        let free = 3usize.saturating_sub(world.pending());
+    /// Takes in what a write of pages that no other transaction has may leave of a device.
+    fn open(&mut self, tag: &'a str, pages: &'a str, world: World<'a>) -> Result<(), AllocError> {
+        let count = pages.split(' ').count();
+        let free = 3usize.saturating_sub(world.pending().1);
         if count > free {
-            self.offer(&["refused", "full", number_word(free)], world);
-        } else {
-            let open = Open {
-                tag,
-                pages,
-                written: 0,
-                mark: Mark::Plain,
-            };
-            self.offer(&["open", tag, number_word(count)], &world.opened(open));
+            return self.offer_made(format!(in self.alloc; "refused full {free}"), world);
         }
+        let open = Open {
+            tag,
+            pages,
+            written: 0,
+            mark: Mark::Plain,
+        };
+        let reply = format!(in self.alloc; "open {tag} {count}");
+        self.offer_made(reply, world.opened(open))
     }
 
-    /// The same of an abort of a transaction.
-    fn abort(&mut self, tag: &str, world: &World<'a>) {
-        let settled = world.settled();
-        match settled.find(tag) {
-            Some(open) => {
-                let word = if open.is_whole() { "late" } else { "aborted" };
-                self.offer(&[word, tag], &settled.changed(tag, None));
+    /// Takes in what a step, a finish or an abort of an open transaction may leave of a device.
+    fn go_on(
+        &mut self,
+        command: Move<'a>,
+        open: Open<'a>,
+        world: World<'a>,
+    ) -> Result<(), AllocError> {
+        let gone = world.changed(open.tag, None);
+        match command {
+            Move::Abort(tag) if open.mark == Mark::Whole => self.offer_of("late", tag, gone),
+            Move::Abort(tag) => self.offer_of("aborted", tag, gone),
+            _ => {
+                self.write_on(command, open, world, gone)?;
+                self.break_off(matches!(command, Move::Finish(_)), open, world)
             }
-            None => self.offer(&["unknown", tag], world),
         }
     }
 
-    /// The same of a step of a transaction, or of a finish, which goes the whole way.
-    fn go_on(&mut self, tag: &str, whole_way: bool, world: &World<'a>) {
-        let settled = world.settled();
-        match settled.find(tag) {
-            Some(open) => {
-                self.write_on(open, whole_way, &settled);
-                self.break_off(open, whole_way, &settled);
-            }
-            None => self.offer(&["unknown", tag], world),
-        }
-    }
-
-    /// The same of a step or a finish that nothing breaks.
-    fn write_on(&mut self, open: Open<'a>, whole_way: bool, world: &World<'a>) {
+    /// Takes in what a step or a finish that nothing breaks leaves of a device.
+    fn write_on(
+        &mut self,
+        command: Move<'a>,
+        open: Open<'a>,
+        world: World<'a>,
+        gone: World<'a>,
+    ) -> Result<(), AllocError> {
         let tag = open.tag;
-        let gone = world.changed(tag, None);
+        let count = open.len();
         let written = open.written.saturating_add(1);
-        if open.is_whole() {
-            self.offer(&["done", tag], &gone);
-        } else if open.is_plain() && written < open.len() && !whole_way {
-            let next = world.changed(tag, Some(open.with(written, Mark::Plain)));
-            let words = ["wrote", tag, number_word(written), number_word(open.len())];
-            self.offer(&words, &next);
-        } else {
-            self.offer(&["done", tag], &gone.put(open.pages));
+        if open.mark == Mark::Whole {
+            return self.offer_of("done", tag, gone);
         }
+        if open.mark == Mark::Plain && written < count && matches!(command, Move::Step(_)) {
+            let next = world.changed(tag, Some(open.with(written, Mark::Plain)));
+            let reply = format!(in self.alloc; "wrote {tag} {written} {count}");
+            return self.offer_made(reply, next);
+        }
+        self.offer_of("done", tag, gone.put(open.pages))
     }
 
-    /// The same of a step that breaks, or a finish, where one of its operations does.
-    fn break_off(&mut self, open: Open<'a>, whole_way: bool, world: &World<'a>) {
-        if !open.is_plain() {
-            return;
-        }
+    /// Takes in what a step that breaks may leave of a device, or a finish, which goes the whole way, where one of its
+    /// operations breaks. The last page may be there only where that operation was done all the same.
+    fn break_off(
+        &mut self,
+        whole_way: bool,
+        open: Open<'a>,
+        world: World<'a>,
+    ) -> Result<(), AllocError> {
         for written in open.written..open.len() {
-            if whole_way || written == open.written {
-                self.break_at(open, written, world);
+            if open.mark == Mark::Plain && (whole_way || written == open.written) {
+                let left = open.with(written, Mark::Plain);
+                self.break_in(&[world.changed(open.tag, Some(left))])?;
+                if written.saturating_add(1) == open.len() && self.is_done() {
+                    let left = open.with(written, Mark::Unseen);
+                    self.break_in(&[world.changed(open.tag, Some(left))])?;
+                }
             }
         }
-    }
-
-    /// The same where so many pages were written. The last page may be there only where the operation that breaks was
-    /// done all the same.
-    fn break_at(&mut self, open: Open<'a>, written: usize, world: &World<'a>) {
-        let left = open.with(written, Mark::Plain);
-        self.break_in(&world.changed(open.tag, Some(left)));
-        if written.saturating_add(1) == open.len() && self.is_done() {
-            let left = open.with(written, Mark::Unseen);
-            self.break_in(&world.changed(open.tag, Some(left)));
-        }
+        Ok(())
     }
 
     /// Whether the arm is that of a read.
     fn is_read_bad(&self) -> bool {
-        match self.arm {
-            Some(arm) => matches!(arm.kind, Kind::BadRead),
-            None => false,
-        }
+        self.arm.is_some_and(|arm| arm.kind == Kind::BadRead)
     }
 
     /// Whether an operation in which the arm comes due is done all the same.
     fn is_done(&self) -> bool {
-        match self.arm {
-            Some(arm) => arm.is_done,
-            None => false,
-        }
+        self.arm.is_some_and(|arm| arm.is_done)
     }
 }
 
@@ -276,30 +253,39 @@ impl<'a> Known<'a> {
         }
     }
 
-    /// Takes the line of a command and its reply in. Answers whether the reply is possible.
-    pub fn take(&mut self, line: &'a str, reply: &str) -> bool {
+    /// Takes the line of a command and its reply in. Returns whether the reply is possible.
+    pub fn take(&mut self, line: &'a str, reply: &str) -> Result<bool, AllocError> {
         match move_of(line) {
             Some(command) => self.take_move(command, reply),
-            None => false,
+            None => Ok(false),
         }
     }
 
-    /// The same of a command.
-    fn take_move(&mut self, command: Move<'a>, reply: &str) -> bool {
+    /// Takes a command and its reply in. Returns whether the reply is possible.
+    fn take_move(&mut self, command: Move<'a>, reply: &str) -> Result<bool, AllocError> {
         if let Move::Arm(arm) = command {
             self.arm = Some(arm);
         }
         let mut fitting = Fitting {
+            alloc: self.alloc,
             reply,
             arm: self.arm,
             worlds: Vec::new(self.alloc),
-            is_whole: true,
         };
-        for world in &self.worlds {
-            fitting.answer(command, world);
-        }
-        let is_whole = fitting.is_whole;
+        answer_all(command, &self.worlds, &mut fitting)?;
         self.worlds = fitting.worlds;
-        is_whole && !self.worlds.is_empty()
+        Ok(!self.worlds.is_empty())
     }
+}
+
+/// Takes in what a command may leave of each of these devices.
+fn answer_all<'a>(
+    command: Move<'a>,
+    worlds: &[World<'a>],
+    fitting: &mut Fitting<'a, '_>,
+) -> Result<(), AllocError> {
+    for world in worlds {
+        fitting.answer(command, *world)?;
+    }
+    Ok(())
 }

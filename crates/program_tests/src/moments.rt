@@ -69,8 +69,7 @@ fn is_served(alloc: Global, kept: &mut Kept) -> bool {
     let Ok(flash) = blank_flash(alloc, config) else {
         return false;
     };
-    let (flash, done) = serve::<MemFlash, Scc, Kept>(alloc, flash, config, &list, kept);
-    drop(flash);
+    let (_, done) = serve::<MemFlash, Scc, Kept>(alloc, flash, config, &list, kept);
     done.is_ok()
 }
 
@@ -89,9 +88,7 @@ fn are_right(alloc: Global, kept: &Kept) -> bool {
 /// Whether commands are served, and the flash is at each reply what it is to be.
 fn is_kept(alloc: Global) -> bool {
     let mut kept = Kept::new(alloc);
-    let is_kept = is_served(alloc, &mut kept) && are_right(alloc, &kept);
-    drop(kept);
-    is_kept
+    is_served(alloc, &mut kept) && are_right(alloc, &kept)
 }
 
 /// The slots of the flash are as each reply says when it is given. So this refuses the wrong body

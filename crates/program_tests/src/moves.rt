@@ -1,7 +1,7 @@
 //! The commands of a history, as the model of a device reads them.
 
 /// What is armed.
-#[derive(Clone, Copy)]
+#[derive(Clone, Copy, PartialEq)]
 pub enum Kind {
     Cut,
     Fault,

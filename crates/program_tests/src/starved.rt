@@ -99,19 +99,17 @@ fn unsound_image(alloc: Global, desk: &MemDesk) -> Result<Vec<u8>, AllocError> {
 }
 
 /// The status of a call of a program with the words of a text.
-fn ended(alloc: Global, program: &str, text: &str, desk: &mut StarvedDesk) -> u8 {
+fn ended(
+    alloc: Global,
+    program: &str,
+    text: &str,
+    desk: &mut StarvedDesk,
+) -> Result<u8, AllocError> {
     if program == "txflash" {
         status_of(alloc, text, desk)
     } else {
-        view_status_of(alloc, text, desk)
-    }
-}
-
-/// The same of flash_view.
-fn view_status_of(alloc: Global, text: &str, desk: &mut StarvedDesk) -> u8 {
-    match words_of(alloc, text) {
-        Ok(words) => view_command_line::top(alloc, &words, desk),
-        Err(_) => 255,
+        let words = words_of(alloc, text)?;
+        Ok(view_command_line::top(alloc, &words, desk))
     }
 }
 
@@ -122,9 +120,7 @@ fn is_starved(alloc: Global, line: &str) -> bool {
         calls: 0,
         starved: 0,
     };
-    let is_starved = is_filled(alloc, &mut desk.desk) && is_answered(alloc, line, &mut desk);
-    drop(desk);
-    is_starved
+    is_filled(alloc, &mut desk.desk) && is_answered(alloc, line, &mut desk)
 }
 
 /// Whether a call on a desk that has its files is starved as its line says.
@@ -134,7 +130,7 @@ fn is_answered(alloc: Global, line: &str, desk: &mut StarvedDesk) -> bool {
     desk.starved = parts.next().unwrap_or("").parse::<u32>().unwrap_or(0);
     let left = parts.next().unwrap_or("");
     let before = desk.desk.said().len();
-    ended(alloc, program, parts.next().unwrap_or(""), desk) == 6
+    ended(alloc, program, parts.next().unwrap_or(""), desk) == Ok(6)
         && desk.desk.said().get(before..) == Some(b"no memory\n".as_slice())
         && desk.desk.file("d.img") == desk.desk.file(left)
 }
