@@ -51,7 +51,8 @@ fn is_ending(list: &[Found], logical: u32, found: &Found) -> bool
 }
 
 /// Whether the links from a name lead to an absent one. If they ever do, they do within as many
-/// links as there are records.
+/// links as there are records. The names met before are distinct, and no two of them stand at one place of the list. An
+/// absent name leads no further, so the search may stop at the first.
 #[tactic(auto, using(crate::proofs::Chains::follow_more, crate::proofs::Chains::reached))]
 fn leads_out(list: &[Found], name: Link) -> bool
     ensures { IsTrue result ↔ ((n : ℕ) × (is_present list.now (follow list.now name n) ≡ false)) }

@@ -16,7 +16,7 @@ pub use Rattle.collector.specs.Going.{CostsAtMost, HasNoNewRecord, is_going, IsN
 unfoldable pub use Rattle.collector.specs.Going.{blocks_to_go}
 pub use Rattle.collector.specs.Known.{page_known, is_unsure}
 unfoldable pub use Rattle.collector.specs.Known.{array_known}
-pub use Rattle.collector.specs.Looking.{reads_after, Looks}
+pub use Rattle.collector.specs.Looking.{Looks}
 pub use Rattle.collector.specs.Matches.{Matches, IsNextOfSpare, IsNotedAt, CanSpare, IsErasing, IsFilledTo, AllOfBlock, CanTakeOwn}
 pub use Rattle.collector.specs.Preserves.{KeepsArray, IsThere, Preserves}
 pub use Rattle.collector.specs.Retiring.{KeepsStore, RetiresVictim}
@@ -31,13 +31,25 @@ pub use Rattle.flash_model.proofs.CallLemmas.{Carries-then}
 pub use Rattle.flash_model.proofs.ImageLemmas.{block_within}
 pub use Rattle.flash_model.proofs.MoveLemmas.{same_moments, FlashMoves-operates}
 pub use Rattle.flash_model.specs.Calls.{Erases, spare_area_of, Programs, Reads}
-pub use Rattle.flash_model.specs.Flash.{FlashState, Contents, blank, damaged, complete, slot_at, IsFlash, IsImage}
+pub use Rattle.flash_model.specs.Flash.{FlashState, Contents, blank, damaged, complete, slot_at, IsFlash, IsImage, counted_times}
 pub use Rattle.flash_model.specs.Moves.{Does}
 pub use Rattle.flash_model.specs.Operations.{moment_of, erase, CanDo, Moment, Torn, program, Operation, image_left}
 pub use Rattle.flash_model.specs.Retiring.{Retires}
 pub use Rattle.flash_model.specs.declared.flash.Broken.{Broken}
 pub use Rattle.flash_model.specs.declared.flash.Seen.{Seen}
 pub use Rattle.flash_model.specs.declared.outcome.Outcome.{Outcome}
+pub use Rattle.judged_records.proofs.OfChanges.NotedChanges.{block_noted}
+pub use Rattle.judged_records.proofs.OfLaws.ImageScans.{records_scanned}
+pub use Rattle.judged_records.proofs.OfLaws.NotedImages.{found_in_notes}
+pub use Rattle.judged_records.proofs.OfNotes.Blocks.{in_it, inside_block}
+pub use Rattle.judged_records.proofs.OfNotes.FoundIn.{found, noted_from, found_in_programmed}
+pub use Rattle.judged_records.specs.Images.{IsSoundImage, records_in, written_in}
+unfoldable pub use Rattle.judged_records.specs.Images.{array_in}
+pub use Rattle.judged_records.specs.IndexState.{IndexState, is_blank, erased, with_spare, copied, IsNoted, current_name_of, pinned_names, damaged_at, programmed}
+unfoldable pub use Rattle.judged_records.specs.IndexState.{needed_of, current_of, held_of, home_of, block_to_go}
+pub use Rattle.judged_records.specs.Notes.{note_at, note_of, with_block_noted, found_in, rec_of, notes_of}
+pub use Rattle.judged_records.specs.declared.note.Note.{Note}
+pub use Rattle.judged_records.specs.declared.note.Note.TheVariants.{Blank, Damaged, Holds}
 pub use Rattle.list_lemmas.proofs.Membership.{Contains-first, all_from, from_filter, Contains-rest, Contains-nil, in_filter, Contains-cases}
 pub use Rattle.list_lemmas.proofs.Ranges.{all_range, in_range}
 pub use Rattle.list_lemmas.proofs.Tests.{any_of}
@@ -63,15 +75,3 @@ pub use Rattle.tx_types.specs.declared.config.Shape.{Shape}
 pub use Rattle.tx_types.specs.declared.config.Slot.{Slot}
 pub use Rattle.tx_types.specs.declared.record.Link.{Link}
 pub use Rattle.tx_types.specs.declared.record.Rec.{Rec}
-pub use Rattle.version_index.proofs.OfChanges.NotedChanges.{block_noted}
-pub use Rattle.version_index.proofs.OfLaws.ImageScans.{records_scanned}
-pub use Rattle.version_index.proofs.OfLaws.NotedImages.{found_in_notes}
-pub use Rattle.version_index.proofs.OfTables.Blocks.{in_it, inside_block}
-pub use Rattle.version_index.proofs.OfTables.FoundIn.{found, noted_from, found_in_programmed}
-pub use Rattle.version_index.specs.Images.{IsSoundImage, records_in, written_in}
-unfoldable pub use Rattle.version_index.specs.Images.{array_in}
-pub use Rattle.version_index.specs.IndexState.{IndexState, is_blank, erased, with_spare, copied, IsNoted, current_name_of, pinned_names, damaged_at, programmed}
-unfoldable pub use Rattle.version_index.specs.IndexState.{needed_of, current_of, held_of, home_of, block_to_go}
-pub use Rattle.version_index.specs.Notes.{note_at, note_of, with_block_noted, found_in, rec_of, notes_of}
-pub use Rattle.version_index.specs.declared.note.Note.{Note}
-pub use Rattle.version_index.specs.declared.note.Note.TheVariants.{Blank, Damaged, Holds}

@@ -1,5 +1,4 @@
 pub mod BlockReadings
-pub mod Looked
 pub mod SettleCalls
 pub mod SettledBlocks
 pub mod SettledExits

@@ -2,7 +2,7 @@
 use Rattle.std.specs.Prelude.{◌≡◌, ℕ, ◌<◌, ◌≤◌, Option, Some, None, MatchOption}
 use Rattle.tx_types.specs.declared.config.Block.{Block}
 use Rattle.die_alloc.specs.BlocksState.{BlocksState}
-use Rattle.version_index.specs.IndexState.{IndexState}
+use Rattle.judged_records.specs.IndexState.{IndexState}
 use Rattle.collector.specs.declared.choosing.Best.{Best}
 use Rattle.collector.specs.Victim.{garbage_in}
 

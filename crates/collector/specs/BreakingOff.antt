@@ -1,15 +1,14 @@
 -- Where a collection breaks off: which of its operations were done, which one was broken, and what is noted then.
 use Rattle.std.specs.Prelude.{◌≡◌, ◌⊎◌, ℕ, ◌+◌, ◌*◌, ◌<◌, true, false, Some, List, [], ◌∷◌, ◌++◌, length}
 use Rattle.tx_types.specs.declared.config.Slot.{Slot}
-use Rattle.flash_model.specs.Flash.{FlashState, counted}
+use Rattle.flash_model.specs.Flash.{FlashState, counted, counted_times}
 use Rattle.flash_model.specs.Moves.{Does, FlashMoves}
 use Rattle.flash_model.specs.Operations.{Moment, Operation, Torn, erase, moment_of}
-use Rattle.version_index.specs.IndexState.{IndexState, block_to_go}
+use Rattle.judged_records.specs.IndexState.{IndexState, block_to_go}
 use Rattle.die_alloc.specs.BlocksState.{BlocksState}
 use Rattle.collector.specs.declared.unsure.Unsure.{Unsure}
 use Rattle.collector.specs.declared.unsure.Unsure.TheVariants as unsure
 use Rattle.collector.specs.Going.{EvictsInTurn, blocks_to_go}
-use Rattle.collector.specs.Looking.{reads_after}
 use Rattle.collector.specs.Victim.{IsVictim}
 use Rattle.collector.specs.Collecting.{cleaning, noted_cleaned, needed_slots, copy_program, copies, copied_from}
 
@@ -36,7 +35,7 @@ pub record ReadFails (n : IndexState) (old new : FlashState) (before : List Oper
   pub from : ℕ
   pub later : List ℕ
   pub copied : CopiedFirst n old before spare block first (from ∷ later) (moment_of new) n'
-  pub reads : old.live ≡ true → new.reads ≡ reads_after (length first + 1) old.reads
+  pub reads : old.live ≡ true → new.reads ≡ counted_times (length first + 1) old.reads
 
 -- the next slot was read, and the program of its copy was broken
 pub record CopyBreaks (n : IndexState) (old new : FlashState) (before : List Operation) (spare block : ℕ)
@@ -49,7 +48,7 @@ pub record CopyBreaks (n : IndexState) (old new : FlashState) (before : List Ope
   pub place : to ≡ start_of n spare + length first
   pub torn : Torn old.shape between (copy_program n.config.page_bytes old.image to from)
       (moment_of new)
-  pub reads : new.reads ≡ reads_after (length first + 1) old.reads
+  pub reads : new.reads ≡ counted_times (length first + 1) old.reads
 
 -- all copies were done, and the erase of the block was broken
 pub record EraseBreaks (n : IndexState) (old new : FlashState) (before : List Operation)
@@ -58,7 +57,7 @@ pub record EraseBreaks (n : IndexState) (old new : FlashState) (before : List Op
   pub between : Moment
   pub copied : CopiedFirst n old before spare block (needed_slots n block) [] between n'
   pub torn : Torn old.shape between (erase block) (moment_of new)
-  pub reads : new.reads ≡ reads_after (length (needed_slots n block)) old.reads
+  pub reads : new.reads ≡ counted_times (length (needed_slots n block)) old.reads
 
 -- the spare was to be erased first, and that was broken
 pub record CleaningBreaks (n : IndexState) (old new : FlashState) (spare : ℕ) : Type 0 where

@@ -9,18 +9,17 @@ use Rattle.tx_types.specs.declared.config.Slot.{Slot}
 use Rattle.tx_types.specs.declared.record.Rec.{Rec}
 use Rattle.flash_model.specs.declared.flash.Broken.{Broken}
 use Rattle.flash_model.specs.Calls.{Carries, Erases}
-use Rattle.flash_model.specs.Flash.{FlashState}
+use Rattle.flash_model.specs.Flash.{FlashState, counted_times}
 use Rattle.flash_model.specs.Moves.{Does, FlashMoves}
 use Rattle.flash_model.specs.Operations.{moment_of}
-use Rattle.version_index.specs.Notes.{note_at, rec_of}
-use Rattle.version_index.specs.IndexState.{IndexState, block_to_go, copied, erased, with_spare}
+use Rattle.judged_records.specs.Notes.{note_at, rec_of}
+use Rattle.judged_records.specs.IndexState.{IndexState, block_to_go, copied, erased, with_spare}
 use Rattle.die_alloc.specs.BlocksState.{BlocksState, IsFull, IsFirstFree}
 use Rattle.collector.specs.declared.unsure.Unsure.TheVariants as unsure
 use Rattle.collector.specs.BreakingOff.{BreaksOff, CleaningBreaks, ClearingBreaks, CopiesBreakOff, CopyBreaksOff, RoomBreaksOff}
 use Rattle.collector.specs.Collecting.{cleaning, collected, collecting, swapped, needed_slots, noted_cleaned}
 use Rattle.collector.specs.Collecting.{CopiesDone, CopyDone, CollectsForRoom, HasUnneeded}
 use Rattle.collector.specs.Going.{CostsAtMost, CostsBroken, CostsCopying, HasNoNewRecord, IsEvicted, EvictsAll, blocks_to_go}
-use Rattle.collector.specs.Looking.{reads_after}
 use Rattle.collector.specs.Matches.{Matches, CanSpare, IsFilledBy, IsNextOfSpare}
 use Rattle.collector.specs.Preserves.{Preserves, KeepsArray}
 use Rattle.collector.specs.StoreParts.{StoreParts}
@@ -124,7 +123,7 @@ pub record Collects (p : Protocol) (a b : StoreParts) (block : ℕ)
   pub noted : OnOk result (b.noted ≡ collected a.noted a.table.spare block)
   pub blocks : OnOk result (b.table ≡ swapped a.table block
       (length (needed_slots (noted_cleaned a.noted a.table.spare) block)))
-  pub reads : OnOk result (b.flash.reads ≡ reads_after
+  pub reads : OnOk result (b.flash.reads ≡ counted_times
       (length (needed_slots (noted_cleaned a.noted a.table.spare) block)) a.flash.reads)
   -- After a broken operation a front part of the operations was done, and the tables say so. The blocks are kept as
   -- they were, and what was broken is not counted.

@@ -3,18 +3,15 @@ use Rattle.std.specs.Prelude.{◌≡◌, ℕ, ◌+◌, ◌*◌, ◌==◌, Bool, 
 use Rattle.std.specs.List.{range_with_len, list_all}
 use Rattle.tx_types.specs.declared.config.BlockState.{BlockState}
 use Rattle.tx_types.specs.declared.config.BlockState.TheVariants.{Clean, Part, Shut}
-use Rattle.flash_model.specs.declared.flash.Seen.{Seen}
-use Rattle.flash_model.specs.declared.flash.Seen.TheVariants as seen
-use Rattle.flash_model.specs.Flash.{FlashState, Contents, blank, damaged, complete, slot_at, counted}
+use Rattle.flash_model.specs.Flash.{FlashState, Contents, blank, damaged, complete, slot_at, counted, counted_times}
 use Rattle.flash_model.specs.Calls.{page_of, spare_area_of}
 use Rattle.flash_model.specs.Operations.{Operation, program, erase, moment_of}
 use Rattle.flash_model.specs.Moves.{Does}
 use Rattle.tx_types.specs.declared.config.Slot.{Slot}
-use Rattle.version_index.specs.Notes.{note_at}
-use Rattle.version_index.specs.IndexState.{IndexState, needed_of, copied, erased, with_spare, is_blank}
+use Rattle.judged_records.specs.Notes.{note_at}
+use Rattle.judged_records.specs.IndexState.{IndexState, needed_of, copied, erased, with_spare, is_blank}
 use Rattle.die_alloc.specs.BlocksState.{BlocksState, with_use, table_with_spare}
 use Rattle.die_alloc.specs.NextSlot.{next_slot, after_next_slot}
-use Rattle.collector.specs.Looking.{reads_after}
 use Rattle.collector.specs.Matches.{IsFilledBy, CanSpare}
 use Rattle.collector.specs.Victim.{IsVictim}
 
@@ -81,12 +78,6 @@ HasUnneeded n block = Any (λ slot. needed_of n slot ≡ false) (slots_in n bloc
 abbrev pub is_noted_blank : IndexState → ℕ → Bool
 is_noted_blank n block = list_all (λ slot. is_blank (note_at n.notes slot)) (slots_in n block)
 
--- a slot reads blank
-abbrev pub reads_blank : Seen → Bool
-reads_blank seen.Blank = true
-reads_blank seen.Complete = false
-reads_blank seen.Damaged = false
-
 -- a copy that was done: one read and one program
 pub record CopyDone (n : IndexState) (old new : FlashState) (from to : ℕ) : Type 0 where
   pub programmed :
@@ -119,7 +110,7 @@ pub record CopiesDone (n n' : IndexState) (old new : FlashState) (spare block us
   pub noted : n' ≡ copied_from n (spare * n.config.pages_per_block) (needed_slots n block)
   pub filled : IsFilledBy n' spare used
   pub spared : CanSpare n' block
-  pub reads : new.reads ≡ reads_after used old.reads
+  pub reads : new.reads ≡ counted_times used old.reads
 
 -- A block was collected for the sake of room: of the blocks with the most garbage, once the spare is blank, the lowest.
 -- This is the slot that is programmed next then.

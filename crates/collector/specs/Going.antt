@@ -7,9 +7,9 @@ use Rattle.tx_types.specs.declared.record.Link.{Link}
 use Rattle.flash_model.specs.Flash.{FlashState}
 use Rattle.record_list.specs.Records.{is_present}
 use Rattle.record_list.specs.Transaction.{InProgress, ShareNoPage}
-use Rattle.version_index.specs.Notes.{found_in}
-pub use Rattle.version_index.specs.IndexState.{is_going}
-use Rattle.version_index.specs.IndexState.{IndexState, current_of, pinned_names, erased, block_to_go}
+use Rattle.judged_records.specs.Notes.{found_in}
+pub use Rattle.judged_records.specs.IndexState.{is_going}
+use Rattle.judged_records.specs.IndexState.{IndexState, current_of, pinned_names, erased, block_to_go}
 use Rattle.die_alloc.specs.BlocksState.{BlocksState}
 use Rattle.collector.specs.Collecting.{collected, swapped, needed_slots, noted_cleaned}
 

@@ -10,11 +10,11 @@ use Rattle.flash_model.specs.Flash.{Contents, blank, damaged, complete}
 use Rattle.page_record.specs.Spelling.{spelling}
 use Rattle.record_list.specs.Records.{name_of}
 use Rattle.record_list.specs.Written.{Written, text_at, value_at, is_outside}
-use Rattle.version_index.specs.declared.note.Note.{Note}
-use Rattle.version_index.specs.declared.note.Note.TheVariants.{Blank, Damaged, Holds}
-use Rattle.version_index.specs.Images.{written_in}
-use Rattle.version_index.specs.Notes.{note_at}
-use Rattle.version_index.specs.IndexState.{IndexState, current_name_of}
+use Rattle.judged_records.specs.declared.note.Note.{Note}
+use Rattle.judged_records.specs.declared.note.Note.TheVariants.{Blank, Damaged, Holds}
+use Rattle.judged_records.specs.Images.{written_in}
+use Rattle.judged_records.specs.Notes.{note_at}
+use Rattle.judged_records.specs.IndexState.{IndexState, current_name_of}
 use Rattle.collector.specs.declared.unsure.Unsure.{Unsure}
 use Rattle.collector.specs.declared.unsure.Unsure.TheVariants as unsure
 

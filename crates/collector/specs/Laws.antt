@@ -11,11 +11,11 @@ use Rattle.flash_model.specs.Readings.{seen_in}
 use Rattle.record_list.specs.Records.{is_present, name_of}
 use Rattle.record_list.specs.Changes.{PartialWriteKeeps, CompletingWriteKeeps}
 use Rattle.record_list.specs.Written.{text_at}
-use Rattle.version_index.specs.declared.note.Note.TheVariants as note
-use Rattle.version_index.specs.Images.{IsSoundImage, array_in, current_in, records_in, written_in}
-use Rattle.version_index.specs.Notes.{notes_of, note_at, found_in}
-use Rattle.version_index.specs.IndexState.{IndexState, IsNoted, IsNextRecord, current_of, pinned_names, programmed}
-use Rattle.version_index.specs.Opening.{IsChosenSpare, opening_noted}
+use Rattle.judged_records.specs.declared.note.Note.TheVariants as note
+use Rattle.judged_records.specs.Images.{IsSoundImage, array_in, current_in, records_in, written_in}
+use Rattle.judged_records.specs.Notes.{notes_of, note_at, found_in}
+use Rattle.judged_records.specs.IndexState.{IndexState, IsNoted, IsNextRecord, current_of, pinned_names, programmed}
+use Rattle.judged_records.specs.Opening.{IsChosenSpare, opening_noted}
 use Rattle.die_alloc.specs.BlocksState.{BlocksState}
 use Rattle.die_alloc.specs.Opening.{opening_table}
 use Rattle.collector.specs.declared.unsure.Unsure.{Unsure}

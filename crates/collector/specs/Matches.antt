@@ -8,10 +8,10 @@ use Rattle.record_list.specs.Records.{is_present}
 use Rattle.record_list.specs.Changes.{left}
 use Rattle.record_list.specs.Counts.{HasCounts}
 use Rattle.record_list.specs.Written.{is_outside, IsDispensable}
-use Rattle.version_index.specs.declared.note.Note.TheVariants.{Blank, Holds}
-use Rattle.version_index.specs.Images.{IsSoundImage}
-use Rattle.version_index.specs.Notes.{found_in, note_at, note_of}
-use Rattle.version_index.specs.IndexState.{IndexState, IsNoted, IsNextRecord, pinned_names}
+use Rattle.judged_records.specs.declared.note.Note.TheVariants.{Blank, Holds}
+use Rattle.judged_records.specs.Images.{IsSoundImage}
+use Rattle.judged_records.specs.Notes.{found_in, note_at, note_of}
+use Rattle.judged_records.specs.IndexState.{IndexState, IsNoted, IsNextRecord, pinned_names}
 use Rattle.die_alloc.specs.BlocksState.{BlocksState, IsBlocksState, IsFree}
 use Rattle.collector.specs.declared.unsure.Unsure.{Unsure}
 use Rattle.collector.specs.declared.unsure.Unsure.TheVariants as unsure

@@ -7,9 +7,9 @@ use Rattle.flash_model.specs.Flash.{Contents}
 use Rattle.record_list.specs.Records.{is_present}
 use Rattle.record_list.specs.Transaction.{InProgress}
 use Rattle.record_list.specs.Written.{text_at}
-use Rattle.version_index.specs.Images.{written_in, records_in, array_in}
-use Rattle.version_index.specs.Notes.{found_in}
-use Rattle.version_index.specs.IndexState.{IndexState, current_of, current_name_of, held_of, pinned_names}
+use Rattle.judged_records.specs.Images.{written_in, records_in, array_in}
+use Rattle.judged_records.specs.Notes.{found_in}
+use Rattle.judged_records.specs.IndexState.{IndexState, current_of, current_name_of, held_of, pinned_names}
 
 -- a name that some noted record has
 abbrev pub IsThere : IndexState → Link → Type 0

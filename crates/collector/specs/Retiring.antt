@@ -8,17 +8,16 @@ use Rattle.tx_types.specs.declared.config.Protocol.{Protocol}
 use Rattle.tx_types.specs.declared.config.Slot.{Slot}
 use Rattle.tx_types.specs.declared.record.Rec.{Rec}
 use Rattle.flash_model.specs.declared.flash.Broken.{Broken}
-use Rattle.flash_model.specs.Flash.{FlashState, Contents}
+use Rattle.flash_model.specs.Flash.{FlashState, Contents, counted_times}
 use Rattle.flash_model.specs.Moves.{FlashMoves}
 use Rattle.flash_model.specs.Operations.{Operation}
 use Rattle.flash_model.specs.Retiring.{CarriesRetiring, IsNotReplaced, IsReplaced, Retires, RetiresAfter, RetiresTorn}
-use Rattle.version_index.specs.IndexState.{IndexState, erased, with_spare}
+use Rattle.judged_records.specs.IndexState.{IndexState, erased, with_spare}
 use Rattle.collector.specs.declared.unsure.Unsure.{Unsure}
 use Rattle.collector.specs.declared.unsure.Unsure.TheVariants as unsure
 use Rattle.collector.specs.BreakingOff.{BreaksOff}
 use Rattle.collector.specs.Collecting.{cleaning, copies, swapped, needed_slots, noted_cleaned}
 use Rattle.collector.specs.Going.{HasNoNewRecord, IsEvicted}
-use Rattle.collector.specs.Looking.{reads_after}
 use Rattle.collector.specs.Matches.{Matches}
 use Rattle.collector.specs.Preserves.{Preserves, KeepsArray}
 use Rattle.collector.specs.StoreParts.{StoreParts}
@@ -107,7 +106,7 @@ pub record RetiresBlock (p : Protocol) (a b : StoreParts) (block : ℕ)
   -- the tables say so, as where the block is collected, or erased where it is the spare
   pub noted : OnOk result (IsEvicted a.noted a.table block b.noted b.table)
   pub reads : OnOk result (b.flash.reads
-      ≡ reads_after (length (moved_slots a.noted a.table.spare block)) a.flash.reads)
+      ≡ counted_times (length (moved_slots a.noted a.table.spare block)) a.flash.reads)
   -- after a broken operation or replacement a front part was done, and the blocks are kept as they were
   pub broken : OnErr result
       (RetiringBreaks a.noted a.flash b.flash a.table.spare block b.noted b.unsure)

@@ -8,12 +8,12 @@ use Rattle.flash_model.specs.declared.flash.Broken.{Broken}
 use Rattle.flash_model.specs.declared.flash.Seen.{Seen}
 use Rattle.flash_model.specs.declared.flash.Seen.TheVariants as seen
 use Rattle.flash_model.specs.Calls.{Carries}
-use Rattle.flash_model.specs.Flash.{FlashState, IsFlash, Contents, blank, damaged, complete, slot_at}
+use Rattle.flash_model.specs.Flash.{FlashState, IsFlash, Contents, blank, damaged, complete, slot_at, counted_times}
 use Rattle.flash_model.specs.Operations.{moment_of}
-use Rattle.version_index.specs.declared.note.Note.{Note}
-use Rattle.version_index.specs.declared.note.Note.TheVariants.{Blank, Damaged, Holds}
-use Rattle.version_index.specs.Notes.{note_at}
-use Rattle.version_index.specs.IndexState.{IndexState, IsNoted, programmed, damaged_at, copied, erased, lost, with_spare}
+use Rattle.judged_records.specs.declared.note.Note.{Note}
+use Rattle.judged_records.specs.declared.note.Note.TheVariants.{Blank, Damaged, Holds}
+use Rattle.judged_records.specs.Notes.{note_at}
+use Rattle.judged_records.specs.IndexState.{IndexState, IsNoted, programmed, damaged_at, copied, erased, lost, with_spare}
 use Rattle.die_alloc.specs.BlocksState.{BlocksState, with_slot}
 use Rattle.collector.specs.declared.reading.BlockReading.{BlockReading}
 use Rattle.collector.specs.declared.unsure.Settled.{Settled}
@@ -21,7 +21,7 @@ use Rattle.collector.specs.declared.unsure.Settled.TheVariants.{Other, Present, 
 use Rattle.collector.specs.declared.unsure.Unsure.{Unsure}
 use Rattle.collector.specs.declared.unsure.Unsure.TheVariants as unsure
 use Rattle.collector.specs.Collecting.{slots_in, is_blank_block, swapped}
-use Rattle.collector.specs.Looking.{Looks, ReadsAtMost, reads_after}
+use Rattle.collector.specs.Looking.{Looks, ReadsAtMost}
 use Rattle.collector.specs.Matches.{Matches, CanTake}
 use Rattle.collector.specs.StoreParts.{StoreParts, StorePartsInvariant}
 
@@ -154,6 +154,6 @@ pub record Settles (a b : StoreParts) (result : Result Settled Broken) : Type 0 
       ((b.noted ≡ a.noted) × (b.table ≡ a.table) × (b.unsure ≡ a.unsure))
   pub moment : moment_of b.flash ≡ moment_of a.flash
   pub carries : Carries a.flash b.flash (is_err result)
-  pub reads : OnOk result (b.flash.reads ≡ reads_after (slots_read a.noted a.unsure) a.flash.reads)
+  pub reads : OnOk result (b.flash.reads ≡ counted_times (slots_read a.noted a.unsure) a.flash.reads)
   pub first_failed : OnErr result
       (ReadsAtMost (slots_read a.noted a.unsure) a.flash.reads b.flash.reads)

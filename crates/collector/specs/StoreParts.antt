@@ -2,7 +2,7 @@
 use Rattle.std.specs.Prelude.{◌≡◌}
 use Rattle.tx_types.specs.declared.config.Protocol.{Protocol}
 use Rattle.flash_model.specs.Flash.{FlashState}
-use Rattle.version_index.specs.IndexState.{IndexState}
+use Rattle.judged_records.specs.IndexState.{IndexState}
 use Rattle.die_alloc.specs.BlocksState.{BlocksState}
 use Rattle.collector.specs.declared.unsure.Unsure.{Unsure}
 use Rattle.collector.specs.declared.unsure.Unsure.TheVariants as unsure

@@ -5,7 +5,7 @@ use Rattle.tx_types.specs.declared.record.Link.{Link}
 use Rattle.flash_model.specs.Flash.{Contents, damaged}
 use Rattle.record_list.specs.Records.{name_of}
 use Rattle.record_list.specs.Current.{IsCurrent, is_held}
-use Rattle.version_index.specs.Images.{records_in}
+use Rattle.judged_records.specs.Images.{records_in}
 
 -- no slot is damaged, no record stands in two slots, and each record is current, or held, or has one of these names
 pub record IsTidy (protocol : Protocol) (logical : ℕ) (image : List Contents)

@@ -4,7 +4,7 @@ use Rattle.tx_types.specs.Config.{shape_of, blocks_of}
 use Rattle.tx_types.specs.declared.config.Block.{Block}
 use Rattle.tx_types.specs.declared.config.BlockState.{BlockState}
 use Rattle.tx_types.specs.declared.config.BlockState.TheVariants.{Spare, Clean, Part, Shut}
-use Rattle.version_index.specs.IndexState.{IndexState, garbage_of}
+use Rattle.judged_records.specs.IndexState.{IndexState, garbage_of}
 use Rattle.die_alloc.specs.BlocksState.{BlocksState, block_state}
 
 abbrev pub is_shut : BlockState → Bool

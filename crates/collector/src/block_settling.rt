@@ -1,6 +1,6 @@
 ghost use Rattle.std.specs.Prelude.{◌≡◌, ◌<◌, if◌then◌else◌};
 ghost use Rattle.tx_types.specs.Config.{shape_of, blocks_of};
-ghost use Rattle.version_index.specs.IndexState.{erased, lost};
+ghost use Rattle.judged_records.specs.IndexState.{erased, lost};
 ghost use Rattle.collector.specs.Matches.{CanSpare};
 ghost use Rattle.collector.specs.Settling.{CanSettle, Finds, count_records};
 ghost use Rattle.collector.specs.StoreParts.{store_parts};
@@ -15,7 +15,7 @@ use tx_types::{Block, Slot};
 use version_index::Index;
 
 /// Finds out whether the spare was erased: it is as before, or all its slots are blank, or all are
-/// damaged.
+/// damaged. Each slot is read, even if the first one tells enough: so the number of reads is a function of the place.
 pub(crate) fn settle_spare<F: Flash, R: CommitRule>(
     flash: &mut F,
     index: &mut Index<R>,

@@ -1,12 +1,12 @@
 ghost use Rattle.std.specs.Prelude.{◌≡◌, ◌<◌};
 ghost use Rattle.tx_types.specs.Config.{shape_of, blocks_of};
 ghost use Rattle.collector.specs.Calls.{Cleans};
-ghost use Rattle.collector.specs.Collecting.{is_noted_blank, reads_blank};
+ghost use Rattle.collector.specs.Collecting.{is_noted_blank};
 ghost use Rattle.collector.specs.StoreParts.{IsSure, store_parts};
 
 use crate::Unsure;
 use die_alloc::Blocks;
-use flash_model::{Broken, Flash, Seen};
+use flash_model::{Broken, Flash};
 use record_list::CommitRule;
 use tx_types::Block;
 use version_index::Index;
@@ -41,14 +41,4 @@ fn is_noted_blank<R: CommitRule>(index: &Index<R>, block: Block) -> bool
     ensures { result ≡ is_noted_blank index.now block.0 }
 {
     index.blanks(block) == index.config().pages_per_block
-}
-
-/// Whether a slot reads blank.
-pub(crate) fn is_blank(how: Seen) -> bool
-    ensures { result ≡ reads_blank how }
-{
-    match how {
-        Seen::Blank => true,
-        Seen::Complete | Seen::Damaged => false,
-    }
 }

@@ -35,7 +35,8 @@ pub fn collect<F: Flash, R: CommitRule>(
     collect_clean(flash, index, blocks, unsure, room, block)
 }
 
-/// Collects a block where the spare is blank.
+/// Collects a block where the spare is blank. A collection of a given block and one of the victim both go on here, so
+/// that nothing is cleaned twice.
 pub(crate) fn collect_clean<F: Flash, R: CommitRule>(
     flash: &mut F,
     index: &mut Index<R>,

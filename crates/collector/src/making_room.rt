@@ -2,7 +2,7 @@ ghost use Rattle.std.specs.Prelude.{◌≡◌, ◌≢◌, ◌<◌, List, Some, N
 ghost use Rattle.std.specs.Result.{is_err};
 ghost use Rattle.tx_types.specs.Config.{shape_of, blocks_of};
 ghost use Rattle.tx_types.specs.declared.record.Link.{Link};
-ghost use Rattle.version_index.specs.IndexState.{block_to_go};
+ghost use Rattle.judged_records.specs.IndexState.{block_to_go};
 ghost use Rattle.die_alloc.specs.BlocksState.{IsFull};
 ghost use Rattle.die_alloc.specs.NextSlot.{next_slot, after_next_slot};
 ghost use Rattle.collector.specs.Calls.{ClearsSuperseded, CollectsVictim, AllocatesSlot, Evicts};
@@ -112,7 +112,9 @@ pub fn allocate_slot<F: Flash, R: CommitRule>(
     Ok(at)
 }
 
-/// Makes the spare blank, and collects the block with the most garbage: whether there is any.
+/// Makes the spare blank, and collects the block with the most garbage: whether there is any. The block is chosen once
+/// the spare is blank: a loose record that stands in the spare alone may hold others, which are garbage once it is
+/// gone.
 pub fn collect_victim<F: Flash, R: CommitRule>(
     flash: &mut F,
     index: &mut Index<R>,

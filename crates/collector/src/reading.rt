@@ -3,7 +3,6 @@ ghost use Rattle.std.specs.Result.{is_err};
 ghost use Rattle.collector.specs.Looking.{Looks};
 ghost use Rattle.collector.specs.Settling.{CanReadBlock, ReadsBlock, reads_alike};
 
-use crate::cleaning::is_blank;
 use flash_model::{Broken, Flash, Seen};
 use record_list::CommitRule;
 use tx_types::{Block, Slot};
@@ -38,7 +37,7 @@ pub(crate) fn read_block<F: Flash, R: CommitRule>(
     for at in first..first + pages {
         let how = flash.read(Slot(at), room, &mut spare_area)?;
         as_noted &= reads_alike(how, index.seen(Slot(at)));
-        blank &= is_blank(how);
+        blank &= how.is_blank();
     }
     Ok(BlockReading { as_noted, blank })
 }

@@ -1,6 +1,6 @@
 ghost use Rattle.std.specs.Prelude.{◌≡◌, ◌≢◌, ◌<◌, ◌≤◌};
 ghost use Rattle.tx_types.specs.Config.{shape_of, blocks_of};
-ghost use Rattle.version_index.specs.IndexState.{with_spare};
+ghost use Rattle.judged_records.specs.IndexState.{with_spare};
 ghost use Rattle.die_alloc.specs.BlocksState.{IsBlocksState, MayHave, table_with_spare};
 ghost use Rattle.collector.specs.Collecting.{swapped, open_state};
 

@@ -2,9 +2,9 @@
 //! there for what it ensures.
 ghost use Rattle.std.specs.Prelude.{◌≡◌, ℕ};
 ghost use Rattle.flash_model.specs.Flash.{FlashState};
-ghost use Rattle.version_index.specs.IndexState.{IndexState, pinned_names};
-ghost use Rattle.version_index.specs.Notes.{note_at};
-ghost use Rattle.version_index.specs.declared.note.Note.TheVariants as note;
+ghost use Rattle.judged_records.specs.IndexState.{IndexState, pinned_names};
+ghost use Rattle.judged_records.specs.Notes.{note_at};
+ghost use Rattle.judged_records.specs.declared.note.Note.TheVariants as note;
 ghost use Rattle.die_alloc.specs.BlocksState.{BlocksState};
 ghost use Rattle.collector.specs.Going.{blocks_to_go};
 ghost use Rattle.collector.specs.Laws.{ArrayStays, ImageIsSound, KnownImageIsSound, NotingKeeps, OpenedTablesMatch};

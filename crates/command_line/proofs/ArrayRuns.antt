@@ -6,7 +6,7 @@ use Rattle.tx_types.specs.declared.config.Config.{Config}
 use Rattle.tx_types.specs.Config.{shape_of}
 use Rattle.flash_model.specs.Flash.{Contents}
 use Rattle.flash_model.specs.Operations.{Moment}
-use Rattle.version_index.specs.Images.{IsSoundImage, array_in}
+use Rattle.judged_records.specs.Images.{IsSoundImage, array_in}
 use Rattle.array_machine.specs.ArrayState.{ArrayState, Entry, Pages, idle, Represents}
 use Rattle.array_machine.specs.declared.mark.Mark.TheVariants.{Plain}
 use Rattle.tx_engine.specs.DeviceState.{limits_of}

@@ -76,22 +76,23 @@ puts_after (Some file) (Err why) a b c rests puts =
 
 -- the end after an ending that gives something
 pub ends_put : {D : Type 0} (state : D → DeskState) (disk : D → Option History) (task : Option Request)
-    (old mid new : D) (fate : Ending) (given : OutputState)
-    (answer : ℕ) → Comes task (FindsBoth (state old) (disk old)) (state old) (state mid) fate → Gives fate given →
-    status fate ≡ 0 →
+    (old mid new : D) (ending : Ending) (given : OutputState)
+    (answer : ℕ) → Comes task (FindsBoth (state old) (disk old)) (state old) (state mid) ending → Gives ending given →
+    status ending ≡ 0 →
     Rests (disk old) (disk mid) →
     DeliversOnDisk state disk given mid new answer → EndsOnDisk state disk task old new answer
-ends_put state disk task old mid new fate given answer (loads, is, at) gives zero rested delivers = ending delivers
+ends_put state disk task old mid new ending given answer (loads, is, at) gives zero rested delivers =
+    by_delivery delivers
   where
     it : Decision task (FindsBoth (state old) (disk old))
-    it = record { fate = fate; loads = loads; given = given; is_fate = is; gives = gives }
+    it = record { ending = ending; loads = loads; given = given; is_ending = is; gives = gives }
 
-    ending : DeliversOnDisk state disk given mid new answer → EndsOnDisk state disk task old new answer
-    ending (Whole done put saved kept said rests) =
+    by_delivery : DeliversOnDisk state disk given mid new answer → EndsOnDisk state disk task old new answer
+    by_delivery (Whole done put saved kept said rests) =
         Done it (done ∙ sym zero) put (saved ∙ ap (after_save given.saved) at)
         (puts_after given.saved (Ok tt) (disk old) (disk mid) (disk put) rested kept)
         said rests
-    ending (Short stopped (m, result, kept, rests)) =
+    by_delivery (Short stopped (m, result, kept, rests)) =
         Stopped stopped (inr (
           it,
           (
@@ -122,10 +123,10 @@ ends_told state disk task old mid new r text wanted answer (loads, is, at) is_li
   where
     it : Decision task (FindsBoth (state old) (disk old))
     it = record {
-      fate = refused r;
+      ending = refused r;
       loads = loads;
       given = record { saved = None; text = text };
-      is_fate = is;
+      is_ending = is;
       gives = refusal_gives r text is_line;
     }
 ends_told state disk task old mid new r text wanted answer comes is_line same first last (inr (inl (m, stops, told))) =

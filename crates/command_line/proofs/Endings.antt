@@ -26,23 +26,23 @@ use Rattle.command_line.proofs.Saving.{ending_saves, gives_saves, never_five, re
 -- ---- the end after an ending
 
 -- after an ending, what it gives is saved and said
-pub ends_delivered : (task : Option Request) (old mid new : DeskState) (fate : Ending) (given : OutputState)
+pub ends_delivered : (task : Option Request) (old mid new : DeskState) (ending : Ending) (given : OutputState)
     (wanted answer : ℕ) →
-    Comes task (Finds old) old mid fate → Gives fate given → wanted ≡ status fate →
+    Comes task (Finds old) old mid ending → Gives ending given → wanted ≡ status ending →
     Delivers mid new given wanted answer →
     EndsCall task old new answer
-ends_delivered task old mid new fate given wanted answer (loads, is, at) gives same delivers =
-    ending (subst (λ desk. Delivers desk new given wanted answer) at delivers)
+ends_delivered task old mid new ending given wanted answer (loads, is, at) gives same delivers =
+    by_delivery (subst (λ desk. Delivers desk new given wanted answer) at delivers)
   where
     it : Decision task (Finds old)
-    it = record { fate = fate; loads = loads; given = given; is_fate = is; gives = gives }
+    it = record { ending = ending; loads = loads; given = given; is_ending = is; gives = gives }
 
-    ending : Delivers (after_loading old it) new given wanted answer → EndsCall task old new answer
-    ending (inl (inl (said, after))) = Decided it (said ∙ same) after
-    ending (inl (inr (inl (mid, says, told)))) = Faulted told.0 (mid, inr (inr (it, says)), told.1)
-    ending (inl (inr (inr (mid, starves, told)))) = Starved told.0 (mid, inr (inr (it, starves)), told.1)
-    ending (inr (inl (mid, fails, told))) = Faulted told.0 (mid, inr (inl (it, fails)), told.1)
-    ending (inr (inr (mid, starves, told))) = Starved told.0 (mid, inr (inl (it, starves)), told.1)
+    by_delivery : Delivers (after_loading old it) new given wanted answer → EndsCall task old new answer
+    by_delivery (inl (inl (said, after))) = Decided it (said ∙ same) after
+    by_delivery (inl (inr (inl (mid, says, told)))) = Faulted told.0 (mid, inr (inr (it, says)), told.1)
+    by_delivery (inl (inr (inr (mid, starves, told)))) = Starved told.0 (mid, inr (inr (it, starves)), told.1)
+    by_delivery (inr (inl (mid, fails, told))) = Faulted told.0 (mid, inr (inl (it, fails)), told.1)
+    by_delivery (inr (inr (mid, starves, told))) = Starved told.0 (mid, inr (inl (it, starves)), told.1)
 
 -- ---- status 5 comes only where the count of faults rose
 
@@ -73,7 +73,7 @@ faulted task old new (mid, fails, tried) = faults_tried old.faults mid new _ (fa
 
 pub only_fault : (task : Option Request) (old new : DeskState) (answer : ℕ) → EndsCall task old new answer →
     answer ≡ 5 → Rose old.faults new.faults
-only_fault task old new answer (Decided it same said) five = absurd (never_five it.fate (sym five ∙ same))
+only_fault task old new answer (Decided it same said) five = absurd (never_five it.ending (sym five ∙ same))
 only_fault task old new answer (Faulted is faults) five = faulted task old new faults
 only_fault task old new answer (Starved six starves) five = absurd (omega arith)
 
@@ -82,17 +82,17 @@ only_fault task old new answer (Starved six starves) five = absurd (omega arith)
 pub exact : (task : Option Request) (old new : DeskState) (answer : ℕ) → EndsCall task old new answer →
     IsExact task old new answer
 exact task old new answer ends = record {
-  one_fate = λ a b m n tells is also. one_ending task old a b m n tells is also;
-  fate_gives = gives ends;
+  one_ending = λ a b m n tells is also. one_ending task old a b m n tells is also;
+  ending_gives = gives ends;
 }
   where
-    gives : EndsCall task old new answer → (fate : Ending) (loads : ℕ) → IsEnding task (Finds old) fate loads →
+    gives : EndsCall task old new answer → (ending : Ending) (loads : ℕ) → IsEnding task (Finds old) ending loads →
         TellsEnding task old →
-        (Rose old.faults new.faults → ⊥) → (answer ≡ status fate) ⊎ (answer ≡ 6)
-    gives (Decided it same said) fate loads is tells steady =
-        inl (same ∙ ap status (one_ending task old it.fate fate it.loads loads tells it.is_fate is))
-    gives (Faulted five faults) fate loads is tells steady = absurd (steady (faulted task old new faults))
-    gives (Starved six starves) fate loads is tells steady = inr six
+        (Rose old.faults new.faults → ⊥) → (answer ≡ status ending) ⊎ (answer ≡ 6)
+    gives (Decided it same said) ending loads is tells steady =
+        inl (same ∙ ap status (one_ending task old it.ending ending it.loads loads tells it.is_ending is))
+    gives (Faulted five faults) ending loads is tells steady = absurd (steady (faulted task old new faults))
+    gives (Starved six starves) ending loads is tells steady = inr six
 
 -- ---- which file changes
 
@@ -126,9 +126,9 @@ saves_its : (task : Option Request) (old : DeskState) (it : Decision task (Finds
     it.given.saved ≡ Some file →
     file_of task ≡ Some file.name
 saves_its task old it file e =
-    let named : Some file.name ≡ saver it.fate = sym (ap (option_map (λ f. f.name)) e)
-    ∙ gives_saves it.fate it.given it.gives in
-    elim (ending_saves task (Finds old) it.fate it.loads it.is_fate) [
+    let named : Some file.name ≡ saver it.ending = sym (ap (option_map (λ f. f.name)) e)
+    ∙ gives_saves it.ending it.given it.gives in
+    elim (ending_saves task (Finds old) it.ending it.loads it.is_ending) [
       | inl none ↦ absurd (cc)
       | inr some ↦ sym (named ∙ some)
     ]
@@ -215,10 +215,10 @@ others task old new answer (Starved six (mid, out, (result, says))) =
     (files_said mid new _ result says)
 
 -- a refusal saves nothing
-unsaved : (task : Option Request) (old : DeskState) (it : Decision task (Finds old)) → (status it.fate ≡ 0 → ⊥) →
+unsaved : (task : Option Request) (old : DeskState) (it : Decision task (Finds old)) → (status it.ending ≡ 0 → ⊥) →
     files_in (after_saving old it) ≡ files_in old
-unsaved task old it refused = by_file it.given.saved (gives_saves it.fate it.given it.gives
-    ∙ refusal_saves it.fate refused)
+unsaved task old it refused = by_file it.given.saved (gives_saves it.ending it.given it.gives
+    ∙ refusal_saves it.ending refused)
   where
     by_file : (file : Option SavedFile) → option_map (λ f. f.name) file ≡ None →
         files_in (after_save file (after_loading old it)) ≡ files_in old
@@ -272,10 +272,10 @@ ends_unsaid task old mid new r answer (loads, is, at) told =
   where
     it : Decision task (Finds old)
     it = record {
-      fate = refused r;
+      ending = refused r;
       loads = loads;
       given = record { saved = None; text = refusal_line (refused r) };
-      is_fate = is;
+      is_ending = is;
       gives = refusal_gives r (refusal_line (refused r)) refl;
     }
 

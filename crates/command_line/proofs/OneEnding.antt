@@ -18,7 +18,7 @@ use Rattle.desk_tasks.specs.Request.{Request, Try, Format, Run, Explain, Drive, 
 use Rattle.desk_tasks.specs.Checking.{check_ending, comparison_ending}
 use Rattle.command_line.proofs.OneKeyEnding.{one_parsing_script, one_store}
 use Rattle.command_line.proofs.OneFinding.{one_check, one_comparison}
-use Rattle.version_index.proofs.OfTables.OneBreach.{breach_one, sound_unbroken}
+use Rattle.judged_records.proofs.OfNotes.OneBreach.{breach_one, sound_unbroken}
 
 -- ---- each step comes to one thing
 

@@ -11,19 +11,19 @@ use Rattle.desk_tasks.specs.KeyWork.{AfterBuckets, AfterScript, HoldsKeys, Opens
 -- ---- what holds of each ending
 
 pub script_all : (P : Ending → Type 0) (bytes : List ℕ) (next : List KeyCommand → Ending → Type 0) →
-    ((n : ℕ) → P (BadLine n)) → ((cs : List KeyCommand) (fate : Ending) → next cs fate → P fate) →
-    (fate : Ending) → ParsingScript bytes next fate → P fate
-script_all P bytes next bad leads fate (parsed, parses, h) = after parsed h
+    ((n : ℕ) → P (BadLine n)) → ((cs : List KeyCommand) (ending : Ending) → next cs ending → P ending) →
+    (ending : Ending) → ParsingScript bytes next ending → P ending
+script_all P bytes next bad leads ending (parsed, parses, h) = after parsed h
   where
-    after : (parsed : Result (List KeyCommand) ℕ) → AfterScript next parsed fate → P fate
-    after (Ok cs) h = leads cs fate h
+    after : (parsed : Result (List KeyCommand) ℕ) → AfterScript next parsed ending → P ending
+    after (Ok cs) h = leads cs ending h
     after (Err n) h = rw h (bad n)
 
 pub store_all : (P : Ending → Type 0) (its : Config) (image : List Contents) (done : Ending) → P done →
-    ((page : ℕ) → P (BadBucket page)) → (fate : Ending) → OpensStore its image done fate → P fate
-store_all P its image done good bad fate (held, holds, h) = after held h
+    ((page : ℕ) → P (BadBucket page)) → (ending : Ending) → OpensStore its image done ending → P ending
+store_all P its image done good bad ending (held, holds, h) = after held h
   where
-    after : (held : Result (Unit {0}) ℕ) → AfterBuckets done held fate → P fate
+    after : (held : Result (Unit {0}) ℕ) → AfterBuckets done held ending → P ending
     after (Ok u) h = rw h good
     after (Err page) h = rw h (bad page)
 

@@ -32,7 +32,8 @@ saver (Keyed name its image extras commands) = Some name
 saver (Retired name its image extras block) = Some name
 saver _ = None
 
-pub gives_saves : (fate : Ending) (p : OutputState) → Gives fate p → option_map (λ file. file.name) p.saved ≡ saver fate
+pub gives_saves : (ending : Ending) (p : OutputState) → Gives ending p →
+    option_map (λ file. file.name) p.saved ≡ saver ending
 gives_saves (Tried commands) p h = ap (option_map (λ file. file.name)) h.saves_nothing
 gives_saves (Formatted name its allowance) p h = ap (option_map (λ file. file.name)) h.saves
 gives_saves (Ran name its image extras commands) p h = ap (option_map (λ file. file.name)) h.saves
@@ -55,7 +56,7 @@ gives_saves (BadConfiguration rule) p h = ap (option_map (λ file. file.name)) h
 gives_saves BadAllowance p h = ap (option_map (λ file. file.name)) h.saves_nothing
 
 -- a refusal saves none
-pub refusal_saves : (fate : Ending) → (status fate ≡ 0 → ⊥) → saver fate ≡ None
+pub refusal_saves : (ending : Ending) → (status ending ≡ 0 → ⊥) → saver ending ≡ None
 refusal_saves (Formatted name its allowance) refused = absurd (refused refl)
 refusal_saves (Ran name its image extras commands) refused = absurd (refused refl)
 refusal_saves (Keyed name its image extras commands) refused = absurd (refused refl)
@@ -78,7 +79,7 @@ refusal_saves (BadConfiguration rule) refused = refl
 refusal_saves BadAllowance refused = refl
 
 -- no ending has status 5
-pub never_five : (fate : Ending) → 5 ≡ status fate → ⊥
+pub never_five : (ending : Ending) → 5 ≡ status ending → ⊥
 never_five (Tried commands) e = absurd (omega arith)
 never_five (Formatted name its allowance) e = absurd (omega arith)
 never_five (Ran name its image extras commands) e = absurd (omega arith)
@@ -105,63 +106,64 @@ never_five BadAllowance e = absurd (omega arith)
 loading_all : (P : Ending → Type 0) (finds : List ℕ → FileFound → Type 0) (name : List ℕ)
     (next : List ℕ → Ending → ℕ → Type 0) →
     P (Image (Missing name)) → P (Image (TooLong name)) →
-    ((bytes : List ℕ) (fate : Ending) (more : ℕ) → next bytes fate more → P fate) →
-    (fate : Ending) (loads : ℕ) → Loading finds name next fate loads → P fate
-loading_all P finds name next missing long leads fate loads (there, is, h) = after there h
+    ((bytes : List ℕ) (ending : Ending) (more : ℕ) → next bytes ending more → P ending) →
+    (ending : Ending) (loads : ℕ) → Loading finds name next ending loads → P ending
+loading_all P finds name next missing long leads ending loads (there, is, h) = after there h
   where
-    after : (there : FileFound) → AfterLoad name next there fate loads → P fate
+    after : (there : FileFound) → AfterLoad name next there ending loads → P ending
     after found.Missing h = rw h.0 missing
     after found.TooLong h = rw h.0 long
-    after (found.Bytes bytes) h = leads bytes fate h.0 h.1
+    after (found.Bytes bytes) h = leads bytes ending h.0 h.1
 
 reading_all : (P : Ending → Type 0) (bytes : List ℕ) (next : Config → List Contents → Extras → Ending → Type 0) →
     ((rule : ImageError) → P (Image (BadImage rule))) →
-    ((its : Config) (image : List Contents) (extras : Extras) (fate : Ending) → next its image extras fate →
-    P fate) →
-    (fate : Ending) → Reading bytes next fate → P fate
-reading_all P bytes next bad leads fate (read, reads, h) = after read h
+    ((its : Config) (image : List Contents) (extras : Extras) (ending : Ending) → next its image extras ending →
+    P ending) →
+    (ending : Ending) → Reading bytes next ending → P ending
+reading_all P bytes next bad leads ending (read, reads, h) = after read h
   where
     after : (read : Result (Config × List Contents × Extras) ImageError) →
-        AfterReading (λ its image extras. WithoutLoad (next its image extras)) read fate 0 →
-        P fate
-    after (Ok read) h = leads read.0 read.1 read.2 fate h.0
+        AfterReading (λ its image extras. WithoutLoad (next its image extras)) read ending 0 →
+        P ending
+    after (Ok read) h = leads read.0 read.1 read.2 ending h.0
     after (Err rule) h = rw h.0 (bad rule)
 
 reading_on_all : (P : Ending → Type 0) (bytes : List ℕ) (next : Config → List Contents → Extras → Ending → ℕ → Type 0) →
     ((rule : ImageError) → P (Image (BadImage rule))) →
-    ((its : Config) (image : List Contents) (extras : Extras) (fate : Ending) (more : ℕ) →
-    next its image extras fate more → P fate) →
-    (fate : Ending) (loads : ℕ) → ReadingOn bytes next fate loads → P fate
-reading_on_all P bytes next bad leads fate loads (read, reads, h) = after read h
+    ((its : Config) (image : List Contents) (extras : Extras) (ending : Ending) (more : ℕ) →
+    next its image extras ending more → P ending) →
+    (ending : Ending) (loads : ℕ) → ReadingOn bytes next ending loads → P ending
+reading_on_all P bytes next bad leads ending loads (read, reads, h) = after read h
   where
-    after : (read : Result (Config × List Contents × Extras) ImageError) → AfterReading next read fate loads → P fate
-    after (Ok read) h = leads read.0 read.1 read.2 fate loads h
+    after : (read : Result (Config × List Contents × Extras) ImageError) → AfterReading next read ending loads →
+        P ending
+    after (Ok read) h = leads read.0 read.1 read.2 ending loads h
     after (Err rule) h = rw h.0 (bad rule)
 
 opened_all : (P : Ending → Type 0) (its : Config) (image : List Contents) (next : Ending → Type 0) →
     ((b : Breach) → P (Image (Unsound b))) →
-    ((fate : Ending) → next fate → P fate) → (fate : Ending) → Opening its image next fate → P fate
-opened_all P its image next bad leads fate (opened, opens, h) = after opened h
+    ((ending : Ending) → next ending → P ending) → (ending : Ending) → Opening its image next ending → P ending
+opened_all P its image next bad leads ending (opened, opens, h) = after opened h
   where
-    after : (opened : Result (Unit {0}) Breach) → AfterOpened next opened fate → P fate
-    after (Ok sound) h = leads fate h
+    after : (opened : Result (Unit {0}) Breach) → AfterOpened next opened ending → P ending
+    after (Ok sound) h = leads ending h
     after (Err b) h = rw h (bad b)
 
 parsing_all : (P : Ending → Type 0) (page_bytes : ℕ) (bytes : List ℕ) (next : List Command → Ending → Type 0) →
-    ((n : ℕ) → P (BadLine n)) → ((cs : List Command) (fate : Ending) → next cs fate → P fate) →
-    (fate : Ending) → Parsing page_bytes bytes next fate → P fate
-parsing_all P page_bytes bytes next bad leads fate (parsed, parses, h) = after parsed h
+    ((n : ℕ) → P (BadLine n)) → ((cs : List Command) (ending : Ending) → next cs ending → P ending) →
+    (ending : Ending) → Parsing page_bytes bytes next ending → P ending
+parsing_all P page_bytes bytes next bad leads ending (parsed, parses, h) = after parsed h
   where
-    after : (parsed : Result (List Command) ℕ) → AfterParsing next parsed fate → P fate
-    after (Ok cs) h = leads cs fate h
+    after : (parsed : Result (List Command) ℕ) → AfterParsing next parsed ending → P ending
+    after (Ok cs) h = leads cs ending h
     after (Err n) h = rw h (bad n)
 
 opening_all : (P : Ending → Type 0) (its : Config) (image : List Contents) (done : Ending) → P done →
     ((b : Breach) → P (Image (Unsound b))) →
-    (fate : Ending) → OpensAndServes its image done fate → P fate
-opening_all P its image done good bad fate (opened, opens, h) = after opened h
+    (ending : Ending) → OpensAndServes its image done ending → P ending
+opening_all P its image done good bad ending (opened, opens, h) = after opened h
   where
-    after : (opened : Result (Unit {0}) Breach) → AfterOpening done opened fate → P fate
+    after : (opened : Result (Unit {0}) Breach) → AfterOpening done opened ending → P ending
     after (Ok sound) h = rw h good
     after (Err b) h = rw h (bad b)
 
@@ -169,18 +171,19 @@ opening_all P its image done good bad fate (opened, opens, h) = after opened h
 
 -- an ending saves none, or this one
 abbrev SavesAtMost : Option (List ℕ) → Ending → Type 0
-SavesAtMost file fate = (saver fate ≡ None) ⊎ (saver fate ≡ file)
+SavesAtMost file ending = (saver ending ≡ None) ⊎ (saver ending ≡ file)
 
-run_saves : (name bytes lines : List ℕ) (fate : Ending) → Running name bytes lines fate → SavesAtMost (Some name) fate
+run_saves : (name bytes lines : List ℕ) (ending : Ending) → Running name bytes lines ending →
+    SavesAtMost (Some name) ending
 run_saves name bytes lines =
     reading_all (SavesAtMost (Some name)) bytes _ (λ rule. inl refl)
     (λ its image extras. parsing_all (SavesAtMost (Some name)) its.page_bytes lines _ (λ n. inl refl)
     (λ cs. opening_all (SavesAtMost (Some name)) its image _ (inr refl) (λ b. inl refl)))
 
-try_saves : (lines : List ℕ) (fate : Ending) → Trying lines fate → SavesAtMost None fate
-try_saves lines = parsing_all (SavesAtMost None) 16 lines _ (λ n. inl refl) (λ cs fate h. rw h (inl refl))
+try_saves : (lines : List ℕ) (ending : Ending) → Trying lines ending → SavesAtMost None ending
+try_saves lines = parsing_all (SavesAtMost None) 16 lines _ (λ n. inl refl) (λ cs ending h. rw h (inl refl))
 
-explanation_saves : (bytes : List ℕ) (fate : Ending) → Explaining bytes fate → SavesAtMost None fate
+explanation_saves : (bytes : List ℕ) (ending : Ending) → Explaining bytes ending → SavesAtMost None ending
 explanation_saves bytes =
     reading_all (SavesAtMost None) bytes _ (λ rule. inl refl)
     (λ its image extras. opening_all (SavesAtMost None) its image _ (inl refl) (λ b. inl refl))
@@ -189,11 +192,11 @@ checked_saves : (check : Result ℕ ℕ) → SavesAtMost None (check_ending chec
 checked_saves (Ok n) = inl refl
 checked_saves (Err k) = inl refl
 
-check_saves : (bytes text : List ℕ) (fate : Ending) → Checking bytes text fate → SavesAtMost None fate
+check_saves : (bytes text : List ℕ) (ending : Ending) → Checking bytes text ending → SavesAtMost None ending
 check_saves bytes text =
     reading_all (SavesAtMost None) bytes _ (λ rule. inl refl)
     (λ its image extras. opened_all (SavesAtMost None) its image _ (λ b. inl refl)
-    (λ fate h. rw h.2 (checked_saves h.0)))
+    (λ ending h. rw h.2 (checked_saves h.0)))
 
 compared_saves : (a : Config) (comes : Comparison) → SavesAtMost None (comparison_ending a comes)
 compared_saves a OneArray = inl refl
@@ -201,26 +204,27 @@ compared_saves a Shapes = inl refl
 compared_saves a (BlankAt page) = inl refl
 compared_saves a (ByteAt page at) = inl refl
 
-comparison_saves : (a : Config) (image : List Contents) (b : Config) (other : List Contents) (fate : Ending) →
-    Comparing a image b other fate →
-    SavesAtMost None fate
+comparison_saves : (a : Config) (image : List Contents) (b : Config) (other : List Contents) (ending : Ending) →
+    Comparing a image b other ending →
+    SavesAtMost None ending
 comparison_saves a image b other =
     opened_all (SavesAtMost None) a image _ (λ b. inl refl)
-    (opened_all (SavesAtMost None) b other _ (λ b. inl refl) (λ fate h. rw h.2 (compared_saves a h.0)))
+    (opened_all (SavesAtMost None) b other _ (λ b. inl refl) (λ ending h. rw h.2 (compared_saves a h.0)))
 
-keys_saves : (name bytes lines : List ℕ) (fate : Ending) → Keying name bytes lines fate → SavesAtMost (Some name) fate
+keys_saves : (name bytes lines : List ℕ) (ending : Ending) → Keying name bytes lines ending →
+    SavesAtMost (Some name) ending
 keys_saves name bytes lines =
     reading_all (SavesAtMost (Some name)) bytes _ (λ rule. inl refl)
     (λ its image extras. script_all (SavesAtMost (Some name)) lines _ (λ n. inl refl)
     (λ cs. opened_all (SavesAtMost (Some name)) its image _ (λ b. inl refl)
     (store_all (SavesAtMost (Some name)) its image _ (inr refl) (λ page. inl refl))))
 
-retire_saves : (name bytes : List ℕ) (block : ℕ) (fate : Ending) → Retiring name bytes block fate →
-    SavesAtMost (Some name) fate
+retire_saves : (name bytes : List ℕ) (block : ℕ) (ending : Ending) → Retiring name bytes block ending →
+    SavesAtMost (Some name) ending
 retire_saves name bytes block =
     reading_all (SavesAtMost (Some name)) bytes _ (λ rule. inl refl)
     (λ its image extras. opened_all (SavesAtMost (Some name)) its image _ (λ b. inl refl)
-    (λ fate h. rw h (at_most (nat_lt block (blocks_of (shape_of its))) (extras.retired == extras.allowance) its
+    (λ ending h. rw h (at_most (nat_lt block (blocks_of (shape_of its))) (extras.retired == extras.allowance) its
     image extras)))
   where
     at_most : (low worn : Bool) (its : Config) (image : List Contents) (extras : Extras) →
@@ -242,37 +246,37 @@ format_saves name its allowance (Ok shape) = by_allowance (nat_lt max_allowance 
 format_saves name its allowance (Err rule) = inl refl
 
 -- it saves no other file than that of the task
-pub ending_saves : (task : Option Request) (finds : List ℕ → FileFound → Type 0) (fate : Ending) (loads : ℕ) →
-    IsEnding task finds fate loads → SavesAtMost (file_of task) fate
-ending_saves None finds fate loads h = rw h.0 (inl refl)
-ending_saves (Some (Format image its allowance)) finds fate loads h =
+pub ending_saves : (task : Option Request) (finds : List ℕ → FileFound → Type 0) (ending : Ending) (loads : ℕ) →
+    IsEnding task finds ending loads → SavesAtMost (file_of task) ending
+ending_saves None finds ending loads h = rw h.0 (inl refl)
+ending_saves (Some (Format image its allowance)) finds ending loads h =
     rw h.0 (format_saves image its allowance (checked its))
-ending_saves (Some (Drive start count protocol)) finds fate loads h = rw h.0 (inl refl)
-ending_saves (Some (Try commands)) finds fate loads h =
+ending_saves (Some (Drive start count protocol)) finds ending loads h = rw h.0 (inl refl)
+ending_saves (Some (Try commands)) finds ending loads h =
     loading_all (SavesAtMost None) finds commands _ (inl refl) (inl refl)
-    (λ lines fate more h. try_saves lines fate h.0) fate loads h
-ending_saves (Some (Explain image)) finds fate loads h =
+    (λ lines ending more h. try_saves lines ending h.0) ending loads h
+ending_saves (Some (Explain image)) finds ending loads h =
     loading_all (SavesAtMost None) finds image _ (inl refl) (inl refl)
-    (λ bytes fate more h. explanation_saves bytes fate h.0) fate loads h
-ending_saves (Some (Retire image block)) finds fate loads h =
+    (λ bytes ending more h. explanation_saves bytes ending h.0) ending loads h
+ending_saves (Some (Retire image block)) finds ending loads h =
     loading_all (SavesAtMost (Some image)) finds image _ (inl refl) (inl refl)
-    (λ bytes fate more h. retire_saves image bytes block fate h.0) fate loads h
-ending_saves (Some (Keys image script)) finds fate loads h =
+    (λ bytes ending more h. retire_saves image bytes block ending h.0) ending loads h
+ending_saves (Some (Keys image script)) finds ending loads h =
     loading_all (SavesAtMost (Some image)) finds image _ (inl refl) (inl refl)
     (λ bytes. loading_all (SavesAtMost (Some image)) finds script _ (inl refl) (inl refl)
-    (λ lines fate more h. keys_saves image bytes lines fate h.0)) fate loads h
-ending_saves (Some (Run image commands)) finds fate loads h =
+    (λ lines ending more h. keys_saves image bytes lines ending h.0)) ending loads h
+ending_saves (Some (Run image commands)) finds ending loads h =
     loading_all (SavesAtMost (Some image)) finds image _ (inl refl) (inl refl)
     (λ bytes. loading_all (SavesAtMost (Some image)) finds commands _ (inl refl) (inl refl)
-    (λ lines fate more h. run_saves image bytes lines fate h.0)) fate loads h
-ending_saves (Some (Check image report)) finds fate loads h =
+    (λ lines ending more h. run_saves image bytes lines ending h.0)) ending loads h
+ending_saves (Some (Check image report)) finds ending loads h =
     loading_all (SavesAtMost None) finds image _ (inl refl) (inl refl)
     (λ bytes. loading_all (SavesAtMost None) finds report _ (inl refl) (inl refl)
-    (λ text fate more h. check_saves bytes text fate h.0)) fate loads h
-ending_saves (Some (Compare first second)) finds fate loads h =
+    (λ text ending more h. check_saves bytes text ending h.0)) ending loads h
+ending_saves (Some (Compare first second)) finds ending loads h =
     loading_all (SavesAtMost None) finds first _ (inl refl) (inl refl)
     (λ bytes. reading_on_all (SavesAtMost None) bytes _ (λ rule. inl refl)
     (λ a image extras. loading_all (SavesAtMost None) finds second _ (inl refl) (inl refl)
-    (λ others fate more h. reading_all (SavesAtMost None) others _ (λ rule. inl refl)
-    (λ b other extras. comparison_saves a image b other) fate h.0)))
-    fate loads h
+    (λ others ending more h. reading_all (SavesAtMost None) others _ (λ rule. inl refl)
+    (λ b other extras. comparison_saves a image b other) ending h.0)))
+    ending loads h

@@ -41,7 +41,7 @@ pub data DeliversOnDisk {D : Type 0} (state : D → DeskState) (disk : D → Opt
 -- not.
 pub data EndsOnDisk {D : Type 0} (state : D → DeskState) (disk : D → Option History) (task : Option Request)
     (old new : D) (answer : ℕ) : Type 0 where
-  Done : (it : Decision task (FindsBoth (state old) (disk old))) → answer ≡ status it.fate → (mid : D) →
+  Done : (it : Decision task (FindsBoth (state old) (disk old))) → answer ≡ status it.ending → (mid : D) →
       state mid ≡ after_saving (state old) it →
       PutsOnDisk it.given.saved (Ok tt) (disk old) (disk mid) → state new ≡ after_text it.given.text (state mid) →
       Rests (disk mid) (disk new) → EndsOnDisk state disk task old new answer

@@ -19,13 +19,13 @@ abbrev pub after_save : Option SavedFile → DeskState → DeskState
 after_save None desk = desk
 after_save (Some saved) desk = after_answer (with_file saved.name (Some saved.bytes)) desk
 
--- a fate of a task, by what is found at a name, how many loads it comes after, and what it gives
+-- an ending of a task, by what is found at a name, how many loads it comes after, and what it gives
 pub record Decision (task : Option Request) (finds : List ℕ → FileFound → Type 0) : Type 0 where
-  pub fate : Ending
+  pub ending : Ending
   pub loads : ℕ
   pub given : OutputState
-  pub is_fate : IsEnding task finds fate loads
-  pub gives : Gives fate given
+  pub is_ending : IsEnding task finds ending loads
+  pub gives : Gives ending given
 
 -- the desk before the saving, and before the saying, of what a decision gives
 abbrev pub after_loading : {task : Option Request} {finds : List ℕ → FileFound → Type 0} → DeskState →
@@ -51,12 +51,12 @@ Delivers old new p status answer =
     ⊎ (((mid : DeskState) × FileStops sink.Failed p.saved old mid × FaultTold mid new answer)
     ⊎ ((mid : DeskState) × FileStops sink.Memory p.saved old mid × MemoryTold mid new answer))
 
--- the saving of what a fate gives was answered by an error
+-- the saving of what an ending gives was answered by an error
 abbrev pub SaveStops : SinkError → (task : Option Request) → DeskState → DeskState → Type 0
 SaveStops error task old new =
     (it : Decision task (Finds old)) × FileStops error it.given.saved (after_loading old it) new
 
--- the saying of a fate's text was answered by an error, after what the fate gives was saved
+-- the saying of an ending's text was answered by an error, after what the ending gives was saved
 abbrev pub SayStops : SinkError → (task : Option Request) → DeskState → DeskState → Type 0
 SayStops error task old new =
     (it : Decision task (Finds old)) × TextStops error it.given.text (after_saving old it) new
@@ -74,9 +74,9 @@ IsFaulted task old new =
 -- there was no memory for the line of a refusal
 abbrev pub LineStarves : Option Request → DeskState → DeskState → Type 0
 LineStarves task old new =
-    (it : Decision task (Finds old)) × (status it.fate ≢ 0) × (new ≡ after_loading old it)
+    (it : Decision task (Finds old)) × (status it.ending ≢ 0) × (new ≡ after_loading old it)
 
--- Memory ran out before a fate was decided, or for its line, or in the saving of what it gives, or
+-- Memory ran out before an ending was decided, or for its line, or in the saving of what it gives, or
 -- in the saying.
 abbrev pub RunsOutOfMemory : Option Request → DeskState → DeskState → Type 0
 RunsOutOfMemory task old new =
@@ -88,10 +88,10 @@ abbrev pub IsStarved : Option Request → DeskState → DeskState → Type 0
 IsStarved task old new =
     (mid : DeskState) × RunsOutOfMemory task old mid × Attempts mid new (line (codes "no memory"))
 
--- How a call of the program ends, with which status: a fate decided, what it gives was saved, and
+-- How a call of the program ends, with which status: an ending decided, what it gives was saved, and
 -- its text was said whole; or a call of the desk failed; or memory ran out.
 pub data EndsCall (task : Option Request) (old new : DeskState) (answer : ℕ) : Type 0 where
-  Decided : (it : Decision task (Finds old)) → answer ≡ status it.fate →
+  Decided : (it : Decision task (Finds old)) → answer ≡ status it.ending →
       new ≡ after_text it.given.text (after_saving old it) →
       EndsCall task old new answer
   Faulted : answer ≡ 5 → IsFaulted task old new → EndsCall task old new answer
@@ -99,17 +99,17 @@ pub data EndsCall (task : Option Request) (old new : DeskState) (answer : ℕ) :
 
 -- ---- which status comes
 
--- the desk tells what the fate of a task hangs on: its files, where the task loads any
+-- the desk tells what the ending of a task hangs on: its files, where the task loads any
 abbrev pub TellsEnding : Option Request → DeskState → Type 0
 TellsEnding task desk = (files_of task ≡ []) ⊎ IsSome desk.told
 
--- Where the desk tells it, a task has one fate, which gives its status, unless the desk's count of
+-- Where the desk tells it, a task has one ending, which gives its status, unless the desk's count of
 -- faults rose or memory ran out.
 pub record IsExact (task : Option Request) (old new : DeskState) (answer : ℕ) : Type 0 where
-  pub one_fate : (a b : Ending) (m n : ℕ) → TellsEnding task old → IsEnding task (Finds old) a m →
+  pub one_ending : (a b : Ending) (m n : ℕ) → TellsEnding task old → IsEnding task (Finds old) a m →
       IsEnding task (Finds old) b n → a ≡ b
-  pub fate_gives : (fate : Ending) (loads : ℕ) → IsEnding task (Finds old) fate loads → TellsEnding task old →
-      (Rose old.faults new.faults → ⊥) → (answer ≡ status fate) ⊎ (answer ≡ 6)
+  pub ending_gives : (ending : Ending) (loads : ℕ) → IsEnding task (Finds old) ending loads → TellsEnding task old →
+      (Rose old.faults new.faults → ⊥) → (answer ≡ status ending) ⊎ (answer ≡ 6)
 
 -- ---- which file changes
 

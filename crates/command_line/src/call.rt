@@ -3,6 +3,7 @@ ghost use Rattle.std.specs.Option.{option_map};
 ghost use Rattle.durable_folder.specs.Histories.{Rests};
 ghost use Rattle.desk_io.specs.Desk.{Rose};
 ghost use Rattle.desk_io.specs.Disk.{FindsBoth};
+ghost use Rattle.program_base.specs.Statuses.{code};
 ghost use Rattle.desk_tasks.specs.Stops.{Works, file_saved, output_of};
 ghost use Rattle.command_line.specs.Disk.{DeliversOnDisk, EndsOnDisk, PutsFile, PutsOnDisk};
 ghost use Rattle.command_line.specs.Top.{Delivers, EndsCall, IsExact, LeavesFiles};
@@ -14,7 +15,7 @@ use desk_tasks::{
     Failure, File, MAX_DRAWS, Output, Refusal, do_check, do_compare, do_drive, do_explain,
     do_format, do_keys, do_retire, do_run, do_try,
 };
-use program_base::{ImageRefusal, desk_fault, no_memory, refuse, say};
+use program_base::{ImageRefusal, Status, desk_fault, no_memory, refuse, say};
 use std::alloc::Global;
 
 // What the clauses cite by name.
@@ -37,13 +38,13 @@ pub fn top<D: Desk>(alloc: Global, words: &[String], desk: &mut D) -> u8
     ensures files { LeavesFiles (request_by words.now) (D.state desk.old) (D.state desk.new) result }
     ensures disk { EndsOnDisk D.state D.disk (request_by words.now) desk.old desk.new result }
 {
-    run(alloc, words, desk)
+    run(alloc, words, desk).code()
 }
 
 /// The same, by how it ends.
-fn run<D: Desk>(alloc: Global, words: &[String], desk: &mut D) -> u8
-    ensures ends { EndsCall (request_by words.now) (D.state desk.old) (D.state desk.new) result }
-    ensures disk { EndsOnDisk D.state D.disk (request_by words.now) desk.old desk.new result }
+fn run<D: Desk>(alloc: Global, words: &[String], desk: &mut D) -> Status
+    ensures ends { EndsCall (request_by words.now) (D.state desk.old) (D.state desk.new) (code result) }
+    ensures disk { EndsOnDisk D.state D.disk (request_by words.now) desk.old desk.new (code result) }
 {
     match work(alloc, words, desk) {
         Ok(product) => deliver(desk, &product),
@@ -100,13 +101,13 @@ fn put<D: Desk>(desk: &mut D, saved: &Option<File>) -> Result<(), SinkError>
     }
 }
 
-/// Saves a file, if there is one, and then says a text. The status is 0 where that is done.
-fn deliver<D: Desk>(desk: &mut D, product: &Output) -> u8
-    ensures delivers { Delivers (D.state desk.old) (D.state desk.new) (output_of product.now) 0 result }
-    ensures disk { DeliversOnDisk D.state D.disk (output_of product.now) desk.old desk.new result }
+/// Saves a file, if there is one, and then says a text. The status is `Done` where both are done.
+fn deliver<D: Desk>(desk: &mut D, product: &Output) -> Status
+    ensures delivers { Delivers (D.state desk.old) (D.state desk.new) (output_of product.now) 0 (code result) }
+    ensures disk { DeliversOnDisk D.state D.disk (output_of product.now) desk.old desk.new (code result) }
 {
     match put(desk, &product.saved) {
-        Ok(()) => say(desk, product.text.as_slice(), 0),
+        Ok(()) => say(desk, product.text.as_slice(), Status::Done),
         Err(SinkError::Failed) => desk_fault(desk),
         Err(SinkError::Memory) => no_memory(desk),
     }

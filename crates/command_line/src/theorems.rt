@@ -5,7 +5,7 @@ ghost use Rattle.tx_types.specs.declared.config.Config.{Config};
 ghost use Rattle.tx_types.specs.Config.{shape_of};
 ghost use Rattle.flash_model.specs.Flash.{Contents, Extras};
 ghost use Rattle.flash_model.specs.Operations.{Moment};
-ghost use Rattle.version_index.specs.Images.{IsSoundImage, array_in};
+ghost use Rattle.judged_records.specs.Images.{IsSoundImage, array_in};
 ghost use Rattle.array_machine.specs.ArrayState.{idle, Represents};
 ghost use Rattle.tx_engine.specs.DeviceState.{limits_of};
 ghost use Rattle.host_protocol.specs.declared.command.Command.{Command};

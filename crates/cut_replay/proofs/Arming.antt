@@ -1,5 +1,5 @@
 -- Commands that set an arm.
-use Rattle.cut_replay.proofs.Common.{◌≡◌, ◌⊎◌, ℕ, ◌≤◌, Bool, true, false, ◌||◌, List, Option, Some, None, Ok, refl, sym, ap, ◌∙◌, subst, inr, arith, inl, MatchBool, IfSome, Config, Protocol, shape_of, FlashState, Told, BothTell, NoMoreToCome, Moment, moment_of, mention, IsSoundImage, records_in, CachedPage, PageCacheState, DeviceState, Command, is_arm, seen_after, Point, IsPoint, ServesFlash, first_point, IsSet, HoldsAlways, point_at, IsCachedAs, IsCached, flash_in, point_of, Fits, StandsAt, StandsMounted, IsSpentBy, ServesSession, CachesSession, Serves, Session}
+use Rattle.cut_replay.proofs.Common.{◌≡◌, ◌⊎◌, ℕ, ◌≤◌, Bool, true, false, ◌||◌, List, Option, Some, None, Ok, refl, sym, ap, ◌∙◌, subst, inr, arith, inl, MatchBool, IfSome, Config, Protocol, shape_of, FlashState, Told, BothTell, NoMoreToCome, Moment, moment_of, mention, IsSoundImage, records_in, CachedPage, PageCacheState, DeviceState, Command, is_arm, seen_after, Point, IsPoint, ServesFlash, first_point, IsSet, HoldsAlways, point_at, IsCachedAs, IsCached, flash_in, point_of, Fits, StandsAt, StandsMounted, IsSpentBy, ServesSession, CachesSession, Serves, DeviceSession}
 use Rattle.std.proofs.lemmas.List.Elements.{All-weaker}
 use Rattle.std.proofs.lemmas.Bool.{or_parts}
 use Rattle.flash_model.specs.declared.outcome.Outcome.{Outcome}
@@ -7,8 +7,11 @@ use Rattle.flash_model.specs.Arms.{ChangesTold, SetsCut, SetsFault, SetsBadRead}
 use Rattle.host_protocol.specs.declared.command.Command.TheVariants as command
 use Rattle.host_protocol.specs.declared.reply.Reply.TheVariants as reply
 use Rattle.tx_engine.proofs.OfDevice.Seen.{seen_flash}
-use Rattle.cut_replay.specs.Sessions.{IsNotDropped, SetsArm, CachesFrom}
-use Rattle.cut_replay.specs.declared.session.Session.TheVariants as session
+use Rattle.flash_model.proofs.CallLemmas.{no_more_same}
+use Rattle.mounted_session.proofs.Beginning.{sets_flash}
+use Rattle.mounted_session.proofs.Telling.{then_told, weaker_told}
+use Rattle.cut_replay.specs.Sessions.{IsNotDropped, SetsArm, SetsArmHere, CachesFrom}
+use Rattle.mounted_session.specs.declared.session.Session.TheVariants as session
 use Rattle.cut_replay.proofs.Mountings.{mounted_point}
 use Rattle.cut_replay.proofs.Followed.{always_point}
 use Rattle.cut_replay.proofs.Lifted.{Cases}
@@ -47,28 +50,13 @@ arming_bad_read count = record {
       λ x y h. h.bad_read;
 }
 
--- Of what the flash tells
-pub weaker_told : (P Q : Told → Told → Type 0) → ((x y : Told) → P x y → Q x y) → (a b : Option Told) → BothTell P a b →
-    BothTell Q a b
-weaker_told P Q weaker None None h = tt
-weaker_told P Q weaker None (Some y) h = absurd h
-weaker_told P Q weaker (Some x) None h = absurd h
-weaker_told P Q weaker (Some x) (Some y) h = weaker x y h
-
-then_told : (P : Told → Told → Type 0) (Q : Told → Type 0) → ((x y : Told) → P x y → Q y) → (a b : Option Told) →
-    BothTell P a b → IfSome b Q
-then_told P Q then None None h = tt
-then_told P Q then None (Some y) h = absurd h
-then_told P Q then (Some x) None h = tt
-then_told P Q then (Some x) (Some y) h = then x y h
-
 still_armed : (sets : Told → Told → Type 0) (old new : FlashState) → ChangesTold sets old new →
     moment_of new ≡ moment_of old
 still_armed sets old new h = ap moment_of h.stays
 
 -- the point stays
-same_point : {F R : Type 0} (state : F → FlashState) (its : Config) (protocol : Protocol) (sets : Told → Told → Type 0)
-    (old new : Session F R) →
+same_point : {F : Type 0} (state : F → FlashState) (its : Config) (protocol : Protocol) (sets : Told → Told → Type 0)
+    (old new : DeviceSession F) →
     SetsArm state protocol sets old new → point_of state its new ≡ point_of state its old
 same_point {F = F} state its protocol sets (session.Mounted s) (session.Mounted t) h =
     ap (λ (x : DeviceState F). record {
@@ -82,19 +70,17 @@ same_point state its protocol sets (session.Unmounted e) (session.Mounted t) h =
 same_point state its protocol sets (session.Unmounted e) (session.Unmounted f) h =
     ap (λ (m : Moment). first_point its false m) (still_armed sets (state e) (state f) h)
 
-armed_told : {F R : Type 0} (state : F → FlashState) (protocol : Protocol) (sets : Told → Told → Type 0)
-    (old new : Session F R) →
-    SetsArm state protocol sets old new →
-    BothTell sets (state (flash_in old)).told (state (flash_in new)).told
-armed_told state protocol sets (session.Mounted s) (session.Mounted t) h = h.changes.told
-armed_told state protocol sets (session.Mounted s) (session.Unmounted f) h = absurd h
-armed_told state protocol sets (session.Unmounted e) (session.Mounted t) h = absurd h
-armed_told state protocol sets (session.Unmounted e) (session.Unmounted f) h = h.told
+-- the arm was set on its flash
+armed_flash : {F : Type 0} (state : F → FlashState) (protocol : Protocol) (sets : Told → Told → Type 0)
+    (old new : DeviceSession F) →
+    SetsArm state protocol sets old new → ChangesTold sets (state (flash_in old)) (state (flash_in new))
+armed_flash {F = F} state protocol sets = sets_flash state (λ (d : DeviceState F). d.flash) sets
+    (SetsArmHere state protocol sets) (λ s t h. h.changes)
 
 -- what stands still stands
-armed_stands : {F R : Type 0} (state : F → FlashState) (its : Config) (protocol : Protocol)
+armed_stands : {F : Type 0} (state : F → FlashState) (its : Config) (protocol : Protocol)
     (sets : Told → Told → Type 0) (c : Command) (seen : ℕ →
-    ℕ) (faulted : Bool) (old new : Session F R) →
+    ℕ) (faulted : Bool) (old new : DeviceSession F) →
     SetsArm state protocol sets old new → StandsAt state its seen faulted old →
     StandsAt state its (seen_after seen c reply.Armed) (faulted || false) new
 armed_stands {F = F} state its protocol sets c seen faulted (session.Mounted s) (session.Mounted t) h stands =
@@ -114,34 +100,10 @@ armed_stands state its protocol sets c seen faulted (session.Unmounted e) (sessi
           (sym moment) (stands.mentions page lt);
     }
 
-armed_faults : {F R : Type 0} (state : F → FlashState) (protocol : Protocol) (sets : Told → Told → Type 0)
-    (old new : Session F R) →
-    SetsArm state protocol sets old new → (state (flash_in new)).faults ≡ (state (flash_in old)).faults
-armed_faults state protocol sets (session.Mounted s) (session.Mounted t) h =
-    ap (λ (x : FlashState). x.faults) h.changes.stays
-armed_faults state protocol sets (session.Mounted s) (session.Unmounted f) h = absurd h
-armed_faults state protocol sets (session.Unmounted e) (session.Mounted t) h = absurd h
-armed_faults state protocol sets (session.Unmounted e) (session.Unmounted f) h =
-    ap (λ (x : FlashState). x.faults) h.stays
-
-armed_extras : {F R : Type 0} (state : F → FlashState) (protocol : Protocol) (sets : Told → Told → Type 0)
-    (old new : Session F R) →
-    SetsArm state protocol sets old new → (state (flash_in new)).extras ≡ (state (flash_in old)).extras
-armed_extras state protocol sets (session.Mounted s) (session.Mounted t) h =
-    ap (λ (x : FlashState). x.extras) h.changes.stays
-armed_extras state protocol sets (session.Mounted s) (session.Unmounted f) h = absurd h
-armed_extras state protocol sets (session.Unmounted e) (session.Mounted t) h = absurd h
-armed_extras state protocol sets (session.Unmounted e) (session.Unmounted f) h =
-    ap (λ (x : FlashState). x.extras) h.stays
-
-same_told : (a : Option Told) → BothTell NoMoreToCome a a
-same_told None = tt
-same_told (Some x) = (omega arith, omega arith)
-
 -- and the point is one still
-armed_point : {F R : Type 0} (state : F → FlashState) (its : Config) (protocol : Protocol) (sets : Told → Told → Type 0)
+armed_point : {F : Type 0} (state : F → FlashState) (its : Config) (protocol : Protocol) (sets : Told → Told → Type 0)
     (entries : List CachedPage) (seen : ℕ →
-    ℕ) (faulted : Bool) (old new : Session F R) →
+    ℕ) (faulted : Bool) (old new : DeviceSession F) →
     SetsArm state protocol sets old new → Fits state its entries old → StandsAt state its seen faulted old →
     IsPoint its (point_of state its new)
 armed_point state its protocol sets entries seen faulted (session.Mounted s) (session.Mounted t) h fits stands =
@@ -151,16 +113,16 @@ armed_point state its protocol sets entries seen faulted (session.Mounted s) (se
     absurd h
 armed_point state its protocol sets entries seen faulted (session.Unmounted e) (session.Mounted t) h fits stands =
     absurd h
-armed_point {F = F} {R = R} state its protocol sets entries seen faulted (session.Unmounted e) (session.Unmounted f)
+armed_point {F = F} state its protocol sets entries seen faulted (session.Unmounted e) (session.Unmounted f)
     h fits stands =
-    let after : Session F R = session.Unmounted e in
+    let after : DeviceSession F = session.Unmounted e in
     subst (λ (p : Point). IsPoint its p)
-    (sym (same_point {R = R} state its protocol sets after (session.Unmounted f) h))
-    (mounted_point {R = R} state its e after (record {
+    (sym (same_point state its protocol sets after (session.Unmounted f) h))
+    (mounted_point state its e after (record {
       moment = refl;
       shape = refl;
       later = omega arith;
-      told = same_told (state e).told;
+      told = no_more_same (state e).told;
       extras =
           refl;
     }) stands.sound)
@@ -171,45 +133,35 @@ armed_serves_flash : (its : Config) (spent : ℕ → Bool) (faulted : Bool) (c :
 armed_serves_flash its spent faulted c old new arm same = subst (λ b. MatchBool b ((reply.Armed ≡ reply.Armed) ×
     (new ≡ old)) (Cases its spent faulted c old reply.Armed new)) (sym arm) (refl, same)
 
-armed_moment : {F R : Type 0} (state : F → FlashState) (protocol : Protocol) (sets : Told → Told → Type 0)
-    (old new : Session F R) →
-    SetsArm state protocol sets old new →
-    moment_of (state (flash_in new)) ≡ moment_of (state (flash_in old))
-armed_moment state protocol sets (session.Mounted s) (session.Mounted t) h =
-    still_armed sets (state s.flash) (state t.flash) h.changes
-armed_moment state protocol sets (session.Mounted s) (session.Unmounted f) h = absurd h
-armed_moment state protocol sets (session.Unmounted e) (session.Mounted t) h = absurd h
-armed_moment state protocol sets (session.Unmounted e) (session.Unmounted f) h = still_armed sets (state e) (state f) h
-
-armed_serves : {F R : Type 0} (state : F → FlashState) (its : Config) (protocol : Protocol) (sets : Told → Told →
-    Type 0) (entries : List CachedPage) (c : Command) (old new : Session F R) →
+armed_serves : {F : Type 0} (state : F → FlashState) (its : Config) (protocol : Protocol) (sets : Told → Told →
+    Type 0) (entries : List CachedPage) (c : Command) (old new : DeviceSession F) →
     IsArming c sets → Fits state its entries old → SetsArm state protocol sets old new →
     ServesSession state its c old reply.Armed new
-armed_serves state its protocol sets entries c old new arming fits h = record {
-  in_run = λ seen faulted stands. record {
-    spent = λ page. false;
-    may = λ page spent. (let not : false ≡ true = spent in absurd cc);
-    serves = armed_serves_flash its (λ page. false) faulted c (point_of state its old)
-        (point_of state its new) arming.arm
-        (same_point state its protocol sets old new h);
-    point = armed_point state its protocol sets entries seen faulted old new h fits stands;
-    stands = armed_stands state its protocol sets c seen faulted old new h stands;
-  };
-  kept = inr (armed_moment state protocol sets old new h);
-  unsound = λ unsound. subst (λ b. MatchBool b (reply.Armed ≡ reply.Armed) ((reply.Armed ≡ reply.Fault)
-      ⊎ (reply.Armed ≡ reply.Cut))) (sym arming.arm) refl;
-  spends = weaker_told sets (IsSpentBy c reply.Armed) arming.spent (state (flash_in old)).told
-      (state (flash_in new)).told
-      (armed_told state protocol sets old new h);
-  set = then_told sets (IsSet c) arming.set (state (flash_in old)).told (state (flash_in new)).told
-      (armed_told state protocol sets old new h);
-  faults = armed_faults state protocol sets old new h;
-  mounts = inl (λ cut. cc);
-  extras = armed_extras state protocol sets old new h;
-}
+armed_serves state its protocol sets entries c old new arming fits h =
+    let flash = armed_flash state protocol sets old new h in
+    record {
+      in_run = λ seen faulted stands. record {
+        spent = λ page. false;
+        may = λ page spent. (let not : false ≡ true = spent in absurd cc);
+        serves = armed_serves_flash its (λ page. false) faulted c (point_of state its old)
+            (point_of state its new) arming.arm
+            (same_point state its protocol sets old new h);
+        point = armed_point state its protocol sets entries seen faulted old new h fits stands;
+        stands = armed_stands state its protocol sets c seen faulted old new h stands;
+      };
+      kept = inr (still_armed sets (state (flash_in old)) (state (flash_in new)) flash);
+      unsound = λ unsound. subst (λ b. MatchBool b (reply.Armed ≡ reply.Armed) ((reply.Armed ≡ reply.Fault)
+          ⊎ (reply.Armed ≡ reply.Cut))) (sym arming.arm) refl;
+      spends = weaker_told sets (IsSpentBy c reply.Armed) arming.spent (state (flash_in old)).told
+          (state (flash_in new)).told flash.told;
+      set = then_told sets (IsSet c) arming.set (state (flash_in old)).told (state (flash_in new)).told flash.told;
+      faults = ap (λ (x : FlashState). x.faults) flash.stays;
+      mounts = inl (λ cut. cc);
+      extras = ap (λ (x : FlashState). x.extras) flash.stays;
+    }
 
 -- a session that fits is kept
-pub fits_kept : {F R : Type 0} (state : F → FlashState) (its : Config) (entries : List CachedPage) (s : Session F R) →
+pub fits_kept : {F : Type 0} (state : F → FlashState) (its : Config) (entries : List CachedPage) (s : DeviceSession F) →
     Fits state its entries s → IsNotDropped s
 fits_kept state its entries (session.Mounted s) fits = fits.always.kept
 fits_kept state its entries (session.Unmounted e) fits = tt
@@ -219,8 +171,8 @@ fits_flash : {F : Type 0} (s : DeviceState F) (flash : F) (e : CachedPage) → I
     IsCachedAs (record s { flash = flash }) e
 fits_flash s flash e h = record { exists = h.exists; least = h.least; current = h.current }
 
-armed_fits : {F R : Type 0} (state : F → FlashState) (its : Config) (protocol : Protocol) (sets : Told → Told →
-    Type 0) (entries : List CachedPage) (old new : Session F R) → its.protocol ≡ protocol →
+armed_fits : {F : Type 0} (state : F → FlashState) (its : Config) (protocol : Protocol) (sets : Told → Told →
+    Type 0) (entries : List CachedPage) (old new : DeviceSession F) → its.protocol ≡ protocol →
     Fits state its entries old → SetsArm state protocol sets old new → Fits state its entries new
 armed_fits {F = F} state its protocol sets entries (session.Mounted s) (session.Mounted t) rule fits h = record {
   config = ap (λ (x : DeviceState F). x.config) h.stays ∙ fits.config;
@@ -237,23 +189,23 @@ armed_fits state its protocol sets entries (session.Unmounted e) (session.Unmoun
     ∙ ap (λ (x : FlashState). Ok x.shape) (sym h.stays)
 
 -- at the command that was read
-armed_as : {F R : Type 0} (state : F → FlashState) (its : Config) (protocol : Protocol) (sets : Told → Told →
-    Type 0) (entries : List CachedPage) (c d : Command) (old new : Session F R) →
+armed_as : {F : Type 0} (state : F → FlashState) (its : Config) (protocol : Protocol) (sets : Told → Told →
+    Type 0) (entries : List CachedPage) (c d : Command) (old new : DeviceSession F) →
     c ≡ d → IsArming d sets → Fits state its entries old → SetsArm state protocol sets old new →
     ServesSession state its c old reply.Armed new
 armed_as state its protocol sets entries c d old new is arming fits h =
     subst (λ x. ServesSession state its x old reply.Armed new) (sym is)
     (armed_serves state its protocol sets entries d old new arming fits h)
 
-armed_caches : {F R : Type 0} (state : F → FlashState) (its : Config) (c : Command) (old new : Session F R)
+armed_caches : {F : Type 0} (state : F → FlashState) (its : Config) (c : Command) (old new : DeviceSession F)
     (cache : PageCacheState) → is_arm c ≡ true →
     CachesSession state its c old reply.Armed new cache cache
 armed_caches state its c old new cache arm =
     subst (λ b. MatchBool b (cache ≡ cache) (CachesFrom state its c old reply.Armed new cache cache)) (sym arm) refl
 
 -- the whole of it
-pub armed : {F R : Type 0} (state : F → FlashState) (its : Config) (protocol : Protocol) (sets : Told → Told →
-    Type 0) (cache : PageCacheState) (c d : Command) (old new : Session F R) →
+pub armed : {F : Type 0} (state : F → FlashState) (its : Config) (protocol : Protocol) (sets : Told → Told →
+    Type 0) (cache : PageCacheState) (c d : Command) (old new : DeviceSession F) →
     c ≡ d → IsArming d sets → its.protocol ≡ protocol → Fits state its cache.entries old →
     SetsArm state protocol sets old new →
     Serves state its c old (Ok reply.Armed) new cache cache

@@ -5,7 +5,7 @@ use Rattle.std.specs.Prelude.{All, ◌==◌, find, is_some, OnErr}
 use Rattle.std.specs.Option.{option_map_or}
 use Rattle.std.proofs.lemmas.Bool.{and_parts}
 use Rattle.std.proofs.lemmas.List.Elements.{All-head, All-tail, All-cons, All-take}
-use Rattle.version_index.specs.IndexState.{current_of}
+use Rattle.judged_records.specs.IndexState.{current_of}
 use Rattle.page_cache.specs.PageCacheState.{has_key, cached_page, without_page, promoted, kept}
 use Rattle.page_cache.proofs.Pages.{promoted-missing}
 

@@ -8,19 +8,24 @@ pub use Rattle.array_runs.specs.Run.{is_arm, seen_after, DoesCommand, is_break, 
 pub use Rattle.cut_replay.specs.Beginning.{Begins}
 pub use Rattle.cut_replay.specs.Bounds.{IsSet, CountsBreaks, CountsBreak}
 pub use Rattle.cut_replay.specs.FlashRun.{Point, IsPoint, ServesFlash, first_point, mentions_in, Tells, MovesBy, IsDone, last_state, FlashRun}
-pub use Rattle.cut_replay.specs.Mounted.{point_at, IsCachedAs, IsCached, ServesHere, MomentStays}
+pub use Rattle.cut_replay.specs.Mounted.{point_at, IsCachedAs, IsCached, ServesHere}
+pub use Rattle.mounted_session.specs.Mounting.{MomentStays}
+pub use Rattle.mounted_session.specs.Devices.{MountsIn}
 pub use Rattle.cut_replay.specs.MountedAgain.{MountsAfter}
 pub use Rattle.cut_replay.specs.Served.{Watched, ServesUnsound}
-pub use Rattle.cut_replay.specs.Sessions.{flash_in, point_of, Fits, StandsAt, StandsMounted, IsSpentBy, ServesSession, CachesSession, Serves, IsSoundFlash, IsSoundOrSame, Mounted, Unmounted, ServesIn, EndsServing, MountsIn}
+pub use Rattle.cut_replay.specs.Sessions.{DeviceSession, flash_in, point_of, Fits, StandsAt, StandsMounted, IsSpentBy, ServesSession, CachesSession, Serves, IsSoundFlash, IsSoundOrSame, Mounted, Unmounted, ServesIn, EndsServing}
 pub use Rattle.cut_replay.specs.Watching.{Grew}
 pub use Rattle.cut_replay.specs.declared.serving.ServeError.{ServeError}
-pub use Rattle.cut_replay.specs.declared.session.Session.{Session}
 pub use Rattle.flash_model.specs.Calls.{BothTell, NoMoreToCome, Spends, Carries, Rose}
 pub use Rattle.flash_model.specs.Flash.{FlashState, Told, counted_by}
 pub use Rattle.flash_model.specs.Operations.{Moment, moment_of}
 pub use Rattle.host_protocol.specs.Replies.{text_of}
 pub use Rattle.host_protocol.specs.declared.command.Command.{Command}
 pub use Rattle.host_protocol.specs.declared.reply.Reply.{Reply}
+pub use Rattle.judged_records.proofs.OfNotes.OneBreach.{sound_unbroken}
+pub use Rattle.judged_records.specs.Images.{IsSoundImage, records_in}
+unfoldable pub use Rattle.judged_records.specs.Images.{array_in}
+pub use Rattle.judged_records.specs.IndexState.{IndexState}
 pub use Rattle.page_cache.specs.PageCacheState.{CachedPage, PageCacheState}
 pub use Rattle.record_list.specs.Records.{mention}
 pub use Rattle.tx_engine.specs.Always.{HoldsAlways, IsSeen}
@@ -31,7 +36,3 @@ pub use Rattle.tx_types.specs.declared.config.Config.{Config}
 pub use Rattle.tx_types.specs.declared.config.Protocol.{Protocol}
 pub use Rattle.tx_types.specs.declared.config.Shape.{Shape}
 pub use Rattle.tx_types.specs.declared.memory.Memory.{Memory}
-pub use Rattle.version_index.proofs.OfTables.OneBreach.{sound_unbroken}
-pub use Rattle.version_index.specs.Images.{IsSoundImage, records_in}
-unfoldable pub use Rattle.version_index.specs.Images.{array_in}
-pub use Rattle.version_index.specs.IndexState.{IndexState}

@@ -1,16 +1,16 @@
 -- What a command comes to that was done on a mounted device.
-use Rattle.cut_replay.proofs.Common.{◌≡◌, ℕ, ◌<◌, ◌≤◌, Bool, true, false, List, [], Result, Ok, Err, refl, sym, ap, ◌∙◌, subst, inl, inr, arith, MatchBool, IfOk, OnOk, cases_Bool, Config, Protocol, checked, shape_of, FlashState, BothTell, Rose, Spends, Carries, Moment, moment_of, mention, IsSoundImage, array_in, records_in, PageCacheState, CachedPage, idle, is_spent, DeviceState, Command, Reply, CutLeavesOf, is_arm, is_break, IsPoint, MovesBy, is_fault, is_lost, CountsBreak, IsSeen, HoldsAlways, point_at, IsCached, ServesHere, flash_in, IsSoundFlash, Fits, StandsMounted, IsSpentBy, ServesIn, ServesSession, EndsServing, Serves, CachesSession, ServeError, Session}
+use Rattle.cut_replay.proofs.Common.{◌≡◌, ℕ, ◌<◌, ◌≤◌, Bool, true, false, List, [], Result, Ok, Err, refl, sym, ap, ◌∙◌, subst, inl, inr, arith, MatchBool, IfOk, OnOk, cases_Bool, Config, Protocol, checked, shape_of, FlashState, BothTell, Rose, Spends, Carries, Moment, moment_of, mention, IsSoundImage, array_in, records_in, PageCacheState, CachedPage, idle, is_spent, DeviceState, Command, Reply, CutLeavesOf, is_arm, is_break, IsPoint, MovesBy, is_fault, is_lost, CountsBreak, IsSeen, HoldsAlways, point_at, IsCached, ServesHere, flash_in, IsSoundFlash, Fits, StandsMounted, IsSpentBy, ServesIn, ServesSession, EndsServing, Serves, CachesSession, ServeError, DeviceSession}
 use Rattle.std.specs.Prelude.{nat_le, ◌^◌, IfErr}
 use Rattle.std.proofs.lemmas.Bool.{or_parts}
 use Rattle.std.proofs.lemmas.Bool.Decides.{nat_tests}
-use Rattle.version_index.specs.IndexState.{mention_of}
+use Rattle.judged_records.specs.IndexState.{mention_of}
 use Rattle.tx_engine.proofs.OfDevice.Seen.{image_seen}
 use Rattle.host_protocol.specs.declared.reply.Reply.TheVariants as reply
 use Rattle.array_runs.specs.Run.{MayBeSpent}
 use Rattle.cut_replay.specs.Mounted.{CachesCommand}
 use Rattle.cut_replay.specs.Sessions.{FitsMounted}
 use Rattle.cut_replay.specs.Sessions.{Follows, left}
-use Rattle.cut_replay.specs.declared.session.Session.TheVariants as session
+use Rattle.mounted_session.specs.declared.session.Session.TheVariants as session
 use Rattle.cut_replay.proofs.Losing.{Sessions, FitsAfter, ServesAfter, EndsAfter, CachesAfter, WasLost, served_no_arm, again_serves, again_ends, again_fits}
 use Rattle.cut_replay.proofs.Losing.{again_caches, no_arm_caches}
 use Rattle.cut_replay.proofs.Spending.{is_its_fault, uncut, spends_none, spends_fault, spends_cut, sets_none}
@@ -30,11 +30,11 @@ pub always_point : {F : Type 0} (state : F → FlashState) (protocol : Protocol)
 always_point state protocol s h = record { sound = h.sound; array = h.array }
 
 -- Power was not cut
-pub done_in : {F R : Type 0} (state : F → FlashState) (protocol : Protocol) (c : Command) (s t : DeviceState F)
+pub done_in : {F : Type 0} (state : F → FlashState) (protocol : Protocol) (c : Command) (s t : DeviceState F)
     (r : Reply) (seen : ℕ → ℕ) (faulted : Bool) →
     is_arm c ≡ false →
     ServesHere state c s t r → HoldsAlways state protocol t → StandsMounted seen faulted s →
-    ServesIn {R = R} state s.config seen faulted c (session.Mounted s) r (session.Mounted t)
+    ServesIn state s.config seen faulted c (session.Mounted s) r (session.Mounted t)
 done_in state protocol c s t r seen faulted no_arm h always stands = record {
   spent = is_spent s.noted.mentions;
   may = may_be_spent seen s stands.mentions;
@@ -102,15 +102,15 @@ pub after_check : {F : Type 0} (state : F → FlashState) (its : Config) (c : Co
     WasDone state its c s t r entries → checked its ≡ Ok (state t.flash).shape
 after_check state its c s t r entries w = ap checked (sym (w.here.config ∙ w.config)) ∙ w.always.check
 
-pub fits_after : {F R : Type 0} (state : F → FlashState) (its : Config) (c : Command) (s t : DeviceState F) (r : Reply)
-    (result : Sessions F R)
+pub fits_after : {F : Type 0} (state : F → FlashState) (its : Config) (c : Command) (s t : DeviceState F) (r : Reply)
+    (result : Sessions F)
     (before after : PageCacheState) →
     WasDone state its c s t r before.entries → Follows state its (session.Mounted t) r result before after →
-    FitsAfter F R state its after.entries result
-fits_after {F = F} {R = R} state its c s t r result before after w follows = elim (cases_Bool (state t.flash).live) [
+    FitsAfter F state its after.entries result
+fits_after {F = F} state its c s t r result before after w follows = elim (cases_Bool (state t.flash).live) [
   | inl on ↦ (
       let went = follows.went_on on in
-      subst (λ (x : Sessions F R). FitsAfter F R state its after.entries x) (sym went.0) (record {
+      subst (λ (x : Sessions F). FitsAfter F state its after.entries x) (sym went.0) (record {
         config = w.here.config ∙ w.config;
         check = after_check state its c s t r before.entries w;
         live = on;
@@ -119,7 +119,7 @@ fits_after {F = F} {R = R} state its c s t r result before after w follows = eli
       }))
   | inr off ↦ (
       let cut = follows.was_cut off in
-      subst (λ (x : PageCacheState). FitsAfter F R state its x.entries result) (sym cut.1)
+      subst (λ (x : PageCacheState). FitsAfter F state its x.entries result) (sym cut.1)
       (again_fits state its t.flash reply.Cut result (after_check state its c s t r before.entries w) cut.0))
 ]
 
@@ -132,10 +132,10 @@ sound_here state c s t r entries w =
     w.always.sound
 
 -- the whole of what a command comes to that was done
-went_serves : {F R : Type 0} (state : F → FlashState) (c : Command) (s t : DeviceState F) (r : Reply)
+went_serves : {F : Type 0} (state : F → FlashState) (c : Command) (s t : DeviceState F) (r : Reply)
     (entries : List CachedPage) →
     WasDone state s.config c s t r entries → (state t.flash).live ≡ true →
-    ServesSession {R = R} state s.config c (session.Mounted s) r (session.Mounted t)
+    ServesSession state s.config c (session.Mounted s) r (session.Mounted t)
 went_serves state c s t r entries w on = record {
   in_run = λ seen faulted stands. done_in state s.config.protocol c s t r seen faulted w.no_arm w.here w.always stands;
   kept = inl (w.sound, sound_here state c s t r entries w);
@@ -191,16 +191,16 @@ cut_lost state c s t r entries w off =
     }
 
 -- at the configuration of the device, and so at that of the session
-serves_at : {F R : Type 0} (state : F → FlashState) (c : Command) (s t : DeviceState F) (r : Reply)
-    (result : Sessions F R) (before after : PageCacheState) →
+serves_at : {F : Type 0} (state : F → FlashState) (c : Command) (s t : DeviceState F) (r : Reply)
+    (result : Sessions F) (before after : PageCacheState) →
     WasDone state s.config c s t r before.entries → Follows state s.config (session.Mounted t) r result before after →
-    ServesAfter F R state s.config c s result × EndsAfter F R state s.config c s result
-serves_at {F = F} {R = R} state c s t r result before after w follows = elim (cases_Bool (state t.flash).live) [
+    ServesAfter F state s.config c s result × EndsAfter F state s.config c s result
+serves_at {F = F} state c s t r result before after w follows = elim (cases_Bool (state t.flash).live) [
   | inl on ↦ (let went = follows.went_on on in
-      let done : Sessions F R = Ok (session.Mounted t, r) in (
-        subst (λ (x : Sessions F R). ServesAfter F R state s.config c s x) (sym went.0)
-            (went_serves {R = R} state c s t r before.entries w on),
-        subst (λ (x : Sessions F R). EndsAfter F R state s.config c s x) (sym went.0) tt,
+      let done : Sessions F = Ok (session.Mounted t, r) in (
+        subst (λ (x : Sessions F). ServesAfter F state s.config c s x) (sym went.0)
+            (went_serves state c s t r before.entries w on),
+        subst (λ (x : Sessions F). EndsAfter F state s.config c s x) (sym went.0) tt,
       ))
   | inr off ↦ (let cut = follows.was_cut off in
       let lost = cut_lost state c s t r before.entries w off in (
@@ -209,21 +209,21 @@ serves_at {F = F} {R = R} state c s t r result before after w follows = elim (ca
       ))
 ]
 
-pub serves_after : {F R : Type 0} (state : F → FlashState) (its : Config) (c : Command) (s t : DeviceState F)
-    (r : Reply) (result : Sessions F R)
+pub serves_after : {F : Type 0} (state : F → FlashState) (its : Config) (c : Command) (s t : DeviceState F)
+    (r : Reply) (result : Sessions F)
     (before after : PageCacheState) →
     WasDone state its c s t r before.entries → Follows state its (session.Mounted t) r result before after →
-    ServesAfter F R state its c s result ×
-    EndsAfter F R state its c s result
-serves_after {F = F} {R = R} state its c s t r result before after w follows =
-    subst (λ (x : Config). ServesAfter F R state x c s result × EndsAfter F R state x c s result) w.config
+    ServesAfter F state its c s result ×
+    EndsAfter F state its c s result
+serves_after {F = F} state its c s t r result before after w follows =
+    subst (λ (x : Config). ServesAfter F state x c s result × EndsAfter F state x c s result) w.config
     (serves_at state c s t r result before after (subst (λ (x : Config). WasDone state x c s t r before.entries)
     (sym w.config) w)
     (subst (λ (x : Config). Follows state x (session.Mounted t) r result before after) (sym w.config) follows))
 
 -- the cache keeps the size of its pages
-pub follows_size : {F R : Type 0} (state : F → FlashState) (its : Config) (t : DeviceState F) (r : Reply)
-    (result : Sessions F R) (before after : PageCacheState) →
+pub follows_size : {F : Type 0} (state : F → FlashState) (its : Config) (t : DeviceState F) (r : Reply)
+    (result : Sessions F) (before after : PageCacheState) →
     Follows state its (session.Mounted t) r result before after →
     after.page_bytes ≡ before.page_bytes
 follows_size state its t r result before after follows = elim (cases_Bool (state t.flash).live) [
@@ -237,21 +237,21 @@ emptied : (before mid after : PageCacheState) → mid.page_bytes ≡ before.page
 emptied before mid after same is = is ∙ ap (λ n. let c : PageCacheState = record { page_bytes = n; entries = [] } in
     c) same
 
-pub caches_after : {F R : Type 0} (state : F → FlashState) (its : Config) (c : Command) (s t : DeviceState F)
-    (r : Reply) (result : Sessions F R)
+pub caches_after : {F : Type 0} (state : F → FlashState) (its : Config) (c : Command) (s t : DeviceState F)
+    (r : Reply) (result : Sessions F)
     (before mid after : PageCacheState) → is_arm c ≡ false → is_lost r ≡ false →
     CachesCommand state c s t before mid → mid.page_bytes ≡ before.page_bytes →
     Follows state its (session.Mounted t) r result mid after →
-    CachesAfter F R state its c s before after result
-caches_after {F = F} {R = R} state its c s t r result before mid after no_arm whole caches size
+    CachesAfter F state its c s before after result
+caches_after {F = F} state its c s t r result before mid after no_arm whole caches size
     follows = elim (cases_Bool (state t.flash).live) [
       | inl on ↦ (
           let went = follows.went_on on in
-          let up : Session F R = session.Mounted t in
+          let up : DeviceSession F = session.Mounted t in
           let here : CachesCommand state c s t before after =
           subst (λ (x : PageCacheState). CachesCommand state c s t before x) (sym went.1) caches in
-          subst (λ (x : Sessions F R). CachesAfter F R state its c s before after x) (sym went.0)
-          (no_arm_caches {R = R} state its c s r up before after no_arm
+          subst (λ (x : Sessions F). CachesAfter F state its c s before after x) (sym went.0)
+          (no_arm_caches state its c s r up before after no_arm
           (subst (λ b. MatchBool b (after ≡ record before { entries = [] }) (CachesCommand state c s t before after))
           (sym whole) here)))
       | inr off ↦ (
@@ -261,36 +261,36 @@ caches_after {F = F} {R = R} state its c s t r result before mid after no_arm wh
     ]
 
 -- What holds of each reply of a session that changed
-pub left_ok : {F R : Type 0} (P : Session F R → Reply → Type 0) (new : Session F R) (result : Result Reply ServeError) →
+pub left_ok : {F : Type 0} (P : DeviceSession F → Reply → Type 0) (new : DeviceSession F) (result : Result Reply ServeError) →
     IfOk (left new result) (λ done. P done.0 done.1) → IfOk result (λ r. P new r)
 left_ok P new (Ok r) h = h
 left_ok P new (Err why) h = tt
 
-pub left_on : {F R : Type 0} (P : Session F R → Type 0) (new : Session F R) (result : Result Reply ServeError) →
+pub left_on : {F : Type 0} (P : DeviceSession F → Type 0) (new : DeviceSession F) (result : Result Reply ServeError) →
     IfOk (left new result) (λ done. P done.0) →
     OnOk result (P new)
 left_on P new (Ok r) h = h
 left_on P new (Err why) h = tt
 
-pub left_err : {F R : Type 0} (P : F → ServeError → Type 0) (new : Session F R) (result : Result Reply ServeError) →
-    IfErr (left new result) (λ e. P e.flash e.why) → IfErr result (λ why. P (flash_in new) why)
+pub left_err : {F : Type 0} (P : F → ServeError → Type 0) (new : DeviceSession F) (result : Result Reply ServeError) →
+    IfErr (left new result) (λ e. P e.0 e.1) → IfErr result (λ why. P (flash_in new) why)
 left_err P new (Ok r) h = tt
 left_err P new (Err why) h = h
 
-pub mounted_serves : {F R : Type 0} (state : F → FlashState) (its : Config) (c : Command) (s t : DeviceState F)
+pub mounted_serves : {F : Type 0} (state : F → FlashState) (its : Config) (c : Command) (s t : DeviceState F)
     (r : Reply) (result : Result Reply ServeError)
-    (new : Session F R) (before mid after : PageCacheState) →
+    (new : DeviceSession F) (before mid after : PageCacheState) →
     WasDone state its c s t r mid.entries → CachesCommand state c s t before mid → mid.page_bytes ≡ before.page_bytes →
     Follows state its (session.Mounted t) r (left new result) mid after →
     Serves state its c (session.Mounted s) result new before after
-mounted_serves {F = F} {R = R} state its c s t r result new before mid after w caches size follows =
-    let old : Session F R = session.Mounted s in
+mounted_serves {F = F} state its c s t r result new before mid after w caches size follows =
+    let old : DeviceSession F = session.Mounted s in
     let both = serves_after state its c s t r (left new result) mid after w follows in
     record {
       fits = left_on (Fits state its after.entries) new result
           (fits_after state its c s t r (left new result) mid after w follows);
-      serves = left_ok (λ (x : Session F R) q. ServesSession state its c old q x) new result both.0;
-      caches = left_ok (λ (x : Session F R) q. CachesSession state its c old q x before after) new result
+      serves = left_ok (λ (x : DeviceSession F) q. ServesSession state its c old q x) new result both.0;
+      caches = left_ok (λ (x : DeviceSession F) q. CachesSession state its c old q x before after) new result
           (caches_after state its c s t r (left new result) before mid after w.no_arm w.here.whole caches size follows);
       ends = left_err (λ flash why. EndsServing state its c old flash why) new result both.1;
       size = follows_size state its t r (left new result) mid after follows ∙ size;

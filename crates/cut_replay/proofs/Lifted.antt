@@ -1,13 +1,16 @@
 -- A command that mounts the device first.
-use Rattle.cut_replay.proofs.Common.{◌≡◌, ◌⊎◌, ℕ, ◌≤◌, Bool, true, false, [], Result, Ok, Err, refl, sym, ap, ◌∙◌, subst, inl, inr, arith, MatchBool, Config, Shape, checked, shape_of, FlashState, counted_by, BothTell, Rose, Spends, Moment, moment_of, mention, IsSoundImage, records_in, ArrayState, DeviceState, limits_of, Command, Reply, DoesCommand, LosesOpen, MayLose, CutLeavesOf, NotDone, is_arm, seen_after, Point, IsDone, MovesBy, ServesFlash, Tells, first_point, CountsBreak, MountsAfter, point_at, MomentStays, PageCacheState, flash_in, point_of, StandsMounted, IsSpentBy, ServesIn, ServesSession, IsSoundOrSame, EndsServing, MountsIn, Mounted, Unmounted, CachesSession, Fits, Serves, ServeError, Session}
+use Rattle.cut_replay.proofs.Common.{◌≡◌, ◌⊎◌, ℕ, ◌≤◌, Bool, true, false, [], Result, Ok, Err, refl, sym, ap, ◌∙◌, subst, inl, inr, arith, MatchBool, Config, Shape, checked, shape_of, FlashState, counted_by, BothTell, Rose, Spends, Moment, moment_of, mention, IsSoundImage, records_in, ArrayState, DeviceState, limits_of, Command, Reply, DoesCommand, LosesOpen, MayLose, CutLeavesOf, NotDone, is_arm, seen_after, Point, IsDone, MovesBy, ServesFlash, Tells, first_point, CountsBreak, MountsAfter, point_at, MomentStays, PageCacheState, flash_in, point_of, StandsMounted, IsSpentBy, ServesIn, ServesSession, IsSoundOrSame, EndsServing, MountsIn, Mounted, Unmounted, CachesSession, Fits, Serves, ServeError, DeviceSession}
 use Rattle.host_protocol.specs.declared.reply.Reply.TheVariants as reply
 use Rattle.cut_replay.specs.FlashRun.{HasErased}
-use Rattle.cut_replay.specs.Sessions.{is_mounted, StandsUnmounted}
-use Rattle.cut_replay.specs.Sessions.{EndsFor, MeetsFault, CachesServed, CachesFrom}
+use Rattle.mounted_session.specs.Mounting.{MeetsFault}
+use Rattle.mounted_session.specs.Sessions.{is_mounted}
+use Rattle.cut_replay.specs.Sessions.{StandsUnmounted}
+use Rattle.cut_replay.specs.Sessions.{EndsFor, CachesServed, CachesFrom}
 use Rattle.cut_replay.specs.declared.serving.ServeError.TheVariants as failed
-use Rattle.cut_replay.specs.declared.session.Session.TheVariants as session
+use Rattle.mounted_session.specs.declared.session.Session.TheVariants as session
 use Rattle.cut_replay.proofs.Mountings.{mounted_stands, mounted_point}
-use Rattle.cut_replay.proofs.Spending.{no_more_then, spends_fault, spends_cut, spends_after, sets_none}
+use Rattle.flash_model.proofs.CallLemmas.{no_more_then}
+use Rattle.cut_replay.proofs.Spending.{spends_fault, spends_cut, spends_after, sets_none}
 use Rattle.cut_replay.proofs.Losing.{served_no_arm}
 
 -- From another point with the same machine and the same moment
@@ -61,16 +64,16 @@ cases_from its spent faulted c a b r new up machine moment (inr (inr lost)) =
       moves_from its c r a.moment b.moment new.moment moment lost.1,
     ))
 
-lifted_run : {F R : Type 0} (state : F → FlashState) (its : Config) (flash : F) (t : DeviceState F) (c : Command)
-    (r : Reply) (new : Session F R) →
+lifted_run : {F : Type 0} (state : F → FlashState) (its : Config) (flash : F) (t : DeviceState F) (c : Command)
+    (r : Reply) (new : DeviceSession F) →
     is_arm c ≡ false → MountsIn state its flash t →
     ((seen : ℕ → ℕ) → (faulted : Bool) → StandsMounted seen faulted t →
-    ServesIn {R = R} state its seen faulted c (session.Mounted t) r new) →
+    ServesIn state its seen faulted c (session.Mounted t) r new) →
     (seen : ℕ → ℕ) → (faulted : Bool) → StandsUnmounted its seen (state flash) →
-    ServesIn {R = R} state its seen faulted c (session.Unmounted flash) r new
-lifted_run {F = F} {R = R} state its flash t c r new no_arm mounts h seen faulted stands =
-    let up : Session F R = session.Mounted t in
-    let served = h seen faulted (mounted_stands {R = R} state its flash seen faulted up mounts stands.sound
+    ServesIn state its seen faulted c (session.Unmounted flash) r new
+lifted_run {F = F} state its flash t c r new no_arm mounts h seen faulted stands =
+    let up : DeviceSession F = session.Mounted t in
+    let served = h seen faulted (mounted_stands state its flash seen faulted up mounts stands.sound
     stands.mentions) in
     let b : Point = first_point its false (moment_of (state flash)) in
     record {
@@ -103,11 +106,11 @@ lifted_mounts a b r new before first now up quiet (inl again) = inl (λ cut. eli
 lifted_mounts a b r new before first now up quiet (inr failed) =
     inr (failed.0, subst (λ n. counted_by 2 n ≤ now) quiet failed.1)
 
-lifted_serves : {F R : Type 0} (state : F → FlashState) (its : Config) (flash : F) (t : DeviceState F) (c : Command)
-    (r : Reply) (new : Session F R) →
+lifted_serves : {F : Type 0} (state : F → FlashState) (its : Config) (flash : F) (t : DeviceState F) (c : Command)
+    (r : Reply) (new : DeviceSession F) →
     is_arm c ≡ false → MountsIn state its flash t →
-    ServesSession {R = R} state its c (session.Mounted t) r new →
-    ServesSession {R = R} state its c (session.Unmounted flash) r new
+    ServesSession state its c (session.Mounted t) r new →
+    ServesSession state its c (session.Unmounted flash) r new
 lifted_serves state its flash t c r new no_arm mounts h = record {
   in_run = lifted_run state its flash t c r new no_arm mounts h.in_run;
   kept = sound_or_same_from its (state flash) (state t.flash) (state (flash_in new)) mounts.still.moment h.kept;
@@ -134,52 +137,52 @@ still_then a b d ab bd = record {
   extras = bd.extras ∙ ab.extras;
 }
 
-lifted_cause : {F : Type 0} (R : Type 0) (state : F → FlashState) (its : Config) (flash : F) (t : DeviceState F)
+lifted_cause : {F : Type 0} (state : F → FlashState) (its : Config) (flash : F) (t : DeviceState F)
     (c : Command) (new : F) (why : ServeError) →
     is_arm c ≡ false → MountsIn state its flash t →
-    EndsFor {R = R} state its c (session.Mounted t) new why →
-    EndsFor {R = R} state its c (session.Unmounted flash) new why
-lifted_cause R state its flash t c new (failed.Unsound law slot) no_arm mounts h = absurd h
-lifted_cause R state its flash t c new failed.Memory no_arm mounts (inl still) =
+    EndsFor state its c (session.Mounted t) new why →
+    EndsFor state its c (session.Unmounted flash) new why
+lifted_cause state its flash t c new (failed.Unsound law slot) no_arm mounts h = absurd h
+lifted_cause state its flash t c new failed.Memory no_arm mounts (inl still) =
     inl (record {
       still = still_then (state flash) (state t.flash) (state new) mounts.still still.still;
       quiet = still.quiet ∙ mounts.quiet;
     })
-lifted_cause {F = F} R state its flash t c new failed.Memory no_arm mounts (inr cut) =
-    let after : Session F R = session.Unmounted new in
+lifted_cause {F = F} state its flash t c new failed.Memory no_arm mounts (inr cut) =
+    let after : DeviceSession F = session.Unmounted new in
     inr (
       cut.0,
       cut.1,
-      lifted_run {R = R} state its flash t c cut.0 after no_arm mounts cut.2,
+      lifted_run state its flash t c cut.0 after no_arm mounts cut.2,
       spends_after c cut.0 (state flash).told (state t.flash).told (state new).told mounts.still.told cut.3,
       subst (λ n. Rose n (state new).faults) mounts.quiet cut.4,
     )
 
-lifted_ends : {F : Type 0} (R : Type 0) (state : F → FlashState) (its : Config) (flash : F) (t : DeviceState F)
+lifted_ends : {F : Type 0} (state : F → FlashState) (its : Config) (flash : F) (t : DeviceState F)
     (c : Command) (new : F) (why : ServeError) →
     is_arm c ≡ false → MountsIn state its flash t →
-    EndsServing {R = R} state its c (session.Mounted t) new why →
-    EndsServing {R = R} state its c (session.Unmounted flash) new why
-lifted_ends R state its flash t c new why no_arm mounts h = record {
-  cause = lifted_cause R state its flash t c new why no_arm mounts h.cause;
+    EndsServing state its c (session.Mounted t) new why →
+    EndsServing state its c (session.Unmounted flash) new why
+lifted_ends state its flash t c new why no_arm mounts h = record {
+  cause = lifted_cause state its flash t c new why no_arm mounts h.cause;
   shape = h.shape ∙ mounts.still.shape;
   extras = h.extras ∙ mounts.still.extras;
   kept = sound_or_same_from its (state flash) (state t.flash) (state new) mounts.still.moment h.kept;
 }
 
 -- The device was not mounted
-unmounted_ends : {F : Type 0} (R : Type 0) (state : F → FlashState) (its : Config) (c : Command) (flash new : F)
+unmounted_ends : {F : Type 0} (state : F → FlashState) (its : Config) (c : Command) (flash new : F)
     (why : ServeError) →
     Unmounted state its flash new why →
-    EndsServing {R = R} state its c (session.Unmounted flash) new why
-unmounted_ends R state its c flash new (failed.Unsound law slot) h = record {
+    EndsServing state its c (session.Unmounted flash) new why
+unmounted_ends state its c flash new (failed.Unsound law slot) h = record {
   cause = h;
   shape = h.0.still.shape;
   extras = h.0.still.extras;
   kept =
       inr h.0.still.moment;
 }
-unmounted_ends R state its c flash new failed.Memory h = record {
+unmounted_ends state its c flash new failed.Memory h = record {
   cause = inl h;
   shape = h.still.shape;
   extras = h.still.extras;
@@ -212,12 +215,12 @@ not_opened : (s : FlashState) (c : Command) (seen : ℕ → ℕ) (r : Reply) (pa
 not_opened s c seen r page (inl is) = ap (λ q. seen_after seen c q page) is.0
 not_opened s c seen r page (inr is) = ap (λ q. seen_after seen c q page) is.0
 
-not_done_serves : {F : Type 0} (R : Type 0) (state : F → FlashState) (its : Config) (c : Command) (flash new : F)
+not_done_serves : {F : Type 0} (state : F → FlashState) (its : Config) (c : Command) (flash new : F)
     (r : Reply) → is_arm c ≡ false →
     MeetsFault (state flash) (state new) → IsFaultOrCut (state new) r →
-    ServesSession {R = R} state its c (session.Unmounted flash) r (session.Unmounted new)
-not_done_serves {F = F} R state its c flash new r no_arm h is =
-    let after : Session F R = session.Unmounted new in
+    ServesSession state its c (session.Unmounted flash) r (session.Unmounted new)
+not_done_serves {F = F} state its c flash new r no_arm h is =
+    let after : DeviceSession F = session.Unmounted new in
     let same : first_point its false (moment_of (state new)) ≡ first_point its false (moment_of (state flash)) =
     ap (λ (m : Moment). first_point its false m) h.still.moment in
     record {
@@ -227,7 +230,7 @@ not_done_serves {F = F} R state its c flash new r no_arm h is =
         serves = served_no_arm its (λ page. false) faulted c (first_point its false (moment_of (state flash))) r
             (first_point its false (moment_of (state new))) no_arm
             (inl ((refl, not_done_reply (state new) r is, ap (λ (p : Point). p.state) same), h.still.moment));
-        point = mounted_point {R = R} state its flash after h.still stands.sound;
+        point = mounted_point state its flash after h.still stands.sound;
         stands = record {
           sound = subst (λ (m : Moment). IsSoundImage its.protocol its.logical (shape_of its) m.image)
               (sym h.still.moment) stands.sound;
@@ -255,47 +258,47 @@ unmounted_check : (its : Config) (old new : FlashState) → checked its ≡ Ok o
 unmounted_check its old new check still = check ∙ ap (λ (x : Shape). Ok x) (sym still.shape)
 
 -- and what is in the cache
-lifted_from : {F R : Type 0} (state : F → FlashState) (its : Config) (flash : F) (t : DeviceState F) (c : Command)
-    (r : Reply) (new : Session F R)
+lifted_from : {F : Type 0} (state : F → FlashState) (its : Config) (flash : F) (t : DeviceState F) (c : Command)
+    (r : Reply) (new : DeviceSession F)
     (before mid after : PageCacheState) → MountsIn state its flash t →
     mid ≡ record before { entries = [] } → CachesServed state c t r new mid after →
     CachesFrom state its c (session.Unmounted flash) r new before after
-lifted_from {R = R} state its flash t c r (session.Mounted u) before mid after mounts empty h =
-    let up : Session _ R = session.Mounted u in
+lifted_from state its flash t c r (session.Mounted u) before mid after mounts empty h =
+    let up : DeviceSession _ = session.Mounted u in
     (t, mounts, subst (λ (x : PageCacheState). CachesServed state c t r up x after) empty h)
 lifted_from state its flash t c r (session.Unmounted new) before mid after mounts empty h = h
     ∙ ap (λ (x : PageCacheState). record x { entries = [] }) empty
 
-lifted_caches : {F R : Type 0} (state : F → FlashState) (its : Config) (flash : F) (t : DeviceState F) (c : Command)
-    (r : Reply) (new : Session F R)
+lifted_caches : {F : Type 0} (state : F → FlashState) (its : Config) (flash : F) (t : DeviceState F) (c : Command)
+    (r : Reply) (new : DeviceSession F)
     (before mid after : PageCacheState) → is_arm c ≡ false → MountsIn state its flash t →
     mid ≡ record before { entries = [] } → CachesSession state its c (session.Mounted t) r new mid after →
     CachesSession state its c (session.Unmounted flash) r new before after
-lifted_caches {R = R} state its flash t c r new before mid after no_arm mounts empty h =
-    let old : Session _ R = session.Unmounted flash in
+lifted_caches state its flash t c r new before mid after no_arm mounts empty h =
+    let old : DeviceSession _ = session.Unmounted flash in
     let here : CachesServed state c t r new mid after =
     subst (λ b. MatchBool b (after ≡ mid) (CachesServed state c t r new mid after)) no_arm h in
     subst (λ b. MatchBool b (after ≡ before) (CachesFrom state its c old r new before after)) (sym no_arm)
     (lifted_from state its flash t c r new before mid after mounts empty here)
 
-unmounted_caches : {F : Type 0} (R : Type 0) (state : F → FlashState) (its : Config) (flash new : F) (c : Command)
+unmounted_caches : {F : Type 0} (state : F → FlashState) (its : Config) (flash new : F) (c : Command)
     (r : Reply) (before after : PageCacheState) →
     is_arm c ≡ false → after ≡ record before { entries = [] } →
-    CachesSession {R = R} state its c (session.Unmounted flash) r (session.Unmounted new) before after
-unmounted_caches R state its flash new c r before after no_arm empty =
+    CachesSession state its c (session.Unmounted flash) r (session.Unmounted new) before after
+unmounted_caches state its flash new c r before after no_arm empty =
     subst (λ b. MatchBool b (after ≡ before) (after ≡ record before { entries = [] })) (sym no_arm) empty
 
 -- A session without its device
-pub lifted : {F R : Type 0} (state : F → FlashState) (its : Config) (c : Command) (old between : Session F R)
+pub lifted : {F : Type 0} (state : F → FlashState) (its : Config) (c : Command) (old between : DeviceSession F)
     (result : Result Reply ServeError)
-    (new : Session F R) (before mid after : PageCacheState) →
+    (new : DeviceSession F) (before mid after : PageCacheState) →
     is_mounted old ≡ false → is_mounted between ≡ true → is_arm c ≡ false → Mounted state its (flash_in old) between →
     mid ≡ record before { entries = [] } →
     Serves state its c between result new mid after → Serves state its c old result new before after
 lifted state its c (session.Mounted s) between result new before mid after off on no_arm mounts empty h = absurd (cc)
 lifted state its c (session.Unmounted flash) (session.Unmounted other) result new before mid after off on no_arm mounts
     empty h = absurd (cc)
-lifted {F = F} {R = R} state its c (session.Unmounted flash) (session.Mounted t) (Ok r) new before mid after off on
+lifted {F = F} state its c (session.Unmounted flash) (session.Mounted t) (Ok r) new before mid after off on
     no_arm mounts empty h = record {
       fits = h.fits;
       serves = lifted_serves state its flash t c r new no_arm mounts h.serves;
@@ -303,16 +306,16 @@ lifted {F = F} {R = R} state its c (session.Unmounted flash) (session.Mounted t)
       ends = tt;
       size = h.size ∙ ap (λ (x : PageCacheState). x.page_bytes) empty;
     }
-lifted {F = F} {R = R} state its c (session.Unmounted flash) (session.Mounted t) (Err why) new before mid after off on
+lifted {F = F} state its c (session.Unmounted flash) (session.Mounted t) (Err why) new before mid after off on
     no_arm mounts empty h = record {
       fits = tt;
       serves = tt;
       caches = tt;
-      ends = lifted_ends R state its flash t c (flash_in new) why no_arm mounts h.ends;
+      ends = lifted_ends state its flash t c (flash_in new) why no_arm mounts h.ends;
       size = h.size ∙ ap (λ (x : PageCacheState). x.page_bytes) empty;
     }
 
-pub not_done : {F R : Type 0} (state : F → FlashState) (its : Config) (c : Command) (old new : Session F R) (r : Reply)
+pub not_done : {F : Type 0} (state : F → FlashState) (its : Config) (c : Command) (old new : DeviceSession F) (r : Reply)
     (before after : PageCacheState) →
     is_mounted old ≡ false → is_mounted new ≡ false → is_arm c ≡ false → Fits state its before.entries old →
     Mounted state its (flash_in old) new →
@@ -321,11 +324,11 @@ pub not_done : {F R : Type 0} (state : F → FlashState) (its : Config) (c : Com
 not_done state its c (session.Mounted s) new r before after off still no_arm fits mounts is empty = absurd (cc)
 not_done state its c (session.Unmounted flash) (session.Mounted t) r before after off still no_arm fits mounts is
     empty = absurd (cc)
-not_done {R = R} state its c (session.Unmounted flash) (session.Unmounted new) r before after off still no_arm fits
+not_done state its c (session.Unmounted flash) (session.Unmounted new) r before after off still no_arm fits
     mounts is empty = record {
       fits = unmounted_check its (state flash) (state new) fits mounts.still;
-      serves = not_done_serves R state its c flash new r no_arm mounts is;
-      caches = unmounted_caches R state its flash new c r before after no_arm empty;
+      serves = not_done_serves state its c flash new r no_arm mounts is;
+      caches = unmounted_caches state its flash new c r before after no_arm empty;
       ends = tt;
       size = ap (λ (x : PageCacheState). x.page_bytes) empty;
     }

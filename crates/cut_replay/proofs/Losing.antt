@@ -1,11 +1,10 @@
 -- What a call comes to after which no transaction is open, and its flash is mounted again.
-use Rattle.cut_replay.proofs.Common.{◌≡◌, ◌⊎◌, ℕ, ◌<◌, ◌≤◌, Bool, true, false, ◌||◌, List, [], Result, Ok, Err, refl, sym, ap, ◌∙◌, subst, inl, inr, arith, MatchBool, IfOk, Config, Shape, checked, shape_of, FlashState, counted_by, BothTell, Rose, Carries, Moment, moment_of, mention, IsSoundImage, array_in, records_in, PageCacheState, CachedPage, ArrayState, idle, DeviceState, Command, Reply, CutLeavesOf, LosesOpen, MayLose, NotDone, is_arm, is_break, seen_after, Point, IsDone, MovesBy, ServesFlash, is_fault, is_lost, CountsBreak, MountsAfter, IsSeen, point_at, flash_in, point_of, IsSoundFlash, Fits, StandsMounted, IsSoundOrSame, IsSpentBy, ServesIn, ServesSession, EndsServing, Mounted, Unmounted, CachesSession, ServeError, Session, sound_unbroken}
+use Rattle.cut_replay.proofs.Common.{◌≡◌, ◌⊎◌, ℕ, ◌<◌, ◌≤◌, Bool, true, false, ◌||◌, List, [], Result, Ok, Err, refl, sym, ap, ◌∙◌, subst, inl, inr, arith, MatchBool, IfOk, Config, Shape, checked, shape_of, FlashState, counted_by, BothTell, Rose, Carries, Moment, moment_of, mention, IsSoundImage, array_in, records_in, PageCacheState, CachedPage, ArrayState, idle, DeviceState, Command, Reply, CutLeavesOf, LosesOpen, MayLose, NotDone, is_arm, is_break, seen_after, Point, IsDone, MovesBy, ServesFlash, is_fault, is_lost, CountsBreak, MountsAfter, IsSeen, point_at, flash_in, point_of, IsSoundFlash, Fits, StandsMounted, IsSoundOrSame, IsSpentBy, ServesIn, ServesSession, EndsServing, Mounted, Unmounted, CachesSession, ServeError, DeviceSession, sound_unbroken}
 use Rattle.std.specs.Prelude.{IfErr}
 use Rattle.host_protocol.specs.declared.reply.Reply.TheVariants as reply
 use Rattle.cut_replay.specs.Sessions.{MountsAgain, CachesServed}
 use Rattle.cut_replay.specs.declared.serving.ServeError.TheVariants as failed
-use Rattle.cut_replay.specs.declared.session.Session.TheVariants as session
-use Rattle.cut_replay.specs.declared.session.Ended.{Ended}
+use Rattle.mounted_session.specs.declared.session.Session.TheVariants as session
 use Rattle.cut_replay.proofs.Devices.{seen_at}
 use Rattle.cut_replay.proofs.Mountings.{Leaves, mounted_leaves, mounted_machine, mounted_moment, mounted_still, mounted_point, mounted_stands}
 use Rattle.cut_replay.proofs.Spending.{spends_before, sets_none}
@@ -29,22 +28,22 @@ rose_later : (a b d : ℕ) → Rose a b → b ≤ d → Rose a d
 rose_later a b d h le = omega (arith, h, le)
 
 -- The whole of it
-abbrev pub Sessions : (F R : Type 0) → Type 0
-Sessions F R = Result (Session F R × Reply) (Ended F)
+abbrev pub Sessions : (F : Type 0) → Type 0
+Sessions F = Result (DeviceSession F × Reply) (F × ServeError)
 
-abbrev pub FitsAfter : (F R : Type 0) → (F → FlashState) → Config → List CachedPage → Sessions F R → Type 0
-FitsAfter F R state its entries result = IfOk result (λ done. Fits state its entries done.0)
+abbrev pub FitsAfter : (F : Type 0) → (F → FlashState) → Config → List CachedPage → Sessions F → Type 0
+FitsAfter F state its entries result = IfOk result (λ done. Fits state its entries done.0)
 
-abbrev pub ServesAfter : (F R : Type 0) → (F → FlashState) → Config → Command → DeviceState F → Sessions F R → Type 0
-ServesAfter F R state its c s result = IfOk result (λ done. ServesSession state its c (session.Mounted s) done.1 done.0)
+abbrev pub ServesAfter : (F : Type 0) → (F → FlashState) → Config → Command → DeviceState F → Sessions F → Type 0
+ServesAfter F state its c s result = IfOk result (λ done. ServesSession state its c (session.Mounted s) done.1 done.0)
 
-abbrev pub EndsAfter : (F R : Type 0) → (F → FlashState) → Config → Command → DeviceState F → Sessions F R → Type 0
-EndsAfter F R state its c s result = IfErr result (λ e. EndsServing {R = R} state its c (session.Mounted s)
-    e.flash e.why)
+abbrev pub EndsAfter : (F : Type 0) → (F → FlashState) → Config → Command → DeviceState F → Sessions F → Type 0
+EndsAfter F state its c s result = IfErr result (λ e. EndsServing state its c (session.Mounted s)
+    e.0 e.1)
 
-abbrev pub CachesAfter : (F R : Type 0) → (F → FlashState) → Config → Command → DeviceState F → PageCacheState →
-    PageCacheState → Sessions F R → Type 0
-CachesAfter F R state its c s before after result =
+abbrev pub CachesAfter : (F : Type 0) → (F → FlashState) → Config → Command → DeviceState F → PageCacheState →
+    PageCacheState → Sessions F → Type 0
+CachesAfter F state its c s before after result =
     IfOk result (λ done. CachesSession state its c (session.Mounted s) done.1 done.0 before after)
 
 -- What is known of a call on a mounted device, with its reply, after which nothing is open, and of its flash then
@@ -72,10 +71,10 @@ pub lost_counts : (r : Reply) (before now : ℕ) → is_lost r ≡ true → Rose
 lost_counts r before now lost rose = subst (λ b. MatchBool b (Rose before now) (now ≡ before))
     (sym (lost_breaks r lost)) rose
 
-lost_in : {F R : Type 0} (state : F → FlashState) (its : Config) (c : Command) (s : DeviceState F) (flash : F)
-    (r : Reply) (after : Session F R) (seen : ℕ → ℕ)
+lost_in : {F : Type 0} (state : F → FlashState) (its : Config) (c : Command) (s : DeviceState F) (flash : F)
+    (r : Reply) (after : DeviceSession F) (seen : ℕ → ℕ)
     (faulted : Bool) → WasLost state its c s flash r → StandsMounted seen faulted s → Leaves state its flash after →
-    ServesIn {R = R} state its seen faulted c (session.Mounted s) r after
+    ServesIn state its seen faulted c (session.Mounted s) r after
 lost_in state its c s flash r after seen faulted w stands leaves = record {
   spent = λ page. false;
   may = λ page spent. (let not : false ≡ true = spent in absurd cc);
@@ -96,7 +95,7 @@ lost_in state its c s flash r after seen faulted w stands leaves = record {
 }
 
 -- it is sound after it was mounted again, or was not
-sound_again : {F R : Type 0} (state : F → FlashState) (its : Config) (flash : F) (after : Session F R) →
+sound_again : {F : Type 0} (state : F → FlashState) (its : Config) (flash : F) (after : DeviceSession F) →
     IsSoundFlash its (state flash) →
     Leaves state its flash after →
     IsSoundFlash its (state (flash_in after))
@@ -105,18 +104,18 @@ sound_again state its flash after sound leaves =
     (sym (mounted_still state its flash after leaves).moment) sound
 
 -- what the call comes to, but for the mount
-record LostBy {F R : Type 0} (state : F → FlashState) (its : Config) (c : Command) (s : DeviceState F) (r : Reply)
-    (after : Session F R) : Type 0 where
+record LostBy {F : Type 0} (state : F → FlashState) (its : Config) (c : Command) (s : DeviceState F) (r : Reply)
+    (after : DeviceSession F) : Type 0 where
   in_run : (seen : ℕ → ℕ) → (faulted : Bool) → StandsMounted seen faulted s →
-      ServesIn {R = R} state its seen faulted c (session.Mounted s) r after
+      ServesIn state its seen faulted c (session.Mounted s) r after
   kept : IsSoundOrSame its (state s.flash) (state (flash_in after))
   spends : BothTell (IsSpentBy c r) (state s.flash).told (state (flash_in after)).told
   faults : Rose (state s.flash).faults (state (flash_in after)).faults
   extras : (state (flash_in after)).extras ≡ (state s.flash).extras
 
-lost_by : {F R : Type 0} (state : F → FlashState) (its : Config) (c : Command) (s : DeviceState F) (flash : F)
-    (r : Reply) (after : Session F R) →
-    WasLost state its c s flash r → Leaves state its flash after → LostBy {R = R} state its c s r after
+lost_by : {F : Type 0} (state : F → FlashState) (its : Config) (c : Command) (s : DeviceState F) (flash : F)
+    (r : Reply) (after : DeviceSession F) →
+    WasLost state its c s flash r → Leaves state its flash after → LostBy state its c s r after
 lost_by state its c s flash r after w leaves =
     let still = mounted_still state its flash after leaves in
     record {
@@ -130,16 +129,16 @@ lost_by state its c s flash r after w leaves =
     }
 
 -- the device was mounted again, or the mount met a fault
-lost_mounts : {F R : Type 0} (state : F → FlashState) (its : Config) (s : DeviceState F) (flash : F) (r : Reply)
-    (after : Session F R) →
+lost_mounts : {F : Type 0} (state : F → FlashState) (its : Config) (s : DeviceState F) (flash : F) (r : Reply)
+    (after : DeviceSession F) →
     is_lost r ≡ true → Rose (state s.flash).faults (state flash).faults → Mounted state its flash after →
     MountsAfter (point_at state s) r (point_of state its after) (state s.flash).faults (state (flash_in after)).faults
 lost_mounts state its s flash r (session.Mounted u) lost rose h = inl (λ is. inr refl)
 lost_mounts state its s flash r (session.Unmounted new) lost rose h =
     inr (lost, rose_twice (state s.flash).faults (state flash).faults (state new).faults rose h.rose)
 
-lost_serves : {F R : Type 0} (state : F → FlashState) (its : Config) (c : Command) (s : DeviceState F) (flash : F)
-    (r : Reply) (after : Session F R) →
+lost_serves : {F : Type 0} (state : F → FlashState) (its : Config) (c : Command) (s : DeviceState F) (flash : F)
+    (r : Reply) (after : DeviceSession F) →
     WasLost state its c s flash r → Mounted state its flash after →
     ServesSession state its c (session.Mounted s) r after
 lost_serves state its c s flash r after w mounted =
@@ -155,25 +154,25 @@ lost_serves state its c s flash r after w mounted =
       extras = by.extras;
     }
 
-pub again_serves : {F R : Type 0} (state : F → FlashState) (its : Config) (c : Command) (s : DeviceState F) (flash : F)
-    (r : Reply) (result : Sessions F R) →
-    WasLost state its c s flash r → MountsAgain state its flash r result → ServesAfter F R state its c s result
-again_serves {F = F} {R = R} state its c s flash r (Ok done) w h =
-    subst (λ (q : Reply). ServesSession {R = R} state its c (session.Mounted s) q done.0) (sym h.1)
+pub again_serves : {F : Type 0} (state : F → FlashState) (its : Config) (c : Command) (s : DeviceState F) (flash : F)
+    (r : Reply) (result : Sessions F) →
+    WasLost state its c s flash r → MountsAgain state its flash r result → ServesAfter F state its c s result
+again_serves {F = F} state its c s flash r (Ok done) w h =
+    subst (λ (q : Reply). ServesSession state its c (session.Mounted s) q done.0) (sym h.1)
     (lost_serves state its c s flash r done.0 w h.0)
 again_serves state its c s flash r (Err e) w h = tt
 
 -- or there was no memory for the mount
-ended_again : {F : Type 0} (R : Type 0) (state : F → FlashState) (its : Config) (c : Command) (s : DeviceState F)
+ended_again : {F : Type 0} (state : F → FlashState) (its : Config) (c : Command) (s : DeviceState F)
     (flash : F) (r : Reply) (new : F)
     (why : ServeError) → WasLost state its c s flash r → Unmounted state its flash new why →
-    EndsServing {R = R} state its c (session.Mounted s) new why
-ended_again R state its c s flash r new (failed.Unsound law slot) w h =
+    EndsServing state its c (session.Mounted s) new why
+ended_again state its c s flash r new (failed.Unsound law slot) w h =
     absurd (sound_unbroken its.protocol its.logical (shape_of its) (state flash).image
     (record { law = law; slot = slot }) w.after h.1)
-ended_again {F = F} R state its c s flash r new failed.Memory w h =
-    let after : Session F R = session.Unmounted new in
-    let by = lost_by {R = R} state its c s flash r after w h.still in
+ended_again {F = F} state its c s flash r new failed.Memory w h =
+    let after : DeviceSession F = session.Unmounted new in
+    let by = lost_by state its c s flash r after w h.still in
     record {
       cause = inr (r, w.lost, by.in_run, by.spends, by.faults);
       shape = h.still.shape ∙ w.carries.shape;
@@ -181,13 +180,13 @@ ended_again {F = F} R state its c s flash r new failed.Memory w h =
       kept = by.kept;
     }
 
-pub again_ends : {F R : Type 0} (state : F → FlashState) (its : Config) (c : Command) (s : DeviceState F) (flash : F)
-    (r : Reply) (result : Sessions F R) →
-    WasLost state its c s flash r → MountsAgain state its flash r result → EndsAfter F R state its c s result
+pub again_ends : {F : Type 0} (state : F → FlashState) (its : Config) (c : Command) (s : DeviceState F) (flash : F)
+    (r : Reply) (result : Sessions F) →
+    WasLost state its c s flash r → MountsAgain state its flash r result → EndsAfter F state its c s result
 again_ends state its c s flash r (Ok done) w h = tt
-again_ends {R = R} state its c s flash r (Err e) w h = ended_again R state its c s flash r e.flash e.why w h
+again_ends state its c s flash r (Err e) w h = ended_again state its c s flash r e.0 e.1 w h
 
-mounted_fits : {F R : Type 0} (state : F → FlashState) (its : Config) (flash : F) (after : Session F R) →
+pub mounted_fits : {F : Type 0} (state : F → FlashState) (its : Config) (flash : F) (after : DeviceSession F) →
     checked its ≡ Ok (state flash).shape →
     Mounted state its flash after → Fits state its [] after
 mounted_fits state its flash (session.Mounted t) check h = record {
@@ -199,33 +198,33 @@ mounted_fits state its flash (session.Mounted t) check h = record {
 }
 mounted_fits state its flash (session.Unmounted new) check h = check ∙ ap (λ (x : Shape). Ok x) (sym h.still.shape)
 
-pub again_fits : {F R : Type 0} (state : F → FlashState) (its : Config) (flash : F) (r : Reply)
-    (result : Sessions F R) →
-    checked its ≡ Ok (state flash).shape → MountsAgain state its flash r result → FitsAfter F R state its [] result
+pub again_fits : {F : Type 0} (state : F → FlashState) (its : Config) (flash : F) (r : Reply)
+    (result : Sessions F) →
+    checked its ≡ Ok (state flash).shape → MountsAgain state its flash r result → FitsAfter F state its [] result
 again_fits state its flash r (Ok done) check h = mounted_fits state its flash done.0 check h.0
 again_fits state its flash r (Err e) check h = tt
 
 -- the cache is empty then
-pub no_arm_caches : {F R : Type 0} (state : F → FlashState) (its : Config) (c : Command) (s : DeviceState F) (r : Reply)
-    (new : Session F R)
+pub no_arm_caches : {F : Type 0} (state : F → FlashState) (its : Config) (c : Command) (s : DeviceState F) (r : Reply)
+    (new : DeviceSession F)
     (before after : PageCacheState) → is_arm c ≡ false → CachesServed state c s r new before after →
     CachesSession state its c (session.Mounted s) r new before after
 no_arm_caches state its c s r new before after no_arm h =
     subst (λ b. MatchBool b (after ≡ before) (CachesServed state c s r new before after)) (sym no_arm) h
 
-lost_caches : {F R : Type 0} (state : F → FlashState) (c : Command) (s : DeviceState F) (r : Reply) (new : Session F R)
+lost_caches : {F : Type 0} (state : F → FlashState) (c : Command) (s : DeviceState F) (r : Reply) (new : DeviceSession F)
     (before after : PageCacheState) →
     is_lost r ≡ true → after ≡ record before { entries = [] } → CachesServed state c s r new before after
 lost_caches state c s r (session.Mounted t) before after lost h = rw lost h
 lost_caches state c s r (session.Unmounted flash) before after lost h = h
 
-pub again_caches : {F R : Type 0} (state : F → FlashState) (its : Config) (c : Command) (s : DeviceState F) (flash : F)
+pub again_caches : {F : Type 0} (state : F → FlashState) (its : Config) (c : Command) (s : DeviceState F) (flash : F)
     (r : Reply) (before after : PageCacheState)
-    (result : Sessions F R) → is_arm c ≡ false → is_lost r ≡ true → after ≡ record before { entries = [] } →
+    (result : Sessions F) → is_arm c ≡ false → is_lost r ≡ true → after ≡ record before { entries = [] } →
     MountsAgain state its flash r result →
-    CachesAfter F R state its c s before after result
-again_caches {R = R} state its c s flash r before after (Ok done) no_arm lost empty h =
-    no_arm_caches {R = R} state its c s done.1 done.0 before after no_arm
+    CachesAfter F state its c s before after result
+again_caches state its c s flash r before after (Ok done) no_arm lost empty h =
+    no_arm_caches state its c s done.1 done.0 before after no_arm
     (subst (λ (q : Reply). CachesServed state c s q done.0 before after) (sym h.1)
     (lost_caches state c s r done.0 before after lost empty))
 again_caches state its c s flash r before after (Err e) no_arm lost empty h = tt

@@ -1,20 +1,25 @@
 -- What is so of a session whose flash was mounted, or was not because a read met a fault.
-use Rattle.cut_replay.proofs.Common.{◌≡◌, ℕ, ◌<◌, ◌≤◌, Bool, sym, ap, ◌∙◌, subst, inl, Config, shape_of, FlashState, Moment, moment_of, mention, IsSoundImage, array_in, records_in, IndexState, ArrayState, idle, DeviceState, IsPoint, IsSeen, MomentStays, point_of, flash_in, IsSoundFlash, StandsAt, MountsIn, Mounted, Session}
+use Rattle.cut_replay.proofs.Common.{◌≡◌, ℕ, ◌<◌, ◌≤◌, Bool, sym, ap, ◌∙◌, subst, inl, Config, shape_of, FlashState, Moment, moment_of, mention, IsSoundImage, array_in, records_in, IndexState, ArrayState, idle, DeviceState, IsPoint, IsSeen, MomentStays, point_of, flash_in, IsSoundFlash, StandsAt, MountsIn, Mounted, DeviceSession}
 use Rattle.tx_engine.proofs.OfDevice.Seen.{opened_seen}
-use Rattle.cut_replay.specs.declared.session.Session.TheVariants as session
+use Rattle.mounted_session.specs.Devices.{IsWhy}
+use Rattle.mounted_session.specs.Mounting.{IsRefused}
+use Rattle.mounted_session.specs.declared.device.Refusal.{Refusal}
+use Rattle.mounted_session.specs.declared.device.Refusal.TheVariants as refusal
+use Rattle.cut_replay.specs.Sessions.{Unmounted, serve_error}
+use Rattle.mounted_session.specs.declared.session.Session.TheVariants as session
 
 -- the device of a flash, or the flash, with its moment
-abbrev pub Leaves : {F R : Type 0} → (F → FlashState) → Config → F → Session F R → Type 0
+abbrev pub Leaves : {F : Type 0} → (F → FlashState) → Config → F → DeviceSession F → Type 0
 Leaves state its flash (session.Mounted s) = MountsIn state its flash s
 Leaves state its flash (session.Unmounted new) = MomentStays (state flash) (state new)
 
-pub mounted_leaves : {F R : Type 0} (state : F → FlashState) (its : Config) (flash : F) (s : Session F R) →
+pub mounted_leaves : {F : Type 0} (state : F → FlashState) (its : Config) (flash : F) (s : DeviceSession F) →
     Mounted state its flash s → Leaves state its flash s
 mounted_leaves state its flash (session.Mounted s) h = h
 mounted_leaves state its flash (session.Unmounted new) h = h.still
 
 -- the array of the flash, with nothing open
-pub mounted_machine : {F R : Type 0} (state : F → FlashState) (its : Config) (flash : F) (s : Session F R) →
+pub mounted_machine : {F : Type 0} (state : F → FlashState) (its : Config) (flash : F) (s : DeviceSession F) →
     Leaves state its flash s →
     (point_of state its s).state.machine ≡ idle (array_in its.protocol its.logical (state flash).image)
 mounted_machine state its flash (session.Mounted s) h = h.machine
@@ -22,19 +27,19 @@ mounted_machine state its flash (session.Unmounted new) h =
     ap (λ (m : Moment). idle (array_in its.protocol its.logical m.image)) h.moment
 
 -- and its moment
-pub mounted_still : {F R : Type 0} (state : F → FlashState) (its : Config) (flash : F) (s : Session F R) →
+pub mounted_still : {F : Type 0} (state : F → FlashState) (its : Config) (flash : F) (s : DeviceSession F) →
     Leaves state its flash s →
     MomentStays (state flash) (state (flash_in s))
 mounted_still state its flash (session.Mounted s) h = h.still
 mounted_still state its flash (session.Unmounted new) h = h
 
-pub mounted_moment : {F R : Type 0} (state : F → FlashState) (its : Config) (flash : F) (s : Session F R) →
+pub mounted_moment : {F : Type 0} (state : F → FlashState) (its : Config) (flash : F) (s : DeviceSession F) →
     Leaves state its flash s →
     (point_of state its s).moment ≡ moment_of (state flash)
 mounted_moment state its flash (session.Mounted s) h = h.still.moment
 mounted_moment state its flash (session.Unmounted new) h = h.moment
 
-pub mounted_point : {F R : Type 0} (state : F → FlashState) (its : Config) (flash : F) (s : Session F R) →
+pub mounted_point : {F : Type 0} (state : F → FlashState) (its : Config) (flash : F) (s : DeviceSession F) →
     Leaves state its flash s →
     IsSoundFlash its (state flash) → IsPoint its (point_of state its s)
 mounted_point state its flash s h sound =
@@ -55,8 +60,8 @@ device_seen state its flash seen s h most =
     (ap (λ (n : IndexState). n.mentions) h.tables.noted_is) h.namings
     (λ page ge. h.always.beyond page (subst (λ (c : Config). c.logical ≤ page) (sym h.config) ge)) most
 
-pub mounted_stands : {F R : Type 0} (state : F → FlashState) (its : Config) (flash : F) (seen : ℕ → ℕ) (faulted : Bool)
-    (s : Session F R) →
+pub mounted_stands : {F : Type 0} (state : F → FlashState) (its : Config) (flash : F) (seen : ℕ → ℕ) (faulted : Bool)
+    (s : DeviceSession F) →
     Leaves state its flash s → IsSoundFlash its (state flash) →
     ((page : ℕ) → page < its.logical → mention (records_in its.protocol (state flash).image) page ≤ seen page) →
     StandsAt state its seen faulted s
@@ -70,3 +75,10 @@ mounted_stands state its flash seen faulted (session.Unmounted new) h sound most
   mentions = λ page lt. subst (λ (m : Moment). mention (records_in its.protocol m.image) page ≤ seen page)
       (sym h.moment) (most page lt);
 }
+
+-- and where the flash is refused
+pub refused_as : {F : Type 0} (state : F → FlashState) (its : Config) (flash new : F) (why : Refusal) →
+    IsRefused (IsWhy its (state flash)) (state flash) (state new) why →
+    Unmounted state its flash new (serve_error why)
+refused_as state its flash new (refusal.Unsound law slot) h = (h.still, h.cause)
+refused_as state its flash new refusal.Memory h = h.still

@@ -1,5 +1,5 @@
 -- A session that has served the first commands of a list.
-use Rattle.cut_replay.proofs.Common.{◌≡◌, ℕ, ◌+◌, ◌<◌, ◌≤◌, Bool, true, false, List, [], ◌∷◌, ◌++◌, length, take, Option, Some, None, Result, Ok, Err, refl, sym, ap, ◌∙◌, subst, inl, inr, arith, IfSome, OnOk, Config, Memory, shape_of, CachedPage, FlashState, Told, BothTell, NoMoreToCome, Moment, moment_of, IsSoundImage, Command, Reply, text_of, seen_after, Point, IsPoint, FlashRun, ServesFlash, first_point, mentions_in, last_state, Grew, CountsBreak, CountsBreaks, MountsAfter, Watched, ServesUnsound, flash_in, point_of, Fits, IsSoundFlash, StandsAt, ServesIn, ServesSession, EndsServing, IsSpentBy, IsSoundOrSame, Begins, ServeError, Session, sound_unbroken}
+use Rattle.cut_replay.proofs.Common.{◌≡◌, ℕ, ◌+◌, ◌<◌, ◌≤◌, Bool, true, false, List, [], ◌∷◌, ◌++◌, length, take, Option, Some, None, Result, Ok, Err, refl, sym, ap, ◌∙◌, subst, inl, inr, arith, IfSome, OnOk, Config, Memory, shape_of, CachedPage, FlashState, Told, BothTell, NoMoreToCome, Moment, moment_of, IsSoundImage, Command, Reply, text_of, seen_after, Point, IsPoint, FlashRun, ServesFlash, first_point, mentions_in, last_state, Grew, CountsBreak, CountsBreaks, MountsAfter, Watched, ServesUnsound, flash_in, point_of, Fits, IsSoundFlash, StandsAt, ServesIn, ServesSession, EndsServing, IsSpentBy, IsSoundOrSame, Begins, ServeError, DeviceSession, sound_unbroken}
 use Rattle.std.proofs.Common.{get_or}
 use Rattle.std.specs.Prelude.{OnErr}
 use Rattle.std.specs.Prelude.{map}
@@ -10,7 +10,8 @@ use Rattle.std.proofs.lemmas.List.{take_more, take_all, length-take-le, map-appe
 use Rattle.list_lemmas.proofs.Lists.{take_whole, take_before_last}
 use Rattle.tx_types.specs.declared.config.Slot.{Slot}
 use Rattle.flash_model.specs.Flash.{IsSteady}
-use Rattle.version_index.specs.Images.{IsLeastImageBreach}
+use Rattle.flash_model.proofs.CallLemmas.{no_more_same}
+use Rattle.judged_records.specs.Images.{IsLeastImageBreach}
 use Rattle.array_runs.specs.Run.{RunState}
 use Rattle.cut_replay.specs.FlashRun.{first_state, last_moment}
 use Rattle.cut_replay.specs.Watching.{ToldReply, text_of_all, replies_told}
@@ -20,7 +21,7 @@ use Rattle.cut_replay.specs.Served.{ServesRun, ServesSound, CountsTold, RefusesU
 use Rattle.cut_replay.specs.Sessions.{EndsFor, EndsForMemory, Refuses}
 use Rattle.cut_replay.specs.Sessions.{RepliesUnmounted}
 use Rattle.cut_replay.specs.declared.serving.ServeError.TheVariants as failed
-use Rattle.cut_replay.specs.declared.session.Session.TheVariants as session
+use Rattle.mounted_session.specs.declared.session.Session.TheVariants as session
 use Rattle.cut_replay.proofs.MountingAgain.{mounts_more, mounts_later, mounts_same, last_state_is}
 use Rattle.cut_replay.proofs.Losing.{lost_counts}
 use Rattle.cut_replay.proofs.Runs.{last_point, seen_through, faulted_through, run_more, last_more, seen_more, faulted_more, last_moment_is, run_lengths}
@@ -28,15 +29,15 @@ use Rattle.cut_replay.proofs.Runs.{grew_none, grew_more, text_more, told_more, s
 use Rattle.cut_replay.proofs.Runs.{none_sets}
 
 -- the moment of a session is that of its flash
-pub point_moment : {F R : Type 0} (state : F → FlashState) (its : Config) (s : Session F R) →
+pub point_moment : {F : Type 0} (state : F → FlashState) (its : Config) (s : DeviceSession F) →
     (point_of state its s).moment ≡ moment_of (state (flash_in s))
 point_moment state its (session.Mounted s) = refl
 point_moment state its (session.Unmounted flash) = refl
 
 -- a run over commands that leads to this session
-pub record Runs {F R : Type 0} (state : F → FlashState) (its : Config) (init : FlashState) (cs : List Command)
+pub record Runs {F : Type 0} (state : F → FlashState) (its : Config) (init : FlashState) (cs : List Command)
     (rs : List Reply) (ps : List Point)
-    (s : Session F R) : Type 0 where
+    (s : DeviceSession F) : Type 0 where
   pub up : Bool
   pub first : IsPoint its (first_point its up (moment_of init))
   pub run : FlashRun its (mentions_in its (moment_of init)) false (first_point its up (moment_of init)) cs rs ps
@@ -46,8 +47,8 @@ pub record Runs {F R : Type 0} (state : F → FlashState) (its : Config) (init :
   pub faults : CountsBreaks rs init (state (flash_in s))
 
 -- and its replies were told
-pub record HasServed {F R : Type 0} (state : F → FlashState) (its : Config) (init : FlashState) (cs : List Command)
-    (s : Session F R)
+pub record HasServed {F : Type 0} (state : F → FlashState) (its : Config) (init : FlashState) (cs : List Command)
+    (s : DeviceSession F)
     (before after : Watched) : Type 0 where
   pub replies : List Reply
   pub points : List Point
@@ -59,7 +60,7 @@ pub record HasServed {F R : Type 0} (state : F → FlashState) (its : Config) (i
   pub mounts : CountsMounts its runs.up replies points init (state (flash_in s))
 
 -- at the beginning
-pub served_none : {F R : Type 0} (state : F → FlashState) (its : Config) (init : FlashState) (s : Session F R)
+pub served_none : {F : Type 0} (state : F → FlashState) (its : Config) (init : FlashState) (s : DeviceSession F)
     (w : Watched) → Begins state its init s →
     HasServed state its init [] s w w
 served_none state its init s w h = record {
@@ -82,9 +83,9 @@ served_none state its init s w h = record {
 }
 
 -- one command more
-pub runs_more : {F R : Type 0} (state : F → FlashState) (its : Config) (init : FlashState) (cs : List Command)
+pub runs_more : {F : Type 0} (state : F → FlashState) (its : Config) (init : FlashState) (cs : List Command)
     (rs : List Reply) (ps : List Point) (c : Command)
-    (r : Reply) (s t : Session F R) →
+    (r : Reply) (s t : DeviceSession F) →
     Runs state its init cs rs ps s →
     ((seen : ℕ → ℕ) → (faulted : Bool) → StandsAt state its seen faulted s → ServesIn state its seen faulted c s r t) →
     BothTell (IsSpentBy c r) (state (flash_in s)).told (state (flash_in t)).told →
@@ -120,8 +121,8 @@ runs_more state its init cs rs ps c r s t h served spends faults =
     }
 
 -- which was told
-pub served_more : {F R : Type 0} (state : F → FlashState) (its : Config) (init : FlashState) (cs : List Command)
-    (c : Command) (r : Reply) (s t : Session F R)
+pub served_more : {F : Type 0} (state : F → FlashState) (its : Config) (init : FlashState) (cs : List Command)
+    (c : Command) (r : Reply) (s t : DeviceSession F)
     (a b d : Watched) →
     HasServed state its init cs s a b → ServesSession state its c s r t → Grew b.text d.text (text_of r) →
     Grew b.kept d.kept (record { text = text_of r; moment = moment_of (state (flash_in t)) } ∷ []) →
@@ -152,8 +153,8 @@ served_more state its init cs c r s t a b d h serves text kept =
     }
 
 -- What has been served is what serving comes to
-run_parts : {F R : Type 0} (state : F → FlashState) (its : Config) (init : FlashState) (cs : List Command)
-    (rs : List Reply) (ps : List Point) (s : Session F R)
+run_parts : {F : Type 0} (state : F → FlashState) (its : Config) (init : FlashState) (cs : List Command)
+    (rs : List Reply) (ps : List Point) (s : DeviceSession F)
     (final : FlashState) →
     Runs state its init cs rs ps s → moment_of final ≡ moment_of (state (flash_in s)) →
     moment_of final ≡ last_moment (moment_of init) ps
@@ -161,8 +162,8 @@ run_parts state its init cs rs ps s final h same =
     same ∙ sym (point_moment state its s) ∙ ap (λ (p : Point). p.moment) h.last
     ∙ last_moment_is (first_point its h.up (moment_of init)) ps
 
-pub all_served : {F R : Type 0} (state : F → FlashState) (its : Config) (init : FlashState) (cs : List Command)
-    (s : Session F R) (final : FlashState)
+pub all_served : {F : Type 0} (state : F → FlashState) (its : Config) (init : FlashState) (cs : List Command)
+    (s : DeviceSession F) (final : FlashState)
     (a b : Watched) → HasServed state its init cs s a b →
     moment_of final ≡ moment_of (state (flash_in s)) → BothTell NoMoreToCome (state (flash_in s)).told final.told →
     final.faults ≡ (state (flash_in s)).faults →
@@ -190,8 +191,8 @@ all_served state its init cs s final a b h same no_more quiet =
     }
 
 -- where one command more was served whose reply was not told
-pub one_untold : {F R : Type 0} (state : F → FlashState) (its : Config) (init : FlashState) (cs : List Command)
-    (c : Command) (r : Reply) (s t : Session F R)
+pub one_untold : {F : Type 0} (state : F → FlashState) (its : Config) (init : FlashState) (cs : List Command)
+    (c : Command) (r : Reply) (s t : DeviceSession F)
     (a b d : Watched) → HasServed state its init cs s a b →
     ((seen : ℕ → ℕ) → (faulted : Bool) → StandsAt state its seen faulted s → ServesIn state its seen faulted c s r t) →
     BothTell (IsSpentBy c r) (state (flash_in s)).told (state (flash_in t)).told →
@@ -233,8 +234,8 @@ pub next_of : (list : List Command) (at : ℕ) (c : Command) → at < length lis
 next_of list at c lt read = take_more list at c lt ∙ ap (λ x. take at list ++ x ∷ []) (sym read)
 
 -- Serving ended before that command did anything, or in it
-pub ended_for_memory : {F R : Type 0} (state : F → FlashState) (its : Config) (init : FlashState) (list : List Command)
-    (at : ℕ) (c : Command) (s : Session F R)
+pub ended_for_memory : {F : Type 0} (state : F → FlashState) (its : Config) (init : FlashState) (list : List Command)
+    (at : ℕ) (c : Command) (s : DeviceSession F)
     (flash : F) (a b : Watched) → at < length list → c ≡ get_or list at c →
     HasServed state its init (take at list) s a b → EndsForMemory state its c s flash →
     ServesSound its list init (state flash) a b (Err failed.Memory)
@@ -246,20 +247,20 @@ ended_for_memory state its init list at c s flash a b lt read h (inl still) =
           (all_served state its init (take at list) s (state flash) a b h still.still.moment still.still.told
           still.quiet)),
     )
-ended_for_memory {F = F} {R = R} state its init list at c s flash a b lt read h (inr cut) =
-    let after : Session F R = session.Unmounted flash in
+ended_for_memory {F = F} state its init list at c s flash a b lt read h (inr cut) =
+    let after : DeviceSession F = session.Unmounted flash in
     let count : length (take at list) ≡ at = length-take-le at list (omega arith) in (
       at,
       omega arith,
       inr (subst (λ n. ServesRun its (take (at + 1) list) n init (state flash) a b) count
           (subst (λ (cs : List Command). ServesRun its cs (length (take at list)) init (state flash) a b)
           (sym (next_of list at c lt read))
-          (one_untold {R = R} state its init (take at list) c cut.0 s after a b b h cut.2 cut.3
+          (one_untold state its init (take at list) c cut.0 s after a b b h cut.2 cut.3
           (lost_counts cut.0 (state (flash_in s)).faults (state flash).faults cut.1 cut.4) refl refl))),
     )
 
 -- a session that stands has no image that is refused
-unrefused : {F R : Type 0} (state : F → FlashState) (its : Config) (seen : ℕ → ℕ) (faulted : Bool) (s : Session F R)
+unrefused : {F : Type 0} (state : F → FlashState) (its : Config) (seen : ℕ → ℕ) (faulted : Bool) (s : DeviceSession F)
     (flash : F) (law : ℕ) (slot : Slot) →
     StandsAt state its seen faulted s → Refuses state its s flash law slot → ⊥
 unrefused state its seen faulted (session.Mounted s) flash law slot stands h = h
@@ -267,8 +268,8 @@ unrefused state its seen faulted (session.Unmounted old) flash law slot stands h
     sound_unbroken its.protocol its.logical (shape_of its) (state old).image (record { law = law; slot = slot })
     stands.sound h.1
 
-pub ended_in : {F R : Type 0} (state : F → FlashState) (its : Config) (init : FlashState) (list : List Command) (at : ℕ)
-    (c : Command) (s : Session F R)
+pub ended_in : {F : Type 0} (state : F → FlashState) (its : Config) (init : FlashState) (list : List Command) (at : ℕ)
+    (c : Command) (s : DeviceSession F)
     (flash : F) (why : ServeError) (a b : Watched) → at < length list →
     c ≡ get_or list at c → HasServed state its init (take at list) s a b → EndsServing state its c s flash why →
     ServesSound its list init (state flash) a b (Err why)
@@ -279,9 +280,9 @@ ended_in state its init list at c s flash failed.Memory a b lt read h ends =
     ended_for_memory state its init list at c s flash a b lt read h ends.cause
 
 -- the reply of it could not be told
-pub untold_in : {F R : Type 0} (state : F → FlashState) (its : Config) (init : FlashState) (list : List Command)
+pub untold_in : {F : Type 0} (state : F → FlashState) (its : Config) (init : FlashState) (list : List Command)
     (at : ℕ) (c : Command) (r : Reply)
-    (s t : Session F R) (flash : F) (a b d : Watched) → at < length list →
+    (s t : DeviceSession F) (flash : F) (a b d : Watched) → at < length list →
     c ≡ get_or list at c → HasServed state its init (take at list) s a b → ServesSession state its c s r t →
     flash ≡ flash_in t → d.text ≡ b.text →
     d.kept ≡ b.kept → ServesSound its list init (state flash) a d (Err failed.Memory)
@@ -298,18 +299,14 @@ untold_in state its init list at c r s t flash a b d lt read h serves is text ke
     )
 
 -- all was served
-no_more_same : (o : Option Told) → BothTell NoMoreToCome o o
-no_more_same None = tt
-no_more_same (Some told) = (omega arith, omega arith)
-
-fits_live : {F R : Type 0} (state : F → FlashState) (its : Config) (cache : List CachedPage) (s : Session F R) →
+fits_live : {F : Type 0} (state : F → FlashState) (its : Config) (cache : List CachedPage) (s : DeviceSession F) →
     Fits state its cache s →
     (point_of state its s).state.up ≡ true → (state (flash_in s)).live ≡ true
 fits_live state its cache (session.Mounted t) fits up = fits.live
 fits_live state its cache (session.Unmounted flash) fits up = cc
 
-ends_live : {F R : Type 0} (state : F → FlashState) (its : Config) (init : FlashState) (cs : List Command)
-    (cache : List CachedPage) (s : Session F R)
+ends_live : {F : Type 0} (state : F → FlashState) (its : Config) (init : FlashState) (cs : List Command)
+    (cache : List CachedPage) (s : DeviceSession F)
     (a b : Watched) →
     Fits state its cache s → (h : HasServed state its init cs s a b) →
     (last_state (first_state its h.runs.up (moment_of init)) h.points).up ≡ true →
@@ -318,9 +315,9 @@ ends_live state its init cs cache s a b fits h up =
     fits_live state its cache s fits (ap (λ (p : Point). p.state.up) h.runs.last
     ∙ ap (λ (x : RunState). x.up) (last_state_is (first_point its h.runs.up (moment_of init)) h.points) ∙ up)
 
-pub served_to_the_end : {F R : Type 0} (state : F → FlashState) (its : Config) (init : FlashState) (list : List Command)
+pub served_to_the_end : {F : Type 0} (state : F → FlashState) (its : Config) (init : FlashState) (list : List Command)
     (at : ℕ) (cache : List CachedPage)
-    (s : Session F R) (flash : F) (a b : Watched) → length list ≤ at →
+    (s : DeviceSession F) (flash : F) (a b : Watched) → length list ≤ at →
     Fits state its cache s → HasServed state its init (take at list) s a b → flash ≡ flash_in s →
     ServesSound its list init (state flash) a b (Ok tt)
 unfolding all_served
@@ -348,7 +345,7 @@ kept_more its init old new (inl sound) (inr same) = inl (
 )
 kept_more its init old new (inr was) (inr same) = inr (same ∙ was)
 
-refused_for : {F R : Type 0} (state : F → FlashState) (its : Config) (init : FlashState) (c : Command) (s : Session F R)
+refused_for : {F : Type 0} (state : F → FlashState) (its : Config) (init : FlashState) (c : Command) (s : DeviceSession F)
     (flash : F) (law : ℕ) (slot : Slot) →
     IsSoundOrSame its init (state (flash_in s)) →
     EndsFor state its c s flash (failed.Unsound law slot) →
@@ -364,8 +361,8 @@ refused_for state its init c (session.Unmounted old) flash law slot (inr same) e
       same ends.1,
 )
 
-pub refused_in : {F R : Type 0} (state : F → FlashState) (its : Config) (init : FlashState) (c : Command)
-    (s : Session F R) (flash : F) (why : ServeError) →
+pub refused_in : {F : Type 0} (state : F → FlashState) (its : Config) (init : FlashState) (c : Command)
+    (s : DeviceSession F) (flash : F) (why : ServeError) →
     IsSoundOrSame its init (state (flash_in s)) → EndsServing state its c s flash why →
     RefusesUnsound its init (state flash) (Err why)
 refused_in state its init c s flash failed.Memory kept ends = kept_more its init (state (flash_in s)) (state flash)
@@ -404,9 +401,9 @@ unmounted_none init now w same faults = record {
   faults = faults;
 }
 
-pub unmounted_more : {F R : Type 0} (state : F → FlashState) (its : Config) (init : FlashState) (cs : List Command)
+pub unmounted_more : {F : Type 0} (state : F → FlashState) (its : Config) (init : FlashState) (cs : List Command)
     (c : Command) (r : Reply)
-    (s t : Session F R) (a b d : Watched) → (IsSoundFlash its init → ⊥) →
+    (s t : DeviceSession F) (a b d : Watched) → (IsSoundFlash its init → ⊥) →
     StaysUnmounted cs init (state (flash_in s)) a b → ServesSession state its c s r t → Grew b.text d.text (text_of r) →
     Grew b.kept d.kept (told_at (moment_of (state (flash_in t))) r ∷ []) →
     StaysUnmounted (cs ++ c ∷ []) init (state (flash_in t)) a d
@@ -445,16 +442,16 @@ unmounted_in init now final list at a b d why h same text kept faults = record {
   faults = faults;
 }
 
-refused_counts : {F R : Type 0} (state : F → FlashState) (its : Config) (init : FlashState) (rs : List Reply)
-    (s : Session F R) (flash : F) (law : ℕ)
+refused_counts : {F : Type 0} (state : F → FlashState) (its : Config) (init : FlashState) (rs : List Reply)
+    (s : DeviceSession F) (flash : F) (law : ℕ)
     (slot : Slot) → CountsBreaks rs init (state (flash_in s)) →
     Refuses state its s flash law slot → CountsBreaks rs init (state flash)
 refused_counts state its init rs (session.Mounted s) flash law slot h ends = absurd ends
 refused_counts state its init rs (session.Unmounted old) flash law slot h ends =
     counts_later rs init (state old) (state flash) h ends.0.quiet
 
-pub ended_counts : {F R : Type 0} (state : F → FlashState) (its : Config) (init : FlashState) (rs : List Reply)
-    (c : Command) (s : Session F R) (flash : F)
+pub ended_counts : {F : Type 0} (state : F → FlashState) (its : Config) (init : FlashState) (rs : List Reply)
+    (c : Command) (s : DeviceSession F) (flash : F)
     (why : ServeError) → CountsBreaks rs init (state (flash_in s)) →
     EndsServing state its c s flash why → CountsTold rs init (state flash) (Err why)
 ended_counts state its init rs c s flash failed.Memory h ends = tt

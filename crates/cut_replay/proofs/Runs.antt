@@ -14,8 +14,7 @@ use Rattle.cut_replay.specs.FlashRun.{last_moment}
 use Rattle.cut_replay.specs.Watching.{text_of_all, replies_told}
 use Rattle.cut_replay.specs.Bounds.{AreSpent, SpendsTold, LastIsSet}
 use Rattle.array_runs.specs.Breaks.{is_cut, arms_cut, arms_fault}
-use Rattle.cut_replay.proofs.Spending.{both_tell}
-use Rattle.cut_replay.proofs.Arming.{weaker_told}
+use Rattle.mounted_session.proofs.Telling.{both_tell, weaker_told}
 
 -- where a run stands after these commands
 abbrev pub last_point : Point → List Point → Point

@@ -12,7 +12,7 @@ use Rattle.tx_types.specs.declared.stats.Stats.{Stats}
 use Rattle.flash_model.specs.Moves.{MovesTogether}
 use Rattle.flash_model.proofs.CallLemmas.{Carries-nothing}
 use Rattle.flash_model.proofs.MoveLemmas.{Moves-nothing, together_of}
-use Rattle.version_index.specs.IndexState.{current_of, mention_of}
+use Rattle.judged_records.specs.IndexState.{current_of, mention_of}
 use Rattle.collector.specs.declared.unsure.Unsure.TheVariants as unsure
 use Rattle.array_machine.specs.ArrayState.{Pages}
 use Rattle.array_machine.specs.Collect.{TellsStats}

@@ -7,7 +7,7 @@ use Rattle.flash_model.specs.Operations.{Operation, program, erase, fire, Moment
 use Rattle.flash_model.specs.Moves.{Does, MovesTogether}
 use Rattle.record_list.specs.Records.{mention}
 use Rattle.record_list.specs.declared.found.Found.{Found}
-use Rattle.version_index.specs.Images.{records_in, array_in, IsSoundImage}
+use Rattle.judged_records.specs.Images.{records_in, array_in, IsSoundImage}
 use Rattle.verdict_report.specs.Report.{report}
 use Rattle.host_protocol.specs.declared.command.Command.{Command}
 use Rattle.host_protocol.specs.declared.command.Command.TheVariants as command

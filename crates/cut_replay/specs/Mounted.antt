@@ -3,10 +3,10 @@ use Rattle.std.specs.Prelude.{◌≡◌, ◌<◌, ◌≤◌, ℕ, ◌⊎◌, Boo
 use Rattle.std.specs.Prelude.{Some, is_some, MatchBool, if◌then◌else◌}
 use Rattle.tx_types.specs.declared.memory.Memory.{Memory}
 use Rattle.flash_model.specs.Flash.{FlashState, counted}
-use Rattle.flash_model.specs.Calls.{Carries, BothTell, NoMoreToCome}
+use Rattle.flash_model.specs.Calls.{Carries}
 use Rattle.flash_model.specs.Operations.{moment_of}
-use Rattle.version_index.specs.Images.{array_in}
-use Rattle.version_index.specs.IndexState.{current_of}
+use Rattle.judged_records.specs.Images.{array_in}
+use Rattle.judged_records.specs.IndexState.{current_of}
 use Rattle.collector.specs.declared.unsure.Unsure.TheVariants as unsure
 use Rattle.page_cache.specs.PageCacheState.{CachedPage, PageCacheState, cached_page, promoted, kept}
 use Rattle.tx_engine.specs.Always.{IsSeen}
@@ -68,19 +68,6 @@ pub record ServesHere {F : Type 0}
   pub versions : VersionsTell old new
   pub cut : is_fault r ≡ true → MayHaveCut state c old new
   pub whole : is_lost r ≡ false
-
--- moment, shape and what is told of retired blocks stay, the count of faults does not fall, and no more is to come
-pub record MomentStays (old new : FlashState) : Type 0 where
-  pub moment : moment_of new ≡ moment_of old
-  pub shape : new.shape ≡ old.shape
-  pub later : old.faults ≤ new.faults
-  pub told : BothTell NoMoreToCome old.told new.told
-  pub extras : new.extras ≡ old.extras
-
--- and no fault was counted
-pub record StaysQuiet (old new : FlashState) : Type 0 where
-  pub still : MomentStays old new
-  pub quiet : new.faults ≡ old.faults
 
 -- whether a page is held in the cache at its current version
 abbrev pub is_cached : {F : Type 0} → DeviceState F → List CachedPage → ℕ → Bool

@@ -1,7 +1,8 @@
 ghost use Rattle.std.specs.Prelude.{◌≡◌, false, length, IfOk, OnErr};
 ghost use Rattle.host_protocol.specs.Commands.{Suits};
 ghost use Rattle.tx_engine.specs.Always.{HoldsAlways};
-ghost use Rattle.cut_replay.specs.Mounted.{IsCached, StaysQuiet, ServesHere};
+ghost use Rattle.mounted_session.specs.Mounting.{StaysQuiet};
+ghost use Rattle.cut_replay.specs.Mounted.{IsCached, ServesHere};
 ghost use Rattle.cut_replay.specs.Mounted.{CachesCommand, is_step_all};
 ghost use Rattle.array_runs.specs.Run.{is_arm};
 
@@ -17,7 +18,8 @@ use tx_engine::Device;
 use tx_types::Memory;
 
 /// Does a command on a device, other than an arm and than going on with several transactions at once. Where power was
-/// cut the reply is to be `Cut` in place of this one.
+/// cut the reply is to be `Cut` in place of this one. After a fault in the latter the device may not be used, while
+/// what is said here of the device holds after every other command.
 pub fn execute<F: Flash, R: CommitRule>(
     alloc: Global,
     device: &mut Device<F, R>,

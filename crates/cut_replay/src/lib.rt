@@ -2,6 +2,7 @@
 //! plain array of pages in which a transaction changes all its pages at once.
 #![tactic(auto)]
 
+mod arms;
 mod calls;
 mod executing;
 mod finishing;
@@ -9,7 +10,6 @@ mod lines;
 mod mounting;
 mod reading;
 mod serving;
-mod session;
 pub mod theorems;
 mod watch;
 

@@ -6,7 +6,8 @@ ghost use Rattle.flash_model.specs.Calls.{Carries};
 ghost use Rattle.flash_model.specs.Operations.{moment_of};
 ghost use Rattle.tx_engine.specs.Always.{HoldsAlways};
 ghost use Rattle.tx_engine.specs.Read.{is_read_fault};
-ghost use Rattle.cut_replay.specs.Mounted.{IsCached, StaysQuiet, ServesHere, ReadsThrough, is_cached, brought_forward, KeepsPage, CachesRead, CachesPage, ReadsOnce};
+ghost use Rattle.mounted_session.specs.Mounting.{StaysQuiet};
+ghost use Rattle.cut_replay.specs.Mounted.{IsCached, ServesHere, ReadsThrough, is_cached, brought_forward, KeepsPage, CachesRead, CachesPage, ReadsOnce};
 
 use flash_model::Flash;
 use host_protocol::{Command, Reply};

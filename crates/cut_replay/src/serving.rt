@@ -8,18 +8,20 @@ ghost use Rattle.cut_replay.specs.Beginning.{Begins, MountsFirst};
 ghost use Rattle.cut_replay.specs.Bounds.{CountsBreaks};
 ghost use Rattle.cut_replay.specs.Mounted.{IsCached};
 ghost use Rattle.cut_replay.specs.Served.{ServesSound, ServesUnsound, RefusesUnsound};
-ghost use Rattle.cut_replay.specs.Sessions.{flash_in, is_mounted, Fits, Serves, Unmounted, IsSoundFlash, IsSoundOrSame};
+ghost use Rattle.mounted_session.specs.Sessions.{is_mounted};
+ghost use Rattle.cut_replay.specs.Sessions.{flash_in, serve_error, Fits, Serves, Unmounted, IsSoundFlash, IsSoundOrSame};
 
 use crate::Watch;
+use crate::arms::{arm_bad_read, arm_cut, arm_fault};
 use crate::executing::execute;
-use crate::mounting::{mount, mount_again, remount, remount_if_cut};
-use crate::session::{Ended, Session};
+use crate::mounting::{mount_again, remount, remount_if_cut};
 use flash_model::{Arms, Power, Wide};
 use host_protocol::{Command, Reply};
+use mounted_session::{Refusal, Session};
 use page_cache::PageCache;
 use record_list::CommitRule;
 use std::alloc::Global;
-use tx_engine::{Fault, Moved, device_facts};
+use tx_engine::{Device, Fault, Moved, device_facts};
 use tx_types::{Config, Memory, Slot};
 
 /// Why the commands were not all served.
@@ -33,12 +35,23 @@ pub enum ServeError {
     Memory,
 }
 
+impl From<Refusal> for ServeError {
+    ghost from_gives = { λ why e. e ≡ serve_error why };
+
+    fn from(why: Refusal) -> Self {
+        match why {
+            Refusal::Unsound { law, slot } => ServeError::Unsound { law, slot },
+            Refusal::Memory => ServeError::Memory,
+        }
+    }
+}
+
 /// Goes on with several transactions at once on a mounted device. Where that meets a fault, none is
 /// open any more, and the device is mounted again.
 fn serve_step_all<F: Power + Wide, R: CommitRule>(
     alloc: Global,
     config: Config,
-    session: &mut Session<F, R>,
+    session: &mut Session<F, Device<F, R>>,
     cache: &mut PageCache,
 ) -> Result<Reply, ServeError>
     requires mounted { is_mounted session.old ≡ true }
@@ -62,7 +75,7 @@ fn serve_step_all<F: Power + Wide, R: CommitRule>(
 fn serve_mounted<F: Power + Wide, R: CommitRule>(
     alloc: Global,
     config: Config,
-    session: &mut Session<F, R>,
+    session: &mut Session<F, Device<F, R>>,
     cache: &mut PageCache,
     room: &mut [u8],
     command: &Command,
@@ -92,7 +105,7 @@ fn serve_mounted<F: Power + Wide, R: CommitRule>(
 fn serve_unmounted<F: Power + Wide, R: CommitRule>(
     alloc: Global,
     config: Config,
-    session: &mut Session<F, R>,
+    session: &mut Session<F, Device<F, R>>,
     cache: &mut PageCache,
     room: &mut [u8],
     command: &Command,
@@ -109,18 +122,18 @@ fn serve_unmounted<F: Power + Wide, R: CommitRule>(
     mount_again(alloc, config, session, cache)?;
     if session.is_mounted() {
         serve_mounted(alloc, config, session, cache, room, command)
-    } else if session.flash().live() {
+    } else if session.live() {
         Ok(Reply::Fault)
     } else {
         Ok(Reply::Cut)
     }
 }
 
-/// Serves a command.
+/// Serves a command. The session is changed in place: only a mount takes its device apart.
 fn serve_one<F: Power + Arms + Wide, R: CommitRule>(
     alloc: Global,
     config: Config,
-    session: &mut Session<F, R>,
+    session: &mut Session<F, Device<F, R>>,
     cache: &mut PageCache,
     room: &mut [u8],
     command: &Command,
@@ -134,15 +147,15 @@ fn serve_one<F: Power + Arms + Wide, R: CommitRule>(
 {
     match command {
         Command::Cut { count, outcome } => {
-            session.arm_cut(*count, *outcome);
+            arm_cut(session, *count, *outcome);
             Ok(Reply::Armed)
         }
         Command::Fault { count, outcome } => {
-            session.arm_fault(*count, *outcome);
+            arm_fault(session, *count, *outcome);
             Ok(Reply::Armed)
         }
         Command::BadRead { count } => {
-            session.arm_bad_read(*count);
+            arm_bad_read(session, *count);
             Ok(Reply::Armed)
         }
         _ if session.is_mounted() => serve_mounted(alloc, config, session, cache, room, command),
@@ -154,14 +167,14 @@ fn serve_one<F: Power + Arms + Wide, R: CommitRule>(
 fn serve_all<F: Power + Arms + Wide, R: CommitRule, W: Watch<F>>(
     alloc: Global,
     config: Config,
-    mut session: Session<F, R>,
+    mut session: Session<F, Device<F, R>>,
     cache: &mut PageCache,
     room: &mut [u8],
     list: &[Command],
     out: &mut W,
 ) -> (F, Result<(), ServeError>)
     requires rule { config.protocol ≡ R.protocol }
-    requires fits { Fits {R = R} F.state config cache.old.entries session }
+    requires fits { Fits F.state config cache.old.entries session }
     requires suits { All (Suits config.page_bytes) list.now }
     requires room { length room.old ≡ config.page_bytes }
     requires size { cache.old.page_bytes ≡ config.page_bytes }
@@ -210,7 +223,7 @@ fn begin<F: Power, R: CommitRule>(
     flash: F,
     config: Config,
     cache: &mut PageCache,
-) -> Result<Session<F, R>, Ended<F>>
+) -> Result<Session<F, Device<F, R>>, (F, ServeError)>
     requires check { checked config ≡ Ok (F.state flash).shape }
     requires rule { config.protocol ≡ R.protocol }
     ensures steady { IsSteady (F.state flash) → OnOk result (IsSoundFlash config (F.state flash)) }
@@ -223,14 +236,13 @@ fn begin<F: Power, R: CommitRule>(
     ensures faults { IfOk result (λ s.
         CountsBreaks [] (F.state flash) (F.state (flash_in s))) }
     ensures extras { IfOk result (λ s. (F.state (flash_in s)).extras ≡ (F.state flash).extras) }
-    ensures failed { IfErr result (λ e. Unmounted F.state config flash e.flash e.why) }
+    ensures failed { IfErr result (λ e. Unmounted F.state config flash e.0 e.1) }
     ensures size { cache.new.page_bytes ≡ cache.old.page_bytes }
 {
     cache.clear();
-    if flash.live() {
-        mount(alloc, flash, config)
-    } else {
-        Ok(Session::Unmounted(flash))
+    match mounted_session::begin(alloc, flash, config) {
+        Ok(session) => Ok(session),
+        Err((flash, why)) => Err((flash, ServeError::from(why))),
     }
 }
 
@@ -292,6 +304,6 @@ pub fn serve<F: Power + Arms + Wide, R: CommitRule, W: Watch<F>>(
         Ok(session) => serve_all::<F, R, W>(
             alloc, config, session, &mut cache, &mut room, list, out,
         ),
-        Err(ended) => (ended.flash, Err(ended.why)),
+        Err((flash, why)) => (flash, Err(why)),
     }
 }

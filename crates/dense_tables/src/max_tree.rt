@@ -46,7 +46,8 @@ impl MaxTree {
         MaxTree::with_top(alloc, count, 0)
     }
 
-    /// All numbers are 0. This suits numbers that change more often than the greatest is asked for.
+    /// All numbers are 0. This suits numbers that change more often than the greatest is asked for. The one cell above
+    /// all is not kept: the greatest is found among at most sixteen cells.
     pub fn for_changes(alloc: Global, count: usize) -> Result<MaxTree, AllocError>
         requires { count < 2 ^ 32 }
         ensures { IfOk result (λ p. p ≡ replicate count 0) }

@@ -3,7 +3,7 @@ ghost use Rattle.std.specs.Prelude.{◌≡◌, ◌/◌, ◌<◌};
 use std::marker::Model;
 
 /// A number by which small ones are divided, with its reciprocal, so that a division is a
-/// multiplication.
+/// multiplication. The block of a slot is found so, many times in a step.
 #[derive(Drop)]
 pub struct Reciprocal {
     by: u32,

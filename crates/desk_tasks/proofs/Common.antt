@@ -10,10 +10,10 @@ pub use Rattle.desk_tasks.specs.Steps.{Comparing, Judging, Opening, Keying, Expl
 pub use Rattle.desk_tasks.specs.Stops.{RefusesDevice, RefusesLine, RefusesRetirement}
 pub use Rattle.durable_folder.proofs.Learning.{rests_then}
 pub use Rattle.flash_model.specs.Flash.{Contents, Extras}
+pub use Rattle.judged_records.specs.Images.{IsSoundImage, records_in}
+unfoldable pub use Rattle.judged_records.specs.Images.{array_in}
 pub use Rattle.mem_flash.specs.MemFlashState.{MemFlashState, loaded, state_of}
 pub use Rattle.program_base.specs.Loading.{ReadsImage}
 pub use Rattle.tx_types.specs.Config.{shape_of}
 pub use Rattle.tx_types.specs.declared.config.Config.{Config}
 pub use Rattle.tx_types.specs.declared.config.Protocol.{Protocol}
-pub use Rattle.version_index.specs.Images.{IsSoundImage, records_in}
-unfoldable pub use Rattle.version_index.specs.Images.{array_in}

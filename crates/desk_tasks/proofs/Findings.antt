@@ -14,7 +14,7 @@ use Rattle.tx_types.proofs.ConfigLemmas.{checked_config}
 use Rattle.record_list.specs.declared.found.Found.{Found}
 use Rattle.record_list.specs.Records.{IsScanned}
 use Rattle.record_list.specs.SoundList.{Pages as page_law, PagesExist}
-use Rattle.version_index.proofs.OfLaws.ImageScans.{records_scanned}
+use Rattle.judged_records.proofs.OfLaws.ImageScans.{records_scanned}
 use Rattle.array_machine.specs.ArrayState.{ArrayState, Pages, idle, page_at}
 use Rattle.verdict_report.specs.Report.{pages}
 use Rattle.desk_tasks.specs.Ending.{DifferBlank, DifferAt}
@@ -28,23 +28,23 @@ use Rattle.desk_tasks.proofs.Works.{stops_by}
 
 -- ---- a check
 
-pub judging_device : (its : Config) (image : List Contents) (text : List ℕ) (fate : Ending) →
-    RefusesDevice its image fate → Judging its image text fate
-judging_device its image text fate h = (Err h.0, h.1, h.2)
+pub judging_device : (its : Config) (image : List Contents) (text : List ℕ) (ending : Ending) →
+    RefusesDevice its image ending → Judging its image text ending
+judging_device its image text ending h = (Err h.0, h.1, h.2)
 
 judging_list : (its : Config) (image : List Contents) (text : List ℕ) →
     IsSoundImage its.protocol its.logical (shape_of its) image →
-    (fate : Ending) → ChecksList its.protocol (records_in its.protocol image) its.logical text fate →
-    Judging its image text fate
-judging_list its image text sound fate (inl (n, same, count, is)) = (Ok tt, sound, (Ok n, (same, count), is))
-judging_list its image text sound fate (inr (k, differs, is)) = (Ok tt, sound, (Err k, differs, is))
+    (ending : Ending) → ChecksList its.protocol (records_in its.protocol image) its.logical text ending →
+    Judging its image text ending
+judging_list its image text sound ending (inl (n, same, count, is)) = (Ok tt, sound, (Ok n, (same, count), is))
+judging_list its image text sound ending (inr (k, differs, is)) = (Ok tt, sound, (Err k, differs, is))
 
 pub judging : (its : Config) (image : List Contents) (text : List ℕ) (list : List Found) →
     IsSoundImage its.protocol its.logical (shape_of its) image →
-    list ≡ records_in its.protocol image → (fate : Ending) → ChecksList its.protocol list its.logical text fate →
-    Judging its image text fate
-judging its image text list sound e fate h =
-    judging_list its image text sound fate (subst (λ l. ChecksList its.protocol l its.logical text fate) e h)
+    list ≡ records_in its.protocol image → (ending : Ending) → ChecksList its.protocol list its.logical text ending →
+    Judging its image text ending
+judging its image text list sound e ending h =
+    judging_list its image text sound ending (subst (λ l. ChecksList its.protocol l its.logical text ending) e h)
 
 -- what a check of a report asks of the records of a sound image
 few : (n pending blocks pages : ℕ) → n + pending + 1 ≤ (blocks - 1) * pages → pages * blocks ≤ 65536 → n ≤ 65536
@@ -71,8 +71,8 @@ scanned_list its image list e = subst (λ l. IsScanned l) (sym e) (records_scann
 -- ---- a comparison
 
 module _ (a : Config) (image : List Contents) (b : Config) (other : List Contents) where
-  pub first_refused : (fate : Ending) → RefusesDevice a image fate → Comparing a image b other fate
-  first_refused fate h = (Err h.0, h.1, h.2)
+  pub first_refused : (ending : Ending) → RefusesDevice a image ending → Comparing a image b other ending
+  first_refused ending h = (Err h.0, h.1, h.2)
 
 array_length : (protocol : Protocol) (logical : ℕ) (image : List Contents) →
     length (array_in protocol logical image) ≡ logical
@@ -166,10 +166,10 @@ module _ (a : Config) (image : List Contents) (b : Config) (other : List Content
 comparing : (a : Config) (image : List Contents) (b : Config) (other : List Contents) →
     IsSoundImage a.protocol a.logical (shape_of a) image → IsSoundImage b.protocol b.logical (shape_of b) other →
     (one two : ArrayState) → one ≡ idle (array_of_device a image) → two ≡ idle (array_of_device b other) →
-    (fate : Ending) → ComesTo a one.pages b two.pages fate → Comparing a image b other fate
-comparing a image b other sound other_sound one two e f fate h =
-    from (subst (λ pages. ComesTo a pages b (array_of_device b other) fate) (ap (λ (m : ArrayState). m.pages) e)
-    (subst (λ pages. ComesTo a one.pages b pages fate) (ap (λ (m : ArrayState). m.pages) f) h))
+    (ending : Ending) → ComesTo a one.pages b two.pages ending → Comparing a image b other ending
+comparing a image b other sound other_sound one two e f ending h =
+    from (subst (λ pages. ComesTo a pages b (array_of_device b other) ending) (ap (λ (m : ArrayState). m.pages) e)
+    (subst (λ pages. ComesTo a one.pages b pages ending) (ap (λ (m : ArrayState). m.pages) f) h))
   where
     by_found : HaveOneShape a b → (found : Option Difference) →
         FindsFirst (array_of_device a image) (array_of_device b other) a.logical found →
@@ -180,48 +180,48 @@ comparing a image b other sound other_sound one two e f fate h =
     by_found shape (Some (difference.At page at)) finds = byte_differs a image b other sound other_sound
         shape page at finds
 
-    from : ComesTo a (array_of_device a image) b (array_of_device b other) fate → Comparing a image b other fate
+    from : ComesTo a (array_of_device a image) b (array_of_device b other) ending → Comparing a image b other ending
     from (inl (differ, is)) = (Ok tt, sound, (Ok tt, other_sound, (Shapes, differ, is)))
-    from (inr (shape, (found, finds, is))) = subst (λ fate. Comparing a image b other fate) (sym is)
+    from (inr (shape, (found, finds, is))) = subst (λ ending. Comparing a image b other ending) (sym is)
         (by_found shape found finds)
 
 -- what the second device comes to beside an array, where its image is sound, and where it is not
 pub opened_second : (a : Config) (pages : Pages) (b : Config) (other : List Contents) →
     IsSoundImage b.protocol b.logical (shape_of b) other →
-    (two : ArrayState) → two ≡ idle (array_of_device b other) → (fate : Ending) → ComesTo a pages b two.pages fate →
-    Opening b other (ComesTo a pages b (array_of_device b other)) fate
-opened_second a pages b other sound two e fate h =
-    (Ok tt, sound, subst (λ others. ComesTo a pages b others fate) (ap (λ (m : ArrayState). m.pages) e) h)
+    (two : ArrayState) → two ≡ idle (array_of_device b other) → (ending : Ending) → ComesTo a pages b two.pages ending →
+    Opening b other (ComesTo a pages b (array_of_device b other)) ending
+opened_second a pages b other sound two e ending h =
+    (Ok tt, sound, subst (λ others. ComesTo a pages b others ending) (ap (λ (m : ArrayState). m.pages) e) h)
 
-pub second_refused : (a : Config) (pages : Pages) (b : Config) (other : List Contents) (fate : Ending) →
-    RefusesDevice b other fate →
-    Opening b other (ComesTo a pages b (array_of_device b other)) fate
-second_refused a pages b other fate h = (Err h.0, h.1, h.2)
+pub second_refused : (a : Config) (pages : Pages) (b : Config) (other : List Contents) (ending : Ending) →
+    RefusesDevice b other ending →
+    Opening b other (ComesTo a pages b (array_of_device b other)) ending
+second_refused a pages b other ending h = (Err h.0, h.1, h.2)
 
 -- and so what two images come to, where the first is sound
 pub first_opened : (a : Config) (image : List Contents) (b : Config) (other : List Contents) →
     IsSoundImage a.protocol a.logical (shape_of a) image →
-    (one : ArrayState) → one ≡ idle (array_of_device a image) → (fate : Ending) →
-    Opening b other (ComesTo a one.pages b (array_of_device b other)) fate → Comparing a image b other fate
-first_opened a image b other sound one e fate (Ok done, other_sound, h) =
-    comparing a image b other sound other_sound one (idle (array_of_device b other)) e refl fate h
-first_opened a image b other sound one e fate (Err breach, opens, is) = (Ok tt, sound, (Err breach, opens, is))
+    (one : ArrayState) → one ≡ idle (array_of_device a image) → (ending : Ending) →
+    Opening b other (ComesTo a one.pages b (array_of_device b other)) ending → Comparing a image b other ending
+first_opened a image b other sound one e ending (Ok done, other_sound, h) =
+    comparing a image b other sound other_sound one (idle (array_of_device b other)) e refl ending h
+first_opened a image b other sound one e ending (Err breach, opens, is) = (Ok tt, sound, (Err breach, opens, is))
 
 -- ---- a number, or why there is none
 
 -- what is done, or refused, in one way is so in another
-pub leads_ok : (P Q : Ending → Type 0) (done : ℕ → Ending) → ((fate : Ending) → P fate → Q fate) →
+pub leads_ok : (P Q : Ending → Type 0) (done : ℕ → Ending) → ((ending : Ending) → P ending → Q ending) →
     (result : Result ℕ Failure) →
     IfOk result (λ n. P (done n)) → IfOk result (λ n. Q (done n))
 leads_ok P Q done leads (Ok n) h = leads (done n) h
 leads_ok P Q done leads (Err e) h = h
 
-pub leads_err : (P Q : Ending → Type 0) → ((fate : Ending) → P fate → Q fate) → (result : Result ℕ Failure) →
+pub leads_err : (P Q : Ending → Type 0) → ((ending : Ending) → P ending → Q ending) → (result : Result ℕ Failure) →
     IfErr result (StopsBy P) → IfErr result (StopsBy Q)
 leads_err P Q leads (Ok n) h = h
 leads_err P Q leads (Err e) h = stops_by P Q leads e h
 
-pub leads_stop : {T : Type 0} → (P Q : Ending → Type 0) → ((fate : Ending) → P fate → Q fate) →
+pub leads_stop : {T : Type 0} → (P Q : Ending → Type 0) → ((ending : Ending) → P ending → Q ending) →
     (result : Result T Failure) (e : Failure) →
     IsErrAnd result (λ x. x ≡ e) → StopsBy P e → IfErr result (StopsBy Q)
 leads_stop P Q leads (Ok n) e same h = absurd same

@@ -3,6 +3,7 @@ pub mod RunLemmas
 pub mod Sound
 pub mod Weakening
 pub mod Works
+pub mod TwoFiles
 pub mod Parts
 pub mod Findings
 pub mod Copies

@@ -7,7 +7,7 @@ use Rattle.host_protocol.specs.declared.command.Command.{Command}
 use Rattle.drive_gen.specs.Summary.{summary_line}
 use Rattle.desk_tasks.specs.Ending.{Explained}
 use Rattle.desk_tasks.specs.Runs.{IsRun, RepliesFresh, blank_image, default_config}
-use Rattle.version_index.proofs.OfTables.OneBreach.{sound_unbroken}
+use Rattle.judged_records.proofs.OfNotes.OneBreach.{sound_unbroken}
 use Rattle.desk_tasks.proofs.Sound.{blank_sound}
 
 -- ---- a fresh default device
@@ -15,9 +15,9 @@ use Rattle.desk_tasks.proofs.Sound.{blank_sound}
 -- it is opened
 pub blank_opens : (protocol : Protocol) (its : Config) (image : List Contents) → its ≡ default_config protocol →
     image ≡ blank_image its →
-    (fate : Ending) → RefusesDevice its image fate → ⊥
-blank_opens protocol its image e f fate h =
-    let refuses : RefusesDevice (default_config protocol) (blank_image (default_config protocol)) fate =
+    (ending : Ending) → RefusesDevice its image ending → ⊥
+blank_opens protocol its image e f ending h =
+    let refuses : RefusesDevice (default_config protocol) (blank_image (default_config protocol)) ending =
     rw (f, e) at h in
     sound_unbroken protocol (default_config protocol).logical (shape_of (default_config protocol))
     (blank_image (default_config protocol))
@@ -38,33 +38,33 @@ summed start count protocol before after cs lines text none same h = rw (none, s
 
 -- ---- a try
 
-pub trying_line : (its : Config) (lines : List ℕ) → its ≡ default_config Scc → (fate : Ending) →
-    RefusesLine its.page_bytes lines fate → Trying lines fate
-trying_line its lines e fate h =
-    let refuses : RefusesLine (default_config Scc).page_bytes lines fate = rw e at h in
+pub trying_line : (its : Config) (lines : List ℕ) → its ≡ default_config Scc → (ending : Ending) →
+    RefusesLine its.page_bytes lines ending → Trying lines ending
+trying_line its lines e ending h =
+    let refuses : RefusesLine (default_config Scc).page_bytes lines ending = rw e at h in
     (Err refuses.0, refuses.1, refuses.2)
 
 -- ---- a run
 
 pub running_line : (name bytes lines : List ℕ) (its : Config) (image : List Contents) (extras : Extras) →
     ReadsImage bytes (Ok (its, image, extras)) →
-    (fate : Ending) → RefusesLine its.page_bytes lines fate → Running name bytes lines fate
-running_line name bytes lines its image extras read fate h =
+    (ending : Ending) → RefusesLine its.page_bytes lines ending → Running name bytes lines ending
+running_line name bytes lines its image extras read ending h =
     (Ok (its, image, extras), read, ((Err h.0, h.1, h.2), refl))
 
 pub running_on : (name bytes lines : List ℕ) (its : Config) (image : List Contents) (extras : Extras)
     (cs : List Command) →
     ReadsImage bytes (Ok (its, image, extras)) → IsFile its.page_bytes lines cs →
-    (fate : Ending) → OpensAndServes its image (Ran name its image extras cs) fate → Running name bytes lines fate
-running_on name bytes lines its image extras cs read file fate h =
+    (ending : Ending) → OpensAndServes its image (Ran name its image extras cs) ending → Running name bytes lines ending
+running_on name bytes lines its image extras cs read file ending h =
     (Ok (its, image, extras), read, ((Ok cs, file, h), refl))
 
 -- ---- an explanation
 
 pub explaining_device : (bytes : List ℕ) (its : Config) (image : List Contents) (extras : Extras) →
     ReadsImage bytes (Ok (its, image, extras)) →
-    (fate : Ending) → RefusesDevice its image fate → Explaining bytes fate
-explaining_device bytes its image extras read fate h = (Ok (its, image, extras), read, ((Err h.0, h.1, h.2), refl))
+    (ending : Ending) → RefusesDevice its image ending → Explaining bytes ending
+explaining_device bytes its image extras read ending h = (Ok (its, image, extras), read, ((Err h.0, h.1, h.2), refl))
 
 pub explaining_done : (bytes : List ℕ) (its : Config) (image : List Contents) (extras : Extras) →
     ReadsImage bytes (Ok (its, image, extras)) →

@@ -92,10 +92,10 @@ module _ (its : Config) (flash : MemFlashState) (opened : DeviceState MemFlashSt
 
 module _ (name bytes : List ℕ) (block : ℕ) (its : Config) (image : List Contents) (extras : Extras)
     (read : ReadsImage bytes (Ok (its, image, extras))) where
-  pub retiring_refused : (fate : Ending) → RefusesRetirement its image extras block fate →
-      Retiring name bytes block fate
-  retiring_refused fate (inl h) = (Ok (its, image, extras), read, ((Err h.0, h.1, h.2), refl))
-  retiring_refused fate (inr h) = (Ok (its, image, extras), read, ((Ok tt, h.0, rw h.1 refl), refl))
+  pub retiring_refused : (ending : Ending) → RefusesRetirement its image extras block ending →
+      Retiring name bytes block ending
+  retiring_refused ending (inl h) = (Ok (its, image, extras), read, ((Err h.0, h.1, h.2), refl))
+  retiring_refused ending (inr h) = (Ok (its, image, extras), read, ((Ok tt, h.0, rw h.1 refl), refl))
 
   pub retiring_done : IsSoundImage its.protocol its.logical (shape_of its) image →
       block_refusal its extras block ≡ None →

@@ -1,5 +1,5 @@
 -- What serving gives, as a run from an image on.
-use Rattle.desk_tasks.proofs.Common.{◌≡◌, ℕ, false, List, [], length, take, None, Some, refl, sym, ap, ◌∙◌, subst, Config, shape_of, Protocol, Contents, MemFlashState, loaded, state_of, IsSoundImage, records_in}
+use Rattle.desk_tasks.proofs.Common.{◌≡◌, ℕ, false, List, [], length, take, None, Some, refl, sym, ap, ◌∙◌, subst, Config, shape_of, Protocol, Contents, MemFlashState, loaded, state_of, IsSoundImage, records_in, Err, RefusesDevice}
 use Rattle.std.proofs.Common.{◌⊎◌, true, ◌++◌, ap₂}
 use Rattle.list_lemmas.proofs.Lists.{take_whole}
 use Rattle.flash_model.specs.Flash.{IsSteady}
@@ -9,11 +9,15 @@ use Rattle.record_list.specs.declared.found.Found.{Found}
 use Rattle.verdict_report.specs.Report.{report}
 use Rattle.host_protocol.specs.declared.command.Command.{Command}
 use Rattle.cut_replay.specs.FlashRun.{IsFlashRun, last_moment, first_point, mentions_in}
-use Rattle.cut_replay.specs.Served.{ServesRun}
+use Rattle.cut_replay.specs.Served.{RefusesUnsound, ServesRun}
+use Rattle.cut_replay.specs.declared.serving.ServeError.{ServeError}
+use Rattle.cut_replay.specs.declared.serving.ServeError.TheVariants as failed
 use Rattle.cut_replay.specs.Watching.{text_of_all}
 use Rattle.array_runs.specs.Breaks.{AreFew}
 use Rattle.cut_replay.proofs.Runs.{run_lengths}
 use Rattle.desk_tasks.specs.Runs.{IsRun, first_moment}
+use Rattle.desk_tasks.specs.Stops.{StopsBy, serving_failure}
+use Rattle.desk_tasks.specs.declared.output.Failure.{Failure}
 
 -- a flash that was just loaded breaks only where it is armed
 pub is_steady : (its : Config) (flash : MemFlashState) → flash ≡ loaded (shape_of its) flash.image flash.extras →
@@ -57,6 +61,14 @@ is_run its flash left cs before after e none is_sound served =
       few = subst (λ armed. AreFew (told_of armed).cuts (told_of armed).breaks cs served.replies)
           (ap (λ (s : MemFlashState). s.armed) e) served.spends.few;
     }
+
+-- why it was not all done
+pub unserved : (its : Config) (flash left : MemFlashState) (e : ServeError) (stopped : Failure) →
+    stopped ≡ serving_failure e → RefusesUnsound its (state_of flash) (state_of left) (Err e) →
+    StopsBy (RefusesDevice its flash.image) stopped
+unserved its flash left (failed.Unsound law slot) stopped same h =
+    rw same (record { law = law; slot = slot }, h.1, refl)
+unserved its flash left failed.Memory stopped same h = rw same tt
 
 -- the report on the list of the records of an image, under the rule of its protocol
 pub report_said : (said : List ℕ) (kept protocol : Protocol) (list : List Found) (image : List Contents) (logical : ℕ) →

@@ -7,7 +7,7 @@ use Rattle.flash_model.specs.Flash.{blank}
 use Rattle.record_list.specs.SoundList.{Law, Keeps}
 use Rattle.record_list.specs.Counts.{KeepsCount}
 use Rattle.record_list.specs.Written.{BytesAgree, IsSoundWritten}
-use Rattle.version_index.specs.Images.{SlotReads, written_in}
+use Rattle.judged_records.specs.Images.{SlotReads, written_in}
 use Rattle.desk_tasks.specs.Runs.{blank_image, default_config}
 
 no_records : (protocol : Protocol) → written_in protocol (blank_image (default_config protocol)) ≡ []

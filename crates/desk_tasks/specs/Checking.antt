@@ -4,7 +4,7 @@ use Rattle.tx_types.specs.declared.config.Config.{Config}
 use Rattle.tx_types.specs.declared.config.Protocol.{Protocol}
 use Rattle.flash_model.specs.Flash.{Contents}
 use Rattle.record_list.specs.declared.found.Found.{Found}
-use Rattle.version_index.specs.Images.{array_in, records_in}
+use Rattle.judged_records.specs.Images.{array_in, records_in}
 use Rattle.array_machine.specs.ArrayState.{Pages, page_at}
 use Rattle.lane_scan.specs.Scans.{DifferFirstAt}
 use Rattle.verdict_report.specs.Report.{pages, report}
@@ -20,11 +20,11 @@ Checks its image text (Ok n) =
 Checks its image text (Err k) =
     IsFirstDifference (report its.protocol (records_in its.protocol image) its.logical) text k
 
--- the same of a list of records, by the fate
+-- the same of a list of records, by the ending
 abbrev pub ChecksList : Protocol → List Found → ℕ → List ℕ → Ending → Type 0
-ChecksList protocol list logical text fate =
-    ((n : ℕ) × (text ≡ report protocol list logical) × (n ≡ length (pages list logical)) × (fate ≡ Good n))
-    ⊎ ((k : ℕ) × IsFirstDifference (report protocol list logical) text k × (fate ≡ WrongLine k))
+ChecksList protocol list logical text ending =
+    ((n : ℕ) × (text ≡ report protocol list logical) × (n ≡ length (pages list logical)) × (ending ≡ Good n))
+    ⊎ ((k : ℕ) × IsFirstDifference (report protocol list logical) text k × (ending ≡ WrongLine k))
 
 abbrev pub check_ending : Result ℕ ℕ → Ending
 check_ending (Ok n) = Good n

@@ -25,7 +25,7 @@ FindsFirst a b logical (Some found) =
     (page : ℕ) × (page < logical) × DiffersAt a b page found
     × ((p : ℕ) → p < page → page_at a p ≡ page_at b p)
 
--- the fate where this is the first difference of two arrays of so many pages
+-- the ending where this is the first difference of two arrays of so many pages
 abbrev pub difference_ending : ℕ → Option Difference → Ending
 difference_ending logical None = Same logical
 difference_ending logical (Some (difference.Blank page)) = DifferBlank page
@@ -33,7 +33,7 @@ difference_ending logical (Some (difference.At page at)) = DifferAt page at
 
 -- what comes of comparing two devices of these arrays: their shapes differ, or this is found
 abbrev pub ComesTo : Config → Pages → Config → Pages → Ending → Type 0
-ComesTo a pages b others fate =
-    ((HaveOneShape a b → ⊥) × (fate ≡ DifferShape))
+ComesTo a pages b others ending =
+    ((HaveOneShape a b → ⊥) × (ending ≡ DifferShape))
     ⊎ (HaveOneShape a b × ((found : Option Difference) × FindsFirst pages others a.logical found
-    × (fate ≡ difference_ending a.logical found)))
+    × (ending ≡ difference_ending a.logical found)))

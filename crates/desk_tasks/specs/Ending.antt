@@ -1,4 +1,4 @@
--- What becomes of a call of the program: its fate, with a status, and the line that is said where
+-- What becomes of a call of the program: its ending, with a status, and the line that is said where
 -- it is a refusal.
 use Rattle.std.specs.Prelude.{ℕ, List, [], ◌++◌, codes}
 use Rattle.std.specs.Fmt.{decimal}

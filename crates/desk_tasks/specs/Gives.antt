@@ -7,7 +7,7 @@ use Rattle.tx_types.specs.declared.config.Protocol.TheVariants.{Scc}
 use Rattle.tx_types.specs.Config.{shape_of, slots_of}
 use Rattle.flash_model.specs.Flash.{Contents, Extras}
 use Rattle.flash_model.specs.Retiring.{one_more}
-use Rattle.version_index.specs.Images.{IsSoundImage, records_in}
+use Rattle.judged_records.specs.Images.{IsSoundImage, records_in}
 use Rattle.verdict_report.specs.Report.{report}
 use Rattle.host_protocol.specs.declared.command.Command.{Command}
 use Rattle.image_file.specs.Spelling.{Spells}
@@ -99,7 +99,7 @@ pub record IsRefused (text : List ℕ) (p : OutputState) : Type 0 where
   pub saves_nothing : p.saved ≡ None
   pub said : p.text ≡ text
 
--- what a fate gives
+-- what an ending gives
 abbrev pub Gives : Ending → OutputState → Type 0
 Gives (Tried commands) p = IsTried commands p
 Gives (Formatted name its allowance) p = IsFormatted name its allowance p

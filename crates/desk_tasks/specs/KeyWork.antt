@@ -3,7 +3,7 @@ use Rattle.std.specs.Prelude.{◌≡◌, ℕ, List, Result, Ok, Err}
 use Rattle.tx_types.specs.declared.config.Config.{Config}
 use Rattle.flash_model.specs.Flash.{Contents}
 use Rattle.flash_model.specs.Operations.{moment_of}
-use Rattle.version_index.specs.Images.{array_in}
+use Rattle.judged_records.specs.Images.{array_in}
 use Rattle.page_keys.specs.Buckets.{AreBuckets}
 use Rattle.page_keys.specs.KeyReplies.{key_texts}
 use Rattle.page_keys.specs.KeyRuns.{KeyPoint, IsKeyRun, AreFewBreaks, last_point}
@@ -35,13 +35,13 @@ ParsesScript bytes (Err n) = IsFirstBadScriptLine bytes n
 
 abbrev pub AfterScript : (List KeyCommand → Ending → Type 0) → Result (List KeyCommand) ℕ → Ending →
     Type 0
-AfterScript next (Ok commands) fate = next commands fate
-AfterScript next (Err n) fate = fate ≡ BadLine n
+AfterScript next (Ok commands) ending = next commands ending
+AfterScript next (Err n) ending = ending ≡ BadLine n
 
 -- the bytes of a script are read, and then comes what the commands give
 abbrev pub ParsingScript : List ℕ → (List KeyCommand → Ending → Type 0) → Ending → Type 0
-ParsingScript bytes next fate =
-    (parsed : Result (List KeyCommand) ℕ) × ParsesScript bytes parsed × AfterScript next parsed fate
+ParsingScript bytes next ending =
+    (parsed : Result (List KeyCommand) ℕ) × ParsesScript bytes parsed × AfterScript next parsed ending
 
 -- each page of an image is a bucket, or this is the least that is none
 abbrev pub HoldsKeys : Config → List Contents → Result (Unit {0}) ℕ → Type 0
@@ -49,10 +49,10 @@ HoldsKeys its image (Ok u) = AreBuckets its (array_in its.protocol its.logical i
 HoldsKeys its image (Err page) = IsFirstBad its (array_in its.protocol its.logical image) page
 
 abbrev pub AfterBuckets : Ending → Result (Unit {0}) ℕ → Ending → Type 0
-AfterBuckets done (Ok u) fate = fate ≡ done
-AfterBuckets done (Err page) fate = fate ≡ BadBucket page
+AfterBuckets done (Ok u) ending = ending ≡ done
+AfterBuckets done (Err page) ending = ending ≡ BadBucket page
 
 -- the store of an image is opened, and then all is done
 abbrev pub OpensStore : Config → List Contents → Ending → Ending → Type 0
-OpensStore its image done fate =
-    (held : Result (Unit {0}) ℕ) × HoldsKeys its image held × AfterBuckets done held fate
+OpensStore its image done ending =
+    (held : Result (Unit {0}) ℕ) × HoldsKeys its image held × AfterBuckets done held ending

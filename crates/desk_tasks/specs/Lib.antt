@@ -9,6 +9,7 @@ pub mod Gives
 pub mod Checking
 pub mod Differences
 pub mod Steps
+pub mod TwoFiles
 pub mod Stops
 pub mod Keeping
 pub mod KeptEntries

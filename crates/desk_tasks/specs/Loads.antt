@@ -16,17 +16,23 @@ FindsBytes desk name = (bytes : List ℕ) × Finds desk name (Bytes bytes)
 abbrev pub CameThrough : Option Request → DeskState → ℕ → Type 0
 CameThrough task desk n = All (FindsBytes desk) (take n (files_of task))
 
--- a load failed, and those before it found bytes
-abbrev pub LoadFails : Option Request → DeskState → DeskState → Type 0
-LoadFails task old new =
-    (n : ℕ) × (n < length (files_of task)) × CameThrough task old n
+-- a load of these files failed, or memory ran out in it, and those before it found bytes
+abbrev pub FailsIn : List (List ℕ) → DeskState → DeskState → Type 0
+FailsIn names old new =
+    (n : ℕ) × (n < length names) × All (FindsBytes old) (take n names)
     × (new ≡ after_fault as_before (after_loads n old))
 
--- memory ran out in a load, and those before it found bytes
-abbrev pub LoadStarves : Option Request → DeskState → DeskState → Type 0
-LoadStarves task old new =
-    (n : ℕ) × (n < length (files_of task)) × CameThrough task old n
+abbrev pub StarvesIn : List (List ℕ) → DeskState → DeskState → Type 0
+StarvesIn names old new =
+    (n : ℕ) × (n < length names) × All (FindsBytes old) (take n names)
     × (new ≡ after_memory (after_loads n old))
+
+-- the same of the files of a task
+abbrev pub LoadFails : Option Request → DeskState → DeskState → Type 0
+LoadFails task old new = FailsIn (files_of task) old new
+
+abbrev pub LoadStarves : Option Request → DeskState → DeskState → Type 0
+LoadStarves task old new = StarvesIn (files_of task) old new
 
 -- memory ran out in a load, or in the work after loads, which found bytes
 abbrev pub WorkRunsOut : Option Request → DeskState → DeskState → Type 0

@@ -5,7 +5,7 @@ use Rattle.tx_types.specs.declared.config.Config.{Config}
 use Rattle.flash_model.specs.Flash.{Contents, Extras, blank, slot_at}
 use Rattle.flash_model.specs.Retiring.{one_more}
 use Rattle.mem_flash.specs.MemFlashState.{MemFlashState}
-use Rattle.version_index.specs.Images.{IsSoundImage, array_in}
+use Rattle.judged_records.specs.Images.{IsSoundImage, array_in}
 use Rattle.tx_engine.specs.DeviceState.{DeviceState}
 use Rattle.desk_tasks.specs.Ending.{Ending, RefusedBlock, RefusedWorn}
 

@@ -6,7 +6,7 @@ use Rattle.tx_types.specs.declared.config.Protocol.{Protocol}
 use Rattle.tx_types.specs.Config.{shape_of, slots_of}
 use Rattle.flash_model.specs.Flash.{Contents, blank}
 use Rattle.flash_model.specs.Operations.{Moment}
-use Rattle.version_index.specs.Images.{IsSoundImage}
+use Rattle.judged_records.specs.Images.{IsSoundImage}
 use Rattle.array_machine.specs.ArrayState.{ArrayState}
 use Rattle.host_protocol.specs.declared.command.Command.{Command}
 use Rattle.host_protocol.specs.declared.reply.Reply.{Reply}

@@ -1,4 +1,4 @@
--- The steps of the work, what each comes to, and so the fate of a task. The first step that fails
+-- The steps of the work, what each comes to, and so the ending of a task. The first step that fails
 -- decides.
 use Rattle.std.specs.Prelude.{◌≡◌, ℕ, ◌+◌, nat_lt, List, Option, None, Some, Result, Ok, Err, if◌then◌else◌, unwrap_or}
 use Rattle.tx_types.specs.declared.config.Config.{Config}
@@ -8,7 +8,7 @@ use Rattle.tx_types.specs.Config.{checked, shape_of}
 use Rattle.flash_model.specs.Flash.{Contents, Extras}
 use Rattle.flash_model.specs.Retiring.{max_allowance}
 use Rattle.record_list.specs.declared.found.Breach.{Breach}
-use Rattle.version_index.specs.Images.{IsSoundImage, IsLeastImageBreach}
+use Rattle.judged_records.specs.Images.{IsSoundImage, IsLeastImageBreach}
 use Rattle.host_protocol.specs.Files.{IsFile, IsFirstBad}
 use Rattle.host_protocol.specs.declared.command.Command.{Command}
 use Rattle.image_file.specs.declared.error.ImageError.{ImageError}
@@ -26,40 +26,40 @@ use Rattle.desk_tasks.specs.Checking.{Checks, check_ending, Comparison, Compares
 
 -- ---- loading
 
--- by what is found at a name: the fate, after so many loads
+-- by what is found at a name: the ending, after so many loads
 abbrev pub AfterLoad : List ℕ → (List ℕ → Ending → ℕ → Type 0) → FileFound → Ending → ℕ → Type 0
-AfterLoad name next found.Missing fate loads = (fate ≡ Image (Missing name)) × (loads ≡ 1)
-AfterLoad name next found.TooLong fate loads = (fate ≡ Image (TooLong name)) × (loads ≡ 1)
-AfterLoad name next (found.Bytes bytes) fate loads =
-    (more : ℕ) × next bytes fate more × (loads ≡ more + 1)
+AfterLoad name next found.Missing ending loads = (ending ≡ Image (Missing name)) × (loads ≡ 1)
+AfterLoad name next found.TooLong ending loads = (ending ≡ Image (TooLong name)) × (loads ≡ 1)
+AfterLoad name next (found.Bytes bytes) ending loads =
+    (more : ℕ) × next bytes ending more × (loads ≡ more + 1)
 
 -- the file of this name is loaded, and then comes what its bytes give; what is found at a name is so in this sense
 abbrev pub Loading : (List ℕ → FileFound → Type 0) → List ℕ → (List ℕ → Ending → ℕ → Type 0) → Ending → ℕ → Type 0
-Loading finds name next fate loads =
-    (found : FileFound) × finds name found × AfterLoad name next found fate loads
+Loading finds name next ending loads =
+    (found : FileFound) × finds name found × AfterLoad name next found ending loads
 
 -- no file more is loaded
 abbrev pub WithoutLoad : (Ending → Type 0) → Ending → ℕ → Type 0
-WithoutLoad comes fate loads = comes fate × (loads ≡ 0)
+WithoutLoad comes ending loads = comes ending × (loads ≡ 0)
 
 -- ---- reading an image
 
 abbrev pub AfterReading : (Config → List Contents → Extras → Ending → ℕ → Type 0) →
     Result (Config × List Contents × Extras) ImageError → Ending → ℕ → Type 0
-AfterReading next (Ok read) fate loads = next read.0 read.1 read.2 fate loads
-AfterReading next (Err rule) fate loads = WithoutLoad (λ its. its ≡ Image (BadImage rule)) fate loads
+AfterReading next (Ok read) ending loads = next read.0 read.1 read.2 ending loads
+AfterReading next (Err rule) ending loads = WithoutLoad (λ its. its ≡ Image (BadImage rule)) ending loads
 
 -- the bytes of an image file are read, and then comes what its device gives, which may load more
 abbrev pub ReadingOn :
     List ℕ → (Config → List Contents → Extras → Ending → ℕ → Type 0) → Ending → ℕ → Type 0
-ReadingOn bytes next fate loads =
+ReadingOn bytes next ending loads =
     (read : Result (Config × List Contents × Extras) ImageError) × ReadsImage bytes read
-    × AfterReading next read fate loads
+    × AfterReading next read ending loads
 
 -- the same where nothing more is loaded
 abbrev pub Reading : List ℕ → (Config → List Contents → Extras → Ending → Type 0) → Ending → Type 0
-Reading bytes next fate =
-    ReadingOn bytes (λ its image extras. WithoutLoad (next its image extras)) fate 0
+Reading bytes next ending =
+    ReadingOn bytes (λ its image extras. WithoutLoad (next its image extras)) ending 0
 
 -- ---- parsing
 
@@ -69,14 +69,14 @@ Parses page_bytes bytes (Ok commands) = IsFile page_bytes bytes commands
 Parses page_bytes bytes (Err n) = IsFirstBad page_bytes bytes n
 
 abbrev pub AfterParsing : (List Command → Ending → Type 0) → Result (List Command) ℕ → Ending → Type 0
-AfterParsing next (Ok commands) fate = next commands fate
-AfterParsing next (Err n) fate = fate ≡ BadLine n
+AfterParsing next (Ok commands) ending = next commands ending
+AfterParsing next (Err n) ending = ending ≡ BadLine n
 
 -- the bytes of a command file are read, and then comes what the commands give
 abbrev pub Parsing : ℕ → List ℕ → (List Command → Ending → Type 0) → Ending → Type 0
-Parsing page_bytes bytes next fate =
+Parsing page_bytes bytes next ending =
     (parsed : Result (List Command) ℕ) × Parses page_bytes bytes parsed
-    × AfterParsing next parsed fate
+    × AfterParsing next parsed ending
 
 -- ---- opening a device
 
@@ -87,28 +87,28 @@ Opens its image (Err breach) =
     IsLeastImageBreach its.protocol its.logical (shape_of its) image breach
 
 abbrev pub AfterOpening : Ending → Result (Unit {0}) Breach → Ending → Type 0
-AfterOpening done (Ok sound) fate = fate ≡ done
-AfterOpening done (Err breach) fate = fate ≡ Image (Unsound breach)
+AfterOpening done (Ok sound) ending = ending ≡ done
+AfterOpening done (Err breach) ending = ending ≡ Image (Unsound breach)
 
 -- the device of an image is opened, and then all is done
 abbrev pub OpensAndServes : Config → List Contents → Ending → Ending → Type 0
-OpensAndServes its image done fate =
-    (opened : Result (Unit {0}) Breach) × Opens its image opened × AfterOpening done opened fate
+OpensAndServes its image done ending =
+    (opened : Result (Unit {0}) Breach) × Opens its image opened × AfterOpening done opened ending
 
 abbrev pub AfterOpened : (Ending → Type 0) → Result (Unit {0}) Breach → Ending → Type 0
-AfterOpened next (Ok sound) fate = next fate
-AfterOpened next (Err breach) fate = fate ≡ Image (Unsound breach)
+AfterOpened next (Ok sound) ending = next ending
+AfterOpened next (Err breach) ending = ending ≡ Image (Unsound breach)
 
 -- the device of an image is opened, and then comes what it gives
 abbrev pub Opening : Config → List Contents → (Ending → Type 0) → Ending → Type 0
-Opening its image next fate =
-    (opened : Result (Unit {0}) Breach) × Opens its image opened × AfterOpened next opened fate
+Opening its image next ending =
+    (opened : Result (Unit {0}) Breach) × Opens its image opened × AfterOpened next opened ending
 
 -- ---- the tasks, from the bytes of their files on
 
 abbrev pub Trying : List ℕ → Ending → Type 0
 Trying lines =
-    Parsing (default_config Scc).page_bytes lines (λ commands fate. fate ≡ Tried commands)
+    Parsing (default_config Scc).page_bytes lines (λ commands ending. ending ≡ Tried commands)
 
 abbrev pub Running : List ℕ → List ℕ → List ℕ → Ending → Type 0
 Running name bytes lines =
@@ -123,7 +123,7 @@ Explaining bytes = Reading bytes (λ its image extras. OpensAndServes its image 
 abbrev pub Judging : Config → List Contents → List ℕ → Ending → Type 0
 Judging its image text =
     Opening its image
-    (λ fate. (check : Result ℕ ℕ) × Checks its image text check × (fate ≡ check_ending check))
+    (λ ending. (check : Result ℕ ℕ) × Checks its image text check × (ending ≡ check_ending check))
 
 abbrev pub Checking : List ℕ → List ℕ → Ending → Type 0
 Checking bytes text = Reading bytes (λ its image extras. Judging its image text)
@@ -133,7 +133,7 @@ abbrev pub Comparing : Config → List Contents → Config → List Contents →
 Comparing a image b other =
     Opening a image
     (Opening b other
-    (λ fate. (comes : Comparison) × Compares a image b other comes × (fate ≡ comparison_ending a comes)))
+    (λ ending. (comes : Comparison) × Compares a image b other comes × (ending ≡ comparison_ending a comes)))
 
 abbrev pub Keying : List ℕ → List ℕ → List ℕ → Ending → Type 0
 Keying name bytes lines =
@@ -145,7 +145,7 @@ abbrev pub Retiring : List ℕ → List ℕ → ℕ → Ending → Type 0
 Retiring name bytes block =
     Reading bytes
     (λ its image extras. Opening its image
-    (λ fate. fate ≡ unwrap_or (block_refusal its extras block) (Retired name its image extras block)))
+    (λ ending. ending ≡ unwrap_or (block_refusal its extras block) (Retired name its image extras block)))
 
 -- a configuration is checked, and then how many blocks may be retired
 abbrev pub formatting : List ℕ → Config → ℕ → Result Shape ConfigError → Ending
@@ -153,18 +153,18 @@ formatting name its allowance (Ok shape) =
     if nat_lt max_allowance allowance then BadAllowance else Formatted name its allowance
 formatting name its allowance (Err rule) = BadConfiguration rule
 
--- The fate of a task, by what is found at a name, which comes after so many loads.
+-- The ending of a task, by what is found at a name, which comes after so many loads.
 abbrev pub IsEnding : Option Request → (List ℕ → FileFound → Type 0) → Ending → ℕ → Type 0
-IsEnding None finds = WithoutLoad (λ fate. fate ≡ Image BadWords)
+IsEnding None finds = WithoutLoad (λ ending. ending ≡ Image BadWords)
 IsEnding (Some (Try commands)) finds = Loading finds commands (λ lines. WithoutLoad (Trying lines))
 IsEnding (Some (Format image its allowance)) finds =
-    WithoutLoad (λ fate. fate ≡ formatting image its allowance (checked its))
+    WithoutLoad (λ ending. ending ≡ formatting image its allowance (checked its))
 IsEnding (Some (Run image commands)) finds =
     Loading finds image
     (λ bytes. Loading finds commands (λ lines. WithoutLoad (Running image bytes lines)))
 IsEnding (Some (Explain image)) finds = Loading finds image (λ bytes. WithoutLoad (Explaining bytes))
 IsEnding (Some (Drive start count protocol)) finds =
-    WithoutLoad (λ fate. fate ≡ Driven start count protocol)
+    WithoutLoad (λ ending. ending ≡ Driven start count protocol)
 IsEnding (Some (Check image report)) finds =
     Loading finds image (λ bytes. Loading finds report (λ text. WithoutLoad (Checking bytes text)))
 IsEnding (Some (Compare first second)) finds =

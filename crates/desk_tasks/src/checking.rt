@@ -13,12 +13,13 @@ ghost use Rattle.desk_tasks.specs.Stops.{StopsBy, Works, WorksTo};
 ghost use Rattle.desk_tasks.specs.Request.{Check};
 
 use crate::devices::{records_of, sound_device};
+use crate::loading::load_both;
 use crate::output::{Failure, Output, Text};
 use crate::refusal::Refusal;
 use bpcc_commit::Bpcc;
 use desk_io::Desk;
 use mem_flash::MemFlash;
-use program_base::{load_file, open_image};
+use program_base::open_image;
 use record_list::{CommitRule, Found};
 use scc_commit::Scc;
 use std::alloc::{AllocError, Global};
@@ -36,8 +37,7 @@ pub fn do_check<'a, D: Desk>(
         (D.state desk.old) (D.state desk.new) result }
     ensures disk { Rests (D.disk desk.old) (D.disk desk.new) }
 {
-    let bytes = load_file(image, desk)?;
-    let text = load_file(report, desk)?;
+    let (bytes, text) = load_both(image, report, desk)?;
     check_from_bytes(alloc, bytes, &text)
 }
 

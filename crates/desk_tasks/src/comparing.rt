@@ -235,7 +235,7 @@ fn compare_opened<R: CommitRule, S: CommitRule>(
 /// What a comparison of arrays of so many pages comes to.
 fn outcome(logical: u32, found: Option<Difference>) -> Result<u32, Failure<'static>>
     ensures ok { IfOk result (λ n. Same n ≡ difference_ending logical found) }
-    ensures err { IfErr result (StopsBy (λ fate. fate ≡ difference_ending logical found)) }
+    ensures err { IfErr result (StopsBy (λ ending. ending ≡ difference_ending logical found)) }
 {
     match found {
         None => Ok(logical),

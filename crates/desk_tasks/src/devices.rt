@@ -1,25 +1,23 @@
 ghost use Rattle.std.specs.Prelude.{◌≡◌, ◌≤◌, false, All, Ok, IfOk, IfErr, OnOk, length};
 ghost use Rattle.tx_types.specs.Config.{checked, shape_of};
 ghost use Rattle.flash_model.specs.Flash.{IsSteady};
-ghost use Rattle.version_index.specs.Notes.{found_in};
+ghost use Rattle.judged_records.specs.Notes.{found_in};
 ghost use Rattle.mem_flash.specs.MemFlashState.{fresh, loaded, state_of};
 ghost use Rattle.tx_engine.specs.Opens.{Mounts};
 ghost use Rattle.host_protocol.specs.Commands.{Suits};
 ghost use Rattle.host_protocol.specs.Files.{IsFile};
 ghost use Rattle.host_protocol.specs.declared.file.TheConstants.{MAX_FILE_BYTES};
-ghost use Rattle.version_index.specs.Images.{IsSoundImage, records_in};
+ghost use Rattle.judged_records.specs.Images.{IsSoundImage, records_in};
 ghost use Rattle.verdict_report.specs.Report.{report};
 ghost use Rattle.desk_tasks.specs.Runs.{IsRun, blank_image, default_config};
 ghost use Rattle.desk_tasks.specs.Stops.{RefusesDevice, RefusesLine, StopsBy};
 
 use crate::output::Failure;
-use crate::refusal::Refusal;
 use bpcc_commit::Bpcc;
-use cut_replay::{Lines, ServeError, serve};
+use cut_replay::{Lines, serve};
 use flash_model::steady_stays;
-use host_protocol::{Command, TextError, parse};
+use host_protocol::{Command, parse};
 use mem_flash::MemFlash;
-use program_base::ImageRefusal;
 use record_list::{Breach, CommitRule, Found};
 use scc_commit::Scc;
 use std::alloc::Global;
@@ -72,11 +70,8 @@ pub fn read_commands(
     ensures suits { IfOk result (λ list. All (Suits page_bytes) list.items) }
     ensures err { IfErr result (StopsBy (RefusesLine page_bytes bytes.now)) }
 {
-    match parse(alloc, bytes, page_bytes) {
-        Ok(list) => Ok(list),
-        Err(TextError::Line(n)) => Err(Failure::Refused(Refusal::BadLine(n))),
-        Err(TextError::Memory) => Err(Failure::Memory),
-    }
+    let list = parse(alloc, bytes, page_bytes)?;
+    Ok(list)
 }
 
 /// Serves commands on the device of a flash.
@@ -123,13 +118,7 @@ fn serve_by<R: CommitRule>(
         Ok(()) => Ok(left),
         Err(error) => {
             drop(left);
-            match error {
-                ServeError::Unsound { law, slot } => {
-                    let breach = Breach { law, slot };
-                    Err(Failure::Refused(Refusal::Image(ImageRefusal::Unsound(breach))))
-                }
-                ServeError::Memory => Err(Failure::Memory),
-            }
+            Err(Failure::from(error))
         }
     }
 }
@@ -239,10 +228,7 @@ fn open_device<R: CommitRule>(
         Err((flash, error)) => {
             drop(flash);
             match error {
-                MountError::Unsound { law, slot } => {
-                    let breach = Breach { law, slot };
-                    Err(Failure::Refused(Refusal::Image(ImageRefusal::Unsound(breach))))
-                }
+                MountError::Unsound { law, slot } => Err(Failure::from(Breach { law, slot })),
                 MountError::Memory => Err(Failure::Memory),
                 MountError::Fault => unreachable!(),
             }

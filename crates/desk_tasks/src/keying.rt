@@ -12,16 +12,16 @@ ghost use Rattle.desk_tasks.specs.Steps.{Keying, Opening};
 ghost use Rattle.desk_tasks.specs.Stops.{RefusesScript, RefusesStore, StopsBy, Works, WorksTo};
 ghost use Rattle.desk_tasks.specs.Request.{Keys};
 
+use crate::loading::load_both;
 use crate::output::{Failure, File, Output, Text};
-use crate::refusal::Refusal;
 use crate::tasks::leak_at_exit;
 use bpcc_commit::Bpcc;
 use desk_io::Desk;
 use image_file::into_image;
 use mem_flash::MemFlash;
-use page_keys::{KeyCommand, KeyServeError, KeyTextError, key_serve, parse_keys};
-use program_base::{ImageRefusal, load_file, open_image};
-use record_list::{Breach, CommitRule};
+use page_keys::{KeyCommand, key_serve, parse_keys};
+use program_base::open_image;
+use record_list::CommitRule;
 use scc_commit::Scc;
 use std::alloc::Global;
 use tx_types::{Config, Protocol};
@@ -44,8 +44,7 @@ pub fn do_keys<'a, D: Desk>(
         (D.state desk.old) (D.state desk.new) result }
     ensures disk { Rests (D.disk desk.old) (D.disk desk.new) }
 {
-    let bytes = load_file(image, desk)?;
-    let lines = load_file(script, desk)?;
+    let (bytes, lines) = load_both(image, script, desk)?;
     keys_from_bytes(alloc, image, bytes, &lines)
 }
 
@@ -102,11 +101,8 @@ fn read_script(alloc: Global, bytes: &[u8]) -> Result<Vec<KeyCommand>, Failure<'
     ensures suits { IfOk result (λ list. All SuitsKeys list.items) }
     ensures err { IfErr result (StopsBy (RefusesScript bytes.now)) }
 {
-    match parse_keys(alloc, bytes) {
-        Ok(list) => Ok(list),
-        Err(KeyTextError::Line(n)) => Err(Failure::Refused(Refusal::BadLine(n))),
-        Err(KeyTextError::Memory) => Err(Failure::Memory),
-    }
+    let list = parse_keys(alloc, bytes)?;
+    Ok(list)
 }
 
 /// Serves the commands of a script on the store of a flash.
@@ -155,14 +151,7 @@ fn serve_keys_by<R: CommitRule>(
         Ok(()) => Ok(kept),
         Err(error) => {
             drop(kept);
-            match error {
-                KeyServeError::Unsound { law, slot } => {
-                    let breach = Breach { law, slot };
-                    Err(Failure::Refused(Refusal::Image(ImageRefusal::Unsound(breach))))
-                }
-                KeyServeError::Bucket(page) => Err(Failure::Refused(Refusal::BadBucket(page))),
-                KeyServeError::Memory => Err(Failure::Memory),
-            }
+            Err(Failure::from(error))
         }
     }
 }

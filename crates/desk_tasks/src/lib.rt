@@ -8,6 +8,7 @@ mod devices;
 mod difference;
 mod kept;
 mod keying;
+mod loading;
 mod numbers;
 mod output;
 mod refusal;

@@ -1,10 +1,13 @@
 ghost use Rattle.std.specs.Prelude.{◌≡◌};
-ghost use Rattle.desk_tasks.specs.Stops.{bytes_of, failure_of};
+ghost use Rattle.desk_tasks.specs.Stops.{breach_failure, bytes_of, failure_of, key_serving_failure, lines_failure, serving_failure};
 ghost use Rattle.desk_tasks.specs.declared.output.Failure.TheVariants as stop;
 
 use crate::refusal::Refusal;
-use cut_replay::Lines;
-use program_base::ImageStop;
+use cut_replay::{Lines, ServeError};
+use host_protocol::TextError;
+use page_keys::KeyServeError;
+use program_base::{ImageRefusal, ImageStop};
+use record_list::Breach;
 use std::alloc::AllocError;
 use tx_types::Memory;
 
@@ -60,6 +63,48 @@ impl<'a> From<ImageStop<'a>> for Failure<'a> {
             ImageStop::Refused(refusal) => Failure::Refused(Refusal::Image(refusal)),
             ImageStop::Fault => Failure::Fault,
             ImageStop::Memory => Failure::Memory,
+        }
+    }
+}
+
+impl From<TextError> for Failure<'_> {
+    ghost from_gives = { λ error e. e ≡ lines_failure error };
+
+    fn from(error: TextError) -> Self {
+        match error {
+            TextError::Line(n) => Failure::Refused(Refusal::BadLine(n)),
+            TextError::Memory => Failure::Memory,
+        }
+    }
+}
+
+impl From<Breach> for Failure<'_> {
+    ghost from_gives = { λ breach e. e ≡ breach_failure breach };
+
+    fn from(breach: Breach) -> Self {
+        Failure::Refused(Refusal::Image(ImageRefusal::Unsound(breach)))
+    }
+}
+
+impl From<ServeError> for Failure<'_> {
+    ghost from_gives = { λ error e. e ≡ serving_failure error };
+
+    fn from(error: ServeError) -> Self {
+        match error {
+            ServeError::Unsound { law, slot } => Failure::from(Breach { law, slot }),
+            ServeError::Memory => Failure::Memory,
+        }
+    }
+}
+
+impl From<KeyServeError> for Failure<'_> {
+    ghost from_gives = { λ error e. e ≡ key_serving_failure error };
+
+    fn from(error: KeyServeError) -> Self {
+        match error {
+            KeyServeError::Unsound { law, slot } => Failure::from(Breach { law, slot }),
+            KeyServeError::Bucket(page) => Failure::Refused(Refusal::BadBucket(page)),
+            KeyServeError::Memory => Failure::Memory,
         }
     }
 }

@@ -2,10 +2,11 @@ ghost use Rattle.std.specs.Prelude.{◌≡◌, ◌++◌, IfOk, codes};
 ghost use Rattle.std.specs.Fmt.{decimal};
 ghost use Rattle.std.specs.String.{string_bytes};
 ghost use Rattle.program_base.specs.Refusals.{line};
+ghost use Rattle.program_base.specs.Statuses.{code};
 ghost use Rattle.desk_tasks.specs.Ending.{config_word, refusal_line, status};
 ghost use Rattle.desk_tasks.specs.Stops.{refused};
 
-use program_base::ImageRefusal;
+use program_base::{ImageRefusal, Status};
 use std::alloc::{AllocError, Global};
 use tx_types::ConfigError;
 
@@ -38,17 +39,18 @@ pub enum Refusal<'a> {
 
 impl Refusal<'_> {
     /// The status that the program answers.
-    pub fn status(&self) -> u8
-        ensures { result ≡ status (refused self.now) }
+    pub fn status(&self) -> Status
+        ensures { code result ≡ status (refused self.now) }
     {
         match self {
             Refusal::Image(refusal) => refusal.status(),
-            Refusal::BadLine(_) => 4,
-            Refusal::BadConfiguration(_) | Refusal::BadAllowance => 8,
-            Refusal::BadBucket(_) => 11,
-            Refusal::WrongLine(_) => 12,
-            Refusal::DifferShape | Refusal::DifferBlank(_) | Refusal::DifferAt { .. } => 13,
-            Refusal::NoBlock(_) | Refusal::Worn(_) => 14,
+            Refusal::BadLine(_) => Status::BadLine,
+            Refusal::BadConfiguration(_) | Refusal::BadAllowance => Status::BadConfiguration,
+            Refusal::BadBucket(_) => Status::BadBucket,
+            Refusal::WrongLine(_) => Status::WrongLine,
+            Refusal::DifferShape | Refusal::DifferBlank(_) | Refusal::DifferAt { .. } =>
+                Status::Differ,
+            Refusal::NoBlock(_) | Refusal::Worn(_) => Status::RefusedBlock,
         }
     }
 

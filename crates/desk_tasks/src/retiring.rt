@@ -125,8 +125,8 @@ fn retire<R: CommitRule>(
     ensures refusal { OnOk result (
         block_refusal device.old.config device.old.flash.extras block.0 ≡ None) }
     ensures retires { OnOk result (RetiresIdle device.old device.new block.0) }
-    ensures err { IfErr result (StopsBy (λ fate.
-        block_refusal device.old.config device.old.flash.extras block.0 ≡ Some fate)) }
+    ensures err { IfErr result (StopsBy (λ ending.
+        block_refusal device.old.config device.old.flash.extras block.0 ≡ Some ending)) }
 {
     retiring_composes();
     device_invariant::<MemFlash, R>();

@@ -17,6 +17,7 @@ ghost use Rattle.tx_types.specs.Config.{checked, shape_of};
 use crate::devices::{
     ServedFlash, blank_flash, default_config, explain_flash, read_commands, serve_flash,
 };
+use crate::loading::load_both;
 use crate::output::{Failure, File, Output, Text};
 use crate::refusal::Refusal;
 use cut_replay::Lines;
@@ -56,8 +57,7 @@ pub fn do_run<'a, D: Desk>(
         (D.state desk.old) (D.state desk.new) result }
     ensures disk { Rests (D.disk desk.old) (D.disk desk.new) }
 {
-    let bytes = load_file(image, desk)?;
-    let lines = load_file(script, desk)?;
+    let (bytes, lines) = load_both(image, script, desk)?;
     run_from_bytes(alloc, image, bytes, &lines)
 }
 
@@ -155,7 +155,7 @@ pub fn do_format<'a>(
     config: Config,
     allowance: u32,
 ) -> Result<Output<'a>, Failure<'a>>
-    ensures { WorksTo (λ fate. fate ≡ formatting name.now config allowance (checked config)) result }
+    ensures { WorksTo (λ ending. ending ≡ formatting name.now config allowance (checked config)) result }
 {
     let shape = match config.check() {
         Ok(shape) => shape,
@@ -188,7 +188,7 @@ pub fn do_drive<'a>(
     count: u32,
     protocol: Protocol,
 ) -> Result<Output<'a>, Failure<'a>>
-    ensures { WorksTo (λ fate. fate ≡ Driven start count protocol) result }
+    ensures { WorksTo (λ ending. ending ≡ Driven start count protocol) result }
 {
     let list = commands(alloc, start, count, default_config(protocol))?;
     let line = sum_up(alloc, start, count, protocol, &list);

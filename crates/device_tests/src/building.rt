@@ -3,12 +3,11 @@
 ghost use Rattle.std.specs.Prelude.{◌≡◌, ◌<◌, IfSome, IsTrue, Ok, length};
 ghost use Rattle.tx_types.specs.Config.{checked, shape_of, slots_of, blocks_of};
 ghost use Rattle.flash_model.specs.Operations.{CanProgram};
-ghost use Rattle.flash_model.specs.Readings.{reads_blank};
 ghost use Rattle.page_record.specs.Spelling.{CanBeSpelled, IsBack};
 ghost use Rattle.record_list.specs.Records.{IsScanned};
 
 use crate::texts::{link, number_of, number_or_zero, word};
-use flash_model::{Arms, Flash, Outcome, SPARE_BYTES, Seen};
+use flash_model::{Arms, Flash, Outcome, SPARE_BYTES};
 use mem_flash::MemFlash;
 use page_record::write_spare;
 use record_list::{CommitRule, Found};
@@ -154,13 +153,6 @@ fn has_spare_area(protocol: Protocol, rec: Rec) -> bool
         && (rec.count > 0 || !rec.discard)
 }
 
-/// Whether a slot that reads so is blank.
-fn is_blank(how: Seen) -> bool
-    ensures { result ≡ reads_blank how }
-{
-    how == Seen::Blank
-}
-
 /// Whether a slot may be programmed: it and all later slots of its block are blank.
 fn may_program(flash: &MemFlash, at: Slot) -> bool
     ensures { IsTrue result → CanProgram flash.now.shape flash.now.image at.0 }
@@ -171,7 +163,7 @@ fn may_program(flash: &MemFlash, at: Slot) -> bool
     }
     let end = (at.0 / shape.pages_per_block + 1) * shape.pages_per_block;
     for slot in at.0..end {
-        if !is_blank(flash.seen(Slot(slot))) {
+        if !flash.seen(Slot(slot)).is_blank() {
             return false;
         }
     }

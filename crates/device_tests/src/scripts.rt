@@ -1,7 +1,8 @@
 //! Scripts of keys as they are read, and the buckets of keys.
 
 use crate::texts::number_of;
-use page_keys::{KeyTextError, bucket, parse_keys};
+use host_protocol::TextError;
+use page_keys::{bucket, parse_keys};
 use std::alloc::{AllocError, Global};
 
 #[test]
@@ -28,9 +29,9 @@ fn tells(alloc: Global, text: &str, script: &[u8]) -> bool {
     }
     match parse_keys(alloc, script) {
         Ok(list) => list.len() == number_of(text) as usize,
-        Err(KeyTextError::Line(line)) => number_of(text.strip_prefix("bad line ").unwrap_or(""))
+        Err(TextError::Line(line)) => number_of(text.strip_prefix("bad line ").unwrap_or(""))
             == line,
-        Err(KeyTextError::Memory) => false,
+        Err(TextError::Memory) => false,
     }
 }
 

@@ -113,7 +113,7 @@ impl Blocks {
         ensures free { IsFirstFree self.now result.0 }
     {
         let used = self.blocks[block as usize].used;
-        Slot(block * self.shape.pages_per_block + used)
+        Slot(self.shape.first_slot(Block(block)).0 + used)
     }
 
     /// The block that is programmed next.
@@ -187,7 +187,7 @@ impl Blocks {
         ensures table { IsBlocksState self.new }
     {
         let block = self.pages.quotient(at.0);
-        let used = at.0 - block * self.shape.pages_per_block + 1;
+        let used = at.0 - self.shape.first_slot(Block(block)).0 + 1;
         let state = if used == self.shape.pages_per_block {
             BlockState::Shut
         } else {
@@ -224,7 +224,8 @@ impl Blocks {
         );
     }
 
-    /// Makes a block the spare. The one that was it before, where it is another block, is clean.
+    /// Makes a block the spare. The one that was it before, where it is another block, is clean. The spare has no used
+    /// slots.
     pub fn make_spare(&mut self, block: Block)
         requires { block.0 < blocks_of self.old.shape }
         ensures spare { self.new ≡ table_with_spare self.old block.0 }

@@ -8,7 +8,8 @@ use std::alloc::Global;
 use tx_types::{BlockState, Memory, Shape};
 
 /// The rank of a block of this state in the order in which the blocks of a die are taken: first one
-/// with a blank tail, then a clean one. A block without room has rank 0.
+/// with a blank tail, then a clean one. A block without room has rank 0. So the next block is the first of the greatest
+/// rank, which is found without looking at all of them.
 fn rank(state: BlockState) -> u32
     ensures { result ≡ rank_of state }
 {

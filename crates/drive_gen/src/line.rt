@@ -10,7 +10,9 @@ use std::alloc::Global;
 use tx_types::{Memory, Protocol};
 
 /// Appends the line that sums up the replies to a generated list, with its line feed. What the
-/// replies count to is a function of their bytes. After `Memory` the bytes are as before.
+/// replies count to is a function of their bytes. After `Memory` the bytes are as before. The programs and erases are
+/// words of the last line of `stats`, as they stand there, so no number is lost. The sum of all bytes is kept in 128
+/// bits, which it cannot pass.
 pub fn summary(
     alloc: Global,
     start: u64,

@@ -6,7 +6,7 @@ use Rattle.flash_model.specs.Coming.{number, Waits, Comes, ReadWaits, ReadComes,
 use Rattle.flash_model.specs.Calls.{BothTell, Starts}
 
 -- a count that goes up so many times, and then more
-counted_times-then : (more most n : ℕ) → counted_times most (counted_times more n) ≡ counted_times (more + most) n
+pub counted_times-then : (more most n : ℕ) → counted_times most (counted_times more n) ≡ counted_times (more + most) n
 counted_times-then zero most n = let e : most ≡ zero + most = omega arith in ap (λ k. counted_times k n) e
 counted_times-then (suc more) zero n = let e : suc more ≡ suc more + zero = omega arith in ap (λ k. counted_times k n) e
 counted_times-then (suc more) (suc most) n =

@@ -53,7 +53,7 @@ counted_by more n = min (n + more) (2 ^ 64 - 1)
 abbrev pub counted : ℕ → ℕ
 counted n = counted_by 1 n
 
--- a count goes up by one, so many times
+-- a count goes up by one, so many times: where that is none it is as before, whatever it was
 abbrev pub counted_times : ℕ → ℕ → ℕ
 counted_times zero n = n
 counted_times (suc times) n = counted_by (suc times) n

@@ -3,6 +3,7 @@ ghost use Rattle.tx_types.specs.Config.{slots_of, blocks_of};
 ghost use Rattle.flash_model.specs.Flash.{FlashState, IsFlash};
 ghost use Rattle.flash_model.specs.Operations.{CanProgram};
 ghost use Rattle.flash_model.specs.Calls.{Reads, ReadsSpareArea, Programs, Erases};
+ghost use Rattle.flash_model.specs.Readings.{reads_blank};
 
 use tx_types::{Block, Shape, Slot};
 
@@ -18,6 +19,15 @@ pub enum Seen {
     Complete,
     /// It has nothing that can be read.
     Damaged,
+}
+
+impl Seen {
+    /// Whether a slot that reads so is blank.
+    pub fn is_blank(self) -> bool
+        ensures { result ≡ reads_blank self }
+    {
+        matches!(self, Seen::Blank)
+    }
 }
 
 /// The call was broken: it met a fault, or power went off in it or is off.
@@ -56,7 +66,8 @@ pub trait Flash {
         ensures { Reads (state self.old) (state self.new) at.0 into.new spare_area.new result };
 
     /// Reads a slot's spare area, which is a read like any other. There is room for its contents, for a flash that
-    /// reads all of a slot. What is in it then is not said.
+    /// reads all of a slot. What is in it then is not said. By default the slot is read, so a flash need not define
+    /// this.
     fn read_spare_area(
         &mut self,
         at: Slot,

@@ -6,7 +6,7 @@ use Rattle.std.proofs.lemmas.List.Sorted.{list_any-IsPermutation}
 use Rattle.record_list.specs.Verdict.{straddles}
 use Rattle.record_list.specs.Current.{answers_for}
 use Rattle.sorted_records.proofs.OfSort.Alike.{cur_alike, responsible_alike}
-use Rattle.version_index.specs.declared.note.Note.TheVariants as note
+use Rattle.judged_records.specs.declared.note.Note.TheVariants as note
 use Rattle.flash_picture.specs.Cells.{rank_by}
 use Rattle.flash_picture.specs.Map.{map_text}
 use Rattle.flash_picture.specs.Picture.{breach_line, heading, parts, picture}

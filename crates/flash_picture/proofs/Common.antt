@@ -14,6 +14,8 @@ pub use Rattle.flash_picture.specs.declared.cell.Cell.{Cell}
 pub use Rattle.flash_picture.specs.declared.cell.Cell.TheVariants.{Holds, Blank, Damaged}
 pub use Rattle.flash_picture.specs.declared.marks.Marks.{Marks}
 pub use Rattle.flash_picture.specs.declared.walk.Step.TheVariants.{To}
+pub use Rattle.judged_records.specs.Notes.{found_in, note_at}
+pub use Rattle.judged_records.specs.declared.note.Note.{Note}
 pub use Rattle.record_list.specs.Current.{is_held}
 pub use Rattle.record_list.specs.Records.{has_name, is_same, name_of}
 pub use Rattle.record_list.specs.Verdict.{newest_name, link_of}
@@ -25,5 +27,3 @@ pub use Rattle.tx_types.specs.declared.config.Protocol.{Protocol}
 pub use Rattle.tx_types.specs.declared.config.Protocol.TheVariants.{Scc, Bpcc}
 pub use Rattle.tx_types.specs.declared.record.Link.{Link}
 pub use Rattle.tx_types.specs.declared.record.Rec.{Rec}
-pub use Rattle.version_index.specs.Notes.{found_in, note_at}
-pub use Rattle.version_index.specs.declared.note.Note.{Note}

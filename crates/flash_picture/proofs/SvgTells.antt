@@ -4,8 +4,8 @@ use Rattle.std.proofs.Common.{filter, flat_map, AllPairs, Contains}
 use Rattle.list_lemmas.proofs.Membership.{Contains-cases, Contains-first, Contains-nil, Contains-rest}
 use Rattle.list_lemmas.proofs.Pairs.{pairs_head, pairs_tail}
 use Rattle.tx_types.specs.Config.{blocks_of, slots_of}
-use Rattle.version_index.specs.declared.note.Note.TheVariants as note
-use Rattle.version_index.proofs.OfTables.FoundIn.{found, found_in_ascending, holds_within, noted_from, noted_in}
+use Rattle.judged_records.specs.declared.note.Note.TheVariants as note
+use Rattle.judged_records.proofs.OfNotes.FoundIn.{found, found_in_ascending, holds_within, noted_from, noted_in}
 use Rattle.record_list.proofs.OfFacts.Names.{has_name_true, has_own_name}
 use Rattle.flash_picture.specs.Grid.{bottom}
 use Rattle.flash_picture.specs.Laws.{ArrowTells, HoldsName, IsLowest, Shows, SvgCellTells, SvgLabelTells, SvgWalkTells, arrow_of}

@@ -10,7 +10,7 @@ use Rattle.std.proofs.lemmas.List.Elements.{Contains-append_left, Contains-appen
 use Rattle.std.proofs.Math.ListN.{get_or-map}
 use Rattle.tx_types.specs.declared.config.Block.{Block}
 use Rattle.record_list.specs.declared.found.Breach.{Breach}
-use Rattle.version_index.specs.declared.note.Note.TheVariants as note
+use Rattle.judged_records.specs.declared.note.Note.TheVariants as note
 use Rattle.record_list.specs.Current.{cur}
 use Rattle.flash_picture.specs.declared.cell.Rank.{Rank}
 use Rattle.flash_picture.specs.declared.cell.Rank.TheVariants.{Current, Loose, Stale}

@@ -14,9 +14,9 @@ use Rattle.record_list.specs.Records.{name_of}
 use Rattle.record_list.specs.Verdict.{is_ahead, is_committed, newest_name, why}
 use Rattle.verdict_report.specs.Walks.{IsDecidingWalk, is_end, links_of}
 use Rattle.record_list.specs.Current.{IsCurrent, IsLoose, IsStale, is_held}
-use Rattle.version_index.specs.declared.note.Note.{Note}
-use Rattle.version_index.specs.declared.note.Note.TheVariants as note
-use Rattle.version_index.specs.Notes.{found_in, note_at}
+use Rattle.judged_records.specs.declared.note.Note.{Note}
+use Rattle.judged_records.specs.declared.note.Note.TheVariants as note
+use Rattle.judged_records.specs.Notes.{found_in, note_at}
 use Rattle.flash_picture.specs.declared.marks.Marks.{Marks}
 use Rattle.flash_picture.specs.declared.walk.End.TheVariants.{Absent, Straddled, TooLong}
 use Rattle.flash_picture.specs.Cells.{cell_at, cell_of, cell_words, is_named, name_word, slot_text, slot_words, word_if}

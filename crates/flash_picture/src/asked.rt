@@ -9,7 +9,9 @@ use std::alloc::Global;
 use tx_types::{Link, Memory, Protocol, Rec};
 
 /// For the first record of each name the greatest version at which a loose record links that asks for the name,
-/// 0 where none does. Under Simple Cyclic Commit none does.
+/// 0 where none does. Under Simple Cyclic Commit none does. A record of the name is held if its back version is below
+/// this one. A mark for the name would not do: where law 2 is broken, two records of one name may have different back
+/// versions.
 pub fn asked_versions(alloc: Global, standing: &CurrentVersions) -> Result<Vec<u64>, Memory>
     ensures { IfOk result (λ asked. AreAsked standing.now standing.now.list asked.items) }
 {
@@ -83,11 +85,7 @@ pub fn is_held(standing: &CurrentVersions, asked: &[u64], rec: Rec) -> bool
     requires { AreAsked standing.now standing.now.list asked.now }
     ensures { let s = standing.now in result ≡ is_held s.protocol s.list s.logical rec }
 {
-    let name = Link {
-        page: rec.page,
-        version: rec.version,
-    };
-    match standing.sorted_records().find(name) {
+    match standing.sorted_records().find(rec.name()) {
         Some(place) => rec.back < asked[place as usize],
         None => false,
     }

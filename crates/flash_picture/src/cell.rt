@@ -4,7 +4,7 @@ ghost use Rattle.flash_picture.specs.Cells.{after_spaces, cell_words, rank_by, r
 
 use crate::text::add_name;
 use std::alloc::AllocError;
-use tx_types::{Link, Rec};
+use tx_types::Rec;
 
 /// What a record is by the version that is current of its page.
 #[derive(Clone, Copy, PartialEq, Eq)]
@@ -78,13 +78,7 @@ fn write_record(rec: Rec, rank: Rank, held: bool, text: &mut Vec<u8>) -> Result<
     ensures { OnOk result (text.new.items
         ≡ text.old.items ++ join_with_byte 32 (cell_words (Cell.Holds rec rank held))) }
 {
-    add_name(
-        Link {
-            page: rec.page,
-            version: rec.version,
-        },
-        text,
-    )?;
+    add_name(rec.name(), text)?;
     rank.write(text)?;
     write_flag(held, b"held", text)?;
     write_flag(rec.discard, b"discard", text)

@@ -4,10 +4,10 @@ ghost use Rattle.flash_picture.specs.Held.{AreAsked};
 
 use crate::asked::{asked_versions, is_held};
 use crate::cell::{Cell, Rank};
+use judged_records::Note;
 use sorted_records::CurrentVersions;
 use std::alloc::Global;
 use tx_types::Memory;
-use version_index::Note;
 
 /// The cells of slots of which this is noted.
 pub fn cells(alloc: Global, standing: &CurrentVersions, notes: &[Note]) -> Result<Vec<Cell>, Memory>

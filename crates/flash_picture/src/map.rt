@@ -212,7 +212,7 @@ fn slot_in(shape: Shape, block: Block, at: u32) -> Slot
     requires within { at < shape.pages_per_block }
     ensures { result.0 ≡ block.0 * shape.pages_per_block + at }
 {
-    Slot(block.0 * shape.pages_per_block + at)
+    Slot(shape.first_slot(block).0 + at)
 }
 
 /// How many cells of a width stand in a line.

@@ -3,7 +3,7 @@ ghost use Rattle.std.specs.Fmt.{decimal};
 ghost use Rattle.std.specs.List.{cons_option};
 ghost use Rattle.tx_types.specs.Config.{IsShape, checked, shape_of, slots_of};
 ghost use Rattle.sorted_records.specs.SortedRecords.{Sorts};
-ghost use Rattle.version_index.specs.Notes.{found_at, found_in};
+ghost use Rattle.judged_records.specs.Notes.{found_at, found_in};
 ghost use Rattle.flash_picture.specs.Picture.{breach_line, heading, parts, picture, protocol_word};
 
 use crate::cells::cells;
@@ -11,11 +11,11 @@ use crate::map::Map;
 use crate::marks::Marks;
 use crate::text::{add_number, append};
 use crate::walk::write_walks;
+use judged_records::Note;
 use record_list::{Breach, Found};
 use sorted_records::{CurrentVersions, SortedRecords};
 use std::alloc::{AllocError, Global};
 use tx_types::{Config, Memory, Protocol, Shape, Slot};
-use version_index::Note;
 
 /// Appends the picture of a device whose slots are noted so, as lines of text. After `Memory` the bytes are
 /// as before.

@@ -13,10 +13,10 @@ use crate::pieces::{add_attribute, open_words};
 use crate::svg_lines::{write_breach, write_walks};
 use crate::svg_map::Plan;
 use crate::text::{add, append};
+use judged_records::Note;
 use sorted_records::SortedRecords;
 use std::alloc::{AllocError, Global};
 use tx_types::{Config, Memory};
-use version_index::Note;
 
 /// The columns of text that a cell is wide at most: the longest text of a slot of an image has no more.
 const MOST_COLUMNS: usize = 53;

@@ -5,7 +5,7 @@ ghost use Rattle.tx_types.specs.declared.config.Config.{Config};
 ghost use Rattle.tx_types.specs.declared.config.Protocol.{Protocol};
 ghost use Rattle.tx_types.specs.declared.record.Rec.{Rec};
 ghost use Rattle.record_list.specs.declared.found.Found.{Found};
-ghost use Rattle.version_index.specs.declared.note.Note.{Note};
+ghost use Rattle.judged_records.specs.declared.note.Note.{Note};
 ghost use Rattle.flash_picture.specs.Laws.{ArrowTells, CellTells, LabelTells, SvgCellTells, SvgLabelTells, SvgWalkTells, WalkSays, WalkTells, WordsTell};
 ghost use Rattle.flash_picture.specs.declared.marks.Marks.{Marks};
 

@@ -95,7 +95,8 @@ fn end_by(why: Why, last: Option<Link>) -> Option<End>
     }
 }
 
-/// The link at which the walk from the newest record of a page leaves the newest records, if it does.
+/// The link at which the walk from the newest record of a page leaves the newest records, if it does. It is the link of
+/// the record at which the orbit ends, so a picture of long walks takes no longer.
 fn leaving_at(chart: &SortedRecords, logical: u32, page: u32) -> Option<Link>
     ensures { result ≡ leaving_at chart.now logical page }
 {

@@ -2,7 +2,7 @@
 #![tactic(auto)]
 
 use desk_io::{RealDesk, RealFolder};
-use program_base::status_of_bad_args;
+use program_base::{Status, status_of_bad_args};
 use std::env;
 use std::process::ExitCode;
 pub use view_command_line::top;
@@ -10,12 +10,12 @@ pub use view_command_line::top;
 fn main(rt: HostRuntime) -> ExitCode {
     let args = match env::args(&rt) {
         Ok(args) => args,
-        Err(error) => return ExitCode::from(status_of_bad_args(error.kind())),
+        Err(error) => return ExitCode::from(status_of_bad_args(error.kind()).code()),
     };
     let mut words = Vec::new(rt.alloc());
     for word in args.skip(1) {
         if words.push(word).is_err() {
-            return ExitCode::from(6);
+            return ExitCode::from(Status::NoMemory.code());
         }
     }
     let mut desk = RealDesk::new(&rt, RealFolder { rt: &rt });

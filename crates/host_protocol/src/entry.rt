@@ -14,7 +14,8 @@ use crate::words::{first_blank, first_filled};
 use memchr::memchr;
 
 /// The first entry of a line: its page, the text of what the page is to hold, and what is behind it on the line. None
-/// where the line has no word.
+/// where the line has no word. The digits are read first, and then an equals sign is expected: no digit is a blank, so
+/// neither the sign nor the end of the word is searched for before.
 #[inline(always)]
 pub fn first_entry(line: &[u8]) -> Result<Option<(u32, &[u8], &[u8])>, LineError>
     ensures entry { IfOk result (λ found. IfSome found (λ e.

@@ -3,16 +3,16 @@ ghost use Rattle.host_protocol.specs.Reading.{text_error};
 ghost use Rattle.host_protocol.specs.declared.error.LineError.TheVariants.{Memory};
 ghost use Rattle.host_protocol.specs.declared.error.TextError.TheVariants as text;
 
-/// Why a line gave no command.
+/// Why a line of a command file or a key script gave no command.
 #[derive(Clone, Copy)]
-pub(crate) enum LineError {
+pub enum LineError {
     /// The line is not in the grammar, or brings the file past a limit.
     Bad,
     /// There was no memory for the command.
     Memory,
 }
 
-/// Why a file gave no commands.
+/// Why a file or a script gave no commands.
 #[derive(Clone, Copy, PartialEq, Eq)]
 pub enum TextError {
     /// The number, from 1, of the first line that is not in the grammar or brings the file past a limit.

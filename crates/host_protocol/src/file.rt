@@ -21,7 +21,8 @@ pub const MAX_ENTRIES: usize = 262144;
 /// The most bytes of a file.
 pub const MAX_FILE_BYTES: usize = 134217728;
 
-/// The commands of a file, for pages of this many bytes.
+/// The commands of a file, for pages of this many bytes. The digits of all entries are read into one buffer, from which
+/// each batch copies its bytes.
 pub fn parse(alloc: Global, bytes: &[u8], page_bytes: u32) -> Result<Vec<Command>, TextError>
     requires { length bytes.now ≤ MAX_FILE_BYTES }
 

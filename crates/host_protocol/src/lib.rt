@@ -19,7 +19,7 @@ mod words;
 
 pub use command::Command;
 pub use entry::around_equals;
-pub use error::TextError;
+pub use error::{LineError, TextError};
 pub use file::{MAX_COMMANDS, MAX_ENTRIES, MAX_FILE_BYTES, no_commands, parse};
 pub use lines::first_line;
 pub use numbers::number;

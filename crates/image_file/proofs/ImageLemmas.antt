@@ -71,13 +71,13 @@ is_filled-cell_of n damaged = ap (λ cell. all_equal cell 0) (replicate-append-r
     ∙ all_equal-replicate (n + 64) 0
 is_filled-cell_of n (complete bytes spare_area) = refl
 
-length-cell_of : (n : ℕ) (slot : Contents) → IsWhole n slot → length (cell_of n slot) ≡ cell_bytes n
+pub length-cell_of : (n : ℕ) (slot : Contents) → IsWhole n slot → length (cell_of n slot) ≡ cell_bytes n
 length-cell_of n blank whole = ap length (replicate-append-replicate n 64 255) ∙ length-replicate (n + 64) 255
 length-cell_of n damaged whole = ap length (replicate-append-replicate n 64 0) ∙ length-replicate (n + 64) 0
 length-cell_of n (complete bytes spare_area) whole = omega (arith, length-append bytes spare_area, whole.0, whole.1)
 
 -- a slot holds what it shows
-contents_of-cell_of : (n : ℕ) (slot : Contents) → IsWhole n slot → contents_of n (seen_of slot) (cell_of n slot) ≡ slot
+pub contents_of-cell_of : (n : ℕ) (slot : Contents) → IsWhole n slot → contents_of n (seen_of slot) (cell_of n slot) ≡ slot
 contents_of-cell_of n blank whole = refl
 contents_of-cell_of n damaged whole = refl
 contents_of-cell_of n (complete bytes spare_area) whole = rw (

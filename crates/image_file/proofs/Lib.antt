@@ -1,6 +1,8 @@
-mod Common
+pub mod Common
 mod SlotLemmas
-mod ImageLemmas
-mod HeaderLemmas
-mod SpellingLemmas
+pub mod ImageLemmas
+pub mod HeaderLemmas
+pub mod SpellingLemmas
 mod RefusalLemmas
+pub mod InUseLemmas
+mod BehindLemmas

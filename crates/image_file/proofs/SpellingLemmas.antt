@@ -53,7 +53,7 @@ none_broken bytes header slots = rw (header_passes bytes header) (slots_pass byt
 
 -- ---- bytes that break no rule are spelled so
 
-module _ (bytes : List ℕ) (fits : IsBytes bytes) (header : HeaderHolds bytes) (slots : SlotsHold bytes) where
+module _ (bytes : List ℕ) (header : HeaderHolds bytes) (whole : length bytes ≡ image_bytes (shape_in bytes)) where
   abbrev n : ℕ
   n = number_at 12 bytes
 
@@ -61,7 +61,7 @@ module _ (bytes : List ℕ) (fits : IsBytes bytes) (header : HeaderHolds bytes) 
   count = slots_of (shape_in bytes)
 
   long : length bytes ≡ 64 + count * (65 + n)
-  long = slots.long
+  long = whole
 
   abbrev seen : List Seen
   seen = all_seen (states_in bytes)
@@ -74,7 +74,7 @@ module _ (bytes : List ℕ) (fits : IsBytes bytes) (header : HeaderHolds bytes) 
     length-drop 64 bytes,
   )
 
-  length-cells_in : length (cells_in bytes) ≡ length seen * cell_bytes n
+  pub length-cells_in : length (cells_in bytes) ≡ length seen * cell_bytes n
   length-cells_in =
       let all : length (cells_in bytes) ≡ count * cell_bytes n = omega (arith, long, length-drop (64 + count) bytes) in
       all ∙ ap (λ k. k * cell_bytes n) (sym length-seen)
@@ -86,11 +86,15 @@ module _ (bytes : List ℕ) (fits : IsBytes bytes) (header : HeaderHolds bytes) 
     whole = All-image_of n seen (cells_in bytes) length-cells_in;
   }
 
+module _ (bytes : List ℕ) (fits : IsBytes bytes) (header : HeaderHolds bytes) (slots : SlotsHold bytes) where
   pub read_again : bytes ≡ spelling (config_in bytes) (image_in bytes) (extras_in bytes)
   unfolding spelling
   read_again =
+      let n = number_at 12 bytes in
+      let count = slots_of (shape_in bytes) in
+      let seen = all_seen (states_in bytes) in
       let states_are = states-image_of n seen (cells_in bytes) ∙ states-all_seen (states_in bytes) slots.states_hold in
-      let cells_are = cells-image_of n seen (cells_in bytes) length-cells_in slots.bytes_hold in
+      let cells_are = cells-image_of n seen (cells_in bytes) (length-cells_in bytes header slots.long) slots.bytes_hold in
       let header_is = (header_again bytes fits header).header in
       let many : 64 + count - 64 ≡ count = omega arith in
       let front : take 64 bytes ++ states_in bytes ≡ take (64 + count) bytes =
@@ -112,7 +116,7 @@ module _ (c : Config) (image : List Contents) (extras : Extras) (can : CanBeSpel
   abbrev header : List ℕ
   header = header_of c extras
 
-  length-header : length header ≡ 64
+  pub length-header : length header ≡ 64
   length-header = length-header_of c extras can.within
 
   abbrev states : List ℕ
@@ -121,7 +125,7 @@ module _ (c : Config) (image : List Contents) (extras : Extras) (can : CanBeSpel
   abbrev cells : List ℕ
   cells = flat_map (cell_of c.page_bytes) image
 
-  in_parts : spelled ≡ header ++ (states ++ cells)
+  pub in_parts : spelled ≡ header ++ (states ++ cells)
   unfolding spelling
   in_parts = append_assoc header states cells
 
@@ -157,14 +161,14 @@ module _ (c : Config) (image : List Contents) (extras : Extras) (can : CanBeSpel
   behind : drop 64 spelled ≡ states ++ cells
   behind = ap (drop 64) in_parts ∙ drop_at header (states ++ cells) 64 length-header
 
-  states_in-spelling : states_in spelled ≡ states
+  pub states_in-spelling : states_in spelled ≡ states
   states_in-spelling =
       let many : 64 + slots_of (shape_of c) - 64 ≡ slots_of (shape_of c) = omega arith in
       ap (λ (x : Config). slice_range spelled 64 (64 + slots_of (shape_of x))) config_in-spelling
       ∙ ap (λ k. take k (drop 64 spelled)) many ∙ ap (take (slots_of (shape_of c))) behind
       ∙ take_at states cells (slots_of (shape_of c)) length-states
 
-  cells_in-spelling : cells_in spelled ≡ cells
+  pub cells_in-spelling : cells_in spelled ≡ cells
   cells_in-spelling =
       ap (λ (x : Config). drop (64 + slots_of (shape_of x)) spelled) config_in-spelling
       ∙ sym (drop-drop (slots_of (shape_of c)) 64 spelled) ∙ ap (drop (slots_of (shape_of c))) behind
@@ -173,7 +177,7 @@ module _ (c : Config) (image : List Contents) (extras : Extras) (can : CanBeSpel
   page_is : number_at 12 spelled ≡ c.page_bytes
   page_is = ap (λ (x : Config). x.page_bytes) config_in-spelling
 
-  seen_are : all_seen (states_in spelled) ≡ map seen_of image
+  pub seen_are : all_seen (states_in spelled) ≡ map seen_of image
   seen_are = ap all_seen states_in-spelling ∙ all_seen-states c.page_bytes image
 
   pub image_in-spelling : image_in spelled ≡ image
@@ -202,7 +206,7 @@ read_spelled bytes fits none =
     record {
       can = record {
         checks = holds.0.checks;
-        fits = IsImage-read bytes fits holds.0 holds.1;
+        fits = IsImage-read bytes holds.0 holds.1.long;
         within = header.within;
         few = header.few;
       };

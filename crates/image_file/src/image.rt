@@ -19,6 +19,7 @@ use tx_types::{Config, Shape, Slot};
 
 /// The configuration and the flash that an image file spells, or the first rule that its bytes break.
 /// Power is on, nothing is armed and nothing was counted. The flash is told of retired blocks what the file tells.
+/// It is there for who builds on this crate: the programs call `take_image`.
 pub fn read_image(alloc: Global, bytes: &[u8]) -> Result<(Config, MemFlash), ImageError>
     // What is read is spelled so.
     ensures spelled { IfOk result (λ r. Spells bytes.now r.0 r.1.image r.1.extras) }
@@ -37,7 +38,7 @@ pub fn read_image(alloc: Global, bytes: &[u8]) -> Result<(Config, MemFlash), Ima
 }
 
 /// The configuration and the flash that the bytes of an image file spell, or the first rule that they break. The flash
-/// takes the bytes over, and they are not copied.
+/// takes the bytes over, and they are not copied. Blank and damaged slots are checked before.
 pub fn take_image(alloc: Global, bytes: Vec<u8>) -> Result<(Config, MemFlash), ImageError>
     ensures spelled { IfOk result (λ r. Spells bytes.items r.0 r.1.image r.1.extras) }
     ensures flash { IfOk result (λ r. r.1 ≡ loaded (shape_of r.0) r.1.image r.1.extras) }

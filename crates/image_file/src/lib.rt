@@ -4,6 +4,7 @@
 mod error;
 mod header;
 mod image;
+mod in_use;
 mod sizes;
 mod slots;
 mod theorems;
@@ -11,5 +12,6 @@ mod writing;
 
 pub use error::ImageError;
 pub use image::{read_image, take_image};
-pub use theorems::{one_spelling, spelled_images};
+pub use in_use::take_image_in_use;
+pub use theorems::{images_in_use, one_spelling, spelled_images};
 pub use writing::{blank_image, into_image, write_image};

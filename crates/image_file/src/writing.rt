@@ -16,7 +16,7 @@ use std::alloc::{AllocError, Global};
 use tx_types::{Config, Memory, Shape, Slot};
 
 /// The image file of a device: the one spelling of its configuration, of what its flash holds, and of what it
-/// tells of retired blocks.
+/// tells of retired blocks. It is there for who builds on this crate: the programs call `into_image`.
 pub fn write_image(alloc: Global, config: &Config, flash: &MemFlash) -> Result<Vec<u8>, Memory>
     requires { checked config.now ≡ Ok flash.now.shape }
     ensures { IfOk result (λ bytes.

@@ -21,7 +21,8 @@ use std::alloc::Global;
 use std::marker::Model;
 use tx_types::{Block, Memory, Shape, Slot};
 
-/// A flash in memory. Its calls are broken exactly where an arm comes due or power is off.
+/// A flash in memory. Its calls are broken exactly where an arm comes due or power is off. At most 1024 blocks may be
+/// retired, so an image file can be written of each one.
 #[derive(Drop)]
 pub struct MemFlash {
     pub(crate) slots: Slots,
@@ -271,6 +272,7 @@ impl Flash for MemFlash {
         self.erases
     }
 
+    /// A broken read leaves both buffers as they were.
     fn read(&mut self, at: Slot, into: &mut [u8], spare_area: &mut [u8; 64]) -> Result<Seen, Broken>
         requires exists { at.0 < slots_of self.old.shape }
         requires page { length into.old ≡ self.old.shape.page_bytes }

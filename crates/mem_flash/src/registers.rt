@@ -10,7 +10,8 @@ use flash_model::{Outcome, SPARE_BYTES};
 use std::alloc::Global;
 use tx_types::{Memory, Shape, Slot};
 
-/// A register of a die: room for a program, taken beforehand, and the slot of the one that is loaded.
+/// A register of a die: room for a program, taken beforehand, and the slot of the one that is loaded. Each die has one
+/// of its own: in one list for all dies each load would be a write in the middle.
 #[derive(Drop)]
 pub struct Register {
     pub at: Option<Slot>,
@@ -42,7 +43,7 @@ pub fn die_of(shape: Shape, at: Slot) -> usize
     ensures die { result ≡ die_of shape at.0 }
     ensures within { result < shape.dies }
 {
-    (at.0 / (shape.pages_per_block * shape.blocks_per_die)) as usize
+    (shape.block_of(at).0 / shape.blocks_per_die) as usize
 }
 
 /// Puts a program into a register.

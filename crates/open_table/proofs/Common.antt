@@ -10,15 +10,15 @@ pub use Rattle.std.specs.Vec.{with_items}
 pub use Rattle.array_machine.specs.ArrayState.{Entry, entry_of, has_tag, without, pending_pages, is_doubted, with_entry}
 pub use Rattle.array_machine.specs.Submit.{or_else}
 pub use Rattle.array_machine.specs.declared.mark.Mark.TheVariants.{Plain}
+pub use Rattle.judged_records.specs.IndexState.{IndexState}
 pub use Rattle.list_lemmas.proofs.Membership.{all_from, Contains-rest}
 pub use Rattle.list_lemmas.proofs.Pairs.{pairs_head, pairs_tail}
 pub use Rattle.list_lemmas.proofs.Quantifiers.{all_remove}
-pub use Rattle.record_list.specs.Transaction.{ShareNoPage}
 pub use Rattle.open_table.specs.OpenTransactionsState.{Naming, no_name, name_at, write_at, OpenTransactionsState, TransactionState, no_transaction, transaction_at, with_transaction, with_noted_count, with_mark, with_done, begun}
 pub use Rattle.open_table.specs.PendingWrites.{transaction_of, write_held, IsWhole}
 unfoldable pub use Rattle.open_table.specs.PendingWrites.{with_owner}
 pub use Rattle.open_table.specs.declared.pending_writes.PendingWrite.{PendingWrite}
 pub use Rattle.open_table.specs.declared.pending_writes.Transaction.{Transaction}
+pub use Rattle.record_list.specs.Transaction.{ShareNoPage}
 pub use Rattle.tx_types.specs.Batch.{PageWrite, no_write, bytes_in, Writes}
 pub use Rattle.tx_types.specs.declared.record.Link.{Link}
-pub use Rattle.version_index.specs.IndexState.{IndexState}

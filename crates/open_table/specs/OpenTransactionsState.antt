@@ -3,7 +3,7 @@ use Rattle.std.specs.Prelude.{◌≡◌, ◌≢◌, ℕ, ◌+◌, ◌<◌, ◌�
 use Rattle.tx_types.specs.Batch.{no_write, PageWrite, Writes, bytes_in}
 use Rattle.tx_types.specs.Limits.{max_version}
 use Rattle.tx_types.specs.declared.record.Link.{Link}
-use Rattle.version_index.specs.IndexState.{IndexState, mention_of}
+use Rattle.judged_records.specs.IndexState.{IndexState, mention_of}
 use Rattle.array_machine.specs.ArrayState.{Entry, new_entry, pending_pages}
 use Rattle.array_machine.specs.declared.mark.Mark.{Mark}
 use Rattle.array_machine.specs.declared.mark.Mark.TheVariants.{Plain}

@@ -6,7 +6,7 @@ use Rattle.tx_types.specs.Batch.{PageWrite, Writes, bytes_in}
 use Rattle.tx_types.specs.Entries.{value_if}
 use Rattle.tx_types.specs.Limits.{max_version}
 use Rattle.tx_types.specs.declared.config.Config.{Config}
-use Rattle.version_index.specs.IndexState.{IndexState, mention_of}
+use Rattle.judged_records.specs.IndexState.{IndexState, mention_of}
 use Rattle.open_table.specs.OpenTransactionsState.{TransactionState, next_name}
 use Rattle.array_machine.specs.Submit.{first_refusal}
 use Rattle.array_machine.specs.declared.answers.SubmitError.{SubmitError}

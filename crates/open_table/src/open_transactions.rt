@@ -19,7 +19,9 @@ use tx_types::{Batch, Config, Link, Memory};
 use version_index::Index;
 
 /// What a device keeps of its open transactions, in the order of their opening. All its memory is taken when it is
-/// made.
+/// made. Each open transaction has a list of pages of its own, which goes back when it ends. A table has for each page
+/// the transaction that writes it, so a batch is compared with the open ones by one look-up a page. A tag is sought
+/// among them, of which there are 256 at most.
 #[derive(Drop)]
 pub struct OpenTransactions {
     page_bytes: u32,

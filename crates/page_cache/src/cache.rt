@@ -48,7 +48,9 @@ impl PageCache {
     }
 
     /// Whether a page is held at a version. Its bytes, as many as a page has, are then copied into `into`, and its
-    /// entry comes to the front. Where it is not held the cache and `into` stay as they were.
+    /// entry comes to the front. Where it is not held the cache and `into` stay as they were. The map is asked twice,
+    /// for the bytes and to bring the entry to the front: so each call on it is one equation on the list of pages, and
+    /// no loan stays open in between.
     #[tactic(auto, using(crate::proofs::Pages::look_ups))]
     pub fn find(&mut self, page: u32, version: u64, into: &mut [u8]) -> bool
         requires { length into.old ≡ self.old.page_bytes }
@@ -83,7 +85,7 @@ impl PageCache {
         put(&mut self.pages, page, version, copy)
     }
 
-    /// Takes all entries out.
+    /// Takes all entries out. It takes no memory, so a mount cannot fail for the cache.
     #[tactic(auto, unfolding(crate::specs::Entries::pages_in))]
     pub fn clear(&mut self)
         ensures { self.new ≡ record self.old { entries = [] } }

@@ -23,13 +23,16 @@ pub use Rattle.flash_model.specs.Calls.{Carries, BothTell, NoMoreToCome, Spends}
 pub use Rattle.flash_model.specs.Flash.{FlashState, Contents, Told}
 pub use Rattle.flash_model.specs.Operations.{Moment, moment_of}
 pub use Rattle.host_protocol.specs.Lines.{lines_of}
+pub use Rattle.judged_records.specs.Images.{IsSoundImage}
+unfoldable pub use Rattle.judged_records.specs.Images.{array_in}
+pub use Rattle.judged_records.specs.IndexState.{IndexState}
 pub use Rattle.page_keys.specs.Buckets.{IsEntry, HoldsEntries, IsBucketOf, AreOfPage, AreBuckets, EncodesMap, entry_bytes, IsBucket, encodes}
 pub use Rattle.page_keys.specs.Entries.{with_pair, changed, AreBelow}
 pub use Rattle.page_keys.specs.Groups.{changes_of, puts_value}
 pub use Rattle.page_keys.specs.KeyMaps.{KeyMap, Pair, key_order, apply, part, of_page, is_ascending, is_in, bucket_of, value_of, is_touched, pages_of}
 pub use Rattle.page_keys.specs.KeyRuns.{IsKeyPoint, KeyPoint, ServesKeys, mentions_in, is_key_cut, is_key_fault, seen_after}
 pub use Rattle.page_keys.specs.KeyServed.{BeginsKeys}
-pub use Rattle.page_keys.specs.KeySessions.{Ends, Fits, IsKeyImage, ServesOne, flash_in, DoesHere}
+pub use Rattle.page_keys.specs.KeySessions.{KeySession, Ends, Fits, IsKeyImage, ServesOne, flash_in, DoesHere}
 pub use Rattle.page_keys.specs.Pages.{with_page}
 pub use Rattle.page_keys.specs.PutAnswers.{PutGives}
 pub use Rattle.page_keys.specs.Puts.{IsKeyChange, early_refusal, has_key, repeated, put_writes, is_over, write_of}
@@ -42,7 +45,6 @@ pub use Rattle.page_keys.specs.declared.changes.Change.{Change}
 pub use Rattle.page_keys.specs.declared.command.KeyCommand.{KeyCommand}
 pub use Rattle.page_keys.specs.declared.key_error.KeyServeError.{KeyServeError}
 pub use Rattle.page_keys.specs.declared.key_reply.KeyReply.{KeyReply}
-pub use Rattle.page_keys.specs.declared.key_session.KeySession.{KeySession}
 pub use Rattle.tx_engine.proofs.OfDevice.Seen.{seen_flash}
 pub use Rattle.tx_engine.specs.Always.{IsSeen, HoldsAlways}
 pub use Rattle.tx_engine.specs.DeviceState.{DeviceState, limits_of}
@@ -52,6 +54,3 @@ pub use Rattle.tx_types.specs.Config.{checked, shape_of}
 pub use Rattle.tx_types.specs.declared.config.Config.{Config}
 pub use Rattle.tx_types.specs.declared.config.Protocol.{Protocol}
 pub use Rattle.tx_types.specs.declared.config.Shape.{Shape}
-pub use Rattle.version_index.specs.Images.{IsSoundImage}
-unfoldable pub use Rattle.version_index.specs.Images.{array_in}
-pub use Rattle.version_index.specs.IndexState.{IndexState}

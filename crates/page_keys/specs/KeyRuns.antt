@@ -12,8 +12,9 @@ use Rattle.flash_model.specs.Moves.{Moves}
 use Rattle.flash_model.specs.Operations.{Moment, moment_of}
 use Rattle.flash_model.specs.declared.outcome.Outcome.{Outcome}
 use Rattle.record_list.specs.Records.{mention}
-use Rattle.version_index.specs.Images.{IsSoundImage, array_in, records_in}
+use Rattle.judged_records.specs.Images.{IsSoundImage, array_in, records_in}
 use Rattle.array_runs.specs.Run.{MayBeSpent}
+use Rattle.mounted_session.specs.Spending.{IsSpent}
 use Rattle.page_keys.specs.Buckets.{EncodesMap}
 use Rattle.page_keys.specs.KeyMaps.{KeyMap, apply, seen_by}
 use Rattle.page_keys.specs.Puts.{put_refusal}
@@ -130,6 +131,10 @@ abbrev pub arms_key_cut : KeyCommand → Bool
 arms_key_cut (command.Cut count what) = true
 arms_key_cut _ = false
 
+-- how many cuts a command arms
+abbrev pub cuts_armed : KeyCommand → ℕ
+cuts_armed c = if arms_key_cut c then 1 else 0
+
 -- Before a command that is no arm power is turned on. The reply is `Cut` exactly where it is off afterwards. The count
 -- of faults rose, or stood at its end, where a break is told, and else is as it was.
 pub record IsCaused (r : KeyReply) (old new : FlashState) : Type 0 where
@@ -137,10 +142,8 @@ pub record IsCaused (r : KeyReply) (old new : FlashState) : Type 0 where
   pub faults : MatchBool (is_key_break r) (Rose old.faults new.faults) (new.faults ≡ old.faults)
 
 -- a reply uses up a cut or a fault that was to come, and an arm brings a cut
-pub record IsKeySpent (c : KeyCommand) (r : KeyReply) (old new : Told) : Type 0 where
-  pub cuts : (if is_key_cut r then 1 else 0) + new.cuts
-      ≤ old.cuts + (if arms_key_cut c then 1 else 0)
-  pub breaks : (if is_key_fault r then 1 else 0) + new.breaks ≤ old.breaks
+abbrev pub IsKeySpent : KeyCommand → KeyReply → Told → Told → Type 0
+IsKeySpent c r old new = IsSpent (is_key_cut r) (is_key_fault r) (cuts_armed c) 0 old new
 
 -- a command on a flash, its reply, and where that leaves the run
 pub record ServesKeys (its : Config) (spent : ℕ → Bool) (c : KeyCommand) (old : KeyPoint)

@@ -7,12 +7,11 @@ use Rattle.flash_model.specs.Operations.{moment_of}
 use Rattle.page_keys.specs.KeyMaps.{KeyMap}
 use Rattle.page_keys.specs.KeyReplies.{key_texts}
 use Rattle.page_keys.specs.KeyRuns.{KeyPoint, IsKeyRun, AreFewBreaks, last_point, mentions_in}
-use Rattle.page_keys.specs.KeySessions.{IsKeyImage, IsWhy, StandsAt, flash_in}
+use Rattle.page_keys.specs.KeySessions.{IsKeyImage, IsWhy, KeySession, StandsAt, flash_in}
 use Rattle.page_keys.specs.declared.command.KeyCommand.{KeyCommand}
 use Rattle.page_keys.specs.declared.key_error.KeyServeError.{KeyServeError}
 use Rattle.page_keys.specs.declared.key_error.KeyServeError.TheVariants as failed
 use Rattle.page_keys.specs.declared.key_reply.KeyReply.{KeyReply}
-use Rattle.page_keys.specs.declared.key_session.KeySession.{KeySession}
 
 -- where a run begins: the flash is as it was handed in, but for reads. A flash that is live and tells that no break is
 -- to come has met none.
@@ -22,8 +21,8 @@ pub record IsFirstFlash (init first : FlashState) : Type 0 where
   pub steady : IsSteady init → (first.live ≡ true) × (first.faults ≡ init.faults)
 
 -- the session that serving begins with stands for a map
-pub record BeginsKeys {F R : Type 0} (state : F → FlashState) (its : Config) (init : FlashState)
-    (s : KeySession F R) : Type 0 where
+pub record BeginsKeys {F : Type 0} (state : F → FlashState) (its : Config) (init : FlashState)
+    (s : KeySession F) : Type 0 where
   pub image : IsKeyImage its init
   pub first : IsFirstFlash init (state (flash_in s))
   pub keys : KeyMap

@@ -1,45 +1,51 @@
--- A flash on which a key script is served, with its store while that is open.
+-- What serving a command of a key script comes to, in a session with its store while that is open.
 use Rattle.std.specs.Prelude.{◌≡◌, ◌<◌, ◌≤◌, ℕ, Bool, true, false, List, Option, Some, None, Ok}
 use Rattle.tx_types.specs.Config.{checked, shape_of}
 use Rattle.tx_types.specs.declared.config.Config.{Config}
 use Rattle.tx_types.specs.declared.config.Protocol.{Protocol}
 use Rattle.flash_model.specs.Arms.{ArmsCut}
 use Rattle.flash_model.specs.declared.outcome.Outcome.{Outcome}
-use Rattle.flash_model.specs.Calls.{BothTell, NoMoreToCome, Carries, Rose, Spends}
+use Rattle.flash_model.specs.Calls.{Carries}
 use Rattle.flash_model.specs.Flash.{FlashState}
 use Rattle.flash_model.specs.Operations.{moment_of}
-use Rattle.version_index.specs.Images.{IsSoundImage, IsLeastImageBreach, array_in}
+use Rattle.judged_records.specs.Images.{IsSoundImage, IsLeastImageBreach, array_in}
 use Rattle.array_runs.specs.Run.{MayBeSpent}
 use Rattle.tx_engine.specs.Always.{IsSeen, HoldsAlways}
 use Rattle.array_machine.specs.ArrayState.{idle}
 use Rattle.tx_engine.specs.Naming.{is_spent}
+use Rattle.mounted_session.specs.Mounting.{IsRefused, StaysQuiet}
+use Rattle.mounted_session.specs.Sessions as sessions
+use Rattle.mounted_session.specs.Sessions.{BothOf, EachOf}
+use Rattle.mounted_session.specs.declared.device.Refusal.{Refusal}
+use Rattle.mounted_session.specs.declared.device.Refusal.TheVariants as refusal
+use Rattle.mounted_session.specs.declared.mounted.NotMounted.{NotMounted}
+use Rattle.mounted_session.specs.declared.mounted.NotMounted.TheVariants as fails
+use Rattle.mounted_session.specs.declared.session.Session.{Session}
 use Rattle.page_keys.specs.Buckets.{AreBuckets, EncodesMap}
 use Rattle.page_keys.specs.KeyMaps.{KeyMap}
 use Rattle.page_keys.specs.KeyRuns.{KeyPoint, key_at, DoesKeys, ServesKeys, is_key_cut, is_key_fault, mentions_in, seen_after}
 use Rattle.page_keys.specs.Stores.{KeyStoreState, HasKeys, IsFirstBad}
 use Rattle.page_keys.specs.declared.command.KeyCommand.{KeyCommand}
+use Rattle.page_keys.specs.declared.answers.KeyError.{KeyError}
+use Rattle.page_keys.specs.declared.answers.KeyError.TheVariants as opening
 use Rattle.page_keys.specs.declared.answers.PutError.{PutError}
 use Rattle.page_keys.specs.declared.answers.PutError.TheVariants as refused
 use Rattle.page_keys.specs.declared.changes.Change.{Change}
 use Rattle.page_keys.specs.declared.key_reply.KeyReply.{KeyReply}
 use Rattle.page_keys.specs.declared.key_reply.KeyReply.TheVariants as reply
-use Rattle.page_keys.specs.declared.key_session.KeySession.{KeySession}
-use Rattle.page_keys.specs.declared.key_session.KeySession.TheVariants as session
 use Rattle.page_keys.specs.declared.key_error.KeyServeError.{KeyServeError}
 use Rattle.page_keys.specs.declared.key_error.KeyServeError.TheVariants as failed
 
--- the flash of a session
-abbrev pub flash_in : {F R : Type 0} → KeySession F R → F
-flash_in (session.Mounted k) = k.device.flash
-flash_in (session.Unmounted flash) = flash
+-- a flash on which a key script is served
+abbrev pub KeySession : Type 0 → Type 0
+KeySession F = Session F (KeyStoreState F)
 
--- whether its store is open
-abbrev pub is_mounted : {F R : Type 0} → KeySession F R → Bool
-is_mounted (session.Mounted k) = true
-is_mounted (session.Unmounted flash) = false
+-- the flash of a session
+abbrev pub flash_in : {F : Type 0} → KeySession F → F
+flash_in s = sessions.flash_in (λ k. k.device.flash) s
 
 -- the point of a run that a session is at, with this map
-abbrev pub point_of : {F R : Type 0} → (F → FlashState) → KeyMap → KeySession F R → KeyPoint
+abbrev pub point_of : {F : Type 0} → (F → FlashState) → KeyMap → KeySession F → KeyPoint
 point_of state m s = record { keys = m; flash = state (flash_in s) }
 
 -- the image of a flash is sound, and each page is a bucket
@@ -58,9 +64,8 @@ pub record FitsMounted {F : Type 0} (state : F → FlashState) (its : Config) (k
   pub always : HoldsAlways state its.protocol k.device
 
 -- the session is one on a flash of this configuration
-abbrev pub Fits : {F R : Type 0} → (F → FlashState) → Config → KeySession F R → Type 0
-Fits state its (session.Mounted k) = FitsMounted state its k
-Fits state its (session.Unmounted flash) = checked its ≡ Ok (state flash).shape
+abbrev pub Fits : {F : Type 0} → (F → FlashState) → Config → KeySession F → Type 0
+Fits state its s = EachOf (FitsMounted state its) (λ flash. checked its ≡ Ok (state flash).shape) s
 
 -- the array shows the map, and `seen` is at least each mention
 pub record StandsMounted {F : Type 0} (its : Config) (seen : ℕ → ℕ) (m : KeyMap) (k : KeyStoreState F) :
@@ -73,14 +78,14 @@ pub record StandsUnmounted (its : Config) (seen : ℕ → ℕ) (m : KeyMap) (s :
   pub shows : EncodesMap its (array_in its.protocol its.logical s.image) m
   pub mentions : (page : ℕ) → page < its.logical → mentions_in its (moment_of s) page ≤ seen page
 
-abbrev pub StandsAt : {F R : Type 0} → (F → FlashState) → Config → (ℕ → ℕ) → KeyMap →
-    KeySession F R → Type 0
-StandsAt state its seen m (session.Mounted k) = StandsMounted its seen m k
-StandsAt state its seen m (session.Unmounted flash) = StandsUnmounted its seen m (state flash)
+abbrev pub StandsAt : {F : Type 0} → (F → FlashState) → Config → (ℕ → ℕ) → KeyMap →
+    KeySession F → Type 0
+StandsAt state its seen m s =
+    EachOf (StandsMounted its seen m) (λ flash. StandsUnmounted its seen m (state flash)) s
 
 -- a command was served in a session that stands for a map, with this reply
-pub record ServesIn {F R : Type 0} (state : F → FlashState) (its : Config) (seen : ℕ → ℕ)
-    (m : KeyMap) (c : KeyCommand) (old : KeySession F R) (r : KeyReply) (new : KeySession F R) :
+pub record ServesIn {F : Type 0} (state : F → FlashState) (its : Config) (seen : ℕ → ℕ)
+    (m : KeyMap) (c : KeyCommand) (old : KeySession F) (r : KeyReply) (new : KeySession F) :
     Type 0 where
   pub left : KeyMap
   pub spent : ℕ → Bool
@@ -89,32 +94,14 @@ pub record ServesIn {F R : Type 0} (state : F → FlashState) (its : Config) (se
   pub stands : StandsAt state its (seen_after its seen c r) left new
 
 -- What serving a command comes to. Where the image is not sound, or has a page that is no bucket, nothing is written.
-pub record ServesOne {F R : Type 0} (state : F → FlashState) (its : Config) (c : KeyCommand)
-    (old : KeySession F R) (r : KeyReply) (new : KeySession F R) : Type 0 where
+pub record ServesOne {F : Type 0} (state : F → FlashState) (its : Config) (c : KeyCommand)
+    (old : KeySession F) (r : KeyReply) (new : KeySession F) : Type 0 where
   pub fits : Fits state its new
   pub in_run : (seen : ℕ → ℕ) → (m : KeyMap) → StandsAt state its seen m old →
       ServesIn state its seen m c old r new
   pub unopened : (IsKeyImage its (state (flash_in old)) → ⊥) →
       moment_of (state (flash_in new)) ≡ moment_of (state (flash_in old))
   pub extras : (state (flash_in new)).extras ≡ (state (flash_in old)).extras
-
--- what stays of a flash that was only read from, whether power was turned on before or not
-pub record MomentStays (old new : FlashState) : Type 0 where
-  pub moment : moment_of new ≡ moment_of old
-  pub shape : new.shape ≡ old.shape
-  pub extras : new.extras ≡ old.extras
-  pub told : BothTell NoMoreToCome old.told new.told
-
--- and no fault was counted
-pub record StaysQuiet (old new : FlashState) : Type 0 where
-  pub still : MomentStays old new
-  pub quiet : new.faults ≡ old.faults
-
--- or a read met a fault
-pub record MeetsFault (old new : FlashState) : Type 0 where
-  pub still : MomentStays old new
-  pub rose : Rose old.faults new.faults
-  pub spends : BothTell (Spends new.live) old.told new.told
 
 -- why no more commands are served: by the image, or for want of memory
 abbrev pub IsWhy : Config → FlashState → KeyServeError → Type 0
@@ -127,9 +114,19 @@ IsWhy its s (failed.Bucket page) =
 IsWhy its s failed.Memory = Unit {0}
 
 -- no more commands are served: the flash is as it was but for reads
-pub record Ends (its : Config) (old new : FlashState) (why : KeyServeError) : Type 0 where
-  pub cause : IsWhy its old why
-  pub still : StaysQuiet old new
+abbrev pub Ends : Config → FlashState → FlashState → KeyServeError → Type 0
+Ends its old new why = IsRefused (IsWhy its old) old new why
+
+-- why the flash of a device that was refused is, and that of a device over which no store is opened
+abbrev pub refused_device : NotMounted Refusal → NotMounted KeyServeError
+refused_device fails.Fault = fails.Fault
+refused_device (fails.Refused (refusal.Unsound law slot)) = fails.Refused (failed.Unsound law slot)
+refused_device (fails.Refused refusal.Memory) = fails.Refused failed.Memory
+
+abbrev pub not_opened : KeyError → NotMounted KeyServeError
+not_opened opening.Fault = fails.Fault
+not_opened (opening.Bucket page) = fails.Refused (failed.Bucket page)
+not_opened opening.Memory = fails.Refused failed.Memory
 
 -- a store was opened over the flash, by reads alone
 pub record Opens {F : Type 0} (state : F → FlashState) (its : Config) (flash : F) (k : KeyStoreState F) :
@@ -143,14 +140,12 @@ pub record Opens {F : Type 0} (state : F → FlashState) (its : Config) (flash :
   pub still : StaysQuiet (state flash) (state k.device.flash)
 
 -- what opening a store over a flash comes to: a store, or a fault that a read met
-abbrev pub Mounts : {F R : Type 0} → (F → FlashState) → Config → F → KeySession F R → Type 0
-Mounts state its flash (session.Mounted k) = Opens state its flash k
-Mounts state its flash (session.Unmounted new) = MeetsFault (state flash) (state new)
+abbrev pub Mounts : {F : Type 0} → (F → FlashState) → Config → F → KeySession F → Type 0
+Mounts state its flash s = sessions.Mounts state (Opens state its) flash s
 
 -- an open store can be used
-abbrev pub IsUsable : {F R : Type 0} → KeySession F R → Type 0
-IsUsable (session.Mounted k) = k.broken ≡ false
-IsUsable (session.Unmounted flash) = Unit {0}
+abbrev pub IsUsable : {F : Type 0} → KeySession F → Type 0
+IsUsable s = EachOf (λ k. k.broken ≡ false) (λ flash. Unit {0}) s
 
 -- a cut is to come, and all else stays
 pub record SetsCutHere {F : Type 0} (state : F → FlashState) (protocol : Protocol) (count : ℕ)
@@ -160,13 +155,10 @@ pub record SetsCutHere {F : Type 0} (state : F → FlashState) (protocol : Proto
   pub keys : HasKeys new.device
   pub always : HoldsAlways state protocol new.device
 
-abbrev pub SetsCut : {F R : Type 0} → (F → FlashState) → Protocol → ℕ → Outcome → KeySession F R →
-    KeySession F R → Type 0
-SetsCut state protocol count what (session.Mounted old) (session.Mounted new) =
-    SetsCutHere state protocol count what old new
-SetsCut state protocol count what (session.Unmounted old) (session.Unmounted new) =
-    ArmsCut (state old) (state new) count what
-SetsCut state protocol count what _ _ = ⊥
+abbrev pub SetsCut : {F : Type 0} → (F → FlashState) → Protocol → ℕ → Outcome → KeySession F →
+    KeySession F → Type 0
+SetsCut state protocol count what old new =
+    BothOf (SetsCutHere state protocol count what) (λ a b. ArmsCut (state a) (state b) count what) old new
 
 -- the reply of a put that was not done; none for want of memory
 abbrev pub reply_of : List Change → PutError → Option KeyReply

@@ -4,7 +4,7 @@ use Rattle.flash_model.specs.Flash.{FlashState}
 use Rattle.flash_model.specs.Calls.{Carries}
 use Rattle.flash_model.specs.Moves.{FlashMoves}
 use Rattle.flash_model.specs.Operations.{moment_of}
-use Rattle.version_index.specs.Images.{array_in}
+use Rattle.judged_records.specs.Images.{array_in}
 use Rattle.tx_engine.specs.Always.{IsSeen}
 use Rattle.tx_engine.specs.Naming.{is_spent}
 use Rattle.page_keys.specs.Buckets.{EncodesMap}

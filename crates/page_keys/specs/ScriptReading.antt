@@ -1,15 +1,13 @@
 -- What reading a part of a key script gave.
 use Rattle.std.specs.Prelude.{◌≡◌, ◌<◌, ◌≤◌, ℕ, true, List, length}
 use Rattle.host_protocol.specs.Files.{is_command_line}
+use Rattle.host_protocol.specs.declared.error.TextError.{TextError}
+use Rattle.host_protocol.specs.declared.error.TextError.TheVariants as text
 use Rattle.host_protocol.specs.declared.file.TheConstants.{MAX_COMMANDS}
 use Rattle.page_keys.specs.Scripts.{verb_of, AreKeyOperands, IsKeyCommand, IsFirstBadScriptLine}
 use Rattle.page_keys.specs.declared.command.KeyCommand.{KeyCommand}
 use Rattle.page_keys.specs.declared.command.KeyCommand.TheVariants as command
 use Rattle.page_keys.specs.declared.key_verb.KeyVerb.{KeyVerb}
-use Rattle.page_keys.specs.declared.script_error.LineError.{LineError}
-use Rattle.page_keys.specs.declared.script_error.LineError.TheVariants.{Bad, Memory}
-use Rattle.page_keys.specs.declared.script_error.KeyTextError.{KeyTextError}
-use Rattle.page_keys.specs.declared.script_error.KeyTextError.TheVariants as text
 
 -- the words behind the command word make this command
 abbrev pub MakesKeyCommand : KeyVerb → List (List ℕ) → KeyCommand → Type 0
@@ -37,11 +35,6 @@ pub record AddsNoKeyCommand (line : List ℕ) (before : ℕ) : Type 0 where
   pub past : (what : KeyCommand) → IsKeyCommand line what → before < MAX_COMMANDS → ⊥
 
 -- where a script's reading ended
-abbrev pub EndsAt : List ℕ → KeyTextError → Type 0
+abbrev pub EndsAt : List ℕ → TextError → Type 0
 EndsAt bytes (text.Line n) = IsFirstBadScriptLine bytes n
 EndsAt bytes text.Memory = Unit {0}
-
--- a fault of the line of this number
-abbrev pub text_error : ℕ → LineError → KeyTextError
-text_error n Bad = text.Line n
-text_error n Memory = text.Memory

@@ -5,7 +5,7 @@ use Rattle.tx_types.specs.Batch.{PageWrite}
 use Rattle.flash_model.specs.Flash.{FlashState}
 use Rattle.flash_model.specs.Calls.{Carries}
 use Rattle.flash_model.specs.Moves.{FlashMoves}
-use Rattle.version_index.specs.Images.{array_in}
+use Rattle.judged_records.specs.Images.{array_in}
 use Rattle.array_machine.specs.ArrayState.{ArrayState, Pages, put, idle}
 use Rattle.tx_engine.specs.Always.{IsSeen}
 use Rattle.array_machine.specs.Submit.{spent_page, is_of}

@@ -6,8 +6,7 @@ ghost use Rattle.page_keys.specs.ScriptReading.{AddsKeyCommand, AddsNoKeyCommand
 use crate::command::KeyCommand;
 use crate::key_verb::KeyVerb;
 use crate::key_words::{changes, only_key};
-use crate::script_error::LineError;
-use host_protocol::{MAX_COMMANDS, arm, first_word};
+use host_protocol::{LineError, MAX_COMMANDS, arm, first_word};
 use std::alloc::Global;
 
 /// The command of a line, none for a blank line or a comment. There are `before` commands before it.

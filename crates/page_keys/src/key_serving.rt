@@ -4,15 +4,18 @@ ghost use Rattle.flash_model.specs.Flash.{FlashState, IsSteady};
 ghost use Rattle.flash_model.specs.Operations.{moment_of};
 ghost use Rattle.page_keys.specs.KeyRuns.{arms_key_cut};
 ghost use Rattle.page_keys.specs.KeyServed.{BeginsKeys, RefusesKeys, ServesScript};
-ghost use Rattle.page_keys.specs.KeySessions.{flash_in, is_mounted, Ends, Fits, IsKeyImage, ServesOne};
+ghost use Rattle.mounted_session.specs.Sessions.{is_mounted};
+ghost use Rattle.page_keys.specs.KeySessions.{flash_in, Ends, Fits, IsKeyImage, ServesOne};
 ghost use Rattle.page_keys.specs.Scripts.{SuitsKeys};
 
 use crate::command::KeyCommand;
 use crate::key_calls::execute;
 use crate::key_error::KeyServeError;
 use crate::key_reply::{KeyReply, key_reply_text};
-use crate::key_session::{KeySession, mount, mount_again};
+use crate::key_session::arm_cut;
+use crate::store::KeyStore;
 use flash_model::{Arms, Power};
+use mounted_session::{Session, begin};
 use record_list::CommitRule;
 use std::alloc::Global;
 use tx_types::Config;
@@ -20,7 +23,7 @@ use tx_types::Config;
 /// Serves a command that is no arm on an open store, which is closed after a fault.
 fn serve_mounted<F: Power, R: CommitRule>(
     config: Config,
-    session: &mut KeySession<F, R>,
+    session: &mut Session<F, KeyStore<F, R>>,
     command: &KeyCommand,
 ) -> Result<KeyReply, KeyServeError>
     requires mounted { is_mounted session.old ≡ true }
@@ -33,7 +36,7 @@ fn serve_mounted<F: Power, R: CommitRule>(
     ensures ended { IfErr result (Ends config (F.state (flash_in session.old))
         (F.state (flash_in session.new))) }
 {
-    let KeySession::Mounted(store) = session else {
+    let Session::Mounted(store) = session else {
         unreachable!();
     };
     let reply = execute(store, command)?;
@@ -41,7 +44,7 @@ fn serve_mounted<F: Power, R: CommitRule>(
     let KeyReply::Fault = reply else {
         return Ok(reply);
     };
-    session.close();
+    session.unmount();
     Ok(break_reply(session.live()))
 }
 
@@ -56,7 +59,7 @@ fn break_reply(live: bool) -> KeyReply
 fn serve_unmounted<F: Power, R: CommitRule>(
     alloc: Global,
     config: Config,
-    session: &mut KeySession<F, R>,
+    session: &mut Session<F, KeyStore<F, R>>,
     command: &KeyCommand,
 ) -> Result<KeyReply, KeyServeError>
     requires unmounted { is_mounted session.old ≡ false }
@@ -69,7 +72,7 @@ fn serve_unmounted<F: Power, R: CommitRule>(
     ensures ended { IfErr result (Ends config (F.state (flash_in session.old))
         (F.state (flash_in session.new))) }
 {
-    mount_again(alloc, config, session)?;
+    session.mount_again(alloc, config)?;
     if session.is_mounted() {
         serve_mounted(config, session, command)
     } else {
@@ -81,7 +84,7 @@ fn serve_unmounted<F: Power, R: CommitRule>(
 fn serve_one<F: Power + Arms, R: CommitRule>(
     alloc: Global,
     config: Config,
-    session: &mut KeySession<F, R>,
+    session: &mut Session<F, KeyStore<F, R>>,
     command: &KeyCommand,
 ) -> Result<KeyReply, KeyServeError>
     requires rule { config.protocol ≡ R.protocol }
@@ -94,7 +97,7 @@ fn serve_one<F: Power + Arms, R: CommitRule>(
 {
     match command {
         KeyCommand::Cut { count, outcome } => {
-            session.arm_cut(*count, *outcome);
+            arm_cut(session, *count, *outcome);
             Ok(KeyReply::Armed)
         }
         _ if session.is_mounted() => serve_mounted(config, session, command),
@@ -106,7 +109,7 @@ fn serve_one<F: Power + Arms, R: CommitRule>(
 fn serve_all<F: Power + Arms, R: CommitRule>(
     alloc: Global,
     config: Config,
-    mut session: KeySession<F, R>,
+    mut session: Session<F, KeyStore<F, R>>,
     list: &[KeyCommand],
     out: &mut Vec<u8>,
 ) -> (F, Result<(), KeyServeError>)
@@ -128,37 +131,13 @@ fn serve_all<F: Power + Arms, R: CommitRule>(
         match serve_one(alloc, config, &mut session, command) {
             Ok(reply) => {
                 if key_reply_text(&reply, out).is_err() {
-                    return (session.into_flash(), Err(KeyServeError::Memory));
+                    return (session.close(), Err(KeyServeError::Memory));
                 }
             }
-            Err(why) => return (session.into_flash(), Err(why)),
+            Err(why) => return (session.close(), Err(why)),
         }
     }
-    (session.into_flash(), Ok(()))
-}
-
-/// The session that serving begins with: the store of a flash without power is opened later.
-fn begin<F: Power, R: CommitRule>(
-    alloc: Global,
-    flash: F,
-    config: Config,
-) -> Result<KeySession<F, R>, (F, KeyServeError)>
-    requires check { checked config ≡ Ok (F.state flash).shape }
-    requires rule { config.protocol ≡ R.protocol }
-    ensures fits { IfOk result (Fits F.state config) }
-    ensures begins { IsKeyImage config (F.state flash) →
-        IfOk result (BeginsKeys F.state config (F.state flash)) }
-    ensures steady { IsSteady (F.state flash) → OnOk result (IsKeyImage config (F.state flash)) }
-    ensures still { IfOk result (λ s.
-        moment_of (F.state (flash_in s)) ≡ moment_of (F.state flash)) }
-    ensures extras { IfOk result (λ s. (F.state (flash_in s)).extras ≡ (F.state flash).extras) }
-    ensures failed { IfErr result (λ e. Ends config (F.state flash) (F.state e.0) e.1) }
-{
-    if flash.live() {
-        mount(alloc, flash, config)
-    } else {
-        Ok(KeySession::Unmounted(flash))
-    }
+    (session.close(), Ok(()))
 }
 
 /// Serves the commands of a key script in order on the store of a flash, and appends the line of each reply. The store

@@ -5,9 +5,8 @@ ghost use Rattle.page_keys.specs.Scripts.{key_of, new_value_of, change_of, chang
 ghost use Rattle.page_keys.specs.declared.changes.Change.{Change};
 
 use crate::changes::{Change, Changes};
-use crate::script_error::LineError;
 use crate::short_bytes::{MAX_SHORT, ShortBytes};
-use host_protocol::{around_equals, first_word, no_word};
+use host_protocol::{LineError, around_equals, first_word, no_word};
 use std::alloc::Global;
 
 /// The one to fifteen bytes that digits tell, two digits for each.

@@ -12,7 +12,7 @@ use tx_types::Memory;
 const FEW: usize = 16;
 
 /// The refusal of the first change whose key stood earlier. Where there is no memory for a set of the keys, the changes
-/// before each one are looked through.
+/// before each one are looked through. So the answer is exact whatever memory there is.
 pub(crate) fn first_repeated(alloc: Global, changes: &[Change]) -> Option<PutError>
     requires { length changes.now < 2 ^ 32 }
     ensures { result ≡ repeated [] changes.now }

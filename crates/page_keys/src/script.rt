@@ -6,13 +6,12 @@ ghost use Rattle.page_keys.specs.declared.command.KeyCommand.{KeyCommand};
 
 use crate::command::KeyCommand;
 use crate::key_line::key_line;
-use crate::script_error::KeyTextError;
-use host_protocol::{MAX_FILE_BYTES, first_line, no_commands};
+use host_protocol::{MAX_FILE_BYTES, TextError, first_line, no_commands};
 use std::alloc::Global;
 use tx_types::Memory;
 
 /// The commands of a key script.
-pub fn parse_keys(alloc: Global, bytes: &[u8]) -> Result<Vec<KeyCommand>, KeyTextError>
+pub fn parse_keys(alloc: Global, bytes: &[u8]) -> Result<Vec<KeyCommand>, TextError>
     requires { length bytes.now ≤ MAX_FILE_BYTES }
 
     // What is read is the script.
@@ -22,9 +21,9 @@ pub fn parse_keys(alloc: Global, bytes: &[u8]) -> Result<Vec<KeyCommand>, KeyTex
 
     // What is in the grammar is read, and the first line that is not is named, unless memory runs out.
     ensures only { (commands : List KeyCommand) → IsScript bytes.now commands
-        → MatchResult result (λ list. list.items ≡ commands) (λ e. e ≡ KeyTextError.Memory) }
+        → MatchResult result (λ list. list.items ≡ commands) (λ e. e ≡ TextError.Memory) }
     ensures first { (n : ℕ) → IsFirstBadScriptLine bytes.now n → MatchResult result
-        (λ list. ⊥) (λ e. (e ≡ KeyTextError.Line n) ⊎ (e ≡ KeyTextError.Memory)) }
+        (λ list. ⊥) (λ e. (e ≡ TextError.Line n) ⊎ (e ≡ TextError.Memory)) }
 {
     let mut commands = no_commands(alloc, bytes)?;
     let mut number = 0;

@@ -1,3 +1,4 @@
+pub mod Statuses
 pub mod Refusals
 pub mod Loading
 pub mod Saying

@@ -2,7 +2,9 @@ ghost use Rattle.std.specs.Prelude.{◌≡◌, ◌++◌, IfOk, codes};
 ghost use Rattle.std.specs.Fmt.{decimal};
 ghost use Rattle.std.specs.String.{string_bytes};
 ghost use Rattle.program_base.specs.Refusals.{image_line, image_refused, image_status, image_words, line};
+ghost use Rattle.program_base.specs.Statuses.{code};
 
+use crate::status::Status;
 use image_file::ImageError;
 use record_list::Breach;
 use std::alloc::{AllocError, Global};
@@ -24,15 +26,15 @@ pub enum ImageRefusal<'a> {
 
 impl ImageRefusal<'_> {
     /// The status that the program returns.
-    pub fn status(&self) -> u8
-        ensures { result ≡ image_status (image_refused self.now) }
+    pub fn status(&self) -> Status
+        ensures { code result ≡ image_status (image_refused self.now) }
     {
         match self {
-            ImageRefusal::BadWords => 1,
-            ImageRefusal::Missing(_) => 2,
-            ImageRefusal::BadImage(_) => 3,
-            ImageRefusal::Unsound(_) => 7,
-            ImageRefusal::TooLong(_) => 9,
+            ImageRefusal::BadWords => Status::BadWords,
+            ImageRefusal::Missing(_) => Status::NoFile,
+            ImageRefusal::BadImage(_) => Status::BadImage,
+            ImageRefusal::Unsound(_) => Status::Unsound,
+            ImageRefusal::TooLong(_) => Status::TooLong,
         }
     }
 

@@ -3,6 +3,7 @@ use Rattle.std.specs.Prelude.{ℕ, ◌<◌, ◌≤◌, ◌==◌, max, Bool, fals
 use Rattle.std.specs.List.{list_any}
 use Rattle.tx_types.specs.declared.record.Link.{Link}
 use Rattle.tx_types.specs.declared.record.Rec.{Rec}
+pub use Rattle.tx_types.specs.Names.{name_of, has_name}
 use Rattle.record_list.specs.declared.found.Found.{Found}
 
 -- the greatest number that `of` gives a record, 0 for no record
@@ -44,15 +45,8 @@ mention list page = greatest (mention_at page) list
 abbrev pub next_older : List Found → ℕ → ℕ → ℕ
 next_older list page below = greatest (version_below page below) list
 
--- a record's own name
-abbrev pub name_of : Rec → Link
-name_of r = record { page = r.page; version = r.version }
-
 abbrev pub is_same : Link → Link → Bool
 is_same a b = (a.page == b.page) && (a.version == b.version)
-
-abbrev pub has_name : Link → Rec → Bool
-has_name name r = (r.page == name.page) && (r.version == name.version)
 
 -- whether some record has the name
 abbrev pub is_present : List Found → Link → Bool

@@ -26,8 +26,7 @@ fn agrees(list: &[Found], found: &Found) -> bool
 {
     list.iter().all(|other| {
         other.slot.0 >= found.slot.0
-            || other.rec.page != found.rec.page
-            || other.rec.version != found.rec.version
+            || !other.rec.has_name(found.rec.name())
             || other.rec == found.rec
     })
 }
@@ -45,7 +44,7 @@ fn differs(list: &[Found], found: &Found) -> bool
     list.iter().all(|other| {
         other.slot.0 >= found.slot.0
             || other.rec.next != found.rec.next
-            || (other.rec.page == found.rec.page && other.rec.version == found.rec.version)
+            || other.rec.has_name(found.rec.name())
     })
 }
 

@@ -8,7 +8,8 @@ use tx_types::{Link, Rec};
 
 /// The slot that law 9 names, where it is broken: a record that a record's link names has the count of
 /// that record, and a record that has a count, and that its links lead back to, is come back to after
-/// as many links as it counts. The time that it takes grows with the cube of the list's length.
+/// as many links as it counts. The time that it takes grows with the cube of the list's length. It takes no memory, as
+/// all of this crate.
 pub fn counts(list: &[Found]) -> Option<Breach>
     requires scanned { IsScanned list.now }
     ensures { IsFirstMiscount list.now result }
@@ -31,11 +32,7 @@ fn keeps_count(list: &[Found], found: &Found) -> bool
     ensures { IsTrue result ↔ KeepsCount list.now found.now }
 {
     let rec = &found.rec;
-    let name = Link {
-        page: rec.page,
-        version: rec.version,
-    };
-    passes_count(list, rec) && (rec.count == 0 || returns_after(list, name, rec.count))
+    passes_count(list, rec) && (rec.count == 0 || returns_after(list, rec.name(), rec.count))
 }
 
 /// Whether each record that this one's link names has its count.

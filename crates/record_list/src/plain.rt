@@ -60,5 +60,5 @@ pub fn next_older(list: &[Found], page: u32, below: u64) -> u64
 pub fn present(list: &[Found], name: Link) -> bool
     ensures { result ≡ is_present list.now name }
 {
-    list.iter().any(|found| found.rec.page == name.page && found.rec.version == name.version)
+    list.iter().any(|found| found.rec.has_name(name))
 }

@@ -10,9 +10,12 @@ ghost use Rattle.record_list.specs.WrittenChanges.{WrittenPartialWriteLaw, Writt
 use crate::{Breach, Found, Verdict, Why};
 use tx_types::Protocol;
 
-/// What a protocol makes of a list of records, which stands in ascending order of distinct slots. No
+/// What a protocol makes of a list of records, and the laws that this keeps: a rule carries its laws with it, so
+/// that code which is generic in the rule may rest on them. A list stands in ascending order of distinct slots. No
 /// version and no link version of the list is 0, and each record's own page is below `logical`, the
-/// number of logical pages. Its link may lead to any page.
+/// number of logical pages. Its link may lead to any page. A report asks for the verdicts of such a list. The functions
+/// are the plain programs of the definitions. A device uses the laws alone: its code asks the configuration for the
+/// protocol.
 pub trait CommitRule {
     ghost protocol: { Protocol };
 

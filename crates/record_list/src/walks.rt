@@ -12,7 +12,7 @@ pub fn link_of(list: &[Found], name: Link) -> Link
     ensures { result ≡ link_of list.now name }
 {
     for found in list {
-        if found.rec.page == name.page && found.rec.version == name.version {
+        if found.rec.has_name(name) {
             return found.rec.next;
         }
     }
@@ -24,7 +24,7 @@ fn back_of(list: &[Found], name: Link) -> u64
     ensures { result ≡ back_of list.now name }
 {
     for found in list {
-        if found.rec.page == name.page && found.rec.version == name.version {
+        if found.rec.has_name(name) {
             return found.rec.back;
         }
     }
@@ -32,7 +32,8 @@ fn back_of(list: &[Found], name: Link) -> u64
 }
 
 /// The greatest version of a record that straddles this name, 0 for none: one of its page with the
-/// version of the name between its back version and its own.
+/// version of the name between its back version and its own. A verdict names this version, so all records of the page
+/// are looked at, and not only those up to the current one.
 pub fn straddling(list: &[Found], name: Link) -> u64
     ensures { result ≡ straddling list.now name }
 {

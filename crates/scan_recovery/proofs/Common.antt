@@ -10,6 +10,10 @@ pub use Rattle.flash_model.specs.Flash.{Contents, slot_at, FlashState}
 pub use Rattle.flash_model.specs.Readings.{reads_blank}
 pub use Rattle.flash_model.specs.declared.flash.Seen.{Seen}
 pub use Rattle.flash_model.specs.declared.flash.Seen.TheVariants.{Blank}
+pub use Rattle.judged_records.proofs.OfLaws.ImageScans.{records_scanned}
+pub use Rattle.judged_records.specs.Images.{written_in, records_in, SlotReads, IsLeastImageBreach}
+pub use Rattle.judged_records.specs.Notes.{complete_slots}
+pub use Rattle.judged_records.specs.Opening.{IsChosenFrom}
 pub use Rattle.list_lemmas.proofs.Membership.{all_from}
 pub use Rattle.list_lemmas.proofs.Pairs.{pairs_head, pairs_tail}
 pub use Rattle.record_list.proofs.OfFacts.Names.{has_name_true, has_own_name, same_name}
@@ -37,7 +41,3 @@ pub use Rattle.tx_types.specs.declared.config.Shape.{Shape}
 pub use Rattle.tx_types.specs.declared.config.Slot.{Slot}
 pub use Rattle.tx_types.specs.declared.record.Link.{Link}
 pub use Rattle.tx_types.specs.declared.record.Rec.{Rec}
-pub use Rattle.version_index.proofs.OfLaws.ImageScans.{records_scanned}
-pub use Rattle.version_index.specs.Images.{written_in, records_in, SlotReads, IsLeastImageBreach}
-pub use Rattle.version_index.specs.Notes.{complete_slots}
-pub use Rattle.version_index.specs.Opening.{IsChosenFrom}

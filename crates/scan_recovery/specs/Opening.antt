@@ -13,10 +13,10 @@ use Rattle.record_list.specs.SoundList.{IsSoundList, IsLeastBreach}
 use Rattle.record_list.specs.Counts.{IsLeastMiscount}
 use Rattle.record_list.specs.Written.{HasRemovable}
 use Rattle.die_alloc.specs.BlocksState.{BlocksState}
-use Rattle.version_index.specs.IndexState.{IndexState, IsNotedFrom, with_spare}
+use Rattle.judged_records.specs.IndexState.{IndexState, IsNotedFrom, with_spare}
 use Rattle.flash_model.specs.Readings.{seen_in}
 use Rattle.die_alloc.specs.Opening.{opening_table}
-use Rattle.version_index.specs.Opening.{IsHighest, IsChosenFrom, IsChosenSpare, opening_noted}
+use Rattle.judged_records.specs.Opening.{IsHighest, IsChosenFrom, IsChosenSpare, opening_noted}
 
 -- the highest block of which the fact holds, nothing where there is none
 abbrev pub FindsHighest : (ℕ → Type 0) → ℕ → Option Block → Type 0

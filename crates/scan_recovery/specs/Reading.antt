@@ -1,19 +1,14 @@
 -- What a reading of several slots keeps of a flash, and how many reads it counts.
-use Rattle.std.specs.Prelude.{◌≡◌, ℕ, zero, suc, ◌+◌, ◌≤◌, Bool, false}
-use Rattle.flash_model.specs.Flash.{FlashState, counted_by}
+use Rattle.std.specs.Prelude.{◌≡◌, ℕ, ◌+◌, ◌≤◌, Bool, false}
+use Rattle.flash_model.specs.Flash.{FlashState, counted_times}
 use Rattle.flash_model.specs.Calls.{Carries}
 use Rattle.flash_model.specs.Operations.{moment_of}
-
--- a count of reads goes up by this many
-abbrev pub read_more : ℕ → ℕ → ℕ
-read_more zero count = count
-read_more (suc more) count = counted_by (suc more) count
 
 -- this many slots were read, none of them broken, and nothing that the flash holds changed
 pub record ReadsAll (old new : FlashState) (count : ℕ) : Type 0 where
   pub carries : Carries old new false
   pub moment : moment_of new ≡ moment_of old
-  pub reads : new.reads ≡ read_more count old.reads
+  pub reads : new.reads ≡ counted_times count old.reads
 
 -- at most this many slots were read, and nothing that the flash holds changed
 pub record ReadsSome (old new : FlashState) (broken : Bool) (most : ℕ) : Type 0 where

@@ -5,7 +5,7 @@ use Rattle.tx_types.specs.Config.{slots_of}
 use Rattle.flash_model.specs.Flash.{FlashState}
 use Rattle.record_list.specs.declared.found.Found.{Found}
 use Rattle.record_list.specs.declared.found.Breach.{Breach}
-use Rattle.version_index.specs.Images.{records_in}
+use Rattle.judged_records.specs.Images.{records_in}
 use Rattle.scan_recovery.specs.Reading.{ReadsAll, ReadsSome}
 use Rattle.scan_recovery.specs.Twins.{compared, compared_upto}
 use Rattle.scan_recovery.specs.declared.error.RecoverError.{RecoverError}

@@ -8,9 +8,9 @@ use Rattle.flash_model.specs.Flash.{Contents, FlashState}
 use Rattle.flash_model.specs.Calls.{seen_of}
 use Rattle.page_record.specs.Rules.{record_of}
 use Rattle.record_list.specs.declared.found.Found.{Found}
-use Rattle.version_index.specs.declared.note.Note.{Note}
-use Rattle.version_index.specs.Images.{HasPages, SlotReads, records_in}
-use Rattle.version_index.specs.Notes.{note_of}
+use Rattle.judged_records.specs.declared.note.Note.{Note}
+use Rattle.judged_records.specs.Images.{HasPages, SlotReads, records_in}
+use Rattle.judged_records.specs.Notes.{note_of}
 use Rattle.scan_recovery.specs.Reading.{ReadsAll}
 
 -- the record of a spare area whose pages exist; nothing where there is none

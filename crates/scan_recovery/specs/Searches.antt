@@ -1,5 +1,5 @@
 -- What searches among the records of a scan find.
-use Rattle.std.specs.Prelude.{◌≡◌, ℕ, suc, ◌<◌, ◌≤◌, ◌-◌, Bool, true, false, ◌&&◌, not, nat_lt, if◌then◌else◌, Option, None, Some, List, length, slice_index_or}
+use Rattle.std.specs.Prelude.{◌≡◌, ℕ, suc, ◌<◌, ◌≤◌, ◌-◌, Bool, true, false, ◌&&◌, not, Option, None, Some, List, length, slice_index_or}
 use Rattle.std.specs.Prelude.{slice_set, All, Any, Contains}
 use Rattle.tx_types.specs.declared.config.Protocol.TheVariants.{Scc}
 use Rattle.tx_types.specs.declared.config.Slot.{Slot}
@@ -19,11 +19,6 @@ abbrev pub FindsLowest : (Found → Type 0) → List Found → Option Slot → T
 FindsLowest P list None = All P list
 FindsLowest P list (Some slot) =
     Any (λ f. (f.slot.0 ≡ slot.0) × (P f → ⊥)) list × All (λ f. f.slot.0 < slot.0 → P f) list
-
--- the lower of two slots, of which the first may be none
-abbrev pub lower : Option Slot → Slot → Option Slot
-lower None slot = Some slot
-lower (Some low) slot = if nat_lt low.0 slot.0 then Some low else Some slot
 
 -- two records have one link and two names
 abbrev pub share_link : Rec → Rec → Bool

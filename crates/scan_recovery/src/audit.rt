@@ -24,7 +24,9 @@ struct Near {
     responsible: usize,
 }
 
-/// The first of laws 3 to 7 that is broken, and the slot that it names. The list keeps laws 1 and 2.
+/// The first of laws 3 to 7 that is broken, and the slot that it names. The list keeps laws 1 and 2. Laws 4 to 7 are
+/// tried of each record in one pass in the order of names, and of a current record laws 4 and 5 alone. Only where one
+/// is broken the list is gone through law by law in the order of slots, to find the law and the slot that are named.
 pub fn first_breach(
     alloc: Global,
     standing: &CurrentVersions,

@@ -1,7 +1,7 @@
 //! Which records are responsible for loose ones.
 ghost use Rattle.std.specs.Prelude.{◌≡◌, ◌<◌, true, IfOk, length, slice_set};
 ghost use Rattle.record_list.specs.Current.{is_held};
-ghost use Rattle.record_list.specs.Records.{name_of, record_at};
+ghost use Rattle.record_list.specs.Records.{record_at};
 ghost use Rattle.scan_recovery.specs.Removable.{AreCopies, AreHeld, answerer_by};
 
 use sorted_records::CurrentVersions;
@@ -55,7 +55,7 @@ pub fn is_held(standing: &CurrentVersions, held: &[bool], at: usize) -> bool
 {
     let chart = standing.sorted_records();
     let rec = chart.records()[at].rec;
-    match chart.find(name_of(rec)) {
+    match chart.find(rec.name()) {
         Some(place) => held[place as usize],
         None => false,
     }
@@ -67,14 +67,4 @@ pub fn mark(marks: &mut Vec<bool>, number: u32)
     ensures { marks.new.items ≡ slice_set marks.old.items number true }
 {
     marks[number as usize] = true;
-}
-
-/// A record's own name.
-pub fn name_of(rec: Rec) -> Link
-    ensures { result ≡ name_of rec }
-{
-    Link {
-        page: rec.page,
-        version: rec.version,
-    }
 }

@@ -6,8 +6,8 @@ ghost use Rattle.record_list.specs.SoundList.{PagesExist, CopiesAgree, IsSoundLi
 ghost use Rattle.record_list.specs.Written.{HasRemovable};
 ghost use Rattle.record_list.specs.declared.found.Found.{Found};
 ghost use Rattle.sorted_records.specs.SortedRecords.{Sorts, list_of};
-ghost use Rattle.version_index.specs.Notes.{complete_slots};
-ghost use Rattle.version_index.specs.Opening.{IsChosenFrom};
+ghost use Rattle.judged_records.specs.Notes.{complete_slots};
+ghost use Rattle.judged_records.specs.Opening.{IsChosenFrom};
 ghost use Rattle.version_index.specs.Scanned.{AreScanned};
 ghost use Rattle.die_alloc.specs.BlocksState.{IsBlocksState};
 ghost use Rattle.die_alloc.specs.Opening.{used_in, opening_table, with_slots};
@@ -17,7 +17,7 @@ ghost use Rattle.scan_recovery.specs.Searches.{KnowsOrbits};
 
 use crate::RecoverError;
 use crate::audit::first_breach;
-use crate::spare::{chosen_spare, is_blank, slots_in};
+use crate::spare::{chosen_spare, slots_in};
 use die_alloc::Blocks;
 use flash_model::Seen;
 use record_list::{Breach, CommitRule, Found};
@@ -272,7 +272,7 @@ fn count_used(slots: &[Seen]) -> u32
     ensures within { result ≤ length slots.now }
 {
     let mut used = slots.len();
-    while used > 0 && is_blank(slots[used - 1]) {
+    while used > 0 && slots[used - 1].is_blank() {
         used -= 1;
     }
     used as u32

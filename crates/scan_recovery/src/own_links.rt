@@ -7,14 +7,15 @@ ghost use Rattle.sorted_records.specs.NameGraph.{name_graph};
 ghost use Rattle.scan_recovery.specs.Searches.{HaveOwnLinks, HasAbsent, AreLinkedOnce, AreAbsentOnce, IsAsBefore, NotesLink, is_above};
 
 use crate::held::mark;
-use crate::removable::has_name_of;
 use crate::shared_links::lowest_sharer;
 use record_list::Found;
 use sorted_records::{SortedRecords, sort_by_link};
 use std::alloc::{AllocError, Global};
 use tx_types::Link;
 
-/// Whether any two records with one link have one name.
+/// Whether any two records with one link have one name. Each place to which a record leads is marked. If it is marked
+/// already, the record before is looked at, since copies stand side by side. Links that lead to no record are put in
+/// order only if they do not rise in the order of names.
 pub fn have_own_links(alloc: Global, chart: &SortedRecords) -> Result<bool, AllocError>
     ensures { IfOk result (λ own. own ≡ true → HaveOwnLinks chart.now) }
 {
@@ -78,7 +79,7 @@ fn is_as_before(records: &[Found], targets: &[Option<u32>], place: u32, at: usiz
     requires targets { length targets.now ≡ length records.now }
     ensures { result ≡ true → IsAsBefore records.now targets.now place at }
 {
-    if at == 0 || !has_name_of(&records[at - 1].rec, &records[at].rec) {
+    if at == 0 || !records[at - 1].rec.has_name(records[at].rec.name()) {
         return false;
     }
     match targets[at - 1] {

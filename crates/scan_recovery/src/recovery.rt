@@ -7,7 +7,7 @@ ghost use Rattle.flash_model.specs.Operations.{moment_of};
 ghost use Rattle.record_list.specs.SoundList.{Copies};
 ghost use Rattle.record_list.specs.Written.{KeepsWritten};
 ghost use Rattle.sorted_records.specs.SortedRecords.{Sorts, list_of};
-ghost use Rattle.version_index.specs.Images.{IsSoundImage, written_in, IsLeastImageBreach};
+ghost use Rattle.judged_records.specs.Images.{IsSoundImage, written_in, IsLeastImageBreach};
 ghost use Rattle.scan_recovery.specs.Opening.{IsOpened};
 ghost use Rattle.scan_recovery.specs.Recovered.{IfUnsound, is_read_failure, ReadsFor};
 ghost use Rattle.scan_recovery.specs.Scans.{IsScanOf, WasScanned};

@@ -1,12 +1,12 @@
-ghost use Rattle.std.specs.Prelude.{◌≡◌, ◌/◌, ◌<◌, false, All, IfOk, length, slice_index_or};
+ghost use Rattle.std.specs.Prelude.{◌≡◌, ◌<◌, false, All, IfOk, length, slice_index_or};
 ghost use Rattle.std.specs.List.{list_any};
 ghost use Rattle.tx_types.specs.Config.{IsShape, slots_of, blocks_of};
-ghost use Rattle.record_list.specs.Records.{name_of, has_name, record_at, nothing};
+ghost use Rattle.record_list.specs.Records.{record_at, nothing};
 ghost use Rattle.record_list.specs.Written.{IsRemovable, is_outside};
 ghost use Rattle.scan_recovery.specs.Opening.{FindsHighest};
 ghost use Rattle.scan_recovery.specs.Removable.{AreCopies, AreHeld, AreFixed, is_counted, stands_outside, is_fixed};
 
-use crate::held::{held_places, is_held, mark, name_of};
+use crate::held::{held_places, is_held, mark};
 use record_list::Found;
 use sorted_records::CurrentVersions;
 use std::alloc::{AllocError, Global};
@@ -44,7 +44,7 @@ fn fixed_blocks(
     let mut fixed = vec![in alloc; false; shape.blocks() as usize]?;
     let records = standing.sorted_records().records();
     for at in 0..records.len() {
-        let block = block_of(shape, records[at].slot);
+        let block = shape.block_of(records[at].slot);
         if is_fixed(standing, &held, shape, at, block) {
             mark(&mut fixed, block.0);
         }
@@ -88,7 +88,7 @@ fn stands_outside(standing: &CurrentVersions, shape: Shape, block: Block, rec: R
     ensures { result ≡ stands_outside standing.now shape block.0 rec }
 {
     any_outside(
-        standing.sorted_records().with_name(name_of(rec)),
+        standing.sorted_records().with_name(rec.name()),
         shape,
         block,
     )
@@ -109,15 +109,7 @@ fn is_outside(shape: Shape, block: Block, slot: Slot) -> bool
     requires { 0 < shape.pages_per_block }
     ensures { result ≡ is_outside shape block.0 slot.0 }
 {
-    block_of(shape, slot) != block
-}
-
-/// The block of a slot.
-fn block_of(shape: Shape, slot: Slot) -> Block
-    requires { 0 < shape.pages_per_block }
-    ensures { result.0 ≡ slot.0 / shape.pages_per_block }
-{
-    Block(slot.0 / shape.pages_per_block)
+    shape.block_of(slot) != block
 }
 
 /// The highest block that is not marked, if there is one.
@@ -135,11 +127,4 @@ fn highest_unmarked(marks: &[bool], shape: Shape) -> Option<Block>
         }
     }
     None
-}
-
-/// Whether a record has the name of another one.
-pub fn has_name_of(rec: &Rec, other: &Rec) -> bool
-    ensures { result ≡ has_name (name_of other.now) rec.now }
-{
-    rec.page == other.page && rec.version == other.version
 }

@@ -3,19 +3,19 @@ ghost use Rattle.std.specs.List.{cons_option};
 ghost use Rattle.std.specs.Option.{unwrap_or};
 ghost use Rattle.tx_types.specs.Config.{checked, slots_of};
 ghost use Rattle.flash_model.specs.Flash.{slot_at};
-ghost use Rattle.version_index.specs.Images.{IsFirstUnread};
-ghost use Rattle.version_index.specs.Notes.{seen_as, found_at};
+ghost use Rattle.judged_records.specs.Images.{IsFirstUnread};
+ghost use Rattle.judged_records.specs.Notes.{seen_as, found_at};
 ghost use Rattle.scan_recovery.specs.Reading.{ReadsAll, ReadsSome};
 ghost use Rattle.scan_recovery.specs.Recovered.{IfUnsound, ReadsTo};
 ghost use Rattle.scan_recovery.specs.Scans.{IsKeptRecord, IsNote, IsScanOf};
 
 use crate::RecoverError;
 use flash_model::{Broken, Flash, Seen};
+use judged_records::Note;
 use page_record::read_spare;
 use record_list::Found;
 use std::alloc::Global;
 use tx_types::{Config, Rec, Slot};
-use version_index::Note;
 
 /// How the slots of a flash read, and their records, in the order of the slots.
 #[derive(Drop)]

@@ -3,10 +3,9 @@ ghost use Rattle.std.specs.Prelude.{◌≡◌, IfOk, length};
 ghost use Rattle.record_list.specs.Records.{IsScanned};
 ghost use Rattle.record_list.specs.SoundList.{LinksDiffer};
 ghost use Rattle.sorted_records.specs.SortedRecords.{Sorts};
-ghost use Rattle.scan_recovery.specs.Searches.{FindsLowest, IsLowestSharer, lower, share_link};
+ghost use Rattle.scan_recovery.specs.Searches.{FindsLowest, IsLowestSharer, share_link};
 
 use crate::own_links::have_own_links;
-use crate::removable::has_name_of;
 use record_list::Found;
 use sorted_records::{SortedRecords, sort_by_link};
 use std::alloc::{AllocError, Global};
@@ -39,7 +38,7 @@ pub fn lowest_sharer(by_link: &[Found]) -> Option<Slot>
     for at in 1..by_link.len() {
         let found = by_link[at];
         if share_link(&by_link[at - 1].rec, &found.rec) {
-            lowest = lower(lowest, found.slot);
+            lowest = Slot::lower(lowest, Some(found.slot));
         }
     }
     lowest
@@ -51,15 +50,5 @@ fn share_link(rec: &Rec, other: &Rec) -> bool
 {
     rec.next.page == other.next.page
         && rec.next.version == other.next.version
-        && !has_name_of(rec, other)
-}
-
-/// The lower of two slots, of which the first may be none.
-fn lower(lowest: Option<Slot>, slot: Slot) -> Option<Slot>
-    ensures { result ≡ lower lowest slot }
-{
-    match lowest {
-        Some(low) if low.0 < slot.0 => Some(low),
-        _ => Some(slot),
-    }
+        && !rec.has_name(other.name())
 }

@@ -5,8 +5,8 @@ ghost use Rattle.flash_model.specs.Readings.{reads_blank, seen_in_block};
 ghost use Rattle.record_list.specs.Records.{IsScanned};
 ghost use Rattle.record_list.specs.SoundList.{CopiesAgree};
 ghost use Rattle.sorted_records.specs.SortedRecords.{Sorts};
-ghost use Rattle.version_index.specs.Notes.{complete_slots};
-ghost use Rattle.version_index.specs.Opening.{IsBlankBlock};
+ghost use Rattle.judged_records.specs.Notes.{complete_slots};
+ghost use Rattle.judged_records.specs.Opening.{IsBlankBlock};
 ghost use Rattle.scan_recovery.specs.Opening.{FindsHighest, FindsSpare};
 
 use crate::removable::highest_removable;
@@ -72,12 +72,5 @@ pub fn slots_in(seen: &[Seen], shape: Shape, block: Block) -> &[Seen]
 fn are_blank(slots: &[Seen]) -> bool
     ensures { result ≡ list_all reads_blank slots.now }
 {
-    slots.iter().all(|how| is_blank(*how))
-}
-
-/// Whether a slot that reads so is blank.
-pub fn is_blank(how: Seen) -> bool
-    ensures { result ≡ reads_blank how }
-{
-    how == Seen::Blank
+    slots.iter().all(|how| how.is_blank())
 }

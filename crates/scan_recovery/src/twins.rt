@@ -8,11 +8,10 @@ ghost use Rattle.scan_recovery.specs.Reading.{ReadsAll, ReadsSome};
 ghost use Rattle.scan_recovery.specs.Searches.{NextDiffers};
 ghost use Rattle.scan_recovery.specs.Twins.{lowest_of, is_compared, compared, AgreesWithLowest, compared_to};
 
-use crate::removable::has_name_of;
 use flash_model::{Broken, Flash};
 use record_list::Found;
 use sorted_records::SortedRecords;
-use tx_types::{Link, Rec, Slot};
+use tx_types::{Rec, Slot};
 
 /// The index of the first record that breaks law 2: it differs from the lowest record of its name,
 /// or the bytes of the two slots differ. Only where another slot is the lowest and the records are
@@ -53,7 +52,7 @@ fn names_differ(records: &[Found]) -> bool
     ensures { IsTrue result ↔ ((k : ℕ) → suc k < length records.now → NextDiffers records.now k) }
 {
     for at in 1..records.len() {
-        if has_name_of(&records[at - 1].rec, &records[at].rec) {
+        if records[at - 1].rec.has_name(records[at].rec.name()) {
             return false;
         }
     }
@@ -96,10 +95,7 @@ fn agrees<F: Flash>(
 fn lowest_of(chart: &SortedRecords, rec: Rec) -> Option<Found>
     ensures { result ≡ lowest_of chart.now rec }
 {
-    let place = chart.find(Link {
-        page: rec.page,
-        version: rec.version,
-    })?;
+    let place = chart.find(rec.name())?;
     Some(chart.records()[place as usize])
 }
 

@@ -1,6 +1,6 @@
 -- What the tables are given, what follows from it, and how it changes.
 use Rattle.std.specs.Prelude.{◌≡◌, ℕ, ◌*◌, ◌<◌, ◌≤◌, ◌==◌, Bool, true, false, nat_lt, ◌&&◌, ◌||◌, Option, Some, None, IsSomeAnd, IfSome, List, [], ◌∷◌, length}
-use Rattle.std.specs.Prelude.{map, find, filter, replicate, min, count_by, slice_index, slice_index_or, slice_set, if◌then◌else◌}
+use Rattle.std.specs.Prelude.{map, find, filter, replicate, count_by, slice_index, slice_index_or, slice_set, if◌then◌else◌}
 use Rattle.std.specs.List.{AllPairs, Contains, list_any, range_with_len, remove, slice_get}
 use Rattle.std.specs.Option.{option_map_or, option_or}
 use Rattle.tx_types.specs.declared.record.Rec.{Rec}
@@ -8,6 +8,7 @@ use Rattle.tx_types.specs.declared.config.Shape.{Shape}
 use Rattle.tx_types.specs.declared.config.BlockState.{BlockState}
 use Rattle.tx_types.specs.declared.config.BlockState.TheVariants as state
 use Rattle.tx_types.specs.Config.{IsShape, blocks_of, slots_of}
+pub use Rattle.tx_types.specs.Slots.{lower}
 use Rattle.record_list.specs.Written.{is_outside, is_outside_spare, is_slot, is_garbage}
 use Rattle.dense_tables.specs.LinkedLists.{index_in}
 use Rattle.slot_tables.specs.declared.slots.SlotUse.{SlotUse}
@@ -179,12 +180,6 @@ links_below below (Some r) = nat_lt r.next.version below
 abbrev pub first_below : TablesState → ℕ → ℕ → Option ℕ
 first_below k below number =
     if links_below below (record_at k.records number) then slice_get (copies_of k.slots number) 0 else None
-
--- the lower one of two slots, if there are any
-abbrev pub lower : Option ℕ → Option ℕ → Option ℕ
-lower None other = other
-lower (Some at) None = Some at
-lower (Some at) (Some other) = Some (min at other)
 
 -- the record of this number waits for a page at a version below this one
 abbrev pub WaitsBelow : TablesState → ℕ → ℕ → ℕ → Type 0

@@ -17,7 +17,7 @@ use crate::responsibilities::Responsibilities;
 use crate::slots::{Slots, number_in};
 use crate::wait_list::WaitList;
 use std::alloc::{AllocError, Global};
-use tx_types::{Block, Shape};
+use tx_types::{Block, Shape, Slot};
 
 /// What the tables are given.
 #[derive(Drop)]
@@ -105,13 +105,13 @@ impl BaseTables {
     }
 
     /// The lowest slot of the record of a number where its link's version is below this one.
-    pub fn first_below(&self, number: u32, below: u64) -> Option<u32>
+    pub fn first_below(&self, number: u32, below: u64) -> Option<Slot>
         requires sized { IsSized self.now }
         requires number { number < length self.now.slots }
-        ensures { result ≡ first_below (tables_state self.now) below number }
+        ensures { option_map (λ at. at.0) result ≡ first_below (tables_state self.now) below number }
     {
         if self.links_below(number, below) {
-            self.slots.first(number)
+            self.slots.first(number).map(Slot)
         } else {
             None
         }

@@ -11,7 +11,8 @@ use std::alloc::{AllocError, Global};
 use std::marker::Model;
 use tx_types::Rec;
 
-/// The record of each number, and of each page the numbers of its records, newest first.
+/// The record of each number, and of each page the numbers of its records, newest first. Only numbers that lost their
+/// record are listed, so that new tables need no list of all of them.
 #[derive(Drop)]
 pub struct Records {
     records: LazyTable<Option<Rec>>,

@@ -23,6 +23,18 @@ pub enum SlotUse {
     Holds(u32),
 }
 
+impl SlotUse {
+    /// Whether the slot is blank.
+    pub fn is_blank(self) -> bool
+        ensures { result ≡ is_blank self }
+    {
+        match self {
+            SlotUse::Blank => true,
+            SlotUse::Damaged | SlotUse::Holds(_) => false,
+        }
+    }
+}
+
 /// What each slot holds, and of each record the slots that hold it, in their order.
 #[derive(Drop)]
 pub struct Slots {
@@ -212,15 +224,5 @@ pub fn number_in(held: SlotUse) -> Option<u32>
     match held {
         SlotUse::Blank | SlotUse::Damaged => None,
         SlotUse::Holds(number) => Some(number),
-    }
-}
-
-/// Whether a slot is blank.
-pub fn is_blank(held: SlotUse) -> bool
-    ensures { result ≡ is_blank held }
-{
-    match held {
-        SlotUse::Blank => true,
-        SlotUse::Damaged | SlotUse::Holds(_) => false,
     }
 }

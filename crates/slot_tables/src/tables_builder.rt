@@ -13,7 +13,7 @@ use crate::block_counts::BlockCounts;
 use crate::current::Current;
 use crate::records::Records;
 use crate::responsibilities::Responsibilities;
-use crate::slots::{SlotUse, Slots, is_blank};
+use crate::slots::{SlotUse, Slots};
 use crate::wait_list::WaitList;
 use std::alloc::{AllocError, Global};
 use std::marker::Model;
@@ -160,7 +160,7 @@ impl TablesBuilder {
         requires number { NumbersBelow (slots_of self.old.shape) to }
         ensures { self.new ≡ record self.old { slots = slice_set self.old.slots at.0 to } }
     {
-        if is_blank(to) && is_blank(self.base.slots.get(at.0)) {
+        if to.is_blank() && self.base.slots.get(at.0).is_blank() {
             return;
         }
         self.change_slot(at, to);
@@ -174,7 +174,7 @@ impl TablesBuilder {
         ensures { self.new ≡ record self.old { slots = slice_set self.old.slots at.0 to } }
     {
         self.base.slots.set(at.0, to);
-        self.blanks.set(at.0, is_blank(to));
+        self.blanks.set(at.0, to.is_blank());
     }
 
     /// Sets which record of a page is current.

@@ -9,7 +9,6 @@ ghost use Rattle.sorted_records.specs.NameGraph.{name_graph, NamesakesAgree};
 ghost use Rattle.sorted_records.specs.Orbits.{AreOrbits};
 ghost use Rattle.sorted_records.specs.SortedRecords.{Sorts};
 
-use crate::in_order::name_of;
 use crate::{Orbit, Orbits, SortedRecords};
 use record_list::{Breach, Found, breach_at};
 use std::alloc::{AllocError, Global};
@@ -17,7 +16,7 @@ use tx_types::{Link, Rec};
 
 /// The slot that law 9 names, where it is broken, of a list that keeps law 2: by its records in order of
 /// their names and the orbits of their links. The list itself is gone through only where a record breaks
-/// the law.
+/// the law. Each link is followed once, and law 7 is tried by the same orbits.
 pub fn counts(chart: &SortedRecords, orbits: &Orbits, list: &[Found]) -> Option<Breach>
     requires scanned { IsScanned list.now }
     requires sorts { Sorts list.now chart.now }
@@ -95,7 +94,7 @@ fn keeps_count_of(chart: &SortedRecords, orbits: &Orbits, found: &Found) -> bool
     requires orbits { AreOrbits (name_graph chart.now) orbits.now }
     ensures { IsTrue result ↔ KeepsCount chart.now found.now }
 {
-    let own = chart.find(name_of(&found.rec));
+    let own = chart.find(found.rec.name());
     keeps_count(chart, orbits, found, chart.find(found.rec.next), own)
 }
 
@@ -117,7 +116,7 @@ fn keeps_count(
 {
     let rec = &found.rec;
     passes_count(chart, rec, target)
-        && (rec.count == 0 || returns_after(chart, orbits, name_of(rec), own, rec.count))
+        && (rec.count == 0 || returns_after(chart, orbits, rec.name(), own, rec.count))
 }
 
 /// Whether each record that this one's link names, the first at this place, has its count.

@@ -9,7 +9,7 @@ ghost use Rattle.sorted_records.specs.Starts.{AreStarts};
 use crate::search::{is_below_before, names_below, names_below_near, pages_below, pages_up_to};
 use record_list::Found;
 use std::alloc::AllocError;
-use tx_types::{Link, Rec};
+use tx_types::Link;
 
 /// Puts records in order of their names. Those of one name stay in the order that they have.
 pub fn sort(records: &mut Vec<Found>) -> Result<(), AllocError>
@@ -70,7 +70,7 @@ fn find_by_search(records: &[Found], starts: &[u32], name: Link, near: &mut usiz
 {
     let at = names_below_near(records, starts, name, *near);
     *near = at;
-    if at < records.len() && has_name(&records[at].rec, name) {
+    if at < records.len() && records[at].rec.has_name(name) {
         Some(at as u32)
     } else {
         None
@@ -87,24 +87,13 @@ pub fn first_namesake(records: &[Found], starts: &[u32], at: u32) -> u32
     ensures { position (λ f. has_name (name_of (record_at records.now at)) f.rec) records.now
         ≡ Some result }
 {
-    let name = name_of(&records[at as usize].rec);
+    let name = records[at as usize].rec.name();
     if is_below_before(records, name, at as usize) {
         return at;
     }
     match find(records, starts, name) {
         Some(place) => place,
         None => unreachable!(),
-    }
-}
-
-/// A record's own name.
-#[inline(always)]
-pub fn name_of(rec: &Rec) -> Link
-    ensures { result ≡ name_of rec.now }
-{
-    Link {
-        page: rec.page,
-        version: rec.version,
     }
 }
 
@@ -168,14 +157,6 @@ pub fn next_older(records: &[Found], starts: &[u32], page: u32, below: u64) -> u
         version: below,
     };
     last_version(records, names_below(records, starts, name), page)
-}
-
-/// Whether a record has this name.
-#[inline(always)]
-pub fn has_name(rec: &Rec, name: Link) -> bool
-    ensures { result ≡ has_name name rec.now }
-{
-    rec.page == name.page && rec.version == name.version
 }
 
 /// How many of the records have names up to this one: they are the first.

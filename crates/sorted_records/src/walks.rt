@@ -9,7 +9,7 @@ ghost use Rattle.sorted_records.specs.SortedRecords.{IsInOrder, HaveOneVersion, 
 ghost use Rattle.sorted_records.specs.Starts.{AreStarts};
 
 use crate::group::straddling;
-use crate::in_order::{find_near, first_namesake, has_name, newest};
+use crate::in_order::{find_near, first_namesake, newest};
 use crate::{Orbit, Orbits};
 use record_list::{Found, Why};
 use std::alloc::{AllocError, Global};
@@ -69,7 +69,7 @@ fn target(records: &[Found], starts: &[u32], at: u32, near: &mut usize) -> Optio
     ensures { result ≡ position (λ g. has_name (record_at records.now at).next g.rec) records.now }
 {
     let rec = &records[at as usize].rec;
-    if has_name(rec, rec.next) {
+    if rec.has_name(rec.next) {
         Some(first_namesake(records, starts, at))
     } else {
         find_near(records, starts, rec.next, near)

@@ -15,7 +15,9 @@ pub fn straddles(rec: Rec, version: u64) -> bool
     rec.back < version && version < rec.version
 }
 
-/// The greatest version, up to `top`, of a record that straddles this name, 0 for none.
+/// The greatest version, up to `top`, of a record that straddles this name, 0 for none. Up to the current version it is
+/// the version of the responsible record. Just below the newest version of a page loose records may straddle of which
+/// none is responsible.
 #[tactic(auto, using(record_list::proofs::OfFacts::Greatest::greatest_step))]
 pub(crate) fn straddling_up_to(list: &[Found], name: Link, top: u64) -> u64
     ensures { result ≡ greatest (straddling_upto top name) list.now }
@@ -51,7 +53,8 @@ pub fn answers_for(list: &[Found], logical: u32, first: Rec, second: Rec) -> boo
 }
 
 /// The index of the record that is responsible for the one at this index, in its lowest slot. There
-/// is none for a record that is not loose.
+/// is none for a record that is not loose. Where law 2 is broken, another record of its name that does not straddle the
+/// link is passed by. The list may be in any order: the index is the first one.
 #[tactic(auto, using(crate::proofs::Homes::unanswered))]
 pub fn responsible(list: &[Found], logical: u32, at: usize) -> Option<usize>
     requires { at < length list.now }
@@ -71,7 +74,8 @@ pub fn responsible(list: &[Found], logical: u32, at: usize) -> Option<usize>
 
 /// The index of the record that answers for a link, by the current version of its page: of those of the
 /// page that straddle the link, with versions up to the current one, that of the greatest version, in its
-/// lowest slot. The list may be in any order.
+/// lowest slot. The list may be in any order. An opening asks it among the records of one page, where these are few.
+/// Where two records of one version stand in one slot, it returns one of them.
 pub fn responsible_of(list: &[Found], link: Link, current: u64) -> Option<usize>
     ensures { FindsAnswer list.now link current (length list.now) result }
 {

@@ -29,7 +29,6 @@ unfoldable pub use Rattle.collector.specs.Going.{blocks_to_go}
 pub use Rattle.collector.specs.Known.{page_known, known_image}
 unfoldable pub use Rattle.collector.specs.Known.{array_known}
 pub use Rattle.collector.specs.Laws.{NotingKeeps, ArrayStays, ImageIsSound}
-pub use Rattle.collector.specs.Looking.{reads_after}
 pub use Rattle.collector.specs.Matches.{Matches, CanSpare, CanTake, CanTakeOwn}
 pub use Rattle.collector.specs.Preserves.{IsThere, Preserves, KeepsArray}
 pub use Rattle.collector.specs.Settling.{settlement, Settlement, slots_read}
@@ -40,14 +39,29 @@ unfoldable pub use Rattle.die_alloc.specs.NextSlot.{next_slot_in}
 pub use Rattle.flash_model.proofs.CallLemmas.{Carries-nothing, Carries-then}
 pub use Rattle.flash_model.proofs.MoveLemmas.{FlashMoves-nothing, FlashMoves-then}
 pub use Rattle.flash_model.specs.Calls.{Carries}
-pub use Rattle.flash_model.specs.Flash.{FlashState, Contents, complete, slot_at, blank, damaged, IsImage}
+pub use Rattle.flash_model.specs.Flash.{FlashState, Contents, complete, slot_at, blank, damaged, IsImage, counted_times}
 pub use Rattle.flash_model.specs.Moves.{Does, FlashMoves}
 pub use Rattle.flash_model.specs.Operations.{Moment, moment_of, die_of, Load, load_left, CanDo, image_left, program, fire, left_each}
 pub use Rattle.flash_model.specs.declared.flash.Broken.{Broken}
 pub use Rattle.flash_model.specs.declared.outcome.Outcome.{Outcome}
+pub use Rattle.judged_records.proofs.OfLaws.ImageScans.{written}
+pub use Rattle.judged_records.proofs.OfNotes.NotedFacts.{noted_present}
+pub use Rattle.judged_records.specs.ImageChanges.{TextsStay}
+pub use Rattle.judged_records.specs.ImageLaws.{ImagePartialLaw, ImageCompletingLaw}
+pub use Rattle.judged_records.specs.Images.{written_in, records_in, IsSoundImage}
+unfoldable pub use Rattle.judged_records.specs.Images.{array_in, current_in}
+pub use Rattle.judged_records.specs.IndexState.{IndexState, pinned_names, mention_of, IsNoted, current_name_of, IsNextRecord, programmed, pinned_at, damaged_at}
+unfoldable pub use Rattle.judged_records.specs.IndexState.{current_of, block_to_go, discarded_of}
+pub use Rattle.judged_records.specs.Notes.{found_in, note_at}
+pub use Rattle.judged_records.specs.declared.note.Note.TheVariants.{Blank}
 pub use Rattle.list_lemmas.proofs.Membership.{all_from, Contains-cases, Contains-nil, Contains-rest}
 pub use Rattle.list_lemmas.proofs.Pairs.{pairs_head, pairs_tail, pairs_cons}
 pub use Rattle.list_lemmas.proofs.Quantifiers.{all_remove}
+pub use Rattle.open_table.specs.OpenTransactionsState.{Naming, no_name, name_at, write_at, OpenTransactionsState, TransactionState, no_transaction, transaction_at, entries_of, namings_of, with_transaction, HasLimitsOf, with_noted_count, with_mark, with_done, HasPlace, bytes_due, name_due, IsDueAt, begun}
+pub use Rattle.open_table.specs.PendingWrites.{transaction_of, write_held, IsWhole}
+unfoldable pub use Rattle.open_table.specs.PendingWrites.{with_owner}
+pub use Rattle.open_table.specs.declared.pending_writes.PendingWrite.{PendingWrite}
+pub use Rattle.open_table.specs.declared.pending_writes.Transaction.{Transaction}
 pub use Rattle.page_record.specs.Spelling.{CanBeSpelled, spelling}
 pub use Rattle.record_list.proofs.OfFacts.Names.{found_named}
 pub use Rattle.record_list.proofs.OfFacts.Wanted.{counted_wanted}
@@ -63,19 +77,14 @@ pub use Rattle.tx_engine.specs.Calls.{IsReady, SettlesDevice, WritesPage, Advanc
 pub use Rattle.tx_engine.specs.Costs.{StepCosts}
 pub use Rattle.tx_engine.specs.DeviceCalls.{ArmsDevice, StepsDevice}
 pub use Rattle.tx_engine.specs.DeviceState.{DeviceState, Stands, IsUnderWay, IsAsMarked, IsNamed, text_in, text_with, IsOpenAs, DoubtsAs, IsOwn, limits_of}
-pub use Rattle.open_table.specs.OpenTransactionsState.{Naming, no_name, name_at, write_at, OpenTransactionsState, TransactionState, no_transaction, transaction_at, entries_of, namings_of, with_transaction, HasLimitsOf, with_noted_count, with_mark, with_done, HasPlace, bytes_due, name_due, IsDueAt, begun}
 pub use Rattle.tx_engine.specs.Exits.{Exits, VersionsRise, settled_writes, ExitsTables, IsNamedAt, is_there, is_plain, done_writes, MentionsAtMost}
 pub use Rattle.tx_engine.specs.Naming.{with_pins, is_spent}
-pub use Rattle.open_table.specs.PendingWrites.{transaction_of, write_held, IsWhole}
-unfoldable pub use Rattle.open_table.specs.PendingWrites.{with_owner}
 pub use Rattle.tx_engine.specs.Settling.{with_next, is_writing, is_at_last, next_writes, must_program, CountsOn, Counts, Advances, AdvanceRises, WriteFails, AddsOnly, settlement_of, with_settlement}
 pub use Rattle.tx_engine.specs.StoreState.{StoreState, IsStoreState, store_in, CanWrite, WritesOwn, WritesStored}
 pub use Rattle.tx_engine.specs.Tables.{device_in, DeviceInvariant, device_of}
 pub use Rattle.tx_engine.specs.Writing.{BringsPage, due_record}
 pub use Rattle.tx_engine.specs.declared.device.Device.TheInside.{Inside}
 pub use Rattle.tx_engine.specs.declared.jobs.Job.{Job}
-pub use Rattle.open_table.specs.declared.pending_writes.PendingWrite.{PendingWrite}
-pub use Rattle.open_table.specs.declared.pending_writes.Transaction.{Transaction}
 pub use Rattle.tx_types.specs.Batch.{PageWrite, no_write, bytes_in, Writes}
 pub use Rattle.tx_types.specs.Config.{shape_of, slots_of, blocks_of}
 pub use Rattle.tx_types.specs.declared.config.Config.{Config}
@@ -84,13 +93,3 @@ pub use Rattle.tx_types.specs.declared.config.Shape.{Shape}
 pub use Rattle.tx_types.specs.declared.config.Slot.{Slot}
 pub use Rattle.tx_types.specs.declared.record.Link.{Link}
 pub use Rattle.tx_types.specs.declared.record.Rec.{Rec}
-pub use Rattle.version_index.proofs.OfLaws.ImageScans.{written}
-pub use Rattle.version_index.proofs.OfTables.NotedFacts.{noted_present}
-pub use Rattle.version_index.specs.ImageChanges.{TextsStay}
-pub use Rattle.version_index.specs.ImageLaws.{ImagePartialLaw, ImageCompletingLaw}
-pub use Rattle.version_index.specs.Images.{written_in, records_in, IsSoundImage}
-unfoldable pub use Rattle.version_index.specs.Images.{array_in, current_in}
-pub use Rattle.version_index.specs.IndexState.{IndexState, pinned_names, mention_of, IsNoted, current_name_of, IsNextRecord, programmed, pinned_at, damaged_at}
-unfoldable pub use Rattle.version_index.specs.IndexState.{current_of, block_to_go, discarded_of}
-pub use Rattle.version_index.specs.Notes.{found_in, note_at}
-pub use Rattle.version_index.specs.declared.note.Note.TheVariants.{Blank}

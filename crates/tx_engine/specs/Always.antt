@@ -4,9 +4,9 @@ use Rattle.tx_types.specs.declared.config.Protocol.{Protocol}
 use Rattle.tx_types.specs.Config.{checked, shape_of}
 use Rattle.tx_types.specs.Limits.{max_pending}
 use Rattle.flash_model.specs.Flash.{FlashState}
-use Rattle.version_index.specs.Images.{IsSoundImage, array_in, records_in, current_in}
-use Rattle.version_index.specs.Notes.{found_in}
-use Rattle.version_index.specs.IndexState.{current_of, mention_of}
+use Rattle.judged_records.specs.Images.{IsSoundImage, array_in, records_in, current_in}
+use Rattle.judged_records.specs.Notes.{found_in}
+use Rattle.judged_records.specs.IndexState.{current_of, mention_of}
 use Rattle.collector.specs.Known.{known_image}
 use Rattle.collector.specs.declared.unsure.Unsure.TheVariants as unsure
 use Rattle.array_machine.specs.ArrayState.{ArrayState, idle, Represents}

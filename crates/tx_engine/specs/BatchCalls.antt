@@ -14,10 +14,10 @@ use Rattle.flash_model.specs.Flash.{FlashState}
 use Rattle.flash_model.specs.Moves.{Does}
 use Rattle.flash_model.specs.Operations.{CanDo, Load, Torn, die_of, fire, moment_of}
 use Rattle.page_record.specs.Spelling.{CanBeSpelled, spelling}
-use Rattle.version_index.specs.declared.note.Note.TheVariants as note
-use Rattle.version_index.specs.Images.{IsSoundImage, array_in}
-use Rattle.version_index.specs.Notes.{note_at}
-use Rattle.version_index.specs.IndexState.{IndexState, IsNextRecord, block_to_go, programmed}
+use Rattle.judged_records.specs.declared.note.Note.TheVariants as note
+use Rattle.judged_records.specs.Images.{IsSoundImage, array_in}
+use Rattle.judged_records.specs.Notes.{note_at}
+use Rattle.judged_records.specs.IndexState.{IndexState, IsNextRecord, block_to_go, programmed}
 use Rattle.die_alloc.specs.BlocksState.{BlocksState, IsFirstFree, IsFree, with_slot}
 use Rattle.collector.specs.declared.unsure.Unsure.TheVariants as unsure
 use Rattle.array_machine.specs.Batches.{MayTakeEach, is_done}

@@ -6,18 +6,17 @@ use Rattle.tx_types.specs.Batch.{PageWrite, bytes_in}
 use Rattle.tx_types.specs.declared.config.Slot.{Slot}
 use Rattle.tx_types.specs.declared.record.Rec.{Rec}
 use Rattle.flash_model.specs.Calls.{Carries}
-use Rattle.flash_model.specs.Flash.{FlashState}
+use Rattle.flash_model.specs.Flash.{FlashState, counted_times}
 use Rattle.flash_model.specs.Moves.{Does, MovesTogether}
 use Rattle.flash_model.specs.Operations.{Load, Torn, fire, moment_of}
 use Rattle.page_record.specs.Spelling.{spelling}
 use Rattle.record_list.specs.Records.{is_present}
 use Rattle.record_list.specs.Transaction.{back_version}
-use Rattle.version_index.specs.Images.{IsSoundImage, array_in}
-use Rattle.version_index.specs.Notes.{found_in}
-use Rattle.version_index.specs.IndexState.{IndexState, block_to_go, programmed}
+use Rattle.judged_records.specs.Images.{IsSoundImage, array_in}
+use Rattle.judged_records.specs.Notes.{found_in}
+use Rattle.judged_records.specs.IndexState.{IndexState, block_to_go, programmed}
 use Rattle.die_alloc.specs.BlocksState.{BlocksState, with_slot}
 use Rattle.die_alloc.specs.NextSlot.{next_slot_in}
-use Rattle.collector.specs.Looking.{reads_after}
 use Rattle.collector.specs.Settling.{slots_read}
 use Rattle.collector.specs.declared.unsure.Unsure.TheVariants as unsure
 use Rattle.array_machine.specs.Batches.{StepsAllAs, CutLeavesEach}
@@ -126,7 +125,7 @@ pub record WritesAtOnce {F : Type 0} (state : F → FlashState) (old new : Devic
       let known = with_settlement state old in
       new.table ≡ used_each known.table (jobs_of known.noted chosen)
   pub reads : (state new.flash).reads
-      ≡ reads_after (slots_read old.noted old.unsure) (state old.flash).reads
+      ≡ counted_times (slots_read old.noted old.unsure) (state old.flash).reads
 
 -- the first open transaction, if there is one, took a step
 abbrev pub StepsFirst : {F : Type 0} → (F → FlashState) → DeviceState F → DeviceState F → Moved → List Entry → Type 0

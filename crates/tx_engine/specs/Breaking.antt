@@ -3,15 +3,14 @@ use Rattle.std.specs.Prelude.{◌≡◌, ◌⊎◌, ℕ, false, IfSome}
 use Rattle.tx_types.specs.declared.config.Slot.{Slot}
 use Rattle.tx_types.specs.declared.record.Link.{Link}
 use Rattle.tx_types.specs.declared.record.Rec.{Rec}
-use Rattle.flash_model.specs.Flash.{FlashState}
+use Rattle.flash_model.specs.Flash.{FlashState, counted_times}
 use Rattle.flash_model.specs.Moves.{FlashMoves}
 use Rattle.flash_model.specs.Operations.{moment_of}
 use Rattle.record_list.specs.Records.{name_of}
-use Rattle.version_index.specs.IndexState.{IndexState}
+use Rattle.judged_records.specs.IndexState.{IndexState}
 use Rattle.die_alloc.specs.BlocksState.{BlocksState}
 use Rattle.collector.specs.BreakingOff.{ClearingBreaks, RoomBreaksOff}
 use Rattle.collector.specs.Going.{EvictsAll}
-use Rattle.collector.specs.Looking.{reads_after}
 use Rattle.collector.specs.Settling.{slots_read}
 use Rattle.collector.specs.declared.unsure.Unsure.{Unsure}
 use Rattle.collector.specs.declared.unsure.Unsure.TheVariants as unsure
@@ -63,7 +62,7 @@ pub record BreaksThen {F : Type 0} (state : F → FlashState) (old : DeviceState
   pub shape : between.shape ≡ (state old.flash).shape
   pub moment : moment_of between ≡ moment_of (state old.flash)
   pub reads : between.reads
-      ≡ reads_after (slots_read old.noted old.unsure) (state old.flash).reads
+      ≡ counted_times (slots_read old.noted old.unsure) (state old.flash).reads
   pub breaks : Broke between
 
 -- By the tables that are known once the place was read the erase of the spare was broken, or the collection of the

@@ -6,17 +6,17 @@ use Rattle.tx_types.specs.declared.record.Link.{Link}
 use Rattle.tx_types.specs.declared.config.Slot.{Slot}
 use Rattle.tx_types.specs.declared.record.Rec.{Rec}
 use Rattle.flash_model.specs.declared.flash.Broken.{Broken}
-use Rattle.flash_model.specs.Flash.{FlashState}
+use Rattle.flash_model.specs.Flash.{FlashState, counted_times}
 use Rattle.flash_model.specs.Operations.{moment_of}
 use Rattle.record_list.specs.Records.{name_of}
 use Rattle.record_list.specs.Transaction.{back_version}
-use Rattle.version_index.specs.Notes.{found_in}
-use Rattle.version_index.specs.IndexState.{IndexState, block_to_go, current_of, pinned_names}
+use Rattle.judged_records.specs.Notes.{found_in}
+use Rattle.judged_records.specs.IndexState.{IndexState, block_to_go, current_of, mention_of, pinned_names}
 use Rattle.die_alloc.specs.BlocksState.{IsFull}
 use Rattle.collector.specs.declared.unsure.Unsure.TheVariants as unsure
 use Rattle.collector.specs.BreakingOff.{RoomBreaksOff}
 use Rattle.collector.specs.Calls.{ClearsSuperseded, AllocatesSlot}
-use Rattle.collector.specs.Looking.{ReadsAtMost, reads_after}
+use Rattle.collector.specs.Looking.{ReadsAtMost}
 use Rattle.collector.specs.Preserves.{IsThere, Preserves}
 use Rattle.collector.specs.Settling.{settlement, slots_read}
 use Rattle.collector.specs.StoreParts.{IsSure, StoreParts}
@@ -89,6 +89,13 @@ pub record CanProgram (p : Protocol) (a : StoreParts) (O : OpenTransactionsState
   pub sure : IsSure p a
   pub can : CanWrite a slot rec (bytes_due O i)
 
+-- The pages of an open transaction may be pinned: each has a name, above all mentions of the page.
+pub record CanPin (n : IndexState) (O : OpenTransactionsState) (i : ℕ) : Type 0 where
+  pub at : i < length O.all
+  pub range : All (λ name. name.page < n.config.logical) (transaction_at O i).naming.names
+  pub above : All (λ name. mention_of n name.page < name.version) (transaction_at O i).naming.names
+  pub named : length (transaction_at O i).naming.names ≡ length (transaction_at O i).entry.writes
+
 -- The pages of an open transaction, each of which has a name, may be pinned no more.
 pub record CanUnpin (n : IndexState) (O : OpenTransactionsState) (i : ℕ) : Type 0 where
   pub at : i < length O.all
@@ -111,7 +118,7 @@ pub record SettlesDevice {F : Type 0} (state : F → FlashState) (S S' : StoreSt
   pub exits : Exits state (device_in state S O) (device_in state S' O') (is_err result)
   pub moment : moment_of (state S'.flash) ≡ moment_of (state S.flash)
   pub reads : OnOk result ((state S'.flash).reads
-      ≡ reads_after (slots_read S.noted S.unsure) (state S.flash).reads)
+      ≡ counted_times (slots_read S.noted S.unsure) (state S.flash).reads)
   pub first_failed : OnErr result
       (ReadsAtMost (slots_read S.noted S.unsure) (state S.flash).reads (state S'.flash).reads)
   pub names : map (λ o. o.naming.names) O'.all ≡ map (λ o. o.naming.names) O.all

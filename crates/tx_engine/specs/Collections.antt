@@ -4,10 +4,10 @@ use Rattle.tx_types.specs.declared.config.Protocol.{Protocol}
 use Rattle.tx_types.specs.declared.record.Rec.{Rec}
 use Rattle.record_list.specs.Records.{name_of, newest}
 use Rattle.record_list.specs.Current.{IsCurrent, is_held}
-use Rattle.version_index.specs.Images.{records_in}
+use Rattle.judged_records.specs.Images.{records_in}
 use Rattle.array_machine.specs.ArrayState.{Entry}
 use Rattle.flash_model.specs.Flash.{FlashState, Contents, damaged}
-use Rattle.version_index.specs.IndexState.{IndexState}
+use Rattle.judged_records.specs.IndexState.{IndexState}
 use Rattle.die_alloc.specs.BlocksState.{BlocksState}
 pub use Rattle.collector.specs.Calls.{CollectsOne, CollectsNothing}
 use Rattle.array_machine.specs.declared.answers.Collected.{Collected}

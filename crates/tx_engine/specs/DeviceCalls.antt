@@ -7,12 +7,12 @@ use Rattle.tx_types.specs.Config.{shape_of, blocks_of}
 use Rattle.tx_types.specs.declared.config.Config.{Config}
 use Rattle.tx_types.specs.declared.stats.Stats.{Stats}
 use Rattle.flash_model.specs.Calls.{Carries}
-use Rattle.flash_model.specs.Flash.{FlashState, blank, slot_at}
+use Rattle.flash_model.specs.Flash.{FlashState, blank, slot_at, counted_times}
 use Rattle.flash_model.specs.Operations.{moment_of}
 use Rattle.flash_model.specs.Retiring.{one_more}
-use Rattle.version_index.specs.IndexState.{IndexState}
+use Rattle.judged_records.specs.IndexState.{IndexState}
 use Rattle.collector.specs.declared.unsure.Unsure.TheVariants as unsure
-use Rattle.collector.specs.Looking.{ReadsAtMost, reads_after}
+use Rattle.collector.specs.Looking.{ReadsAtMost}
 use Rattle.collector.specs.Matches.{AllOfBlock}
 use Rattle.collector.specs.Preserves.{IsThere}
 use Rattle.collector.specs.Settling.{slots_read}
@@ -90,7 +90,7 @@ pub record AbortsDevice {F : Type 0} (state : F → FlashState) (old new : Devic
   pub sure : OnOk result (new.unsure ≡ unsure.Nothing)
   pub tables : OnOk result (HasTables (settlement_of state old) new)
   pub reads : OnOk result ((state new.flash).reads
-      ≡ reads_after (slots_read old.noted old.unsure) (state old.flash).reads)
+      ≡ counted_times (slots_read old.noted old.unsure) (state old.flash).reads)
   pub unknown : result ≡ Err error.Unknown → new ≡ old
   pub failed : OnErr result (new ≡ record old { flash = new.flash })
   pub first_failed : OnErr result

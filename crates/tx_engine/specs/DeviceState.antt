@@ -10,9 +10,9 @@ use Rattle.flash_model.specs.Flash.{FlashState, Contents, complete, slot_at}
 use Rattle.record_list.specs.Records.{is_present, name_of}
 use Rattle.record_list.specs.Transaction.{IsTransaction, InProgress, ShareNoPage}
 use Rattle.record_list.specs.Written.{PageText, text_at}
-use Rattle.version_index.specs.Images.{written_in}
-use Rattle.version_index.specs.Notes.{found_in}
-use Rattle.version_index.specs.IndexState.{IndexState, IsNextRecord, current_of, pinned_names}
+use Rattle.judged_records.specs.Images.{written_in}
+use Rattle.judged_records.specs.Notes.{found_in}
+use Rattle.judged_records.specs.IndexState.{IndexState, IsNextRecord, current_of, pinned_names}
 use Rattle.die_alloc.specs.BlocksState.{BlocksState}
 use Rattle.collector.specs.declared.unsure.Unsure.{Unsure}
 use Rattle.collector.specs.declared.unsure.Unsure.TheVariants as unsure

@@ -8,8 +8,8 @@ use Rattle.flash_model.specs.Flash.{FlashState, Contents}
 use Rattle.flash_model.specs.Calls.{Carries}
 use Rattle.flash_model.specs.Moves.{FlashMoves}
 use Rattle.record_list.specs.Records.{mention}
-use Rattle.version_index.specs.Images.{records_in, current_in}
-use Rattle.version_index.specs.IndexState.{IndexState, current_of, mention_of}
+use Rattle.judged_records.specs.Images.{records_in, current_in}
+use Rattle.judged_records.specs.IndexState.{IndexState, current_of, mention_of}
 use Rattle.array_machine.specs.ArrayState.{ArrayState, Entry, is_doubted, page_at, entry_of}
 use Rattle.array_machine.specs.declared.mark.Mark.{Mark}
 use Rattle.array_machine.specs.declared.mark.Mark.TheVariants.{Plain, Doubt, Whole}

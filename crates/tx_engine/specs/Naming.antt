@@ -3,7 +3,7 @@ use Rattle.std.specs.Prelude.{◌≡◌, ℕ, nat_le, Bool, false, List, [], ◌
 use Rattle.tx_types.specs.Batch.{PageWrite}
 use Rattle.tx_types.specs.Limits.{max_version}
 use Rattle.tx_types.specs.declared.record.Link.{Link}
-use Rattle.version_index.specs.IndexState.{IndexState}
+use Rattle.judged_records.specs.IndexState.{IndexState}
 use Rattle.open_table.specs.OpenTransactionsState.{next_name, Naming}
 use Rattle.tx_engine.specs.DeviceState.{DeviceState}
 use Rattle.array_machine.specs.declared.answers.SubmitError.{SubmitError}

@@ -2,12 +2,11 @@
 use Rattle.std.specs.Prelude.{◌≡◌, ℕ, ◌+◌, ◌*◌, ◌≤◌, true, false, []}
 use Rattle.tx_types.specs.Config.{shape_of, slots_of}
 use Rattle.tx_types.specs.declared.config.Config.{Config}
-use Rattle.flash_model.specs.Flash.{FlashState}
+use Rattle.flash_model.specs.Flash.{FlashState, counted_times}
 use Rattle.flash_model.specs.Calls.{Carries}
 use Rattle.flash_model.specs.Operations.{moment_of}
-use Rattle.version_index.specs.Images.{array_in, records_in, IsLeastImageBreach}
+use Rattle.judged_records.specs.Images.{array_in, records_in, IsLeastImageBreach}
 use Rattle.scan_recovery.specs.Opening.{IsOpened}
-use Rattle.scan_recovery.specs.Reading.{read_more}
 use Rattle.scan_recovery.specs.Recovered.{reads_again}
 use Rattle.scan_recovery.specs.Twins.{compared}
 use Rattle.collector.specs.declared.unsure.Unsure.TheVariants as unsure
@@ -32,7 +31,7 @@ pub record Mounts {F : Type 0} (state : F → FlashState) (flash : F) (its : Con
   pub unsure : s.unsure ≡ unsure.Nothing
   pub tables : IsOpened its (state flash).image s.noted s.table
   pub moment : moment_of (state s.flash) ≡ moment_of (state flash)
-  pub reads : (state s.flash).reads ≡ read_more (mount_reads its (state flash)) (state flash).reads
+  pub reads : (state s.flash).reads ≡ counted_times (mount_reads its (state flash)) (state flash).reads
   pub carries : Carries (state flash) (state s.flash) false
   pub kept : s.dropped ≡ false
 
@@ -53,7 +52,7 @@ abbrev pub ReadsUnmounted : {F : Type 0} → (F → FlashState) → F → Config
 ReadsUnmounted state flash its new mount.Fault =
     (state new).reads ≤ (state flash).reads + mount_reads its (state flash)
 ReadsUnmounted state flash its new (mount.Unsound law slot) =
-    (state new).reads ≡ read_more (slots_of (state flash).shape
+    (state new).reads ≡ counted_times (slots_of (state flash).shape
     + reads_again (records_in its.protocol (state flash).image) (record { law = law; slot = slot }))
     (state flash).reads
 ReadsUnmounted state flash its new mount.Memory =
@@ -65,5 +64,5 @@ pub record StoresOpened {F : Type 0} (state : F → FlashState) (flash : F) (its
   pub tables : IsOpened its (state flash).image s.noted s.table
   pub unsure : s.unsure ≡ unsure.Nothing
   pub moment : moment_of (state s.flash) ≡ moment_of (state flash)
-  pub reads : (state s.flash).reads ≡ read_more (mount_reads its (state flash)) (state flash).reads
+  pub reads : (state s.flash).reads ≡ counted_times (mount_reads its (state flash)) (state flash).reads
   pub carries : Carries (state flash) (state s.flash) false

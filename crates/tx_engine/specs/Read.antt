@@ -3,7 +3,7 @@ use Rattle.std.specs.Prelude.{◌≡◌, ℕ, ◌<◌, ◌==◌, ◌&&◌, not, 
 use Rattle.tx_types.specs.Config.{slots_of}
 use Rattle.flash_model.specs.Calls.{Reads, page_of}
 use Rattle.flash_model.specs.Flash.{FlashState, slot_at}
-use Rattle.version_index.specs.IndexState.{IndexState, current_of, current_name_of, discarded_of, home_of, slot_off}
+use Rattle.judged_records.specs.IndexState.{IndexState, current_of, current_name_of, discarded_of, home_of, slot_off}
 use Rattle.flash_model.specs.declared.flash.Broken.{Broken}
 use Rattle.flash_model.specs.declared.flash.Seen.{Seen}
 use Rattle.collector.specs.declared.unsure.Unsure.{Unsure}

@@ -4,11 +4,10 @@ use Rattle.tx_types.specs.Config.{shape_of, blocks_of}
 use Rattle.tx_types.specs.declared.config.Protocol.{Protocol}
 use Rattle.tx_types.specs.declared.config.Shape.{Shape}
 use Rattle.flash_model.specs.declared.flash.Broken.{Broken}
-use Rattle.flash_model.specs.Flash.{FlashState, Extras}
+use Rattle.flash_model.specs.Flash.{FlashState, Extras, counted_times}
 use Rattle.flash_model.specs.Retiring.{CarriesRetiring, MayRetire, RetiresAfter, RetiresTorn}
-use Rattle.version_index.specs.IndexState.{current_of}
+use Rattle.judged_records.specs.IndexState.{current_of}
 use Rattle.collector.specs.Going.{IsEvicted}
-use Rattle.collector.specs.Looking.{reads_after}
 use Rattle.collector.specs.Preserves.{Preserves}
 use Rattle.collector.specs.Retiring.{RetiresBlock, RetiresNone, RetiringBreaks, moved_slots, retiring_first}
 use Rattle.collector.specs.Settling.{slots_read}
@@ -99,9 +98,9 @@ pub record RetiresKnown {F : Type 0} (state : F → FlashState) (old new : Devic
     (block : ℕ) : Type 0 where
   pub treated : IsEvicted (settlement_of state old).noted (settlement_of state old).table block
       new.noted new.table
-  pub reads : (state new.flash).reads ≡ reads_after
+  pub reads : (state new.flash).reads ≡ counted_times
       (length (moved_slots (settlement_of state old).noted (settlement_of state old).table.spare block))
-      (reads_after (slots_read old.noted old.unsure) (state old.flash).reads)
+      (counted_times (slots_read old.noted old.unsure) (state old.flash).reads)
 
 -- The place was read, and by the tables that are known then retiring the block broke off. The blocks are as they were
 -- known, and what was noted then is kept.

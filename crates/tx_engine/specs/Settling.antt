@@ -15,7 +15,7 @@ use Rattle.array_machine.specs.declared.mark.Mark.{Mark}
 use Rattle.array_machine.specs.declared.answers.Progress.{Progress}
 use Rattle.array_machine.specs.declared.answers.Progress.TheVariants as progress
 use Rattle.open_table.specs.OpenTransactionsState.{OpenTransactionsState, TransactionState, transaction_at, with_transaction, with_mark, with_noted_count, name_at}
-use Rattle.version_index.specs.IndexState.{IndexState, current_of}
+use Rattle.judged_records.specs.IndexState.{IndexState, current_of}
 use Rattle.tx_engine.specs.Exits.{Exits, VersionsRise, settled_writes, done_writes}
 use Rattle.tx_engine.specs.DeviceState.{DeviceState, Stands}
 use Rattle.array_machine.specs.Step.{settled, IsAtLast, GoesOn}

@@ -8,7 +8,7 @@ use Rattle.tx_types.specs.declared.config.Slot.{Slot}
 use Rattle.tx_types.specs.declared.record.Link.{Link}
 use Rattle.flash_model.specs.declared.flash.Broken.{Broken}
 use Rattle.flash_model.specs.Flash.{FlashState}
-use Rattle.version_index.specs.IndexState.{block_to_go}
+use Rattle.judged_records.specs.IndexState.{block_to_go}
 use Rattle.die_alloc.specs.BlocksState.{IsFull}
 use Rattle.die_alloc.specs.NextSlot.{next_slot, after_next_slot}
 use Rattle.collector.specs.declared.unsure.Settled.{Settled}

@@ -10,8 +10,8 @@ use Rattle.flash_model.specs.Calls.{Carries}
 use Rattle.flash_model.specs.Moves.{Does, FlashMoves}
 use Rattle.flash_model.specs.Operations.{moment_of, program}
 use Rattle.page_record.specs.Spelling.{CanBeSpelled, spelling}
-use Rattle.version_index.specs.ImageChanges.{TextsStay, TextsCome}
-use Rattle.version_index.specs.IndexState.{IndexState, programmed}
+use Rattle.judged_records.specs.ImageChanges.{TextsStay, TextsCome}
+use Rattle.judged_records.specs.IndexState.{IndexState, programmed}
 use Rattle.die_alloc.specs.BlocksState.{BlocksState, IsFirstFree, with_slot}
 use Rattle.collector.specs.declared.unsure.Unsure.{Unsure}
 use Rattle.collector.specs.declared.unsure.Unsure.TheVariants as unsure

@@ -5,20 +5,19 @@ use Rattle.std.specs.Option.{option_map}
 use Rattle.tx_types.specs.declared.config.Slot.{Slot}
 use Rattle.tx_types.specs.declared.record.Link.{Link}
 use Rattle.tx_types.specs.declared.record.Rec.{Rec}
-use Rattle.flash_model.specs.Flash.{FlashState, complete, slot_at}
+use Rattle.flash_model.specs.Flash.{FlashState, complete, slot_at, counted_times}
 use Rattle.flash_model.specs.Moves.{Does, Moves}
 use Rattle.flash_model.specs.Operations.{Moment, moment_of, program}
 use Rattle.page_record.specs.Spelling.{spelling}
 use Rattle.record_list.specs.Records.{name_of}
 use Rattle.record_list.specs.Transaction.{back_version}
 use Rattle.record_list.specs.Written.{PageText}
-use Rattle.version_index.specs.Notes.{found_in}
-use Rattle.version_index.specs.IndexState.{IndexState, block_to_go, programmed}
+use Rattle.judged_records.specs.Notes.{found_in}
+use Rattle.judged_records.specs.IndexState.{IndexState, block_to_go, programmed}
 use Rattle.die_alloc.specs.BlocksState.{BlocksState, IsFull, with_slot}
 use Rattle.die_alloc.specs.NextSlot.{next_slot, after_next_slot}
 use Rattle.collector.specs.Collecting.{CollectsForRoom}
 use Rattle.collector.specs.Going.{blocks_to_go, EvictsAll}
-use Rattle.collector.specs.Looking.{reads_after}
 use Rattle.collector.specs.Preserves.{IsThere, Preserves}
 use Rattle.collector.specs.Settling.{slots_read}
 use Rattle.array_machine.specs.ArrayState.{Entry, has_tag}
@@ -41,7 +40,7 @@ next_of s tag = option_map (λ (e, x). name_at x e.done) (open_of s tag)
 pub record WritesNothing {F : Type 0} (state : F → FlashState) (old new : DeviceState F) : Type 0 where
   pub tables : HasTables (settlement_of state old) new
   pub reads : (state new.flash).reads
-      ≡ reads_after (slots_read old.noted old.unsure) (state old.flash).reads
+      ≡ counted_times (slots_read old.noted old.unsure) (state old.flash).reads
 
 -- A slot is found for a record: where a block has room it is the next one, and else the next one after a collection.
 pub record TakesSlot (n : IndexState) (t : BlocksState) (n' : IndexState) (t' : BlocksState)

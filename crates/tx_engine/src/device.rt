@@ -1,7 +1,7 @@
 ghost use Rattle.std.specs.Prelude.{◌≡◌, false, [], Ok, IfOk, length, ◌<◌};
 ghost use Rattle.tx_types.specs.Config.{checked, IsConfig};
-ghost use Rattle.version_index.specs.IndexState.{current_of};
-ghost use Rattle.version_index.specs.Notes.{found_in};
+ghost use Rattle.judged_records.specs.IndexState.{current_of};
+ghost use Rattle.judged_records.specs.Notes.{found_in};
 ghost use Rattle.tx_engine.specs.DeviceCalls.{MountsDevice, ReadsDevice, SubmitsDevice, StepsDevice, AbortsDevice, CollectsDevice, TellsDevice};
 ghost use Rattle.tx_engine.specs.DeviceState.{Stands};
 
@@ -139,9 +139,8 @@ impl<F: Flash, R: CommitRule> Device<F, R> {
             return Err(spent);
         }
         self.transactions.open(tag, batch, self.store.index());
-        self.store.pin_all(batch);
-        // What holds of the open transactions.
-        let _open = self.transactions.count();
+        let last = self.transactions.count() as usize - 1;
+        self.store.pin_all(&self.transactions, last);
         Ok(())
     }
 

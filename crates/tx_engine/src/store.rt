@@ -1,7 +1,7 @@
 ghost use Rattle.std.specs.Prelude.{◌≡◌, ◌<◌, Ok, length, IfErr, IfOk, OnOk};
 ghost use Rattle.tx_types.specs.Config.{checked};
 ghost use Rattle.flash_model.specs.Operations.{moment_of};
-ghost use Rattle.version_index.specs.Images.{IsSoundImage};
+ghost use Rattle.judged_records.specs.Images.{IsSoundImage};
 ghost use Rattle.collector.specs.Calls.{CollectsVictim};
 ghost use Rattle.collector.specs.Matches.{CanTake};
 ghost use Rattle.collector.specs.StoreParts.{IsSure};

@@ -1,6 +1,6 @@
 ghost use Rattle.std.specs.Prelude.{◌≡◌, ◌<◌, if◌then◌else◌};
 ghost use Rattle.record_list.specs.Transaction.{back_version};
-ghost use Rattle.version_index.specs.Notes.{found_in};
+ghost use Rattle.judged_records.specs.Notes.{found_in};
 ghost use Rattle.tx_engine.specs.Calls.{CanProgram, CanWriteNext, ClearsFor, FindsFor, IsClearFor, IsReadyFor, IsRecordDue, WritesPage};
 ghost use Rattle.open_table.specs.OpenTransactionsState.{HasPlace, bytes_due, name_due, transaction_at, with_transaction, with_mark};
 ghost use Rattle.tx_engine.specs.Settling.{is_at_last};

@@ -127,7 +127,8 @@ impl Batch {
         cell_at(&self.cells, self.page_bytes, i)[PAGE_BYTES] != 0
     }
 
-    /// The bytes of the entry at this index, as many as a page has: zeros where it discards its page.
+    /// The bytes of the entry at this index, as many as a page has: zeros where it discards its page. What is lent is
+    /// one piece: the given bytes and the zeros behind them.
     pub fn bytes(&self, i: usize) -> &[u8]
         requires { i < length self.now.entries }
         ensures bytes { result.now ≡ bytes_in self.now.page_bytes (entry_at self.now i) }

@@ -1,5 +1,7 @@
-ghost use Rattle.std.specs.Prelude.{◌≡◌, IfOk, OnOk};
+ghost use Rattle.std.specs.Prelude.{◌≡◌, ◌*◌, ◌/◌, ◌^◌, ◌<◌, IfOk, OnOk};
+ghost use Rattle.std.specs.Option.{option_map};
 ghost use Rattle.tx_types.specs.Config.{checked, IsConfig, IsShape, slots_of, blocks_of};
+ghost use Rattle.tx_types.specs.Slots.{lower};
 
 use thiserror::Error;
 
@@ -13,6 +15,20 @@ pub enum Protocol {
 /// A place on the flash that holds one page of contents and its spare area, numbered from 0.
 #[derive(Clone, Copy, PartialEq, Eq, PartialOrd, Ord)]
 pub struct Slot(pub u32);
+
+impl Slot {
+    /// The lower one of two slots, if there are any.
+    pub fn lower(at: Option<Slot>, other: Option<Slot>) -> Option<Slot>
+        ensures { option_map (λ s. s.0) result
+            ≡ lower (option_map (λ s. s.0) at) (option_map (λ s. s.0) other) }
+    {
+        match (at, other) {
+            (None, _) => other,
+            (Some(_), None) => at,
+            (Some(a), Some(b)) => Some(Slot(a.0.min(b.0))),
+        }
+    }
+}
 
 /// The slots that are erased together, numbered from 0.
 #[derive(Clone, Copy, PartialEq, Eq, PartialOrd, Ord)]
@@ -155,5 +171,23 @@ impl Shape {
         ensures { result ≡ blocks_of self }
     {
         self.blocks_per_die * self.dies
+    }
+
+    /// The block that a slot lies in.
+    #[inline]
+    pub fn block_of(self, slot: Slot) -> Block
+        requires { 0 < self.pages_per_block }
+        ensures { result.0 ≡ slot.0 / self.pages_per_block }
+    {
+        Block(slot.0 / self.pages_per_block)
+    }
+
+    /// The first slot of a block.
+    #[inline]
+    pub fn first_slot(self, block: Block) -> Slot
+        requires { block.0 * self.pages_per_block < 2 ^ 32 }
+        ensures { result.0 ≡ block.0 * self.pages_per_block }
+    {
+        Slot(block.0 * self.pages_per_block)
     }
 }

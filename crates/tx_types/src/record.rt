@@ -1,3 +1,6 @@
+ghost use Rattle.std.specs.Prelude.{◌≡◌};
+ghost use Rattle.tx_types.specs.Names.{name_of, has_name};
+
 /// The greatest version that a page may have: 2 to the 62nd.
 pub const MAX_VERSION: u64 = 4611686018427387904;
 
@@ -27,4 +30,25 @@ pub struct Rec {
     pub count: u32,
     /// Whether the page was discarded: it then has no contents.
     pub discard: bool,
+}
+
+impl Rec {
+    /// The record's own name.
+    #[inline(always)]
+    pub fn name(&self) -> Link
+        ensures { result ≡ name_of self.now }
+    {
+        Link {
+            page: self.page,
+            version: self.version,
+        }
+    }
+
+    /// Whether the record has this name.
+    #[inline(always)]
+    pub fn has_name(&self, name: Link) -> bool
+        ensures { result ≡ has_name name self.now }
+    {
+        self.page == name.page && self.version == name.version
+    }
 }

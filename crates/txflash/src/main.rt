@@ -3,7 +3,7 @@
 
 pub use command_line::{Kept, top};
 use desk_io::{RealDesk, RealFolder};
-use program_base::status_of_bad_args;
+use program_base::{Status, status_of_bad_args};
 use std::alloc::Global;
 use std::fs::File;
 use std::process::ExitCode;
@@ -35,12 +35,12 @@ fn open_standard(rt: &HostRuntime) -> [io::Result<File>; 3] {
 fn serve(rt: &HostRuntime) -> ExitCode {
     let args = match env::args(rt) {
         Ok(args) => args,
-        Err(error) => return ExitCode::from(status_of_bad_args(error.kind())),
+        Err(error) => return ExitCode::from(status_of_bad_args(error.kind()).code()),
     };
     let mut words = Vec::new(rt.alloc());
     for word in args.skip(1) {
         if words.push(word).is_err() {
-            return ExitCode::from(6);
+            return ExitCode::from(Status::NoMemory.code());
         }
     }
     let mut desk = RealDesk::new(rt, RealFolder { rt });
@@ -50,7 +50,8 @@ fn serve(rt: &HostRuntime) -> ExitCode {
 }
 
 /// Lets the C library keep memory that is freed: it gives back to the system what is free beyond twice the largest
-/// piece that ever was. A device that is mounted again takes the same tables once more.
+/// piece that ever was. A device that is mounted again takes the same tables once more. So does the allocator of glibc.
+/// The piece that is taken here is never written, so it costs no memory of the machine.
 #[inline(never)]
 fn keep_heap(alloc: Global) {
     let _ = Vec::<u8>::with_capacity(alloc, FREED_BYTES);

@@ -5,10 +5,10 @@ ghost use Rattle.tx_types.specs.Config.{checked, shape_of, slots_of};
 use crate::samples::{rec, word};
 use crate::texts::stands_in;
 use flash_picture::{Marks, draw, draw_svg};
+use judged_records::Note;
 use record_list::Breach;
 use std::alloc::Global;
 use tx_types::{Block, Config, Link, Protocol, Rec, Slot};
-use version_index::Note;
 
 /// A device of eight slots on two dies, for three pages.
 fn device(protocol: Protocol) -> Config

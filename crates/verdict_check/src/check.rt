@@ -22,7 +22,8 @@ use tx_types::Protocol;
 /// with its line feed; bytes after the last one are a line.
 ///
 /// No memory is taken. On a list in which no two records have one link, the work grows with the list and the report;
-/// but for the records of one page, under Back Pointer Cyclic Commit, with them times the links into that page.
+/// but for the records of one page, under Back Pointer Cyclic Commit, with them times the links into that page. The
+/// tables stand on the stack, with a place for each of 65536 pages: between 3 and 4 MiB.
 #[inline(never)]
 pub fn check_report(
     list: &[Found],

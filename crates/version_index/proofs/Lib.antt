@@ -7,4 +7,3 @@ pub mod OfLosses
 pub mod OfChanges
 pub mod OfReadings
 pub mod OfTables
-pub mod OfLaws

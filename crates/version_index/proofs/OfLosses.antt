@@ -1,2 +1,1 @@
 pub mod KeptLosses
-pub mod Losses

@@ -1,4 +1,3 @@
 pub mod ScanDecided
 pub mod ScanNumbers
 pub mod ScanSlots
-pub mod Scans

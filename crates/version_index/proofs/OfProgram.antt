@@ -1,2 +1,1 @@
 pub mod FreeNumbers
-pub mod PartialWrites

@@ -1,11 +1,1 @@
-pub mod Blocks
-pub mod CurrentNames
-pub mod FoundIn
-pub mod BaseTables
-pub mod HomeFacts
-pub mod Derived
 pub mod KeptNotes
-pub mod NotedFacts
-pub mod Numbered
-pub mod Places
-pub mod OneBreach

@@ -8,9 +8,9 @@ use Rattle.record_list.specs.Records.{name_of}
 use Rattle.slot_tables.specs.TablesState.{TablesState, record_at, number_at, numbers_at}
 use Rattle.tx_types.specs.declared.config.Config.{Config}
 use Rattle.tx_types.specs.declared.config.Protocol.{Protocol}
-use Rattle.version_index.specs.DerivedChanges.{Derived, all_current, all_answered, once_whole, completes}
-use Rattle.version_index.specs.IndexState.{IsNoted}
-use Rattle.version_index.specs.Numbered.{AreDerived}
+use Rattle.judged_records.specs.DerivedChanges.{Derived, all_current, all_answered, once_whole, completes}
+use Rattle.judged_records.specs.IndexState.{IsNoted}
+use Rattle.judged_records.specs.Numbered.{AreDerived}
 use Rattle.version_index.specs.Tables.{version_at, numbered_of, noted_by, AreHeld}
 
 -- each record links to a page that exists

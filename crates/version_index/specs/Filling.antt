@@ -14,14 +14,14 @@ use Rattle.record_list.specs.Current.{cur}
 use Rattle.slot_tables.specs.TablesState.{TablesState, use_at, record_at, number_at, blank_tables, IsNewest}
 use Rattle.slot_tables.specs.declared.slots.SlotUse.{SlotUse}
 use Rattle.slot_tables.specs.declared.slots.SlotUse.TheVariants as slot
-use Rattle.version_index.specs.declared.note.Note.{Note}
-use Rattle.version_index.specs.declared.note.Note.TheVariants as note
+use Rattle.judged_records.specs.declared.note.Note.{Note}
+use Rattle.judged_records.specs.declared.note.Note.TheVariants as note
 use Rattle.flash_model.specs.declared.flash.Seen.{Seen}
 use Rattle.flash_model.specs.declared.flash.Seen.TheVariants as seen
-use Rattle.version_index.specs.Notes.{found_in, note_at, seen_as}
-use Rattle.version_index.specs.Derived.{name_at, answerer, is_waiting}
-use Rattle.version_index.specs.DerivedChanges.{Derived}
-use Rattle.version_index.specs.Numbered.{awaited}
+use Rattle.judged_records.specs.Notes.{found_in, note_at, seen_as}
+use Rattle.judged_records.specs.Derived.{name_at, answerer, is_waiting}
+use Rattle.judged_records.specs.DerivedChanges.{Derived}
+use Rattle.judged_records.specs.Numbered.{awaited}
 
 -- what is derived from a list of records
 abbrev pub derived_by : Protocol → List Found → ℕ → Derived

@@ -11,8 +11,8 @@ use Rattle.record_list.specs.SoundList.{IsSoundList}
 use Rattle.sorted_records.specs.SortedRecords.{Sorts}
 use Rattle.sorted_records.specs.CurrentVersions as standing
 use Rattle.slot_tables.specs.TablesState.{TablesState, blank_tables}
+use Rattle.judged_records.specs.Notes.{complete_slots}
 use Rattle.version_index.specs.Filling.{NamesAgree}
-use Rattle.version_index.specs.Notes.{complete_slots}
 
 -- the records of a sound list, which slots that read so hold, stand so
 pub record AreScanned (protocol : Protocol) (its : Config) (scanned : List Seen) (list : List Found)

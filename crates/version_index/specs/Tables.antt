@@ -9,11 +9,11 @@ use Rattle.record_list.specs.Records.{name_of}
 use Rattle.slot_tables.specs.declared.slots.SlotUse.{SlotUse}
 use Rattle.slot_tables.specs.declared.slots.SlotUse.TheVariants as slot
 use Rattle.slot_tables.specs.TablesState.{TablesState, use_at}
-use Rattle.version_index.specs.declared.note.Note.{Note}
-use Rattle.version_index.specs.declared.note.Note.TheVariants as note
-use Rattle.version_index.specs.IndexState.{IndexState, IsNoted}
-use Rattle.version_index.specs.DerivedChanges.{derived_of}
-use Rattle.version_index.specs.Numbered.{Numbered, rec_at, number_at, AreDerived}
+use Rattle.judged_records.specs.declared.note.Note.{Note}
+use Rattle.judged_records.specs.declared.note.Note.TheVariants as note
+use Rattle.judged_records.specs.IndexState.{IndexState, IsNoted}
+use Rattle.judged_records.specs.DerivedChanges.{derived_of}
+use Rattle.judged_records.specs.Numbered.{Numbered, rec_at, number_at, AreDerived}
 use Rattle.version_index.specs.declared.index.Index.TheInside.{Inside}
 
 -- what is noted of a slot that is used so

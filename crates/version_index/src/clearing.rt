@@ -4,7 +4,7 @@ ghost use Rattle.tx_types.specs.Config.{slots_of, blocks_of};
 ghost use Rattle.tx_types.specs.declared.config.Block.{Block};
 ghost use Rattle.tx_types.specs.declared.config.Protocol.TheVariants as its_protocol;
 ghost use Rattle.slot_tables.specs.Gathered.{AreGathered};
-ghost use Rattle.slot_tables.specs.TablesState.{lower, IsTablesState, WaitsBelow};
+ghost use Rattle.slot_tables.specs.TablesState.{IsTablesState, WaitsBelow};
 ghost use Rattle.version_index.specs.Going.{IsWaitingBelow, IsTopBelow, Goes, IsLowestIn, SlotMustGo, BlockMustGo, IsNewestBeside, AreRising};
 
 use slot_tables::{SlotUse, Tables};
@@ -18,7 +18,7 @@ pub fn lowest_to_go(tables: &Tables, protocol: Protocol, page: u32, below: u64) 
     ensures bpcc { protocol ≡ its_protocol.Bpcc → result ≡ None }
 {
     match protocol {
-        Protocol::Scc => lower(
+        Protocol::Scc => Slot::lower(
             newest_uncommitted(tables, page, below),
             tables.lowest_waiting(page, below),
         ),
@@ -154,16 +154,4 @@ pub fn order_blocks(blocks: &mut Vec<Block>)
 {
     blocks.sort_unstable();
     blocks.dedup();
-}
-
-/// The lower one of two slots, if there are any.
-fn lower(at: Option<Slot>, other: Option<Slot>) -> Option<Slot>
-    ensures { option_map (λ s. s.0) result
-        ≡ lower (option_map (λ s. s.0) at) (option_map (λ s. s.0) other) }
-{
-    match (at, other) {
-        (None, _) => other,
-        (Some(_), None) => at,
-        (Some(a), Some(b)) => Some(Slot(a.0.min(b.0))),
-    }
 }

@@ -2,10 +2,9 @@ ghost use Rattle.std.specs.Prelude.{◌≡◌, ◌<◌, ℕ, List, length, IfSom
 ghost use Rattle.tx_types.specs.Config.{slots_of};
 ghost use Rattle.tx_types.specs.declared.config.Config.{Config};
 ghost use Rattle.tx_types.specs.declared.config.Protocol.{Protocol};
-ghost use Rattle.record_list.specs.Records.{name_of, has_name};
 ghost use Rattle.slot_tables.specs.TablesState.{IsTablesState, number_at};
+ghost use Rattle.judged_records.specs.DerivedChanges.{completes};
 ghost use Rattle.version_index.specs.Committing.{LinksExist, newest_with_name, with_version, OnlyDerives, AreReleased, IsTaken, IsAnswered, MayComplete, CommitsRound, ResolvesRound, DerivesWhole, CommitsIfComplete};
-ghost use Rattle.version_index.specs.DerivedChanges.{completes};
 ghost use Rattle.version_index.specs.Tables.{discard_at, noted_by, version_at};
 
 use crate::losing::release;
@@ -87,7 +86,7 @@ fn completes(tables: &Tables, logical: u32, rec: Rec) -> bool
         match newest_with_name(tables, link) {
             None => return false,
             Some(next) => {
-                if has_name(next, rec) {
+                if next.has_name(rec.name()) {
                     return true;
                 }
                 link = next.next;
@@ -95,13 +94,6 @@ fn completes(tables: &Tables, logical: u32, rec: Rec) -> bool
         }
     }
     false
-}
-
-/// Whether a record has the name of another one.
-fn has_name(rec: Rec, other: Rec) -> bool
-    ensures { result ≡ has_name (name_of other) rec }
-{
-    rec.page == other.page && rec.version == other.version
 }
 
 /// Makes the records of a cycle current, where this record completes it.
@@ -119,17 +111,7 @@ pub fn commit_if_complete(tables: &mut Tables, logical: u32, protocol: Protocol,
     if !completes(tables, logical, rec) {
         return;
     }
-    commit_cycle(tables, logical, protocol, name_of(rec));
-}
-
-/// A record's own name.
-fn name_of(rec: Rec) -> Link
-    ensures { result ≡ name_of rec }
-{
-    Link {
-        page: rec.page,
-        version: rec.version,
-    }
+    commit_cycle(tables, logical, protocol, rec.name());
 }
 
 /// Makes the records of a whole cycle current. Under Back Pointer Cyclic Commit they then answer for the

@@ -1,8 +1,8 @@
 ghost use Rattle.std.specs.Prelude.{◌≡◌, ◌≤◌, ◌<◌, ℕ, All, length};
 ghost use Rattle.record_list.specs.SoundList.{PagesExist};
-ghost use Rattle.version_index.specs.Derived.{name_at, answerer, is_waiting};
+ghost use Rattle.judged_records.specs.Derived.{name_at, answerer, is_waiting};
+ghost use Rattle.judged_records.specs.Numbered.{awaited};
 ghost use Rattle.version_index.specs.Filling.{derived_by, number_by, AreNumbered, AreCurrent, AreDecided};
-ghost use Rattle.version_index.specs.Numbered.{awaited};
 
 use slot_tables::TablesBuilder;
 use sorted_records::CurrentVersions;

@@ -4,8 +4,8 @@ ghost use Rattle.record_list.specs.SoundList.{PagesExist};
 ghost use Rattle.record_list.specs.declared.found.Found.{Found};
 ghost use Rattle.sorted_records.specs.SortedRecords.{Sorts};
 ghost use Rattle.slot_tables.specs.TablesState.{blank_tables};
+ghost use Rattle.judged_records.specs.Notes.{seen_as, found_in};
 ghost use Rattle.version_index.specs.Filling.{AreFilled};
-ghost use Rattle.version_index.specs.Notes.{seen_as, found_in};
 ghost use Rattle.version_index.specs.Scanned.{CanFill};
 ghost use Rattle.version_index.specs.Tables.{notes_in};
 

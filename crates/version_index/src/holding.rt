@@ -11,7 +11,8 @@ use slot_tables::{SlotUse, TablesBuilder};
 use std::alloc::{AllocError, Global};
 use tx_types::{Memory, Slot};
 
-/// How each slot is used that reads so, where these records with these numbers stand.
+/// How each slot is used that reads so, where these records with these numbers stand. Each record is put where it
+/// stands, without a search for its number.
 pub fn slot_uses(
     alloc: Global,
     records: &[Found],

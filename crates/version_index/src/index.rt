@@ -3,8 +3,8 @@ ghost use Rattle.tx_types.specs.Config.{checked, shape_of, slots_of};
 ghost use Rattle.record_list.specs.Records.{IsScanned};
 ghost use Rattle.record_list.specs.SoundList.{IsSoundList};
 ghost use Rattle.record_list.specs.declared.found.Found.{Found};
-ghost use Rattle.version_index.specs.IndexState.{IsNoted, IsNotedFrom};
-ghost use Rattle.version_index.specs.Notes.{complete_slots};
+ghost use Rattle.judged_records.specs.IndexState.{IsNoted, IsNotedFrom};
+ghost use Rattle.judged_records.specs.Notes.{complete_slots};
 ghost use Rattle.version_index.specs.Scanned.{AreScanned};
 
 mod changing;
@@ -32,7 +32,7 @@ pub struct Index<R: CommitRule> {
 }
 
 impl<R: CommitRule> Model for Index<R> {
-    ghost use Rattle.version_index.specs.IndexState.{IndexState};
+    ghost use Rattle.judged_records.specs.IndexState.{IndexState};
 
     ghost Value = { IndexState };
 
@@ -45,7 +45,8 @@ impl<R: CommitRule> Model for Index<R> {
 
 impl<R: CommitRule> Index<R> {
     /// The tables of slots that read so and hold these records, in the order of their slots. Nothing
-    /// is pinned, and no spare is chosen.
+    /// is pinned, and no spare is chosen. It is there for who builds on this crate: an opening sorts the
+    /// records before.
     pub fn from_scan(
         alloc: Global,
         config: Config,
@@ -65,7 +66,7 @@ impl<R: CommitRule> Index<R> {
     }
 
     /// The tables of records that were put in the order of their names before, with the current versions of their
-    /// pages. The list in the order of the slots is no longer needed.
+    /// pages. The list in the order of the slots is no longer needed. The tables may take its place in memory.
     pub fn from_current_versions(
         alloc: Global,
         config: Config,
@@ -94,7 +95,7 @@ impl<R: CommitRule> Index<R> {
         })
     }
 
-    /// The configuration of the device.
+    /// The configuration of the device. Its clause says what holds of all tables, as that of `shape` does for a flash.
     pub fn config(&self) -> Config
         ensures config { result ≡ self.now.config }
         ensures noted { IsNoted R.protocol self.now }

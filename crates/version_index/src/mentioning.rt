@@ -1,7 +1,7 @@
 ghost use Rattle.std.specs.Prelude.{◌≡◌, ℕ, ◌<◌, ◌==◌, if◌then◌else◌, max, length, slice_index_or, map, IfOk};
 ghost use Rattle.std.specs.List.{range_with_len};
 ghost use Rattle.record_list.specs.Records.{mention};
-ghost use Rattle.version_index.specs.IndexState.{raised, raised_to};
+ghost use Rattle.judged_records.specs.IndexState.{raised, raised_to};
 
 use record_list::Found;
 use std::alloc::Global;
@@ -45,13 +45,7 @@ pub fn raise(mentions: &mut Vec<u64>, rec: Rec)
     requires next { rec.next.page < length mentions.old.items }
     ensures { mentions.new.items ≡ raised rec mentions.old.items }
 {
-    raise_to(
-        mentions,
-        Link {
-            page: rec.page,
-            version: rec.version,
-        },
-    );
+    raise_to(mentions, rec.name());
     raise_to(mentions, rec.next);
 }
 

@@ -6,14 +6,14 @@ use Rattle.std.specs.declared.alloc.AllocError.{AllocError}
 use Rattle.tx_types.specs.declared.config.Config.{Config}
 use Rattle.tx_types.specs.declared.config.Protocol.{Protocol}
 use Rattle.tx_types.specs.declared.config.Protocol.TheVariants.{Scc, Bpcc}
-use Rattle.version_index.specs.declared.note.Note.{Note}
+use Rattle.judged_records.specs.declared.note.Note.{Note}
 use Rattle.flash_picture.specs.declared.marks.Marks.{Marks}
 use Rattle.flash_picture.specs.Picture.{picture, heading, cells_of, breach_line}
 use Rattle.flash_picture.specs.Map.{map_text}
 use Rattle.flash_picture.specs.Svg.{above, svg}
 use Rattle.flash_picture.specs.Walks.{walks_text}
 use Rattle.tx_types.specs.Config.{shape_of}
-use Rattle.version_index.specs.Notes.{found_in}
+use Rattle.judged_records.specs.Notes.{found_in}
 use Rattle.desk_io.specs.Desk.{DeskState, Rose, after_answer, as_before, counted, with_said}
 use Rattle.desk_io.specs.declared.desk.SinkError.{SinkError}
 use Rattle.desk_io.specs.declared.desk.SinkError.TheVariants as sink
@@ -51,8 +51,8 @@ unfolding svg above
 svg_said its notes marks desk = refl
 
 -- each ending has a text
-said_whole : (fate : Ending) (desk : DeskState) → after_text (said fate) desk
-    ≡ after_answer (with_said (said fate)) desk
+said_whole : (ending : Ending) (desk : DeskState) → after_text (said ending) desk
+    ≡ after_answer (with_said (said ending)) desk
 said_whole (Drawn Text its image marks) desk = picture_said its _ marks desk
 said_whole (Drawn Svg its image marks) desk = svg_said its _ marks desk
 said_whole (Refused why) desk = line_said why desk
@@ -60,28 +60,29 @@ said_whole (Refused why) desk = line_said why desk
 -- ---- the end
 
 -- the text of an ending stops where the saying of it does
-say_stops : (error : SinkError) (task : Option Request) (old mid new : DeskState) (fate : Ending) (text : List ℕ) →
-    IsEnding task old fate →
-    mid ≡ after_load task old → text ≡ said fate → TextStops error text mid new → SayStops error task old new
-say_stops error task old mid new fate text is loaded text_is stops = (
-  fate,
+say_stops : (error : SinkError) (task : Option Request) (old mid new : DeskState) (ending : Ending) (text : List ℕ) →
+    IsEnding task old ending →
+    mid ≡ after_load task old → text ≡ said ending → TextStops error text mid new → SayStops error task old new
+say_stops error task old mid new ending text is loaded text_is stops = (
+  ending,
   is,
   subst (λ t. TextStops error t (after_load task old) new) text_is
       (subst (λ d. TextStops error text d new) loaded stops),
 )
 
 -- after a load, what is decided is said
-pub ends : (task : Option Request) (old mid new : DeskState) (fate : Ending) (text : List ℕ) (wanted answer : ℕ) →
-    IsEnding task old fate → mid ≡ after_load task old → text ≡ said fate → wanted ≡ status fate →
+pub ends : (task : Option Request) (old mid new : DeskState) (ending : Ending) (text : List ℕ) (wanted answer : ℕ) →
+    IsEnding task old ending → mid ≡ after_load task old → text ≡ said ending → wanted ≡ status ending →
     Speaks mid new text wanted answer → EndsCall task old new answer
-ends task old mid new fate text wanted answer is loaded text_is wanted_is (inl (same, after)) =
-    Decided fate is (same ∙ wanted_is) (after ∙ ap₂ after_text text_is loaded ∙ said_whole fate (after_load task old))
-ends task old mid new fate text wanted answer is loaded text_is wanted_is (inr (inl (failed, stops, told))) =
-    Faulted told.0 (failed, inr (say_stops sink.Failed task old mid failed fate text is loaded text_is stops), told.1)
-ends task old mid new fate text wanted answer is loaded text_is wanted_is (inr (inr (starved, stops, told))) =
+ends task old mid new ending text wanted answer is loaded text_is wanted_is (inl (same, after)) =
+    Decided ending is (same ∙ wanted_is)
+    (after ∙ ap₂ after_text text_is loaded ∙ said_whole ending (after_load task old))
+ends task old mid new ending text wanted answer is loaded text_is wanted_is (inr (inl (failed, stops, told))) =
+    Faulted told.0 (failed, inr (say_stops sink.Failed task old mid failed ending text is loaded text_is stops), told.1)
+ends task old mid new ending text wanted answer is loaded text_is wanted_is (inr (inr (starved, stops, told))) =
     Starved told.0 (
       starved,
-      inr (inr (say_stops sink.Memory task old mid starved fate text is loaded text_is stops)),
+      inr (inr (say_stops sink.Memory task old mid starved ending text is loaded text_is stops)),
       told.1,
     )
 
@@ -105,17 +106,17 @@ faults_loaded (Some a) desk = refl
 call_failed : (task : Option Request) (old mid : DeskState) → CallFails task old mid → mid.faults ≡ counted old.faults
 call_failed None old mid (inl fails) = absurd fails
 call_failed (Some a) old mid (inl fails) = ap (λ (d : DeskState). d.faults) fails
-call_failed task old mid (inr (fate, is, stops)) = ap (λ (d : DeskState). d.faults) stops.1.1
+call_failed task old mid (inr (ending, is, stops)) = ap (λ (d : DeskState). d.faults) stops.1.1
     ∙ ap counted (faults_loaded task old)
 
-no_fault : (fate : Ending) → 5 ≢ status fate
+no_fault : (ending : Ending) → 5 ≢ status ending
 no_fault (Drawn form its image marks) e = absurd (omega arith)
 no_fault (Refused why) e = never_fault why e
 
 -- the count of faults rose where the status is that of a fault
 pub only_fault : (task : Option Request) (old new : DeskState) (answer : ℕ) → EndsCall task old new answer →
     answer ≡ 5 → Rose old.faults new.faults
-only_fault task old new answer (Decided fate is gives after) five = absurd (no_fault fate (sym five ∙ gives))
+only_fault task old new answer (Decided ending is gives after) five = absurd (no_fault ending (sym five ∙ gives))
 only_fault task old new answer (Faulted five_is (mid, fails, tried)) five =
     faults_tried old.faults mid new _ (call_failed task old mid fails) tried
 only_fault task old new answer (Starved six starved) five = absurd (omega arith)
@@ -137,13 +138,13 @@ files_ran_out (Some a) old mid (inr (bytes, finds, after)) = ap files_in after �
 
 files_stopped : (error : SinkError) (task : Option Request) (old mid : DeskState) → SayStops error task old mid →
     files_in mid ≡ files_in old
-files_stopped error task old mid (fate, is, stops) =
-    files_said (after_load task old) mid (said fate) (Err error) stops.1 ∙ files_loaded task old
+files_stopped error task old mid (ending, is, stops) =
+    files_said (after_load task old) mid (said ending) (Err error) stops.1 ∙ files_loaded task old
 
 pub files_kept : (task : Option Request) (old new : DeskState) (answer : ℕ) → EndsCall task old new answer →
     files_in new ≡ files_in old
-files_kept task old new answer (Decided fate is gives after) =
-    ap files_in after ∙ same_files (with_said (said fate)) (after_load task old).told (λ c. refl)
+files_kept task old new answer (Decided ending is gives after) =
+    ap files_in after ∙ same_files (with_said (said ending)) (after_load task old).told (λ c. refl)
     ∙ files_loaded task old
 files_kept task old new answer (Faulted five (mid, inl fails, tried)) = files_tried mid new _ tried
     ∙ files_failed task old mid fails
@@ -151,7 +152,7 @@ files_kept task old new answer (Faulted five (mid, inr stops, tried)) = files_tr
     ∙ files_stopped sink.Failed task old mid stops
 files_kept task old new answer (Starved six (mid, inl runs_out, tried)) = files_tried mid new _ tried
     ∙ files_ran_out task old mid runs_out
-files_kept task old new answer (Starved six (mid, inr (inl (fate, is, some, loaded)), tried)) =
+files_kept task old new answer (Starved six (mid, inr (inl (ending, is, some, loaded)), tried)) =
     files_tried mid new _ tried ∙ ap files_in loaded ∙ files_loaded task old
 files_kept task old new answer (Starved six (mid, inr (inr stops), tried)) = files_tried mid new _ tried
     ∙ files_stopped sink.Memory task old mid stops

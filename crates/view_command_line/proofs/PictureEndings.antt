@@ -5,7 +5,7 @@ use Rattle.std.specs.Global.{Global}
 use Rattle.std.specs.Result.{IsErrAnd}
 use Rattle.tx_types.specs.declared.config.Config.{Config}
 use Rattle.flash_model.specs.Flash.{Contents}
-use Rattle.version_index.specs.Notes.{notes_of}
+use Rattle.judged_records.specs.Notes.{notes_of}
 use Rattle.durable_folder.specs.Histories.{History}
 use Rattle.desk_io.specs.Desk as found
 use Rattle.desk_io.specs.Desk.{DeskState, Finds, after_answer, as_before}
@@ -53,8 +53,8 @@ pub fetched : (a : Request) (old new : DeskState) (bytes : List ℕ) (result : R
     IfOk result (λ text. Gives (Drawing a.form a.unsound bytes) text.items) →
     IfErr result (ImageStops (λ why. Drawing a.form a.unsound bytes (Refused why))) →
     Works (Some a) old new result
-fetched a old new bytes (Ok text) finds after (fate, comes, done, said) none =
-    ((fate, (found.Bytes bytes, finds, comes), done, said), after)
+fetched a old new bytes (Ok text) finds after (ending, comes, done, said) none =
+    ((ending, (found.Bytes bytes, finds, comes), done, said), after)
 fetched a old new bytes (Err (stop.Refused refusal)) finds after none why = ((found.Bytes bytes, finds, why), after)
 fetched a old new bytes (Err stop.Fault) finds after none fault = absurd fault
 fetched a old new bytes (Err stop.Memory) finds after none starved = inr (bytes, finds, after)

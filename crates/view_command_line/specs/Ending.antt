@@ -3,10 +3,10 @@ use Rattle.std.specs.Prelude.{◌≡◌, ℕ, Bool, if◌then◌else◌, List, O
 use Rattle.tx_types.specs.declared.config.Config.{Config}
 use Rattle.tx_types.specs.Config.{shape_of}
 use Rattle.flash_model.specs.Flash.{Contents, Extras}
-use Rattle.version_index.specs.Images.{IsSoundImage, IsLeastImageBreach}
-use Rattle.version_index.specs.declared.note.Note.{Note}
-use Rattle.version_index.specs.Notes.{notes_of}
-use Rattle.version_index.specs.Opening.{IsChosenSpare}
+use Rattle.judged_records.specs.Images.{IsSoundImage, IsLeastImageBreach}
+use Rattle.judged_records.specs.declared.note.Note.{Note}
+use Rattle.judged_records.specs.Notes.{notes_of}
+use Rattle.judged_records.specs.Opening.{IsChosenSpare}
 use Rattle.image_file.specs.Rules.{reading}
 use Rattle.image_file.specs.declared.error.ImageError.{ImageError}
 use Rattle.desk_io.specs.Desk as found
@@ -63,33 +63,33 @@ ending_of form unsound its image (opening.Unsound breach) =
     else Refused (Unsound breach)
 
 abbrev pub Opens : Form → Bool → Config → List Contents → Ending → Type 0
-Opens form unsound its image fate =
-    (opened : Opening) × IsOpening its image opened × (fate ≡ ending_of form unsound its image opened)
+Opens form unsound its image ending =
+    (opened : Opening) × IsOpening its image opened × (ending ≡ ending_of form unsound its image opened)
 
 -- ---- reading an image
 
 abbrev pub AfterReading : Form → Bool → Result (Config × List Contents × Extras) ImageError → Ending →
     Type 0
-AfterReading form unsound (Ok read) fate = Opens form unsound read.0 read.1 fate
-AfterReading form unsound (Err rule) fate = fate ≡ Refused (BadImage rule)
+AfterReading form unsound (Ok read) ending = Opens form unsound read.0 read.1 ending
+AfterReading form unsound (Err rule) ending = ending ≡ Refused (BadImage rule)
 
 -- the bytes of an image file are read, and then comes what its image gives
 abbrev pub Drawing : Form → Bool → List ℕ → Ending → Type 0
-Drawing form unsound bytes fate = AfterReading form unsound (reading bytes) fate
+Drawing form unsound bytes ending = AfterReading form unsound (reading bytes) ending
 
 -- a picture is what an ending says that comes
 abbrev pub Gives : (Ending → Type 0) → List ℕ → Type 0
-Gives comes text = (fate : Ending) × comes fate × (status fate ≡ 0) × (text ≡ said fate)
+Gives comes text = (ending : Ending) × comes ending × (status ending ≡ 0) × (text ≡ said ending)
 
 -- ---- loading
 
 abbrev pub AfterLoad : Request → FileFound → Ending → Type 0
-AfterLoad a found.Missing fate = fate ≡ Refused (Missing a.image)
-AfterLoad a found.TooLong fate = fate ≡ Refused (TooLong a.image)
-AfterLoad a (found.Bytes bytes) fate = Drawing a.form a.unsound bytes fate
+AfterLoad a found.Missing ending = ending ≡ Refused (Missing a.image)
+AfterLoad a found.TooLong ending = ending ≡ Refused (TooLong a.image)
+AfterLoad a (found.Bytes bytes) ending = Drawing a.form a.unsound bytes ending
 
 -- the ending of a call on a desk
 abbrev pub IsEnding : Option Request → DeskState → Ending → Type 0
-IsEnding None desk fate = fate ≡ Refused BadWords
-IsEnding (Some a) desk fate =
-    (found : FileFound) × Finds desk a.image found × AfterLoad a found fate
+IsEnding None desk ending = ending ≡ Refused BadWords
+IsEnding (Some a) desk ending =
+    (found : FileFound) × Finds desk a.image found × AfterLoad a found ending

@@ -5,10 +5,10 @@ use Rattle.tx_types.specs.declared.record.Rec.{Rec}
 use Rattle.flash_model.specs.Flash.{Contents, slot_at}
 use Rattle.record_list.specs.declared.found.Breach.{Breach}
 use Rattle.record_list.specs.Current.{IsCurrent, IsLoose, IsStale, is_held}
-use Rattle.version_index.specs.Images.{records_in}
-use Rattle.version_index.specs.Notes.{note_of, notes_of}
-use Rattle.version_index.specs.declared.note.Note.TheVariants as note
-use Rattle.version_index.specs.Opening.{IsChosenSpare}
+use Rattle.judged_records.specs.Images.{records_in}
+use Rattle.judged_records.specs.Notes.{note_of, notes_of}
+use Rattle.judged_records.specs.declared.note.Note.TheVariants as note
+use Rattle.judged_records.specs.Opening.{IsChosenSpare}
 use Rattle.flash_picture.specs.declared.marks.Marks.{Marks}
 use Rattle.flash_picture.specs.Cells.{cell_at, cell_words, slot_words}
 use Rattle.flash_picture.specs.Map.{label_words}

@@ -43,7 +43,7 @@ Works task old new (Err stop.Memory) = WorkRunsOut task old new
 -- the saying of an ending's text was answered by an error
 abbrev pub SayStops : SinkError → Option Request → DeskState → DeskState → Type 0
 SayStops error task old new =
-    (fate : Ending) × IsEnding task old fate × TextStops error (said fate) (after_load task old) new
+    (ending : Ending) × IsEnding task old ending × TextStops error (said ending) (after_load task old) new
 
 -- a call of the desk failed
 abbrev pub CallFails : Option Request → DeskState → DeskState → Type 0
@@ -57,7 +57,7 @@ IsFaulted task old new =
 -- there was no memory for the line of a refusal
 abbrev pub LineStarves : Option Request → DeskState → DeskState → Type 0
 LineStarves task old new =
-    (fate : Ending) × IsEnding task old fate × (status fate ≢ 0) × (new ≡ after_load task old)
+    (ending : Ending) × IsEnding task old ending × (status ending ≢ 0) × (new ≡ after_load task old)
 
 -- memory ran out before an ending was decided, or for its line, or in the saying
 abbrev pub RunsOutOfMemory : Option Request → DeskState → DeskState → Type 0
@@ -72,7 +72,7 @@ IsStarved task old new =
 -- How a call of the program ends: its ending is said whole, and gives the status; or a call of the desk failed; or
 -- memory ran out.
 pub data EndsCall (task : Option Request) (old new : DeskState) (answer : ℕ) : Type 0 where
-  Decided : (fate : Ending) → IsEnding task old fate → answer ≡ status fate →
-      new ≡ after_answer (with_said (said fate)) (after_load task old) → EndsCall task old new answer
+  Decided : (ending : Ending) → IsEnding task old ending → answer ≡ status ending →
+      new ≡ after_answer (with_said (said ending)) (after_load task old) → EndsCall task old new answer
   Faulted : answer ≡ 5 → IsFaulted task old new → EndsCall task old new answer
   Starved : answer ≡ 6 → IsStarved task old new → EndsCall task old new answer

@@ -2,13 +2,16 @@ ghost use Rattle.std.specs.Prelude.{◌≡◌, Some};
 ghost use Rattle.durable_folder.specs.Histories.{Rests};
 ghost use Rattle.desk_io.specs.Desk.{Rose};
 ghost use Rattle.program_base.specs.Saying.{files_in};
+ghost use Rattle.program_base.specs.Statuses.{code};
 ghost use Rattle.view_command_line.specs.Request.{request_by, request_of};
 ghost use Rattle.view_command_line.specs.Top.{EndsCall, Works};
 
 use crate::drawing::draw_image;
 use crate::words::{View, parse_words};
 use desk_io::Desk;
-use program_base::{ImageRefusal, ImageStop, desk_fault, load_file, no_memory, refuse, say};
+use program_base::{
+    ImageRefusal, ImageStop, Status, desk_fault, load_file, no_memory, refuse, say,
+};
 use std::alloc::Global;
 
 /// Prints the picture that the words ask for, and returns the status: 0 where that is done, 1 for words that are not in
@@ -20,16 +23,16 @@ pub fn top<D: Desk>(alloc: Global, words: &[String], desk: &mut D) -> u8
     ensures files { files_in (D.state desk.new) ≡ files_in (D.state desk.old) }
     ensures disk { Rests (D.disk desk.old) (D.disk desk.new) }
 {
-    run(alloc, words, desk)
+    run(alloc, words, desk).code()
 }
 
 /// Does what the words ask for, and returns the status. Its clause is how the call ends.
-fn run<D: Desk>(alloc: Global, words: &[String], desk: &mut D) -> u8
-    ensures ends { EndsCall (request_by words.now) (D.state desk.old) (D.state desk.new) result }
+fn run<D: Desk>(alloc: Global, words: &[String], desk: &mut D) -> Status
+    ensures ends { EndsCall (request_by words.now) (D.state desk.old) (D.state desk.new) (code result) }
     ensures disk { Rests (D.disk desk.old) (D.disk desk.new) }
 {
     match work(alloc, words, desk) {
-        Ok(text) => say(desk, &text, 0),
+        Ok(text) => say(desk, &text, Status::Done),
         Err(ImageStop::Refused(refusal)) => refuse(desk, refusal.line(alloc), refusal.status()),
         Err(ImageStop::Fault) => desk_fault(desk),
         Err(ImageStop::Memory) => no_memory(desk),

@@ -7,11 +7,11 @@ ghost use Rattle.view_command_line.specs.Ending.{Drawing, Gives, Opens, Refused,
 use crate::opening::{Opening, notes, open};
 use crate::words::Form;
 use flash_picture::{Marks, draw, draw_svg};
+use judged_records::Note;
 use mem_flash::MemFlash;
 use program_base::{ImageRefusal, ImageStop, open_image};
 use std::alloc::Global;
 use tx_types::Config;
-use version_index::Note;
 
 /// The picture of an image file, from its bytes on. One that is not sound is drawn only where that is asked for.
 pub fn draw_image(

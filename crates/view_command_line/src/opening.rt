@@ -4,11 +4,12 @@ ghost use Rattle.flash_model.specs.Calls.{seen_of, spare_area_of};
 ghost use Rattle.flash_model.specs.Flash.{slot_at};
 ghost use Rattle.flash_model.specs.declared.flash.Seen.TheVariants as seen;
 ghost use Rattle.mem_flash.specs.MemFlashState.{loaded};
-ghost use Rattle.version_index.specs.Notes.{note_of, notes_of};
+ghost use Rattle.judged_records.specs.Notes.{note_of, notes_of};
 ghost use Rattle.view_command_line.specs.Ending.{IsOpening};
 
 use bpcc_commit::Bpcc;
 use flash_model::{Flash, Seen, steady_stays};
+use judged_records::Note;
 use mem_flash::MemFlash;
 use page_record::read_spare;
 use record_list::{Breach, CommitRule};
@@ -16,7 +17,6 @@ use scan_recovery::{RecoverError, recover};
 use scc_commit::Scc;
 use std::alloc::Global;
 use tx_types::{Block, Config, Memory, Protocol, Slot};
-use version_index::Note;
 
 /// How an image opens.
 #[derive(Clone, Copy, PartialEq, Eq)]

@@ -6,7 +6,7 @@ use Rattle.std.specs.Cmp.{both_ways}
 use Rattle.std.proofs.lemmas.List.FromFn.{length-range_with_len}
 use Rattle.std.proofs.lemmas.List.Sums.{count_by-le-length}
 use Rattle.list_lemmas.proofs.Counts.{count_first}
-use Rattle.version_index.specs.IndexState.{blanks_of}
+use Rattle.judged_records.specs.IndexState.{blanks_of}
 
 -- a note that passes the test is blank
 pub noted_blank : (note : Note) → is_blank note ≡ true → note ≡ Blank

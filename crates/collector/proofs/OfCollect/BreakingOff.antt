@@ -1,5 +1,5 @@
 -- Where a collection breaks off: from what its calls leave to what is said of the whole.
-use Rattle.collector.proofs.Common.{◌≡◌, ◌≢◌, ℕ, ◌+◌, ◌-◌, ◌*◌, ◌<◌, ◌≤◌, true, List, [], ◌∷◌, ◌++◌, length, refl, sym, ap, ◌∙◌, subst, inl, inr, arith, Contains, range_with_len, Contains-first, shape_of, blocks_of, Block, Protocol, Slot, spare_area_of, FlashState, Does, Moment, Torn, program, erase, moment_of, LossLaw, IndexState, needed_of, erased, BlocksState, Unsure, BreaksOff, cleaning, copies, copied_from, copy_program, needed_slots, CopiesDone, reads_after, Matches, StoreParts}
+use Rattle.collector.proofs.Common.{◌≡◌, ◌≢◌, ℕ, ◌+◌, ◌-◌, ◌*◌, ◌<◌, ◌≤◌, true, List, [], ◌∷◌, ◌++◌, length, refl, sym, ap, ◌∙◌, subst, inl, inr, arith, Contains, range_with_len, Contains-first, shape_of, blocks_of, Block, Protocol, Slot, spare_area_of, FlashState, Does, Moment, Torn, program, erase, moment_of, LossLaw, IndexState, needed_of, erased, BlocksState, Unsure, BreaksOff, cleaning, copies, copied_from, copy_program, needed_slots, CopiesDone, counted_times, Matches, StoreParts}
 use Rattle.std.proofs.Common.{filter}
 use Rattle.std.proofs.lemmas.List.{append-nil}
 use Rattle.std.proofs.lemmas.List.Elements.{Contains-append_left, Contains-append_right}
@@ -10,7 +10,7 @@ use Rattle.collector.specs.declared.unsure.Unsure.TheVariants as unsure
 use Rattle.collector.specs.BreakingOff.{CopiedFirst, CopyBreaksOff, CopiesBreakOff}
 use Rattle.collector.proofs.OfCollect.Collections.{same_slots, copies_follow, all_copied}
 use Rattle.collector.proofs.OfCopies.CopyingBlocks.{CopiedSoFar, needed_before, its_program, to_at, needed0}
-use Rattle.collector.proofs.OfSettle.Looked.{reads_then}
+use Rattle.flash_model.proofs.ComingLemmas.{counted_times-then}
 
 -- the next copy broke off
 module _ (p : Protocol) (a : StoreParts) (n : IndexState) (s : FlashState) (t : BlocksState) (u : Unsure)
@@ -57,8 +57,8 @@ module _ (p : Protocol) (a : StoreParts) (n : IndexState) (s : FlashState) (t : 
         from = at;
         later = later;
         copied = copied_before (moment_of s') (sym read.1) n' stays;
-        reads = λ live. read.2 (h.keeps.carries.lives ∙ live) ∙ ap counted h.reads ∙ reads_then used 1 s0.reads
-            ∙ ap (λ k. reads_after (k + 1) s0.reads) h.count;
+        reads = λ live. read.2 (h.keeps.carries.lives ∙ live) ∙ ap counted h.reads ∙ counted_times-then used 1 s0.reads
+            ∙ ap (λ k. counted_times (k + 1) s0.reads) h.count;
       })
   copying_broke s' n' u' from to from_is to_is stays (inr torn) =
       let place = to_at p a n s t u first start at used block h low block_is spare_is high apart below in
@@ -77,8 +77,8 @@ module _ (p : Protocol) (a : StoreParts) (n : IndexState) (s : FlashState) (t : 
             ∙ ap (copy_program n0.config.page_bytes s0.image to.0) (sym from_is))
             (subst (λ sh. Torn sh (moment_of s) (copy_program n.config.page_bytes s.image to.0 from.0) (moment_of s'))
             h.keeps.carries.shape torn.1);
-        reads = torn.2 ∙ ap counted h.reads ∙ reads_then used 1 s0.reads
-            ∙ ap (λ k. reads_after (k + 1) s0.reads) h.count;
+        reads = torn.2 ∙ ap counted h.reads ∙ counted_times-then used 1 s0.reads
+            ∙ ap (λ k. counted_times (k + 1) s0.reads) h.count;
       })
 
 -- a collection of which the spare was made blank
@@ -113,7 +113,7 @@ module _ (p : Protocol) (loss : LossLaw p) (s0 : FlashState) (n0 : IndexState) (
     from = b.from;
     later = b.later;
     copied = follows b.first (b.from ∷ b.later) (moment_of s2) n2 b.copied;
-    reads = λ live. b.reads (lives ∙ live) ∙ ap (reads_after (length b.first + 1)) unread;
+    reads = λ live. b.reads (lives ∙ live) ∙ ap (counted_times (length b.first + 1)) unread;
   }
   copies_broke lives s2 n2 (unsure.Copy from to) b =
       let copied = follows b.first (from.0 ∷ b.later) b.between n2 b.copied in
@@ -133,7 +133,7 @@ module _ (p : Protocol) (loss : LossLaw p) (s0 : FlashState) (n0 : IndexState) (
             (moment_of s2)) same
             (subst (λ (k : IndexState). Torn s1.shape b.between (copy_program k.config.page_bytes s1.image to.0 from.0)
             (moment_of s2)) noted b.torn));
-        reads = b.reads ∙ ap (reads_after (length b.first + 1)) unread;
+        reads = b.reads ∙ ap (counted_times (length b.first + 1)) unread;
       }
   copies_broke lives s2 n2 (unsure.Own at rec) b = absurd b
   copies_broke lives s2 n2 unsure.SpareErase b = absurd b
@@ -163,8 +163,8 @@ module _ (p : Protocol) (loss : LossLaw p) (s0 : FlashState) (n0 : IndexState) (
                   (needed_slots k block)) noted copied.noted);
             };
             torn = subst (λ sh. Torn sh (moment_of s2) (erase block) (moment_of s3)) shape2 torn;
-            reads = unread_still ∙ copied.reads ∙ ap (reads_after used) unread
-                ∙ ap (λ k. reads_after k s0.reads) (copied.count
+            reads = unread_still ∙ copied.reads ∙ ap (counted_times used) unread
+                ∙ ap (λ k. counted_times k s0.reads) (copied.count
                 ∙ ap (λ (k : IndexState). length (needed_slots k block)) noted);
           },
         )

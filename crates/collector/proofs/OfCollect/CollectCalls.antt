@@ -1,5 +1,5 @@
 -- Collecting a block, as a call: the spare is made blank, and then the block is collected.
-use Rattle.collector.proofs.Common.{◌≡◌, ◌≢◌, ℕ, ◌*◌, ◌<◌, true, false, length, Ok, Err, Result, refl, sym, ap, ap₂, ◌∙◌, subst, arith, shape_of, blocks_of, Block, Protocol, Broken, LossLaw, IndexState, erased, with_spare, BlocksState, BreaksOff, Cleans, Collects, CopiesNeeded, ErasesVictim, collected, copied_from, swapped, needed_slots, HasUnneeded, reads_after, StoreParts}
+use Rattle.collector.proofs.Common.{◌≡◌, ◌≢◌, ℕ, ◌*◌, ◌<◌, true, false, length, Ok, Err, Result, refl, sym, ap, ap₂, ◌∙◌, subst, arith, shape_of, blocks_of, Block, Protocol, Broken, LossLaw, IndexState, erased, with_spare, BlocksState, BreaksOff, Cleans, Collects, CopiesNeeded, ErasesVictim, collected, copied_from, swapped, needed_slots, HasUnneeded, counted_times, StoreParts}
 use Rattle.collector.specs.Calls.{CollectsClean, stops_copying, comes_to_erase}
 use Rattle.collector.specs.Going.{CostsBroken}
 use Rattle.collector.specs.StoreParts.{IsSure}
@@ -43,9 +43,9 @@ module _ (p : Protocol) (a m h : StoreParts) (cleaned : Cleans p a m (Ok tt)) (b
       ≡ swapped a.table block.0 (length (needed_slots (erased a.noted a.table.spare) block.0))
   table_so same = ap₂ (λ (t : BlocksState) u. swapped t block.0 u) (same ∙ cleaned.blocks) count
 
-  pub reads_so : h.flash.reads ≡ reads_after (length (needed_slots (erased a.noted a.table.spare) block.0))
+  pub reads_so : h.flash.reads ≡ counted_times (length (needed_slots (erased a.noted a.table.spare) block.0))
       a.flash.reads
-  reads_so = c.copied.reads ∙ ap₂ reads_after count cleaned.reads
+  reads_so = c.copied.reads ∙ ap₂ counted_times count cleaned.reads
 
 module _ (p : Protocol) (loss : LossLaw p) (a m : StoreParts) (k : IsSure p a) (cleaned : Cleans p a m (Ok tt))
     (block : Block)

@@ -1,7 +1,7 @@
 -- What is noted once a block was collected: no record is new, and what was copied was needed.
 use Rattle.collector.proofs.Common.{◌≡◌, ◌⊎◌, ℕ, zero, suc, ◌+◌, ◌*◌, ◌<◌, true, List, [], ◌∷◌, length, set, refl, sym, ap, ◌∙◌, subst, inl, inr, Contains, from_filter, Contains-first, Contains-rest, shape_of, slots_of, blocks_of, Config, Found, is_outside, Note, Blank, Holds, note_at, found_in, IndexState, needed_of, copied, erased, found, noted_from, copied_from, collected, needed_slots, noted_cleaned, slots_in, HasNoNewRecord}
 use Rattle.std.proofs.Math.ListN.{length-set}
-use Rattle.version_index.proofs.OfTables.FoundIn.{noted_in, holds_within}
+use Rattle.judged_records.proofs.OfNotes.FoundIn.{noted_in, holds_within}
 use Rattle.collector.proofs.OfCollect.Chains.{WasThere, no_new}
 use Rattle.collector.proofs.OfNotes.NotesLeft.{noted_left, length-noted}
 

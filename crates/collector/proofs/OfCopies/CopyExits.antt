@@ -4,8 +4,8 @@ use Rattle.std.proofs.lemmas.List.{set-get_or}
 use Rattle.flash_model.specs.declared.outcome.Outcome.TheVariants as outcome
 use Rattle.flash_model.proofs.ImageLemmas.{IsImage-left}
 use Rattle.record_list.specs.WrittenChanges.{WrittenCopyLaw}
-use Rattle.version_index.specs.ImageChanges.{KeepsCopied, KeepsDamaged}
-use Rattle.version_index.proofs.OfLaws.ImageLaws.{image_copy_law, image_damage_law}
+use Rattle.judged_records.specs.ImageChanges.{KeepsCopied, KeepsDamaged}
+use Rattle.judged_records.proofs.OfLaws.ImageLaws.{image_copy_law, image_damage_law}
 use Rattle.die_alloc.proofs.Changes.{block_within}
 use Rattle.collector.specs.declared.unsure.Unsure.TheVariants as unsure
 use Rattle.collector.proofs.OfNotes.Calm.{noted_as_read}

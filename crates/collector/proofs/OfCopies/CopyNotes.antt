@@ -2,7 +2,7 @@
 use Rattle.collector.proofs.Common.{◌≡◌, ℕ, ◌<◌, true, List, length, set, refl, sym, ap, ◌∙◌, subst, inl, inr, Contains, All-contains, all_from, from_filter, in_filter, shape_of, Link, Rec, Found, name_of, is_present, IsInserted, left, CopyLaw, Pages, PagesExist, is_outside, is_wanted, found_named, present_as, wanted_cases, counted_wanted, pinned_wanted, Blank, Holds, note_at, found_in, IndexState, IsNoted, current_of, current_name_of, held_of, pinned_names, copied, CanSpare, IsThere, Preserves, found, found_in_programmed}
 use Rattle.record_list.specs.Changes.{CopyKeeps}
 use Rattle.record_list.proofs.OfChanges.OneMore.{inserted_in, in_inserted}
-use Rattle.version_index.proofs.OfTables.FoundIn.{noted_in}
+use Rattle.judged_records.proofs.OfNotes.FoundIn.{noted_in}
 
 module _ (n : IndexState) (noted : IsNoted n.config.protocol n) (law : CopyLaw n.config.protocol)
     (from to : ℕ) (rec : Rec)

@@ -1,5 +1,5 @@
 -- Copying what is needed in a block to the spare, one slot after another.
-use Rattle.collector.proofs.Common.{◌≡◌, ◌≢◌, ◌⊎◌, ℕ, ◌+◌, ◌-◌, ◌*◌, ◌/◌, ◌<◌, ◌≤◌, true, false, not, List, [], ◌∷◌, ◌++◌, length, set, eqb-true, eq-eqb, Ok, refl, sym, ap, ◌∙◌, subst, inl, inr, arith, ◌==◌, range_with_len, cases_Bool, cases_lt, both_ways, get_or-set_same, get_or-set_other, shape_of, slots_of, blocks_of, Config, Protocol, Shape, Slot, Rec, FlashState, blank, complete, slot_at, spare_area_of, Moment, program, moment_of, Does, block_within, CopyLaw, is_outside, Blank, Holds, note_at, rec_of, found_in, IndexState, IsNoted, needed_of, copied, in_it, inside_block, noted_from, BlocksState, Unsure, Keeps, CopiesRecord, reads_after, IsNextOfSpare, StoreParts, store_parts, copy_program, copies, copied_from, needed_slots, CopiesDone, HasUnneeded}
+use Rattle.collector.proofs.Common.{◌≡◌, ◌≢◌, ◌⊎◌, ℕ, ◌+◌, ◌-◌, ◌*◌, ◌/◌, ◌<◌, ◌≤◌, true, false, not, List, [], ◌∷◌, ◌++◌, length, set, eqb-true, eq-eqb, Ok, refl, sym, ap, ◌∙◌, subst, inl, inr, arith, ◌==◌, range_with_len, cases_Bool, cases_lt, both_ways, get_or-set_same, get_or-set_other, shape_of, slots_of, blocks_of, Config, Protocol, Shape, Slot, Rec, FlashState, blank, complete, slot_at, spare_area_of, Moment, program, moment_of, Does, block_within, CopyLaw, is_outside, Blank, Holds, note_at, rec_of, found_in, IndexState, IsNoted, needed_of, copied, in_it, inside_block, noted_from, BlocksState, Unsure, Keeps, CopiesRecord, counted_times, IsNextOfSpare, StoreParts, store_parts, copy_program, copies, copied_from, needed_slots, CopiesDone, HasUnneeded}
 use Rattle.std.proofs.Common.{filter, IsSome}
 use Rattle.std.proofs.Math.Nat.{mul-le-mul_right}
 use Rattle.std.proofs.lemmas.Bool.{cases_order}
@@ -10,13 +10,13 @@ use Rattle.flash_model.specs.Flash.{counted}
 use Rattle.flash_model.specs.Calls.{page_of}
 use Rattle.flash_model.proofs.MoveLemmas.{Does-append}
 use Rattle.record_list.proofs.OfLosses.LossAmong.{one_each}
-use Rattle.version_index.proofs.OfTables.NotedFacts.{noted_map}
+use Rattle.judged_records.proofs.OfNotes.NotedFacts.{noted_map}
 use Rattle.collector.specs.StoreParts.{IsSure}
 use Rattle.collector.specs.Collecting.{CopyDone}
 use Rattle.collector.proofs.OfCopies.CopyLists.{copied_more, copies_more}
 use Rattle.collector.proofs.OfCopies.Homes.{copy_needs}
 use Rattle.collector.proofs.OfNotes.KeepsLemmas.{keeps_same, keeps_then}
-use Rattle.collector.proofs.OfSettle.Looked.{reads_then}
+use Rattle.flash_model.proofs.ComingLemmas.{counted_times-then}
 use Rattle.collector.proofs.OfNotes.NeedFacts.{home_needed}
 use Rattle.collector.proofs.OfCopies.Sparing.{HasCopy, spared_by_copies}
 
@@ -37,7 +37,7 @@ pub record CopiedSoFar (p : Protocol) (a : StoreParts) (n : IndexState) (s : Fla
   pub does : Does a.flash.shape (moment_of a.flash) (copies a.noted.config.page_bytes a.flash.image start
       (needed_before a.noted first at)) (moment_of s)
   pub noted : n ≡ copied_from a.noted start (needed_before a.noted first at)
-  pub reads : s.reads ≡ reads_after used a.flash.reads
+  pub reads : s.reads ≡ counted_times used a.flash.reads
   pub needs : (slot : ℕ) → Away start a.noted.config.pages_per_block slot → needed_of n slot ≡ needed_of a.noted slot
   pub notes : (slot : ℕ) → Away start a.noted.config.pages_per_block slot →
       note_at n.notes slot ≡ note_at a.noted.notes slot
@@ -314,7 +314,7 @@ module _ (p : Protocol) (a : StoreParts) (n : IndexState) (s : FlashState) (t : 
         noted = changed ∙ ap (λ k. copied n at k) to_at
             ∙ ap (λ k. copied k at (start + length (needed_before n0 first at))) h.noted
             ∙ sym (ap (copied_from n0 start) so_far ∙ copied_more n0 start (needed_before n0 first at) at);
-        reads = done.reads ∙ ap counted h.reads ∙ reads_then used 1 s0.reads;
+        reads = done.reads ∙ ap counted h.reads ∙ counted_times-then used 1 s0.reads;
         needs = needs_now;
         notes = λ slot a. note_other slot (not_to slot a) ∙ h.notes slot a;
         image = λ slot a. image_other slot (not_to slot a) ∙ h.image slot a;

@@ -3,8 +3,8 @@ use Rattle.collector.proofs.Common.{◌≡◌, ℕ, ◌<◌, true, false, List, 
 use Rattle.record_list.specs.Written.{is_outside_spare}
 use Rattle.record_list.proofs.OfFacts.Names.{has_name_true}
 use Rattle.record_list.proofs.OfLosses.LossAmong.{IsOneEach}
-use Rattle.version_index.proofs.OfTables.FoundIn.{noted_in}
-use Rattle.version_index.proofs.OfTables.HomeFacts.{first_stands}
+use Rattle.judged_records.proofs.OfNotes.FoundIn.{noted_in}
+use Rattle.judged_records.proofs.OfNotes.HomeFacts.{first_stands}
 use Rattle.collector.proofs.OfCopies.Homes.{first_of, stands_off, home_off, home_is_needed}
 
 -- a needed slot of the block has its note in a slot outside the block too

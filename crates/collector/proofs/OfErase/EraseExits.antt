@@ -4,9 +4,9 @@ use Rattle.std.proofs.lemmas.Bool.{not-false}
 use Rattle.flash_model.specs.declared.outcome.Outcome.TheVariants as outcome
 use Rattle.flash_model.specs.Operations.{with_block}
 use Rattle.flash_model.proofs.ImageLemmas.{IsImage-with_block, slot_at-with_block_in, slot_at-with_block_out}
-use Rattle.version_index.specs.ImageChanges.{KeepsLost}
-use Rattle.version_index.proofs.OfLaws.ImageLaws.{image_loss_law}
-use Rattle.version_index.proofs.OfTables.Blocks.{outside_it}
+use Rattle.judged_records.specs.ImageChanges.{KeepsLost}
+use Rattle.judged_records.proofs.OfLaws.ImageLaws.{image_loss_law}
+use Rattle.judged_records.proofs.OfNotes.Blocks.{outside_it}
 use Rattle.collector.proofs.OfNotes.NotesLeft.{note_at-in}
 use Rattle.collector.specs.declared.unsure.Unsure.TheVariants as unsure
 use Rattle.collector.proofs.OfErase.Emptying.{Empties}

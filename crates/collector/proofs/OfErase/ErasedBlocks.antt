@@ -3,7 +3,7 @@ use Rattle.collector.proofs.Common.{◌≡◌, ◌⊎◌, ℕ, ◌+◌, ◌*◌,
 use Rattle.std.specs.Prelude.{IsSomeAnd}
 use Rattle.std.proofs.Math.Nat.{div-eq_of_lt-le}
 use Rattle.list_lemmas.proofs.Ranges.{range_all}
-use Rattle.version_index.specs.Images.{SlotReads}
+use Rattle.judged_records.specs.Images.{SlotReads}
 use Rattle.collector.specs.Settling.{reads_as, block_reads_as_noted}
 
 -- a note that a damaged slot reads as

@@ -3,7 +3,7 @@ use Rattle.collector.proofs.Common.{◌≡◌, ℕ, ◌<◌, ◌≤◌, true, Li
 use Rattle.std.specs.Prelude.{option_and_then}
 use Rattle.record_list.specs.Written.{value_of}
 use Rattle.record_list.proofs.OfChanges.Arrays.{text_absent}
-use Rattle.version_index.proofs.OfTables.NotedFacts.{noted_present}
+use Rattle.judged_records.proofs.OfNotes.NotedFacts.{noted_present}
 use Rattle.collector.proofs.OfImages.KnownArrays.{same_known}
 use Rattle.collector.proofs.OfImages.WantedImages.{current_present, pinned_present}
 

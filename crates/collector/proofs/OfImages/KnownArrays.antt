@@ -2,7 +2,7 @@
 use Rattle.collector.proofs.Common.{◌≡◌, ℕ, ◌<◌, List, Option, map, sym, ap, ◌∙◌, range_with_len, Protocol, Contents, Written, value_at, written_in, array_in, IndexState, current_of, page_known, array_known}
 use Rattle.list_lemmas.proofs.Ranges.{same_range}
 use Rattle.record_list.specs.Written.{page_at}
-use Rattle.version_index.specs.Images.{current_in}
+use Rattle.judged_records.specs.Images.{current_in}
 
 at_version : List Written → ℕ → ℕ → Option (List ℕ)
 at_version list page version = value_at list (record { page = page; version = version })

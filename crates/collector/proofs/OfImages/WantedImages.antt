@@ -2,7 +2,7 @@
 use Rattle.collector.proofs.Common.{◌≡◌, ℕ, ◌<◌, true, false, not, eqb-true, List, length, Contains, refl, sym, ap, ◌∙◌, subst, inl, inr, arith, ◌==◌, cases_Bool, All-contains, from_filter, shape_of, slots_of, Link, FlashState, slot_at, Found, cur, name_of, is_present, left, Written, is_outside, is_wanted, found_named, present_as, counted_wanted, pinned_wanted, Blank, Holds, records_in, written_in, found_in, note_at, IndexState, current_of, current_name_of, pinned_names, noted_from, BlocksState, Unsure, is_unsure, Matches, CanSpare, IsThere}
 use Rattle.record_list.specs.Written.{found_of}
 use Rattle.record_list.proofs.OfChanges.WrittenLists.{in_records}
-use Rattle.version_index.proofs.OfLaws.ImageScans.{written, read_slot}
+use Rattle.judged_records.proofs.OfLaws.ImageScans.{written, read_slot}
 use Rattle.collector.specs.declared.unsure.Unsure.TheVariants as unsure
 use Rattle.collector.proofs.OfNotes.SpelledNotes.{noted_record}
 

@@ -1,7 +1,7 @@
 -- Tables that match a flash of which nothing is unsure: their records are those of the image.
 use Rattle.collector.proofs.Common.{◌≡◌, ℕ, ◌<◌, refl, sym, ap, ◌∙◌, subst, arith, shape_of, slots_of, FlashState, IsRemovable, dispensable_removable, records_in, found_in, IndexState, pinned_names, BlocksState, Matches, CanSpare, IsNotedAt}
 use Rattle.collector.specs.declared.unsure.Unsure.TheVariants as unsure
-use Rattle.version_index.proofs.OfLaws.Mirror.{mirrored}
+use Rattle.judged_records.proofs.OfLaws.Mirror.{mirrored}
 
 module _ (s : FlashState) (n : IndexState) (t : BlocksState) (m : Matches s n t unsure.Nothing) where
   pub noted_as_read : (slot : ℕ) → slot < slots_of s.shape → IsNotedAt s.image n slot

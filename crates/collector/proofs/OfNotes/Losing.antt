@@ -3,7 +3,7 @@ use Rattle.collector.proofs.Common.{◌≡◌, ℕ, ◌<◌, Bool, true, List, C
 use Rattle.record_list.specs.Changes.{LossKeeps}
 use Rattle.record_list.specs.Written.{IsDispensable}
 use Rattle.record_list.proofs.OfChanges.WrittenLists.{left_twice}
-use Rattle.version_index.specs.IndexState.{CanLose}
+use Rattle.judged_records.specs.IndexState.{CanLose}
 use Rattle.collector.proofs.OfNotes.NotesLeft.{noted_left}
 
 -- a block that can be spared can be lost

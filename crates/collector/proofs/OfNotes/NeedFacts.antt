@@ -1,7 +1,7 @@
 -- What a needed slot holds, and that one name has one home.
 use Rattle.collector.proofs.Common.{◌≡◌, ◌⊎◌, ℕ, true, ◌&&◌, Contains, Option, Some, None, sym, ap, ◌∙◌, eqb-true, ◌==◌, and_parts, same_Some, any_of, shape_of, Found, name_of, IsCurrent, is_held, is_slot, is_wanted, wanted_cases, found_in, IndexState, needed_of, home_of, pinned_names, IsNoted}
 use Rattle.record_list.specs.Written.{home}
-use Rattle.version_index.proofs.OfTables.Places.{one_in_slot}
+use Rattle.judged_records.proofs.OfNotes.Places.{one_in_slot}
 
 -- a slot that is needed is the home of a wanted record
 pub record IsHome (n : IndexState) (at : ℕ) : Type 0 where

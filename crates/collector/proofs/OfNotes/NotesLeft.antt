@@ -1,7 +1,7 @@
 -- The notes with one note for each slot of a block.
 use Rattle.collector.proofs.Common.{◌≡◌, ◌⊎◌, ℕ, ◌+◌, ◌*◌, ◌<◌, ◌≤◌, List, length, None, arith, slots_of, blocks_of, Shape, block_within, left, is_outside, Note, Blank, note_at, rec_of, found_in, with_block_noted}
-use Rattle.version_index.proofs.OfTables.Blocks.{item_in, item_out, length-with_item}
-use Rattle.version_index.proofs.OfTables.FoundIn.{found_in_block}
+use Rattle.judged_records.proofs.OfNotes.Blocks.{item_in, item_out, length-with_item}
+use Rattle.judged_records.proofs.OfNotes.FoundIn.{found_in_block}
 
 module _ (shape : Shape) (some : 0 < shape.pages_per_block) (notes : List Note)
     (long : length notes ≡ slots_of shape) (block : ℕ)

@@ -4,7 +4,7 @@ use Rattle.std.proofs.Common.{ltb}
 use Rattle.list_lemmas.proofs.Tests.{any_from}
 use Rattle.list_lemmas.proofs.Counts.{count_less}
 use Rattle.record_list.specs.Records.{mentions_below}
-use Rattle.version_index.proofs.OfTables.Blocks.{other_block}
+use Rattle.judged_records.proofs.OfNotes.Blocks.{other_block}
 use Rattle.collector.proofs.OfCollect.Chains.{was_there}
 use Rattle.collector.proofs.OfCollect.CollectedNotes.{erased_from, collected_outside, collected_from, in_place, in_copy}
 use Rattle.collector.proofs.OfRoom.GoneRecords.{GoesFrom, going_none, none_going, slot_needless}

@@ -7,9 +7,9 @@ use Rattle.record_list.specs.Current.{is_loose}
 use Rattle.record_list.specs.Transaction.{next_names, IsAsked, IsBegun, IsAskedAt}
 use Rattle.record_list.proofs.OfChanges.Progress.{underway_of, one_name}
 use Rattle.record_list.proofs.OfWalks.Rounds.{follows_of, follows_in}
-use Rattle.version_index.proofs.OfTables.FoundIn.{found_in_ascending}
-use Rattle.version_index.proofs.OfTables.HomeFacts.{first_stands}
-use Rattle.version_index.proofs.OfTables.Places.{one_in_slot}
+use Rattle.judged_records.proofs.OfNotes.FoundIn.{found_in_ascending}
+use Rattle.judged_records.proofs.OfNotes.HomeFacts.{first_stands}
+use Rattle.judged_records.proofs.OfNotes.Places.{one_in_slot}
 use Rattle.collector.specs.Going.{IsOfOther}
 use Rattle.collector.proofs.OfNotes.NeedFacts.{home_needed}
 

@@ -1,8 +1,8 @@
 -- A name that is written next stays one where what is preserved stays.
 use Rattle.collector.proofs.Common.{◌≡◌, ℕ, ◌<◌, ◌≤◌, Bool, true, false, List, length, Some, None, All, Contains, sym, ap, ◌∙◌, subst, inl, inr, arith, both_ways, cases_Bool, none-some, same_Some, All-contains, all_from, Config, Link, is_present, InProgress, found_in, IndexState, pinned_names, IsNextName, IsPinBeside, Preserves}
 use Rattle.std.specs.Prelude.{if◌then◌else◌}
-use Rattle.version_index.proofs.OfTables.BaseTables.{given_from}
-use Rattle.version_index.proofs.OfChanges.Pins.{numbered_pin}
+use Rattle.judged_records.proofs.OfNotes.BaseTables.{given_from}
+use Rattle.judged_records.proofs.OfChanges.Pins.{numbered_pin}
 
 its_page : (page version : ℕ) (name : Link) (b : Bool) →
     (if b then None else Some (record { page = page; version = version })) ≡ Some name → name.page ≡ page

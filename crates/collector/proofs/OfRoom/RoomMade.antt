@@ -14,9 +14,9 @@ use Rattle.record_list.proofs.OfLosses.LossCounted.{responsible_high}
 use Rattle.record_list.proofs.OfChanges.Progress.{underway_of, name_loose, absent_name}
 use Rattle.record_list.proofs.OfWalks.Rounds.{follows_of, follows_in}
 use Rattle.record_list.proofs.OfFacts.SoundNames.{sound_map}
-use Rattle.version_index.specs.IndexState.{garbage_of, is_garbage_at, shut_or_part}
-use Rattle.version_index.proofs.OfTables.Blocks.{other_block}
-use Rattle.version_index.proofs.OfTables.NotedFacts.{spare_garbage, other_garbage}
+use Rattle.judged_records.specs.IndexState.{garbage_of, is_garbage_at, shut_or_part}
+use Rattle.judged_records.proofs.OfNotes.Blocks.{other_block}
+use Rattle.judged_records.proofs.OfNotes.NotedFacts.{spare_garbage, other_garbage}
 use Rattle.die_alloc.specs.BlocksState.{no_block}
 use Rattle.die_alloc.proofs.Changes.{shut_where_full}
 use Rattle.collector.specs.declared.unsure.Unsure.TheVariants as unsure

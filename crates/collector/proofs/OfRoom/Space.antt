@@ -13,7 +13,7 @@ use Rattle.record_list.specs.Records.{is_same}
 use Rattle.record_list.specs.Current.{responsible, answers_for}
 use Rattle.record_list.proofs.OfFacts.Held.{answer_of}
 use Rattle.record_list.proofs.OfLosses.LossCounted.{responsible_at}
-use Rattle.version_index.proofs.OfTables.FoundIn.{noted_in}
+use Rattle.judged_records.proofs.OfNotes.FoundIn.{noted_in}
 use Rattle.collector.proofs.OfNotes.NeedFacts.{IsHome, home_needed, found_home}
 
 -- a held record is at most the current one of its page

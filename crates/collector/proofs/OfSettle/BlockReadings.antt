@@ -1,15 +1,15 @@
 -- Reading the slots of a block, one after another.
-use Rattle.collector.proofs.Common.{◌≡◌, ℕ, ◌+◌, ◌-◌, ◌*◌, ◌<◌, ◌≤◌, Bool, true, false, ◌&&◌, if◌then◌else◌, List, Ok, Err, Result, refl, sym, ap, ap₂, ◌∙◌, subst, arith, range_with_len, list_all, FlashState, Contents, blank, damaged, complete, slot_at, Reads, Seen, Broken, Moment, moment_of, Carries-then, block_within, same_moments, shape_of, slots_of, blocks_of, Note, Blank, Damaged, Holds, note_at, IndexState, Looks, reads_after, reads_alike, holds_record, is_blank_slot}
+use Rattle.collector.proofs.Common.{◌≡◌, ℕ, ◌+◌, ◌-◌, ◌*◌, ◌<◌, ◌≤◌, Bool, true, false, ◌&&◌, if◌then◌else◌, List, Ok, Err, Result, refl, sym, ap, ap₂, ◌∙◌, subst, arith, range_with_len, list_all, FlashState, Contents, blank, damaged, complete, slot_at, Reads, Seen, Broken, Moment, moment_of, Carries-then, block_within, same_moments, shape_of, slots_of, blocks_of, Note, Blank, Damaged, Holds, note_at, IndexState, Looks, counted_times, reads_alike, holds_record, is_blank_slot}
 use Rattle.list_lemmas.proofs.Ranges.{range_push}
 use Rattle.flash_model.specs.Flash.{counted}
 use Rattle.flash_model.specs.Calls.{seen_of}
 use Rattle.flash_model.specs.declared.flash.Seen.TheVariants as seen
 use Rattle.flash_model.proofs.CallLemmas.{Carries-nothing}
-use Rattle.version_index.specs.Notes.{seen_as}
+use Rattle.judged_records.specs.Notes.{seen_as}
 use Rattle.collector.specs.Looking.{ReadsAtMost}
-use Rattle.collector.proofs.OfSettle.Looked.{reads_then}
+use Rattle.flash_model.proofs.ComingLemmas.{counted_times-then}
 use Rattle.collector.specs.Settling.{ReadsBlock, reads_as}
-use Rattle.collector.specs.Collecting.{reads_blank}
+use Rattle.flash_model.specs.Readings.{reads_blank}
 
 -- none was read
 pub looks_none : (s : FlashState) → Looks s s 0 false
@@ -55,14 +55,14 @@ looks_then a b c k true ab bc = record {
   some = (
     k + bc.some.0,
     omega (arith, bc.some.1),
-    bc.some.2 ∙ ap (reads_after bc.some.0) ab.all
-        ∙ reads_then k bc.some.0 a.reads,
+    bc.some.2 ∙ ap (counted_times bc.some.0) ab.all
+        ∙ counted_times-then k bc.some.0 a.reads,
   );
 }
 looks_then a b c k false ab bc = record {
   moment = bc.moment ∙ ab.moment;
   carries = Carries-then a b c false ab.carries bc.carries;
-  all = bc.all ∙ ap (reads_after 1) ab.all ∙ reads_then k 1 a.reads;
+  all = bc.all ∙ ap (counted_times 1) ab.all ∙ counted_times-then k 1 a.reads;
   some = tt;
 }
 

@@ -1,6 +1,6 @@
 -- A slot that was blank and is damaged: nothing of what is preserved changes.
 use Rattle.collector.proofs.Common.{◌≡◌, ℕ, ◌<◌, true, length, refl, sym, ap, subst, Blank, note_at, IndexState, current_of, held_of, current_name_of, damaged_at, is_present, InProgress, cur, is_held, Preserves}
-use Rattle.version_index.proofs.OfTables.FoundIn.{found_in_damaged}
+use Rattle.judged_records.proofs.OfNotes.FoundIn.{found_in_damaged}
 
 -- a damaged slot that was blank changes nothing of what is preserved
 pub damaged_preserves : (n : IndexState) (at : ℕ) → at < length n.notes → note_at n.notes at ≡ Blank →

@@ -1,7 +1,7 @@
 -- What matches once a block was read whose erase was broken: it is old, or each of its slots is blank, or damaged.
 use Rattle.collector.proofs.Common.{◌≡◌, ◌≢◌, ℕ, ◌/◌, ◌%◌, ◌<◌, ◌≤◌, true, not, eqb-true, List, None, refl, sym, ap, ◌∙◌, subst, inl, inr, arith, ◌==◌, cases_Bool, shape_of, slots_of, blocks_of, Block, Shape, FlashState, Contents, slot_at, LossLaw, is_outside, Note, note_at, note_of, rec_of, with_block_noted, IndexState, IsNoted, with_spare, in_it, inside_block, BlocksState, IsBlocksState, block_of_slot, table_with_spare, has_room_not_spare, Unsure, swapped, Matches, IsNotedAt, AllOfBlock, IsFilledTo}
 use Rattle.std.proofs.lemmas.Bool.{not_from_true}
-use Rattle.version_index.proofs.OfTables.Blocks.{outside_it}
+use Rattle.judged_records.proofs.OfNotes.Blocks.{outside_it}
 use Rattle.collector.proofs.OfNotes.NotesLeft.{note_at-in, note_at-out}
 use Rattle.die_alloc.proofs.Changes.{block_within}
 use Rattle.collector.specs.declared.unsure.Unsure.TheVariants as unsure

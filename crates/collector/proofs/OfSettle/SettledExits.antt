@@ -1,6 +1,6 @@
 -- What matches once the place was read that was not known.
 use Rattle.collector.proofs.Common.{◌≡◌, ◌≢◌, ◌⊎◌, ℕ, ◌+◌, ◌%◌, ◌<◌, ◌≤◌, true, false, eqb-true, List, length, set, Some, sym, ap, ◌∙◌, subst, inl, inr, arith, ◌==◌, cases_Bool, eqb-false, get_or-set_same, get_or-set_other, shape_of, slots_of, FlashState, IsImage, slot_at, Note, Blank, IsSoundImage, note_at, note_of, IndexState, IsNoted, damaged_at, pinned_names, BlocksState, IsBlocksState, IsFree, HasRoom, block_of_slot, used_of, with_slot, BlockUse, Unsure, is_unsure, Matches, IsNotedAt, CanSpare}
-use Rattle.version_index.proofs.OfTables.FoundIn.{found_in_damaged}
+use Rattle.judged_records.proofs.OfNotes.FoundIn.{found_in_damaged}
 use Rattle.record_list.specs.Written.{IsDispensable}
 use Rattle.die_alloc.proofs.Changes.{use_of-with_slot_same, use_of-with_slot_other}
 use Rattle.collector.specs.declared.unsure.Unsure.TheVariants as unsure

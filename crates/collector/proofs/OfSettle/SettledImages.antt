@@ -2,9 +2,9 @@
 use Rattle.collector.proofs.Common.{◌≡◌, ◌≢◌, ℕ, ◌/◌, ◌<◌, ◌≤◌, ◌*◌, List, length, Bool, true, false, eqb-true, if◌then◌else◌, None, refl, sym, ap, ◌∙◌, subst, inl, inr, arith, ◌==◌, ne_eqb, not-true, shape_of, slots_of, blocks_of, Config, Block, Protocol, Shape, Slot, Rec, FlashState, Contents, blank, damaged, complete, slot_at, PartialWriteLaw, CompletingWriteLaw, CopyLaw, LossLaw, cur, is_outside, Note, Blank, Damaged, Holds, records_in, array_in, found_in, note_at, note_of, rec_of, IndexState, IsNoted, current_of, programmed, copied, erased, with_spare, in_it, block_noted, BlocksState, IsFree, block_of_slot, has_room_not_spare, Unsure, is_blank_block, swapped, array_known, is_unsure, Matches, CanTakeOwn, IsErasing, IsNotedAt, AllOfBlock, Preserves, settlement, holds_record}
 use Rattle.std.proofs.Common.{IsSome}
 use Rattle.list_lemmas.proofs.Counts.{filled_count}
-use Rattle.version_index.specs.Images.{current_in}
-use Rattle.version_index.specs.IndexState.{lost}
-use Rattle.version_index.proofs.OfChanges.NotedChanges.{damaged_noted, copied_noted, programmed_noted}
+use Rattle.judged_records.specs.Images.{current_in}
+use Rattle.judged_records.specs.IndexState.{lost}
+use Rattle.judged_records.proofs.OfChanges.NotedChanges.{damaged_noted, copied_noted, programmed_noted}
 use Rattle.die_alloc.proofs.Changes.{block_within}
 use Rattle.collector.specs.declared.unsure.Settled.{Settled}
 use Rattle.collector.specs.declared.unsure.Settled.TheVariants.{Present}

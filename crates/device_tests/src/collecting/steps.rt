@@ -3,7 +3,7 @@
 ghost use Rattle.std.specs.Prelude.{◌≡◌, ◌<◌, IfSome, IsTrue, Ok};
 ghost use Rattle.tx_types.specs.Config.{checked, shape_of, blocks_of};
 ghost use Rattle.mem_flash.specs.MemFlashState.{state_of};
-ghost use Rattle.version_index.specs.IndexState.{IndexState};
+ghost use Rattle.judged_records.specs.IndexState.{IndexState};
 ghost use Rattle.die_alloc.specs.BlocksState.{BlocksState};
 ghost use Rattle.collector.specs.Collecting.{HasUnneeded};
 ghost use Rattle.collector.specs.Matches.{Matches, CanTake};

@@ -2,9 +2,9 @@
 
 ghost use Rattle.std.specs.Prelude.{◌≡◌, ◌<◌, [], ◌∷◌, length, map, IsTrue, IfOk, Ok};
 ghost use Rattle.tx_types.specs.Config.{checked, shape_of, slots_of};
-ghost use Rattle.version_index.specs.IndexState.{IsNextRecord, IsCompleteCycle};
-ghost use Rattle.version_index.specs.Notes.{note_at, found_in, complete_slots};
-ghost use Rattle.version_index.specs.declared.note.Note.TheVariants as note;
+ghost use Rattle.judged_records.specs.IndexState.{IsNextRecord, IsCompleteCycle};
+ghost use Rattle.judged_records.specs.Notes.{note_at, found_in, complete_slots};
+ghost use Rattle.judged_records.specs.declared.note.Note.TheVariants as note;
 
 use super::lines::wrong_line;
 use crate::building::{BACK_POINTER, found, has_slot, is_scanned, rec, slot_count};

@@ -12,20 +12,21 @@ use Rattle.list_lemmas.proofs.Pairs.{zip_front, zip_same, zip_push}
 use Rattle.host_protocol.specs.declared.command.Command.TheVariants as host
 use Rattle.host_protocol.specs.Files.{AreGoodLines, is_command_line}
 use Rattle.host_protocol.specs.Lines.{is_line_feed}
+use Rattle.host_protocol.specs.Reading.{text_error}
+use Rattle.host_protocol.specs.declared.error.LineError.{LineError}
+use Rattle.host_protocol.specs.declared.error.LineError.TheVariants.{Bad, Memory}
+use Rattle.host_protocol.specs.declared.error.TextError.{TextError}
+use Rattle.host_protocol.specs.declared.error.TextError.TheVariants as text
 use Rattle.host_protocol.specs.declared.file.TheConstants.{MAX_COMMANDS}
 use Rattle.host_protocol.proofs.CommandLemmas.{same_arm}
 use Rattle.host_protocol.proofs.CommandLemmas.{suits as host_suits}
 use Rattle.host_protocol.proofs.LineLemmas.{line_first, line_last, lines_none}
 use Rattle.page_keys.specs.Scripts.{IsKeyCommand, AreKeyOperands, AreKeyCommands, IsScript, IsFirstBadScriptLine, SuitsKeys, key_of, verb_of}
 use Rattle.page_keys.specs.Scripts.{word_of}
-use Rattle.page_keys.specs.ScriptReading.{AddsKeyCommand, AddsNoKeyCommand, EndsAt, HasFewChanges, text_error}
+use Rattle.page_keys.specs.ScriptReading.{AddsKeyCommand, AddsNoKeyCommand, EndsAt, HasFewChanges}
 use Rattle.page_keys.specs.declared.command.KeyCommand.TheVariants as command
 use Rattle.page_keys.specs.declared.key_verb.KeyVerb.{KeyVerb}
 use Rattle.page_keys.specs.declared.key_verb.KeyVerb.TheVariants as verb
-use Rattle.page_keys.specs.declared.script_error.LineError.{LineError}
-use Rattle.page_keys.specs.declared.script_error.LineError.TheVariants.{Bad, Memory}
-use Rattle.page_keys.specs.declared.script_error.KeyTextError.{KeyTextError}
-use Rattle.page_keys.specs.declared.script_error.KeyTextError.TheVariants as text
 use Rattle.page_keys.proofs.OfParse.KeyWordLemmas.{change_sized, key_sized}
 
 -- ---- a line is at most one command
@@ -195,12 +196,12 @@ pub ends : (bytes : List ℕ) (n : ℕ) (e : LineError) → (e ≡ Bad → IsFir
 ends bytes n Bad h = h refl
 ends bytes n Memory h = tt
 
-pub only_memory : (bytes : List ℕ) (e : KeyTextError) (commands : List KeyCommand) → EndsAt bytes e →
+pub only_memory : (bytes : List ℕ) (e : TextError) (commands : List KeyCommand) → EndsAt bytes e →
     IsScript bytes commands → e ≡ text.Memory
 only_memory bytes (text.Line n) commands at script = absurd (script_bad bytes commands n script at)
 only_memory bytes text.Memory commands at script = refl
 
-pub only_first : (bytes : List ℕ) (e : KeyTextError) (n : ℕ) → EndsAt bytes e →
+pub only_first : (bytes : List ℕ) (e : TextError) (n : ℕ) → EndsAt bytes e →
     IsFirstBadScriptLine bytes n → (e ≡ text.Line n) ⊎ (e ≡ text.Memory)
 only_first bytes (text.Line m) n at bad = inl (ap (λ k. text.Line k) (first_same bytes m n at bad))
 only_first bytes text.Memory n at bad = inr refl

@@ -4,15 +4,15 @@ use Rattle.std.specs.Prelude.{OnErr}
 use Rattle.std.specs.Result.{is_err}
 use Rattle.std.proofs.lemmas.List.{take_all, length-take-le}
 use Rattle.std.proofs.lemmas.Grind.{flat_map-append}
-use Rattle.version_index.specs.Images.{IsLeastImageBreach}
-use Rattle.version_index.proofs.OfTables.OneBreach.{sound_unbroken}
+use Rattle.judged_records.specs.Images.{IsLeastImageBreach}
+use Rattle.judged_records.proofs.OfNotes.OneBreach.{sound_unbroken}
 use Rattle.page_keys.specs.KeyReplies.{key_text, key_texts}
 use Rattle.page_keys.specs.KeyRuns.{IsKeyRun, last_point}
 use Rattle.page_keys.specs.KeyServed.{IsFirstFlash, RefusesKeys, ServesKeyRun, ServesScript}
 use Rattle.page_keys.specs.KeySessions.{IsWhy, StandsAt, point_of}
 use Rattle.page_keys.specs.Stores.{IsFirstBad}
 use Rattle.page_keys.specs.declared.key_error.KeyServeError.TheVariants as failed
-use Rattle.page_keys.specs.declared.key_session.KeySession.TheVariants as session
+use Rattle.mounted_session.specs.declared.session.Session.TheVariants as session
 use Rattle.page_keys.proofs.OfServe.KeyRunLemmas.{as_many, few_first, last_is_point, last_more, run_more, seen_more_over, seen_over}
 use Rattle.page_keys.proofs.OfServe.KeyServeLemmas.{mounted_point}
 use Rattle.page_keys.proofs.OfBucket.Parts.{shown_buckets}
@@ -54,16 +54,16 @@ other_image its init s not same image = not (record {
       image.buckets;
 })
 
-module _ {F R : Type 0} (state : F → FlashState) (its : Config) where
+module _ {F : Type 0} (state : F → FlashState) (its : Config) where
   -- the point that a session is at
-  point_is : (s : KeySession F R) (seen : ℕ → ℕ) (m : KeyMap) → Fits state its s →
+  point_is : (s : KeySession F) (seen : ℕ → ℕ) (m : KeyMap) → Fits state its s →
       StandsAt state its seen m s → IsKeyPoint its (point_of state m s)
   point_is (session.Mounted k) seen m fits stands = mounted_point state its k fits m stands.shows
   point_is (session.Unmounted flash) seen m fits stands =
       record { sound = stands.sound; shows = stands.shows }
 
   -- and its image
-  image_is : (s : KeySession F R) (seen : ℕ → ℕ) (m : KeyMap) → Fits state its s →
+  image_is : (s : KeySession F) (seen : ℕ → ℕ) (m : KeyMap) → Fits state its s →
       StandsAt state its seen m s → IsKeyImage its (state (flash_in s))
   image_is s seen m fits stands =
       let point = point_is s seen m fits stands in
@@ -73,13 +73,13 @@ module _ {F R : Type 0} (state : F → FlashState) (its : Config) where
             (array_in its.protocol its.logical (state (flash_in s)).image) m point.shows;
       }
 
-  pub shape_is : (s : KeySession F R) → Fits state its s →
+  pub shape_is : (s : KeySession F) → Fits state its s →
       checked its ≡ Ok (state (flash_in s)).shape
   shape_is (session.Mounted k) fits = fits.check
   shape_is (session.Unmounted flash) fits = fits
 
   -- these commands were served, and their replies told
-  pub record HasServed (init : FlashState) (cs : List KeyCommand) (s : KeySession F R)
+  pub record HasServed (init : FlashState) (cs : List KeyCommand) (s : KeySession F)
       (before after : List ℕ) : Type 0 where
     pub first : KeyPoint
     pub begins : IsFirstFlash init first.flash
@@ -92,7 +92,7 @@ module _ {F R : Type 0} (state : F → FlashState) (its : Config) where
     pub last : last_point first points ≡ point_of state left s
     pub text : after ≡ before ++ key_texts replies
 
-  pub served_none : (init : FlashState) (s : KeySession F R) (before : List ℕ) → Fits state its s →
+  pub served_none : (init : FlashState) (s : KeySession F) (before : List ℕ) → Fits state its s →
       BeginsKeys state its init s → HasServed init [] s before before
   served_none init s before fits begins =
       let seen = mentions_in its (moment_of init) in
@@ -112,7 +112,7 @@ module _ {F R : Type 0} (state : F → FlashState) (its : Config) where
       }
 
   module _ (init : FlashState) (cs : List KeyCommand) (c : KeyCommand) (r : KeyReply)
-      (s t : KeySession F R) (before between : List ℕ) (served : HasServed init cs s before between)
+      (s t : KeySession F) (before between : List ℕ) (served : HasServed init cs s before between)
       (one : ServesOne state its c s r t) where
     pub served_more : (after : List ℕ) → after ≡ between ++ key_text r →
         HasServed init (cs ++ c ∷ []) t before after
@@ -141,7 +141,7 @@ module _ {F R : Type 0} (state : F → FlashState) (its : Config) where
         }
 
   -- what was served is a run, of whose replies all or all but the last were told
-  module _ (init : FlashState) (cs : List KeyCommand) (s : KeySession F R) (before after : List ℕ)
+  module _ (init : FlashState) (cs : List KeyCommand) (s : KeySession F) (before after : List ℕ)
       (served : HasServed init cs s before after) (new : FlashState)
       (still : moment_of new ≡ moment_of (state (flash_in s))) where
     pub run_of : (told : ℕ) (now : List ℕ) → now ≡ before ++ key_texts (take told served.replies) →
@@ -170,7 +170,7 @@ module _ {F R : Type 0} (state : F → FlashState) (its : Config) where
 
   -- a reply that was not told
   pub untold : (init : FlashState) (cs : List KeyCommand) (c : KeyCommand) (r : KeyReply)
-      (s t : KeySession F R) (before between : List ℕ) (new : FlashState) →
+      (s t : KeySession F) (before between : List ℕ) (new : FlashState) →
       HasServed init cs s before between → ServesOne state its c s r t →
       moment_of new ≡ moment_of (state (flash_in t)) →
       ServesKeyRun its (cs ++ c ∷ []) (length cs) init new before between
@@ -189,7 +189,7 @@ module _ {F R : Type 0} (state : F → FlashState) (its : Config) where
 
   -- one command more in the list
   pub served_next : (init : FlashState) (list : List KeyCommand) (at : ℕ) (c : KeyCommand)
-      (r : KeyReply) (s t : KeySession F R) (before between after : List ℕ) → at < length list →
+      (r : KeyReply) (s t : KeySession F) (before between after : List ℕ) → at < length list →
       c ≡ get_or list at c → HasServed init (take at list) s before between →
       ServesOne state its c s r t → after ≡ between ++ key_text r →
       HasServed init (take (at + 1) list) t before after
@@ -200,7 +200,7 @@ module _ {F R : Type 0} (state : F → FlashState) (its : Config) where
 
   -- no memory for the line of a reply
   pub ended_untold : (init : FlashState) (list : List KeyCommand) (at : ℕ) (c : KeyCommand)
-      (r : KeyReply) (s t : KeySession F R) (new : F) (before between after : List ℕ) →
+      (r : KeyReply) (s t : KeySession F) (new : F) (before between after : List ℕ) →
       at < length list → c ≡ get_or list at c → HasServed init (take at list) s before between →
       ServesOne state its c s r t → new ≡ flash_in t → after ≡ between →
       ServesScript its list init (state new) before after (Err failed.Memory)
@@ -219,8 +219,8 @@ module _ {F R : Type 0} (state : F → FlashState) (its : Config) where
       )
 
   -- no more is served
-  pub ended_in : (init : FlashState) (list : List KeyCommand) (at : ℕ) (s : KeySession F R)
-      (t : KeySession F R) (new : F) (why : KeyServeError) (before after : List ℕ) →
+  pub ended_in : (init : FlashState) (list : List KeyCommand) (at : ℕ) (s : KeySession F)
+      (t : KeySession F) (new : F) (why : KeyServeError) (before after : List ℕ) →
       at < length list → Fits state its s → HasServed init (take at list) s before after →
       Ends its (state (flash_in s)) (state (flash_in t)) why → new ≡ flash_in t →
       ServesScript its list init (state new) before after (Err why)
@@ -237,7 +237,7 @@ module _ {F R : Type 0} (state : F → FlashState) (its : Config) where
             (taken list at lt) run),
       )
 
-  pub ended_first : (init : FlashState) (list : List KeyCommand) (s t : KeySession F R)
+  pub ended_first : (init : FlashState) (list : List KeyCommand) (s t : KeySession F)
       (why : KeyServeError) (before after : List ℕ) → Fits state its s →
       HasServed init [] s before after → Ends its (state (flash_in s)) (state (flash_in t)) why →
       ServesScript its list init (state (flash_in t)) before after (Err why)
@@ -253,7 +253,7 @@ module _ {F R : Type 0} (state : F → FlashState) (its : Config) where
       )
 
   -- all is served
-  pub served_all : (init : FlashState) (list : List KeyCommand) (at : ℕ) (s : KeySession F R)
+  pub served_all : (init : FlashState) (list : List KeyCommand) (at : ℕ) (s : KeySession F)
       (new : F) (before after : List ℕ) → length list ≤ at →
       HasServed init (take at list) s before after → new ≡ flash_in s →
       ServesScript its list init (state new) before after (Ok tt)
@@ -263,7 +263,7 @@ module _ {F R : Type 0} (state : F → FlashState) (its : Config) where
       (state new) (ap (λ (f : F). moment_of (state f)) is)
 
   -- where the image is another one
-  pub refuses : (init : FlashState) (s : KeySession F R) (new : FlashState) (why : KeyServeError) →
+  pub refuses : (init : FlashState) (s : KeySession F) (new : FlashState) (why : KeyServeError) →
       moment_of (state (flash_in s)) ≡ moment_of init → Ends its (state (flash_in s)) new why →
       RefusesKeys its init (Err why)
   refuses init s new (failed.Unsound law slot) same ends =
@@ -277,14 +277,14 @@ module _ {F R : Type 0} (state : F → FlashState) (its : Config) where
   )
   refuses init s new failed.Memory same ends = tt
 
-  pub moment_stays : (init : FlashState) (c : KeyCommand) (r : KeyReply) (s t : KeySession F R) →
+  pub moment_stays : (init : FlashState) (c : KeyCommand) (r : KeyReply) (s t : KeySession F) →
       (IsKeyImage its init → ⊥) →
       moment_of (state (flash_in s)) ≡ moment_of init → ServesOne state its c s r t →
       moment_of (state (flash_in t)) ≡ moment_of init
   moment_stays init c r s t not same one =
       one.unopened (other_image its init (state (flash_in s)) not same) ∙ same
 
-  pub shape_here : (s : KeySession F R) (new : F) → Fits state its s → new ≡ flash_in s →
+  pub shape_here : (s : KeySession F) (new : F) → Fits state its s → new ≡ flash_in s →
       checked its ≡ Ok (state new).shape
   shape_here s new fits is =
       shape_is s fits ∙ ap (λ (x : Shape). Ok x) (sym (ap (λ f. (state f).shape) is))

@@ -4,21 +4,17 @@ use Rattle.std.specs.Prelude.{IfOk, IsSomeAnd, ◌<◌}
 use Rattle.flash_model.specs.Flash.{IsSteady}
 use Rattle.page_keys.specs.KeyServed.{ServesScript}
 use Rattle.page_keys.specs.KeySessions.{Mounts, StandsUnmounted}
-use Rattle.page_keys.specs.declared.key_session.KeySession.TheVariants as session
+use Rattle.mounted_session.specs.declared.session.Session.TheVariants as session
+use Rattle.mounted_session.specs.Mounting.{MomentStays}
+use Rattle.mounted_session.specs.Sessions.{MountsFirst}
+use Rattle.mounted_session.proofs.Beginning.{first_by, first_still}
+use Rattle.mounted_session.proofs.Telling.{none_spent}
+use Rattle.flash_model.proofs.CallLemmas.{no_more_same}
+use Rattle.page_keys.specs.KeySessions.{Fits, flash_in, Opens}
+use Rattle.page_keys.specs.Stores.{KeyStoreState}
 use Rattle.page_keys.proofs.OfPut.Existing.{shows_some}
 use Rattle.page_keys.proofs.OfServe.KeyAllLemmas.{ended_first, served_none}
 use Rattle.page_keys.proofs.OfServe.KeyServeLemmas.{key_image}
-
-none_spent : (a b : Option Told) (live : Bool) →
-    IsSomeAnd a (λ told. (told.cuts ≡ 0) × (told.breaks ≡ 0)) → BothTell (Spends live) a b → ⊥
-none_spent None b live none h = absurd none
-none_spent (Some x) None live none h = h
-none_spent (Some x) (Some y) true none h = let most = none.1 in omega (arith, h, most)
-none_spent (Some x) (Some y) false none h = let most = none.0 in omega (arith, h, most)
-
-same_told : (a : Option Told) → BothTell NoMoreToCome a a
-same_told None = tt
-same_told (Some x) = (omega arith, omega arith)
 
 module _ {F : Type 0} (state : F → FlashState) (its : Config) (flash : F) where
   -- an image that stays is an image of keys before and after
@@ -45,8 +41,8 @@ module _ {F : Type 0} (state : F → FlashState) (its : Config) (flash : F) wher
         (λ page lt. omega arith);
   }
 
-module _ {F R : Type 0} (state : F → FlashState) (its : Config) (flash : F) where
-  begins : (s : KeySession F R) → (state flash).live ≡ true → Mounts state its flash s →
+module _ {F : Type 0} (state : F → FlashState) (its : Config) (flash : F) where
+  begins : (s : KeySession F) → (state flash).live ≡ true → Mounts state its flash s →
       IsKeyImage its (state flash) → BeginsKeys state its (state flash) s
   begins (session.Mounted k) on opens image =
       let shown = shows_some its (array_in its.protocol its.logical (state flash).image) image.buckets in
@@ -79,62 +75,59 @@ module _ {F R : Type 0} (state : F → FlashState) (its : Config) (flash : F) wh
       }
 
   -- a flash without power, which is not opened
-  pub begins_off : (state flash).live ≡ false → IsKeyImage its (state flash) →
-      BeginsKeys {R = R} state its (state flash) (session.Unmounted flash)
-  begins_off off image =
+  stands_alone : IsKeyImage its (state flash) → BeginsKeys state its (state flash) (session.Unmounted flash)
+  stands_alone image =
       let shown = shows_some its (array_in its.protocol its.logical (state flash).image) image.buckets in
       record {
         image = image;
         first = record {
           moment = refl;
-          told = same_told (state flash).told;
-          steady = λ steady. (let both = sym off ∙ steady.live in cc);
+          told = no_more_same (state flash).told;
+          steady = λ steady. (steady.live, refl);
         };
         keys = shown.0;
         stands = stands_still state its flash (state flash) refl image shown.0 shown.1;
       }
 
-  steady_begun : (s : KeySession F R) → Mounts state its flash s → IsSteady (state flash) →
+  steady_begun : (s : KeySession F) → Mounts state its flash s → IsSteady (state flash) →
       IsKeyImage its (state flash)
   steady_begun (session.Mounted k) opens steady =
       stays_image state its flash (state k.device.flash) opens.still.still.moment (key_image state its k opens.fits)
   steady_begun (session.Unmounted new) meets steady =
       absurd (none_spent (state flash).told (state new).told (state new).live steady.none meets.spends)
 
-  -- how a session begins, of each result
-  module _ {E : Type 0} where
-    pub begins_all : (result : Result (KeySession F R) E) → (state flash).live ≡ true →
-        IfOk result (Mounts state its flash) → IsKeyImage its (state flash) →
-        IfOk result (BeginsKeys state its (state flash))
-    begins_all (Ok s) on h image = begins s on h image
-    begins_all (Err e) on h image = tt
+  mounts_fits : (s : KeySession F) → checked its ≡ Ok (state flash).shape → Mounts state its flash s → Fits state its s
+  mounts_fits (session.Mounted k) check opens = opens.fits
+  mounts_fits (session.Unmounted new) check meets = check ∙ ap (λ (x : Shape). Ok x) (sym meets.still.shape)
 
-    pub steady_all : (result : Result (KeySession F R) E) → IfOk result (Mounts state its flash) →
-        IsSteady (state flash) → OnOk result (IsKeyImage its (state flash))
-    steady_all (Ok s) h steady = steady_begun s h steady
-    steady_all (Err e) h steady = tt
+  -- the session that serving begins with
+  module _ (s : KeySession F) (first : MountsFirst state (Opens state its) flash s) where
+    pub first_begins : IsKeyImage its (state flash) → BeginsKeys state its (state flash) s
+    first_begins image = first_by state (Opens state its) flash (λ t. BeginsKeys state its (state flash) t)
+        (λ t on h. begins t on h image) (λ off. stands_alone image) s first
+
+    pub first_steady : IsSteady (state flash) → IsKeyImage its (state flash)
+    first_steady steady = first_by state (Opens state its) flash (λ t. IsKeyImage its (state flash))
+        (λ t on h. steady_begun t h steady) (λ off. let both = sym off ∙ steady.live in cc) s first
+
+    pub first_fits : checked its ≡ Ok (state flash).shape → Fits state its s
+    first_fits check = first_by state (Opens state its) flash (λ t. Fits state its t)
+        (λ t on h. mounts_fits t check h) (λ off. check) s first
+
+    pub first_stays : MomentStays (state flash) (state (flash_in s))
+    first_stays = first_still state (Opens state its) flash (λ (k : KeyStoreState F). k.device.flash)
+        (λ k h. h.still) s first
 
 -- nothing was served, for want of memory
-pub begin_ended : {F : Type 0} (R : Type 0) (state : F → FlashState) (its : Config)
+pub begin_ended : {F : Type 0} (state : F → FlashState) (its : Config)
     (list : List KeyCommand) (flash new : F) (why : KeyServeError) (out : List ℕ) →
     checked its ≡ Ok (state flash).shape → IsKeyImage its (state flash) →
     Ends its (state flash) (state new) why →
     ServesScript its list (state flash) (state new) out out (Err why)
-begin_ended R state its list flash new why out check image ends =
-    let shown = shows_some its (array_in its.protocol its.logical (state flash).image) image.buckets in
-    let begun : BeginsKeys {R = R} state its (state flash) (session.Unmounted flash) =
-    record {
-      image = image;
-      first = record {
-        moment = refl;
-        told = same_told (state flash).told;
-        steady = λ steady. (steady.live, refl);
-      };
-      keys = shown.0;
-      stands = stands_still state its flash (state flash) refl image shown.0 shown.1;
-    } in
-    ended_first {R = R} state its (state flash) list (session.Unmounted flash) (session.Unmounted new) why out
-    out check (served_none {R = R} state its (state flash) (session.Unmounted flash) out check begun) ends
+begin_ended state its list flash new why out check image ends =
+    ended_first state its (state flash) list (session.Unmounted flash) (session.Unmounted new) why out
+    out check (served_none state its (state flash) (session.Unmounted flash) out check
+    (stands_alone state its flash image)) ends
 
 pub on_each : {A E : Type 0} (P : Type 0) (r : Result A E) → P → OnOk r P
 on_each P (Ok a) h = h

@@ -7,45 +7,22 @@ use Rattle.flash_model.specs.Calls.{Rose}
 use Rattle.flash_model.specs.Moves.{Moves}
 use Rattle.flash_model.specs.declared.outcome.Outcome.{Outcome}
 use Rattle.flash_model.proofs.MoveLemmas.{Moves-nothing}
-use Rattle.version_index.specs.IndexState.{mention_of}
+use Rattle.judged_records.specs.IndexState.{mention_of}
 use Rattle.array_runs.specs.Run.{MayBeSpent}
 use Rattle.tx_engine.proofs.OfDevice.Seen.{image_seen}
 use Rattle.page_keys.specs.KeyRuns.{BreaksPut, DoesGet, DoesKeys, DoesPut, TakesPut, changes_in, is_tried, IsKeySpent, Stays}
-use Rattle.page_keys.specs.KeyRuns.{arms_key_cut, is_key_break}
-use Rattle.page_keys.specs.KeySessions.{DoesFor, FitsMounted, MeetsFault, MemoryLeaves, Mounts, Opens, SetsCut}
-use Rattle.page_keys.specs.KeySessions.{StandsUnmounted, StaysQuiet, is_mounted, point_of}
+use Rattle.page_keys.specs.KeyRuns.{arms_key_cut, cuts_armed, is_key_break}
+use Rattle.page_keys.specs.KeySessions.{DoesFor, FitsMounted, Mounts, Opens, SetsCut}
+use Rattle.page_keys.specs.KeySessions.{IsUsable, StandsUnmounted, point_of}
 use Rattle.page_keys.specs.declared.command.KeyCommand.TheVariants as command
 use Rattle.page_keys.specs.declared.key_error.KeyServeError.TheVariants as failed
 use Rattle.page_keys.specs.declared.key_reply.KeyReply.TheVariants as reply
-use Rattle.page_keys.specs.declared.key_session.KeySession.TheVariants as session
+use Rattle.mounted_session.specs.declared.session.Session.TheVariants as session
+use Rattle.mounted_session.specs.Mounting.{MeetsFault, StaysQuiet}
+use Rattle.mounted_session.specs.Sessions.{is_mounted}
+use Rattle.mounted_session.proofs.Telling.{spends_after, spends_none, spends_one, weaker_told}
 use Rattle.page_keys.proofs.OfPut.Existing.{shows_some}
 use Rattle.page_keys.proofs.OfPut.PutGiven.{stands_idle}
-
--- ---- what is told
-
-both_map : (P Q : Told → Told → Type 0) → ((x y : Told) → P x y → Q x y) → (a b : Option Told) →
-    BothTell P a b → BothTell Q a b
-both_map P Q f None None h = tt
-both_map P Q f None (Some y) h = absurd h
-both_map P Q f (Some x) None h = absurd h
-both_map P Q f (Some x) (Some y) h = f x y h
-
-both_with : (P Q S : Told → Told → Type 0) → ((x y : Told) → P x y → Q x y → S x y) →
-    (a b : Option Told) → BothTell P a b → BothTell Q a b → BothTell S a b
-both_with P Q S f None None h k = tt
-both_with P Q S f None (Some y) h k = absurd h
-both_with P Q S f (Some x) None h k = absurd h
-both_with P Q S f (Some x) (Some y) h k = f x y h k
-
-both_then : (P Q S : Told → Told → Type 0) →
-    ((x y z : Told) → P x y → Q y z → S x z) → (a b c : Option Told) → BothTell P a b →
-    BothTell Q b c → BothTell S a c
-both_then P Q S f None None None h k = tt
-both_then P Q S f None None (Some z) h k = absurd k
-both_then P Q S f None (Some y) c h k = absurd h
-both_then P Q S f (Some x) None c h k = absurd h
-both_then P Q S f (Some x) (Some y) None h k = absurd k
-both_then P Q S f (Some x) (Some y) (Some z) h k = f x y z h k
 
 -- ---- replies
 
@@ -61,30 +38,6 @@ no_break (reply.RefusedRepeated k) cut fault = refl
 no_break (reply.RefusedWide n) cut fault = refl
 no_break (reply.RefusedBucket p) cut fault = refl
 no_break (reply.RefusedSpent p) cut fault = refl
-
-spent_none : (c : KeyCommand) (r : KeyReply) → is_key_cut r ≡ false → is_key_fault r ≡ false →
-    (x y : Told) → NoMoreToCome x y → IsKeySpent c r x y
-spent_none c r cut fault x y less = record {
-  cuts = rw cut (let most = less.0 in omega arith);
-  breaks = rw fault (let most = less.1 in omega arith);
-}
-
-spent_fault : (c : KeyCommand) (x y : Told) → NoMoreToCome x y → Spends true x y →
-    IsKeySpent c reply.Fault x y
-spent_fault c x y less spends =
-    record { cuts = omega (arith, less.0); breaks = omega (arith, spends) }
-
-spent_cut : (c : KeyCommand) (x y : Told) → NoMoreToCome x y → Spends false x y →
-    IsKeySpent c reply.Cut x y
-spent_cut c x y less spends =
-    record { cuts = omega (arith, spends); breaks = omega (arith, less.1) }
-
-spent_later : (c : KeyCommand) (r : KeyReply) (x y z : Told) → NoMoreToCome x y →
-    IsKeySpent c r y z → IsKeySpent c r x z
-spent_later c r x y z less spent = record {
-  cuts = let a = less.0 in let b = spent.cuts in omega arith;
-  breaks = let a = less.1 in let b = spent.breaks in omega arith;
-}
 
 -- what a command does where its reply is a fault it does where it is a cut
 does_cut : (its : Config) (spent : ℕ → Bool) (c : KeyCommand) (old new : KeyPoint) →
@@ -119,15 +72,13 @@ module _ (its : Config) (spent : ℕ → Bool) (c : KeyCommand) (old new : KeyPo
   broken_by true on = record {
     does = does;
     causes = λ arm. record { cut = sym (ap not on); faults = rose };
-    spends = both_with NoMoreToCome (Spends true) (IsKeySpent c reply.Fault) (spent_fault c)
-        old.flash.told new.flash.told less
+    spends = spends_one (cuts_armed c) 0 true old.flash.told new.flash.told less
         (subst (λ b. BothTell (Spends b) old.flash.told new.flash.told) on spends);
   }
   broken_by false off = record {
     does = does_cut its spent c old new does;
     causes = λ arm. record { cut = sym (ap not off); faults = rose };
-    spends = both_with NoMoreToCome (Spends false) (IsKeySpent c reply.Cut) (spent_cut c)
-        old.flash.told new.flash.told less
+    spends = spends_one (cuts_armed c) 0 false old.flash.told new.flash.told less
         (subst (λ b. BothTell (Spends b) old.flash.told new.flash.told) off spends);
   }
 
@@ -230,12 +181,12 @@ module _ {F : Type 0} (state : F → FlashState) (its : Config) (k : KeyStoreSta
           cut = some.whole ∙ sym (ap not live_is);
           faults = rw (no_break r some.whole fine) fine_carries.quiet;
         };
-        spends = both_map NoMoreToCome (IsKeySpent c r) (spent_none c r some.whole fine)
-            (state k.device.flash).told (state l.device.flash).told fine_carries.no_more;
+        spends = spends_none (cuts_armed c) 0 (is_key_cut r) (is_key_fault r)
+            (state k.device.flash).told (state l.device.flash).told some.whole fine fine_carries.no_more;
       }
 
-      pub answered : (R : Type 0) → ServesOne {R = R} state its c (session.Mounted k) r (session.Mounted l)
-      answered R = record {
+      pub answered : ServesOne state its c (session.Mounted k) r (session.Mounted l)
+      answered = record {
         fits = record {
           usable = some.usable fine;
           config = config_is;
@@ -301,10 +252,10 @@ module _ {F : Type 0} (state : F → FlashState) (its : Config) (k : KeyStoreSta
           (here m shows).does))
           torn.cause torn.no_more (torn.spends fits.live) live on
 
-      pub closed : (R : Type 0) (live : Bool) → (state l.device.flash).live ≡ live →
-          ServesOne {R = R} state its c (session.Mounted k) (broken_reply live)
+      pub closed : (live : Bool) → (state l.device.flash).live ≡ live →
+          ServesOne state its c (session.Mounted k) (broken_reply live)
           (session.Unmounted l.device.flash)
-      closed R live on = record {
+      closed live on = record {
         fits = check_is;
         in_run = λ seen m stands. record {
           left = (here m stands.shows).left;
@@ -318,22 +269,6 @@ module _ {F : Type 0} (state : F → FlashState) (its : Config) (k : KeyStoreSta
         unopened = λ not_keys. absurd (not_keys key_image);
         extras = torn.extras;
       }
-
-  -- a put for which there was no memory
-  pub starved : (l : KeyStoreState F) → MemoryLeaves state k l →
-      Ends its (state k.device.flash) (state l.device.flash) failed.Memory
-  starved l leaves = record {
-    cause = tt;
-    still = record {
-      still = record {
-        moment = leaves.moment;
-        shape = leaves.carries.shape;
-        extras = leaves.carries.extras;
-        told = leaves.carries.no_more;
-      };
-      quiet = leaves.carries.quiet;
-    };
-  }
 
 -- ---- a flash on which the store was opened before the command
 
@@ -405,8 +340,8 @@ module _ (its : Config) (spent : ℕ → Bool) (m : KeyMap) (a b : FlashState) (
           MatchBool (is_key_break r) (Rose n new.flash.faults) (new.flash.faults ≡ n)) quiet.quiet
           (serves.causes arm).faults;
     };
-    spends = both_then NoMoreToCome (IsKeySpent c r) (IsKeySpent c r) (spent_later c r) a.told b.told
-        new.flash.told quiet.still.told serves.spends;
+    spends = spends_after (cuts_armed c) 0 (is_key_cut r) (is_key_fault r) a.told b.told new.flash.told
+        quiet.still.told serves.spends;
   }
 
 least_of : (tried touched : Bool) (n : ℕ) → n ≤ cond tried (cond touched (n + 1) n) n
@@ -419,12 +354,12 @@ seen_least : (its : Config) (seen : ℕ → ℕ) (c : KeyCommand) (r : KeyReply)
 seen_least its seen c r page =
     least_of (is_tried r) (is_touched its.logical (changes_in c) page) (seen page)
 
-module _ {F R : Type 0} (state : F → FlashState) (its : Config) (c : KeyCommand)
+module _ {F : Type 0} (state : F → FlashState) (its : Config) (c : KeyCommand)
     (no_arm : arms_key_cut c ≡ false) (flash : F) where
   -- it was opened, and the command was served
-  pub served_opened : (k : KeyStoreState F) (r : KeyReply) (new : KeySession F R) → Opens state its flash k →
-      ServesOne {R = R} state its c (session.Mounted k) r new →
-      ServesOne {R = R} state its c (session.Unmounted flash) r new
+  pub served_opened : (k : KeyStoreState F) (r : KeyReply) (new : KeySession F) → Opens state its flash k →
+      ServesOne state its c (session.Mounted k) r new →
+      ServesOne state its c (session.Unmounted flash) r new
   served_opened k r new opens one = record {
     fits = one.fits;
     in_run = λ seen m stands.
@@ -456,7 +391,7 @@ module _ {F R : Type 0} (state : F → FlashState) (its : Config) (c : KeyComman
   -- it could not be opened
   pub not_opened : (new : F) (live : Bool) → checked its ≡ Ok (state flash).shape →
       MeetsFault (state flash) (state new) → (state new).live ≡ live →
-      ServesOne {R = R} state its c (session.Unmounted flash) (broken_reply live)
+      ServesOne state its c (session.Unmounted flash) (broken_reply live)
       (session.Unmounted new)
   not_opened new live check meets on = record {
     fits = check ∙ ap (λ (x : Shape). Ok x) (sym meets.still.shape);
@@ -488,6 +423,11 @@ module _ {F R : Type 0} (state : F → FlashState) (its : Config) (c : KeyComman
 
 -- ---- a cut that is to come
 
+pub fits_usable : {F : Type 0} (state : F → FlashState) (its : Config) (s : KeySession F) → Fits state its s →
+    IsUsable s
+fits_usable state its (session.Mounted k) fits = fits.usable
+fits_usable state its (session.Unmounted flash) fits = tt
+
 module _ (its : Config) (count : ℕ) (what : Outcome) where
   arm_spent : (x y : Told) → ArmOf (record { count = count; outcome = what }) x y →
       IsKeySpent (command.Cut count what) reply.Armed x y
@@ -502,12 +442,12 @@ module _ (its : Config) (count : ℕ) (what : Outcome) where
   arm_serves m a b arms = record {
     does = (refl, arms);
     causes = λ h. cc;
-    spends = both_map (ArmOf (record { count = count; outcome = what }))
+    spends = weaker_told (ArmOf (record { count = count; outcome = what }))
         (IsKeySpent (command.Cut count what) reply.Armed) arm_spent a.told b.told arms.told;
   }
 
-module _ {F R : Type 0} (state : F → FlashState) (its : Config) (count : ℕ) (what : Outcome) where
-  pub armed : (protocol : Protocol) (old new : KeySession F R) → its.protocol ≡ protocol →
+module _ {F : Type 0} (state : F → FlashState) (its : Config) (count : ℕ) (what : Outcome) where
+  pub armed : (protocol : Protocol) (old new : KeySession F) → its.protocol ≡ protocol →
       Fits state its old → SetsCut state protocol count what old new →
       ServesOne state its (command.Cut count what) old reply.Armed new
   armed protocol (session.Mounted k) (session.Mounted l) rule fits sets =
@@ -562,9 +502,9 @@ module _ {F R : Type 0} (state : F → FlashState) (its : Config) (count : ℕ) 
 
 -- ---- a session without a store
 
-module _ {F R : Type 0} (state : F → FlashState) (its : Config) (c : KeyCommand)
+module _ {F : Type 0} (state : F → FlashState) (its : Config) (c : KeyCommand)
     (no_arm : arms_key_cut c ≡ false) where
-  pub serves_opened : (old mid new : KeySession F R) (result : Result KeyReply KeyServeError) →
+  pub serves_opened : (old mid new : KeySession F) (result : Result KeyReply KeyServeError) →
       is_mounted old ≡ false → is_mounted mid ≡ true → Mounts state its (flash_in old) mid →
       IfOk result (λ r. ServesOne state its c mid r new) →
       IfOk result (λ r. ServesOne state its c old r new)
@@ -574,7 +514,7 @@ module _ {F R : Type 0} (state : F → FlashState) (its : Config) (c : KeyComman
   serves_opened (session.Unmounted flash) (session.Mounted k) new (Ok r) off on opens one =
       served_opened state its c no_arm flash k r new opens one
 
-  pub serves_not_opened : (old mid : KeySession F R) (live : Bool) → is_mounted old ≡ false →
+  pub serves_not_opened : (old mid : KeySession F) (live : Bool) → is_mounted old ≡ false →
       is_mounted mid ≡ false → Fits state its old → Mounts state its (flash_in old) mid →
       (state (flash_in mid)).live ≡ live → ServesOne state its c old (broken_reply live) mid
   serves_not_opened (session.Mounted k) mid live off closed fits meets on = cc

@@ -5,7 +5,7 @@ use Rattle.std.specs.Prelude.{Any}
 use Rattle.std.proofs.lemmas.List.Elements.{Contains-push_cases}
 use Rattle.list_lemmas.proofs.Membership.{in_any, any_in, Contains-cases, Contains-nil}
 use Rattle.tx_types.specs.declared.record.Link.{Link}
-use Rattle.version_index.specs.IndexState.{mention_of}
+use Rattle.judged_records.specs.IndexState.{mention_of}
 use Rattle.tx_engine.specs.Exits.{IsNamedAt}
 use Rattle.tx_engine.specs.Naming.{named_after, KeepsTables}
 use Rattle.open_table.specs.OpenTransactionsState.{next_name, Naming}

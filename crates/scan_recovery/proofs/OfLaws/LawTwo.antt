@@ -11,8 +11,8 @@ use Rattle.record_list.specs.SoundList.{Law, Counted, number}
 use Rattle.record_list.specs.Written.{Written, found_of}
 use Rattle.record_list.proofs.OfChanges.WrittenLists.{in_records, ascending_written}
 use Rattle.record_list.proofs.OfFacts.Breaches.{earlier_index}
-use Rattle.version_index.specs.Images.{HasPages}
-use Rattle.version_index.proofs.OfLaws.ImageScans.{is_read}
+use Rattle.judged_records.specs.Images.{HasPages}
+use Rattle.judged_records.proofs.OfLaws.ImageScans.{is_read}
 
 -- some item is found where one passes, and it does not come after it
 record FindsBefore (list : List Found) (test : Found → Bool) (f : Found) : Type 0 where

@@ -1,38 +1,49 @@
 -- The lowest slot that breaks law 3 is that of a record beside one with its link and another name.
-use Rattle.scan_recovery.proofs.Common.{◌≡◌, ℕ, zero, suc, ◌+◌, ◌-◌, ◌<◌, ◌≤◌, Bool, true, false, not, nat_lt, Option, Some, None, List, [], ◌∷◌, length, get_or, AllPairs, Contains, refl, sym, ap, ◌∙◌, subst, inl, inr, arith, eq-eqb, cases_Bool, cases_lt, cond-true, cond-false, false≢true, and_parts, get_or_default, Contains-get_or, IsPermutation-sym, Contains-permutation, all_from, pairs_head, pairs_tail, Slot, Link, Rec, Found, IsScanned, name_of, has_name, nothing, LinksDiffer, same_name, has_name_true, has_own_name, IsLowestSharer}
+use Rattle.scan_recovery.proofs.Common.{◌≡◌, ℕ, zero, suc, ◌+◌, ◌-◌, ◌<◌, ◌≤◌, Bool, true, false, not, Option, Some, None, List, [], ◌∷◌, length, get_or, AllPairs, Contains, refl, sym, ap, ◌∙◌, subst, inl, inr, arith, eq-eqb, cases_Bool, cases_lt, cond-true, cond-false, false≢true, and_parts, get_or_default, Contains-get_or, IsPermutation-sym, Contains-permutation, all_from, pairs_head, pairs_tail, Slot, Link, Rec, Found, IsScanned, name_of, has_name, nothing, LinksDiffer, same_name, has_name_true, has_own_name, IsLowestSharer}
 use Rattle.std.proofs.Common.{filter}
-use Rattle.std.proofs.Common.{lt-ltb, le-ltb}
+use Rattle.std.proofs.Common.{min}
+use Rattle.std.specs.Option.{option_map}
 use Rattle.std.proofs.lemmas.Bool.{cases_order}
 use Rattle.std.proofs.lemmas.List.Kept.{AllPairs-filter}
 use Rattle.list_lemmas.proofs.Membership.{any_in, in_filter}
+use Rattle.tx_types.specs.Slots.{lower}
 use Rattle.record_list.specs.Records.{is_same}
 use Rattle.sorted_records.specs.SortedRecords.{is_below, SortsByLink}
 use Rattle.sorted_records.proofs.OfSort.Order.{below_false}
-use Rattle.scan_recovery.specs.Searches.{FindsLowest, lower, share_link, IsLowestBelow, NextShares, next_slot}
+use Rattle.scan_recovery.specs.Searches.{FindsLowest, share_link, IsLowestBelow, NextShares, next_slot}
 
--- a search for the lowest slot, one number more
-pub lowest_yes : (P : ℕ → Type 0) (slot_of : ℕ → Slot) (n m : ℕ) (lowest : Option Slot) → m ≡ n + 1 →
+-- a search for the lowest slot, one number more: the next slot stands where it is the lower one
+pub lowest_yes : (P : ℕ → Type 0) (slot_of : ℕ → Slot) (n m : ℕ) (lowest next : Option Slot) → m ≡ n + 1 →
+    option_map (λ s. s.0) next ≡ lower (option_map (λ s. s.0) lowest) (Some (slot_of n).0) →
     IsLowestBelow n P slot_of lowest → P n →
-    IsLowestBelow m P slot_of (lower lowest (slot_of n))
-lowest_yes P slot_of n m None sum is here = (
-  (n, omega arith, here, refl),
-  λ k low p. elim (cases_order k n) [
-    | inl e ↦ (let f : (slot_of k).0 ≡ (slot_of n).0 = ap (λ i. (slot_of i).0) e in omega arith)
-    | inr (inl less) ↦ absurd (is k less p)
-    | inr (inr more) ↦ absurd (omega arith)
-  ],
-)
-lowest_yes P slot_of n m (Some slot) sum is here = elim (cases_lt slot.0 (slot_of n).0) [
-  | inl less ↦
-      let (k, low, p, at) = is.0 in
-      subst (IsLowestBelow m P slot_of) (sym (cond-true (nat_lt slot.0 (slot_of n).0) (Some slot) (Some (slot_of n))
-      (lt-ltb slot.0 (slot_of n).0 less)))
-      ((k, omega arith, p, at), more slot.0 is.1 (omega arith))
-  | inr high ↦
-      subst (IsLowestBelow m P slot_of) (sym (cond-false (nat_lt slot.0 (slot_of n).0) (Some slot) (Some (slot_of n))
-      (le-ltb slot.0 (slot_of n).0 high)))
-      ((n, omega arith, here, refl), more (slot_of n).0 (λ k low p. let b = is.1 k low p in omega arith) (omega arith))
-]
+    IsLowestBelow m P slot_of next
+lowest_yes P slot_of n m None None sum lower_is is here = absurd (let e : None ≡ Some (slot_of n).0 = lower_is in cc)
+lowest_yes P slot_of n m (Some slot) None sum lower_is is here =
+    absurd (let e : None ≡ Some (min slot.0 (slot_of n).0) = lower_is in cc)
+lowest_yes P slot_of n m None (Some low) sum lower_is is here =
+    let same : low.0 ≡ (slot_of n).0 = (let e : Some low.0 ≡ Some (slot_of n).0 = lower_is in cc) in (
+      (n, omega arith, here, ap (λ (k : ℕ). record { 0 = k }) (sym same)),
+      λ k less p. elim (cases_order k n) [
+        | inl e ↦ (let f : (slot_of k).0 ≡ (slot_of n).0 = ap (λ i. (slot_of i).0) e in omega arith)
+        | inr (inl under) ↦ absurd (is k under p)
+        | inr (inr more) ↦ absurd (omega arith)
+      ],
+    )
+lowest_yes P slot_of n m (Some slot) (Some low) sum lower_is is here =
+    let same : low.0 ≡ min slot.0 (slot_of n).0 = (let e : Some low.0 ≡ Some (min slot.0 (slot_of n).0) = lower_is in cc) in
+    elim (cases_lt slot.0 (slot_of n).0) [
+      | inl less ↦
+          let (k, under, p, at) = is.0 in
+          let kept : slot.0 ≡ low.0 = omega arith in (
+            (k, omega arith, p, at ∙ ap (λ (k : ℕ). record { 0 = k }) kept),
+            more low.0 (λ k under p. let b = is.1 k under p in omega arith) (omega arith),
+          )
+      | inr high ↦
+          let taken : (slot_of n).0 ≡ low.0 = omega arith in (
+            (n, omega arith, here, ap (λ (k : ℕ). record { 0 = k }) taken),
+            more low.0 (λ k under p. let b = is.1 k under p in omega arith) (omega arith),
+          )
+    ]
   where
     more : (low : ℕ) → ((k : ℕ) → k < n → P k → low ≤ (slot_of k).0) → low ≤ (slot_of n).0 → (k : ℕ) → k < m → P k →
         low ≤ (slot_of k).0

@@ -1,6 +1,7 @@
 -- The records that wait for a page.
-use Rattle.slot_tables.proofs.Common.{◌≡◌, ℕ, zero, suc, ◌<◌, ◌≤◌, ◌⊎◌, true, ltb, inl, inr, Option, Some, None, List, [], ◌∷◌, length, get_or, refl, sym, ◌∙◌, ap, arith, Contains, slice_get, IfSome, IsSomeAnd, cases_lt, nat_tests, get_or_past, Contains-nil, Contains-cases, got_within, LinkedListsState, list_of, rest_from, Rec, Blank, Holds, TablesState, use_at, number_at, record_at, copies_of, Rises}
+use Rattle.slot_tables.proofs.Common.{◌≡◌, ℕ, zero, suc, ◌<◌, ◌≤◌, ◌⊎◌, true, ltb, inl, inr, Option, Some, None, List, [], ◌∷◌, length, get_or, refl, sym, ◌∙◌, ap, arith, Contains, slice_get, IfSome, IsSomeAnd, option_map, cases_lt, nat_tests, get_or_past, Contains-nil, Contains-cases, got_within, LinkedListsState, list_of, rest_from, Rec, Blank, Holds, TablesState, use_at, number_at, record_at, copies_of, Rises}
 use Rattle.std.proofs.Common.{min}
+use Rattle.tx_types.specs.declared.config.Slot.{Slot}
 use Rattle.std.specs.Option.{IfNone}
 use Rattle.std.proofs.lemmas.Bool.{ltb-true, cases_Bool}
 use Rattle.slot_tables.specs.TablesState.{first_below, lower, WaitsBelow, IsLowestToGo}
@@ -132,25 +133,26 @@ so_far_next k page below number rest lowest h waits = record {
 }
 
 -- at the end it is the lowest of all
-pub lowest_some : (k : TablesState) (page below s : ℕ) (lowest : Option ℕ) → IsLowestSoFar k page below [] lowest →
-    lowest ≡ Some s
-    → IsLowestToGo k page below s
-lowest_some k page below s lowest h is =
-    let its = h.holds s is in
+pub lowest_some : (k : TablesState) (page below : ℕ) (lowest : Option Slot) →
+    IsLowestSoFar k page below [] (option_map (λ at. at.0) lowest) → IfSome lowest (λ at. IsLowestToGo k page below at.0)
+lowest_some k page below None h = tt
+lowest_some k page below (Some s) h =
+    let its = h.holds s.0 refl in
     record {
       number = its.0;
       holds = its.1;
       waits = its.2;
       lowest = λ other x holds waits. elim (h.least other x holds waits) [
         | inl has ↦ absurd (Contains-nil x has)
-        | inr up ↦ rw is at up
+        | inr up ↦ up
       ];
     }
 
-pub lowest_none : (k : TablesState) (page below : ℕ) (lowest : Option ℕ) →
-    IsLowestSoFar k page below [] lowest → lowest ≡ None
-    → (s number : ℕ) → use_at k.slots s ≡ Holds number → WaitsBelow k page below number → ⊥
-lowest_none k page below lowest h is s number holds waits = elim (h.least s number holds waits) [
+pub lowest_none : (k : TablesState) (page below : ℕ) (lowest : Option Slot) →
+    IsLowestSoFar k page below [] (option_map (λ at. at.0) lowest)
+    → IfNone lowest ((s number : ℕ) → use_at k.slots s ≡ Holds number → WaitsBelow k page below number → ⊥)
+lowest_none k page below None h = λ s number holds waits. elim (h.least s number holds waits) [
   | inl has ↦ Contains-nil number has
-  | inr up ↦ rw is at up
+  | inr up ↦ up
 ]
+lowest_none k page below (Some s) h = tt

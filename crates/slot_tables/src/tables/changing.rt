@@ -6,7 +6,7 @@ ghost use Rattle.slot_tables.specs.TablesState.{record_at, added, given_up, IsNe
 ghost use Rattle.slot_tables.specs.Versions.{HasFree};
 
 use crate::Tables;
-use crate::slots::{SlotUse, is_blank, number_in};
+use crate::slots::{SlotUse, number_in};
 use tx_types::{Block, Rec, Slot};
 
 impl Tables {
@@ -48,7 +48,9 @@ impl Tables {
         }
     }
 
-    /// Empties a slot that holds a record. Where it was needed, another slot is now in its place.
+    /// Empties a slot that holds a record. Where it was needed, another slot is now in its place. It is a call of its
+    /// own beside the filling of a slot, since the need of an emptied slot goes to another copy of its record or to
+    /// none: no record, pin or current version is looked up for that.
     #[inline(always)]
     fn empty_slot(&mut self, at: Slot, to: SlotUse)
         requires slot { at.0 < slots_of self.old.shape }
@@ -57,7 +59,7 @@ impl Tables {
     {
         let left = number_in(self.base.slots.get(at.0));
         self.base.slots.set(at.0, to);
-        let blank = is_blank(to);
+        let blank = to.is_blank();
         self.blanks.set(at.0, blank);
         if self.live.is_needed(at.0) {
             self.base.move_need(&mut self.live, at.0, left);
@@ -75,7 +77,7 @@ impl Tables {
         let old = self.base.home_of(left);
         let other = self.base.home_of(joined);
         self.base.slots.set(at.0, to);
-        self.blanks.set(at.0, is_blank(to));
+        self.blanks.set(at.0, to.is_blank());
         self.base.refresh_moved(&mut self.live, old, left);
         self.base.refresh_moved(&mut self.live, other, joined);
     }

@@ -6,7 +6,7 @@ ghost use Rattle.tx_types.specs.declared.record.Rec.{Rec};
 ghost use Rattle.dense_tables.specs.Greatest.{greatest, group_of, IsFirstGreatest};
 ghost use Rattle.dense_tables.specs.LinkedLists.{next_in};
 ghost use Rattle.slot_tables.specs.Copies.{NumbersBelow};
-ghost use Rattle.slot_tables.specs.TablesState.{use_at, copies_of, record_at, numbers_at, number_at, home, copy_off, is_answerer, is_wanted, is_needed, garbage_of, garbage_numbers, blanks_of, written_of, WaitsBelow, IsLowestToGo, lower, IsTablesState};
+ghost use Rattle.slot_tables.specs.TablesState.{use_at, copies_of, record_at, numbers_at, number_at, home, copy_off, is_answerer, is_wanted, is_needed, garbage_of, garbage_numbers, blanks_of, written_of, WaitsBelow, IsLowestToGo, IsTablesState};
 ghost use Rattle.slot_tables.specs.Versions.{Names};
 ghost use Rattle.slot_tables.specs.declared.slots.SlotUse.TheVariants as slot;
 
@@ -94,7 +94,7 @@ impl Tables {
         self.base.answers.get(number)
     }
 
-    /// Whether a record answers for another one.
+    /// Whether a record answers for another one. It is there for who builds on this crate: no program calls it.
     pub fn is_answerer(&self, number: u32) -> bool
         requires { number < slots_of self.now.shape }
         ensures { result ≡ is_answerer self.now.answerers number }
@@ -137,16 +137,14 @@ impl Tables {
         let mut lowest = None;
         let mut next = waiting.first(page);
         while let Some(number) = next {
-            lowest = lower(lowest, self.base.first_below(number, below));
+            lowest = Slot::lower(lowest, self.base.first_below(number, below));
             next = waiting.next(number);
         }
-        match lowest {
-            None => None,
-            Some(at) => Some(Slot(at)),
-        }
+        lowest
     }
 
-    /// The version at which a page is pinned, 0 for none.
+    /// The version at which a page is pinned, 0 for none. It is there for who builds on this crate: no program calls
+    /// it.
     pub fn pinned_version(&self, page: u32) -> u64
         requires { page < length self.now.pages }
         ensures { result ≡ slice_index self.now.pins page }
@@ -275,16 +273,5 @@ impl Tables {
         ensures { result ≡ greatest (group_of 256 (garbage_numbers self.now) group) }
     {
         self.live.most_garbage_among_256(group)
-    }
-}
-
-/// The lower one of two slots, if there are any.
-fn lower(at: Option<u32>, other: Option<u32>) -> Option<u32>
-    ensures { result ≡ lower at other }
-{
-    match (at, other) {
-        (None, _) => other,
-        (Some(_), None) => at,
-        (Some(a), Some(b)) => Some(a.min(b)),
     }
 }

@@ -7,7 +7,7 @@ use Rattle.std.proofs.lemmas.List.Quantifiers.{all_pairs_remove}
 use Rattle.std.proofs.lemmas.List.Sums.{sum_by-append, sum_by-take-drop, sum_by-drop_more}
 use Rattle.list_lemmas.proofs.Lists.{map_map}
 use Rattle.list_lemmas.proofs.Quantifiers.{any_beside, beside_any}
-use Rattle.version_index.specs.IndexState.{unpinned}
+use Rattle.judged_records.specs.IndexState.{unpinned}
 use Rattle.record_list.proofs.OfFacts.Wanted.{wanted_cases, pinned_wanted}
 use Rattle.collector.specs.declared.unsure.Unsure.TheVariants as unsure
 use Rattle.tx_engine.proofs.OfDevice.Arrays.{as_many_names}

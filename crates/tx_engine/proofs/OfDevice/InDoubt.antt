@@ -7,7 +7,7 @@ use Rattle.page_record.proofs.Spellings.{record_of-spelling}
 use Rattle.record_list.specs.Changes.{PartialWriteKeeps, CompletingWriteKeeps}
 use Rattle.record_list.proofs.OfChanges.Arrays.{text_named}
 use Rattle.record_list.proofs.OfChanges.WrittenLists.{one_text}
-use Rattle.version_index.proofs.OfLaws.ImageScans.{read_slot, records_scanned}
+use Rattle.judged_records.proofs.OfLaws.ImageScans.{read_slot, records_scanned}
 use Rattle.collector.proofs.OfImages.KnownArrays.{same_known}
 use Rattle.tx_engine.proofs.OfDevice.Arrays.{put_by_names, as_many_names}
 

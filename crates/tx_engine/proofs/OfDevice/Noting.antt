@@ -6,7 +6,7 @@ use Rattle.list_lemmas.proofs.Values.{if_positive}
 use Rattle.record_list.specs.Records.{linked_at}
 use Rattle.record_list.specs.Transaction.{next_names, IsAskedAt}
 use Rattle.record_list.proofs.OfWalks.Rounds.{follows_of, follows_in}
-use Rattle.version_index.proofs.OfChanges.Mentions.{raised_at}
+use Rattle.judged_records.proofs.OfChanges.Mentions.{raised_at}
 use Rattle.tx_engine.proofs.OfDevice.InDoubt.{long, there_then, partly, wholly, partly_stays, wholly_current, wholly_elsewhere}
 use Rattle.tx_engine.proofs.OfDevice.Kept.{IsTransaction}
 

@@ -2,8 +2,8 @@
 use Rattle.tx_engine.proofs.Common.{◌≡◌, ◌≢◌, ℕ, ◌+◌, ◌<◌, Bool, true, false, cond, List, length, Some, refl, sym, ap, ap₂, ◌∙◌, subst, inl, inr, arith, eq-eqb, AllZip, cases_eq, shape_of, slots_of, Config, Protocol, Slot, Rec, FlashState, Contents, blank, damaged, complete, slot_at, spelling, cur, name_of, text_at, array_in, records_in, current_in, written_in, IndexState, IsNoted, current_of, programmed, found_in, BlocksState, Unsure, array_known, known_image, Matches, CanTake, CanTakeOwn, settlement, Settlement, Entry, Pages, put, is_doubted, Mark, Plain, Doubt, Whole, Represents, DeviceState, Naming, Stands, DoubtsAs, IsOwn, IsOpenAs, IsUnderWay, text_with, ImageIsSound, NotingKeeps}
 use Rattle.list_lemmas.proofs.Membership.{got_within}
 use Rattle.list_lemmas.proofs.Pairs.{zip_at}
-use Rattle.version_index.specs.Notes.{notes_of}
-use Rattle.version_index.proofs.OfLaws.NotedImages.{found_in_notes}
+use Rattle.judged_records.specs.Notes.{notes_of}
+use Rattle.judged_records.proofs.OfLaws.NotedImages.{found_in_notes}
 use Rattle.collector.specs.declared.unsure.Unsure.TheVariants as unsure
 use Rattle.collector.specs.declared.unsure.Settled.TheVariants as settled
 use Rattle.collector.specs.Settling.{own_settled}

@@ -5,8 +5,8 @@ use Rattle.std.proofs.lemmas.List.FromFn.{length-range_with_len, get_or-range_wi
 use Rattle.std.proofs.lemmas.Nat.{div_below}
 use Rattle.list_lemmas.proofs.Tests.{any_from}
 use Rattle.record_list.specs.Written.{first_slot}
-use Rattle.version_index.proofs.OfTables.FoundIn.{noted_from}
-use Rattle.version_index.proofs.OfTables.HomeFacts.{first_stands}
+use Rattle.judged_records.proofs.OfNotes.FoundIn.{noted_from}
+use Rattle.judged_records.proofs.OfNotes.HomeFacts.{first_stands}
 use Rattle.die_alloc.specs.BlocksState.{IsFull}
 use Rattle.collector.specs.Going.{CostsAtMost, is_going}
 

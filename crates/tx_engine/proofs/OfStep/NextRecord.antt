@@ -13,7 +13,7 @@ use Rattle.record_list.proofs.OfFacts.Asking.{asked_at, rounded_at}
 use Rattle.record_list.proofs.OfChanges.Progress.{mention_parts}
 use Rattle.record_list.proofs.OfWalks.Rounds.{cases_in}
 use Rattle.record_list.proofs.OfFacts.Wanted.{dispensable_pinned}
-use Rattle.version_index.proofs.OfChanges.NotedChanges.{next_spelled}
+use Rattle.judged_records.proofs.OfChanges.NotedChanges.{next_spelled}
 use Rattle.collector.specs.declared.unsure.Unsure.TheVariants as unsure
 use Rattle.collector.specs.Going.{IsPinBeside}
 use Rattle.tx_engine.proofs.OfDevice.Arrays.{as_many_names}

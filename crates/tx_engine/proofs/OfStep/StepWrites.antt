@@ -1,5 +1,5 @@
 -- What a step did with its next page, by the tables that are known once the device is settled.
-use Rattle.tx_engine.proofs.Common.{◌≡◌, ℕ, ◌<◌, Bool, length, sym, ap, ◌∙◌, subst, Config, Link, FlashState, moment_of, IndexState, reads_after, IsThere, Settlement, slots_read, Entry, StepCosts, OpenTransactionsState, transaction_at, AddsOnly, settlement_of, with_settlement, DeviceState, Naming, name_at, no_name, settled_entry, StoreState, device_in, BringsPage, due_record, WritingBreaks}
+use Rattle.tx_engine.proofs.Common.{◌≡◌, ℕ, ◌<◌, Bool, length, sym, ap, ◌∙◌, subst, Config, Link, FlashState, moment_of, IndexState, counted_times, IsThere, Settlement, slots_read, Entry, StepCosts, OpenTransactionsState, transaction_at, AddsOnly, settlement_of, with_settlement, DeviceState, Naming, name_at, no_name, settled_entry, StoreState, device_in, BringsPage, due_record, WritingBreaks}
 use Rattle.std.specs.Prelude.{slice_index_or}
 use Rattle.tx_engine.specs.Settling.{HasTables}
 use Rattle.tx_engine.specs.Writing.{WritesRecord}
@@ -79,7 +79,7 @@ module _ {F : Type 0} (state : F → FlashState) (S T : StoreState F) (O P : Ope
   pub brings_then : (U : StoreState F) (Q : OpenTransactionsState) → T.noted.config ≡ S.noted.config →
       (state T.flash).shape ≡ (state S.flash).shape →
       (IsThere T.noted (name_at y f.done) → KeepsButPins T U) →
-      (state T.flash).reads ≡ reads_after (slots_read S.noted S.unsure) (state S.flash).reads →
+      (state T.flash).reads ≡ counted_times (slots_read S.noted S.unsure) (state S.flash).reads →
       ((IsThere T.noted (name_at y f.done) → ⊥) →
       WritesRecord state (device_in state T P) (device_in state U Q) (due_record T.noted.config.page_bytes f y)) →
       BringsPage state (device_in state S O) (device_in state U Q) e x

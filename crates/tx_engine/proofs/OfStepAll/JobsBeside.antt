@@ -5,7 +5,7 @@ use Rattle.flash_model.specs.declared.outcome.Outcome.TheVariants as outcome
 use Rattle.record_list.specs.Records.{mentions_below}
 use Rattle.record_list.specs.SoundList.{Pages, PagesExist}
 use Rattle.record_list.proofs.OfChanges.OneMore.{inserted_in}
-use Rattle.version_index.proofs.OfTables.FoundIn.{found, found_in_programmed}
+use Rattle.judged_records.proofs.OfNotes.FoundIn.{found, found_in_programmed}
 use Rattle.collector.specs.declared.unsure.Unsure.TheVariants as unsure
 use Rattle.tx_engine.proofs.OfSettle.NextNoted.{apart_at, last_elsewhere, next_stays, next_versions}
 use Rattle.tx_engine.proofs.OfDevice.Arrays.{as_many_names}

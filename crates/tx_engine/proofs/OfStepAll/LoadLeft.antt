@@ -5,7 +5,7 @@ use Rattle.std.proofs.lemmas.List.Elements.{All-get_or}
 use Rattle.flash_model.specs.declared.outcome.Outcome.TheVariants as outcome
 use Rattle.flash_model.proofs.ImageLemmas.{IsImage-left}
 use Rattle.page_record.proofs.Spellings.{length-spelling}
-use Rattle.version_index.proofs.OfTables.FoundIn.{found_in_damaged}
+use Rattle.judged_records.proofs.OfNotes.FoundIn.{found_in_damaged}
 use Rattle.collector.specs.declared.unsure.Settled.TheVariants as found
 use Rattle.collector.specs.declared.unsure.Unsure.TheVariants as unsure
 use Rattle.collector.specs.Settling.{own_settled}

@@ -1,31 +1,52 @@
 -- What submitting a batch asks of the calls that it makes, and what it answers.
-use Rattle.tx_engine.proofs.Common.{◌≡◌, ℕ, ◌+◌, ◌^◌, ◌<◌, Bool, false, List, [], ◌∷◌, ◌++◌, length, map, get_or, set, All, Option, None, Ok, refl, sym, ap, ap₂, ◌∙◌, arith, AllZip, take_more, map_push, All-cons, All-nil, All-contains, all_from, PageWrite, Writes, no_write, Config, Link, Contents, IndexState, mention_of, ArrayState, Entry, with_pins, is_spent, OpenTransactionsState, TransactionState, entries_of, IsOpenAs, limits_of, spent_page, or_else}
+use Rattle.tx_engine.proofs.Common.{◌≡◌, ℕ, ◌+◌, ◌-◌, ◌^◌, ◌<◌, Bool, false, List, [], ◌∷◌, ◌++◌, length, map, get_or, set, All, Option, None, Ok, refl, sym, ap, ap₂, ◌∙◌, subst, arith, AllZip, take_more, length-map, All-map, All-cons, All-nil, All-contains, all_from, PageWrite, Writes, Config, Link, Contents, IndexState, mention_of, ArrayState, Entry, with_pins, is_spent, OpenTransactionsState, TransactionState, no_name, no_transaction, transaction_at, begun, entries_of, IsOpenAs, limits_of, spent_page, or_else}
 use Rattle.std.proofs.Common.{take}
 use Rattle.std.proofs.Common.{leb-false}
+use Rattle.std.proofs.lemmas.List.{get_or_push, length_push}
 use Rattle.array_machine.specs.ArrayState.{new_entry}
 use Rattle.open_table.specs.OpenTransactionsState.{CanOpen, next_name}
 use Rattle.array_machine.specs.Submit.{Limits, Submits, first_refusals, refusal, answer, opened}
 use Rattle.array_machine.specs.declared.answers.SubmitError.{SubmitError}
 use Rattle.array_machine.proofs.Accepting.{IsAccepted, unspent}
+use Rattle.tx_engine.specs.Calls.{CanPin}
 
 with_pins_push : (names : List Link) (pins : List ℕ) (a : Link) →
     with_pins pins (names ++ a ∷ []) ≡ set (with_pins pins names) a.page a.version
 with_pins_push [] pins a = refl
 with_pins_push (b ∷ rest) pins a = with_pins_push rest (set pins b.page b.version) a
 
--- the next page of a batch is pinned
-pub pins_more : (n : IndexState) (ws : List PageWrite) (at page version : ℕ) → at < length ws →
-    page ≡ (get_or ws at no_write).page →
-    version ≡ mention_of n page + 1 →
-    set (with_pins n.pins (map (next_name n) (take at ws))) page version
-    ≡ with_pins n.pins (map (next_name n) (take (at + 1) ws))
-pins_more n ws at page version within its next =
-    let w = get_or ws at no_write in
-    ap₂ (λ p v. set (with_pins n.pins (map (next_name n) (take at ws))) p v) its (next
-    ∙ ap (λ p. mention_of n p + 1) its)
-    ∙ sym (with_pins_push (map (next_name n) (take at ws)) n.pins (next_name n w))
-    ∙ sym (ap (with_pins n.pins) (map_push (next_name n) (take at ws) w))
-    ∙ sym (ap (λ l. with_pins n.pins (map (next_name n) l)) (take_more ws at no_write within))
+-- the next name is pinned
+pub pins_more : (pins : List ℕ) (names : List Link) (place : ℕ) (name : Link) → place < length names →
+    name ≡ get_or names place no_name →
+    set (with_pins pins (take place names)) name.page name.version ≡ with_pins pins (take (place + 1) names)
+pins_more pins names place name within is =
+    sym (with_pins_push (take place names) pins name)
+    ∙ ap (λ (a : Link). with_pins pins (take place names ++ a ∷ [])) is
+    ∙ sym (ap (with_pins pins) (take_more names place no_name within))
+
+-- The transaction that was just opened stands last, and its pages may be pinned.
+module _ (n : IndexState) (t t' : OpenTransactionsState) (tag : ℕ) (ws : List PageWrite) (count : ℕ)
+    (opens : t' ≡ record t { all = t.all ++ begun n tag ws ∷ [] }) (counts : count ≡ length t'.all) where
+  one_more : count ≡ length t.all + 1
+  one_more = counts ∙ ap (λ (x : OpenTransactionsState). length x.all) opens ∙ length_push t.all (begun n tag ws)
+
+  pub last_open : transaction_at t' (count - 1) ≡ begun n tag ws
+  last_open = ap (λ (x : OpenTransactionsState). get_or x.all (count - 1) no_transaction) opens
+      ∙ get_or_push t.all (begun n tag ws) no_transaction (count - 1) (omega (arith, one_more))
+
+  pub can_pin : All (λ w. w.page < n.config.logical) ws → CanPin n t' (count - 1)
+  can_pin range = record {
+    at = omega (arith, one_more, counts);
+    range = subst (λ (o : TransactionState). All (λ (a : Link). a.page < n.config.logical) o.naming.names)
+        (sym last_open)
+        (All-map (λ (a : Link). a.page < n.config.logical) (next_name n) ws range);
+    above = subst (λ (o : TransactionState). All (λ (a : Link). mention_of n a.page < a.version) o.naming.names)
+        (sym last_open)
+        (All-map (λ (a : Link). mention_of n a.page < a.version) (next_name n) ws
+        (all_from (λ (w : PageWrite). mention_of n w.page < mention_of n w.page + 1) ws (λ w i. omega arith)));
+    named = subst (λ (o : TransactionState). length o.naming.names ≡ length o.entry.writes) (sym last_open)
+        (length-map ws (next_name n));
+  }
 
 -- each open transaction has a page
 pub some_each : (image : List Contents) (n : IndexState) (all : List TransactionState) →

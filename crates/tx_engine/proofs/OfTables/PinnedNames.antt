@@ -3,8 +3,8 @@ use Rattle.tx_engine.proofs.Common.{◌≡◌, ◌≢◌, ◌⊎◌, ℕ, zero, 
 use Rattle.list_lemmas.proofs.Membership.{Contains-first, Contains-here}
 use Rattle.record_list.proofs.OfFacts.Names.{same_name}
 use Rattle.record_list.proofs.OfWalks.Rounds.{cases_page}
-use Rattle.version_index.proofs.OfTables.BaseTables.{given}
-use Rattle.version_index.proofs.OfChanges.Pins.{numbered_pin}
+use Rattle.judged_records.proofs.OfNotes.BaseTables.{given}
+use Rattle.judged_records.proofs.OfChanges.Pins.{numbered_pin}
 
 -- a name is pinned
 pub record IsPin (pins : List ℕ) (name : Link) : Type 0 where

@@ -2,7 +2,7 @@
 use Rattle.tx_engine.proofs.Common.{◌≡◌, ℕ, Bool, true, false, List, length, Result, Ok, Err, refl, sym, ap, ◌∙◌, with_items, Broken, Contents, blank, damaged, complete, slot_at, IndexState, programmed, BlocksState, Unsure, StoreParts, Settlement, settlement}
 use Rattle.std.proofs.Common.{if◌then◌else◌, Vec}
 use Rattle.std.specs.List.{length_refill}
-use Rattle.version_index.specs.IndexState.{erased, lost}
+use Rattle.judged_records.specs.IndexState.{erased, lost}
 use Rattle.collector.specs.declared.unsure.Settled.{Settled}
 use Rattle.collector.specs.declared.unsure.Unsure.TheVariants as unsure
 use Rattle.collector.specs.declared.unsure.Settled.TheVariants as settled

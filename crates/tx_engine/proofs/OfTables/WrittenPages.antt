@@ -6,9 +6,9 @@ use Rattle.std.proofs.lemmas.List.FromFn.{sum_by-map-range_with_len_more}
 use Rattle.record_list.specs.Records.{has_name}
 use Rattle.record_list.specs.Verdict.{record_named}
 use Rattle.record_list.specs.Written.{Written, page_at, records_of, text_of}
-use Rattle.version_index.specs.Notes.{notes_of}
-use Rattle.version_index.proofs.OfTables.NotedFacts.{noted_positive}
-use Rattle.version_index.proofs.OfLaws.NotedImages.{found_in_notes}
+use Rattle.judged_records.specs.Notes.{notes_of}
+use Rattle.judged_records.proofs.OfNotes.NotedFacts.{noted_positive}
+use Rattle.judged_records.proofs.OfLaws.NotedImages.{found_in_notes}
 use Rattle.tx_engine.specs.Read.{is_written}
 use Rattle.tx_engine.proofs.OfDevice.Arrays.{at_page}
 use Rattle.tx_engine.proofs.OfDevice.OtherFlash.{known_at}

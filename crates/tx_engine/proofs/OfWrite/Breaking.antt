@@ -1,5 +1,5 @@
 -- Where the writing of a record breaks off: by the parts of the write, and over tables that are the same.
-use Rattle.tx_engine.proofs.Common.{◌≡◌, ◌<◌, sym, subst, inl, inr, Shape, Slot, Link, Rec, FlashState, FlashMoves, Moment, moment_of, name_of, IndexState, BlocksState, blocks_to_go, reads_after, slots_read, WritingBreaks, settlement_of, OpenTransactionsState, DeviceState, StoreState, device_in}
+use Rattle.tx_engine.proofs.Common.{◌≡◌, ◌<◌, sym, subst, inl, inr, Shape, Slot, Link, Rec, FlashState, FlashMoves, Moment, moment_of, name_of, IndexState, BlocksState, blocks_to_go, counted_times, slots_read, WritingBreaks, settlement_of, OpenTransactionsState, DeviceState, StoreState, device_in}
 use Rattle.std.specs.Prelude.{false}
 use Rattle.flash_model.specs.Moves.{Moves}
 use Rattle.collector.specs.BreakingOff.{RoomBreaksOff}
@@ -100,7 +100,7 @@ module _ {F : Type 0} (state : F → FlashState) (S S1 S2 : StoreState F) (O O' 
 module _ {F : Type 0} (state : F → FlashState) (S T : StoreState F) (O : OpenTransactionsState)
     (shape : (state T.flash).shape ≡ (state S.flash).shape)
     (moment : moment_of (state T.flash) ≡ moment_of (state S.flash))
-    (reads : (state T.flash).reads ≡ reads_after (slots_read S.noted S.unsure) (state S.flash).reads)
+    (reads : (state T.flash).reads ≡ counted_times (slots_read S.noted S.unsure) (state S.flash).reads)
     (noted : T.noted ≡ (settlement_of state (device_in state S O)).noted)
     (table : T.table ≡ (settlement_of state (device_in state S O)).table) where
   pub broke_then : (Broke : FlashState → IndexState → BlocksState → Type 0) → Broke (state T.flash) T.noted T.table →

@@ -16,10 +16,10 @@ use Rattle.record_list.specs.Changes.{NothingMustGo}
 use Rattle.record_list.proofs.OfFacts.Names.{present_as}
 use Rattle.record_list.proofs.OfChanges.OneMore.{inserted_in, in_inserted, new_in}
 use Rattle.record_list.proofs.OfChanges.WrittenLists.{inserted_records}
-use Rattle.version_index.specs.ImageChanges.{image_with, AsksFor, TextsCome}
-use Rattle.version_index.specs.Notes.{note_of}
-use Rattle.version_index.proofs.OfLaws.ImageLaws.{image_damage_law}
-use Rattle.version_index.proofs.OfLaws.ImageScans.{written_inserted}
+use Rattle.judged_records.specs.ImageChanges.{image_with, AsksFor, TextsCome}
+use Rattle.judged_records.specs.Notes.{note_of}
+use Rattle.judged_records.proofs.OfLaws.ImageLaws.{image_damage_law}
+use Rattle.judged_records.proofs.OfLaws.ImageScans.{written_inserted}
 use Rattle.die_alloc.specs.BlocksState.{HasRoom, used_of}
 use Rattle.die_alloc.proofs.Changes.{block_within as block_in}
 use Rattle.collector.specs.declared.unsure.Unsure.TheVariants as unsure

@@ -1,8 +1,8 @@
 ghost use Rattle.std.specs.List.{range_with_len};
 ghost use Rattle.std.specs.Prelude.{◌≡◌, ◌<◌, ◌≤◌, Ok, IfOk, sum_by, count_by, is_some};
 ghost use Rattle.tx_types.specs.Config.{shape_of, blocks_of};
-ghost use Rattle.version_index.specs.IndexState.{current_of};
-ghost use Rattle.version_index.specs.Notes.{found_in};
+ghost use Rattle.judged_records.specs.IndexState.{current_of};
+ghost use Rattle.judged_records.specs.Notes.{found_in};
 ghost use Rattle.collector.specs.Known.{array_known};
 ghost use Rattle.collector.specs.Victim.{garbage_in};
 ghost use Rattle.tx_engine.specs.Read.{is_written};

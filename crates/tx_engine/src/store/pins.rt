@@ -1,14 +1,15 @@
-ghost use Rattle.std.specs.Prelude.{◌≡◌, ◌<◌, map, All};
-ghost use Rattle.tx_types.specs.Limits.{max_version};
-ghost use Rattle.version_index.specs.IndexState.{pinned, unpinned, mention_of};
+ghost use Rattle.std.specs.Prelude.{◌≡◌, ◌<◌, All};
+ghost use Rattle.judged_records.specs.IndexState.{pinned, unpinned};
+ghost use Rattle.tx_engine.specs.Calls.{CanPin};
 ghost use Rattle.tx_engine.specs.Naming.{is_spent, with_pins};
-ghost use Rattle.open_table.specs.OpenTransactionsState.{next_name};
+ghost use Rattle.open_table.specs.OpenTransactionsState.{transaction_at};
 ghost use Rattle.tx_engine.specs.StoreState.{IsStoreState};
 ghost use Rattle.array_machine.specs.Submit.{spent_page};
 
 use crate::store::Store;
 use array_machine::SubmitError;
 use flash_model::Flash;
+use open_table::OpenTransactions;
 use record_list::CommitRule;
 use tx_types::{Batch, MAX_VERSION};
 
@@ -44,23 +45,20 @@ impl<F: Flash, R: CommitRule> Store<F, R> {
         None
     }
 
-    /// Pins each page of a batch one version above its greatest mention.
-    pub(crate) fn pin_all(&mut self, batch: &Batch)
+    /// Pins the pages of the transaction at an index, each at the version that the transaction names.
+    pub(crate) fn pin_all(&mut self, transactions: &OpenTransactions, at: usize)
         requires stored { IsStoreState F.state R.protocol self.old }
-        requires range { All (λ w. w.page < self.old.noted.config.logical) batch.now.entries }
-        requires unspent { All (λ w. mention_of self.old.noted w.page < max_version)
-            batch.now.entries }
+        requires pages { CanPin self.old.noted transactions.now at }
         ensures pinned { self.new ≡ record self.old {
           noted = record self.old.noted {
-            pins = with_pins self.old.noted.pins (map (next_name self.old.noted) batch.now.entries);
+            pins = with_pins self.old.noted.pins (transaction_at transactions.now at).naming.names;
           };
         } }
         ensures stored { IsStoreState F.state R.protocol self.new }
     {
-        for at in 0..batch.len() {
-            let page = batch.page(at);
-            let version = self.index().mention(page) + 1;
-            self.pin(page, version);
+        for place in 0..transactions.pages(at) {
+            let name = transactions.name(at, place);
+            self.pin(name.page, name.version);
         }
     }
 }

@@ -1,7 +1,7 @@
 ghost use Rattle.std.specs.Prelude.{◌≡◌, ◌<◌};
 ghost use Rattle.flash_model.specs.Firing.{loads_in};
 ghost use Rattle.flash_model.specs.Operations.{CanDo, fire};
-ghost use Rattle.version_index.specs.IndexState.{programmed};
+ghost use Rattle.judged_records.specs.IndexState.{programmed};
 ghost use Rattle.die_alloc.specs.BlocksState.{with_slot};
 ghost use Rattle.die_alloc.specs.NextSlot.{next_slot_in};
 ghost use Rattle.tx_engine.specs.BatchCalls.{CanLoadJob, CanNoteJob, ClearsRegisters, FiresStored, LoadsJob};

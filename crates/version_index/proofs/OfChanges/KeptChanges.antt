@@ -1,13 +1,16 @@
 -- Pins, spares, damaged slots and copies leave tables that have what was noted.
-use Rattle.version_index.proofs.Common.{◌≡◌, ◌≢◌, ℕ, ◌<◌, List, length, set, IsSome, Some, refl, sym, ap, ap₂, ◌∙◌, subst, inl, inr, arith, cases_eq, length-set, get_or-set_same, get_or-set_other, Config, Protocol, Rec, shape_of, slots_of, blocks_of, cur, CopyLaw, SlotUse, TablesState, use_at, Note, note_at, rec_of, found_in, IndexState, IsNoted, current_of, damaged_at, copied, answerer, is_waiting, answerer_of, waits_of, Derived, derived_of, NothingMoves, rec_at, AreDerived, note_in, notes_in, noted_by, numbered_of, AreHeld, AreIndexed}
+use Rattle.version_index.proofs.Common.{◌≡◌, ◌≢◌, ℕ, ◌<◌, List, length, set, IsSome, Some, refl, sym, ap, ap₂, ◌∙◌, subst, inl, inr, arith, cases_eq, length-set, get_or-set_same, get_or-set_other, Config, Protocol, Rec, shape_of, slots_of, blocks_of, cur, SlotUse, TablesState, use_at, Note, note_at, rec_of, found_in, IndexState, IsNoted, current_of, answerer, is_waiting, answerer_of, waits_of, Derived, derived_of, rec_at, AreDerived, note_in, notes_in, noted_by, numbered_of, AreHeld, AreIndexed}
 use Rattle.std.proofs.lemmas.List.{map-set}
+use Rattle.record_list.specs.Changes.{CopyLaw}
 use Rattle.slot_tables.specs.declared.slots.SlotUse.TheVariants as slot
-use Rattle.version_index.specs.declared.note.Note.TheVariants as note
-use Rattle.version_index.proofs.OfChanges.Copies.{copy_moves_nothing, damage_moves_nothing}
+use Rattle.judged_records.specs.declared.note.Note.TheVariants as note
+use Rattle.judged_records.specs.DerivedChanges.{NothingMoves}
+use Rattle.judged_records.specs.IndexState.{damaged_at, copied}
+use Rattle.judged_records.proofs.OfChanges.Copies.{copy_moves_nothing, damage_moves_nothing}
+use Rattle.judged_records.proofs.OfChanges.NotedChanges.{damaged_noted, copied_noted}
+use Rattle.judged_records.proofs.OfNotes.Numbered.{derived_as}
+use Rattle.judged_records.proofs.OfChanges.WholeDerived.{derived_still}
 use Rattle.version_index.proofs.OfTables.KeptNotes.{note_by, kept_noted, blank_slot, length-notes}
-use Rattle.version_index.proofs.OfChanges.NotedChanges.{damaged_noted, copied_noted}
-use Rattle.version_index.proofs.OfTables.Numbered.{derived_as}
-use Rattle.version_index.proofs.OfChanges.WholeDerived.{derived_still}
 
 -- what is derived is by the configuration and the notes alone
 pub derived_same : (n n' : IndexState) → n'.config ≡ n.config → n'.notes ≡ n.notes → derived_of n' ≡ derived_of n

@@ -1,11 +1,12 @@
 -- The records of a whole cycle are current, or answer, one after the other.
-use Rattle.version_index.proofs.Common.{◌≡◌, ◌≢◌, ℕ, ◌+◌, ◌<◌, ◌≤◌, eqb, List, length, take, get_or, Option, Some, None, refl, sym, ap, ◌∙◌, subst, inl, inr, arith, eq-eqb, eqb-true, option_map, option_map_or, cases_Bool, cases_lt, cond-true, cond-false, get_or_past, take_all, none-some, same_Some, cases_Option, Link, Rec, name_of, TablesState, record_at, number_at, LinksExist, newest_at, newest_with_name, OnlyDerives, IsTaken, IsRoundIn, name_at, Derived, with_current, all_current, AreDerived, named, version_at, numbered_of}
+use Rattle.version_index.proofs.Common.{◌≡◌, ◌≢◌, ℕ, ◌+◌, ◌<◌, ◌≤◌, eqb, List, length, take, get_or, Option, Some, None, refl, sym, ap, ◌∙◌, subst, inl, inr, arith, eq-eqb, eqb-true, option_map, option_map_or, cases_Bool, cases_lt, cond-true, cond-false, get_or_past, take_all, none-some, same_Some, cases_Option, Link, Rec, name_of, TablesState, record_at, number_at, LinksExist, newest_at, newest_with_name, OnlyDerives, IsTaken, IsRoundIn, name_at, Derived, AreDerived, named, version_at, numbered_of}
 use Rattle.std.proofs.Common.{option_and_then}
+use Rattle.judged_records.specs.DerivedChanges.{with_current, all_current}
+use Rattle.judged_records.proofs.OfNotes.CurrentNames.{IsRested, rested_on}
+use Rattle.judged_records.proofs.OfNotes.Derived.{name_at_is, name_at_some}
+use Rattle.judged_records.proofs.OfNotes.Numbered.{named_some, made_current}
+use Rattle.judged_records.proofs.OfCommit.RoundSteps.{current_more}
 use Rattle.version_index.specs.Committing.{with_version, IsTop, Rests, CommitsRound}
-use Rattle.version_index.proofs.OfTables.CurrentNames.{IsRested, rested_on}
-use Rattle.version_index.proofs.OfTables.Derived.{name_at_is, name_at_some}
-use Rattle.version_index.proofs.OfTables.Numbered.{named_some, made_current}
-use Rattle.version_index.proofs.OfCommit.RoundSteps.{current_more}
 
 -- one change after another
 pub derives_then : (k t u : TablesState) → OnlyDerives k t → OnlyDerives t u → OnlyDerives k u

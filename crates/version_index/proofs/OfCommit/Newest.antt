@@ -1,9 +1,10 @@
 -- The newest record of a page, by the numbers of the page.
-use Rattle.version_index.proofs.Common.{◌≡◌, ℕ, ◌≤◌, List, [], ◌∷◌, AllPairs, Contains, Some, None, refl, sym, ap, ◌∙◌, subst, inl, inr, arith, slice_get, none-some, same_Some, Contains-cases, Contains-first, Contains-nil, pairs_head, Rec, newest, TablesState, numbers_at, found_in, rec_at, notes_in, AreHeld}
+use Rattle.version_index.proofs.Common.{◌≡◌, ℕ, ◌≤◌, List, [], ◌∷◌, Contains, Some, None, refl, sym, ap, ◌∙◌, subst, inl, inr, arith, slice_get, none-some, same_Some, Contains-cases, Contains-first, Contains-nil, pairs_head, Rec, newest, TablesState, numbers_at, found_in, rec_at, notes_in, AreHeld}
+use Rattle.std.proofs.Common.{AllPairs}
 use Rattle.slot_tables.specs.TablesState.{IsNewer, AreVersions}
-use Rattle.version_index.proofs.OfTables.FoundIn.{found}
+use Rattle.judged_records.proofs.OfNotes.FoundIn.{found}
+use Rattle.judged_records.proofs.OfReadings.Readings.{newest_is, newest_none}
 use Rattle.version_index.proofs.OfTables.KeptNotes.{kept_found, found_number}
-use Rattle.version_index.proofs.OfReadings.Readings.{newest_is, newest_none}
 
 pub head_of : (xs : List ℕ) (x : ℕ) → slice_get xs 0 ≡ Some x → (ys : List ℕ) × (xs ≡ x ∷ ys)
 head_of [] x e = absurd (none-some x e)

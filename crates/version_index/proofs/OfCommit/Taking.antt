@@ -1,5 +1,8 @@
 -- Records of a page are released, one after the other from the newest on.
-use Rattle.version_index.proofs.Common.{◌≡◌, ◌≢◌, ℕ, suc, ◌+◌, ◌<◌, ◌≤◌, ◌⊎◌, not, eqb, List, [], ◌∷◌, ◌++◌, length, set, AllPairs, Contains, IfSome, Option, Some, None, refl, sym, ap, ◌∙◌, subst, inl, inr, arith, eq-eqb, ne_eqb, slice_get, option_map_or, cases_eq, cases_lt, cond-true, cond-false, length-set, get_or-set_same, get_or-set_other, get_or_past, none-some, same_Some, Contains-cases, Contains-first, Contains-nil, Contains-rest, cases_Option, pairs_head, pairs_tail, Rec, slots_of, TablesState, IsTablesState, record_at, number_at, numbers_at, OnlyDerives, IsTaken, newest_at, freed, version_at}
+use Rattle.version_index.proofs.Common.{◌≡◌, ◌≢◌, ℕ, suc, ◌+◌, ◌<◌, ◌≤◌, ◌⊎◌, not, eqb, List, [], ◌∷◌, ◌++◌, length, set, Contains, IfSome, Option, Some, None, refl, sym, ap, ◌∙◌, subst, inl, inr, arith, eq-eqb, slice_get, option_map_or, cases_eq, cases_lt, cond-true, cond-false, length-set, get_or-set_same, get_or-set_other, get_or_past, none-some, same_Some, Contains-cases, Contains-first, Contains-nil, cases_Option, pairs_head, Rec, slots_of, TablesState, IsTablesState, record_at, number_at, numbers_at, OnlyDerives, IsTaken, newest_at, freed, version_at}
+use Rattle.std.proofs.Common.{AllPairs, ne_eqb}
+use Rattle.list_lemmas.proofs.Membership.{Contains-rest}
+use Rattle.list_lemmas.proofs.Pairs.{pairs_tail}
 use Rattle.dense_tables.specs.LinkedLists.{index_in, next_in}
 use Rattle.slot_tables.specs.TablesState.{IsNewer, AreVersions}
 use Rattle.version_index.specs.Committing.{AreReleased}

@@ -1,16 +1,19 @@
 -- The blocks that hold records which must go, by the tables.
-use Rattle.version_index.proofs.Common.{◌≡◌, ℕ, ◌*◌, ◌/◌, ◌<◌, ◌↔◌, Bool, true, false, eqb, ◌&&◌, List, [], ◌∷◌, map, ap₂, refl, sym, ap, ◌∙◌, subst, inl, inr, arith, eq-eqb, eqb-true, range_with_len, false≢true, cases_Bool, Contains-nil, Contains-cases, Contains-first, Contains-rest, in_filter, from_filter, pairs_head, pairs_tail, any_of, any_from, Block, Config, Protocol, Scc, Bpcc, shape_of, blocks_of, slots_of, Found, must_go, TablesState, IsTablesState, use_at, AreGathered, found_in, goes_of, Goes, AreRising, notes_in, noted_by, AreIndexed}
+use Rattle.version_index.proofs.Common.{◌≡◌, ℕ, ◌*◌, ◌/◌, ◌<◌, ◌↔◌, Bool, true, false, eqb, ◌&&◌, List, [], ◌∷◌, map, ap₂, refl, sym, ap, ◌∙◌, subst, inl, inr, arith, eq-eqb, eqb-true, range_with_len, false≢true, cases_Bool, Contains-nil, Contains-cases, Contains-first, pairs_head, Block, Config, Protocol, Scc, Bpcc, shape_of, blocks_of, slots_of, Found, TablesState, IsTablesState, use_at, AreGathered, found_in, Goes, AreRising, notes_in, noted_by, AreIndexed}
 use Rattle.std.specs.List.{AllPairs, Contains, filter}
 use Rattle.std.proofs.lemmas.Nat.{div_below}
-use Rattle.list_lemmas.proofs.Membership.{in_map, map_in}
-use Rattle.list_lemmas.proofs.Pairs.{pairs_to}
+use Rattle.list_lemmas.proofs.Membership.{in_map, map_in, Contains-rest, in_filter, from_filter}
+use Rattle.list_lemmas.proofs.Pairs.{pairs_to, pairs_tail}
 use Rattle.list_lemmas.proofs.Ranges.{in_range}
+use Rattle.list_lemmas.proofs.Tests.{any_of, any_from}
+use Rattle.record_list.specs.Current.{must_go}
 use Rattle.slot_tables.specs.Gathered.{block_at, copies_of_all}
 use Rattle.slot_tables.proofs.OfBaseTables.Copying.{copies_have, filter_rises}
 use Rattle.slot_tables.proofs.OfSlots.GatheredSlots.{in_all, from_all}
-use Rattle.version_index.specs.IndexState.{is_going, going_blocks}
+use Rattle.judged_records.specs.IndexState.{is_going, going_blocks}
+use Rattle.judged_records.specs.Derived.{goes_of}
+use Rattle.judged_records.proofs.OfNotes.FoundIn.{found, noted_in, noted_from, holds_within}
 use Rattle.version_index.specs.Going.{BlockMustGo}
-use Rattle.version_index.proofs.OfTables.FoundIn.{found, noted_in, noted_from, holds_within}
 use Rattle.version_index.proofs.OfGoing.KeptGoing.{use_within, number_goes, goes_number}
 use Rattle.version_index.proofs.OfReadings.KeptHomes.{holds_use, use_holds}
 use Rattle.version_index.proofs.OfTables.KeptNotes.{note_held, held_number}

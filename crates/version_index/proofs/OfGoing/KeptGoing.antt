@@ -1,18 +1,19 @@
 -- The lowest block that must go, by the tables.
-use Rattle.version_index.proofs.Common.{◌≡◌, ℕ, ◌<◌, ◌/◌, ◌⊎◌, true, ◌↔◌, List, length, IsSome, IsSomeAnd, Option, Some, None, refl, sym, ap, ◌∙◌, subst, inl, inr, arith, slice_get, option_map, false≢true, cases_Bool, cases_lt, none-some, same_Some, get_or_past, All-contains, cases_Option, Rec, Config, Protocol, Scc, Bpcc, name_of, same_name, TablesState, IsTablesState, use_at, holds, copies_of, number_at, numbers_at, found_in, block_to_go, loose_of, waits_of, goes_of, is_waiting, is_loose, rec_at, Goes, notes_in, noted_by, numbered_of, AreIndexed}
-use Rattle.std.proofs.Common.{min}
+use Rattle.version_index.proofs.Common.{◌≡◌, ℕ, ◌<◌, ◌/◌, ◌⊎◌, true, ◌↔◌, List, length, IsSome, Option, Some, None, refl, sym, ap, ◌∙◌, subst, inl, inr, arith, slice_get, option_map, false≢true, cases_Bool, cases_lt, none-some, same_Some, get_or_past, All-contains, cases_Option, Rec, Config, Protocol, Scc, Bpcc, name_of, same_name, TablesState, IsTablesState, use_at, holds, copies_of, number_at, numbers_at, found_in, block_to_go, waits_of, is_waiting, rec_at, Goes, notes_in, noted_by, numbered_of, AreIndexed}
+use Rattle.std.proofs.Common.{min, IsSomeAnd}
+use Rattle.record_list.specs.Current.{is_loose}
 use Rattle.slot_tables.specs.declared.slots.SlotUse.TheVariants as slot
 use Rattle.slot_tables.specs.TablesState.{lower}
-use Rattle.version_index.specs.Derived.{IsNewestUncommitted, WaitsBelow}
+use Rattle.judged_records.specs.Derived.{IsNewestUncommitted, WaitsBelow, loose_of, goes_of}
+use Rattle.judged_records.proofs.OfReadings.Firsts.{head_find, first_passed, none_passed}
+use Rattle.judged_records.proofs.OfNotes.FoundIn.{found}
+use Rattle.judged_records.proofs.OfReadings.LowestSlots.{lowest_to_go, none_to_go}
+use Rattle.judged_records.proofs.OfReadings.NumberedReadings.{waiting_number}
+use Rattle.judged_records.proofs.OfReadings.Readings.{going_reading, none_goes}
 use Rattle.version_index.specs.Going.{IsLowestOf, IsLowestIn}
-use Rattle.version_index.proofs.OfReadings.Firsts.{head_find, first_passed, none_passed}
-use Rattle.version_index.proofs.OfTables.FoundIn.{found}
 use Rattle.version_index.proofs.OfReadings.KeptHomes.{holds_use, use_holds}
 use Rattle.version_index.proofs.OfTables.KeptNotes.{note_held, held_number, kept_found, numbering}
-use Rattle.version_index.proofs.OfReadings.LowestSlots.{lowest_to_go, none_to_go}
 use Rattle.version_index.proofs.OfCommit.Newest.{newest_number, no_number}
-use Rattle.version_index.proofs.OfReadings.NumberedReadings.{waiting_number}
-use Rattle.version_index.proofs.OfReadings.Readings.{going_reading, none_goes}
 
 pub use_within : (k : TablesState) (at x : ℕ) → use_at k.slots at ≡ slot.Holds x → at < length k.slots
 use_within k at x e = elim (cases_lt at (length k.slots)) [

@@ -1,20 +1,25 @@
 -- A block whose slots are used otherwise leaves tables that have what was noted.
-use Rattle.version_index.proofs.Common.{◌≡◌, ◌≢◌, ℕ, zero, suc, ◌+◌, ◌*◌, ◌<◌, ◌≤◌, ◌⊎◌, true, false, List, length, set, get_or, Option, Some, None, refl, sym, ap, ◌∙◌, subst, inl, inr, arith, slice_get, option_map_or, false≢true, cases_Bool, cases_eq, cases_lt, length-set, get_or-set_same, get_or-set_other, get_or_past, ext_get_or, All-contains, none-some, same_Some, from_filter, block_within, Config, Protocol, Rec, shape_of, blocks_of, name_of, is_present, LossLaw, left, is_outside, found_named, present_in, SlotUse, TablesState, IsTablesState, use_at, holds, copies_of, number_in, Note, note_at, rec_of, found_in, with_block_noted, IndexState, IsNoted, CanLose, current_of, answerer_of, derived_of, NothingMoves, freed, used_so, used_from, rec_at, AreDerived, note_in, notes_in, noted_by, numbered_of, AreHeld, AreIndexed}
+use Rattle.version_index.proofs.Common.{◌≡◌, ◌≢◌, ℕ, zero, suc, ◌+◌, ◌*◌, ◌<◌, ◌≤◌, ◌⊎◌, true, false, List, length, set, get_or, Option, Some, None, refl, sym, ap, ◌∙◌, subst, inl, inr, arith, slice_get, option_map_or, false≢true, cases_Bool, cases_eq, cases_lt, length-set, get_or-set_same, get_or-set_other, get_or_past, ext_get_or, All-contains, none-some, same_Some, Config, Protocol, Rec, shape_of, blocks_of, name_of, is_present, is_outside, found_named, present_in, SlotUse, TablesState, IsTablesState, use_at, holds, copies_of, number_in, Note, note_at, rec_of, found_in, IndexState, IsNoted, CanLose, current_of, answerer_of, derived_of, freed, used_so, used_from, rec_at, AreDerived, note_in, notes_in, noted_by, numbered_of, AreHeld, AreIndexed}
+use Rattle.list_lemmas.proofs.Membership.{from_filter}
+use Rattle.flash_model.proofs.ImageLemmas.{block_within}
+use Rattle.record_list.specs.Changes.{LossLaw, left}
 use Rattle.slot_tables.specs.declared.slots.SlotUse.TheVariants as slot
 use Rattle.slot_tables.specs.Copies.{HoldsNone}
 use Rattle.slot_tables.specs.TablesState.{given_up}
-use Rattle.version_index.specs.declared.note.Note.TheVariants as note
+use Rattle.judged_records.specs.declared.note.Note.TheVariants as note
+use Rattle.judged_records.specs.Numbered.{number_at}
+use Rattle.judged_records.specs.DerivedChanges.{NothingMoves}
+use Rattle.judged_records.specs.Notes.{with_block_noted}
+use Rattle.judged_records.proofs.OfNotes.Blocks.{length-with_item, item_in, item_out, outside_it}
+use Rattle.judged_records.proofs.OfReadings.Firsts.{head_find, first_passed, none_passed}
+use Rattle.judged_records.proofs.OfNotes.FoundIn.{found}
+use Rattle.judged_records.proofs.OfChanges.Losses.{left_in, loss_moves_nothing, lost_answers_none, lost_not_current}
+use Rattle.judged_records.proofs.OfChanges.NotedChanges.{block_noted}
+use Rattle.judged_records.proofs.OfNotes.Numbered.{given_up_derived}
 use Rattle.version_index.specs.Losing.{bared_as, without}
-use Rattle.version_index.specs.Numbered.{number_at}
-use Rattle.version_index.proofs.OfTables.Blocks.{length-with_item, item_in, item_out, outside_it}
-use Rattle.version_index.proofs.OfReadings.Firsts.{head_find, first_passed, none_passed}
-use Rattle.version_index.proofs.OfTables.FoundIn.{found}
 use Rattle.version_index.proofs.OfChanges.KeptChanges.{still_indexed}
 use Rattle.version_index.proofs.OfReadings.KeptHomes.{holds_use, use_holds}
 use Rattle.version_index.proofs.OfTables.KeptNotes.{note_by, kept_found, found_number, length-notes}
-use Rattle.version_index.proofs.OfLosses.Losses.{left_in, loss_moves_nothing, lost_answers_none, lost_not_current}
-use Rattle.version_index.proofs.OfChanges.NotedChanges.{block_noted}
-use Rattle.version_index.proofs.OfTables.Numbered.{given_up_derived}
 
 -- a slot that holds no number
 holds_none : (u : SlotUse) (x : ℕ) → HoldsNone u → u ≡ slot.Holds x → ⊥

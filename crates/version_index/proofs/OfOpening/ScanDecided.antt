@@ -1,7 +1,7 @@
 -- What is derived from the records of a scan, number by number.
-use Rattle.version_index.proofs.Common.{◌≡◌, ◌≢◌, ℕ, ◌+◌, ◌<◌, Bool, true, List, length, set, get_or, IfSome, Option, Some, None, refl, sym, ap, ◌∙◌, subst, inl, inr, arith, position, option_map, cases_eq, cases_lt, cases_Bool, cond-true, cond-false, length-set, get_or-set_same, get_or-set_other, get_or_past, none-some, same_Some, cases_Option, find_stands, slots_of, Protocol, Link, Rec, Found, has_name, nothing, cur, TablesState, IsTablesState, record_at, number_at, derived_by, number_by, AreNumbered, AreDecided, name_at, answerer, Derived, awaited}
+use Rattle.version_index.proofs.Common.{◌≡◌, ◌≢◌, ℕ, ◌+◌, ◌<◌, Bool, true, List, length, set, get_or, IfSome, Option, Some, None, refl, sym, ap, ◌∙◌, subst, inl, inr, arith, position, option_map, cases_eq, cases_lt, cases_Bool, cond-true, cond-false, length-set, get_or-set_same, get_or-set_other, get_or_past, none-some, same_Some, cases_Option, slots_of, Protocol, Link, Rec, Found, has_name, nothing, cur, TablesState, IsTablesState, record_at, number_at, derived_by, number_by, AreNumbered, AreDecided, name_at, answerer, Derived, awaited}
 use Rattle.list_lemmas.proofs.Positions.{position_some}
-use Rattle.list_lemmas.proofs.Tests.{find-position}
+use Rattle.list_lemmas.proofs.Tests.{find-position, find_stands}
 use Rattle.record_list.specs.Records as records
 
 -- the place of a name that has a number

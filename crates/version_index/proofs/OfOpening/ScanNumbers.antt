@@ -1,5 +1,6 @@
 -- The numbers that the records of a scan get, in the order of their names.
-use Rattle.version_index.proofs.Common.{◌≡◌, ◌≢◌, ℕ, ◌+◌, ◌<◌, ◌≤◌, ◌⊎◌, List, [], ◌∷◌, ◌++◌, length, get_or, replicate, All, Contains, Option, Some, None, refl, sym, ap, ◌∙◌, subst, inl, inr, arith, cases_eq, cases_lt, length-append, length-set, length-replicate, get_or-set_same, get_or-set_other, get_or_past, All-contains, Contains-get_or, none-some, same_Some, slots_of, Shape, Link, Rec, Found, name_of, nothing, TablesState, IsTablesState, record_at, HasFree, NamesAgree, AreNumbered, AreBlankBut}
+use Rattle.version_index.proofs.Common.{◌≡◌, ◌≢◌, ℕ, ◌+◌, ◌<◌, ◌≤◌, ◌⊎◌, List, [], ◌∷◌, ◌++◌, length, get_or, All, Contains, Option, Some, None, refl, sym, ap, ◌∙◌, subst, inl, inr, arith, cases_eq, cases_lt, length-append, length-set, length-replicate, get_or-set_same, get_or-set_other, get_or_past, All-contains, Contains-get_or, none-some, same_Some, slots_of, Shape, Link, Rec, Found, name_of, nothing, TablesState, IsTablesState, record_at, HasFree, NamesAgree, AreNumbered, AreBlankBut}
+use Rattle.std.proofs.Common.{replicate}
 use Rattle.std.proofs.Math.ListN.{get_or-append}
 use Rattle.std.proofs.Math.Seq.{get_or-append_seam}
 use Rattle.std.proofs.lemmas.List.{get_or-replicate}

@@ -1,16 +1,17 @@
 -- The slots of a scan hold the numbers of their records.
-use Rattle.version_index.proofs.Common.{◌≡◌, ℕ, ◌+◌, ◌<◌, ◌≤◌, true, eqb, List, length, map, set, get_or, All, Contains, Some, None, refl, sym, ap, ◌∙◌, subst, inl, inr, arith, eq-eqb, option_map_or, position, get_or-map, false≢true, cases_eq, cases_lt, and_from, length-map, length-set, get_or-set_same, get_or-set_other, get_or_past, ext_get_or, at_from_Contains, Contains-get_or, none-some, all_from, slots_of, Link, Rec, Found, name_of, has_name, is_present, nothing, found_named, present_in, has_name_true, SlotUse, TablesState, record_at, use_at, Note, NamesAgree, AreNumbered, Seen, note_at, seen_as, complete_slots, note_in, notes_in}
+use Rattle.version_index.proofs.Common.{◌≡◌, ℕ, ◌+◌, ◌<◌, ◌≤◌, true, eqb, List, length, map, set, get_or, All, Contains, Some, None, refl, sym, ap, ◌∙◌, subst, inl, inr, arith, eq-eqb, option_map_or, position, get_or-map, false≢true, cases_eq, cases_lt, and_from, length-map, length-set, get_or-set_same, get_or-set_other, get_or_past, ext_get_or, at_from_Contains, Contains-get_or, none-some, all_from, slots_of, Link, Rec, Found, name_of, has_name, is_present, nothing, found_named, present_in, has_name_true, SlotUse, TablesState, record_at, use_at, Note, NamesAgree, AreNumbered, Seen, note_at, note_in, notes_in}
 use Rattle.std.proofs.Common.{subst₂}
 use Rattle.list_lemmas.proofs.Positions.{position-all}
 use Rattle.record_list.specs.Records as records
 use Rattle.record_list.proofs.OfFacts.Names.{has_own_name}
 use Rattle.slot_tables.specs.declared.slots.SlotUse.TheVariants as slot
 use Rattle.slot_tables.specs.Copies.{NumbersBelow}
-use Rattle.version_index.specs.declared.note.Note.TheVariants as note
-use Rattle.version_index.specs.Filling.{AreListed, AreUses, IsNumberAt, UsesNote, first_use, ArePut}
+use Rattle.judged_records.specs.declared.note.Note.TheVariants as note
+use Rattle.judged_records.specs.Notes.{seen_as, complete_slots}
 use Rattle.flash_model.specs.declared.flash.Seen.TheVariants as seen
-use Rattle.version_index.proofs.OfTables.FoundIn.{noted_in, noted_from, holds_within, found}
-use Rattle.version_index.proofs.OfOpening.Scans.{slots, scanned_notes}
+use Rattle.judged_records.proofs.OfNotes.FoundIn.{noted_in, noted_from, holds_within, found}
+use Rattle.judged_records.proofs.OfNotes.Scans.{slots, scanned_notes}
+use Rattle.version_index.specs.Filling.{AreListed, AreUses, IsNumberAt, UsesNote, first_use, ArePut}
 
 -- a name that is present has a place
 pub not_missing : (list : List Found) (rec : Rec) → is_present list (name_of rec) ≡ true →

@@ -1,6 +1,7 @@
 -- Where a slot is blank, a number has no record.
-use Rattle.version_index.proofs.Common.{◌≡◌, ℕ, zero, suc, ◌+◌, ◌<◌, ◌≤◌, ◌⊎◌, Bool, not, eqb, List, [], ◌∷◌, length, map, filter, Contains, Option, Some, None, refl, sym, ap, ◌∙◌, subst, inl, inr, arith, eq-eqb, ne_eqb, cases_lt, cases_eq, length-map, get_or_past, Contains-get_or, in_filter, Rec, SlotUse, TablesState, use_at, record_at, HasFree, AreHeld}
-use Rattle.list_lemmas.proofs.Membership.{map_in}
+use Rattle.version_index.proofs.Common.{◌≡◌, ℕ, zero, suc, ◌+◌, ◌<◌, ◌≤◌, ◌⊎◌, Bool, not, eqb, List, [], ◌∷◌, length, map, Contains, Option, Some, None, refl, sym, ap, ◌∙◌, subst, inl, inr, arith, eq-eqb, cases_lt, cases_eq, length-map, get_or_past, Contains-get_or, Rec, SlotUse, TablesState, use_at, record_at, HasFree, AreHeld}
+use Rattle.std.proofs.Common.{filter, ne_eqb}
+use Rattle.list_lemmas.proofs.Membership.{map_in, in_filter}
 use Rattle.list_lemmas.proofs.Ranges.{fewer}
 use Rattle.slot_tables.specs.declared.slots.SlotUse.TheVariants as slot
 

@@ -1,13 +1,17 @@
 -- Where the record of a number is read: its home, and its lowest slot outside a block.
-use Rattle.version_index.proofs.Common.{◌≡◌, ℕ, ◌<◌, Bool, true, eqb, ◌&&◌, List, length, find, Some, None, refl, sym, ap, ◌∙◌, inl, inr, arith, eq-eqb, eqb-true, slice_get, option_or, false≢true, cases_Bool, and_from, and_parts, and_left, and_right, cases_Option, Rec, Config, shape_of, name_of, has_name, is_outside, is_outside_spare, has_name_true, SlotUse, TablesState, use_at, holds, copies_of, note_at, home_of, slot_off, rec_at, notes_in, noted_by, AreHeld}
+use Rattle.version_index.proofs.Common.{◌≡◌, ℕ, ◌<◌, Bool, true, eqb, ◌&&◌, List, length, Some, None, refl, sym, ap, ◌∙◌, inl, inr, arith, eq-eqb, eqb-true, slice_get, false≢true, cases_Bool, and_from, and_parts, cases_Option, Rec, Config, shape_of, name_of, has_name, is_outside, has_name_true, SlotUse, TablesState, use_at, holds, copies_of, note_at, home_of, slot_off, rec_at, notes_in, noted_by, AreHeld}
+use Rattle.std.proofs.Common.{find}
+use Rattle.std.specs.Option.{option_or}
+use Rattle.std.proofs.lemmas.Bool.{and_left, and_right}
+use Rattle.record_list.specs.Written.{is_outside_spare}
 use Rattle.slot_tables.specs.declared.slots.SlotUse.TheVariants as slot
 use Rattle.slot_tables.specs.TablesState.{home_in}
-use Rattle.version_index.specs.declared.note.Note.TheVariants as note
-use Rattle.version_index.specs.Derived.{IsLowestSlot, HasNoSlot}
-use Rattle.version_index.proofs.OfReadings.Firsts.{head_find, first_passed, none_passed}
-use Rattle.version_index.proofs.OfTables.FoundIn.{holds_within}
+use Rattle.judged_records.specs.declared.note.Note.TheVariants as note
+use Rattle.judged_records.specs.Derived.{IsLowestSlot, HasNoSlot}
+use Rattle.judged_records.proofs.OfReadings.Firsts.{head_find, first_passed, none_passed}
+use Rattle.judged_records.proofs.OfNotes.FoundIn.{holds_within}
+use Rattle.judged_records.proofs.OfReadings.LowestSlots.{home_outside, home_inside, off_lowest, off_none}
 use Rattle.version_index.proofs.OfTables.KeptNotes.{note_held, held_number, length-notes}
-use Rattle.version_index.proofs.OfReadings.LowestSlots.{home_outside, home_inside, off_lowest, off_none}
 
 -- a slot is used for a number exactly where the test says so
 pub holds_use : (x : ℕ) (u : SlotUse) → holds x u ≡ true → u ≡ slot.Holds x

@@ -1,27 +1,32 @@
 -- What is read of the tables, by what was noted.
-use Rattle.version_index.proofs.Common.{◌≡◌, ℕ, ◌<◌, Bool, true, false, eqb, ◌&&◌, ◌||◌, cond, List, [], ◌∷◌, ◌+◌, ◌*◌, ap₂, length, get_or, count_by, find, Option, Some, None, refl, sym, ap, ◌∙◌, inl, inr, eq-eqb, eqb-true, range_with_len, list_any, option_map_or, false≢true, cases_Bool, cases_lt, and_left, none-some, get_or_past, All-contains, Contains-get_or, at_from_Contains, cases_Option, any_of, any_from, Rec, Config, Protocol, Shape, shape_of, name_of, has_name, is_outside, is_slot, has_name_true, present_as, SlotUse, TablesState, use_at, copies_of, number_in, is_number, note_at, rec_of, found_in, current_of, current_name_of, discarded_of, home_of, slot_off, held_of, needed_of, name_at, rec_at, named, version_at, note_in, notes_in, noted_by, numbered_of, AreIndexed}
+use Rattle.version_index.proofs.Common.{◌≡◌, ℕ, ◌<◌, Bool, true, false, eqb, ◌&&◌, cond, List, [], ◌∷◌, ◌+◌, ◌*◌, ap₂, length, get_or, count_by, Option, Some, None, refl, sym, ap, ◌∙◌, inl, inr, eq-eqb, eqb-true, range_with_len, option_map_or, false≢true, cases_Bool, cases_lt, none-some, get_or_past, All-contains, Contains-get_or, at_from_Contains, cases_Option, Rec, Config, Protocol, Shape, shape_of, name_of, has_name, is_outside, has_name_true, SlotUse, TablesState, use_at, copies_of, number_in, is_number, note_at, rec_of, found_in, current_of, current_name_of, discarded_of, home_of, slot_off, needed_of, name_at, rec_at, named, version_at, note_in, notes_in, noted_by, numbered_of, AreIndexed}
+use Rattle.std.proofs.Common.{◌||◌, find}
 use Rattle.std.specs.Option.{option_and_then}
+use Rattle.std.specs.List.{list_any}
 use Rattle.std.proofs.lemmas.List.Sums.{sum_by-cons}
+use Rattle.std.proofs.lemmas.Bool.{and_left}
 use Rattle.list_lemmas.proofs.Values.{one_test}
-use Rattle.record_list.specs.Written.{is_garbage}
-use Rattle.record_list.proofs.OfFacts.Names.{absent_record}
+use Rattle.list_lemmas.proofs.Tests.{any_of, any_from}
+use Rattle.record_list.specs.Written.{is_garbage, is_slot}
+use Rattle.record_list.proofs.OfFacts.Names.{absent_record, present_as}
 use Rattle.slot_tables.specs.declared.slots.SlotUse.TheVariants as slot
-use Rattle.version_index.specs.declared.note.Note.TheVariants as note
-use Rattle.version_index.specs.IndexState as noted
+use Rattle.judged_records.specs.declared.note.Note.TheVariants as note
+use Rattle.judged_records.specs.IndexState as noted
 use Rattle.slot_tables.specs.TablesState.{is_blank, is_garbage_at, garbage_of, shut_or_part, home, copy_off, is_wanted, is_wanted_as}
 use Rattle.slot_tables.specs.TablesState.{is_needed, is_needed_for, is_answerer}
-use Rattle.version_index.specs.Derived.{wanted_of}
-use Rattle.version_index.specs.Numbered.{number_at}
+use Rattle.judged_records.specs.Derived.{wanted_of}
+use Rattle.judged_records.specs.Numbered.{number_at}
+use Rattle.judged_records.specs.IndexState.{held_of}
+use Rattle.judged_records.proofs.OfNotes.FoundIn.{found, noted_in, holds_within}
+use Rattle.judged_records.proofs.OfNotes.Derived.{name_at_is}
+use Rattle.judged_records.proofs.OfReadings.LowestSlots.{off_none}
+use Rattle.judged_records.proofs.OfNotes.NotedFacts.{home_missing, noted_discard, noted_positive}
+use Rattle.judged_records.proofs.OfNotes.Numbered.{named_some}
+use Rattle.judged_records.proofs.OfReadings.NumberedReadings.{uncurrent_number, current_number, held_number}
+use Rattle.judged_records.proofs.OfReadings.Readings.{wanted_reading, needed_reading, unneeded_reading}
 use Rattle.version_index.specs.Tables.{discard_at}
-use Rattle.version_index.proofs.OfTables.FoundIn.{found, noted_in, holds_within}
-use Rattle.version_index.proofs.OfTables.Derived.{name_at_is}
 use Rattle.version_index.proofs.OfReadings.KeptHomes.{kept_home, kept_off}
 use Rattle.version_index.proofs.OfTables.KeptNotes.{note_by, note_held, kept_found, numbering}
-use Rattle.version_index.proofs.OfReadings.LowestSlots.{off_none}
-use Rattle.version_index.proofs.OfTables.NotedFacts.{home_missing, noted_discard, noted_positive}
-use Rattle.version_index.proofs.OfTables.Numbered.{named_some}
-use Rattle.version_index.proofs.OfReadings.NumberedReadings.{uncurrent_number, current_number, held_number}
-use Rattle.version_index.proofs.OfReadings.Readings.{wanted_reading, needed_reading, unneeded_reading}
 
 -- a number is the one that stands there
 number_is : (x : ℕ) (o : Option ℕ) → is_number x o ≡ true → o ≡ Some x

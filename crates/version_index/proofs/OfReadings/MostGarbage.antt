@@ -1,12 +1,14 @@
 -- The blocks with the most garbage, by the numbers of the tables.
-use Rattle.version_index.proofs.Common.{◌≡◌, ℕ, ◌+◌, ◌-◌, ◌*◌, ◌<◌, ◌≤◌, ◌↔◌, Bool, true, false, not, ◌||◌, cond, List, length, get_or, count_by, All, Option, Some, None, IfSome, refl, sym, ap, ◌∙◌, subst, inl, inr, arith, range_with_len, false≢true, cases_lt, All-contains, Contains-get_or, at_from_Contains, length-map-range_with_len, get_or-map-range_with_len, all_from, Block, Config, Protocol, Shape, shape_of, blocks_of, is_slot, TablesState, use_at, note_at, IndexState, garbage_of, is_garbage_at, shut_or_part, needed_of, IsMostAmong, notes_in, noted_by, AreIndexed}
-use Rattle.std.proofs.Common.{IsNone}
+use Rattle.version_index.proofs.Common.{◌≡◌, ℕ, ◌+◌, ◌-◌, ◌*◌, ◌<◌, ◌≤◌, ◌↔◌, Bool, true, false, not, cond, List, length, get_or, count_by, All, Option, Some, None, IfSome, refl, sym, ap, ◌∙◌, subst, inl, inr, arith, range_with_len, false≢true, cases_lt, All-contains, Contains-get_or, at_from_Contains, all_from, Block, Config, Protocol, Shape, shape_of, blocks_of, TablesState, use_at, note_at, IndexState, garbage_of, needed_of, IsMostAmong, notes_in, noted_by, AreIndexed}
+use Rattle.std.proofs.Common.{IsNone, ◌||◌}
+use Rattle.std.proofs.lemmas.List.FromFn.{length-map-range_with_len, get_or-map-range_with_len}
 use Rattle.list_lemmas.proofs.Counts.{count_more}
+use Rattle.record_list.specs.Written.{is_slot}
 use Rattle.dense_tables.specs.Greatest.{greatest, group_of, IsFirstGreatest}
 use Rattle.dense_tables.proofs.GreatestNumbers.{at_most_greatest, greatest_stands, length-group, get_or-group}
 use Rattle.slot_tables.specs.TablesState as kept
 use Rattle.slot_tables.specs.TablesState.{garbage_numbers}
-use Rattle.version_index.specs.IndexState.{is_blank, blanks_of, HasMostGarbage, FindsMostGarbage, IsAmong}
+use Rattle.judged_records.specs.IndexState.{is_blank, blanks_of, HasMostGarbage, FindsMostGarbage, IsAmong, is_garbage_at, shut_or_part}
 use Rattle.version_index.proofs.OfReadings.KeptReadings.{count_same, blank_reading, read_garbage}
 
 part_shut : (blank needed : Bool) → not (blank || needed) ≡ true → not needed ≡ true

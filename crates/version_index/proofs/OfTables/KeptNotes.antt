@@ -1,9 +1,11 @@
 -- What tables of slots and records have noted, slot by slot and record by record.
-use Rattle.version_index.proofs.Common.{◌≡◌, ℕ, ◌<◌, ◌≤◌, arith, length, Contains, List, Any, Option, Some, refl, sym, ap, ◌∙◌, inl, inr, get_or-map, length-map, All-contains, option_map_or, any_in, cases_Option, Config, Protocol, Rec, Found, IsScanned, SlotUse, TablesState, use_at, note_at, rec_of, found_in, rec_at, note_in, notes_in, noted_by, numbered_of, AreHeld, AreIndexed}
+use Rattle.version_index.proofs.Common.{◌≡◌, ℕ, ◌<◌, ◌≤◌, arith, length, Contains, List, Any, Option, Some, refl, sym, ap, ◌∙◌, inl, inr, get_or-map, length-map, All-contains, option_map_or, cases_Option, Config, Protocol, Rec, Found, SlotUse, TablesState, use_at, note_at, rec_of, found_in, rec_at, note_in, notes_in, noted_by, numbered_of, AreHeld, AreIndexed}
+use Rattle.list_lemmas.proofs.Membership.{any_in}
+use Rattle.record_list.specs.Records.{IsScanned}
 use Rattle.slot_tables.specs.declared.slots.SlotUse.TheVariants as slot
-use Rattle.version_index.specs.declared.note.Note.TheVariants as note
-use Rattle.version_index.proofs.OfTables.FoundIn.{found, noted_from, noted_in, holds_within}
-use Rattle.version_index.proofs.OfReadings.NumberedReadings.{IsNumbering}
+use Rattle.judged_records.specs.declared.note.Note.TheVariants as note
+use Rattle.judged_records.proofs.OfNotes.FoundIn.{found, noted_from, noted_in, holds_within}
+use Rattle.judged_records.proofs.OfReadings.NumberedReadings.{IsNumbering}
 
 -- what is noted of a slot is by how it is used
 pub note_by : (k : TablesState) (at : ℕ) → note_at (notes_in k) at ≡ note_in k.records (use_at k.slots at)

@@ -1,8 +1,8 @@
 ghost use Rattle.std.specs.Prelude.{◌≡◌, ◌<◌, All, IsSome};
 ghost use Rattle.tx_types.specs.Config.{shape_of, slots_of, blocks_of};
-ghost use Rattle.version_index.specs.IndexState.{current_of, CanLose, IsNextRecord, IsCompleteCycle, programmed, damaged_at, copied, erased, lost, pinned, unpinned, with_spare};
-ghost use Rattle.version_index.specs.Notes.{note_at, rec_of};
-ghost use Rattle.version_index.specs.declared.note.Note.TheVariants as note;
+ghost use Rattle.judged_records.specs.IndexState.{current_of, CanLose, IsNextRecord, IsCompleteCycle, programmed, damaged_at, copied, erased, lost, pinned, unpinned, with_spare};
+ghost use Rattle.judged_records.specs.Notes.{note_at, rec_of};
+ghost use Rattle.judged_records.specs.declared.note.Note.TheVariants as note;
 
 use crate::Index;
 use crate::committing::commit_if_complete;
@@ -75,7 +75,8 @@ impl<R: CommitRule> Index<R> {
         use_block(&mut self.tables, block, SlotUse::Damaged);
     }
 
-    /// Notes that the names of a transaction complete their cycle: each is current.
+    /// Notes that the names of a transaction complete their cycle: each is current. It changes nothing, since
+    /// `note_program` makes a complete cycle current. It is there for who builds on this crate: no program calls it.
     pub fn commit(&mut self, names: &[Link])
         requires complete { IsCompleteCycle self.old names.now }
         ensures current { All (λ name. current_of self.new name.page ≡ name.version) names.now }

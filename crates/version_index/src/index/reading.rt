@@ -2,8 +2,8 @@ ghost use Rattle.std.specs.Prelude.{◌≡◌, ◌+◌, ◌*◌, ◌<◌, ◌≤
 ghost use Rattle.std.specs.List.{range_with_len};
 ghost use Rattle.std.specs.Option.{option_map};
 ghost use Rattle.tx_types.specs.Config.{shape_of, slots_of, blocks_of};
-ghost use Rattle.version_index.specs.IndexState.{mention_of, current_of, current_name_of, discarded_of, place_of, IsBlank, slot_off, needed_of, block_to_go, garbage_of, shut_or_part, is_garbage_at, blanks_of, is_going, going_blocks, FindsMostGarbage, IsMostAmong, HoldsName};
-ghost use Rattle.version_index.specs.Notes.{note_at, seen_as, rec_of};
+ghost use Rattle.judged_records.specs.IndexState.{mention_of, current_of, current_name_of, discarded_of, place_of, IsBlank, slot_off, needed_of, block_to_go, garbage_of, shut_or_part, is_garbage_at, blanks_of, is_going, going_blocks, FindsMostGarbage, IsMostAmong, HoldsName};
+ghost use Rattle.judged_records.specs.Notes.{note_at, seen_as, rec_of};
 
 use crate::Index;
 use crate::clearing::{block_must_go, lowest_to_go, order_blocks, put_blocks_to_go};
@@ -64,7 +64,7 @@ impl<R: CommitRule> Index<R> {
 
     /// Where the current record of a page is read: its lowest slot outside the spare, or its lowest
     /// slot where it has none outside. Nothing where the page has no current record, or that discards
-    /// it.
+    /// it. A read asks first whether the page is discarded, and so never comes to a slot of zeros.
     pub fn locate(&self, page: u32) -> Option<Slot>
         requires { page < self.now.config.logical }
         ensures home { option_map (λ at. at.0) result ≡ place_of self.now page }
@@ -79,7 +79,7 @@ impl<R: CommitRule> Index<R> {
     }
 
     /// The lowest slot outside a block that holds the current record of a page, in the spare or not,
-    /// if there is one.
+    /// if there is one. It returns the slot of a discard too.
     pub fn locate_off(&self, page: u32, block: Block) -> Option<Slot>
         requires page { page < self.now.config.logical }
         requires block { block.0 < blocks_of (shape_of self.now.config) }
@@ -108,7 +108,7 @@ impl<R: CommitRule> Index<R> {
         let shape = self.tables.shape();
         match lowest_to_go(&self.tables, self.config.protocol, page, below) {
             None => None,
-            Some(at) => Some(Block(at.0 / shape.pages_per_block)),
+            Some(at) => Some(shape.block_of(at)),
         }
     }
 

@@ -15,9 +15,9 @@ returns-in-Some-Format-clause-works g c =
     let allowance = c.in-Some-Format.allowance in
     let desk = g.D.Desk.state c.args.desk.now in
     let done = works (Some (Format image its allowance)) (FindsBoth desk (g.D.Desk.disk c.args.desk.now)) desk desk 0
-    (λ (fate : Ending). fate
+    (λ (ending : Ending). ending
     ≡ formatting image its allowance (checked its))
-    c.do_format.result refl (omega arith) (found_none desk) (λ fate h. (h, refl)) c.do_format.ensures in
+    c.do_format.result refl (omega arith) (found_none desk) (λ ending h. (h, refl)) c.do_format.ensures in
     rw (← asks) done
 
 pub returns-in-Some-Drive-clause-works : goal.returns-in-Some-Drive-clause-works
@@ -28,7 +28,7 @@ returns-in-Some-Drive-clause-works g c =
     let protocol = c.in-Some-Drive.protocol in
     let desk = g.D.Desk.state c.args.desk.now in
     let done = works (Some (Drive start count protocol)) (FindsBoth desk (g.D.Desk.disk c.args.desk.now)) desk desk 0
-    (λ (fate : Ending). fate
+    (λ (ending : Ending). ending
     ≡ Driven start count protocol) c.do_drive.result
-    refl (omega arith) (found_none desk) (λ fate h. (h, refl)) c.do_drive.ensures in
+    refl (omega arith) (found_none desk) (λ ending h. (h, refl)) c.do_drive.ensures in
     rw (← asks) done

@@ -1,37 +1,38 @@
-use Rattle.cut_replay.proofs.Common.{sym, ◌∙◌}
-use Rattle.cut_replay.proofs.Begun.{begin_begins, begin_faults, begun_first, begun_kept, begun_extras, dead_begins, dead_first, none_counted}
+use Rattle.cut_replay.proofs.Common.{inr, sym, subst, PageCacheState, Fits, Unmounted}
+use Rattle.cut_replay.proofs.Begun.{first_begins, first_faults, first_fits, first_stays, first_steady}
+use Rattle.cut_replay.proofs.Mountings.{refused_as}
 use Rattle.cut_replay.proofs.serving.begin.Goals as goal
 
-pub returns-then-live-clause-begins : goal.returns-then-live-clause-begins
-returns-then-live-clause-begins g c = λ sound. begin_begins g.F.Flash.state c.args.config c.args.flash c.mount.result
-    (sym c.live.ensures ∙
-    c.if-live.true) c.mount.ensures.mounted sound
+pub returns-in-Ok-clause-steady : goal.returns-in-Ok-clause-steady
+returns-in-Ok-clause-steady g c =
+    first_steady g.F.Flash.state c.args.config c.args.flash c.in-Ok.session c.in-Ok.ensures.begins
 
-pub returns-then-live-clause-faults : goal.returns-then-live-clause-faults
-returns-then-live-clause-faults g c = begin_faults g.F.Flash.state c.args.config c.args.flash c.mount.result
-    (sym c.live.ensures ∙
-    c.if-live.true) c.mount.ensures.mounted
+pub returns-in-Ok-clause-fits : goal.returns-in-Ok-clause-fits
+returns-in-Ok-clause-fits g c =
+    subst (λ (x : PageCacheState). Fits g.F.Flash.state c.args.config x.entries c.in-Ok.session)
+    (sym c.clear.ensures)
+    (first_fits g.F.Flash.state c.args.config c.args.flash c.in-Ok.session c.in-Ok.ensures.begins c.requires.check)
 
-pub returns-else-live-clause-faults : goal.returns-else-live-clause-faults
-returns-else-live-clause-faults g c = none_counted (g.F.Flash.state c.args.flash)
+pub returns-in-Ok-clause-begins : goal.returns-in-Ok-clause-begins
+returns-in-Ok-clause-begins g c =
+    first_begins g.F.Flash.state c.args.config c.args.flash c.in-Ok.session c.in-Ok.ensures.begins
 
-pub returns-then-live-clause-kept : goal.returns-then-live-clause-kept
-returns-then-live-clause-kept g c = begun_kept g.F.Flash.state c.args.config c.args.flash c.mount.result
-    c.mount.ensures.mounted
+pub returns-in-Ok-clause-first : goal.returns-in-Ok-clause-first
+returns-in-Ok-clause-first g c = c.in-Ok.ensures.begins
 
-pub returns-then-live-clause-extras : goal.returns-then-live-clause-extras
-returns-then-live-clause-extras g c = begun_extras g.F.Flash.state c.args.config c.args.flash c.mount.result
-    c.mount.ensures.mounted
+pub returns-in-Ok-clause-kept : goal.returns-in-Ok-clause-kept
+returns-in-Ok-clause-kept g c =
+    inr (first_stays g.F.Flash.state c.args.config c.args.flash c.in-Ok.session c.in-Ok.ensures.begins).moment
 
-pub returns-else-live-clause-begins : goal.returns-else-live-clause-begins
-returns-else-live-clause-begins g c = λ sound. dead_begins g.row.R.Denot g.F.Flash.state c.args.config c.args.flash
-    (sym c.live.ensures ∙ c.if-live.false) sound
+pub returns-in-Ok-clause-faults : goal.returns-in-Ok-clause-faults
+returns-in-Ok-clause-faults g c =
+    first_faults g.F.Flash.state c.args.config c.args.flash c.in-Ok.session c.in-Ok.ensures.begins
 
-pub returns-then-live-clause-first : goal.returns-then-live-clause-first
-returns-then-live-clause-first g c = begun_first g.F.Flash.state c.args.config c.args.flash c.mount.result
-    (sym c.live.ensures ∙
-    c.if-live.true) c.mount.ensures.mounted
+pub returns-in-Ok-clause-extras : goal.returns-in-Ok-clause-extras
+returns-in-Ok-clause-extras g c =
+    (first_stays g.F.Flash.state c.args.config c.args.flash c.in-Ok.session c.in-Ok.ensures.begins).extras
 
-pub returns-else-live-clause-first : goal.returns-else-live-clause-first
-returns-else-live-clause-first g c = dead_first g.row.R.Denot g.F.Flash.state c.args.config c.args.flash
-    (sym c.live.ensures ∙ c.if-live.false)
+pub returns-in-Err-clause-failed : goal.returns-in-Err-clause-failed
+returns-in-Err-clause-failed g c =
+    subst (Unmounted g.F.Flash.state c.args.config c.args.flash c.in-Err.flash) (sym c.from.ensures)
+    (refused_as g.F.Flash.state c.args.config c.args.flash c.in-Err.flash c.in-Err.why c.in-Err.ensures.failed)

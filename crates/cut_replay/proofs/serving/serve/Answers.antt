@@ -5,7 +5,7 @@ use Rattle.cut_replay.proofs.serving.serve.Goals as goal
 
 pub returns-in_default-clause-serves : goal.returns-in_default-clause-serves
 returns-in_default-clause-serves g c = λ sound.
-    rooms_ended g.row.R.Denot g.F.Flash.state c.args.config c.args.list.now c.args.flash
+    rooms_ended g.F.Flash.state c.args.config c.args.list.now c.args.flash
     (record { text = g.W.Watch.text c.args.out.now; kept = g.W.Watch.kept c.args.out.now }) sound
 
 pub returns-in-Ok-begin-clause-serves : goal.returns-in-Ok-begin-clause-serves
@@ -31,13 +31,13 @@ returns-in-Ok-begin-clause-unsound g c = λ unsound.
 
 pub returns-clause-unsound : goal.returns-clause-unsound
 returns-clause-unsound g c = λ unsound.
-    begin_unsound g.F.Flash.state c.args.config c.args.list.now c.args.flash c.in-Err.ended.flash c.in-Err.ended.why
+    begin_unsound g.F.Flash.state c.args.config c.args.list.now c.args.flash c.in-Err.flash c.in-Err.why
     (record { text = g.W.Watch.text c.args.out.now; kept = g.W.Watch.kept c.args.out.now }) c.in-Err.ensures.failed
 
 pub returns-clause-serves : goal.returns-clause-serves
 returns-clause-serves g c = λ sound.
-    begin_ended g.row.R.Denot g.F.Flash.state c.args.config c.args.list.now c.args.flash c.in-Err.ended.flash
-    c.in-Err.ended.why
+    begin_ended g.F.Flash.state c.args.config c.args.list.now c.args.flash c.in-Err.flash
+    c.in-Err.why
     (record { text = g.W.Watch.text c.args.out.now; kept = g.W.Watch.kept c.args.out.now }) sound
     c.in-Err.ensures.failed
 
@@ -48,12 +48,12 @@ returns-in-Ok-begin-clause-shape g c =
 
 pub returns-clause-refuses : goal.returns-clause-refuses
 returns-clause-refuses g c =
-    begin_refused g.F.Flash.state c.args.config c.args.flash c.in-Err.ended.flash c.in-Err.ended.why
+    begin_refused g.F.Flash.state c.args.config c.args.flash c.in-Err.flash c.in-Err.why
     c.in-Err.ensures.failed
 
 pub returns-clause-shape : goal.returns-clause-shape
 returns-clause-shape g c =
-    begin_shape g.F.Flash.state c.args.config c.args.flash c.in-Err.ended.flash c.in-Err.ended.why
+    begin_shape g.F.Flash.state c.args.config c.args.flash c.in-Err.flash c.in-Err.why
     c.in-Err.ensures.failed
 
 pub returns-in-Ok-begin-clause-extras : goal.returns-in-Ok-begin-clause-extras
@@ -61,5 +61,5 @@ returns-in-Ok-begin-clause-extras g c = c.serve_all.ensures.extras ∙ c.in-Ok-b
 
 pub returns-clause-extras : goal.returns-clause-extras
 returns-clause-extras g c =
-    begin_extras g.F.Flash.state c.args.config c.args.flash c.in-Err.ended.flash c.in-Err.ended.why
+    begin_extras g.F.Flash.state c.args.config c.args.flash c.in-Err.flash c.in-Err.why
     c.in-Err.ensures.failed

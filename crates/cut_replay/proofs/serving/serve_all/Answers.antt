@@ -39,7 +39,7 @@ returns-in-Err-clause-serves g c = λ init begins.
     (record { text = g.W.Watch.text c.args.out.now; kept = g.W.Watch.kept c.args.out.now })
     (record { text = g.W.Watch.text c.loop-command.out; kept = g.W.Watch.kept c.loop-command.out })
     c.loop-command-test.true c.command-item.is (c.loop-command.invariant.served init begins)
-    (subst (λ flash. EndsServing {R = g.row.R.Denot} g.F.Flash.state c.args.config c.command-item.result
+    (subst (λ flash. EndsServing g.F.Flash.state c.args.config c.command-item.result
     c.loop-command.session flash c.in-Err.why)
     (sym c.close-in-Err.ensures) c.in-Err.ensures.ends)
 
@@ -48,7 +48,7 @@ returns-in-Err-clause-refuses g c = λ init kept.
     refused_in g.F.Flash.state c.args.config init c.command-item.result c.loop-command.session
     c.close-in-Err.result c.in-Err.why
     (c.loop-command.invariant.kept init kept)
-    (subst (λ flash. EndsServing {R = g.row.R.Denot} g.F.Flash.state c.args.config c.command-item.result
+    (subst (λ flash. EndsServing g.F.Flash.state c.args.config c.command-item.result
     c.loop-command.session flash c.in-Err.why)
     (sym c.close-in-Err.ensures) c.in-Err.ensures.ends)
 
@@ -147,7 +147,7 @@ returns-in-Err-clause-unsound g c = λ init unsound same counted.
       text = g.W.Watch.text c.loop-command.out;
       kept = g.W.Watch.kept c.loop-command.out;
     } in
-    let ends = subst (λ flash. EndsServing {R = g.row.R.Denot} state c.args.config c.command-item.result
+    let ends = subst (λ flash. EndsServing state c.args.config c.command-item.result
     c.loop-command.session flash c.in-Err.why)
     (sym c.close-in-Err.ensures) c.in-Err.ensures.ends in
     unmounted_in init (state (flash_in c.loop-command.session)) (state c.close-in-Err.result) c.args.list.now

@@ -4,7 +4,7 @@ use Rattle.cut_replay.proofs.serving.serve_all.Given as goal
 
 abbrev pub invariant-loop-command : goal.invariant-loop-command
 invariant-loop-command g l = record {
-  fits : Fits {R = g.row.R.Denot} g.F.Flash.state l.config l.cache.entries l.session;
+  fits : Fits g.F.Flash.state l.config l.cache.entries l.session;
   size : l.cache.page_bytes ≡ l.config.page_bytes;
   room : length l.room ≡ l.config.page_bytes;
   served : (init : FlashState) → Begins g.F.Flash.state l.config init l.initial.session →

@@ -7,9 +7,9 @@ returns g c =
     let state = g.F.Flash.state in
     let its = c.args.config in
     let command = c.args.command.now in
-    let fits = subst (λ old. Fits {R = g.row.R.Denot} state its c.args.cache.now.entries old) c.in-Mounted.is
+    let fits = subst (λ old. Fits state its c.args.cache.now.entries old) c.in-Mounted.is
     c.requires.fits in
-    subst (λ old. Serves {R = g.row.R.Denot} state its command old c.remount_if_cut.result c.remount_if_cut.new.session
+    subst (λ old. Serves state its command old c.remount_if_cut.result c.remount_if_cut.new.session
     c.args.cache.now c.remount_if_cut.new.cache)
     (sym c.in-Mounted.is)
     (mounted_serves state its command c.in-Mounted.device c.execute.new.device c.in-Ok.reply c.remount_if_cut.result

@@ -18,19 +18,19 @@ pub returns-in-Cut : goal.returns-in-Cut
 returns-in-Cut g c =
     armed g.F.Flash.state c.args.config g.R.CommitRule.protocol
     (SetsCut (record { count = c.in-Cut.count; outcome = c.in-Cut.outcome })) c.args.cache.now
-    c.args.command.now _ c.args.session.now c.arm_cut.new.self
+    c.args.command.now _ c.args.session.now c.arm_cut.new.session
     c.in-Cut.is (arming_cut c.in-Cut.count c.in-Cut.outcome) c.requires.rule c.requires.fits c.arm_cut.ensures
 
 pub returns-in-Fault : goal.returns-in-Fault
 returns-in-Fault g c =
     armed g.F.Flash.state c.args.config g.R.CommitRule.protocol
     (SetsFault (record { count = c.in-Fault.count; outcome = c.in-Fault.outcome })) c.args.cache.now
-    c.args.command.now _ c.args.session.now c.arm_fault.new.self
+    c.args.command.now _ c.args.session.now c.arm_fault.new.session
     c.in-Fault.is (arming_fault c.in-Fault.count c.in-Fault.outcome) c.requires.rule c.requires.fits c.arm_fault.ensures
 
 pub returns-in-BadRead : goal.returns-in-BadRead
 returns-in-BadRead g c =
     armed g.F.Flash.state c.args.config g.R.CommitRule.protocol (SetsBadRead c.in-BadRead.count) c.args.cache.now
     c.args.command.now _ c.args.session.now
-    c.arm_bad_read.new.self
+    c.arm_bad_read.new.session
     c.in-BadRead.is (arming_bad_read c.in-BadRead.count) c.requires.rule c.requires.fits c.arm_bad_read.ensures

@@ -18,7 +18,7 @@ returns-then-live g c =
     c.args.cache.now c.mount_again.new.cache
     c.requires.unmounted (sym c.is_mounted.ensures ∙ c.if-is_mounted.false) c.requires.no_arm c.requires.fits
     c.in_ok-mount_again.ensures.mounted
-    (inl (refl, sym (c.live.ensures ∙ ap (λ f. (g.F.Flash.state f).live) c.flash.ensures) ∙ c.if-live.true))
+    (inl (refl, sym c.live.ensures ∙ c.if-live.true))
     c.mount_again.ensures.cache
 
 pub returns-else-live : goal.returns-else-live
@@ -27,5 +27,5 @@ returns-else-live g c =
     c.args.cache.now c.mount_again.new.cache
     c.requires.unmounted (sym c.is_mounted.ensures ∙ c.if-is_mounted.false) c.requires.no_arm c.requires.fits
     c.in_ok-mount_again.ensures.mounted
-    (inr (refl, sym (c.live.ensures ∙ ap (λ f. (g.F.Flash.state f).live) c.flash.ensures) ∙ c.if-live.false))
+    (inr (refl, sym c.live.ensures ∙ c.if-live.false))
     c.mount_again.ensures.cache

@@ -51,5 +51,5 @@ returns-clause-err g c =
 pub returns-in_err-found-clause-err : goal.returns-in_err-found-clause-err
 returns-in_err-found-clause-err g c =
     let judging_of = Judging c.args.config c.args.flash.image c.args.text.now in
-    leads_stop judging_of judging_of (λ fate h. h) c.from_residual-in_err-found.result stop.Memory
+    leads_stop judging_of judging_of (λ ending h. h) c.from_residual-in_err-found.result stop.Memory
     c.from_residual-in_err-found.ensures.1 tt

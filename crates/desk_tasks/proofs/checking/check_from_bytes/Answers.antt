@@ -13,5 +13,5 @@ returns c =
     let its = c.in_ok-config.config in
     let flash = c.in_ok-config.flash in
     works_on (Judging its flash.image c.args.text.now) (Checking c.args.bytes.items c.args.text.now)
-    (λ fate h. (Ok (its, flash.image, flash.extras), c.in_ok-config.ensures.read, (h, refl))) c.check_device.result
+    (λ ending h. (Ok (its, flash.image, flash.extras), c.in_ok-config.ensures.read, (h, refl))) c.check_device.result
     c.check_device.ensures

@@ -6,7 +6,7 @@ pub returns-in_err-logical : goal.returns-in_err-logical
 returns-in_err-logical c =
     let comparing = Comparing c.args.config c.args.flash.image c.args.second c.args.other.image in
     stopped comparing comparing c.from_residual.result c.in_err-logical.field-0.0 c.from_residual.ensures.1
-    (λ fate h. h) c.in_err-logical.ensures.err
+    (λ ending h. h) c.in_err-logical.ensures.err
 
 pub returns : goal.returns
 returns c = (

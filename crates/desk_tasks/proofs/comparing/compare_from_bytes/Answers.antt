@@ -13,5 +13,5 @@ returns c =
     let b = c.in-Ok.read.0 in
     let other = c.in-Ok.read.1 in
     works_on (Comparing a image b other.image) (Reading c.args.others.items (λ b other more. Comparing a image b other))
-    (λ fate h. (Ok (b, other.image, other.extras), c.in-Ok.ensures.read, (h, refl))) c.compare_devices.result
+    (λ ending h. (Ok (b, other.image, other.extras), c.in-Ok.ensures.read, (h, refl))) c.compare_devices.result
     c.compare_devices.ensures

@@ -23,11 +23,12 @@ returns-in_err-config-clause-works g c =
     let fetched = c.in_ok-bytes.ensures.fetches in
     let bytes = c.in_ok-bytes.bytes.items in
     works (Some (Compare c.args.first.now c.args.second.now)) finds old (g.D.Desk.state c.load_file.new.desk) 1
-    (λ (fate : Ending). (why : ImageEnding) × RefusesImage bytes why × (fate ≡ Image why))
+    (λ (ending : Ending). (why : ImageEnding) × RefusesImage bytes why × (ending ≡ Image why))
     c.from_residual-in_err-config.result fetched.1 (inl refl)
     (found_more old c.args.first.now bytes [] fetched.0.0 (found_none old))
-    (λ fate h. (Bytes bytes, fetched.0, (0, (Err h.1.0, h.1.1, (h.2 ∙ ap Image h.1.2, refl)), refl)))
-    (unread (RefusesImage bytes) (λ (fate : Ending). (why : ImageEnding) × RefusesImage bytes why × (fate ≡ Image why))
+    (λ ending h. (Bytes bytes, fetched.0, (0, (Err h.1.0, h.1.1, (h.2 ∙ ap Image h.1.2, refl)), refl)))
+    (unread (RefusesImage bytes)
+    (λ (ending : Ending). (why : ImageEnding) × RefusesImage bytes why × (ending ≡ Image why))
     c.from_residual-in_err-config.result c.in_err-config.field-0.0 c.from_residual-in_err-config.ensures.1
     (λ why h. (why, h, refl))
     c.in_err-config.ensures.err)
@@ -110,7 +111,7 @@ returns-in-Ok-clause-works g c =
     ∙ ap (after_answer as_before) fetched.1) (inr refl)
     (found_more old c.args.first.now bytes (second ∷ []) fetched.0.0
     (found_more old second others [] found.0 (found_none old)))
-    (λ fate h. (
+    (λ ending h. (
       Bytes bytes,
       fetched.0,
       (1, (Ok (its, flash.image, flash.extras), reads, (Bytes others, found, (0, (h, refl), refl))), refl),

@@ -1,7 +1,6 @@
-use Rattle.desk_tasks.proofs.Common.{Err, ◌∙◌, ap, MemFlashState}
-use Rattle.page_keys.specs.declared.key_error.KeyServeError.{KeyServeError}
+use Rattle.desk_tasks.proofs.Common.{◌∙◌, ap, MemFlashState}
 use Rattle.desk_tasks.proofs.RunLemmas.{is_steady}
-use Rattle.desk_tasks.proofs.KeyEndings.{is_keys_run, refuses_bucket, refuses_store}
+use Rattle.desk_tasks.proofs.KeyEndings.{is_keys_run, keys_unserved}
 use Rattle.desk_tasks.proofs.keying.serve_keys_by.Goals as goal
 
 pub returns-in-Ok-clause-run : goal.returns-in-Ok-clause-run
@@ -17,16 +16,10 @@ pub returns-in-Ok-clause-shape : goal.returns-in-Ok-clause-shape
 returns-in-Ok-clause-shape g c =
     c.key_serve-flash.ensures.shape ∙ ap (λ (s : MemFlashState). s.shape) c.requires.ready
 
-pub returns-in-Unsound-clause-err : goal.returns-in-Unsound-clause-err
-returns-in-Unsound-clause-err g c =
-    let done = c.in-Err.is ∙ ap (λ (e : KeyServeError). Err e) c.in-Unsound.is in
-    refuses_store c.args.config c.args.flash c.in-Unsound.law c.in-Unsound.slot
-    (rw done at (c.key_serve-flash.ensures.refuses (λ image.
-    rw done at (c.key_serve-flash.ensures.serves image))))
-
-pub returns-in-Bucket-clause-err : goal.returns-in-Bucket-clause-err
-returns-in-Bucket-clause-err g c =
-    let done = c.in-Err.is ∙ ap (λ (e : KeyServeError). Err e) c.in-Bucket.is in
-    refuses_bucket c.args.config c.args.flash c.in-Bucket.page
-    (rw done at (c.key_serve-flash.ensures.refuses (λ image.
-    rw done at (c.key_serve-flash.ensures.serves image))))
+pub returns-in-Err-clause-err : goal.returns-in-Err-clause-err
+returns-in-Err-clause-err g c =
+    let done = c.in-Err.is in
+    keys_unserved c.args.config c.args.flash c.key_serve-flash.result.0 c.args.list.now c.new-replies.result.items
+    c.key_serve-flash.new.out.items c.in-Err.error c.from.result c.from.ensures
+    (λ image. rw done at (c.key_serve-flash.ensures.serves image))
+    (λ broken. rw done at (c.key_serve-flash.ensures.refuses broken))

@@ -24,4 +24,4 @@ returns-clause-works g c =
     (Retiring c.args.image.now c.in_ok-bytes.bytes.items c.args.block.0) c.retire_from_bytes.result
     fetched.1 (omega arith)
     (found_more old c.args.image.now c.in_ok-bytes.bytes.items [] fetched.0.0 (found_none old))
-    (λ fate h. (Bytes c.in_ok-bytes.bytes.items, fetched.0, (0, (h, refl), refl))) c.retire_from_bytes.ensures
+    (λ ending h. (Bytes c.in_ok-bytes.bytes.items, fetched.0, (0, (h, refl), refl))) c.retire_from_bytes.ensures

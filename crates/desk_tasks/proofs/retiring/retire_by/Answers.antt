@@ -9,7 +9,7 @@ pub returns-in_err-device-clause-err : goal.returns-in_err-device-clause-err
 returns-in_err-device-clause-err g c =
     let flash = c.args.flash in
     leads_stop (RefusesDevice c.args.config flash.image) (RefusesRetirement c.args.config flash.image flash.extras
-    c.args.block.0) (λ fate h. inl h)
+    c.args.block.0) (λ ending h. inl h)
     c.from_residual.result c.in_err-device.field-0.0 c.from_residual.ensures.1 c.in_err-device.ensures.err
 
 pub retire-done-requires-clause-shape : goal.retire-done-requires-clause-shape
@@ -27,12 +27,12 @@ returns-in-Err-clause-err g c =
     let flash = c.args.flash in
     let opened = c.in_ok-device.device in
     let kept = c.in_ok-device.ensures in
-    stops_by (λ (fate : Ending). block_refusal opened.config opened.flash.extras c.args.block.0 ≡ Some fate)
+    stops_by (λ (ending : Ending). block_refusal opened.config opened.flash.extras c.args.block.0 ≡ Some ending)
     (RefusesRetirement c.args.config flash.image flash.extras c.args.block.0)
-    (λ fate h. inr (
+    (λ ending h. inr (
       kept.sound,
       opened_refusal c.args.config flash opened c.requires.ready kept.ok c.args.block.0
-          (Some fate) h,
+          (Some ending) h,
     ))
     c.in-Err.stop c.in-Err.ensures.err
 

@@ -5,7 +5,7 @@ use Rattle.desk_tasks.proofs.tasks.do_drive.Goals as goal
 
 pub returns-in_err-line : goal.returns-in_err-line
 returns-in_err-line c =
-    out_of_memory (λ (fate : Ending). fate ≡ Driven c.args.start c.args.count c.args.protocol)
+    out_of_memory (λ (ending : Ending). ending ≡ Driven c.args.start c.args.count c.args.protocol)
     c.from_residual-in_err-line.result c.in_err-line.field-0.0
     c.from_residual-in_err-line.ensures.1 c.in_err-line.ensures.err
 

@@ -22,4 +22,4 @@ returns-clause-works g c =
     works (Some (Explain c.args.image.now)) finds old (g.D.Desk.state c.load_file.new.desk) 1
     (Explaining c.in_ok-bytes.bytes.items) c.explain_from_bytes.result fetched.1 (omega arith)
     (found_more old c.args.image.now c.in_ok-bytes.bytes.items [] fetched.0.0 (found_none old))
-    (λ fate h. (Bytes c.in_ok-bytes.bytes.items, fetched.0, (0, (h, refl), refl))) c.explain_from_bytes.ensures
+    (λ ending h. (Bytes c.in_ok-bytes.bytes.items, fetched.0, (0, (h, refl), refl))) c.explain_from_bytes.ensures

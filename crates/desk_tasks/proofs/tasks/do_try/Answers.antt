@@ -23,4 +23,4 @@ returns-clause-works g c =
     works (Some (Try c.args.name.now)) finds old (g.D.Desk.state c.load_file.new.desk) 1
     (Trying c.in_ok-lines.lines.items) c.try_from_bytes.result fetched.1 (omega arith)
     (found_more old c.args.name.now c.in_ok-lines.lines.items [] fetched.0.0 (found_none old))
-    (λ fate h. (Bytes c.in_ok-lines.lines.items, fetched.0, (0, (h, refl), refl))) tried
+    (λ ending h. (Bytes c.in_ok-lines.lines.items, fetched.0, (0, (h, refl), refl))) tried

@@ -8,7 +8,7 @@ returns-in_err-flash c =
     let image = c.args.flash.image in
     stopped (RefusesDevice its image) (OpensAndServes its image
     (Ran c.args.name.now its image c.args.flash.extras c.args.list.now))
-    c.from_residual.result c.in_err-flash.field-0.0 c.from_residual.ensures.1 (λ fate h. (Err h.0, h.1, h.2))
+    c.from_residual.result c.in_err-flash.field-0.0 c.from_residual.ensures.1 (λ ending h. (Err h.0, h.1, h.2))
     c.in_err-flash.ensures.err
 
 pub returns : goal.returns

@@ -1,7 +1,7 @@
 use Rattle.flash_picture.proofs.Common.{◌∙◌, ◌++◌, [], sym, ap, arith, note_at}
 use Rattle.std.specs.List.{cons_option}
-use Rattle.version_index.specs.Notes.{found_at}
-use Rattle.version_index.proofs.OfTables.FoundIn.{found_in_nil, found_in_more}
+use Rattle.judged_records.specs.Notes.{found_at}
+use Rattle.judged_records.proofs.OfNotes.FoundIn.{found_in_nil, found_in_more}
 use Rattle.flash_picture.proofs.picture.noted_records.Goals as goal
 
 pub loop-at-init : goal.loop-at-init

@@ -1,6 +1,5 @@
-mod BehindLemmas
 use Rattle.image_file.proofs.Common.{sym, ◌∙◌, arith}
-use Rattle.image_file.proofs.image.read_slots.Answers.BehindLemmas.{IsBehind, cells_fit, rest_is, slots_read}
+use Rattle.image_file.proofs.BehindLemmas.{IsBehind, cells_fit, rest_is, slots_read}
 use Rattle.image_file.proofs.image.read_slots.Goals as goal
 
 pub wrong_bytes-requires : goal.wrong_bytes-requires

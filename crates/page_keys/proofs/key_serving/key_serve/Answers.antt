@@ -1,11 +1,16 @@
 use Rattle.page_keys.proofs.Common.{Err, ◌∙◌}
-use Rattle.page_keys.proofs.OfServe.KeyBeginLemmas.{begin_ended, on_each, same_shape}
+use Rattle.page_keys.proofs.OfServe.KeyBeginLemmas.{begin_ended, first_begins, first_fits, first_stays, first_steady, on_each, same_shape}
 use Rattle.page_keys.proofs.OfServe.KeyAllLemmas.{script_keeps}
 use Rattle.page_keys.proofs.key_serving.key_serve.Goals as goal
 
+pub serve_all-requires-clause-fits : goal.serve_all-requires-clause-fits
+serve_all-requires-clause-fits g c =
+    first_fits g.F.Flash.state c.args.config c.args.flash c.in-Ok.session c.in-Ok.ensures.begins c.requires.check
+
 pub returns-in-Ok-clause-serves : goal.returns-in-Ok-clause-serves
 returns-in-Ok-clause-serves g c = λ image.
-    c.serve_all.ensures.serves (g.F.Flash.state c.args.flash) (c.in-Ok.ensures.begins image)
+    c.serve_all.ensures.serves (g.F.Flash.state c.args.flash) (first_begins g.F.Flash.state c.args.config c.args.flash
+    c.in-Ok.session c.in-Ok.ensures.begins image)
 
 pub returns-in-Ok-clause-keeps : goal.returns-in-Ok-clause-keeps
 returns-in-Ok-clause-keeps g c = λ image.
@@ -15,15 +20,18 @@ returns-in-Ok-clause-keeps g c = λ image.
 
 pub returns-in-Ok-clause-steady : goal.returns-in-Ok-clause-steady
 returns-in-Ok-clause-steady g c = λ steady.
-    on_each _ c.serve_all.result.1 (c.in-Ok.ensures.steady steady)
+    on_each _ c.serve_all.result.1 (first_steady g.F.Flash.state c.args.config c.args.flash
+    c.in-Ok.session c.in-Ok.ensures.begins steady)
 
 pub returns-in-Ok-clause-unopened : goal.returns-in-Ok-clause-unopened
 returns-in-Ok-clause-unopened g c = λ not.
-    c.serve_all.ensures.unopened (g.F.Flash.state c.args.flash) not c.in-Ok.ensures.still
+    c.serve_all.ensures.unopened (g.F.Flash.state c.args.flash) not (first_stays g.F.Flash.state c.args.config c.args.flash
+    c.in-Ok.session c.in-Ok.ensures.begins).moment
 
 pub returns-in-Ok-clause-refuses : goal.returns-in-Ok-clause-refuses
 returns-in-Ok-clause-refuses g c = λ not.
-    c.serve_all.ensures.refuses (g.F.Flash.state c.args.flash) not c.in-Ok.ensures.still
+    c.serve_all.ensures.refuses (g.F.Flash.state c.args.flash) not (first_stays g.F.Flash.state c.args.config c.args.flash
+    c.in-Ok.session c.in-Ok.ensures.begins).moment
 
 pub returns-in-Ok-clause-shape : goal.returns-in-Ok-clause-shape
 returns-in-Ok-clause-shape g c =
@@ -31,11 +39,12 @@ returns-in-Ok-clause-shape g c =
     (g.F.Flash.state c.serve_all.result.0).shape c.requires.check c.serve_all.ensures.shape
 
 pub returns-in-Ok-clause-extras : goal.returns-in-Ok-clause-extras
-returns-in-Ok-clause-extras g c = c.serve_all.ensures.extras ∙ c.in-Ok.ensures.extras
+returns-in-Ok-clause-extras g c = c.serve_all.ensures.extras
+    ∙ (first_stays g.F.Flash.state c.args.config c.args.flash c.in-Ok.session c.in-Ok.ensures.begins).extras
 
 pub returns-in-Err-clause-serves : goal.returns-in-Err-clause-serves
 returns-in-Err-clause-serves g c = λ image.
-    begin_ended g.row.R.Denot g.F.Flash.state c.args.config c.args.list.now c.args.flash
+    begin_ended g.F.Flash.state c.args.config c.args.list.now c.args.flash
     c.in-Err.flash c.in-Err.why c.args.out.now.items c.requires.check image c.in-Err.ensures.failed
 
 pub returns-in-Err-clause-keeps : goal.returns-in-Err-clause-keeps

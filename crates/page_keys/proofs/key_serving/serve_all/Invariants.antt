@@ -4,7 +4,7 @@ use Rattle.page_keys.proofs.key_serving.serve_all.Given as goal
 
 abbrev pub invariant-loop-command : goal.invariant-loop-command
 invariant-loop-command g l = record {
-  fits : Fits {R = g.row.R.Denot} g.F.Flash.state l.config l.session;
+  fits : Fits g.F.Flash.state l.config l.session;
   served : (init : FlashState) → BeginsKeys g.F.Flash.state l.config init l.initial.session →
       HasServed g.F.Flash.state l.config init (take l.command-index l.list) l.session
       l.initial.out.items l.out.items;

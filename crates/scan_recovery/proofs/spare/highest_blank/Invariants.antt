@@ -1,5 +1,5 @@
 use Rattle.scan_recovery.proofs.Common.{ℕ, ◌<◌, ◌≤◌, blocks_of}
-use Rattle.version_index.specs.Opening.{IsBlankBlock}
+use Rattle.judged_records.specs.Opening.{IsBlankBlock}
 use Rattle.scan_recovery.proofs.spare.highest_blank.Given as goal
 
 abbrev pub decreases-loop-block : goal.decreases-loop-block

@@ -15,5 +15,5 @@ returns-clause-settled c = record {
       absurd (false≢true (sym left ∙ sym (c.completes.ensures protocol its m may same) ∙ c.if-not-completes.false));
   whole_cycle = λ protocol its m may same closed.
       subst (λ start. DerivesWhole c.args.protocol c.args.tables.now c.commit_cycle.new.tables start c.args.logical)
-      c.name_of.ensures c.commit_cycle.ensures.whole;
+      c.name.ensures c.commit_cycle.ensures.whole;
 }

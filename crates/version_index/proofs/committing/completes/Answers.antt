@@ -9,7 +9,7 @@ pub loop-preserved : goal.loop-preserved
 loop-preserved c =
     walk_more c.args.tables.now c.shape.ensures.kept c.requires.links c.args.rec c.args.logical c.loop.counter
     c.loop.link c.loop.invariant
-    c.loop-test.true c.in-Some.next (sym c.in-Some.ensures) (sym c.has_name.ensures ∙ c.if-has_name.false)
+    c.loop-test.true c.in-Some.next (sym c.in-Some.ensures) (sym (rw c.name.ensures at c.has_name.ensures) ∙ c.if-has_name.false)
 
 pub returns-in-None : goal.returns-in-None
 returns-in-None c = λ protocol its m may same.
@@ -21,7 +21,7 @@ pub returns-then-has_name : goal.returns-then-has_name
 returns-then-has_name c = λ protocol its m may same.
     walk_comes c.args.tables.now c.shape.ensures.kept c.args.rec c.args.logical c.loop.counter c.loop.link
     c.loop.invariant c.loop-test.true
-    protocol its m may same c.in-Some.next (sym c.in-Some.ensures) (sym c.has_name.ensures ∙ c.if-has_name.true)
+    protocol its m may same c.in-Some.next (sym c.in-Some.ensures) (sym (rw c.name.ensures at c.has_name.ensures) ∙ c.if-has_name.true)
 
 pub returns : goal.returns
 returns c = λ protocol its m may same.

@@ -1,6 +1,7 @@
 -- The slots are used by the numbers of their records, and what is decided of these leaves them.
 mod ScanFilled
-use Rattle.version_index.proofs.Common.{List, [], length, map, ap, sym, subst, ◌∙◌, arith, length-replicate, slots_of, SlotUse, TablesState, NamesAgree, AreNumbered, AreBlankBut, AreDecided, seen_as, found_in, notes_in}
+use Rattle.version_index.proofs.Common.{List, [], length, map, ap, sym, subst, ◌∙◌, arith, length-replicate, slots_of, SlotUse, TablesState, NamesAgree, AreNumbered, AreBlankBut, AreDecided, found_in, notes_in}
+use Rattle.judged_records.specs.Notes.{seen_as}
 use Rattle.version_index.specs.Filling.{AreCurrent}
 use Rattle.version_index.proofs.filling.fill.Answers.ScanFilled.{filled_from}
 use Rattle.version_index.proofs.OfOpening.ScanSlots.{all_held, all_placed, each_below, put_used, put_within, uses_held}

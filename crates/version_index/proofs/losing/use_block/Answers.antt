@@ -1,5 +1,6 @@
 mod UsedSlots
-use Rattle.version_index.proofs.Common.{◌≡◌, ◌<◌, ◌+◌, ◌*◌, ap, subst, sym, ◌∙◌, arith, Shape, slots_of, blocks_of, block_within, TablesState, used_so, used_from}
+use Rattle.version_index.proofs.Common.{◌≡◌, ◌<◌, ◌+◌, ◌*◌, ap, subst, sym, ◌∙◌, arith, Shape, slots_of, blocks_of, TablesState, used_so, used_from}
+use Rattle.flash_model.proofs.ImageLemmas.{block_within}
 use Rattle.version_index.proofs.losing.use_block.Answers.UsedSlots.{used_none, used_next, used_shape}
 use Rattle.version_index.proofs.losing.use_block.Goals as goal
 

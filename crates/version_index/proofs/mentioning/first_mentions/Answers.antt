@@ -1,5 +1,5 @@
 use Rattle.version_index.proofs.Common.{take, arith, take_all}
-use Rattle.version_index.proofs.OfChanges.Mentions.{mentions_more, mentions_are}
+use Rattle.judged_records.proofs.OfChanges.Mentions.{mentions_more, mentions_are}
 use Rattle.version_index.proofs.mentioning.first_mentions.Goals as goal
 
 pub loop-found-preserved : goal.loop-found-preserved

@@ -1,5 +1,5 @@
 use Rattle.version_index.proofs.Common.{take}
-use Rattle.version_index.proofs.OfChanges.Mentions.{AreMentions}
+use Rattle.judged_records.proofs.OfChanges.Mentions.{AreMentions}
 use Rattle.version_index.proofs.mentioning.first_mentions.Given as goal
 
 abbrev pub invariant-loop-found : goal.invariant-loop-found

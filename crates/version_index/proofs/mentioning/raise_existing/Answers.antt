@@ -1,5 +1,5 @@
 use Rattle.version_index.proofs.Common.{get_or, ap, ◌∙◌, arith}
-use Rattle.version_index.proofs.OfChanges.Mentions.{raised_to_at, unraised_at}
+use Rattle.judged_records.proofs.OfChanges.Mentions.{raised_to_at, unraised_at}
 use Rattle.version_index.proofs.mentioning.raise_existing.Goals as goal
 
 pub returns-then-name-len-clause-raised : goal.returns-then-name-len-clause-raised

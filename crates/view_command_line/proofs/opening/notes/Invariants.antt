@@ -1,5 +1,5 @@
 use Rattle.std.proofs.Common.{◌≡◌, map, take}
-use Rattle.version_index.specs.Notes.{note_of}
+use Rattle.judged_records.specs.Notes.{note_of}
 use Rattle.view_command_line.proofs.opening.notes.Given as goal
 
 abbrev pub invariant-loop-slot : goal.invariant-loop-slot

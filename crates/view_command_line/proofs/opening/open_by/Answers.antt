@@ -2,7 +2,7 @@ use Rattle.std.proofs.Common.{◌≡◌, ◌∙◌, ap, sym, subst}
 use Rattle.tx_types.specs.Config.{shape_of}
 use Rattle.die_alloc.specs.BlocksState.{BlocksState}
 use Rattle.mem_flash.specs.MemFlashState.{MemFlashState}
-use Rattle.version_index.specs.Opening.{IsChosenSpare}
+use Rattle.judged_records.specs.Opening.{IsChosenSpare}
 use Rattle.view_command_line.proofs.opening.open_by.Goals as goal
 
 pub returns-in-Ok : goal.returns-in-Ok

@@ -1,9 +1,9 @@
 mod Pictures
 use Rattle.std.proofs.Common.{◌++◌, ap}
 use Rattle.tx_types.specs.Config.{shape_of}
-use Rattle.version_index.specs.Images.{records_in}
-use Rattle.version_index.specs.Notes.{notes_of}
-use Rattle.version_index.proofs.OfLaws.NotedImages.{found_in_notes}
+use Rattle.judged_records.specs.Images.{records_in}
+use Rattle.judged_records.specs.Notes.{notes_of}
+use Rattle.judged_records.proofs.OfLaws.NotedImages.{found_in_notes}
 use Rattle.flash_picture.specs.Map.{map_text}
 use Rattle.flash_picture.specs.Picture.{breach_line, cells_of, heading, picture}
 use Rattle.flash_picture.specs.Walks.{walks_text}

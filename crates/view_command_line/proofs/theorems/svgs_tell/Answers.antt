@@ -1,5 +1,5 @@
 use Rattle.std.proofs.Common.{refl}
-use Rattle.version_index.specs.Notes.{notes_of}
+use Rattle.judged_records.specs.Notes.{notes_of}
 use Rattle.flash_picture.proofs.SvgTells.{arrow_tells, svg_cell_tells, svg_label_tells, svg_walk_tells}
 use Rattle.view_command_line.proofs.theorems.svgs_tell.Goals as goal
 

@@ -1,6 +1,6 @@
 -- The search for the block with the most garbage.
 use Rattle.collector.proofs.Common.{◌≡◌, true, ℕ, ◌<◌, ◌≤◌, sym, subst, IndexState, BlocksState, block_state, is_shut, IsVictim}
-use Rattle.version_index.specs.IndexState.{HasMostGarbage, garbage_of}
+use Rattle.judged_records.specs.IndexState.{HasMostGarbage, garbage_of}
 use Rattle.collector.specs.Victim.{garbage_in}
 
 -- the block with the most garbage, where it is shut

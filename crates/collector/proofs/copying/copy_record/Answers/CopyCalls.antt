@@ -7,7 +7,7 @@ use Rattle.flash_model.specs.Operations.{after, CanProgram}
 use Rattle.flash_model.specs.Moves.{FlashMoves}
 use Rattle.flash_model.proofs.MoveLemmas.{FlashMoves-reads, FlashMoves-then}
 use Rattle.record_list.specs.WrittenChanges.{WrittenCopyLaw}
-use Rattle.version_index.proofs.OfChanges.NotedChanges.{copied_noted}
+use Rattle.judged_records.proofs.OfChanges.NotedChanges.{copied_noted}
 use Rattle.collector.specs.declared.unsure.Unsure.TheVariants as unsure
 use Rattle.collector.specs.Calls.{CanCopy}
 use Rattle.collector.specs.StoreParts.{IsSure}

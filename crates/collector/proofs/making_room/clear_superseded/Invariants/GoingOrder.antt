@@ -8,8 +8,8 @@ use Rattle.std.proofs.lemmas.List.{get_or_default}
 use Rattle.list_lemmas.proofs.Pairs.{pairs_head, pairs_tail}
 use Rattle.list_lemmas.proofs.Ranges.{range_bounds}
 use Rattle.slot_tables.proofs.OfBaseTables.Copying.{filter_rises}
-use Rattle.version_index.specs.IndexState.{is_going, going_blocks}
-use Rattle.version_index.proofs.OfTables.FoundIn.{found_in_ascending}
+use Rattle.judged_records.specs.IndexState.{is_going, going_blocks}
+use Rattle.judged_records.proofs.OfNotes.FoundIn.{found_in_ascending}
 use Rattle.collector.proofs.OfRoom.GoingCounts.{going_at, at_going}
 use Rattle.collector.proofs.OfRoom.GoneRecords.{going_none, going_some, none_going}
 

@@ -1,6 +1,6 @@
 -- Retiring a block, as a call: the spare is replaced at once; else the spare is made blank, what is needed is copied,
 -- and the block is replaced.
-use Rattle.collector.proofs.Common.{◌≡◌, ◌≢◌, ℕ, ◌*◌, true, false, List, [], ◌++◌, length, Ok, Err, Result, refl, sym, ap, ◌∙◌, subst, cond-true, cond-false, ne_eqb, Block, Protocol, Broken, FlashState, Does, Operation, moment_of, LossLaw, IndexState, Unsure, Cleans, CopiesNeeded, Keeps, cleaning, copies, needed_slots, noted_cleaned, reads_after, RetiresVictim, StoreParts}
+use Rattle.collector.proofs.Common.{◌≡◌, ◌≢◌, ℕ, ◌*◌, true, false, List, [], ◌++◌, length, Ok, Err, Result, refl, sym, ap, ◌∙◌, subst, cond-true, cond-false, ne_eqb, Block, Protocol, Broken, FlashState, Does, Operation, moment_of, LossLaw, IndexState, Unsure, Cleans, CopiesNeeded, Keeps, cleaning, copies, needed_slots, noted_cleaned, counted_times, RetiresVictim, StoreParts}
 use Rattle.std.proofs.Common.{◌==◌, arith}
 use Rattle.std.proofs.lemmas.Bool.Decides.{nat_tests}
 use Rattle.flash_model.proofs.CallLemmas.{Carries-nothing}
@@ -47,7 +47,7 @@ is_spare p a b (Ok x) e = record {
   };
   noted = (λ spare. (e.noted, e.blocks), λ other. absurd (other refl));
   reads = e.retires.reads
-      ∙ ap (λ l. reads_after (length l) a.flash.reads)
+      ∙ ap (λ l. counted_times (length l) a.flash.reads)
       (sym (cond-true (a.table.spare == a.table.spare) [] _ (same_number a.table.spare)));
   broken = tt;
   stays = tt;
@@ -134,7 +134,7 @@ module _ (p : Protocol) (loss : LossLaw p) (a m : StoreParts) (k : IsSure p a) (
         ),
       );
       reads = e.retires.reads ∙ reads_so p a m h cleaned block used c
-          ∙ ap (λ l. reads_after (length l) a.flash.reads) (sym (cond-false (block.0 == a.table.spare) [] _ not_spare));
+          ∙ ap (λ l. counted_times (length l) a.flash.reads) (sym (cond-false (block.0 == a.table.spare) [] _ not_spare));
       broken = tt;
       stays = tt;
     }

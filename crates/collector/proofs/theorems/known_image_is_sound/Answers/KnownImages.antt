@@ -14,10 +14,10 @@ use Rattle.record_list.proofs.OfChanges.Arrays.{text_named, text_present}
 use Rattle.record_list.specs.Verdict.{record_named}
 use Rattle.record_list.proofs.OfFacts.SoundNames.{sound_map}
 use Rattle.record_list.proofs.OfChanges.WrittenLists.{in_records, same_text, IsOneText, one_text}
-use Rattle.version_index.specs.Images.{SlotReads}
-use Rattle.version_index.proofs.OfTables.FoundIn.{noted_in}
-use Rattle.version_index.proofs.OfLaws.ImageScans.{is_read, written, read_slot}
-use Rattle.version_index.proofs.OfTables.NotedFacts.{noted_present}
+use Rattle.judged_records.specs.Images.{SlotReads}
+use Rattle.judged_records.proofs.OfNotes.FoundIn.{noted_in}
+use Rattle.judged_records.proofs.OfLaws.ImageScans.{is_read, written, read_slot}
+use Rattle.judged_records.proofs.OfNotes.NotedFacts.{noted_present}
 use Rattle.collector.specs.declared.unsure.Unsure.TheVariants as unsure
 use Rattle.collector.specs.Known.{contents_noted, contents_known, known_image}
 use Rattle.collector.proofs.OfImages.KeptArrays.{none_at_zero}

@@ -4,8 +4,8 @@ use Rattle.collector.proofs.Common.{◌≡◌, ◌≢◌, ◌⊎◌, ℕ, ◌*�
 use Rattle.std.proofs.lemmas.List.Elements.{All-from_get_or, Contains-get_or}
 use Rattle.list_lemmas.proofs.Counts.{none_in_range}
 use Rattle.record_list.specs.Written.{is_garbage}
-use Rattle.version_index.specs.IndexState.{is_garbage_at, shut_or_part}
-use Rattle.version_index.proofs.OfTables.NotedFacts.{other_garbage}
+use Rattle.judged_records.specs.IndexState.{is_garbage_at, shut_or_part}
+use Rattle.judged_records.proofs.OfNotes.NotedFacts.{other_garbage}
 use Rattle.die_alloc.proofs.Changes.{block_within}
 use Rattle.collector.specs.declared.unsure.Unsure.TheVariants as unsure
 use Rattle.collector.specs.Tidy.{IsTidy}

@@ -5,8 +5,8 @@ use Rattle.std.proofs.lemmas.Bool.{or_cases, or_left, or_right}
 use Rattle.record_list.specs.Changes.{IsWrite, PartialWriteKeeps, CompletingWriteKeeps}
 use Rattle.record_list.proofs.OfFacts.Names.{has_name_true}
 use Rattle.record_list.proofs.OfChanges.OneMore.{inserted_any}
-use Rattle.version_index.specs.IndexState.{IsNextRecord}
-use Rattle.version_index.proofs.OfChanges.NotedChanges.{next_write}
+use Rattle.judged_records.specs.IndexState.{IsNextRecord}
+use Rattle.judged_records.proofs.OfChanges.NotedChanges.{next_write}
 
 module _ (p : Protocol) (n : IndexState) (at : ℕ) (rec : Rec) (noted : IsNoted p n)
     (exists : at < slots_of (shape_of n.config))

@@ -13,14 +13,14 @@ use Rattle.flash_model.specs.declared.flash.Seen.TheVariants as seen
 use Rattle.flash_model.specs.Calls.{seen_of}
 use Rattle.record_list.specs.Records.{mention, IsScanned}
 use Rattle.record_list.specs.SoundList.{IsSoundList}
-use Rattle.version_index.specs.IndexState.{pinned_at, mention_of}
-use Rattle.version_index.proofs.OfTables.BaseTables.{given_from}
-use Rattle.version_index.proofs.OfChanges.Pins.{numbered_pin}
+use Rattle.judged_records.specs.IndexState.{pinned_at, mention_of}
+use Rattle.judged_records.proofs.OfNotes.BaseTables.{given_from}
+use Rattle.judged_records.proofs.OfChanges.Pins.{numbered_pin}
 use Rattle.die_alloc.specs.BlocksState.{MayHave, no_block}
 use Rattle.die_alloc.proofs.Changes.{block_within}
 use Rattle.flash_model.specs.Readings.{reads_blank, seen_in, seen_in_block, reads_blank_block}
 use Rattle.die_alloc.specs.Opening.{used_in, use_in, opening_table}
-use Rattle.version_index.specs.Opening.{opening_noted, IsChosenFrom}
+use Rattle.judged_records.specs.Opening.{opening_noted, IsChosenFrom}
 use Rattle.collector.specs.declared.unsure.Unsure.TheVariants as unsure
 use Rattle.collector.specs.Laws.{OpenedTablesMatch}
 use Rattle.collector.proofs.OfSettle.SettledExits.{matches_still}

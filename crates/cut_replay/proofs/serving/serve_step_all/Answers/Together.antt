@@ -1,5 +1,5 @@
 -- What going on with several transactions at once comes to on a mounted device.
-use Rattle.cut_replay.proofs.Common.{◌≡◌, ℕ, ◌<◌, ◌≤◌, Bool, true, false, List, Result, Ok, refl, sym, ap, ◌∙◌, subst, inl, inr, arith, Config, Protocol, Shape, shape_of, FlashState, BothTell, Spends, moment_of, mention, IsSoundImage, records_in, PageCacheState, CachedPage, IsSeen, HoldsAlways, DeviceState, Reply, MayLose, is_break, is_lost, IsCached, ServesHere, Fits, Serves, IsSpentBy, ServesSession, CachesSession, EndsServing, ServeError, Session}
+use Rattle.cut_replay.proofs.Common.{◌≡◌, ℕ, ◌<◌, ◌≤◌, Bool, true, false, List, Result, Ok, refl, sym, ap, ◌∙◌, subst, inl, inr, arith, Config, Protocol, Shape, shape_of, FlashState, BothTell, Spends, moment_of, mention, IsSoundImage, records_in, PageCacheState, CachedPage, IsSeen, HoldsAlways, DeviceState, Reply, MayLose, is_break, is_lost, IsCached, ServesHere, Fits, Serves, IsSpentBy, ServesSession, CachesSession, EndsServing, ServeError, DeviceSession}
 use Rattle.flash_model.specs.Moves.{MovesTogether}
 use Rattle.array_machine.specs.declared.answers.Moved.{Moved}
 use Rattle.tx_engine.specs.Batches.{MovesDevice, DropsDevice}
@@ -7,7 +7,7 @@ use Rattle.tx_engine.specs.Exits.{is_there}
 use Rattle.host_protocol.specs.declared.command.Command.TheVariants as command
 use Rattle.array_runs.specs.Run.{moved_reply}
 use Rattle.cut_replay.specs.Sessions.{lost_reply, left, FitsMounted, FollowsLoss, Follows}
-use Rattle.cut_replay.specs.declared.session.Session.TheVariants as session
+use Rattle.mounted_session.specs.declared.session.Session.TheVariants as session
 use Rattle.cut_replay.proofs.Devices.{cached_stays, exits_serve}
 use Rattle.cut_replay.proofs.Followed.{mounted_serves, was_done, left_ok, left_on, left_err}
 use Rattle.cut_replay.proofs.Losing.{FitsAfter, WasLost, again_serves, again_ends, again_fits, again_caches}
@@ -24,23 +24,23 @@ moved_serve state protocol old new answer was is moves =
     (λ sure whole. moves.sure) (λ fault. cc)
 
 -- a device on which a call met no fault is live still
-pub moved_session : {F R : Type 0} (state : F → FlashState) (its : Config) (protocol : Protocol) (s t : DeviceState F)
+pub moved_session : {F : Type 0} (state : F → FlashState) (its : Config) (protocol : Protocol) (s t : DeviceState F)
     (answer : Moved) (cache : PageCacheState) →
     its.protocol ≡ protocol → FitsMounted state its cache.entries s → HoldsAlways state protocol t →
     MovesDevice state s t answer →
-    Serves {R = R} state its command.StepAll (session.Mounted s) (Ok (moved_reply answer))
+    Serves state its command.StepAll (session.Mounted s) (Ok (moved_reply answer))
     (session.Mounted t) cache cache
-moved_session {F = F} {R = R} state its protocol s t answer cache rule fits is moves =
+moved_session {F = F} state its protocol s t answer cache rule fits is moves =
     let was : HoldsAlways state protocol s = subst (λ (p : Protocol). HoldsAlways state p s) rule fits.always in
     let here = moved_serve state protocol s t answer was is moves in
     let cached : IsCached t cache.entries = cached_stays s t cache.entries here.config here.versions fits.cached in
     let live : (state t.flash).live ≡ true = here.carries.lives ∙ fits.live in
-    let new : Session F R = session.Mounted t in
+    let new : DeviceSession F = session.Mounted t in
     let follows : Follows state its new (moved_reply answer) (Ok (new, moved_reply answer)) cache cache = record {
       went_on = λ on. (refl, refl);
       was_cut = λ off. (let both = sym live ∙ off in cc);
     } in
-    mounted_serves {R = R} state its command.StepAll s t (moved_reply answer) (Ok (moved_reply answer)) new
+    mounted_serves state its command.StepAll s t (moved_reply answer) (Ok (moved_reply answer)) new
     cache cache cache
     (was_done state its protocol command.StepAll s t (moved_reply answer) cache.entries cache.entries rule fits refl
     here cached is) refl refl follows
@@ -111,23 +111,23 @@ dropped_lost state s t entries b is fits drops =
     by_moves true = drops.moves
     by_moves false = drops.moves
 
-dropped_at : {F R : Type 0} (state : F → FlashState) (s t : DeviceState F) (result : Result Reply ServeError)
-    (new : Session F R) (before after : PageCacheState) →
+dropped_at : {F : Type 0} (state : F → FlashState) (s t : DeviceState F) (result : Result Reply ServeError)
+    (new : DeviceSession F) (before after : PageCacheState) →
     FitsMounted state s.config before.entries s → DropsDevice state s t →
     FollowsLoss state s.config (session.Mounted t) (left new result) before after →
     Serves state s.config command.StepAll (session.Mounted s) result new before after
-dropped_at {F = F} {R = R} state s t result new before after fits drops follows =
+dropped_at {F = F} state s t result new before after fits drops follows =
     let its = s.config in
-    let old : Session F R = session.Mounted s in
+    let old : DeviceSession F = session.Mounted s in
     let r = lost_reply (state t.flash).live in
     let w = dropped_lost state s t before.entries (state t.flash).live refl fits drops in
     record {
       fits = left_on (Fits state its after.entries) new result
-          (subst (λ (x : PageCacheState). FitsAfter F R state its x.entries (left new result)) (sym follows.emptied)
+          (subst (λ (x : PageCacheState). FitsAfter F state its x.entries (left new result)) (sym follows.emptied)
           (again_fits state its t.flash r (left new result) w.check follows.mounts));
-      serves = left_ok (λ (x : Session F R) q. ServesSession state its command.StepAll old q x) new result
+      serves = left_ok (λ (x : DeviceSession F) q. ServesSession state its command.StepAll old q x) new result
           (again_serves state its command.StepAll s t.flash r (left new result) w follows.mounts);
-      caches = left_ok (λ (x : Session F R) q. CachesSession state its command.StepAll old q x before after) new result
+      caches = left_ok (λ (x : DeviceSession F) q. CachesSession state its command.StepAll old q x before after) new result
           (again_caches state its command.StepAll s t.flash r before after (left new result) refl w.lost follows.emptied
           follows.mounts);
       ends = left_err (λ flash why. EndsServing state its command.StepAll old flash why) new result
@@ -135,14 +135,14 @@ dropped_at {F = F} {R = R} state s t result new before after fits drops follows 
       size = ap (λ (x : PageCacheState). x.page_bytes) follows.emptied;
     }
 
-pub dropped_session : {F R : Type 0} (state : F → FlashState) (its : Config) (s t : DeviceState F)
-    (result : Result Reply ServeError) (new : Session F R)
+pub dropped_session : {F : Type 0} (state : F → FlashState) (its : Config) (s t : DeviceState F)
+    (result : Result Reply ServeError) (new : DeviceSession F)
     (before after : PageCacheState) → FitsMounted state its before.entries s → DropsDevice state s t →
     FollowsLoss state its (session.Mounted t) (left new result) before after →
     Serves state its command.StepAll (session.Mounted s) result new before after
-dropped_session {F = F} {R = R} state its s t result new before after fits drops follows =
-    let old : Session F R = session.Mounted s in
-    let mid : Session F R = session.Mounted t in
+dropped_session {F = F} state its s t result new before after fits drops follows =
+    let old : DeviceSession F = session.Mounted s in
+    let mid : DeviceSession F = session.Mounted t in
     let is = fits.config in
     subst (λ (x : Config). Serves state x command.StepAll old result new before after) is
     (dropped_at state s t result new before after (subst (λ (x : Config). FitsMounted state x before.entries s)

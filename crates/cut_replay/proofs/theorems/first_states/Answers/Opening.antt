@@ -2,7 +2,7 @@
 use Rattle.cut_replay.proofs.Common.{◌≡◌, Bool, length, refl, Config, Moment, array_in, limits_of}
 use Rattle.std.proofs.lemmas.List.FromFn.{length-map-range_with_len}
 use Rattle.record_list.specs.Written.{page_at as page_of}
-use Rattle.version_index.specs.Images.{written_in}
+use Rattle.judged_records.specs.Images.{written_in}
 use Rattle.array_runs.specs.Run.{IsClosedUnmounted}
 use Rattle.cut_replay.specs.FlashRun.{first_state}
 

@@ -1,6 +1,6 @@
 use Rattle.std.proofs.Common.{sym, subst}
 use Rattle.mem_flash.specs.MemFlashState.{state_of}
-use Rattle.version_index.specs.Images.{IsSoundImage}
+use Rattle.judged_records.specs.Images.{IsSoundImage}
 use Rattle.tx_engine.proofs.OfMount.Mounted.{opened_matches}
 use Rattle.device_tests.proofs.collecting.steps.opened.Goals as goal
 

@@ -3,7 +3,7 @@ use Rattle.tx_types.specs.Config.{checked}
 use Rattle.tx_types.specs.declared.config.Config.{Config}
 use Rattle.flash_model.specs.Operations.{Moment}
 use Rattle.mem_flash.specs.MemFlashState.{MemFlashState, state_of}
-use Rattle.version_index.specs.Images.{IsSoundImage}
+use Rattle.judged_records.specs.Images.{IsSoundImage}
 use Rattle.collector.proofs.OfSettle.SettledExits.{matches_still}
 use Rattle.tx_engine.proofs.OfMount.Mounted.{opened_matches}
 use Rattle.device_tests.proofs.collecting.steps.reopen.Goals as goal

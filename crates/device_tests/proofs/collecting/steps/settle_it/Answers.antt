@@ -1,6 +1,6 @@
 use Rattle.std.proofs.Common.{ap, ◌∙◌}
 use Rattle.mem_flash.specs.MemFlashState.{state_of}
-use Rattle.version_index.specs.IndexState.{IndexState}
+use Rattle.judged_records.specs.IndexState.{IndexState}
 use Rattle.collector.proofs.OfSettle.SettledImages.{settled_stands}
 use Rattle.device_tests.proofs.collecting.steps.settle_it.Goals as goal
 

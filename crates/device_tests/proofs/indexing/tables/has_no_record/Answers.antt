@@ -3,8 +3,8 @@ use Rattle.std.specs.List.{cons_option}
 use Rattle.std.proofs.lemmas.Bool.{false≢true}
 use Rattle.std.proofs.lemmas.List.{take_all}
 use Rattle.tx_types.specs.declared.record.Rec.{Rec}
-use Rattle.version_index.specs.Notes.{note_at, found_in}
-use Rattle.version_index.proofs.OfTables.FoundIn.{found_in_nil, found_in_more, no_record}
+use Rattle.judged_records.specs.Notes.{note_at, found_in}
+use Rattle.judged_records.proofs.OfNotes.FoundIn.{found_in_nil, found_in_more, no_record}
 use Rattle.device_tests.proofs.indexing.tables.has_no_record.Goals as goal
 
 no_some : (o : Option Rec) → is_some o ≡ false → o ≡ None

@@ -1,7 +1,7 @@
 use Rattle.std.proofs.Common.{◌<◌, subst, eqb-true}
 use Rattle.record_list.proofs.OfFacts.Names.{same_name}
 use Rattle.record_list.specs.Records.{name_of}
-use Rattle.version_index.proofs.OfLaws.FirstRecord.{first_next}
+use Rattle.judged_records.proofs.OfLaws.FirstRecord.{first_next}
 use Rattle.device_tests.proofs.indexing.tables.is_first_record.Goals as goal
 
 pub returns : goal.returns

@@ -4,10 +4,10 @@ use Rattle.std.proofs.lemmas.List.{append-nil}
 use Rattle.std.proofs.lemmas.Option.{none-some, same_Some}
 use Rattle.tx_types.specs.declared.record.Rec.{Rec}
 use Rattle.record_list.specs.declared.found.Found.{Found}
-use Rattle.version_index.specs.declared.note.Note.{Note}
-use Rattle.version_index.specs.declared.note.Note.TheVariants.{Blank, Damaged, Holds}
-use Rattle.version_index.specs.Notes.{note_at, rec_of, found_at, found_in}
-use Rattle.version_index.proofs.OfTables.FoundIn.{found, found_in_nil, found_in_more, no_record}
+use Rattle.judged_records.specs.declared.note.Note.{Note}
+use Rattle.judged_records.specs.declared.note.Note.TheVariants.{Blank, Damaged, Holds}
+use Rattle.judged_records.specs.Notes.{note_at, rec_of, found_at, found_in}
+use Rattle.judged_records.proofs.OfNotes.FoundIn.{found, found_in_nil, found_in_more, no_record}
 use Rattle.device_tests.proofs.indexing.tables.records.Goals.{in-Some+in_ok-push, in_default}
 use Rattle.device_tests.proofs.indexing.tables.records.Goals as goal
 

@@ -20,14 +20,14 @@ use Rattle.record_list.specs.Counts.{HasCounts}
 use Rattle.record_list.specs.Written.{Written, found_of, records_of, BytesAgree, IsFirstBrokenLaw}
 use Rattle.record_list.proofs.OfChanges.WrittenLists.{in_records}
 use Rattle.die_alloc.specs.BlocksState.{BlocksState}
-use Rattle.version_index.specs.declared.note.Note.{Note}
-use Rattle.version_index.specs.Images.{HasPages, IsSoundImage}
-use Rattle.version_index.specs.Notes.{notes_of}
-use Rattle.version_index.specs.IndexState.{IndexState, with_spare}
-use Rattle.version_index.proofs.OfTables.BaseTables.{given}
-use Rattle.version_index.proofs.OfLaws.ImageScans.{read_at, written_in_is, written}
-use Rattle.version_index.proofs.OfLaws.NotedImages.{scanned_notes}
-use Rattle.version_index.proofs.OfOpening.Scans.{numbered_complete}
+use Rattle.judged_records.specs.declared.note.Note.{Note}
+use Rattle.judged_records.specs.Images.{HasPages, IsSoundImage}
+use Rattle.judged_records.specs.Notes.{notes_of}
+use Rattle.judged_records.specs.IndexState.{IndexState, with_spare}
+use Rattle.judged_records.proofs.OfNotes.BaseTables.{given}
+use Rattle.judged_records.proofs.OfLaws.ImageScans.{read_at, written_in_is, written}
+use Rattle.judged_records.proofs.OfLaws.NotedImages.{scanned_notes}
+use Rattle.judged_records.proofs.OfNotes.Scans.{numbered_complete}
 use Rattle.scan_recovery.specs.declared.error.RecoverError.{RecoverError}
 use Rattle.scan_recovery.specs.declared.error.RecoverError.TheVariants as error
 use Rattle.scan_recovery.specs.Opening.{IsOpenedFrom, IsBroken, IsOpened}

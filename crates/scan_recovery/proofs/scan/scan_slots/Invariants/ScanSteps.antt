@@ -9,12 +9,12 @@ use Rattle.list_lemmas.proofs.Membership.{Contains-one}
 use Rattle.flash_model.specs.Flash.{blank}
 use Rattle.flash_model.specs.Calls.{seen_of}
 use Rattle.record_list.specs.Written.{records_of}
-use Rattle.version_index.specs.declared.note.Note.{Note}
-use Rattle.version_index.specs.declared.note.Note.TheVariants.{Blank}
-use Rattle.version_index.specs.Notes.{seen_as, found_at, found_in, note_of, notes_of}
-use Rattle.version_index.proofs.OfTables.FoundIn.{found_in_more}
-use Rattle.version_index.proofs.OfLaws.ImageScans.{written_in_is}
-use Rattle.version_index.proofs.OfLaws.NotedImages.{found_in_notes, note_reads}
+use Rattle.judged_records.specs.declared.note.Note.{Note}
+use Rattle.judged_records.specs.declared.note.Note.TheVariants.{Blank}
+use Rattle.judged_records.specs.Notes.{seen_as, found_at, found_in, note_of, notes_of}
+use Rattle.judged_records.proofs.OfNotes.FoundIn.{found_in_more}
+use Rattle.judged_records.proofs.OfLaws.ImageScans.{written_in_is}
+use Rattle.judged_records.proofs.OfLaws.NotedImages.{found_in_notes, note_reads}
 use Rattle.scan_recovery.specs.Scans.{IsNote}
 
 -- the slots below this one keep law 1, and are noted

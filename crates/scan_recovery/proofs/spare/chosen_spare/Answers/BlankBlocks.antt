@@ -6,12 +6,12 @@ use Rattle.list_lemmas.proofs.Membership.{map_in, in_filter}
 use Rattle.list_lemmas.proofs.Chunks.{chunk_at, length-chunk}
 use Rattle.flash_model.specs.declared.flash.Seen.TheVariants.{Complete, Damaged}
 use Rattle.record_list.proofs.OfFacts.Names.{present_in}
-use Rattle.version_index.specs.Notes.{complete_at}
-use Rattle.version_index.proofs.OfTables.BaseTables.{given_from}
-use Rattle.version_index.proofs.OfTables.Blocks.{in_it, inside_block}
-use Rattle.version_index.proofs.OfOpening.Scans.{numbered_complete}
+use Rattle.judged_records.specs.Notes.{complete_at}
+use Rattle.judged_records.proofs.OfNotes.BaseTables.{given_from}
+use Rattle.judged_records.proofs.OfNotes.Blocks.{in_it, inside_block}
+use Rattle.judged_records.proofs.OfNotes.Scans.{numbered_complete}
 use Rattle.flash_model.specs.Readings.{seen_in_block}
-use Rattle.version_index.specs.Opening.{IsBlankBlock, HasNoBlankBlock, IsHighest}
+use Rattle.judged_records.specs.Opening.{IsBlankBlock, HasNoBlankBlock, IsHighest}
 use Rattle.scan_recovery.specs.Opening.{FindsSpare}
 
 -- a slot that reads complete

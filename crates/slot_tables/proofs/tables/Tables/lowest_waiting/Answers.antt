@@ -1,5 +1,5 @@
 -- The loop goes through the records that wait for the page.
-use Rattle.slot_tables.proofs.Common.{arith, tables_state}
+use Rattle.slot_tables.proofs.Common.{arith, option_map, tables_state}
 use Rattle.slot_tables.proofs.OfWaitList.WaitingFor.{so_far_first, so_far_next, lowest_some, lowest_none}
 use Rattle.slot_tables.proofs.tables.Tables.lowest_waiting.Goals as goal
 
@@ -27,18 +27,17 @@ loop-next-preserved c =
     let before = rw (c.in-Some.is, c.next-next.ensures.order c.args.page has) at c.loop-next.invariant.0 in
     let waits = (c.by_page-waiting.ensures.waiting c.args.page c.in-Some.number).0 has in
     let after = so_far_next (tables_state c.self.inside.base) c.args.page c.args.below c.in-Some.number
-    _ c.loop-next.lowest before waits in
+    _ (option_map (λ at. at.0) c.loop-next.lowest) before waits in
     (rw (c.lower-lowest.ensures, c.first_below.ensures) after, c.next-next.ensures.listed c.args.page has)
 
-pub returns-in-None-clause-none : goal.returns-in-None-clause-none
-returns-in-None-clause-none c =
+pub returns-clause-some : goal.returns-clause-some
+returns-clause-some c =
+    let all = rw c.in_default.is at c.loop-next.invariant.0 in
+    rw (← c.self.view_is) (lowest_some (tables_state c.self.inside.base) c.args.page c.args.below c.loop-next.lowest
+    all)
+
+pub returns-clause-none : goal.returns-clause-none
+returns-clause-none c =
     let all = rw c.in_default.is at c.loop-next.invariant.0 in
     rw (← c.self.view_is) (lowest_none (tables_state c.self.inside.base) c.args.page c.args.below c.loop-next.lowest
-    all c.in-None.is)
-
-pub returns-in-Some-lowest-clause-some : goal.returns-in-Some-lowest-clause-some
-returns-in-Some-lowest-clause-some c =
-    let all = rw c.in_default.is at c.loop-next.invariant.0 in
-    rw (← c.self.view_is) (lowest_some (tables_state c.self.inside.base) c.args.page c.args.below c.in-Some-lowest.at
-    c.loop-next.lowest all
-    c.in-Some-lowest.is)
+    all)

@@ -8,7 +8,7 @@ use Rattle.flash_model.specs.Operations.{CanLoad, after}
 use Rattle.flash_model.proofs.FireLemmas.{die_within}
 use Rattle.flash_model.proofs.MoveLemmas.{FlashMoves-fires, same_moments}
 use Rattle.record_list.specs.WrittenChanges.{WrittenPartialWriteLaw, WrittenCompletingWriteLaw}
-use Rattle.version_index.proofs.OfLaws.ImageLaws.{image_completing_law, image_partial_law}
+use Rattle.judged_records.proofs.OfLaws.ImageLaws.{image_completing_law, image_partial_law}
 use Rattle.collector.specs.declared.unsure.Unsure.TheVariants as unsure
 use Rattle.array_machine.specs.Step.{IsAtLast}
 use Rattle.tx_engine.specs.BatchCalls.{AreLoadable, CanLoadAll, FiresStored}

@@ -1,5 +1,5 @@
 use Rattle.tx_engine.proofs.Common.{false, ◌≡◌, ◌+◌, ◌≤◌, sym, ap, ◌∙◌, subst, Carries, moment_of, OpenTransactionsState, Stands, device_in}
-use Rattle.scan_recovery.proofs.OfScan.ReadingSteps.{read_more-most}
+use Rattle.scan_recovery.proofs.OfScan.ReadingSteps.{counted_times-most}
 use Rattle.tx_engine.specs.Opens.{Mounts, mount_reads}
 use Rattle.tx_engine.proofs.OfMount.Mounted.{empty_table, opened_stands, opened_mounts}
 use Rattle.tx_engine.proofs.device.Device.mount.Goals as goal
@@ -46,5 +46,5 @@ returns-in-Err g c =
           (c.in_ok-store.ensures.opened.moment, c.in_ok-store.ensures.opened.carries);
       reads = subst (λ f. (g.F.Flash.state f).reads ≤ before.reads + most) (sym c.close.ensures)
           (subst (λ n. n ≤ before.reads + most) (sym c.in_ok-store.ensures.opened.reads)
-          (read_more-most most before.reads));
+          (counted_times-most most before.reads));
     }

@@ -1,10 +1,10 @@
-use Rattle.tx_engine.proofs.Common.{◌≡◌, None, Ok, ◌++◌, ◌∷◌, [], refl, sym, ap, ◌∙◌, subst, map-append, IndexState, ArrayState, is_spent, OpenTransactionsState, TransactionState, entries_of, namings_of, begun, DeviceState, limits_of, spent_page, StoreState, device_in}
+use Rattle.tx_engine.proofs.Common.{◌≡◌, None, Ok, ◌++◌, ◌∷◌, [], refl, sym, ap, ◌∙◌, subst, map-append, IndexState, ArrayState, is_spent, OpenTransactionsState, TransactionState, entries_of, namings_of, begun, with_pins, DeviceState, limits_of, spent_page, StoreState, device_in}
 use Rattle.open_table.specs.OpenTransactionsState.{CanOpen}
 use Rattle.tx_engine.specs.DeviceCalls.{SubmitsDevice}
 use Rattle.array_machine.proofs.Accepting.{accepted}
 use Rattle.tx_engine.proofs.OfDevice.KeptDevices.{by_kept, kept_stands, kept_stored}
 use Rattle.tx_engine.proofs.OfSubmit.Submitted.{device_then, machine_then}
-use Rattle.tx_engine.proofs.OfSubmit.Submitting.{can_open, some_each, version_left, submits, not_refused}
+use Rattle.tx_engine.proofs.OfSubmit.Submitting.{can_open, can_pin, last_open, some_each, version_left, submits, not_refused}
 use Rattle.tx_engine.proofs.device.Device.submit.Goals as goal
 
 pub spent_refusal-requires : goal.spent_refusal-requires
@@ -39,22 +39,18 @@ pub pin_all-requires-clause-stored : goal.pin_all-requires-clause-stored
 pin_all-requires-clause-stored g c =
     kept_stored g.F.Flash.state c.self.inside _ c.self.view_is c.requires.kept g.R.CommitRule.protocol c.self.invariant
 
-pub pin_all-requires-clause-range : goal.pin_all-requires-clause-range
-pin_all-requires-clause-range g c =
+pub pin_all-requires-clause-pages : goal.pin_all-requires-clause-pages
+pin_all-requires-clause-pages g c =
     let n = c.self.inside.store.noted in
-    let none = not_refused n.config c.self.inside.transactions.logical c.self.inside.transactions.pending
-    (entries_of c.self.inside.transactions) c.args.tag
-    c.args.batch.now.entries c.refusal.result
+    let t = c.self.inside.transactions in
+    let none = not_refused n.config t.logical t.pending (entries_of t) c.args.tag c.args.batch.now.entries
+    c.refusal.result
     c.self.invariant.logical c.self.invariant.pending c.refusal.ensures c.in_default.is in
-    (accepted (limits_of n.config) (entries_of c.self.inside.transactions) c.args.tag c.args.batch.now.entries
-    none).in_range
-
-pub pin_all-requires-clause-unspent : goal.pin_all-requires-clause-unspent
-pin_all-requires-clause-unspent g c =
-    let n = c.self.inside.store.noted in
-    let none : spent_page (is_spent n.mentions) c.args.batch.now.entries ≡ None = sym c.spent_refusal.ensures
-    ∙ c.in_default-spent_refusal.is in
-    version_left n.mentions c.args.batch.now.entries none
+    let opens = c.open.ensures
+    ∙ ap (λ (m : IndexState). record t { all = t.all ++ begun m c.args.tag c.args.batch.now.entries ∷ [] })
+    c.index.ensures in
+    can_pin n t c.open.new.self c.args.tag c.args.batch.now.entries c.count.result opens c.count.ensures.count
+    (accepted (limits_of n.config) (entries_of t) c.args.tag c.args.batch.now.entries none).in_range
 
 pub invariant_of-self : goal.invariant_of-self
 invariant_of-self g c =
@@ -68,12 +64,17 @@ invariant_of-self g c =
     let opens = c.open.ensures
     ∙ ap (λ (m : IndexState). record t { all = t.all ++ begun m c.args.tag c.args.batch.now.entries ∷ [] })
     c.index.ensures in
+    let pinned = c.pin_all.ensures.pinned
+    ∙ ap (λ (o : TransactionState). record c.self.inside.store {
+      noted = record n { pins = with_pins n.pins o.naming.names };
+    }) (last_open n t c.open.new.self c.args.tag c.args.batch.now.entries c.count.result opens
+    c.count.ensures.count) in
     device_then g.F.Flash.state g.R.CommitRule.protocol c.self.inside c.self.invariant
     (kept_stands g.F.Flash.state c.self.inside _ c.self.view_is c.requires.kept g.R.CommitRule.protocol
     c.self.invariant) c.args.tag c.args.batch.now.entries
     (accepted (limits_of n.config) (entries_of t) c.args.tag c.args.batch.now.entries first)
     (version_left n.mentions c.args.batch.now.entries second)
-    c.pin_all.new.self c.pin_all.ensures.stored c.pin_all.ensures.pinned c.open.new.self c.count-open.ensures.kept opens
+    c.pin_all.new.self c.pin_all.ensures.stored pinned c.open.new.self c.count.ensures.kept opens
 
 pub returns : goal.returns
 returns g c =
@@ -87,14 +88,18 @@ returns g c =
     let opens = c.open.ensures
     ∙ ap (λ (m : IndexState). record t { all = t.all ++ begun m c.args.tag c.args.batch.now.entries ∷ [] })
     c.index.ensures in
+    let pinned = c.pin_all.ensures.pinned
+    ∙ ap (λ (o : TransactionState). record c.self.inside.store {
+      noted = record n { pins = with_pins n.pins o.naming.names };
+    }) (last_open n t c.open.new.self c.args.tag c.args.batch.now.entries c.count.result opens
+    c.count.ensures.count) in
     let machine = machine_then g.F.Flash.state g.R.CommitRule.protocol c.self.inside c.self.invariant
     (kept_stands g.F.Flash.state c.self.inside _ c.self.view_is c.requires.kept g.R.CommitRule.protocol
     c.self.invariant) c.args.tag c.args.batch.now.entries
     (accepted (limits_of n.config) (entries_of t) c.args.tag c.args.batch.now.entries first)
     (version_left n.mentions c.args.batch.now.entries second)
-    c.pin_all.new.self c.pin_all.ensures.stored c.pin_all.ensures.pinned c.open.new.self
-    c.count-open.ensures.kept opens in
-    let pinned = c.pin_all.ensures.pinned in
+    c.pin_all.new.self c.pin_all.ensures.stored pinned c.open.new.self
+    c.count.ensures.kept opens in
     let new : ArrayState = (device_in g.F.Flash.state c.pin_all.new.self c.open.new.self).machine in
     let old : ArrayState = (device_in g.F.Flash.state c.self.inside.store t).machine in
     by_kept g.F.Flash.state c.self.inside _ c.self.view_is c.requires.kept c.pin_all.new.self c.open.new.self

@@ -8,9 +8,9 @@ use Rattle.flash_model.proofs.MoveLemmas.{FlashMoves-operates, same_moments}
 use Rattle.page_record.proofs.Spellings.{length-spelling}
 use Rattle.record_list.specs.Changes.{PartialWriteLaw, CompletingWriteLaw}
 use Rattle.record_list.specs.WrittenChanges.{WrittenPartialWriteLaw, WrittenCompletingWriteLaw}
-use Rattle.version_index.specs.ImageChanges.{image_with, TextsCome}
-use Rattle.version_index.proofs.OfLaws.ImageLaws.{image_partial_law, image_completing_law}
-use Rattle.version_index.proofs.OfChanges.NotedChanges.{programmed_noted}
+use Rattle.judged_records.specs.ImageChanges.{image_with, TextsCome}
+use Rattle.judged_records.proofs.OfLaws.ImageLaws.{image_partial_law, image_completing_law}
+use Rattle.judged_records.proofs.OfChanges.NotedChanges.{programmed_noted}
 use Rattle.collector.specs.declared.unsure.Unsure.TheVariants as unsure
 use Rattle.collector.proofs.OfSettle.OwnExits.{own_there}
 use Rattle.collector.specs.StoreParts.{store_parts, IsSure}

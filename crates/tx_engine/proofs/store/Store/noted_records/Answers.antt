@@ -1,6 +1,6 @@
 mod FoundSlots
 use Rattle.tx_engine.proofs.Common.{◌<◌, length, vec_capacity, ap, ◌∙◌, sym, arith, slots_of}
-use Rattle.version_index.proofs.OfTables.FoundIn.{found_in_nil}
+use Rattle.judged_records.proofs.OfNotes.FoundIn.{found_in_nil}
 use Rattle.tx_engine.proofs.store.Store.noted_records.Answers.FoundSlots.{with_record, without_record}
 use Rattle.tx_engine.proofs.store.Store.noted_records.Goals as goal
 use Rattle.tx_engine.proofs.store.Store.noted_records.Goals.{in-Some, in_default}

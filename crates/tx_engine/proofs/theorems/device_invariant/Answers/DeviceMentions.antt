@@ -5,7 +5,7 @@ use Rattle.list_lemmas.proofs.Membership.{any_in}
 use Rattle.list_lemmas.proofs.Quantifiers.{any_got}
 use Rattle.list_lemmas.proofs.Values.{if_positive}
 use Rattle.record_list.specs.Records.{linked_at}
-use Rattle.version_index.proofs.OfChanges.Mentions.{raised_at}
+use Rattle.judged_records.proofs.OfChanges.Mentions.{raised_at}
 use Rattle.collector.specs.declared.unsure.Unsure.TheVariants as unsure
 use Rattle.collector.specs.declared.unsure.Settled.TheVariants as settled
 use Rattle.collector.specs.Settling.{own_settled}

@@ -1,9 +1,9 @@
 -- The walk over the numbers that finds whether a record completes its cycle.
 use Rattle.version_index.proofs.Common.{◌≡◌, ℕ, suc, ◌+◌, ◌-◌, ◌<◌, ◌≤◌, true, false, eqb, List, length, Option, Some, None, sym, ap, ◌∙◌, inl, inr, arith, eq-eqb, false≢true, cond-true, and_from, All-contains, none-some, same_Some, cases_Option, Config, Protocol, Link, Rec, name_of, has_name, has_name_true, TablesState, IsTablesState, record_at, LinksExist, newest_at, newest_with_name, comes_back, completes, found_in, notes_in, noted_by}
 use Rattle.std.proofs.Common.{option_and_then}
+use Rattle.judged_records.proofs.OfCommit.Closing.{back_stops}
+use Rattle.judged_records.proofs.OfNotes.FoundIn.{found}
 use Rattle.version_index.specs.Committing.{with_version, MayComplete}
-use Rattle.version_index.proofs.OfCommit.Closing.{back_stops}
-use Rattle.version_index.proofs.OfTables.FoundIn.{found}
 use Rattle.version_index.proofs.OfTables.KeptNotes.{kept_found, kept_noted}
 use Rattle.version_index.proofs.OfCommit.KeptRounds.{named_rec}
 use Rattle.version_index.proofs.OfCommit.Newest.{newest_number, no_newest}

@@ -2,8 +2,8 @@
 use Rattle.version_index.proofs.Common.{◌≡◌, ℕ, suc, true, false, eqb, Any, sym, ap, ◌∙◌, subst, inl, inr, eq-eqb, eqb-true, cases_Bool, and_parts, and_from, in_any, Link, Rec, Protocol, newest, name_of, link_of, same_name, found_in, IndexState, IsNoted, comes_back}
 use Rattle.record_list.specs.Records.{is_same}
 use Rattle.record_list.proofs.OfFacts.SoundNames.{map_link}
-use Rattle.version_index.proofs.OfCommit.Closing.{back_closes, back_goes}
-use Rattle.version_index.proofs.OfTables.NotedFacts.{noted_map}
+use Rattle.judged_records.proofs.OfCommit.Closing.{back_closes, back_goes}
+use Rattle.judged_records.proofs.OfNotes.NotedFacts.{noted_map}
 
 -- the link that is followed names the newest record of its page
 pub record LeadsTo (m : IndexState) (q : Link) (s : Rec) : Type 0 where

@@ -1,9 +1,9 @@
 -- The records of a whole cycle answer, one after the other.
 use Rattle.version_index.proofs.Common.{◌≡◌, ◌≢◌, ℕ, ◌+◌, ◌<◌, ◌≤◌, List, length, take, get_or, Some, None, sym, ap, ◌∙◌, subst, inl, inr, arith, cases_lt, get_or_past, take_all, none-some, same_Some, Link, Rec, name_of, TablesState, record_at, LinksExist, newest_at, newest_with_name, OnlyDerives, IsRoundIn, Derived, with_answers, all_answered, AreDerived, numbered_of}
+use Rattle.judged_records.proofs.OfNotes.Numbered.{made_answerer}
+use Rattle.judged_records.proofs.OfCommit.RoundSteps.{answered_more}
 use Rattle.version_index.specs.Committing.{IsAnswered, ResolvesRound}
 use Rattle.version_index.proofs.OfCommit.KeptRounds.{derives_then, derives_none, named_rec, top_named, named_still}
-use Rattle.version_index.proofs.OfTables.Numbered.{made_answerer}
-use Rattle.version_index.proofs.OfCommit.RoundSteps.{answered_more}
 
 -- so far a round answers: at which name it is, and what is derived
 pub record IsAnsweredSo (k t : TablesState) (start link : Link) (n its_pages : ℕ) (j : Derived)

@@ -1,5 +1,6 @@
 -- Tables that are filled step by step with the records of a scan.
-use Rattle.version_index.proofs.Common.{◌≡◌, ℕ, ◌<◌, List, length, get_or, replicate, Option, None, sym, ap, ◌∙◌, inl, inr, arith, cases_lt, length-replicate, get_or_past, Protocol, Shape, Found, TablesState, use_at, record_at, number_at, AreNumbered, AreBlankBut, AreDecided, AreFilled}
+use Rattle.version_index.proofs.Common.{◌≡◌, ℕ, ◌<◌, List, length, get_or, Option, None, sym, ap, ◌∙◌, inl, inr, arith, cases_lt, length-replicate, get_or_past, Protocol, Shape, Found, TablesState, use_at, record_at, number_at, AreNumbered, AreBlankBut, AreDecided, AreFilled}
+use Rattle.std.proofs.Common.{replicate}
 use Rattle.std.proofs.lemmas.List.{get_or-replicate}
 use Rattle.slot_tables.specs.declared.slots.SlotUse.TheVariants as slot
 use Rattle.version_index.specs.Filling.{AreCurrent}

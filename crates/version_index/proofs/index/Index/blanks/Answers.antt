@@ -1,5 +1,5 @@
 use Rattle.version_index.proofs.Common.{ap, ◌∙◌}
-use Rattle.version_index.specs.IndexState.{blanks_of}
+use Rattle.judged_records.specs.IndexState.{blanks_of}
 use Rattle.version_index.proofs.OfReadings.MostGarbage.{read_blanks}
 use Rattle.version_index.proofs.index.Index.blanks.Goals as goal
 

@@ -1,6 +1,6 @@
 use Rattle.version_index.proofs.Common.{◌≤◌, map, ap, subst, sym, ◌∙◌, shape_of, slots_of, Block}
 use Rattle.std.proofs.Common.{vec_capacity}
-use Rattle.version_index.specs.IndexState.{going_blocks}
+use Rattle.judged_records.specs.IndexState.{going_blocks}
 use Rattle.version_index.proofs.OfGoing.GoingBlocks.{going_are, none_blocks}
 use Rattle.version_index.proofs.index.Index.blocks_to_go.Goals as goal
 

@@ -1,5 +1,5 @@
 use Rattle.version_index.proofs.Common.{subst, IsNoted}
-use Rattle.version_index.proofs.OfCommit.Cycles.{cycle_current}
+use Rattle.judged_records.proofs.OfCommit.Cycles.{cycle_current}
 use Rattle.version_index.proofs.index.Index.commit.Goals as goal
 
 pub returns-clause-current : goal.returns-clause-current

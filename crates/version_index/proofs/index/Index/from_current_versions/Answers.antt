@@ -1,16 +1,17 @@
 mod ScanDerived
 mod ScanFills
+mod ScanMentions
 mod ScanSizes
 use Rattle.version_index.proofs.Common.{◌≡◌, ◌≤◌, ◌-◌, ◌*◌, length, ap, sym, subst, refl, ◌∙◌, arith, length-map, shape_of, slots_of, blocks_of, Sorts, TablesState, AreFilled, noted_by, AreIndexed, range_with_len}
 use Rattle.std.specs.Result.{result_unwrap_or}
 use Rattle.std.proofs.Math.Nat.{mul-le-mul_right}
 use Rattle.std.proofs.lemmas.List.Sorted.{length_permutation}
 use Rattle.tx_types.specs.Config.{IsShape}
-use Rattle.version_index.specs.IndexState.{IsNotedFrom}
-use Rattle.version_index.proofs.OfChanges.Mentions.{mentions_sorted}
-use Rattle.version_index.proofs.OfChanges.NotedChanges.{fresh_noted}
+use Rattle.judged_records.specs.IndexState.{IsNotedFrom}
+use Rattle.judged_records.proofs.OfChanges.NotedChanges.{fresh_noted}
 use Rattle.version_index.proofs.index.Index.from_current_versions.Answers.ScanFills.{can_fill}
 use Rattle.version_index.proofs.index.Index.from_current_versions.Answers.ScanDerived.{filled_indexed}
+use Rattle.version_index.proofs.index.Index.from_current_versions.Answers.ScanMentions.{mentions_sorted}
 use Rattle.version_index.proofs.index.Index.from_current_versions.Answers.ScanSizes.{complete_length, sorted_exist}
 use Rattle.version_index.proofs.index.Index.from_current_versions.Goals as goal
 

@@ -1,5 +1,5 @@
 use Rattle.version_index.proofs.Common.{◌<◌, ap, subst, sym, ◌∙◌, shape_of, blocks_of}
-use Rattle.version_index.specs.IndexState.{is_going}
+use Rattle.judged_records.specs.IndexState.{is_going}
 use Rattle.version_index.proofs.OfGoing.GoingBlocks.{read_going_block, none_going}
 use Rattle.version_index.proofs.index.Index.is_going.Goals as goal
 

@@ -1,6 +1,6 @@
 use Rattle.version_index.proofs.Common.{◌≡◌, false, true, None, refl, ap, subst, sym, inr, ◌∙◌, ◌<◌, cond-true, cond-false, IsNoted, current_name_of, discarded_of, home_of}
+use Rattle.judged_records.proofs.OfNotes.NotedFacts.{located_none, located_holds}
 use Rattle.version_index.proofs.OfReadings.KeptReadings.{read_home}
-use Rattle.version_index.proofs.OfTables.NotedFacts.{located_none, located_holds}
 use Rattle.version_index.proofs.index.Index.locate.Goals as goal
 
 pub returns-then-discards : goal.returns-then-discards

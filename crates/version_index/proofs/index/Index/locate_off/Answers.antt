@@ -1,6 +1,6 @@
 use Rattle.version_index.proofs.Common.{ap, subst, sym, ◌∙◌, ◌<◌, IsNoted, current_name_of, slot_off}
+use Rattle.judged_records.proofs.OfNotes.NotedFacts.{off_located}
 use Rattle.version_index.proofs.OfReadings.KeptReadings.{read_off}
-use Rattle.version_index.proofs.OfTables.NotedFacts.{off_located}
 use Rattle.version_index.proofs.index.Index.locate_off.Goals as goal
 
 pub returns-clause-lowest : goal.returns-clause-lowest

@@ -1,5 +1,5 @@
 use Rattle.version_index.proofs.Common.{subst}
-use Rattle.version_index.specs.IndexState.{FindsMostGarbage}
+use Rattle.judged_records.specs.IndexState.{FindsMostGarbage}
 use Rattle.version_index.proofs.OfReadings.MostGarbage.{finds_most}
 use Rattle.version_index.proofs.index.Index.most_garbage.Goals as goal
 

@@ -15,7 +15,8 @@ pub returns-in-Some : goal.returns-in-Some
 returns-in-Some g c =
     let d = c.self.inside in
     let going = c.in-Some.ensures in
-    ap (λ (s : Shape). Some (c.in-Some.at.0 / s.pages_per_block)) (c.shape-shape.ensures.shape ∙ c.self.invariant.shape)
+    ap Some c.block_of.ensures
+    ∙ ap (λ (s : Shape). Some (c.in-Some.at.0 / s.pages_per_block)) (c.shape-shape.ensures.shape ∙ c.self.invariant.shape)
     ∙ read_going _ d.config d.mentions.items d.tables c.self.invariant c.shape-shape.ensures.kept c.args.page
     c.args.below (Some c.in-Some.at.0)
     going.scc (λ e. ap (option_map (λ (at : Slot). at.0)) (going.bpcc e))

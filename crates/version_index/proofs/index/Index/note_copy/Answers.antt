@@ -1,5 +1,6 @@
-use Rattle.version_index.proofs.Common.{◌≡◌, ◌<◌, IsSome, set, ap, subst, sym, ◌∙◌, shape_of, slots_of, TablesState, note_at, rec_of, copied, noted_by, AreIndexed}
-use Rattle.version_index.specs.declared.note.Note.TheVariants as note
+use Rattle.version_index.proofs.Common.{◌≡◌, ◌<◌, IsSome, set, ap, subst, sym, ◌∙◌, shape_of, slots_of, TablesState, note_at, rec_of, noted_by, AreIndexed}
+use Rattle.judged_records.specs.declared.note.Note.TheVariants as note
+use Rattle.judged_records.specs.IndexState.{copied}
 use Rattle.version_index.proofs.OfChanges.KeptChanges.{copied_is, copied_indexed}
 use Rattle.version_index.proofs.index.Index.note_copy.Goals as goal
 

@@ -1,5 +1,6 @@
-use Rattle.version_index.proofs.Common.{◌≡◌, ◌<◌, ap, subst, sym, ◌∙◌, shape_of, slots_of, note_at, damaged_at, noted_by, AreIndexed}
-use Rattle.version_index.specs.declared.note.Note.TheVariants as note
+use Rattle.version_index.proofs.Common.{◌≡◌, ◌<◌, ap, subst, sym, ◌∙◌, shape_of, slots_of, note_at, noted_by, AreIndexed}
+use Rattle.judged_records.specs.declared.note.Note.TheVariants as note
+use Rattle.judged_records.specs.IndexState.{damaged_at}
 use Rattle.version_index.proofs.OfChanges.KeptChanges.{damaged_is, damaged_indexed}
 use Rattle.version_index.proofs.index.Index.note_damaged.Goals as goal
 

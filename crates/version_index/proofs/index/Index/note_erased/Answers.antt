@@ -1,7 +1,7 @@
 use Rattle.version_index.proofs.Common.{◌<◌, ◌*◌, refl, ap, subst, sym, ◌∙◌, Shape, shape_of, blocks_of, TablesState, used_from, CanLose, noted_by, AreIndexed}
 use Rattle.slot_tables.specs.declared.slots.SlotUse.TheVariants as slot
-use Rattle.version_index.specs.declared.note.Note.TheVariants as note
-use Rattle.version_index.specs.IndexState.{erased}
+use Rattle.judged_records.specs.declared.note.Note.TheVariants as note
+use Rattle.judged_records.specs.IndexState.{erased}
 use Rattle.version_index.proofs.OfLosses.KeptLosses.{lost_is, lost_indexed}
 use Rattle.version_index.proofs.index.Index.note_erased.Goals as goal
 

@@ -1,9 +1,10 @@
 mod KeptPrograms
-use Rattle.version_index.proofs.Common.{◌≡◌, ◌<◌, length, set, Some, ap, subst, sym, ◌∙◌, arith, length-set, shape_of, slots_of, TablesState, IsTablesState, LinksExist, OnlyDerives, note_at, IsNextRecord, programmed, noted_by, AreIndexed}
+use Rattle.version_index.proofs.Common.{◌≡◌, ◌<◌, length, set, Some, ap, subst, sym, ◌∙◌, arith, length-set, shape_of, slots_of, TablesState, IsTablesState, LinksExist, OnlyDerives, note_at, noted_by, AreIndexed}
 use Rattle.slot_tables.specs.declared.slots.SlotUse.TheVariants as slot
-use Rattle.version_index.specs.declared.note.Note.TheVariants as note
+use Rattle.judged_records.specs.declared.note.Note.TheVariants as note
+use Rattle.judged_records.specs.IndexState.{IsNextRecord, programmed}
+use Rattle.judged_records.proofs.OfChanges.NotedChanges.{next_spelled}
 use Rattle.version_index.specs.Committing.{CommitsIfComplete}
-use Rattle.version_index.proofs.OfChanges.NotedChanges.{next_spelled}
 use Rattle.version_index.proofs.index.Index.note_program.Answers.KeptPrograms.{its_free, its_newest, with_links, whole_is, decided_indexed}
 use Rattle.version_index.proofs.index.Index.note_program.Goals as goal
 

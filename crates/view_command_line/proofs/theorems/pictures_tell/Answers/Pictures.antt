@@ -10,12 +10,12 @@ use Rattle.tx_types.specs.Config.{shape_of}
 use Rattle.flash_model.specs.Flash.{Contents, Extras, blank}
 use Rattle.record_list.specs.declared.found.Breach.{Breach}
 use Rattle.record_list.specs.Current.{IsCurrent, IsLoose, IsStale, is_held}
-use Rattle.version_index.specs.Images.{IsLeastImageBreach, IsSoundImage, records_in}
-use Rattle.version_index.specs.Notes.{found_in, note_at, note_of, notes_of}
-use Rattle.version_index.specs.declared.note.Note.TheVariants as note
-use Rattle.version_index.proofs.OfLaws.NotedImages.{found_in_notes}
-use Rattle.version_index.proofs.OfTables.OneBreach.{breach_one, sound_unbroken}
-use Rattle.version_index.specs.Opening.{IsChosenSpare, IsHighest}
+use Rattle.judged_records.specs.Images.{IsLeastImageBreach, IsSoundImage, records_in}
+use Rattle.judged_records.specs.Notes.{found_in, note_at, note_of, notes_of}
+use Rattle.judged_records.specs.declared.note.Note.TheVariants as note
+use Rattle.judged_records.proofs.OfLaws.NotedImages.{found_in_notes}
+use Rattle.judged_records.proofs.OfNotes.OneBreach.{breach_one, sound_unbroken}
+use Rattle.judged_records.specs.Opening.{IsChosenSpare, IsHighest}
 use Rattle.image_file.specs.declared.error.ImageError.{ImageError}
 use Rattle.image_file.specs.Rules.{reading}
 use Rattle.desk_io.specs.Desk as found
@@ -62,20 +62,20 @@ opened_so form unsound its image (opening.Sound block) is = (opening.Sound block
 opened_so form true its image (opening.Unsound breach) is = (opening.Unsound breach, is, refl)
 opened_so form false its image (opening.Unsound breach) is = tt
 
-read_so : (form : Form) (unsound : Bool) (read : Result (Config × List Contents × Extras) ImageError) (fate : Ending) →
-    AfterReading form unsound read fate → IsOfOpening fate
-read_so form unsound (Ok read) fate (opened, is, e) =
+read_so : (form : Form) (unsound : Bool) (read : Result (Config × List Contents × Extras) ImageError)
+    (ending : Ending) → AfterReading form unsound read ending → IsOfOpening ending
+read_so form unsound (Ok read) ending (opened, is, e) =
     subst IsOfOpening (sym e) (opened_so form unsound read.0 read.1 opened is)
-read_so form unsound (Err rule) fate e = subst IsOfOpening (sym e) tt
+read_so form unsound (Err rule) ending e = subst IsOfOpening (sym e) tt
 
-loaded_so : (a : Request) (there : FileFound) (fate : Ending) → AfterLoad a there fate → IsOfOpening fate
-loaded_so a found.Missing fate e = subst IsOfOpening (sym e) tt
-loaded_so a found.TooLong fate e = subst IsOfOpening (sym e) tt
-loaded_so a (found.Bytes bytes) fate h = read_so a.form a.unsound (reading bytes) fate h
+loaded_so : (a : Request) (there : FileFound) (ending : Ending) → AfterLoad a there ending → IsOfOpening ending
+loaded_so a found.Missing ending e = subst IsOfOpening (sym e) tt
+loaded_so a found.TooLong ending e = subst IsOfOpening (sym e) tt
+loaded_so a (found.Bytes bytes) ending h = read_so a.form a.unsound (reading bytes) ending h
 
-drawn_so : (task : Option Request) (desk : DeskState) (fate : Ending) → IsEnding task desk fate → IsOfOpening fate
-drawn_so None desk fate e = subst IsOfOpening (sym e) tt
-drawn_so (Some a) desk fate (there, finds, h) = loaded_so a there fate h
+drawn_so : (task : Option Request) (desk : DeskState) (ending : Ending) → IsEnding task desk ending → IsOfOpening ending
+drawn_so None desk ending e = subst IsOfOpening (sym e) tt
+drawn_so (Some a) desk ending (there, finds, h) = loaded_so a there ending h
 
 -- ---- the rows
 
@@ -107,8 +107,8 @@ pub rows_tell : (task : Option Request) (desk : DeskState) (form : Form) (its : 
     (marks : Marks) →
     IsEnding task desk (Drawn form its image marks) → IsSoundImage its.protocol its.logical (shape_of its) image →
     RowsTell its image marks
-rows_tell task desk form its image marks fate sound =
-    let drawn : IsOfOpening (Drawn form its image marks) = drawn_so task desk (Drawn form its image marks) fate in
+rows_tell task desk form its image marks ending sound =
+    let drawn : IsOfOpening (Drawn form its image marks) = drawn_so task desk (Drawn form its image marks) ending in
     subst (λ m. RowsTell its image m) (sym drawn.2) (opening_rows its image drawn.0 drawn.1 sound)
 
 -- ---- a law that is broken
@@ -147,8 +147,8 @@ pub breach_tells : (task : Option Request) (desk : DeskState) (form : Form) (its
     (marks : Marks) (breach : Breach) →
     IsEnding task desk (Drawn form its image marks) → IsLeastImageBreach its.protocol its.logical (shape_of its) image
     breach → BreachTells its image marks breach
-breach_tells task desk form its image marks breach fate broken =
-    let drawn : IsOfOpening (Drawn form its image marks) = drawn_so task desk (Drawn form its image marks) fate in
+breach_tells task desk form its image marks breach ending broken =
+    let drawn : IsOfOpening (Drawn form its image marks) = drawn_so task desk (Drawn form its image marks) ending in
     subst (λ m. BreachTells its image m breach) (sym drawn.2) (opening_breach its image drawn.0 drawn.1 breach broken)
 
 -- ---- the cells

@@ -1,12 +1,12 @@
 -- A block that was retired once a device had settled: what the whole did to the flash.
-use Rattle.tx_engine.proofs.Common.{◌≡◌, ◌⊎◌, ℕ, ◌/◌, ◌<◌, ◌==◌, Bool, false, true, List, length, Option, Some, None, Ok, Err, refl, sym, ap, ◌∙◌, subst, inl, inr, arith, nat_lt, cases_eq, shape_of, blocks_of, Protocol, Shape, Broken, FlashState, IsImage, blank, slot_at, Carries, Does, FlashMoves, Moment, moment_of, Carries-nothing, Carries-then, FlashMoves-nothing, FlashMoves-then, IndexState, BlocksState, Unsure, reads_after, Preserves, Settlement, slots_read, OpenTransactionsState, settlement_of, DeviceState, StoreState, store_in, device_in}
+use Rattle.tx_engine.proofs.Common.{◌≡◌, ◌⊎◌, ℕ, ◌/◌, ◌<◌, ◌==◌, Bool, false, true, List, length, Option, Some, None, Ok, Err, refl, sym, ap, ◌∙◌, subst, inl, inr, arith, nat_lt, cases_eq, shape_of, blocks_of, Protocol, Shape, Broken, FlashState, IsImage, blank, slot_at, Carries, Does, FlashMoves, Moment, moment_of, Carries-nothing, Carries-then, FlashMoves-nothing, FlashMoves-then, IndexState, BlocksState, Unsure, counted_times, Preserves, Settlement, slots_read, OpenTransactionsState, settlement_of, DeviceState, StoreState, store_in, device_in}
 use Rattle.std.proofs.Common.{if◌then◌else◌}
 use Rattle.flash_model.specs.Flash.{Extras, IsFlash}
 use Rattle.flash_model.specs.Operations.{Operation}
 use Rattle.flash_model.specs.Retiring.{CarriesRetiring, IsNotReplaced, IsReplaced, RetiresAfter, RetiresTorn}
 use Rattle.flash_model.proofs.ImageLemmas.{IsImage-does, slot_at-with_block_in}
 use Rattle.flash_model.proofs.RetireLemmas.{CarriesRetiring-carries}
-use Rattle.version_index.proofs.OfTables.Blocks.{inside_block}
+use Rattle.judged_records.proofs.OfNotes.Blocks.{inside_block}
 use Rattle.collector.specs.declared.unsure.Unsure.TheVariants as unsure
 use Rattle.collector.specs.Matches.{AllOfBlock}
 use Rattle.collector.specs.Going.{IsEvicted}
@@ -160,7 +160,7 @@ module _ {F : Type 0} (state : F → FlashState) (S T U : StoreState F) (O P : O
     (p : Protocol) (block : ℕ)
     (shape : (state T.flash).shape ≡ (state S.flash).shape)
     (moment : moment_of (state T.flash) ≡ moment_of (state S.flash))
-    (reads : (state T.flash).reads ≡ reads_after (slots_read S.noted S.unsure) (state S.flash).reads)
+    (reads : (state T.flash).reads ≡ counted_times (slots_read S.noted S.unsure) (state S.flash).reads)
     (noted : T.noted ≡ (settlement_of state (device_in state S O)).noted)
     (table : T.table ≡ (settlement_of state (device_in state S O)).table) where
   abbrev found : Settlement
@@ -172,11 +172,11 @@ module _ {F : Type 0} (state : F → FlashState) (S T U : StoreState F) (O P : O
     treated = subst (λ (n : IndexState). IsEvicted n found.table block U.noted U.table) noted
         (subst (λ (t : BlocksState). IsEvicted T.noted t block U.noted U.table) table r.noted);
     reads = subst (λ (n : IndexState). (state U.flash).reads
-        ≡ reads_after (length (moved_slots n found.table.spare block))
-        (reads_after (slots_read S.noted S.unsure) (state S.flash).reads)) noted
-        (subst (λ (t : BlocksState). (state U.flash).reads ≡ reads_after (length (moved_slots T.noted t.spare block))
-        (reads_after (slots_read S.noted S.unsure) (state S.flash).reads)) table
-        (r.reads ∙ ap (reads_after (length (moved_slots T.noted T.table.spare block))) reads));
+        ≡ counted_times (length (moved_slots n found.table.spare block))
+        (counted_times (slots_read S.noted S.unsure) (state S.flash).reads)) noted
+        (subst (λ (t : BlocksState). (state U.flash).reads ≡ counted_times (length (moved_slots T.noted t.spare block))
+        (counted_times (slots_read S.noted S.unsure) (state S.flash).reads)) table
+        (r.reads ∙ ap (counted_times (length (moved_slots T.noted T.table.spare block))) reads));
   }
 
   pub retiring_fails : (x : Broken) → RetiresBlock p (store_in state T) (store_in state U) block (Err x) →

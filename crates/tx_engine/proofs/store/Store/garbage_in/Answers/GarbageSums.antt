@@ -3,8 +3,8 @@ use Rattle.tx_engine.proofs.Common.{ℕ, ◌*◌, ◌≤◌, Bool, inl, inr, ari
 use Rattle.std.proofs.lemmas.List.FromFn.{length-range_with_len}
 use Rattle.std.proofs.lemmas.List.Sums.{count_by-le-length}
 use Rattle.record_list.specs.Written.{is_slot}
-use Rattle.version_index.specs.IndexState.{garbage_of, is_garbage_at, shut_or_part}
-use Rattle.version_index.proofs.OfTables.NotedFacts.{spare_garbage, other_garbage}
+use Rattle.judged_records.specs.IndexState.{garbage_of, is_garbage_at, shut_or_part}
+use Rattle.judged_records.proofs.OfNotes.NotedFacts.{spare_garbage, other_garbage}
 
 -- a block has at most as many garbage slots as slots
 pub garbage_few : (n : IndexState) (block : ℕ) (shut : Bool) → garbage_of n block shut ≤ n.config.pages_per_block

@@ -1,10 +1,10 @@
 -- The noted records, one slot more at a time.
 use Rattle.tx_engine.proofs.Common.{◌≡◌, ℕ, ◌+◌, ◌<◌, List, [], ◌∷◌, ◌++◌, length, Option, Some, None, refl, sym, ap, ◌∙◌, cons_option, append-nil, none-some, Rec, Found, Blank, note_at, found_in}
 use Rattle.std.proofs.Common.{take}
-use Rattle.version_index.specs.declared.note.Note.{Note}
-use Rattle.version_index.specs.declared.note.Note.TheVariants.{Damaged, Holds}
-use Rattle.version_index.specs.Notes.{rec_of, found_at}
-use Rattle.version_index.proofs.OfTables.FoundIn.{found, found_in_more}
+use Rattle.judged_records.specs.declared.note.Note.{Note}
+use Rattle.judged_records.specs.declared.note.Note.TheVariants.{Damaged, Holds}
+use Rattle.judged_records.specs.Notes.{rec_of, found_at}
+use Rattle.judged_records.proofs.OfNotes.FoundIn.{found, found_in_more}
 
 found_some : (at : ℕ) (note : Note) (rec : Rec) → rec_of note ≡ Some rec → found_at at note ≡ Some (found at rec)
 found_some at Blank rec e = absurd (none-some rec e)

@@ -7,9 +7,9 @@ use Rattle.record_list.specs.Changes.{left}
 use Rattle.record_list.specs.Written.{is_wanted}
 use Rattle.record_list.proofs.OfFacts.Names.{present_in}
 use Rattle.record_list.proofs.OfFacts.Wanted.{wanted_cases, pinned_wanted}
-use Rattle.version_index.specs.IndexState.{pinned}
-use Rattle.version_index.proofs.OfTables.BaseTables.{given_from, given_in}
-use Rattle.version_index.proofs.OfChanges.Pins.{numbered_pin}
+use Rattle.judged_records.specs.IndexState.{pinned}
+use Rattle.judged_records.proofs.OfNotes.BaseTables.{given_from, given_in}
+use Rattle.judged_records.proofs.OfChanges.Pins.{numbered_pin}
 use Rattle.collector.specs.declared.unsure.Unsure.TheVariants as unsure
 use Rattle.collector.specs.Matches.{IsPlace, IsFilledBy, VictimIsSpared}
 

@@ -14,14 +14,14 @@ use Rattle.record_list.specs.Written.{is_wanted, first_slot, home, records_of}
 use Rattle.record_list.proofs.OfFacts.Names.{has_own_name, present_as}
 use Rattle.record_list.proofs.OfChanges.WrittenLists.{one_text}
 use Rattle.record_list.proofs.OfChanges.Arrays.{text_named, text_absent}
-use Rattle.version_index.specs.declared.note.Note.{Note}
-use Rattle.version_index.specs.declared.note.Note.TheVariants.{Damaged, Holds}
-use Rattle.version_index.specs.Notes.{rec_of}
-use Rattle.version_index.specs.IndexState.{IsBlank, home_of, place_of, slot_off, HoldsName}
-use Rattle.version_index.proofs.OfTables.FoundIn.{found, noted_in}
-use Rattle.version_index.proofs.OfTables.HomeFacts.{first_stands}
-use Rattle.version_index.proofs.OfLaws.ImageScans.{records_scanned, read_slot}
-use Rattle.version_index.proofs.OfTables.NotedFacts.{noted_discard}
+use Rattle.judged_records.specs.declared.note.Note.{Note}
+use Rattle.judged_records.specs.declared.note.Note.TheVariants.{Damaged, Holds}
+use Rattle.judged_records.specs.Notes.{rec_of}
+use Rattle.judged_records.specs.IndexState.{IsBlank, home_of, place_of, slot_off, HoldsName}
+use Rattle.judged_records.proofs.OfNotes.FoundIn.{found, noted_in}
+use Rattle.judged_records.proofs.OfNotes.HomeFacts.{first_stands}
+use Rattle.judged_records.proofs.OfLaws.ImageScans.{records_scanned, read_slot}
+use Rattle.judged_records.proofs.OfNotes.NotedFacts.{noted_discard}
 use Rattle.collector.specs.declared.unsure.Unsure.TheVariants as unsure
 use Rattle.collector.specs.Known.{is_unsure}
 use Rattle.collector.proofs.OfNotes.SpelledNotes.{noted_record}

@@ -1,14 +1,15 @@
 -- Tables that are filled with the records of a scan have what is derived from the notes.
-use Rattle.version_index.proofs.Common.{◌≡◌, ℕ, ◌<◌, true, List, length, get_or, Bool, cond, Option, Some, None, refl, sym, ap, ◌∙◌, subst, inl, inr, arith, position, option_map, Contains-get_or, IsPermutation-sym, Contains-permutation, none-some, same_Some, cases_Option, find_stands, Config, Protocol, Scc, Bpcc, Link, Rec, shape_of, Found, name_of, has_name, is_present, nothing, cur, has_name_true, present_as, Sorts, TablesState, record_at, number_at, derived_by, number_by, AreFilled, name_at, answerer, is_waiting, answerer_of, waits_of, derived_of, found_in, IsNoted, current_of, AreDerived, named, awaited, notes_in, noted_by, numbered_of, AreHeld, AreIndexed}
+use Rattle.version_index.proofs.Common.{◌≡◌, ℕ, ◌<◌, true, List, length, get_or, Bool, cond, Option, Some, None, refl, sym, ap, ◌∙◌, subst, inl, inr, arith, position, option_map, Contains-get_or, IsPermutation-sym, Contains-permutation, none-some, same_Some, cases_Option, Config, Protocol, Scc, Bpcc, Link, Rec, shape_of, Found, name_of, has_name, is_present, nothing, cur, has_name_true, Sorts, TablesState, record_at, number_at, derived_by, number_by, AreFilled, name_at, answerer, is_waiting, answerer_of, waits_of, derived_of, found_in, IsNoted, current_of, AreDerived, named, awaited, notes_in, noted_by, numbered_of, AreHeld, AreIndexed}
 use Rattle.list_lemmas.proofs.Positions.{position_some}
-use Rattle.list_lemmas.proofs.Tests.{find-position}
+use Rattle.list_lemmas.proofs.Tests.{find-position, find_stands}
 use Rattle.record_list.specs.Records as records
+use Rattle.record_list.proofs.OfFacts.Names.{present_as}
 use Rattle.sorted_records.proofs.OfSort.Alike.{cur_alike, responsible_alike, present_alike}
 use Rattle.slot_tables.specs.declared.slots.SlotUse.TheVariants as slot
-use Rattle.version_index.proofs.OfTables.FoundIn.{noted_from}
-use Rattle.version_index.proofs.OfTables.Derived.{name_at_is, answerer_held}
+use Rattle.judged_records.proofs.OfNotes.FoundIn.{noted_from}
+use Rattle.judged_records.proofs.OfNotes.Derived.{name_at_is, answerer_held}
+use Rattle.judged_records.proofs.OfNotes.NotedFacts.{noted_present}
 use Rattle.version_index.proofs.OfTables.KeptNotes.{held_number}
-use Rattle.version_index.proofs.OfTables.NotedFacts.{noted_present}
 use Rattle.version_index.proofs.OfOpening.ScanSlots.{not_missing}
 
 module _ (protocol : Protocol) (its : Config) (m : List ℕ) (t : TablesState) (list : List Found)

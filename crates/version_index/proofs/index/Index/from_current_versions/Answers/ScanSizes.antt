@@ -1,7 +1,13 @@
 -- How many records slots can hold, and when the records of a sorted list agree.
-use Rattle.version_index.proofs.Common.{ℕ, ◌+◌, ◌≤◌, Option, List, [], ◌∷◌, length, All, Contains, sym, ap, ◌∙◌, inl, inr, arith, cons_option, All-contains, IsPermutation-sym, Contains-permutation, all_from, cases_Option, Protocol, Seen, Found, IsScanned, Pages, PagesExist, IsSoundList, record_named, sound_map, Sorts, NamesAgree, complete_slots}
-use Rattle.version_index.proofs.OfTables.BaseTables.{given}
-use Rattle.version_index.proofs.OfOpening.Scans.{numbered_complete}
+use Rattle.version_index.proofs.Common.{ℕ, ◌+◌, ◌≤◌, Option, List, [], ◌∷◌, length, All, Contains, sym, ap, ◌∙◌, inl, inr, arith, All-contains, IsPermutation-sym, Contains-permutation, all_from, cases_Option, Protocol, Seen, Found, PagesExist, Sorts, NamesAgree}
+use Rattle.std.specs.List.{cons_option}
+use Rattle.record_list.specs.Records.{IsScanned}
+use Rattle.record_list.specs.SoundList.{Pages, IsSoundList}
+use Rattle.record_list.specs.Verdict.{record_named}
+use Rattle.record_list.proofs.OfFacts.SoundNames.{sound_map}
+use Rattle.judged_records.specs.Notes.{complete_slots}
+use Rattle.judged_records.proofs.OfNotes.BaseTables.{given}
+use Rattle.judged_records.proofs.OfNotes.Scans.{numbered_complete}
 
 given_length : {X Y : Type 0} (of : ℕ × X → Option Y) (n : ℕ) (xs : List X) → length (given of n xs) ≤ length xs
 given_length of n [] = omega arith

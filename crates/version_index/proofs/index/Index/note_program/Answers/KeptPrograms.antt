@@ -1,24 +1,27 @@
 -- A programmed record leaves tables that have what was noted.
-use Rattle.version_index.proofs.Common.{◌≡◌, ◌≢◌, ℕ, suc, ◌+◌, ◌<◌, ◌≤◌, true, false, List, ◌∷◌, length, map, set, get_or, Contains, Some, None, refl, sym, ap, ◌∙◌, subst, inl, inr, arith, option_map_or, get_or-map, cases_eq, cases_Bool, length-set, length-map, get_or-set_same, get_or-set_other, ext_get_or, All-contains, none-some, same_Some, cases_Option, Config, Protocol, Link, Rec, shape_of, slots_of, name_of, is_present, newest, Pages, PagesExist, PartialWriteLaw, CompletingWriteLaw, same_name, newest_bound, present_in, found_named, SlotUse, TablesState, IsTablesState, use_at, record_at, numbers_at, number_in, HasFree, LinksExist, newest_at, OnlyDerives, IsRoundIn, link_of, derived_of, IsDerivedAs, completes, note_at, found_in, IndexState, IsNoted, IsNextRecord, programmed, AreDerived, note_in, notes_in, noted_by, numbered_of, AreHeld, AreIndexed}
+use Rattle.version_index.proofs.Common.{◌≡◌, ◌≢◌, ℕ, suc, ◌+◌, ◌<◌, ◌≤◌, true, false, List, ◌∷◌, length, map, set, get_or, Contains, Some, None, refl, sym, ap, ◌∙◌, subst, inl, inr, arith, option_map_or, get_or-map, cases_eq, cases_Bool, length-set, length-map, get_or-set_same, get_or-set_other, ext_get_or, All-contains, none-some, same_Some, cases_Option, Config, Protocol, Link, Rec, shape_of, slots_of, name_of, is_present, newest, PagesExist, same_name, present_in, found_named, SlotUse, TablesState, IsTablesState, use_at, record_at, numbers_at, number_in, HasFree, LinksExist, newest_at, OnlyDerives, IsRoundIn, link_of, derived_of, completes, note_at, found_in, IndexState, IsNoted, AreDerived, note_in, notes_in, noted_by, numbered_of, AreHeld, AreIndexed}
+use Rattle.record_list.specs.Changes.{PartialWriteLaw, CompletingWriteLaw}
+use Rattle.record_list.specs.SoundList.{Pages}
+use Rattle.record_list.proofs.OfFacts.Names.{newest_bound}
 use Rattle.slot_tables.specs.declared.slots.SlotUse.TheVariants as slot
 use Rattle.slot_tables.specs.TablesState.{added, IsNewest}
-use Rattle.version_index.specs.declared.note.Note.TheVariants as note
+use Rattle.judged_records.specs.declared.note.Note.TheVariants as note
+use Rattle.judged_records.specs.DerivedLaws.{IsCompleted}
+use Rattle.judged_records.specs.DerivedChanges.{once_whole, IsDerivedAs}
+use Rattle.judged_records.specs.IndexState.{raised, IsNextRecord, programmed}
+use Rattle.judged_records.proofs.OfNotes.CurrentNames.{rested}
+use Rattle.judged_records.proofs.OfNotes.FoundIn.{found}
+use Rattle.judged_records.proofs.OfLaws.DerivedLaws.{open_write_law, whole_write_law}
+use Rattle.judged_records.proofs.OfChanges.NotedChanges.{next_spelled, programmed_noted}
+use Rattle.judged_records.proofs.OfNotes.Numbered.{added_derived, derived_as}
+use Rattle.judged_records.proofs.OfChanges.PartialWrites.{next_newest, next_newly_loose}
+use Rattle.judged_records.proofs.OfCommit.RoundSteps.{round_by_index}
+use Rattle.judged_records.proofs.OfChanges.WholeDerived.{derived_still}
 use Rattle.version_index.specs.Committing.{IsTop, Rests, MayComplete, DerivesWhole, CommitsIfComplete}
-use Rattle.version_index.specs.DerivedLaws.{IsCompleted}
-use Rattle.version_index.specs.DerivedChanges.{once_whole}
-use Rattle.version_index.specs.IndexState.{raised}
-use Rattle.version_index.proofs.OfTables.CurrentNames.{rested}
-use Rattle.version_index.proofs.OfTables.FoundIn.{found}
 use Rattle.version_index.proofs.OfProgram.FreeNumbers.{has_free}
-use Rattle.version_index.proofs.OfLaws.DerivedLaws.{open_write_law, whole_write_law}
 use Rattle.version_index.proofs.OfChanges.KeptChanges.{notes_set}
 use Rattle.version_index.proofs.OfTables.KeptNotes.{kept_found, kept_noted, found_number, blank_slot, length-notes}
 use Rattle.version_index.proofs.OfCommit.Newest.{newest_number, no_number}
-use Rattle.version_index.proofs.OfChanges.NotedChanges.{next_spelled, programmed_noted}
-use Rattle.version_index.proofs.OfTables.Numbered.{added_derived, derived_as}
-use Rattle.version_index.proofs.OfProgram.PartialWrites.{next_newest, next_newly_loose}
-use Rattle.version_index.proofs.OfCommit.RoundSteps.{round_by_index}
-use Rattle.version_index.proofs.OfChanges.WholeDerived.{derived_still}
 
 module _ (protocol : Protocol) (its : Config) (m : List ℕ) (k : TablesState) (i : AreIndexed protocol its m k)
     (sizes : IsTablesState k)

@@ -1,0 +1,5 @@
+pub mod RoundSteps
+pub mod Closing
+pub mod CycleOrder
+pub mod Cycles
+pub mod WholeCycles

@@ -1,0 +1,11 @@
+pub mod Scans
+pub mod Blocks
+pub mod CurrentNames
+pub mod FoundIn
+pub mod BaseTables
+pub mod HomeFacts
+pub mod Derived
+pub mod NotedFacts
+pub mod Numbered
+pub mod Places
+pub mod OneBreach

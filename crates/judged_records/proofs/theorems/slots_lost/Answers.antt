@@ -1,0 +1,7 @@
+use Rattle.record_list.proofs.OfChanges.SlotLosses.{written_slot_loss}
+use Rattle.judged_records.proofs.OfLaws.SlotLosses.{image_slot_loss}
+use Rattle.judged_records.proofs.theorems.slots_lost.Goals as goal
+
+pub returns : goal.returns
+returns g c = image_slot_loss g.R.CommitRule.protocol
+    (written_slot_loss g.R.CommitRule.protocol g.met.R.CommitRule.block_loss)

@@ -1,0 +1,13 @@
+pub mod Images
+pub mod Notes
+pub mod IndexState
+pub mod ImageChanges
+pub mod ImageLaws
+pub mod SlotLosses
+pub mod Examples
+pub mod Derived
+pub mod DerivedChanges
+pub mod DerivedLaws
+pub mod DerivedExamples
+pub mod Numbered
+pub mod Opening

@@ -1,0 +1,4 @@
+pub mod Beginning
+pub mod Mounting
+pub mod Powering
+pub mod Telling

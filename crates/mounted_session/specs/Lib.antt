@@ -1,0 +1,4 @@
+pub mod Mounting
+pub mod Devices
+pub mod Sessions
+pub mod Spending

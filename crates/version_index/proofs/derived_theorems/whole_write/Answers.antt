@@ -1,5 +1,0 @@
-use Rattle.version_index.proofs.OfLaws.DerivedLaws.{whole_write_law}
-use Rattle.version_index.proofs.derived_theorems.whole_write.Goals as goal
-
-pub returns : goal.returns
-returns g c = whole_write_law g.R.CommitRule.protocol g.met.R.CommitRule.completing_write

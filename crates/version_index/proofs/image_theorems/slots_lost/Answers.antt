@@ -1,7 +1,0 @@
-use Rattle.record_list.proofs.OfChanges.SlotLosses.{written_slot_loss}
-use Rattle.version_index.proofs.OfLaws.SlotLosses.{image_slot_loss}
-use Rattle.version_index.proofs.image_theorems.slots_lost.Goals as goal
-
-pub returns : goal.returns
-returns g c = image_slot_loss g.R.CommitRule.protocol
-    (written_slot_loss g.R.CommitRule.protocol g.met.R.CommitRule.block_loss)
