@@ -5,12 +5,13 @@
 
 Each of the two writes a page of its own. The second is started with the first one or while that runs. By turns both are
 given the image by its name, one of them by a symbolic link from another folder, and both as a file with two names,
-which is saved in place.
+which is saved in place. Every fourth pair formats two devices at a name at which nothing is.
 
 A run that answers `done`, with status 0, has its page in the image that is left. A run that says `desk fault`, with
 status 5, has changed nothing, and one of the two is done. While a file is written in place, a run may load a part of
 it: then it may also refuse it, and has changed nothing either. What both leave is a sound image, and no new file beside
-it. Where no pair met, nothing was shown: that counts as a fault."""
+it. Of two that format, one is done, and what is left is the device of one that is. Where no pair met, nothing was
+shown: that counts as a fault, and so it does if there are many that format and none of these met."""
 import argparse
 import collections
 import os
@@ -24,6 +25,8 @@ from kills import DEVICE
 from program import Ended, Program, exit_code, found_program, program_argument
 
 IMAGE, LINK, SINGLE, SECOND = "images/disk.img", "links/disk", "images/single.img", "names/second"
+FREE = "images/free.img"
+DEVICES = (DEVICE, [*DEVICE[:-2], "99", DEVICE[-1]])
 REFUSED_IN_PLACE = {3, 7}
 
 
@@ -37,6 +40,7 @@ class Way(NamedTuple):
 
 WAYS = (Way("by its name", SINGLE, SINGLE, False), Way("by a link", SINGLE, LINK, False),
         Way("in place", IMAGE, SECOND, True))
+FREE_NAME = "at a free name"
 
 
 class Pairs:
@@ -56,6 +60,7 @@ class Pairs:
         os.symlink("../" + SINGLE, LINK)
         self.pages: Dict[str, List[int]] = {image: self.write_both(image) for image in (SINGLE, IMAGE)}
         self.longest = self.program.run(["run", SINGLE, "read.txt"]).seconds
+        self.devices = [self.format_alone(device) for device in DEVICES]
 
     def write_both(self, image: str) -> List[int]:
         """Writes 0 to both pages, and the files of commands that are the same for each pair."""
@@ -71,19 +76,36 @@ class Pairs:
         with open(commands_of(page), "wb") as file:
             file.write(b"write 1 %d=%08x\nfinish 1\n" % (page, number))
 
-    def start(self, page: int, word: str) -> int:
+    def format_alone(self, device: List[str]) -> bytes:
+        """The image of a device that is formatted at a name at which nothing is, which is free again then."""
+        if self.program.run(["format", FREE, *device]).status:
+            raise SystemExit("pairs: a format alone was not done")
+        return taken(FREE)
+
+    def start(self, page: int, words: List[str]) -> int:
         output = os.open(said_by(page), os.O_WRONLY | os.O_CREAT | os.O_TRUNC, 0o600)
-        process = self.program.start(["run", word, commands_of(page)], output)
+        process = self.program.start(words, output)
         os.close(output)
         return process
 
-    def both(self, way: Way) -> List[Ended]:
+    def both(self, first: List[str], second: List[str]) -> List[Ended]:
         """Two runs, of which the second begins with the first or while that is at work."""
         begun = time.monotonic()
-        first = self.start(0, way.first)
+        processes = [self.start(0, first)]
         time.sleep(max(0.0, self.draw.uniform(-0.5, 0.5) * self.longest))
-        second = self.start(1, way.second)
-        return [end_of(process, page, begun) for page, process in enumerate((first, second))]
+        processes.append(self.start(1, second))
+        return [end_of(process, page, begun) for page, process in enumerate(processes)]
+
+    def formats(self, number: int) -> None:
+        """Two devices that are formatted at one free name, and what is left there."""
+        ends = self.both(*(["format", FREE, *device] for device in DEVICES))
+        wrong = [f"format {at + 1} ended with status {end.status}, {end.said[:80]!r}" for at, end in enumerate(ends)
+                 if end.status and not is_refused(end, False)]
+        done = [device for device, end in zip(self.devices, ends) if not end.status]
+        self.counts[f"{FREE_NAME} {'both done' if len(done) == 2 else 'one refused' if done else 'none done'}"] += 1
+        if taken(FREE) not in done:
+            wrong.append("what is left is no device of one that was done")
+        self.faults += [f"pair {number}, {FREE_NAME}: {it}" for it in wrong + left_beside()]
 
     def found(self, word: str) -> Optional[List[int]]:
         """The numbers in both pages, if the image can be read."""
@@ -98,7 +120,7 @@ class Pairs:
         image = IMAGE if way.in_place else SINGLE
         for page in (0, 1):
             self.write_commands(page, number)
-        ends = self.both(way)
+        ends = self.both(*(["run", word, commands_of(page)] for page, word in enumerate((way.first, way.second))))
         old, wanted = self.pages[image], list(self.pages[image])
         wrong: List[str] = []
         for page, end in enumerate(ends):
@@ -113,10 +135,22 @@ class Pairs:
         found = self.found(image)
         if found != wanted:
             wrong.append(f"the pages have {found} and not {wanted}")
-        if beside := [name for name in os.listdir("images") if ".saving" in name]:
-            wrong.append(f"left {beside}")
         self.pages[image] = found or wanted
-        self.faults += [f"pair {number}, {way.name}: {it}" for it in wrong]
+        self.faults += [f"pair {number}, {way.name}: {it}" for it in wrong + left_beside()]
+
+
+def taken(name: str) -> bytes:
+    """The bytes of a file, which is removed."""
+    with open(name, "rb") as file:
+        found = file.read()
+    os.remove(name)
+    return found
+
+
+def left_beside() -> List[str]:
+    """What is wrong where new files are left beside an image."""
+    beside = [name for name in os.listdir("images") if ".saving" in name]
+    return [f"left {beside}"] if beside else []
 
 
 def commands_of(page: int) -> str:
@@ -145,15 +179,19 @@ def pair_often(program: Program, pairs: int, seed: int, room: Optional[str]) -> 
         try:
             work = Pairs(program, seed)
             for number in range(1, pairs + 1):
-                work.turn(number, WAYS[number % len(WAYS)])
+                if number % 4:
+                    work.turn(number, WAYS[number % len(WAYS)])
+                else:
+                    work.formats(number)
         finally:
             os.chdir("/")
     for it in work.faults:
         print(f"pairs: {it}")
     met = sum(count for name, count in work.counts.items() if name.endswith("refused"))
+    never = pairs >= 100 and not work.counts[f"{FREE_NAME} one refused"]
     counts = ", ".join(f"{count} {name}" for name, count in sorted(work.counts.items()))
     print(f"pairs: seed {seed}: {pairs} pairs, of which {met} met: {counts}: {len(work.faults)} faults", flush=True)
-    return len(work.faults) + (not met)
+    return len(work.faults) + (not met) + never
 
 
 def main() -> int:

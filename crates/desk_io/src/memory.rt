@@ -10,7 +10,8 @@ use std::alloc::{AllocError, AllocFailed, Global};
 use std::collections::BTreeMap;
 use std::marker::Model;
 
-/// There was no memory for what was asked.
+/// There was no memory for what was asked. It is a type of this crate, which stands on no other one here but
+/// durable_folder.
 #[derive(Clone, Copy, PartialEq, Eq)]
 pub struct Memory;
 

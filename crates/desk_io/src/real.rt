@@ -1,8 +1,11 @@
 ghost use Rattle.std.specs.Prelude.{◌≡◌, ◌⊎◌, IsErr, None, Ok, OnOk};
 ghost use Rattle.std.specs.Option.{option_map};
 ghost use Rattle.durable_folder.specs.Causes.{AtNow, IsLater};
+ghost use Rattle.durable_folder.specs.FolderState.{IsFree};
 ghost use Rattle.durable_folder.specs.Histories.{Rests};
 ghost use Rattle.durable_folder.specs.Locking.{IsClaimed, IsStale, IsTaken, WhereFirst};
+ghost use Rattle.durable_folder.specs.Saving.{SavesAnew};
+ghost use Rattle.durable_folder.specs.Sights.{SavesSeen};
 ghost use Rattle.desk_io.specs.Causes.{FailsWithCause, LoadHasCause};
 ghost use Rattle.desk_io.specs.Desk.{Loads, Saves, Says};
 ghost use Rattle.desk_io.specs.Disk.{LoadsOnDisk, SavesOnDisk};
@@ -60,15 +63,19 @@ impl<'a, R: Print + AllocGlobal, F: Folder + Drop> Desk for RealDesk<'a, R, F> {
     }
 
     /// After Ok the desk holds the file. It changes nothing where another program holds it, or where it was
-    /// loaded and is not as it was then.
+    /// loaded and is not as it was then. `Memory` comes only while the file of that name cannot have changed: a want of
+    /// memory that comes later is a fault. The desk lets go of a file that it holds before it saves once more, since a
+    /// lock belongs to one opening of a file and would refuse the next. Then it forgets what it noted of the file.
     fn save(&mut self, name: &str, bytes: &[u8]) -> Result<(), SinkError>
         ensures saves { Saves (closed_desk self.old.faults) (closed_desk self.new.faults) name.now bytes.now result }
         ensures disk { SavesOnDisk name.now bytes.now result (F.told self.old.folder) (F.told self.new.folder) }
         ensures claims { result ≡ Ok tt →
             AtNow (IsClaimed (noted self.old.findings name.now) name.now (option_map F.handle self.new.held)) (F.told self.old.folder) }
+        ensures order { result ≡ Ok tt → SavesSeen name.now bytes.now self.new.held (F.told self.old.folder) (F.told self.new.folder) }
         ensures refuses { WhereFirst (λ s. IsTaken name.now s ⊎ IsStale (noted self.old.findings name.now) name.now s)
             (IsErr result × Rests (F.told self.old.folder) (F.told self.new.folder)) (F.told self.old.folder) }
         ensures cause { FailsWithCause self.old.findings name.now result (F.told self.old.folder) (F.told self.new.folder) }
+        ensures anew { result ≡ Ok tt → WhereFirst (λ s. IsFree s name.now) (SavesAnew name.now (F.told self.old.folder) (F.told self.new.folder)) (F.told self.old.folder) }
         ensures forgets { OnOk result (noted self.new.findings name.now ≡ None) }
         ensures keeps { KeepsNotes name.now result self.old.findings self.new.findings }
     {
@@ -83,7 +90,8 @@ impl<'a, R: Print + AllocGlobal, F: Folder + Drop> Desk for RealDesk<'a, R, F> {
         )
     }
 
-    /// What is noted of files stays, and the file that is held.
+    /// What is noted of files stays, and the file that is held. Any error is a fault, since a part may have been
+    /// written.
     fn say(&mut self, bytes: &[u8]) -> Result<(), SinkError>
         ensures says { Says (closed_desk self.old.faults) (closed_desk self.new.faults) bytes.now result }
         ensures disk { Rests (F.told self.old.folder) (F.told self.new.folder) }

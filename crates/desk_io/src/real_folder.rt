@@ -159,6 +159,10 @@ where
         fs::rename(self.rt, from, to)
     }
 
+    fn link(&mut self, from: &str, to: &str) -> io::Result<()> {
+        fs::hard_link(self.rt, from, to)
+    }
+
     fn sync_folder(&mut self, folder: &R::File) -> io::Result<()> {
         folder.sync_all()
     }

@@ -2,8 +2,11 @@
 ghost use Rattle.std.specs.Prelude.{◌≡◌, ◌≤◌, ◌⊎◌, length, IfErr, IfOk, IsErr, None, Ok, OnOk, Some};
 ghost use Rattle.std.specs.Option.{option_map};
 ghost use Rattle.durable_folder.specs.Causes.{AtNow, IsLater};
+ghost use Rattle.durable_folder.specs.FolderState.{IsFree};
 ghost use Rattle.durable_folder.specs.Histories.{Rests};
 ghost use Rattle.durable_folder.specs.Locking.{IsClaimed, IsStale, IsTaken, WhereFirst};
+ghost use Rattle.durable_folder.specs.Saving.{SavesAnew};
+ghost use Rattle.durable_folder.specs.Sights.{SavesSeen};
 ghost use Rattle.desk_io.specs.Causes.{FailsWithCause, LoadHasCause};
 ghost use Rattle.desk_io.specs.Desk.{max_file_bytes};
 ghost use Rattle.desk_io.specs.Disk.{LoadsOnDisk, SavesOnDisk};
@@ -106,9 +109,11 @@ pub fn save_through<F: Folder>(
 ) -> Result<(), SinkError>
     ensures disk { SavesOnDisk name.now bytes.now result (F.told folder.old) (F.told folder.new) }
     ensures claims { result ≡ Ok tt → AtNow (IsClaimed (noted findings.old name.now) name.now (option_map F.handle held.new)) (F.told folder.old) }
+    ensures order { result ≡ Ok tt → SavesSeen name.now bytes.now held.new (F.told folder.old) (F.told folder.new) }
     ensures refuses { WhereFirst (λ s. IsTaken name.now s ⊎ IsStale (noted findings.old name.now) name.now s)
         (IsErr result × Rests (F.told folder.old) (F.told folder.new)) (F.told folder.old) }
     ensures cause { FailsWithCause findings.old name.now result (F.told folder.old) (F.told folder.new) }
+    ensures anew { result ≡ Ok tt → WhereFirst (λ s. IsFree s name.now) (SavesAnew name.now (F.told folder.old) (F.told folder.new)) (F.told folder.old) }
     ensures forgets { OnOk result (noted findings.new name.now ≡ None) }
     ensures keeps { KeepsNotes name.now result findings.old findings.new }
     ensures faults { faults.new ≡ sink_faults result faults.old }

@@ -133,7 +133,7 @@ compared handle name again named found opening loaded false a c so is known =
     }) in absurd (cc)))
 
 -- what is open on a name
-open_plain : (handle : Handle) (name : List ℕ) (file : ℕ) (s : FolderState) → IsOpenAt handle name s →
+pub open_plain : (handle : Handle) (name : List ℕ) (file : ℕ) (s : FolderState) → IsOpenAt handle name s →
     LeadsToFile name file s → handle.file ≡ Some file
 open_plain handle name file s opening leads =
     let same : opening.0 ≡ file = one_file name opening.0 file s opening.1 leads.there in
@@ -292,7 +292,7 @@ plain_stale before after found loaded name n a b c d is turn locks compares =
     y (opening.0, leads, ap (λ h. h.file) x.1.is ∙ open_plain before name opening.0 s opening leads))
 
 -- a file that was opened and held
-opened_so : {X : Type 0} (handle : X → Handle) (name : List ℕ) (file : X) (s : FolderState) →
+pub opened_so : {X : Type 0} (handle : X → Handle) (name : List ℕ) (file : X) (s : FolderState) →
     Opens handle name (Ok file) s s → IsOpenAt (handle file) name s
 opened_so handle name file s x = (x.1, x.2, ap (λ h. h.file) x.3)
 

@@ -60,7 +60,7 @@ rests_ends beside name filled result a b apart err rests =
     runs_weaker a b rests (λ s t x. steps_aside beside name filled s t apart (aside_none beside s t x))
     (λ h k x. ends_err beside name filled result h k err)
 
-put_from : (beside name : List ℕ) (result : Result Replaced Error) (h k l : History) → KeepsRefusals h k →
+pub put_from : (beside name : List ℕ) (result : Result Replaced Error) (h k l : History) → KeepsRefusals h k →
     k.now ≡ h.now →
     PutEnds beside name result k l → PutEnds beside name result h l
 put_from beside name (Ok replaced.Done) h k l kept same x = rw same at x

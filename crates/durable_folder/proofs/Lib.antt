@@ -8,6 +8,7 @@ mod Finishing
 mod Heads
 pub mod Leading
 pub mod Learning
+mod Linking
 mod Making
 mod Overwriting
 mod Passing
@@ -16,6 +17,7 @@ mod Reading
 mod Reasons
 mod Refusing
 mod Replacements
+mod Sighting
 mod Tearing
 mod Versions
 mod Writing

@@ -13,11 +13,11 @@ use Rattle.durable_folder.proofs.Refusing.{refused_kept, refused_one}
 no_files_change : (s : FolderState) → SparesFiles s s
 no_files_change s = record { files = λ f. refl; fixed = refl }
 
-files_then : (s t u : FolderState) → SparesFiles s t → SparesFiles t u → SparesFiles s u
+pub files_then : (s t u : FolderState) → SparesFiles s t → SparesFiles t u → SparesFiles s u
 files_then s t u x y = record { files = λ f. y.files f ∙ x.files f; fixed = y.fixed ∙ x.fixed }
 
 -- nothing shifts
-stays_shifts : (beside name : List ℕ) (s t : FolderState) → t ≡ s → Shifts beside name s t
+pub stays_shifts : (beside name : List ℕ) (s t : FolderState) → t ≡ s → Shifts beside name s t
 stays_shifts beside name s t same = rw same (record {
   here = λ e x. inr x;
   others = λ n p q e x. x;
@@ -45,7 +45,7 @@ renames_shifts beside name (Ok done) s t x differ = moves_shifts beside name s t
 renames_shifts beside name (Err error) s t x differ = stays_shifts beside name s t x
 
 -- a folder that is synced, or is not
-synced_shifts : (beside name place : List ℕ) (s t u : FolderState) → Shifts beside name s t → MaySyncNames place t u →
+pub synced_shifts : (beside name place : List ℕ) (s t u : FolderState) → Shifts beside name s t → MaySyncNames place t u →
     Shifts beside name s u
 synced_shifts beside name place s t u x (inl same) = rw (sym same) at x
 synced_shifts beside name place s t u x (inr y) = record {
@@ -126,7 +126,7 @@ pub put_err : (beside name : List ℕ) (r : Result Replaced Error) (h k : Histor
 put_err beside name (Ok done) h k err = absurd (cc)
 put_err beside name (Err error) h k err = tt
 
-ends_put : (beside name : List ℕ) (r : Result (Unit {0}) Error) (result : Result Replaced Error) (h k : History) →
+pub ends_put : (beside name : List ℕ) (r : Result (Unit {0}) Error) (result : Result Replaced Error) (h k : History) →
     IsErr result ⊎ ((r ≡ Ok tt) × (result ≡ Ok replaced.Done)) → AfterOk r (HasFile name (file_of h.now beside) k) →
     PutEnds beside name result h k
 ends_put beside name r result h k (inl err) x = put_err beside name result h k err
@@ -178,13 +178,13 @@ pub put_done : (beside name place : List ℕ) (n : Answer) (r : Result (Unit {0}
 put_done beside name place n r a b c ok is first last =
     put_synced beside name place n r (Ok replaced.Done) a b c (inr (ok, refl)) is first last
 
-removes_shifts : (beside name : List ℕ) (r : Result (Unit {0}) Error) (s t : FolderState) → beside ≢ name →
+pub removes_shifts : (beside name : List ℕ) (r : Result (Unit {0}) Error) (s t : FolderState) → beside ≢ name →
     Removes beside r s t →
     Shifts beside name s t
 removes_shifts beside name (Ok done) s t apart x = drops_shifts beside name s t apart x
 removes_shifts beside name (Err error) s t apart x = stays_shifts beside name s t x
 
-removes_others : (beside : List ℕ) (r : Result (Unit {0}) Error) (s t : FolderState) → Removes beside r s t →
+pub removes_others : (beside : List ℕ) (r : Result (Unit {0}) Error) (s t : FolderState) → Removes beside r s t →
     (n : List ℕ) → n ≢ beside →
     t.names n ≡ s.names n
 removes_others beside (Ok done) s t x n apart = x.others n apart

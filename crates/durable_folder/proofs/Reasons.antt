@@ -1,6 +1,6 @@
 -- Reasons for a file to be written in place.
 use Rattle.durable_folder.proofs.Common.{ℕ, List, FolderState}
-use Rattle.durable_folder.specs.Histories.{Refusal, Giving, Setting, Making, Moving, Opening, Leading}
+use Rattle.durable_folder.specs.Histories.{Refusal, Giving, Setting, Making, Moving, Opening, Leading, Replacing, Linking}
 use Rattle.durable_folder.specs.Saving.{IsReason}
 
 -- a reason where an owner is told of otherwise
@@ -13,3 +13,5 @@ reason_owned name P Q s f (Making n) x = x
 reason_owned name P Q s f (Moving from to) x = x
 reason_owned name P Q s f (Opening place) x = x
 reason_owned name P Q s f (Leading file) x = x
+reason_owned name P Q s f (Replacing n) x = absurd x
+reason_owned name P Q s f (Linking n) x = absurd x

@@ -203,6 +203,17 @@ Renames from to (Ok done) s t = (file_of s from ≢ file_of s to → Moves from 
     × (file_of s from ≡ file_of s to → t ≡ s)
 Renames from to (Err error) s t = t ≡ s
 
+-- The second name has the file of the first too.
+pub record Adds (from to : List ℕ) (s t : FolderState) : Type 0 where
+  pub arrives : t.names to ≡ file_of s from ∷ s.names to
+  pub others : (n : List ℕ) → n ≢ to → t.names n ≡ s.names n
+  pub files : SparesFiles s t
+
+-- The second name gets the file of the first where nothing is at it.
+abbrev pub Links : List ℕ → List ℕ → Result (Unit {0}) Error → FolderState → FolderState → Type 0
+Links from to (Ok done) s t = (file_of s to ≡ None) × Adds from to s t
+Links from to (Err error) s t = t ≡ s
+
 -- a name has no file any more
 pub record Drops (name : List ℕ) (s t : FolderState) : Type 0 where
   pub gone : t.names name ≡ None ∷ s.names name

@@ -6,7 +6,7 @@ use Rattle.std.specs.declared.io.ErrorKind.{ErrorKind}
 use Rattle.std.specs.declared.io.ErrorKind.TheVariants as kind
 use Rattle.durable_folder.specs.declared.folder.Lock.{Lock}
 use Rattle.durable_folder.specs.declared.folder.Lock.TheVariants as lock
-use Rattle.durable_folder.specs.Histories.{Answer, Refusal, Making, Moving, Opening}
+use Rattle.durable_folder.specs.Histories.{Answer, Refusal, Linking, Making, Moving, Opening, Replacing}
 
 -- by the kind of an error, whether the system gave no leave
 abbrev pub is_refusal : ErrorKind → Bool
@@ -102,6 +102,22 @@ not_given refusal = record { refusals = refusal ∷ []; failures = 0; unsynced =
 abbrev pub answer_to_give : {T : Type 0} → Refusal → Result T Error → Answer
 answer_to_give refusal (Ok x) = quiet
 answer_to_give refusal (Err error) = not_given refusal
+
+-- whether an error of giving a file a second name is taken to say that files have none: it says neither that something
+-- is of that name nor that memory ran out
+abbrev pub is_unlinkable : ErrorKind → Bool
+is_unlinkable kind.AlreadyExists = false
+is_unlinkable kind.OutOfMemory = false
+is_unlinkable _ = true
+
+-- A file that gets a name where nothing is replaces nothing.
+abbrev pub not_linked_answer : Bool → List ℕ → Answer
+not_linked_answer true to = not_given (Linking to)
+not_linked_answer false to = record { refusals = []; failures = 1; unsynced = [] }
+
+abbrev pub answer_to_link : {T : Type 0} → List ℕ → Result T Error → Answer
+answer_to_link to (Ok x) = not_given (Replacing to)
+answer_to_link to (Err error) = not_linked_answer (is_unlinkable (error_kind error)) to
 
 -- a folder that may not be opened is noted
 abbrev pub not_opened_answer : List ℕ → Error → Answer

@@ -18,6 +18,19 @@ pub data Refusal : Type 0 where
   Opening : (place : List ℕ) → Refusal
   -- to tell where a link ends that leads to this file
   Leading : (file : Option ℕ) → Refusal
+  -- to put anything in the place of what is at this name: a file got the name where nothing was
+  Replacing : (name : List ℕ) → Refusal
+  -- to give this name to a file only where nothing is
+  Linking : (name : List ℕ) → Refusal
+
+-- What was told of a file that is open.
+pub data Sight : Type 0 where
+  -- it holds its lock, as far as the system knows locks
+  Held : (file : Option ℕ) → Sight
+  -- a name leads to it
+  Named : (file : Option ℕ) → Sight
+  -- how many bytes it has, and when it was last written
+  Seen : (file : Option ℕ) → Sight
 
 -- The state of a folder, those before it, the newest first, and what the system has answered so far.
 pub record History : Type 0 where
@@ -29,6 +42,8 @@ pub record History : Type 0 where
   pub failures : ℕ
   -- which folders it said that it cannot sync, or gave no leave to open
   pub unsynced : List (List ℕ)
+  -- what it told of open files, the newest first, as far as a claim needs it
+  pub sights : List Sight
 
 -- What one answer adds to these.
 pub record Answer : Type 0 where

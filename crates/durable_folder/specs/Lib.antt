@@ -9,4 +9,5 @@ pub mod Locking
 pub mod NewFiles
 pub mod Places
 pub mod Saving
+pub mod Sights
 pub mod Ways

@@ -8,7 +8,7 @@ use Rattle.durable_folder.specs.FolderState.{FolderState, SomeOf, Leaves, file_o
 use Rattle.std.specs.declared.io.ErrorKind.TheVariants as kind
 use Rattle.durable_folder.specs.Calls.{Handle, Spares, SparesFiles, OfFile, Creates, SyncsNames, opened_at}
 use Rattle.durable_folder.specs.Counting.{is_refusal, is_passed_over, quiet, refused_answer}
-use Rattle.durable_folder.specs.Histories.{History, Refusal, Giving, Setting, Making, Moving, Opening, Leading, RefusedSince, Turns, Runs, HasFile, IsSaved}
+use Rattle.durable_folder.specs.Histories.{History, Refusal, Giving, Setting, Making, Moving, Opening, Leading, Replacing, Linking, RefusedSince, Turns, Runs, HasFile, IsSaved}
 use Rattle.durable_folder.specs.Places.{folder_of, IsLeftover}
 use Rattle.durable_folder.specs.declared.replacing.Owner.{Owner}
 use Rattle.durable_folder.specs.InPlace.{AfterOk, FileRuns}
@@ -48,6 +48,8 @@ IsReason name Owned s (Making n) = IsLeftover name n
 IsReason name Owned s (Moving from to) = IsLeftover name from × (to ≡ name)
 IsReason name Owned s (Opening place) = place ≡ folder_of name
 IsReason name Owned s (Leading file) = ⊥
+IsReason name Owned s (Replacing n) = ⊥
+IsReason name Owned s (Linking n) = ⊥
 
 -- it is to be owned so
 abbrev pub IsOwner : Option Owner → ℕ → ℕ → Type 0
@@ -209,3 +211,22 @@ ReplaceOrNotEnds name owner bytes (Err error) h k = Unit {0}
 abbrev pub ReplacesOrNot : List ℕ → Option Owner → List ℕ → Result Replaced Error → Option History →
     Option History → Type 0
 ReplacesOrNot name owner bytes result = Runs (KeepsOrReplaces name bytes) (ReplaceOrNotEnds name owner bytes result)
+
+-- Nothing at this name was replaced, or the system knows no second names.
+abbrev pub IsPutAnew : List ℕ → Refusal → Type 0
+IsPutAnew name refusal = (refusal ≡ Replacing name) ⊎ (refusal ≡ Linking name)
+
+-- The name got its file so.
+abbrev pub PutsAnew : List ℕ → Option History → Option History → Type 0
+PutsAnew name (Some h) (Some k) = RefusedSince (IsPutAnew name) h k
+PutsAnew name (Some h) None = Unit {0}
+PutsAnew name None b = Unit {0}
+
+-- the same, or a reason for which no new file came to the name
+abbrev pub IsSavedAnew : List ℕ → FolderState → Refusal → Type 0
+IsSavedAnew name s refusal = IsPutAnew name refusal ⊎ IsReason name (IsOwner None) s refusal
+
+abbrev pub SavesAnew : List ℕ → Option History → Option History → Type 0
+SavesAnew name (Some h) (Some k) = RefusedSince (IsSavedAnew name h.now) h k
+SavesAnew name (Some h) None = Unit {0}
+SavesAnew name None b = Unit {0}

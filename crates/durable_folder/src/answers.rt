@@ -1,5 +1,6 @@
 //! Answers of the system, and what a save makes of them.
 ghost use Rattle.std.specs.Prelude.{◌≡◌};
+ghost use Rattle.durable_folder.specs.Counting.{is_unlinkable};
 ghost use Rattle.durable_folder.specs.Answers.{IsLate, IsNamesSyncAnswer, refusal_of, sync_answer};
 
 use std::io;
@@ -36,6 +37,16 @@ pub fn refusal_of(error: Error) -> io::Result<Replaced>
         | ErrorKind::ResourceBusy
         | ErrorKind::CrossesDevices => Ok(Replaced::Refused),
         _ => Err(error),
+    }
+}
+
+/// Whether an error of giving a file a second name is taken to say that files have none there.
+pub fn is_unlinkable(kind: ErrorKind) -> bool
+    ensures { result ≡ is_unlinkable kind }
+{
+    match kind {
+        ErrorKind::AlreadyExists | ErrorKind::OutOfMemory => false,
+        _ => true,
     }
 }
 

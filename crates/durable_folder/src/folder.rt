@@ -44,9 +44,10 @@ pub enum Lock {
 /// The calls of a file system that a load or a save makes, each of them one call of the system. What a
 /// loss of power leaves after each is `Leaves` of the states that the folder tells.
 pub trait Folder {
-    ghost use Rattle.durable_folder.specs.Histories.{History, Giving, Leading, Setting, Turns, end_at, file_at};
-    ghost use Rattle.durable_folder.specs.Calls.{Handle, Finds, FindsOpen, FindsFolder, Resolves, Opens, OpensFolder, OpensOrCreates, Creates, Reads, Locks, Writes, ResizesFile, SyncsFile, Seeks, Renames, Removes, SyncsFolder, Stays};
-    ghost use Rattle.durable_folder.specs.Counting.{answer_to, answer_to_find, answer_to_create, answer_to_rename, answer_to_give, answer_to_lock, answer_to_open_folder, answer_to_sync_folder};
+    ghost use Rattle.durable_folder.specs.Histories.{History, Giving, Leading, Named, Seen, Setting, Turns, end_at, file_at};
+    ghost use Rattle.durable_folder.specs.Sights.{Sees, SeesLock};
+    ghost use Rattle.durable_folder.specs.Calls.{Handle, Finds, FindsOpen, FindsFolder, Resolves, Opens, OpensFolder, OpensOrCreates, Creates, Reads, Locks, Writes, ResizesFile, SyncsFile, Seeks, Renames, Removes, Links, SyncsFolder, Stays};
+    ghost use Rattle.durable_folder.specs.Counting.{answer_to, answer_to_find, answer_to_create, answer_to_rename, answer_to_give, answer_to_link, answer_to_lock, answer_to_open_folder, answer_to_sync_folder};
 
     /// A file that was opened.
     type File: Drop;
@@ -69,7 +70,8 @@ pub trait Folder {
 
     /// What is known of an open file.
     fn find_open(&mut self, file: &Self::File) -> io::Result<Found>
-        ensures { Turns (FindsOpen (handle file.now) result) (answer_to result) (told self.old) (told self.new) };
+        ensures finds { Turns (FindsOpen (handle file.now) result) (answer_to result) (told self.old) (told self.new) }
+        ensures sees { Sees (λ _. Seen (handle file.now).file) result (told self.old) (told self.new) };
 
     /// What is known of an open folder.
     fn find_folder(&mut self, folder: &Self::Place) -> io::Result<Found>
@@ -82,7 +84,8 @@ pub trait Folder {
     /// Opens a file for writing that is there. It is not truncated, and links are followed.
     fn open(&mut self, name: &str) -> io::Result<Self::File>
         ensures start { IfOk result (λ file. (handle file).offset ≡ 0) }
-        ensures opens { Turns (Opens handle name.now result) (answer_to result) (told self.old) (told self.new) };
+        ensures opens { Turns (Opens handle name.now result) (answer_to result) (told self.old) (told self.new) }
+        ensures sees { Sees (λ file. Named (handle file).file) result (told self.old) (told self.new) };
 
     /// Opens a file for reading. Links are followed.
     fn open_to_read(&mut self, name: &str) -> io::Result<Self::File>
@@ -95,7 +98,8 @@ pub trait Folder {
 
     /// Takes the lock of a file, which is held while the file is open, and does not wait for it.
     fn try_lock(&mut self, file: &mut Self::File) -> io::Result<Lock>
-        ensures { Turns (Locks (handle file.old) (handle file.new) result) (answer_to_lock result) (told self.old) (told self.new) };
+        ensures locks { Turns (Locks (handle file.old) (handle file.new) result) (answer_to_lock result) (told self.old) (told self.new) }
+        ensures sees { SeesLock (handle file.old) result (told self.old) (told self.new) };
 
     /// Opens a file for writing, or makes it. It is not truncated, and links are followed.
     fn open_or_create(&mut self, name: &str) -> io::Result<Self::File>
@@ -139,6 +143,10 @@ pub trait Folder {
     /// Puts a file at another name, in the place of what is there.
     fn rename(&mut self, from: &str, to: &str) -> io::Result<()>
         ensures { Turns (Renames from.now to.now result) (answer_to_rename from.now to.now result) (told self.old) (told self.new) };
+
+    /// Gives a file a second name, where nothing is of that name.
+    fn link(&mut self, from: &str, to: &str) -> io::Result<()>
+        ensures { Turns (Links from.now to.now result) (answer_to_link to.now result) (told self.old) (told self.new) };
 
     /// Waits until the names of a folder are in the system's store.
     fn sync_folder(&mut self, folder: &Self::Place) -> io::Result<()>

@@ -3,9 +3,11 @@ ghost use Rattle.std.specs.Prelude.{◌≡◌, ◌⊎◌, ◌↔◌, IsTrue, IsE
 ghost use Rattle.std.specs.Option.{option_map};
 ghost use Rattle.durable_folder.specs.Calls.{is_elsewhere};
 ghost use Rattle.durable_folder.specs.Causes.{AllTaken, AtNow, HasCause, HasFault};
-ghost use Rattle.durable_folder.specs.FolderState.{target};
-ghost use Rattle.durable_folder.specs.Histories.{Rests};
+ghost use Rattle.durable_folder.specs.FolderState.{IsFree, target};
+ghost use Rattle.durable_folder.specs.Saving.{SavesAnew};
+ghost use Rattle.durable_folder.specs.Histories.{Held, Rests};
 ghost use Rattle.durable_folder.specs.Locking.{AsksLock, Claims, Compares, HasClaimCause, HasSaveCause, Holds, IsAsLoaded, IsClaimed, IsFoundSo, IsNoPlain, IsNothing, IsOpenAt, IsSameFinding, IsStale, IsTaken, WhereFirst};
+ghost use Rattle.durable_folder.specs.Sights.{SavesSeen, Sees, SeesBoth, SeesClaimed, SeesHeld};
 ghost use Rattle.durable_folder.specs.Ways.{Saves};
 
 use crate::replacing::is_same;
@@ -25,6 +27,7 @@ fn is_elsewhere(answer: &io::Result<Lock>) -> bool
 /// Takes the lock of an open file. Where the system knows no locks there is none to be taken.
 fn lock<F: Folder>(folder: &mut F, file: &mut F::File) -> io::Result<()>
     ensures asks { AsksLock (F.handle file.old) (F.handle file.new) result (F.told folder.old) (F.told folder.new) }
+    ensures order { Sees (λ done. Held (F.handle file.old).file) result (F.told folder.old) (F.told folder.new) }
     ensures fault { HasFault result (F.told folder.old) (F.told folder.new) }
 {
     if is_elsewhere(&folder.try_lock(file)) {
@@ -68,6 +71,7 @@ fn is_current<F: Folder>(
     loaded: &Option<Found>,
 ) -> io::Result<bool>
     ensures compares { Compares (F.handle file.now) loaded.now name.now result (F.told folder.old) (F.told folder.new) }
+    ensures order { SeesBoth (F.handle file.now) name.now result (F.told folder.old) (F.told folder.new) }
     ensures fault { HasFault result (F.told folder.old) (F.told folder.new) }
 {
     let again = folder.open(name)?;
@@ -95,6 +99,7 @@ fn hold<F: Folder>(
     loaded: &Option<Found>,
 ) -> io::Result<()>
     ensures holds { Holds (F.handle file.old) (F.handle file.new) loaded.now name.now result (F.told folder.old) (F.told folder.new) }
+    ensures order { SeesHeld (F.handle file.old) name.now result (F.told folder.old) (F.told folder.new) }
     ensures cause { HasClaimCause (λ s. IsOpenAt (F.handle file.old) name.now s → IsStale loaded.now name.now s) result (F.told folder.old) (F.told folder.new) }
 {
     if !folder.find_open(file)?.is_file {
@@ -125,6 +130,7 @@ fn claim_there<F: Folder>(
     loaded: &Option<Found>,
 ) -> io::Result<Option<F::File>>
     ensures claims { Claims F.handle loaded.now name.now result (F.told folder.old) (F.told folder.new) }
+    ensures order { SeesClaimed name.now result (F.told folder.old) (F.told folder.new) }
     ensures cause { HasClaimCause (IsStale loaded.now name.now) result (F.told folder.old) (F.told folder.new) }
 {
     match folder.open(name) {
@@ -146,6 +152,7 @@ pub fn claim<F: Folder>(
     loaded: &Option<Found>,
 ) -> io::Result<Option<F::File>>
     ensures claims { Claims F.handle loaded.now name.now result (F.told folder.old) (F.told folder.new) }
+    ensures order { SeesClaimed name.now result (F.told folder.old) (F.told folder.new) }
     ensures cause { HasClaimCause (IsStale loaded.now name.now) result (F.told folder.old) (F.told folder.new) }
 {
     match stat(folder, name) {
@@ -165,6 +172,7 @@ fn save_claimed<F: Folder>(
     held: &mut Option<F::File>,
 ) -> io::Result<()>
     ensures saves { Saves name.now bytes.now result (F.told folder.old) (F.told folder.new) }
+    ensures anew { result ≡ Ok tt → WhereFirst (λ s. IsFree s name.now) (SavesAnew name.now (F.told folder.old) (F.told folder.new)) (F.told folder.old) }
     ensures cause { HasCause (AtNow (λ s. AllTaken (target s name.now) s) (F.told folder.old)) result (F.told folder.old) (F.told folder.new) }
     ensures keeps { result ≡ Ok tt → held.new ≡ file }
 {
@@ -185,7 +193,9 @@ pub fn save_held<F: Folder>(
     held: &mut Option<F::File>,
 ) -> io::Result<()>
     ensures saves { Saves name.now bytes.now result (F.told folder.old) (F.told folder.new) }
+    ensures anew { result ≡ Ok tt → WhereFirst (λ s. IsFree s name.now) (SavesAnew name.now (F.told folder.old) (F.told folder.new)) (F.told folder.old) }
     ensures claims { result ≡ Ok tt → AtNow (IsClaimed loaded.now name.now (option_map F.handle held.new)) (F.told folder.old) }
+    ensures order { result ≡ Ok tt → SavesSeen name.now bytes.now held.new (F.told folder.old) (F.told folder.new) }
     ensures refuses { WhereFirst (λ s. IsTaken name.now s ⊎ IsStale loaded.now name.now s) (IsErr result × Rests (F.told folder.old) (F.told folder.new)) (F.told folder.old) }
     ensures cause { HasSaveCause (AtNow (λ s. AllTaken (target s name.now) s) (F.told folder.old)) (IsStale loaded.now name.now) result (F.told folder.old) (F.told folder.new) }
 {

@@ -41,7 +41,8 @@ fn try_name<F: Folder>(
     }
 }
 
-/// A new file beside the one of this name, of a name that nobody else has.
+/// A new file beside the one of this name, of a name that nobody else has. What has such a name may be another's file,
+/// so it is never touched, and the next name is tried.
 pub fn new_file<F: Folder>(
     folder: &mut F,
     alloc: Global,

@@ -1,11 +1,11 @@
 //! A file is replaced by a new one that was written beside it.
-ghost use Rattle.std.specs.Prelude.{◌≡◌, ◌≢◌, ◌⊎◌, ◌↔◌, IsTrue, true, Ok, IsErr};
+ghost use Rattle.std.specs.Prelude.{◌≡◌, ◌≢◌, ◌⊎◌, ◌↔◌, IsTrue, true, None, Ok, IsErr};
 ghost use Rattle.durable_folder.specs.NewFiles.{beside_of, handle_of};
 ghost use Rattle.durable_folder.specs.Causes.{AllTaken, AtNow, HasCause, HasFailed, HasFault, IsLater, IsNamed};
 ghost use Rattle.durable_folder.specs.Histories.{IsPlaceOf, Rests};
-ghost use Rattle.durable_folder.specs.Saving.{Gives, WritesWhole, Fills, Puts, Ends, ReplacesBy, Mounted, ReplacesOrNot};
+ghost use Rattle.durable_folder.specs.Saving.{Gives, WritesWhole, Fills, Puts, PutsAnew, Ends, ReplacesBy, Mounted, ReplacesOrNot};
 
-use crate::answers::{Replaced, refusal_of};
+use crate::answers::{Replaced, as_fault, is_unlinkable, refusal_of};
 use crate::new_file::{NewFile, new_file};
 use crate::syncing::sync_names;
 use crate::temporary_names::folder_of;
@@ -25,7 +25,9 @@ pub struct Owner {
     pub device: u64,
 }
 
-/// Gives a new file its owner and mode, if it is to have them. Answers whether the system gave leave.
+/// Gives a new file its owner and mode, if it is to have them. Answers whether the system gave leave. The owner is set
+/// by the name, since an open file has no call for it: in a folder that others may write another file may stand there
+/// by then.
 fn give<F: Folder>(folder: &mut F, file: &F::File, beside: &str, owner: Option<Owner>) -> bool
     ensures gives { Gives beside.now (F.handle file.now).file owner result (F.told folder.old) (F.told folder.new) }
     ensures later { IsLater (F.told folder.old) (F.told folder.new) }
@@ -50,7 +52,8 @@ fn write_whole<F: Folder>(folder: &mut F, file: &mut F::File, bytes: &[u8]) -> i
     folder.sync(file)
 }
 
-/// Gives a new file its owner and mode, and then its bytes.
+/// Gives a new file its owner and mode, and then its bytes. So the bytes never stand under a mode that is wider than
+/// that of the old file.
 fn fill<F: Folder>(
     folder: &mut F,
     file: &mut F::File,
@@ -89,7 +92,7 @@ fn has_name<F: Folder>(folder: &mut F, file: &F::File, beside: &str) -> io::Resu
 
 /// Puts a new file in the place of the one of this name. Where that is refused, it is removed.
 #[tactic(auto, using(crate::proofs::Causing::turn_later, crate::proofs::Causing::turn_failed))]
-fn put<F: Folder>(
+fn put_over<F: Folder>(
     folder: &mut F,
     place: &F::Place,
     beside: &str,
@@ -110,14 +113,63 @@ fn put<F: Folder>(
     }
 }
 
-/// Puts a new file in its place once it was filled, and else removes it.
+/// Puts a new file at a name at which nothing was. What came there meanwhile is not replaced, and is a
+/// fault. Where the system knows no second names, it is.
+#[tactic(auto, using(crate::proofs::Causing::turn_later, crate::proofs::Causing::turn_failed))]
+fn put_anew<F: Folder>(
+    folder: &mut F,
+    place: &F::Place,
+    beside: &str,
+    name: &str,
+) -> io::Result<Replaced>
+    ensures puts { beside.now ≢ name.now → IsPlaceOf (F.place place.now) name.now (F.told folder.old) → Puts beside.now name.now result (F.told folder.old) (F.told folder.new) }
+    ensures anew { beside.now ≢ name.now → IsPlaceOf (F.place place.now) name.now (F.told folder.old) → result ≡ Ok Replaced.Done → PutsAnew name.now (F.told folder.old) (F.told folder.new) }
+    ensures fault { HasFault result (F.told folder.old) (F.told folder.new) }
+{
+    match folder.link(beside, name) {
+        Ok(()) => {
+            as_fault(folder.remove(beside))?;
+            sync_names(folder, place)?;
+            Ok(Replaced::Done)
+        }
+        Err(error) if is_unlinkable(error.kind()) => put_over(folder, place, beside, name),
+        Err(error) => {
+            folder.remove(beside)?;
+            Err(error)
+        }
+    }
+}
+
+/// Puts a new file at a name, where nothing was or in the place of what was there.
+fn put<F: Folder>(
+    folder: &mut F,
+    place: &F::Place,
+    beside: &str,
+    name: &str,
+    is_new: bool,
+) -> io::Result<Replaced>
+    ensures puts { beside.now ≢ name.now → IsPlaceOf (F.place place.now) name.now (F.told folder.old) → Puts beside.now name.now result (F.told folder.old) (F.told folder.new) }
+    ensures anew { beside.now ≢ name.now → IsPlaceOf (F.place place.now) name.now (F.told folder.old) → is_new ≡ true → result ≡ Ok Replaced.Done → PutsAnew name.now (F.told folder.old) (F.told folder.new) }
+    ensures fault { HasFault result (F.told folder.old) (F.told folder.new) }
+{
+    if is_new {
+        put_anew(folder, place, beside, name)
+    } else {
+        put_over(folder, place, beside, name)
+    }
+}
+
+/// Puts a new file in its place once it was filled, and else removes it. If it cannot be removed the save fails: else
+/// each save would leave one, unnoticed.
 fn put_or_remove<F: Folder>(
     folder: &mut F,
     place: &F::Place,
     beside: &str,
     name: &str,
     filled: io::Result<Replaced>,
+    is_new: bool,
 ) -> io::Result<Replaced>
+    ensures anew { beside.now ≢ name.now → IsPlaceOf (F.place place.now) name.now (F.told folder.old) → is_new ≡ true → result ≡ Ok Replaced.Done → PutsAnew name.now (F.told folder.old) (F.told folder.new) }
     ensures ends { beside.now ≢ name.now → IsPlaceOf (F.place place.now) name.now (F.told folder.old) → Ends beside.now name.now filled result (F.told folder.old) (F.told folder.new) }
     ensures later { IsLater (F.told folder.old) (F.told folder.new) }
     ensures fault { IsErr result → IsErr filled ⊎ HasFailed (F.told folder.old) (F.told folder.new) }
@@ -130,7 +182,7 @@ fn put_or_remove<F: Folder>(
         }
     };
     match answer {
-        Replaced::Done => put(folder, place, beside, name),
+        Replaced::Done => put(folder, place, beside, name, is_new),
         Replaced::Refused => {
             folder.remove(beside)?;
             Ok(Replaced::Refused)
@@ -147,7 +199,9 @@ fn finish<F: Folder>(
     beside: &str,
     name: &str,
     filled: io::Result<Replaced>,
+    is_new: bool,
 ) -> io::Result<Replaced>
+    ensures anew { beside.now ≢ name.now → IsPlaceOf (F.place place.now) name.now (F.told folder.old) → is_new ≡ true → result ≡ Ok Replaced.Done → PutsAnew name.now (F.told folder.old) (F.told folder.new) }
     ensures ends { beside.now ≢ name.now → IsPlaceOf (F.place place.now) name.now (F.told folder.old) → Ends beside.now name.now filled result (F.told folder.old) (F.told folder.new) }
     ensures later { IsLater (F.told folder.old) (F.told folder.new) }
     ensures fault { AtNow (IsNamed (F.handle file.now).file beside.now) (F.told folder.old) → IsErr result → IsErr filled ⊎ HasFailed (F.told folder.old) (F.told folder.new) }
@@ -155,7 +209,7 @@ fn finish<F: Folder>(
     if !has_name(folder, file, beside)? {
         return Err(Error::from(ErrorKind::Other));
     }
-    put_or_remove(folder, place, beside, name, filled)
+    put_or_remove(folder, place, beside, name, filled, is_new)
 }
 
 /// Fills a new file and puts it in the place of the one of this name.
@@ -169,13 +223,15 @@ fn replace_by<F: Folder>(
 ) -> io::Result<Replaced>
     ensures replaces { beside_of new ≢ name.now → IsPlaceOf (F.place place.now) name.now (F.told folder.old) →
         ReplacesBy (handle_of F.handle new) (beside_of new) name.now owner bytes.now result (F.told folder.old) (F.told folder.new) }
+    ensures anew { beside_of new ≢ name.now → IsPlaceOf (F.place place.now) name.now (F.told folder.old) → owner ≡ None → result ≡ Ok Replaced.Done → PutsAnew name.now (F.told folder.old) (F.told folder.new) }
     ensures later { IsLater (F.told folder.old) (F.told folder.new) }
     ensures fault { AtNow (IsNamed (handle_of F.handle new).file (beside_of new)) (F.told folder.old) → IsErr result → HasFailed (F.told folder.old) (F.told folder.new) }
 {
     let NewFile { file, name: beside } = new;
     let mut file = file;
+    let is_new = owner.is_none();
     let filled = fill(folder, &mut file, beside.as_str(), owner, bytes);
-    finish(folder, place, &file, beside.as_str(), name, filled)
+    finish(folder, place, &file, beside.as_str(), name, filled, is_new)
 }
 
 /// Makes a new file in this folder, and puts it in the place of the one of this name. A mount point is not replaced.
@@ -188,6 +244,7 @@ fn replace_in<F: Folder>(
     bytes: &[u8],
 ) -> io::Result<Replaced>
     ensures replaces { IsPlaceOf (F.place place.now) name.now (F.told folder.old) → ReplacesOrNot name.now owner bytes.now result (F.told folder.old) (F.told folder.new) }
+    ensures anew { IsPlaceOf (F.place place.now) name.now (F.told folder.old) → owner ≡ None → result ≡ Ok Replaced.Done → PutsAnew name.now (F.told folder.old) (F.told folder.new) }
     ensures cause { HasCause (AtNow (AllTaken name.now) (F.told folder.old)) result (F.told folder.old) (F.told folder.new) }
 {
     if is_mounted(folder, place, &owner)? {
@@ -226,6 +283,7 @@ pub fn replace<F: Folder>(
     bytes: &[u8],
 ) -> io::Result<Replaced>
     ensures replaces { ReplacesOrNot name.now owner bytes.now result (F.told folder.old) (F.told folder.new) }
+    ensures anew { owner ≡ None → result ≡ Ok Replaced.Done → PutsAnew name.now (F.told folder.old) (F.told folder.new) }
     ensures cause { HasCause (AtNow (AllTaken name.now) (F.told folder.old)) result (F.told folder.old) (F.told folder.new) }
 {
     match folder.open_folder(folder_of(name)) {

@@ -1,8 +1,10 @@
 //! How the bytes of a save come to a name.
-ghost use Rattle.std.specs.Prelude.{◌≡◌, ◌≢◌, ℕ, List, Some, Ok};
+ghost use Rattle.std.specs.Prelude.{◌≡◌, ◌≢◌, ℕ, List, None, Some, Ok};
 ghost use Rattle.durable_folder.specs.Calls.{Opens};
 ghost use Rattle.durable_folder.specs.Causes.{AllTaken, AtNow, HasCause, HasFault, IsLater};
 ghost use Rattle.durable_folder.specs.FolderState.{IsFree, target};
+ghost use Rattle.durable_folder.specs.Locking.{WhereFirst};
+ghost use Rattle.durable_folder.specs.Saving.{SavesAnew};
 ghost use Rattle.durable_folder.specs.Ways.{LeadsTo, ReplacesFound, SavesAt, SavesKnowing, Looks, WasFound, WritesNew, SyncsFolderOf, MakesThrough, Saves, is_link};
 
 use crate::answers::{Replaced, as_fault};
@@ -38,9 +40,11 @@ fn is_link(found: &Option<Found>) -> bool
 }
 
 /// Makes these the bytes of the file of this name, or of the one that a link of this name leads to.
-/// After Ok they are in the system's store, as far as it tells.
+/// After Ok they are in the system's store, as far as it tells. Where nothing was at the name, a new file
+/// replaces nothing that came there meanwhile, as far as the system knows second names.
 pub fn save<F: Folder>(folder: &mut F, alloc: Global, name: &str, bytes: &[u8]) -> io::Result<()>
     ensures saves { Saves name.now bytes.now result (F.told folder.old) (F.told folder.new) }
+    ensures anew { result ≡ Ok tt → WhereFirst (λ s. IsFree s name.now) (SavesAnew name.now (F.told folder.old) (F.told folder.new)) (F.told folder.old) }
     ensures cause { HasCause (AtNow (λ s. AllTaken (target s name.now) s) (F.told folder.old)) result (F.told folder.old) (F.told folder.new) }
 {
     let found = stat(folder, name)?;
@@ -50,7 +54,9 @@ pub fn save<F: Folder>(folder: &mut F, alloc: Global, name: &str, bytes: &[u8]) 
     save_at(folder, alloc, name, found, bytes)
 }
 
-/// Saves at the end of a link. Who may not write through it may not replace what it leads to.
+/// Saves at the end of a link. Who may not write through it may not replace what it leads to. The link is followed,
+/// since a rename would put a plain file in its place. It is opened before it is asked where it leads: systems refuse
+/// to open some links in sticky folders, and to tell where one leads they ask no leave.
 fn save_through<F: Folder>(
     folder: &mut F,
     alloc: Global,
@@ -139,6 +145,7 @@ fn save_at<F: Folder>(
     bytes: &[u8],
 ) -> io::Result<()>
     ensures saves { SavesAt (WasFound name.now found) name.now bytes.now result (F.told folder.old) (F.told folder.new) }
+    ensures anew { found ≡ None → result ≡ Ok tt → SavesAnew name.now (F.told folder.old) (F.told folder.new) }
     ensures cause { HasCause (AtNow (AllTaken name.now) (F.told folder.old)) result (F.told folder.old) (F.told folder.new) }
 {
     match found {
@@ -147,7 +154,7 @@ fn save_at<F: Folder>(
     }
 }
 
-/// Saves at a name that is no link, where this was found.
+/// Saves at a name that is no link, where this was found. A rename needs leave from the folder and not from the file.
 fn save_over<F: Folder>(
     folder: &mut F,
     alloc: Global,
@@ -168,7 +175,7 @@ fn save_over<F: Folder>(
 }
 
 /// Replaces a plain file with one name, by a new file of its owner and mode. All else is refused: a file with
-/// several names, and what is no plain file.
+/// several names, and what is no plain file. Another hard link would keep the old bytes.
 fn replace_found<F: Folder>(
     folder: &mut F,
     alloc: Global,
@@ -195,6 +202,7 @@ fn replace_found<F: Folder>(
 /// Makes a file where there is none.
 fn make<F: Folder>(folder: &mut F, alloc: Global, name: &str, bytes: &[u8]) -> io::Result<()>
     ensures saves { SavesAt (λ s. IsFree s name.now) name.now bytes.now result (F.told folder.old) (F.told folder.new) }
+    ensures anew { result ≡ Ok tt → SavesAnew name.now (F.told folder.old) (F.told folder.new) }
     ensures cause { HasCause (AtNow (AllTaken name.now) (F.told folder.old)) result (F.told folder.old) (F.told folder.new) }
 {
     match replace(folder, alloc, name, None, bytes)? {

@@ -12,7 +12,7 @@ const OLD: [u8; 100] = [b'o'; 100];
 
 const NEW: [u8; 90] = [b'n'; 90];
 
-const SETTINGS: [Setting; 7] = [
+const SETTINGS: [Setting; 8] = [
     Setting::Plain,
     Setting::TwoNames,
     Setting::MountPoint,
@@ -20,6 +20,7 @@ const SETTINGS: [Setting; 7] = [
     Setting::OwnerRefused,
     Setting::NoFolderSync,
     Setting::Unresolved,
+    Setting::NoLinks,
 ];
 
 /// A save: what is there before, under which name it goes, and how one of its calls fails.
@@ -56,7 +57,7 @@ impl Case {
     /// Whether a save that goes well has to be in place.
     fn is_in_place(&self) -> bool {
         let must_be = match self.setting {
-            Setting::Plain | Setting::NoFolderSync => false,
+            Setting::Plain | Setting::NoFolderSync | Setting::NoLinks => false,
             Setting::ClosedFolder => true,
             Setting::Unresolved => self.name == "link",
             _ => self.is_there,
@@ -304,6 +305,21 @@ fn what_another_program_holds_is_not_saved(rt: HostRuntime) {
     let is_refused = is_refused_where_taken(rt.alloc(), "f")
         && is_refused_where_taken(rt.alloc(), "link");
     assert!(rt; is_refused);
+}
+
+/// Whether a save fails at a free name to which something comes meanwhile, which stays there.
+fn stays_what_comes(alloc: Global) -> bool {
+    let mut folder = folder_of(alloc, Setting::Overtaken);
+    let is_kept = prepare(&mut folder, false).is_ok()
+        && save(&mut folder, alloc, "f", &NEW).is_err()
+        && stays(&folder, "f", b"meanwhile");
+    drop(folder);
+    is_kept
+}
+
+#[test]
+fn what_comes_to_a_free_name_meanwhile_is_not_replaced(rt: HostRuntime) {
+    assert!(rt; stays_what_comes(rt.alloc()));
 }
 
 /// What is done to a file since it was loaded, and its kind and its name.

@@ -68,6 +68,8 @@ fn is_seen(folder: &mut MemFolder, verb: &str, name: &str, bytes: &str) -> bool 
 fn is_named(folder: &mut MemFolder, verb: &str, name: &str, other: &str) -> bool {
     match verb {
         "move" => folder.rename(name, other).is_ok(),
+        "link" => folder.link(name, other).is_ok(),
+        "cannot-link" => folder.link(name, other).is_err(),
         "remove" => folder.remove(name).is_ok(),
         "settle" => settle(folder).is_ok(),
         "lose" => folder
@@ -137,6 +139,10 @@ save f old; remove f; lose old old; has f old
 save f old; remove f; lose new old; none f
 save f old; remove f; settle; lose old old; none f
 save f old; move f f; has f old
+save f old; link f g; has f old; has g old; lose old old; has f old; none g
+save f old; link f g; settle; lose old old; has f old; has g old
+save f old; link f g; remove f; settle; none f; has g old
+save f old; save g new; cannot-link f g; cannot-link h g; has f old; has g new
 none f; save f one; remove f; save f two; lose old old; has f two";
 
 #[test]

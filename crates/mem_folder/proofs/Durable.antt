@@ -9,6 +9,7 @@ use Rattle.durable_folder.specs.Ways.{Saves}
 use Rattle.durable_folder.specs.declared.loading.Loaded.{Loaded}
 use Rattle.mem_folder.specs.Changes.{held}
 use Rattle.mem_folder.specs.Telling.{history_of}
+use Rattle.mem_folder.specs.declared.glance.Glance.{Glance}
 use Rattle.mem_folder.specs.declared.note.Note.{Note}
 
 -- of no folder it was said that it cannot be synced
@@ -17,9 +18,9 @@ none_noted : (name : List ℕ) (noted : List MemPlace) → noted ≡ [] →
 none_noted name noted none some = rw none at some
 
 durable_of : (name bytes : List ℕ) (ds : List Change) (befores : List (Vec Change Global)) (notes : List Note)
-    (noted : List MemPlace) →
-    noted ≡ [] → IsSaved name bytes (history_of ds befores notes noted) → IsDurable (state_of ds) name bytes
-durable_of name bytes ds befores notes noted none saved = elim saved.1 [
+    (noted : List MemPlace) (seen : List Glance) →
+    noted ≡ [] → IsSaved name bytes (history_of ds befores notes noted seen) → IsDurable (state_of ds) name bytes
+durable_of name bytes ds befores notes noted seen none saved = elim saved.1 [
   | inl durable ↦ durable
   | inr cannot ↦ absurd (none_noted name noted none cannot)
 ]
@@ -27,13 +28,13 @@ durable_of name bytes ds befores notes noted none saved = elim saved.1 [
 -- a save where there was nothing
 pub saved_anew : (name bytes : List ℕ) (cs ds : List Change) (befores befores' : List (Vec Change Global))
     (notes notes' : List Note)
-    (noted noted' : List MemPlace) → newest None (named cs name) ≡ None → noted' ≡ [] →
-    Saves name bytes (Ok tt) (Some (history_of cs befores notes noted)) (Some (history_of ds befores' notes' noted')) →
-    IsDurable (state_of ds) name bytes
-saved_anew name bytes cs ds befores befores' notes notes' noted noted' nothing none (inl by_new) =
-    durable_of name bytes ds befores' notes' noted' none by_new.run.4
-saved_anew name bytes cs ds befores befores' notes notes' noted noted' nothing none (inr in_place) =
-    durable_of name bytes ds befores' notes' noted' none (in_place.run.4.1.anew nothing)
+    (noted noted' : List MemPlace) (seen seen' : List Glance) → newest None (named cs name) ≡ None → noted' ≡ [] →
+    Saves name bytes (Ok tt) (Some (history_of cs befores notes noted seen))
+    (Some (history_of ds befores' notes' noted' seen')) → IsDurable (state_of ds) name bytes
+saved_anew name bytes cs ds befores befores' notes notes' noted noted' seen seen' nothing none (inl by_new) =
+    durable_of name bytes ds befores' notes' noted' seen' none by_new.run.4
+saved_anew name bytes cs ds befores befores' notes notes' noted noted' seen seen' nothing none (inr in_place) =
+    durable_of name bytes ds befores' notes' noted' seen' none (in_place.run.4.1.anew nothing)
 
 -- what is left of durable bytes
 pub durable_left : (name bytes : List ℕ) (s t : FolderState) → IsDurable s name bytes → IsLeft s t →
@@ -67,11 +68,11 @@ left_bytes name bytes s t file is durable there =
 -- what is loaded once power was lost
 pub loaded_left : (name bytes : List ℕ) (s : FolderState) (cs ds : List Change)
     (befores befores' : List (Vec Change Global)) (notes notes' : List Note)
-    (noted noted' : List MemPlace) (most : ℕ) (loaded : Loaded) → length bytes ≤ most → IsLeft s (state_of cs) →
-    IsDurable (state_of cs) name bytes →
-    Loads name most (Ok loaded) (Some (history_of cs befores notes noted))
-    (Some (history_of ds befores' notes' noted')) → loaded.bytes.items ≡ bytes
-loaded_left name bytes s cs ds befores befores' notes notes' noted noted' most loaded fits is durable loads =
+    (noted noted' : List MemPlace) (seen seen' : List Glance) (most : ℕ) (loaded : Loaded) → length bytes ≤ most →
+    IsLeft s (state_of cs) → IsDurable (state_of cs) name bytes →
+    Loads name most (Ok loaded) (Some (history_of cs befores notes noted seen))
+    (Some (history_of ds befores' notes' noted' seen')) → loaded.bytes.items ≡ bytes
+loaded_left name bytes s cs ds befores befores' notes notes' noted noted' seen seen' most loaded fits is durable loads =
     let read : IsLoaded name most loaded (state_of cs) = loads.run.4.1 in
     let file = read.there.0 in
     let there : file_of (state_of cs) name ≡ Some file = read.there.1 in

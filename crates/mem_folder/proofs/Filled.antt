@@ -42,6 +42,8 @@ named_filled_after name (change.Moved from to file) had h =
     filled_if (bytes_eq (string_bytes from) name) (None ∷ had) (if bytes_eq (string_bytes to) name
     then Some file ∷ had else had) tt
     (filled_if (bytes_eq (string_bytes to) name) (Some file ∷ had) had tt h)
+named_filled_after name (change.Linked it file) had h = filled_if (bytes_eq (string_bytes it) name)
+    (Some file ∷ had) had tt h
 named_filled_after name (change.Wrote file bytes) had h = h
 named_filled_after name (change.Synced file) had h = h
 named_filled_after name change.Settled had h = tt
@@ -60,6 +62,7 @@ held_filled_after : (file : ℕ) (c : Change) (had : List (List ℕ)) → IsFill
 held_filled_after file (change.Made name it) had h = filled_if (it == file) ([] ∷ []) had tt h
 held_filled_after file (change.Removed name) had h = h
 held_filled_after file (change.Moved from to it) had h = h
+held_filled_after file (change.Linked name it) had h = h
 held_filled_after file (change.Wrote it bytes) had h = filled_if (it == file) (bytes.items ∷ had) had tt h
 held_filled_after file (change.Synced it) had h = filled_if (it == file) (newest [] had ∷ []) had tt h
 held_filled_after file change.Settled had h = h

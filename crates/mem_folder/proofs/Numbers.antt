@@ -47,6 +47,7 @@ born (change.Moved from to n) name had file h =
       | inl before ↦ inl before
       | inr after ↦ born_if (bytes_eq (string_bytes to) name) (Some n) had file after
     ]
+born (change.Linked it n) name had file h = born_if (bytes_eq (string_bytes it) name) (Some n) had file h
 born (change.Wrote n bytes) name had file h = inl h
 born (change.Synced n) name had file h = inl h
 born change.Settled name [] file (inl e) = absurd (no_file file e)

@@ -4,7 +4,7 @@ use Rattle.std.proofs.Common.{◌≢◌, ◌==◌, String, Result, IfErr, OnOk}
 use Rattle.std.specs.Bool.{Decides}
 use Rattle.std.proofs.lemmas.Slice.Eq.{bytes_eq-Decides}
 use Rattle.std.proofs.lemmas.Bool.Decides.{Decides-eqb}
-use Rattle.durable_folder.specs.Calls.{Makes, Moves, Drops, SyncsNames, SparesNames, Renames, Removes, SyncsFolder}
+use Rattle.durable_folder.specs.Calls.{Adds, Links, Makes, Moves, Drops, SyncsNames, SparesNames, Renames, Removes, SyncsFolder}
 use Rattle.mem_folder.specs.Changes.{held}
 use Rattle.mem_folder.specs.Telling.{IsStarved}
 use Rattle.mem_folder.specs.declared.change.Change.TheVariants as change
@@ -75,6 +75,22 @@ moves cs from to file there apart = record {
   files = record { files = λ f. held-append cs (change.Moved from to file) f; fixed = refl };
 }
 
+pub adds : (cs : List Change) (from : List ℕ) (it : String Global) (file : ℕ) →
+    newest None (named cs from) ≡ Some file →
+    Adds from (string_bytes it) (state_of cs) (state_of (cs ++ change.Linked it file ∷ []))
+adds cs from it file there = record {
+  arrives = rw (
+    named-append cs (change.Linked it file) (string_bytes it),
+    same_text (string_bytes it),
+    there,
+  ) refl;
+  others = λ n apart. rw (
+    named-append cs (change.Linked it file) n,
+    other_text (string_bytes it) n (λ e. apart (sym e)),
+  ) refl;
+  files = record { files = λ f. held-append cs (change.Linked it file) f; fixed = refl };
+}
+
 pub drops : (cs : List Change) (it : String Global) →
     Drops (string_bytes it) (state_of cs) (state_of (cs ++ change.Removed it ∷ []))
 drops cs it = record {
@@ -101,6 +117,13 @@ renames cs ds from to file (Ok done) there other noted = (
   λ same. absurd (other (sym same ∙ there)),
 )
 renames cs ds from to file (Err error) there other noted = ap state_of noted.err.0
+
+pub links : (cs ds : List Change) (from : List ℕ) (it : String Global) (file : ℕ) (result : Result (Unit {0}) Error) →
+    newest None (named cs from) ≡ Some file → newest None (named cs (string_bytes it)) ≡ None →
+    IsNoted cs (change.Linked it file) result ds →
+    Links from (string_bytes it) result (state_of cs) (state_of ds)
+links cs ds from it file (Ok done) there free noted = (free, rw noted.ok (adds cs from it file there))
+links cs ds from it file (Err error) there free noted = ap state_of noted.err.0
 
 pub removes : (cs ds : List Change) (it : String Global) (result : Result (Unit {0}) Error) →
     IsNoted cs (change.Removed it) result ds →

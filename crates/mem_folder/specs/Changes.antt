@@ -24,6 +24,7 @@ named_after name (change.Removed it) had = if bytes_eq (string_bytes it) name th
 named_after name (change.Moved from to file) had =
     if bytes_eq (string_bytes from) name then None ∷ had
     else (if bytes_eq (string_bytes to) name then Some file ∷ had else had)
+named_after name (change.Linked it file) had = if bytes_eq (string_bytes it) name then Some file ∷ had else had
 named_after name (change.Wrote file bytes) had = had
 named_after name (change.Synced file) had = had
 named_after name change.Settled had = newest None had ∷ []
@@ -34,6 +35,7 @@ abbrev pub held_after : ℕ → Change → List (List ℕ) → List (List ℕ)
 held_after file (change.Made name it) had = if it == file then [] ∷ [] else had
 held_after file (change.Removed name) had = had
 held_after file (change.Moved from to it) had = had
+held_after file (change.Linked name it) had = had
 held_after file (change.Wrote it bytes) had = if it == file then bytes.items ∷ had else had
 held_after file (change.Synced it) had = if it == file then newest [] had ∷ [] else had
 held_after file change.Settled had = had
@@ -95,6 +97,7 @@ AllBelow changes next = (name : List ℕ) (file : ℕ) → SomeOf (λ f. f ≡ S
 abbrev pub number_of : Change → Option ℕ
 number_of (change.Made it file) = Some file
 number_of (change.Moved from to file) = Some file
+number_of (change.Linked it file) = Some file
 number_of _ = None
 
 -- it is no less than the first number, and above the second one if there is one

@@ -6,9 +6,11 @@ use Rattle.std.specs.declared.io.Error.{Error}
 use Rattle.std.specs.declared.io.ErrorKind.TheVariants as kind
 use Rattle.durable_folder.specs.Calls.{Handle}
 use Rattle.durable_folder.specs.Counting.{unless_so}
-use Rattle.durable_folder.specs.Histories.{Answer, History, Refusal, Giving, Leading, Making, Moving, Opening, Setting}
+use Rattle.durable_folder.specs.Histories.{Answer, History, Refusal, Sight, Held, Named, Seen, Giving, Leading, Linking, Making, Moving, Opening, Replacing, Setting}
 use Rattle.mem_folder.specs.Changes.{state_of}
 use Rattle.mem_folder.specs.declared.change.Change.{Change}
+use Rattle.mem_folder.specs.declared.glance.Glance.{Glance}
+use Rattle.mem_folder.specs.declared.glance.Glance.TheVariants as glance
 use Rattle.mem_folder.specs.declared.note.Denied.{Denied}
 use Rattle.mem_folder.specs.declared.note.Denied.TheVariants as denied
 use Rattle.mem_folder.specs.declared.note.Note.{Note}
@@ -23,6 +25,8 @@ refusal_of (denied.Making name) = Making (string_bytes name)
 refusal_of (denied.Moving from to) = Moving (string_bytes from) (string_bytes to)
 refusal_of (denied.Opening place) = Opening (string_bytes place)
 refusal_of (denied.Leading file) = Leading file
+refusal_of (denied.Replacing name) = Replacing (string_bytes name)
+refusal_of (denied.Linking name) = Linking (string_bytes name)
 
 abbrev pub refused_by : Option Denied → List Refusal
 refused_by None = []
@@ -37,6 +41,12 @@ abbrev pub failures_in : List Note → ℕ
 failures_in [] = 0
 failures_in (note ∷ notes) = failures_in notes + unless_so note.is_excused
 
+-- what was told of an open file, as durable_folder says it
+abbrev pub sight_of : Glance → Sight
+sight_of (glance.Held file) = Held (Some file)
+sight_of (glance.Named file) = Named (Some file)
+sight_of (glance.Seen file) = Seen (Some file)
+
 -- the name of an open folder
 abbrev pub place_of : MemPlace → List ℕ
 place_of place = string_bytes place.name
@@ -45,15 +55,16 @@ place_of place = string_bytes place.name
 abbrev pub unsynced_of : List MemPlace → List (List ℕ)
 unsynced_of noted = map place_of (reverse noted)
 
--- The history of a folder, by the changes until now, those before each call, the newest first, what was answered, and
--- the folders of which it was said that they cannot be synced, or may not be opened.
-abbrev pub history_of : List Change → List (Vec Change Global) → List Note → List MemPlace → History
-history_of changes befores notes noted = record {
+-- The history of a folder, by the changes until now, those before each call, the newest first, what was answered, the
+-- folders of which it was said that they cannot be synced, or may not be opened, and what was told of open files.
+abbrev pub history_of : List Change → List (Vec Change Global) → List Note → List MemPlace → List Glance → History
+history_of changes befores notes noted glances = record {
   now = state_of changes;
   before = map (λ before. state_of before.items) befores;
   refusals = refusals_in notes;
   failures = failures_in notes;
   unsynced = unsynced_of noted;
+  sights = map sight_of glances;
 }
 
 -- there is no memory

@@ -18,6 +18,8 @@ pub enum Change {
     Removed(String),
     /// The file of this number went from the first name to the second.
     Moved(String, String, u64),
+    /// A name got the file of this number, which keeps its other names.
+    Linked(String, u64),
     /// A file got these bytes.
     Wrote(u64, Vec<u8>),
     /// The bytes of a file were synced.

@@ -7,9 +7,10 @@ ghost use Rattle.mem_folder.specs.Telling.{IsFault, handle_of, history_of, place
 use crate::change::{Change, Left};
 use crate::fault::Fault;
 use crate::files::{MemFile, MemPlace};
+use crate::glance::Glance;
 use crate::log::Log;
 use crate::note::{
-    Denied, Note, note_of, note_of_create, note_of_find, note_of_give, note_of_lock,
+    Denied, Note, note_of, note_of_create, note_of_find, note_of_give, note_of_link, note_of_lock,
     note_of_open_folder, note_of_rename, note_of_starving, note_of_sync_folder,
 };
 use crate::reading::file_of;
@@ -35,6 +36,8 @@ pub struct MemFolder {
     notes: Log<Note>,
     /// Of which folders it was said that they cannot be synced, or may not be opened.
     noted: Vec<MemPlace>,
+    /// What was told of open files.
+    glances: Log<Glance>,
 }
 
 impl MemFolder {
@@ -44,6 +47,7 @@ impl MemFolder {
         ensures befores { result.befores.items ≡ [] }
         ensures notes { result.notes.items ≡ [] }
         ensures noted { result.noted.items ≡ [] }
+        ensures glances { result.glances.items ≡ [] }
     {
         MemFolder {
             alloc,
@@ -52,6 +56,7 @@ impl MemFolder {
             befores: Log::new(),
             notes: Log::new(),
             noted: Vec::new(alloc),
+            glances: Log::new(),
         }
     }
 
@@ -69,6 +74,7 @@ impl MemFolder {
         ensures left { OnOk result (IsLeft (state_of self.old.changes.items) (state_of self.new.changes.items)) }
         ensures err { OnErr result (self.new.changes.items ≡ self.old.changes.items) }
         ensures noted { self.new.noted.items ≡ self.old.noted.items }
+        ensures glances { self.new.glances.items ≡ self.old.glances.items }
     {
         naming::add(&mut self.changes, Change::Lost(names, bytes))
     }
@@ -80,6 +86,7 @@ impl MemFolder {
         ensures befores { self.new.befores.items ≡ self.old.changes ∷ self.old.befores.items }
         ensures notes { self.new.notes.items ≡ self.old.notes.items }
         ensures noted { self.new.noted.items ≡ self.old.noted.items }
+        ensures glances { self.new.glances.items ≡ self.old.glances.items }
     {
         self.befores = self.befores.and(&self.changes);
         match self.faults.pop() {
@@ -94,8 +101,20 @@ impl MemFolder {
         ensures befores { self.new.befores.items ≡ self.old.befores.items }
         ensures notes { self.new.notes.items ≡ note ∷ self.old.notes.items }
         ensures noted { self.new.noted.items ≡ self.old.noted.items }
+        ensures glances { self.new.glances.items ≡ self.old.glances.items }
     {
         self.notes = self.notes.and(&note);
+    }
+
+    /// This is told of an open file.
+    fn glance(&mut self, glance: Glance)
+        ensures changes { self.new.changes ≡ self.old.changes }
+        ensures befores { self.new.befores.items ≡ self.old.befores.items }
+        ensures notes { self.new.notes.items ≡ self.old.notes.items }
+        ensures noted { self.new.noted.items ≡ self.old.noted.items }
+        ensures glances { self.new.glances.items ≡ glance ∷ self.old.glances.items }
+    {
+        self.glances = self.glances.and(&glance);
     }
 }
 
@@ -107,7 +126,7 @@ impl Folder for MemFolder {
 
     type Place = MemPlace;
 
-    ghost told = { λ f. Some (history_of f.changes.items f.befores.items f.notes.items f.noted.items) };
+    ghost told = { λ f. Some (history_of f.changes.items f.befores.items f.notes.items f.noted.items f.glances.items) };
 
     ghost handle = { handle_of };
 
@@ -124,6 +143,9 @@ impl Folder for MemFolder {
         let fault = self.begin();
         let found = finding::find_open(fault, self.changes.as_slice(), file);
         self.end(note_of(&found));
+        if found.is_ok() {
+            self.glance(Glance::Seen(file.number));
+        }
         found
     }
 
@@ -146,6 +168,9 @@ impl Folder for MemFolder {
         let fault = self.begin();
         let file = finding::open(fault, self.changes.as_slice(), name);
         self.end(note_of(&file));
+        if let Ok(opened) = &file {
+            self.glance(Glance::Named(opened.number));
+        }
         file
     }
 
@@ -165,8 +190,10 @@ impl Folder for MemFolder {
 
     fn try_lock(&mut self, file: &mut MemFile) -> io::Result<Lock> {
         let fault = self.begin();
+        let number = file.number;
         let lock = finding::lock(fault, file);
         self.end(note_of_lock(&lock));
+        self.glance(Glance::Held(number));
         lock
     }
 
@@ -260,6 +287,22 @@ impl Folder for MemFolder {
             }
             _ => {
                 let starved = Err(Error::from(ErrorKind::OutOfMemory));
+                self.end(note_of_starving(&starved));
+                starved
+            }
+        }
+    }
+
+    fn link(&mut self, from: &str, to: &str) -> io::Result<()> {
+        let fault = self.begin();
+        match naming::copy(self.alloc, to) {
+            Ok(own) => {
+                let done = naming::link(fault, self.alloc, &mut self.changes, from, to);
+                self.end(note_of_link(&done, own));
+                done
+            }
+            Err(error) => {
+                let starved = Err(error);
                 self.end(note_of_starving(&starved));
                 starved
             }

@@ -6,6 +6,7 @@ mod fault;
 mod files;
 mod finding;
 mod folder;
+mod glance;
 mod log;
 mod naming;
 mod note;

@@ -1,6 +1,6 @@
 //! What changes the names of a folder.
 ghost use Rattle.std.specs.Prelude.{◌≡◌, ℕ, ◌++◌, List, [], ◌∷◌, IfErr, IfOk, IfSome, OnOk, string_bytes};
-ghost use Rattle.durable_folder.specs.Calls.{Creates, OpensOrCreates, Removes, Renames, SyncsFolder};
+ghost use Rattle.durable_folder.specs.Calls.{Creates, Links, OpensOrCreates, Removes, Renames, SyncsFolder};
 ghost use Rattle.mem_folder.specs.Changes.{IsAbove, IsFresh, number_of, state_of};
 ghost use Rattle.mem_folder.specs.Telling.{IsFault, IsStarved, handle_of};
 
@@ -39,7 +39,7 @@ fn number_of(change: &Change) -> Option<u64>
     ensures { result ≡ number_of change.now }
 {
     match change {
-        Change::Made(_, file) | Change::Moved(_, _, file) => Some(*file),
+        Change::Made(_, file) | Change::Moved(_, _, file) | Change::Linked(_, file) => Some(*file),
         _ => None,
     }
 }
@@ -140,6 +140,31 @@ pub fn rename(
         _ => return Err(Error::from(ErrorKind::OutOfMemory)),
     };
     add(changes, Change::Moved(from, to, file))
+}
+
+/// Gives the file of a name another one, where there is none of that name.
+pub fn link(
+    fault: io::Result<()>,
+    alloc: Global,
+    changes: &mut Vec<Change>,
+    from: &str,
+    to: &str,
+) -> io::Result<()>
+    ensures { Links from.now to.now result (state_of changes.old.items) (state_of changes.new.items) }
+{
+    if let Err(error) = fault {
+        return Err(error);
+    }
+    let Some(file) = file_of(changes.as_slice(), from) else {
+        return Err(Error::from(ErrorKind::NotFound));
+    };
+    if file_of(changes.as_slice(), to).is_some() {
+        return Err(Error::from(ErrorKind::AlreadyExists));
+    }
+    match copy(alloc, to) {
+        Ok(own) => add(changes, Change::Linked(own, file)),
+        Err(error) => Err(error),
+    }
 }
 
 /// Removes a name.

@@ -1,7 +1,7 @@
 //! What the answers of a folder count as.
 ghost use Rattle.std.specs.Prelude.{◌≡◌, ℕ, List, None, string_bytes};
 ghost use Rattle.std.specs.Result.{IsErrAnd};
-ghost use Rattle.durable_folder.specs.Counting.{answer_to, answer_to_create, answer_to_find, answer_to_give, answer_to_lock, answer_to_open_folder, answer_to_rename, answer_to_sync_folder, is_denied, is_refusal, is_unable, refused_if};
+ghost use Rattle.durable_folder.specs.Counting.{answer_to, answer_to_create, answer_to_find, answer_to_give, answer_to_link, answer_to_lock, answer_to_open_folder, answer_to_rename, answer_to_sync_folder, is_denied, is_refusal, is_unable, is_unlinkable, refused_if};
 ghost use Rattle.mem_folder.specs.Telling.{IsCountOf, IsNoteOf, IsStarved, refusal_of, refused_by};
 
 use durable_folder::Lock;
@@ -23,6 +23,10 @@ pub enum Denied {
     Opening(String),
     /// To tell where a link ends that leads to this file.
     Leading(Option<u64>),
+    /// To put anything in the place of what is at this name.
+    Replacing(String),
+    /// To give this name to a file only where nothing is.
+    Linking(String),
 }
 
 /// What an answer counts as.
@@ -117,6 +121,33 @@ pub fn note_of_rename<T>(answer: &io::Result<T>, from: String, to: String) -> No
     }
 }
 
+/// Whether an error of this kind is taken to say that files have no second names.
+fn is_unlinkable(kind: ErrorKind) -> bool
+    ensures { result ≡ is_unlinkable kind }
+{
+    match kind {
+        ErrorKind::AlreadyExists | ErrorKind::OutOfMemory => false,
+        _ => true,
+    }
+}
+
+/// What the answer of giving a file a second name counts as.
+pub fn note_of_link<T>(answer: &io::Result<T>, name: String) -> Note
+    ensures { IsNoteOf (answer_to_link (string_bytes name) answer.now) result }
+{
+    match answer {
+        Ok(_) => Note {
+            refused: Some(Denied::Replacing(name)),
+            is_excused: true,
+        },
+        Err(error) if is_unlinkable(error.kind()) => Note {
+            refused: Some(Denied::Linking(name)),
+            is_excused: true,
+        },
+        Err(_) => plain_note(false),
+    }
+}
+
 /// What the answer of a call counts as that only makes a file what it is to be, or tells where a link
 /// leads.
 pub fn note_of_give<T>(answer: &io::Result<T>, denied: Denied) -> Note
@@ -189,6 +220,7 @@ pub fn note_of_starving<T>(answer: &io::Result<T>) -> Note
     requires { IsErrAnd answer.now IsStarved }
     ensures create { (name : List ℕ) → IsNoteOf (answer_to_create name answer.now) result }
     ensures rename { (from to : List ℕ) → IsNoteOf (answer_to_rename from to answer.now) result }
+    ensures link { (name : List ℕ) → IsNoteOf (answer_to_link name answer.now) result }
     ensures open { (folder : List ℕ) → IsNoteOf (answer_to_open_folder folder answer.now) result }
 {
     plain_note(answer.is_ok())

@@ -18,7 +18,7 @@ fn name_after(seen: Seen<Option<u64>>, change: &Change, name: &str) -> Seen<Opti
         IsSeen (named_after name.now change.now had) result.now result.kept }
 {
     match change {
-        Change::Made(it, file) if it.as_str() == name => Seen {
+        Change::Made(it, file) | Change::Linked(it, file) if it.as_str() == name => Seen {
             now: Some(*file),
             kept: seen.kept,
         },

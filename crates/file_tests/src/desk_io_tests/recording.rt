@@ -214,6 +214,11 @@ impl<'a> Files for Recorder<'a> {
         self.rt.rename(from, to)
     }
 
+    fn hard_link(&self, original: &str, link: &str) -> io::Result<()> {
+        self.log.note("link", last_part(original))?;
+        self.rt.hard_link(original, link)
+    }
+
     fn remove_file(&self, path: &str) -> io::Result<()> {
         self.log.note("remove", last_part(path))?;
         self.rt.remove_file(path)

@@ -13,7 +13,7 @@ use std::rt::Files;
 /// f.saving, which a killed run left beside it.
 const SAVES: &str = "\
 nothing | f | stat f; stat f; open saves; create f.saving; write f.saving; sync f.saving; stat f.saving; \
-rename f.saving; sync saves;
+link f.saving; remove f.saving; sync saves;
 f | f | stat f; open f; lock f; open f; stat f; open f; open saves; create f.saving; chown f.saving; chmod f.saving; \
 write f.saving; sync f.saving; stat f.saving; rename f.saving; sync saves;
 link f | link | stat link; open link; lock link; open link; stat link; open link; resolve link; stat f; open f; \
@@ -164,9 +164,12 @@ fn saves_call_the_system_in_order(rt: HostRuntime) {
     }
 }
 
-/// Whether the new file is there or gone, as it should be. One of which it can't be told whose it is stays.
+/// Whether the new file is there or gone, as it should be. One of which it can't be told whose it is stays, and so does
+/// the name of one that can't be removed.
 fn is_new_file_gone(rt: &HostRuntime, it: &Case, calls: &str) -> bool {
-    let stays = calls.ends_with("stat f.saving; ") || calls.ends_with("stat f.saving2; ");
+    let stays = calls.ends_with("stat f.saving; ")
+        || calls.ends_with("stat f.saving2; ")
+        || calls.ends_with("link f.saving; remove f.saving; ");
     let is_first_gone = is_absent(rt, "saves/f.saving");
     (it.had("f.saving") || is_first_gone != stays) && (stays || is_absent(rt, "saves/f.saving2"))
 }

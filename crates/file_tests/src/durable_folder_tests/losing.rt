@@ -45,6 +45,10 @@ pub enum Setting {
     NoFolderSync,
     /// Where a link leads can't be told.
     Unresolved,
+    /// A file can't have a second name.
+    NoLinks,
+    /// Another program makes a file of a name just before a new one is linked there.
+    Overtaken,
     /// Another program holds the lock of each file.
     LockedElsewhere,
     /// No file is a plain one.

@@ -1,7 +1,8 @@
-use Rattle.durable_folder.proofs.Common.{rules, quiet, error_answer, never}
+use Rattle.durable_folder.proofs.Common.{rules, refl, Err, quiet, error_answer, never}
 use Rattle.durable_folder.proofs.Causing.{turn_later}
 use Rattle.durable_folder.proofs.Claiming.{cause_held, claim_failed, claimed, holds_rests, none_known, nothing_claimed}
 use Rattle.durable_folder.proofs.Learning.{opens_rests, rests_then}
+use Rattle.durable_folder.proofs.Sighting.{claimed_seen, claimed_unseen, nothing_seen}
 use Rattle.durable_folder.proofs.locking.claim_there.Goals as goal
 
 pub returns-in_err-hold-in-Ok-clause-claims : goal.returns-in_err-hold-in-Ok-clause-claims
@@ -46,3 +47,27 @@ returns-in-Err-2-clause-claims g c =
     opens_rests g.F.Folder.handle c.args.name.now c.open.result _ (g.F.Folder.told c.args.folder.now)
     (g.F.Folder.told c.open.new.self)
     c.open.ensures.opens
+
+pub returns-in_err-hold-in-Ok-clause-order : goal.returns-in_err-hold-in-Ok-clause-order
+returns-in_err-hold-in-Ok-clause-order g c =
+    claimed_unseen g.F.Folder.handle c.args.name.now c.from_residual.result (g.F.Folder.told c.args.folder.now)
+    (g.F.Folder.told c.hold.new.folder)
+    c.from_residual.ensures.0
+
+pub returns-in_ok-hold-in-Ok-clause-order : goal.returns-in_ok-hold-in-Ok-clause-order
+returns-in_ok-hold-in-Ok-clause-order g c =
+    claimed_seen g.F.Folder.handle c.args.name.now c.in-Ok.file c.hold.new.file quiet
+    (g.F.Folder.told c.args.folder.now)
+    (g.F.Folder.told c.open.new.self) (g.F.Folder.told c.hold.new.folder) c.in-Ok.ensures.opens
+    c.in_ok-hold-in-Ok.ensures.order
+
+pub returns-in-Err-clause-order : goal.returns-in-Err-clause-order
+returns-in-Err-clause-order g c =
+    nothing_seen c.args.loaded.now c.args.name.now c.nothing_there.result (g.F.Folder.told c.args.folder.now)
+    (g.F.Folder.told c.open.new.self)
+    c.nothing_there.ensures
+
+pub returns-in-Err-2-clause-order : goal.returns-in-Err-2-clause-order
+returns-in-Err-2-clause-order g c =
+    claimed_unseen g.F.Folder.handle c.args.name.now (Err c.in-Err-2.error) (g.F.Folder.told c.args.folder.now)
+    (g.F.Folder.told c.open.new.self) refl

@@ -1,3 +1,4 @@
+use Rattle.durable_folder.proofs.Linking.{anew_after}
 use Rattle.durable_folder.proofs.Passing.{told_before}
 use Rattle.durable_folder.proofs.Finishing.{rests_ends, ends_after, is_error}
 use Rattle.durable_folder.proofs.replacing.finish.Goals as goal
@@ -24,3 +25,12 @@ returns-clause-ends g c apart is =
       is = λ told. is.is (told_before (g.F.Folder.told c.args.folder.now) (g.F.Folder.told c.has_name.new.folder)
           c.has_name.ensures.rests told);
     }))
+
+pub returns-clause-anew : goal.returns-clause-anew
+returns-clause-anew g c apart is new ok =
+    let before = g.F.Folder.told c.args.folder.now in
+    let named = g.F.Folder.told c.has_name.new.folder in
+    anew_after c.args.name.now before named (g.F.Folder.told c.put_or_remove.new.folder) c.has_name.ensures.rests
+    (c.put_or_remove.ensures.anew apart (record {
+      is = λ told. is.is (told_before before named c.has_name.ensures.rests told);
+    }) new ok)

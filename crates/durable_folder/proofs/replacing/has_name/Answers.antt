@@ -13,14 +13,14 @@ returns-in_err-made-clause-rests g c =
     both_still c.args.beside.now (g.F.Folder.handle c.args.file.now) c.find.result c.find_open.result
     _ _ (g.F.Folder.told c.args.folder.now)
     (g.F.Folder.told c.find.new.self)
-    (g.F.Folder.told c.find_open.new.self) c.find.ensures c.find_open.ensures
+    (g.F.Folder.told c.find_open.new.self) c.find.ensures c.find_open.ensures.finds
 
 pub returns-clause-rests : goal.returns-clause-rests
 returns-clause-rests g c =
     both_still c.args.beside.now (g.F.Folder.handle c.args.file.now) c.find.result c.find_open.result
     _ _ (g.F.Folder.told c.args.folder.now)
     (g.F.Folder.told c.find.new.self)
-    (g.F.Folder.told c.find_open.new.self) c.find.ensures c.find_open.ensures
+    (g.F.Folder.told c.find_open.new.self) c.find.ensures c.find_open.ensures.finds
 
 pub returns-in_err-named-clause-named : goal.returns-in_err-named-clause-named
 returns-in_err-named-clause-named g c named =
@@ -34,7 +34,7 @@ returns-clause-named g c named =
     c.in_ok-made.made quiet quiet
     (g.F.Folder.told c.args.folder.now) (g.F.Folder.told c.find.new.self) (g.F.Folder.told c.find_open.new.self) named
     c.in_ok-named.ensures
-    c.in_ok-made.ensures) [
+    c.in_ok-made.ensures.finds) [
       | inl same ↦ inl (ap Ok (c.is_same.ensures.1 same))
       | inr failed ↦ inr failed
     ]

@@ -47,3 +47,6 @@ returns-in-Done-clause-ends g c apart is =
     (g.F.Folder.told c.args.folder.now)
     (g.F.Folder.told c.put.new.folder) c.in-Ok.is c.in-Done.is (rests_same (g.F.Folder.told c.args.folder.now))
     (c.put.ensures.puts apart is)
+
+pub returns-in-Done-clause-anew : goal.returns-in-Done-clause-anew
+returns-in-Done-clause-anew g c apart is new ok = c.put.ensures.anew apart is new ok

@@ -1,6 +1,9 @@
-use Rattle.durable_folder.proofs.Common.{◌∙◌, refl, AtNow, AllTaken, quiet, refusal_of}
+use Rattle.durable_folder.proofs.Common.{◌∙◌, refl, Ok, AtNow, AllTaken, quiet, refusal_of}
 use Rattle.durable_folder.proofs.Causing.{turn_later, turn_back, cause_later, fault_cause, not_opened_cause}
 use Rattle.durable_folder.proofs.Finishing.{not_opened, opened_replaced, opened_place}
+use Rattle.durable_folder.specs.Calls.{OpensFolder}
+use Rattle.durable_folder.proofs.Linking.{anew_after, not_done}
+use Rattle.durable_folder.proofs.Passing.{runs_of}
 use Rattle.durable_folder.proofs.replacing.replace.Goals as goal
 
 pub returns-in-Err-clause-replaces : goal.returns-in-Err-clause-replaces
@@ -40,3 +43,18 @@ returns-in-Ok-clause-cause g c =
     (turn_later _ quiet before opened c.in-Ok.ensures) (λ at. turn_back _ taken quiet before opened c.in-Ok.ensures
     (λ s t x. x.0) at)
     c.replace_in.ensures.cause
+
+pub returns-in-Ok-clause-anew : goal.returns-in-Ok-clause-anew
+returns-in-Ok-clause-anew g c none ok =
+    let before = g.F.Folder.told c.args.folder.now in
+    let opened = g.F.Folder.told c.open_folder.new.self in
+    anew_after c.args.name.now before opened (g.F.Folder.told c.replace_in.new.folder)
+    (runs_of (OpensFolder g.F.Folder.place c.folder_of.result.now (Ok c.in-Ok.place)) quiet before opened
+    c.in-Ok.ensures)
+    (c.replace_in.ensures.anew (record {
+      is = λ told. opened_place g.F.Folder.place c.folder_of.result.now c.in-Ok.place quiet before opened
+          c.in-Ok.ensures told ∙ c.folder_of.ensures;
+    }) none ok)
+
+pub returns-in-Err-clause-anew : goal.returns-in-Err-clause-anew
+returns-in-Err-clause-anew g c none ok = absurd (not_done c.in-Err.closed (rw c.refusal_of.ensures at ok))

@@ -1,5 +1,6 @@
 use Rattle.durable_folder.proofs.Common.{◌∙◌, ap, Ok, AtNow, AllTaken, beside_of, handle_of}
 use Rattle.durable_folder.proofs.Causing.{later_then, then_failed, now_back, cause_later, fault_cause, refused_cause, made_named}
+use Rattle.durable_folder.proofs.Linking.{anew_after, not_done}
 use Rattle.durable_folder.proofs.Passing.{told_before}
 use Rattle.durable_folder.proofs.Finishing.{mounted_at, mounted_refused, not_looked, not_made, replaced_in, then_replaced}
 use Rattle.durable_folder.proofs.replacing.replace_in.Goals as goal
@@ -76,3 +77,19 @@ returns-in-Err-clause-cause g c =
     c.is_mounted.ensures.fault.0
     (λ at. now_back taken before looked c.is_mounted.ensures.mounted at)
     (rw c.refusal_of.ensures (refused_cause _ c.in-Err.error looked made c.in-Err.ensures.cause))
+
+pub returns-in-Ok-clause-anew : goal.returns-in-Ok-clause-anew
+returns-in-Ok-clause-anew g c at none ok =
+    let before = g.F.Folder.told c.args.folder.now in
+    let looked = g.F.Folder.told c.is_mounted.new.folder in
+    let made = g.F.Folder.told c.new_file.new.folder in
+    let last = g.F.Folder.told c.replace_by.new.folder in
+    anew_after c.args.name.now before looked last c.is_mounted.ensures.mounted
+    (anew_after c.args.name.now looked made last c.in-Ok.ensures.makes
+    (c.replace_by.ensures.anew c.in-Ok.ensures.apart (record {
+      is = λ told. at.is (told_before before looked c.is_mounted.ensures.mounted
+          (told_before looked made c.in-Ok.ensures.makes told));
+    }) none ok))
+
+pub returns-in-Err-clause-anew : goal.returns-in-Err-clause-anew
+returns-in-Err-clause-anew g c at none ok = absurd (not_done c.in-Err.error (rw c.refusal_of.ensures at ok))

@@ -224,6 +224,21 @@ impl Folder for CrashingFolder {
         Ok(self.set(from, None)?)
     }
 
+    fn link(&mut self, from: &str, to: &str) -> io::Result<()> {
+        self.call()?;
+        if self.setting == Setting::NoLinks {
+            return Err(Error::from(ErrorKind::PermissionDenied));
+        }
+        if self.setting == Setting::Overtaken {
+            self.put(to, b"meanwhile")?;
+        }
+        if self.file(to).is_some() {
+            return Err(Error::from(ErrorKind::AlreadyExists));
+        }
+        let file = self.file(from);
+        Ok(self.set(to, file)?)
+    }
+
     fn sync_folder(&mut self, _folder: &bool) -> io::Result<()> {
         self.call()?;
         if self.setting == Setting::NoFolderSync {

@@ -18,5 +18,5 @@ returns c nothing =
     let fits : length bytes ≤ c.saturating_add-most.result = search rules in
     loaded_left name bytes (state_of saved.changes.items) left.changes.items read.changes.items left.befores.items
     read.befores.items left.notes.items
-    read.notes.items left.noted.items read.noted.items c.saturating_add-most.result c.in_ok-loaded.loaded fits is
-    durable c.in_ok-loaded.ensures.loads
+    read.notes.items left.noted.items read.noted.items left.glances.items read.glances.items
+    c.saturating_add-most.result c.in_ok-loaded.loaded fits is durable c.in_ok-loaded.ensures.loads

@@ -7,4 +7,5 @@ returns c nothing =
     let new = c.save.new.folder in
     saved_anew c.args.name.now c.args.bytes.now old.changes.items new.changes.items old.befores.items new.befores.items
     old.notes.items new.notes.items
-    old.noted.items new.noted.items nothing (c.has_noted.ensures.none c.if-has_noted.false) c.in_ok-save.ensures.saves
+    old.noted.items new.noted.items old.glances.items new.glances.items nothing
+    (c.has_noted.ensures.none c.if-has_noted.false) c.in_ok-save.ensures.saves

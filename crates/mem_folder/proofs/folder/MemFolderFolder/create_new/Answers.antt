@@ -22,7 +22,8 @@ returns-in-Err c =
     )
     (turned (Creates handle_of c.args.name.now (Err c.in-Err.error))
     (answer_to_create {T = MemFile} c.args.name.now (Err c.in-Err.error))
-    c.note_of_starving.result self.changes self.befores.items self.notes.items self.noted.items self.changes.items (
+    c.note_of_starving.result self.changes self.befores.items self.notes.items self.noted.items self.glances.items
+    self.glances.items self.changes.items (
       refl,
       λ exists. let both : kind.OutOfMemory ≡ kind.AlreadyExists = sym c.in-Err.ensures.err ∙ exists in absurd (cc),
     ) (c.note_of_starving.ensures.create c.args.name.now))

@@ -20,5 +20,6 @@ returns-in-Err c =
     )
     (turned (OpensFolder place_of c.args.folder.now (Err c.in-Err.error))
     (answer_to_open_folder {T = MemPlace} c.args.folder.now (Err c.in-Err.error))
-    c.note_of_starving.result self.changes self.befores.items self.notes.items self.noted.items self.changes.items
+    c.note_of_starving.result self.changes self.befores.items self.notes.items self.noted.items self.glances.items
+    self.glances.items self.changes.items
     refl (c.note_of_starving.ensures.open c.args.folder.now))

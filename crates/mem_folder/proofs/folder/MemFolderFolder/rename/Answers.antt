@@ -19,5 +19,6 @@ returns-in_default c =
     )
     (turned (Renames c.args.from.now c.args.to.now (Err c.from.result))
     (answer_to_rename {T = Unit {0}} c.args.from.now c.args.to.now (Err c.from.result))
-    c.note_of_starving.result self.changes self.befores.items self.notes.items self.noted.items self.changes.items
+    c.note_of_starving.result self.changes self.befores.items self.notes.items self.noted.items self.glances.items
+    self.glances.items self.changes.items
     refl (c.note_of_starving.ensures.rename c.args.from.now c.args.to.now))

@@ -1,6 +1,6 @@
 use Rattle.durable_folder.proofs.Causing.{refused_fault}
 use Rattle.durable_folder.proofs.Putting.{put_not_synced, put_done, put_failed, put_refused_so}
-use Rattle.durable_folder.proofs.replacing.put.Goals as goal
+use Rattle.durable_folder.proofs.replacing.put_over.Goals as goal
 
 pub returns-in_err-sync_names-in-Ok-clause-puts : goal.returns-in_err-sync_names-in-Ok-clause-puts
 returns-in_err-sync_names-in-Ok-clause-puts g c apart is =
