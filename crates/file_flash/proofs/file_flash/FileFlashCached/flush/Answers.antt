@@ -1,0 +1,15 @@
+use Rattle.file_flash.proofs.Common.{◌≡◌, ℕ, [], true, IfSome, sym, ◌∙◌, slots_in, Follows}
+use Rattle.file_flash.proofs.Calls.{follows_told}
+use Rattle.file_flash.proofs.Programming.{on_ok}
+use Rattle.file_flash.proofs.file_flash.FileFlashCached.flush.Goals as goal
+
+none_in : (k : ℕ) → slots_in [] k ≡ true → slots_in [] k ≡ true
+none_in k e = e
+
+pub returns-clause-durable : goal.returns-clause-durable
+returns-clause-durable g c =
+    let m = c.self.inside.memory in
+    let new = g.S.Store.told c.flush-flushed.new.self.store in
+    let ok = sym c.is_err.ensures.value ∙ c.if-is_err.false in
+    follows_told m.shape m.image [] c.shape.ensures.whole [] [] new none_in none_in c.flush-flushed.ensures.opened
+    (on_ok (IfSome new (Follows m.shape m.image [] [])) c.flush-flushed.result ok c.flush-flushed.ensures.follows)

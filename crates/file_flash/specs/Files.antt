@@ -1,0 +1,74 @@
+-- An open file of fixed length, and what a loss of power may leave of it.
+use Rattle.std.specs.Prelude.{◌≡◌, ◌⊎◌, ℕ, ◌+◌, ◌<◌, ◌≤◌, Bool, false, List, [], ◌∷◌, length, take, map, slice_index, slice_index_or, Contains, Option, None, Some, Result, Ok, Err}
+use Rattle.file_flash.specs.declared.store.StoreError.{StoreError}
+
+-- Of each byte the values that a loss of power may leave, newest first: the newest is read. While the system may hold
+-- copies of bytes from before the file was opened, any value may be read, and one that no sync makes durable.
+pub record FileState : Type 0 where
+  pub values : List (List ℕ)
+  pub copies : Bool
+
+-- the values that a loss may leave of the byte at an offset
+abbrev pub values_at : FileState → ℕ → List ℕ
+values_at file k = slice_index_or file.values k []
+
+-- the newest of some values
+abbrev pub newest : List ℕ → ℕ
+newest [] = 0
+newest (value ∷ values) = value
+
+-- a loss of power leaves these bytes: of each byte one of its values, each byte by itself
+pub record LeavesBytes (file : FileState) (left : List ℕ) : Type 0 where
+  pub long : length left ≡ length file.values
+  pub each : (k : ℕ) → k < length left → Contains (values_at file k) (slice_index left k)
+
+-- these bytes are written from an offset on: each is in front of the values of its place, and no other byte is touched
+pub record Writes (offset : ℕ) (bytes : List ℕ) (old new : FileState) : Type 0 where
+  pub long : length new.values ≡ length old.values
+  pub copies : new.copies ≡ old.copies
+  pub inside : (k : ℕ) → k < length bytes →
+      values_at new (offset + k) ≡ slice_index bytes k ∷ values_at old (offset + k)
+  pub outside : (k : ℕ) → (k < offset) ⊎ (offset + length bytes ≤ k) → values_at new k ≡ values_at old k
+
+-- any of them are
+pub record MayWrite (offset : ℕ) (bytes : List ℕ) (old new : FileState) : Type 0 where
+  pub long : length new.values ≡ length old.values
+  pub copies : new.copies ≡ old.copies
+  pub inside : (k : ℕ) → k < length bytes →
+      (values_at new (offset + k) ≡ slice_index bytes k ∷ values_at old (offset + k))
+      ⊎ (values_at new (offset + k) ≡ values_at old (offset + k))
+  pub outside : (k : ℕ) → (k < offset) ⊎ (offset + length bytes ≤ k) → values_at new k ≡ values_at old k
+
+-- A loss leaves one value of each byte: that which is read, unless copies are held from before.
+pub record Syncs (old new : FileState) : Type 0 where
+  pub long : length new.values ≡ length old.values
+  pub copies : new.copies ≡ old.copies
+  pub one : (k : ℕ) → k < length old.values →
+      (value : ℕ) × Contains (values_at old k) value × (values_at new k ≡ value ∷ [])
+  pub read : old.copies ≡ false → (k : ℕ) → values_at new k ≡ take 1 (values_at old k)
+
+-- a write of these bytes, by what it answered: one that failed may have written any of them
+abbrev pub WritesFile : ℕ → List ℕ → Result (Unit {0}) StoreError → FileState → FileState → Type 0
+WritesFile offset bytes (Ok done) old new = Writes offset bytes old new
+WritesFile offset bytes (Err failed) old new = MayWrite offset bytes old new
+
+-- a sync: one that failed makes nothing durable
+abbrev pub SyncsFile : Result (Unit {0}) StoreError → FileState → FileState → Type 0
+SyncsFile (Ok done) old new = Syncs old new
+SyncsFile (Err failed) old new = new ≡ old
+
+-- the copies are dropped: what is read is what a sync makes durable
+abbrev pub DropsCopies : Result (Unit {0}) StoreError → FileState → FileState → Type 0
+DropsCopies (Ok done) old new = new ≡ record old { copies = false }
+DropsCopies (Err failed) old new = new ≡ old
+
+-- all bytes are read
+abbrev pub ReadsFile : FileState → List ℕ → Type 0
+ReadsFile file bytes = file.copies ≡ false → bytes ≡ map newest file.values
+
+-- both tell what a loss may leave, and this holds of it, or neither tells
+abbrev pub BothTell : (FileState → FileState → Type 0) → Option FileState → Option FileState → Type 0
+BothTell P None None = Unit {0}
+BothTell P (Some old) (Some new) = P old new
+BothTell P None (Some new) = ⊥
+BothTell P (Some old) None = ⊥

@@ -1,0 +1,12 @@
+pub mod Files
+pub mod Layout
+pub mod Following
+pub mod Losing
+pub mod Marking
+pub mod Clearing
+pub mod FileFlashState
+pub mod FileFlash
+pub mod Opening
+pub mod Loads
+pub mod Filling
+pub mod LossExamples
