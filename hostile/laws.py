@@ -1,5 +1,5 @@
 #!/usr/bin/env python3
-"""The laws of a sound image by their definitions (docs/theory.md, 'Sound lists'), and what `explain` must say.
+"""The laws of a sound image by their definitions (docs/design.md, 'Sound lists'), and what `explain` must say.
 
     laws.py IMAGE
 

@@ -1,4 +1,4 @@
-"""The array machine of docs/theory.md over sets of states: is there a run with these replies?
+"""The array machine of docs/design.md over sets of states: is there a run with these replies?
 
 A state is an array, the open transactions, and what is armed. Where the documents leave open what a break hit, there is
 a state for each answer, and a reply keeps those states that may give it. A run is refused where none is left."""

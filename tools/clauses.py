@@ -1,8 +1,8 @@
 #!/usr/bin/env python3
-"""Writes docs/clauses.md: for each clause of a function that has answers, the lemmas that they cite, and their files.
+"""Names, for each clause of a function that has answers, the lemmas that they cite, and the files where these stand.
 
-    tools/clauses.py            writes docs/clauses.md
-    tools/clauses.py --check    says whether docs/clauses.md is what would be written; the status is 1 where it is not
+    tools/clauses.py            writes docs/clauses.md, which is not committed; look it up there by the function's name
+    tools/clauses.py --check    writes nothing: whether all answers can be read so; the status is 1 where some cannot
 
 A clause without a row is proved by the prover's own search, or by an answer that cites no lemma of the repository.
 """
@@ -16,8 +16,8 @@ IDENTIFIER = re.compile(r"[^\W\d][\w'-]*(?:₁|₂|₃)?")
 
 HEAD = """# Clauses and their lemmas
 
-Where the proof of a clause is. This file is written by `tools/clauses.py`, and `tools/clauses.py --check` says whether
-it is true. A function's answers stand in `crates/CRATE/proofs`, in a folder with its path: those of `Device::step` are
+Where the proof of a clause is. This file is written by `tools/clauses.py` from the proofs, and not committed. A
+function's answers stand in `crates/CRATE/proofs`, in a folder with its path: those of `Device::step` are
 `crates/tx_engine/proofs/device/Device/step/Answers.antt`. For each clause that they prove this names the lemmas that
 they cite, and the files where these stand, in the same `proofs` where no crate is named. A field of a clause that is a
 record is named behind its clause, or alone where the function has one clause. `invariant` is that of a type, `ensures`
@@ -125,15 +125,19 @@ def rows_of(path, crate):
             yield function, name, names, files
 
 
+def answers():
+    """Each crate of crates.txt that has proofs, with its files of answers."""
+    for line in (ROOT / 'crates.txt').read_text().split('\n'):
+        crate = line.partition('#')[0].partition(':')[0].strip()
+        proofs = ROOT / 'crates' / crate / 'proofs'
+        if crate and proofs.is_dir():
+            yield crate, sorted(proofs.rglob('Answers.antt'))
+
+
 def document():
     lines = [HEAD]
-    for crate in (ROOT / 'crates.txt').read_text().split('\n'):
-        crate = crate.partition('#')[0]
-        crate = crate.split(':')[0].split()[0] if crate.split() else ''
-        proofs = ROOT / 'crates' / crate / 'proofs'
-        if not crate or not proofs.is_dir():
-            continue
-        rows = [row for path in sorted(proofs.rglob('Answers.antt')) for row in rows_of(path, crate)]
+    for crate, paths in answers():
+        rows = [row for path in paths for row in rows_of(path, crate)]
         if rows:
             lines.append('## %s\n\n| Function | Clause | Lemmas | Files |\n|---|---|---|---|' % crate)
             for function, clause, names, files in rows:
@@ -144,14 +148,36 @@ def document():
     return '\n'.join(lines).rstrip('\n') + '\n'
 
 
+def mistakes():
+    """What keeps an answers file from being read: no goal in it, or an import from a file of proofs that is not there."""
+    for _, paths in answers():
+        for path in paths:
+            text = path.read_text()
+            if not any('goal.%s' % name in body for name, body in declarations(text).items()):
+                yield path, 'no goal'
+            for crate, module in re.findall(r'^use Rattle\.(\w+)\.proofs\.([\w.]+?)\.\{', text, re.M):
+                proofs = ROOT / 'crates' / crate / 'proofs'
+                # the prover writes the goals, and the toolchain has crates of its own
+                if not proofs.is_dir() or module.endswith('Goals'):
+                    continue
+                if not (proofs / (module.replace('.', '/') + '.antt')).exists():
+                    yield path, 'no %s.proofs.%s' % (crate, module)
+
+
 def main():
+    if sys.argv[1:] not in ([], ['--check']):
+        print(__doc__.strip())
+        return 0 if sys.argv[1:] == ['--help'] else 2
     text = document()
+    rows = text.count('\n| `')
     if sys.argv[1:] == ['--check']:
-        same = OUT.exists() and OUT.read_text() == text
-        print('docs/clauses.md is %s' % ('true' if same else 'not what tools/clauses.py writes'))
-        return 0 if same else 1
+        found = list(mistakes())
+        for path, what in found:
+            print('%s: %s' % (path.relative_to(ROOT), what))
+        print('%d rows, %d answers that cannot be read' % (rows, len(found)))
+        return 1 if found or not rows else 0
     OUT.write_text(text)
-    print('%d rows' % text.count('\n| `'))
+    print('%d rows' % rows)
     return 0
 
 

@@ -75,7 +75,7 @@ class Ended(NamedTuple):
 def said_by_try(program: str, words: Sequence[str]) -> Ended:
     """What a program says to these words unproved. Where rt try has no answer, this ends the script."""
     if not shutil.which("rt"):
-        tell(program, "no rt on the path; docs/manual.md says what this needs")
+        tell(program, "no rt on the path; README.md says what this needs")
         sys.exit(NOT_STARTED)
     tell(program, "running unproved, checked by rt try: this takes a minute or two")
     child = subprocess.Popen(["rt", "try", "--", *words], cwd=f"{TOP}/crates/{program}", stdin=subprocess.DEVNULL,

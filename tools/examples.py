@@ -1,7 +1,10 @@
 #!/usr/bin/env python3
 """examples.py: compares the files of examples/scripts, and what docs/manual.md shows of calls, with the cases of the
-program `cases`, which has the files under the names examples/NAME. It says a line for each thing that differs, and then
-the status is 1. `transcripts.py` gives the calls of the manual to the built program."""
+program `cases`, which has the files under the names examples/NAME. It prints a line for each thing that differs, and
+then the status is 1. `transcripts.py` gives the calls of the manual to the built program.
+
+In the manual an answer stands behind its command, in the same indented block or in the next one. The replies to a file
+of the examples may stand beside its commands (`sides`)."""
 
 import os
 import re
@@ -79,39 +82,86 @@ def in_cases(asked):
     return asked and (asked[0], asked[1].replace(f"{SCRIPTS}/", "examples/"))
 
 
-def differs(block, before, asked, is_answer, calls, said):
-    """What is not so of a block, if anything: that it is a file of the examples, or an answer."""
-    named = re.findall(rf"`(?:{SCRIPTS}/)?([\w-]+\.txt)`", before)
-    if block[0].startswith("#") and named:
-        name = f"{SCRIPTS}/{named[-1]}"
-        return None if read_lines(name) == block else f"this is not {name}"
-    if is_answer:
-        asked = in_cases(asked)
-        if asked not in calls:
-            return f"no case calls {' '.join(asked)}"
-        return None if block in calls[asked] else f"no case says this after {' '.join(asked)}"
-    # What the script says of a mistake is no word of the program.
-    missing = [line for line in block if line not in said and not line.startswith("txflash: ")]
-    return f"no case says {missing[0]}" if missing else None
-
-
 def is_command(line):
     """Whether a line of the manual is one for a shell."""
     return re.match(r"\./|cp |printf |python3 ", line) is not None
 
 
+def turns(block):
+    """The commands of a block for a shell, each with the lines behind it, which it prints."""
+    found = []
+    for line in block:
+        if is_command(line):
+            found.append((line, []))
+        else:
+            found[-1][1].append(line)
+    return found
+
+
+def sides(block):
+    """The lines of a file of the examples, and the replies beside them. A reply stands two blanks or more behind its
+    command. A reply of several lines goes on in lines that begin with two blanks."""
+    lines, replies = [], []
+    for line in block:
+        command, _, reply = (line, "", "") if line.startswith("#") else line.partition("  ")
+        lines += [command] if command else []
+        replies += [reply.strip()] if reply else []
+    return lines, replies
+
+
+def is_beside(block):
+    """Whether a block is a file of the examples with replies beside its commands."""
+    return block[0].startswith("#") and sides(block)[1] != []
+
+
+def differs_in_answer(answer, asked, calls):
+    """What is not so of an answer to a call, if anything."""
+    asked = in_cases(asked)
+    if asked not in calls:
+        return f"no case calls {' '.join(asked or ['it'])}"
+    return None if answer in calls[asked] else f"no case says this after {' '.join(asked)}"
+
+
+def differs_beside(block, asked, calls):
+    """What is not so of a file of the examples with replies beside its commands, if anything."""
+    name = asked[1].split()[-1] if asked else ""
+    if not os.path.isfile(f"{TOP}/{name}"):
+        return "no call that serves these commands stands before"
+    lines, replies = sides(block)
+    return f"this is not {name}" if read_lines(name) != lines else differs_in_answer(replies, asked, calls)
+
+
+def differs(block, before, asked, is_answer, calls, said):
+    """What is not so of a block, if anything: that it is a file of the examples, or an answer."""
+    if is_beside(block):
+        return differs_beside(block, asked, calls)
+    named = re.findall(rf"`(?:{SCRIPTS}/)?([\w-]+\.txt)`", before)
+    if block[0].startswith("#") and named:
+        name = f"{SCRIPTS}/{named[-1]}"
+        return None if read_lines(name) == block else f"this is not {name}"
+    if is_answer:
+        return differs_in_answer(block, asked, calls)
+    # What the script says of a mistake is no word of the program.
+    missing = [line for line in block if line not in said and not line.startswith("txflash: ")]
+    return f"no case says {missing[0]}" if missing else None
+
+
 def compare_manual(calls):
-    """A line for each block of the manual that the cases do not have."""
+    """A line for each answer and file of the manual that the cases do not have."""
     said = {line for texts in calls.values() for text in texts for line in text}
     asked, command = None, ""
     for number, before, block in blocks(read_lines(MANUAL)):
         inline = asked_in(before)
         asked = inline or asked
         if is_command(block[0]):
-            command = block[-1]
-            asked = asked_in(command)
+            for command, answer in turns(block):
+                asked = asked_in(command)
+                wrong = answer and not command.startswith("python3 ") and differs_in_answer(answer, asked, calls)
+                if wrong:
+                    yield f"{MANUAL}, line {number}: {wrong}"
+            command = "" if answer else command
             continue
-        # What a script of another folder says is no answer of the programs.
+        # What a script of another folder prints is no answer of the programs.
         if inline is None and command.startswith("python3 "):
             continue
         is_answer = inline is not None or before == "It says" or command != "" and before == ""

@@ -40,7 +40,7 @@ def built_program(program: str) -> str:
     if found:
         return found
     if not shutil.which("rt"):
-        tell(program, "no rt on the path; docs/manual.md says what this needs")
+        tell(program, "no rt on the path; README.md says what this needs")
         sys.exit(NOT_STARTED)
     status = prove.build(program)
     if status:

@@ -143,7 +143,7 @@ class Proofs:
 
     def run(self) -> int:
         """Proves and builds. Answers the status."""
-        self.tell("proving and building the program first; docs/manual.md says how long that takes")
+        self.tell("proving and building the program first; README.md says how long that takes")
         if not (self.prove() and self.build()):
             self.tell("the program was not built: see above")
             return 125

@@ -1,8 +1,8 @@
 #!/usr/bin/env python3
 """transcripts.py [EXE [FLASH_VIEW]]: gives all calls of docs/manual.md, in the order in which they stand and from an
-empty folder, to the built programs, and compares what they say with the manual. A line tells each thing that differs,
-and then the status is 1. Where there is no FLASH_VIEW, its calls are left out. `examples.py` compares the manual with
-the cases, without a program."""
+empty folder, to the built programs, and compares what they print with the manual. It prints a line for each thing that
+differs, and then the status is 1. Where there is no FLASH_VIEW, its calls are left out. `examples.py` compares the
+manual with the cases, without a program."""
 import os
 import re
 import subprocess
@@ -10,13 +10,8 @@ import sys
 import tempfile
 from typing import Dict, Iterator, List, Optional
 
-from examples import MANUAL, SCRIPTS, asked_in, blocks, is_command, read_lines
+from examples import MANUAL, SCRIPTS, asked_in, blocks, is_beside, is_command, read_lines, sides, turns
 from prove import TOP, path_of
-
-
-def commands_of(block: List[str]) -> List[str]:
-    """The lines of a block that are for a shell; one with a bracket tells what may be called."""
-    return [it for it in block if is_command(it) and "[" not in it]
 
 
 class Reader:
@@ -33,7 +28,7 @@ class Reader:
 
     def give(self, command: str) -> None:
         """Gives a command to a shell, and keeps what it says."""
-        if "./flash_view" in command and not self.sees:
+        if re.search(r"\./flash_view|story\.py", command) and not self.sees:
             self.answer, self.left = None, self.left + 1
             return
         done = subprocess.run(["sh", "-c", command], cwd=self.folder, env=self.environment, stdin=subprocess.DEVNULL,
@@ -54,15 +49,21 @@ class Reader:
             inline = asked_in(before)
             asked = inline or asked
             if is_command(block[0]):
-                after_command = bool(commands_of(block))
-                for command in commands_of(block):
+                # A command with a bracket tells what may be called.
+                given = [it for it in turns(block) if "[" not in it[0]]
+                for command, answer in given:
                     self.give(command)
+                    if answer:
+                        yield from self.differs(number, answer)
+                after_command = bool(given)
                 continue
-            is_file = block[0].startswith("#") and re.search(rf"`({SCRIPTS}/)?[\w-]+\.txt`", before)
+            beside = is_beside(block)
+            block = sides(block)[1] if beside else block
+            is_file = not beside and block[0].startswith("#") and re.search(rf"`({SCRIPTS}/)?[\w-]+\.txt`", before)
             if not is_file and (inline or before == "It says"):
                 self.give(f"./{'txflash' if asked[0] == 'call' else 'flash_view'} {asked[1]}")
                 yield from self.differs(number, block)
-            elif after_command and before in ("", "The last line says"):
+            elif after_command and before == "":
                 yield from self.differs(number, block)
             after_command = False
 
