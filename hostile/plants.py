@@ -77,7 +77,8 @@ def is_noticed(program: str, plant: Plant, seed: int, number: int) -> bool:
         sweep = [sys.executable, os.path.join(copy, "sweep.py"), program, "--processes", "1",
                  "--keep", os.path.join(folder, "differ")]
         ended = subprocess.run([*sweep, *words], stdout=subprocess.PIPE, stderr=subprocess.STDOUT, text=True)
-        return ended.returncode != 0 and "differs: " in ended.stdout
+        # a rule that cannot answer at all is noticed too
+        return ended.returncode != 0 and ("differs: " in ended.stdout or "Traceback" in ended.stdout)
 
 
 def main() -> int:

@@ -346,7 +346,7 @@ def sweep(args: argparse.Namespace) -> int:
     with multiprocessing.Pool(args.processes) as pool:
         found = pool.map(work, jobs, 1)
     counts: Counter[str] = sum((it.counts for it in found), collections.Counter())
-    differ, slowest = sum(it.differ for it in found), max(it.slowest for it in found)
+    differ, slowest = sum(it.differ for it in found), max((it.slowest for it in found), default=0.0)
     for name in sorted(counts):
         print(f"{counts[name]:9} {name}")
     seldom = rare(counts) if args.images and not args.quick else []
