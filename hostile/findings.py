@@ -26,7 +26,7 @@ def lines_of(text: bytes) -> List[bytes]:
 
 def first_wrong_line(wanted: bytes, given: bytes) -> int:
     pairs = itertools.zip_longest(lines_of(wanted), lines_of(given))
-    return next(number for number, (one, other) in enumerate(pairs, 1) if one != other)
+    return next((number for number, (one, other) in enumerate(pairs, 1) if one != other), 0)
 
 
 def unread(data: Optional[bytes], name: str) -> Optional[Finding]:
