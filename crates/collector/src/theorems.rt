@@ -1,12 +1,11 @@
 //! What follows where the tables of a device match its flash. The functions do nothing: each is
 //! there for what it ensures.
-ghost use Rattle.std.specs.Prelude.{◌≡◌, ℕ};
+ghost use Rattle.std.specs.Prelude.{◌≡◌};
 ghost use Rattle.flash_model.specs.Flash.{FlashState};
 ghost use Rattle.judged_records.specs.IndexState.{IndexState, pinned_names};
 ghost use Rattle.judged_records.specs.Notes.{note_at};
 ghost use Rattle.judged_records.specs.declared.note.Note.TheVariants as note;
 ghost use Rattle.die_alloc.specs.BlocksState.{BlocksState};
-ghost use Rattle.collector.specs.Going.{blocks_to_go};
 ghost use Rattle.collector.specs.Laws.{ArrayStays, ImageIsSound, KnownImageIsSound, NotingKeeps, OpenedTablesMatch};
 ghost use Rattle.collector.specs.Matches.{Matches, AllOfBlock};
 ghost use Rattle.collector.specs.Tidy.{IsTidy};
@@ -14,7 +13,6 @@ ghost use Rattle.collector.specs.Victim.{HasNoGarbage};
 ghost use Rattle.collector.specs.declared.unsure.Unsure.TheVariants as unsure;
 
 use record_list::CommitRule;
-use tx_types::Protocol;
 
 /// The tables of a sound image match the flash that they were read from.
 pub fn opened_tables_match()
@@ -50,10 +48,4 @@ pub fn no_garbage_means_tidy()
         Matches s n t unsure.Nothing →
         AllOfBlock n t.spare (λ slot. note_at n.notes slot ≡ note.Blank) → HasNoGarbage n t →
         IsTidy n.config.protocol n.config.logical s.image (pinned_names n.pins) }
-{}
-
-/// Under Back Pointer Cyclic Commit nothing ever must go.
-pub fn nothing_goes()
-    ensures { (n : IndexState) (page below : ℕ) → n.config.protocol ≡ Protocol.Bpcc →
-        blocks_to_go n page below ≡ 0 }
 {}

@@ -114,7 +114,7 @@ fn put_over<F: Folder>(
 }
 
 /// Puts a new file at a name at which nothing was. What came there meanwhile is not replaced, and is a
-/// fault. Where the system knows no second names, it is.
+/// fault. Where the system knows no second names, the new file replaces it.
 #[tactic(auto, using(crate::proofs::Causing::turn_later, crate::proofs::Causing::turn_failed))]
 fn put_anew<F: Folder>(
     folder: &mut F,

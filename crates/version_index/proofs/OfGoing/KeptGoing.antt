@@ -1,9 +1,8 @@
 -- The lowest block that must go, by the tables.
 use Rattle.version_index.proofs.Common.{◌≡◌, ℕ, ◌<◌, ◌/◌, ◌⊎◌, true, ◌↔◌, List, length, IsSome, Option, Some, None, refl, sym, ap, ◌∙◌, subst, inl, inr, arith, slice_get, option_map, false≢true, cases_Bool, cases_lt, none-some, same_Some, get_or_past, All-contains, cases_Option, Rec, Config, Protocol, Scc, Bpcc, name_of, same_name, TablesState, IsTablesState, use_at, holds, copies_of, number_at, numbers_at, found_in, block_to_go, waits_of, is_waiting, rec_at, Goes, notes_in, noted_by, numbered_of, AreIndexed}
-use Rattle.std.proofs.Common.{min, IsSomeAnd}
+use Rattle.std.proofs.Common.{IsSomeAnd}
 use Rattle.record_list.specs.Current.{is_loose}
 use Rattle.slot_tables.specs.declared.slots.SlotUse.TheVariants as slot
-use Rattle.slot_tables.specs.TablesState.{lower}
 use Rattle.judged_records.specs.Derived.{IsNewestUncommitted, WaitsBelow, loose_of, goes_of}
 use Rattle.judged_records.proofs.OfReadings.Firsts.{head_find, first_passed, none_passed}
 use Rattle.judged_records.proofs.OfNotes.FoundIn.{found}
@@ -44,53 +43,6 @@ lowest_copy k Such x such only = of_head (slice_get (copies_of k.slots x) 0) ref
           lowest = λ other y here is. first.least other (omega arith)
               (use_holds x (use_at k.slots other) (here ∙ ap slot.Holds (only y is))) refl;
         }
-
--- the lower one of two such slots
-pub lower_of : (k : TablesState) (P Q : ℕ → Type 0) (a b : Option ℕ) → IsLowestIn k P a → IsLowestIn k Q b →
-    IsLowestIn k (λ x. P x ⊎ Q x) (lower a b)
-lower_of k P Q None None p q = λ at x here such. elim such [ inl one ↦ p at x here one | inr other ↦ q at x here other ]
-lower_of k P Q None (Some b) p q = record {
-  number = q.number;
-  holds = q.holds;
-  such = inr q.such;
-  lowest = λ other x here such. elim such [
-    | inl one ↦ absurd (p other x here one)
-    | inr two ↦ q.lowest other x here two
-  ];
-}
-lower_of k P Q (Some a) None p q = record {
-  number = p.number;
-  holds = p.holds;
-  such = inl p.such;
-  lowest = λ other x here such. elim such [
-    | inl one ↦ p.lowest other x here one
-    | inr two ↦ absurd (q other x here two)
-  ];
-}
-lower_of k P Q (Some a) (Some b) p q = elim (cases_lt b a) [
-  | inl second ↦ (
-      let is : b ≡ min a b = omega arith in
-      subst (IsLowestOf k (λ x. P x ⊎ Q x)) is (record {
-        number = q.number;
-        holds = q.holds;
-        such = inr q.such;
-        lowest = λ other x here such. elim such [
-          | inl one ↦ (let low = p.lowest other x here one in omega arith)
-          | inr two ↦ q.lowest other x here two
-        ];
-      }))
-  | inr first ↦ (
-      let is : a ≡ min a b = omega arith in
-      subst (IsLowestOf k (λ x. P x ⊎ Q x)) is (record {
-        number = p.number;
-        holds = p.holds;
-        such = inl p.such;
-        lowest = λ other x here such. elim such [
-          | inl one ↦ p.lowest other x here one
-          | inr two ↦ (let low = q.lowest other x here two in omega arith)
-        ];
-      }))
-]
 
 -- what a test of a record says is what it says of the record that there is
 some_and : (o : Option Rec) (P : Rec → Type 0) (r : Rec) → o ≡ Some r → IsSomeAnd o P → P r
