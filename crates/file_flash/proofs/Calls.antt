@@ -1,5 +1,5 @@
 -- What the calls of a store make of the file that it tells, if it tells.
-use Rattle.file_flash.proofs.Common.{◌≡◌, ℕ, suc, ◌+◌, ◌*◌, ◌<◌, ◌≤◌, ◌++◌, List, [], ◌∷◌, length, get_or, Option, Result, Ok, Err, IfSome, OnOk, sym, subst, arith, slots_of, Shape, Slot, Contents, blank, slot_at, IsWhole, IsImage, seen_of, cell_bytes, cell_of, state_byte, Seen, Blank, Complete, Damaged, StoreError, FileState, WritesFile, SyncsFile, BothTell, state_offset, cell_offset, IsOpened, IsImageFile, Follows, LosesOnly, LosesBetween}
+use Rattle.file_flash.proofs.Common.{◌≡◌, ℕ, suc, ◌+◌, ◌*◌, ◌<◌, ◌≤◌, ◌++◌, List, [], ◌∷◌, length, get_or, Option, Result, Ok, Err, IfSome, OnOk, subst, arith, slots_of, Shape, Slot, Contents, blank, slot_at, IsWhole, IsImage, seen_of, cell_bytes, cell_of, state_byte, Seen, Blank, Complete, Damaged, StoreError, FileState, WritesFile, SyncsFile, BothTell, state_offset, cell_offset, IsLong, IsOpened, IsImageFile, Follows, LosesOnly, LosesBetween}
 use Rattle.std.proofs.lemmas.List.Elements.{All-get_or}
 use Rattle.image_file.proofs.ImageLemmas.{length-cell_of}
 use Rattle.file_flash.specs.Marking.{Marks}
@@ -7,8 +7,8 @@ use Rattle.file_flash.specs.Clearing.{IsCleared, Tears}
 use Rattle.file_flash.proofs.Told.{carry, carry_both, carry_some, weaken, weaken_both}
 use Rattle.file_flash.proofs.Common.{slots_in, true}
 use Rattle.file_flash.proofs.Places.{cell_end, state_end}
-use Rattle.file_flash.proofs.Writing.{may_write, opened_write, opened_sync, image_file_sync, image_file_cell, image_file_state}
-use Rattle.file_flash.proofs.Losing.{follows_lose}
+use Rattle.file_flash.proofs.Writing.{may_write, opened_write, opened_sync, long_sync, image_file_sync, image_file_cell, image_file_state}
+use Rattle.file_flash.proofs.Losing.{same_left, follows_lose}
 use Rattle.file_flash.proofs.Flushing.{begun, ended, marks_next, marks_file, marks_lose}
 use Rattle.file_flash.proofs.Clearing.{none_torn, torn_next, torn_may, cleared, tears_lose, cleared_loses}
 use Rattle.file_flash.proofs.Programming.{may_follow, put_follows}
@@ -32,6 +32,10 @@ state_room shape at offset bytes file low is long o =
     let all : length f.values ≡ 64 + slots_of shape * (65 + shape.page_bytes) = it.long in
     omega (arith, is, long, all, state_end (slots_of shape) shape.page_bytes at low)))
 
+-- a file that is opened is as long
+pub long_opened : (shape : Shape) (file : Option FileState) → IfSome file (IsOpened shape) → IfSome file (IsLong shape)
+long_opened shape file o = weaken (IsOpened shape) (IsLong shape) file o (λ a it. it.long)
+
 module _ (shape : Shape) (old new : Option FileState) where
   -- any write and any sync
   pub opened_written : (offset : ℕ) (bytes : List ℕ) (r : Result (Unit {0}) StoreError) →
@@ -42,9 +46,15 @@ module _ (shape : Shape) (old new : Option FileState) where
       (λ a b w it. opened_write shape offset bytes a b (may_write offset bytes r a b w) it)
 
   pub opened_synced : (r : Result (Unit {0}) StoreError) → BothTell (SyncsFile r) old new →
-      IfSome old (IsOpened shape) → IfSome new (IsOpened shape)
-  opened_synced r told o = carry (IsOpened shape) (IsOpened shape) (SyncsFile r) old new told o
-      (λ a b s it. opened_sync shape r a b s it)
+      IfSome old (IsOpened shape) → OnOk r (IfSome new (IsOpened shape))
+  opened_synced (Err e) told o = tt
+  opened_synced (Ok u) told o = carry (IsOpened shape) (IsOpened shape) (SyncsFile (Ok u)) old new told o
+      (λ a b s it. opened_sync shape a b s it)
+
+  pub long_synced : (r : Result (Unit {0}) StoreError) → BothTell (SyncsFile r) old new →
+      IfSome old (IsOpened shape) → IfSome new (IsLong shape)
+  long_synced r told o = carry (IsOpened shape) (IsLong shape) (SyncsFile r) old new told o
+      (λ a b s it. long_sync shape r a b s it.long)
 
   pub kept_synced : (header : List ℕ) (r : Result (Unit {0}) StoreError) → BothTell (SyncsFile r) old new →
       IfSome old (IsImageFile shape header) → IfSome new (IsImageFile shape header)
@@ -126,19 +136,21 @@ module _ (shape : Shape) (image : List Contents) (waiting : List Slot) where
       (subst (λ i. Marks shape image waiting i a) all marks))
 
   -- a sync that fails
-  pub unsynced : (P : FileState → Type 0) (old new : Option FileState) (r : Result (Unit {0}) StoreError)
+  pub unsynced : (old new : Option FileState) (r : Result (Unit {0}) StoreError)
       (e : StoreError) → r ≡ Err e →
-      BothTell (SyncsFile r) old new → IfSome old P → IfSome new P
-  unsynced P old new r e err told p =
-      carry P P (SyncsFile r) old new told p (λ a b s it. subst P (sym (subst (λ x. SyncsFile x a b) err s)) it)
+      BothTell (SyncsFile r) old new → IfSome old (LosesOnly shape image waiting) →
+      IfSome new (LosesOnly shape image waiting)
+  unsynced old new r e err told p =
+      carry (LosesOnly shape image waiting) (LosesOnly shape image waiting) (SyncsFile r) old new told p
+      (λ a b s it left l. it left (same_left a b left (subst (λ x. SyncsFile x a b) err s) l))
 
   module _ (is : IsImage shape image) where
     pub follows_told : (due slots : List Slot) (file : Option FileState) →
         ((k : ℕ) → slots_in waiting k ≡ true → slots_in slots k ≡ true) →
-        ((k : ℕ) → slots_in due k ≡ true → slots_in slots k ≡ true) → IfSome file (IsOpened shape) →
+        ((k : ℕ) → slots_in due k ≡ true → slots_in slots k ≡ true) → IfSome file (IsLong shape) →
         IfSome file (Follows shape image waiting due) → IfSome file (LosesOnly shape image slots)
     follows_told due slots file waits dues o f =
-        weaken_both (IsOpened shape) (Follows shape image waiting due) (LosesOnly shape image slots) file o f
+        weaken_both (IsLong shape) (Follows shape image waiting due) (LosesOnly shape image slots) file o f
         (λ a it follows. follows_lose shape image waiting due slots a is it follows waits dues)
 
     pub marks_told : (n : ℕ) (file : Option FileState) → IfSome file (IsOpened shape) →
@@ -216,11 +228,9 @@ module _ (shape : Shape) (image new_image : List Contents) (first : ℕ) where
           IfSome old (Tears shape image new_image first upto) →
           IfSome new (LosesBetween shape image new_image)
       sync_loses old new (Err e) upto all told o t =
-          tears_told new upto (omega (arith, all))
-          (opened_synced shape old new (Err e) told o)
-          (carry (Tears shape image new_image first upto) (Tears shape image new_image first upto) (SyncsFile (Err e))
-          old new told t
-          (λ a b s it. subst (Tears shape image new_image first upto) (sym s) it))
+          carry (LosesBetween shape image new_image) (LosesBetween shape image new_image) (SyncsFile (Err e))
+          old new told (tears_told old upto (omega (arith, all)) o t)
+          (λ a b s it left l. it left (same_left a b left s l))
       sync_loses old new (Ok u) upto all told o t =
           weaken_both (IsOpened shape) (Follows shape new_image [] []) (LosesBetween shape image new_image) new
           (opened_synced shape old new (Ok u) told o)

@@ -137,7 +137,7 @@ cleared shape old new first count file file' o s c t = record {
 }
   where
     state : (k : ℕ) → k < length old → state_values file' k ≡ state_byte (seen_of (slot_at new k)) ∷ []
-    state k low = s.read o.copies _ ∙ (elim (cases_lt k first) [
+    state k low = s.newest o.copies _ ∙ (elim (cases_lt k first) [
       | inl before ↦ ap (take 1) ((t.outside k low (inl before)).state refl)
           ∙ ap (λ x. state_byte (seen_of x) ∷ []) (sym (c.outside k (inl before)))
       | inr from ↦ elim (cases_lt k (first + count)) [
@@ -175,22 +175,22 @@ module _ (shape : Shape) (old new : List Contents) (first count upto : ℕ) (fil
       let whole' : IsWhole shape.page_bytes (slot_at new k) = All-get_or (IsWhole shape.page_bytes) new k blank within
       new_is.whole in
       elim (cases_lt k first) [
-        | inl before ↦ inl (leaves_same shape file left o l k low (slot_at old k) whole
+        | inl before ↦ inl (leaves_same shape file left o.long l k low (slot_at old k) whole
             (t.outside k inside (inl before)))
         | inr from ↦ elim (cases_lt k upto) [
           | inl torn ↦ (
               let its = t.inside k inside from torn in
               let one = subst (λ values. Contains values (get_or left (64 + k) 0)) its.states
-              (state_one_of shape file left o l k low) in
+              (state_one_of shape file left o.long l k low) in
               ⊎_elim
-              (λ e. inr (leaves_own shape file left o l k low (slot_at new k) whole'
+              (λ e. inr (leaves_own shape file left o.long l k low (slot_at new k) whole'
               (new_durable shape (slot_at old k) (slot_at new k) file k (c.inside k from (omega (arith, torn, bound)))
               its.durable) (sym e)))
-              (λ i. inl (leaves_own shape file left o l k low (slot_at old k) whole its.durable
+              (λ i. inl (leaves_own shape file left o.long l k low (slot_at old k) whole its.durable
               (sym (Contains-one (state_byte (seen_of (slot_at old k))) (get_or left (64 + k) 0) i))))
               (Contains-cases (state_byte (seen_of (slot_at new k))) (state_byte (seen_of (slot_at old k)) ∷ [])
               (get_or left (64 + k) 0) one))
-          | inr behind ↦ inl (leaves_same shape file left o l k low (slot_at old k) whole
+          | inr behind ↦ inl (leaves_same shape file left o.long l k low (slot_at old k) whole
               (t.outside k inside (inr behind)))
         ]
       ]
@@ -201,7 +201,7 @@ pub cleared_loses : (shape : Shape) (old new : List Contents) (file : FileState)
     IsOpened shape file → Follows shape new [] [] file → LosesBetween shape old new file
 cleared_loses shape old new file is lengths o f left l k inside =
     let within : k < length new = omega (arith, lengths) in
-    inr (leaves_same shape file left o l k (omega (arith, is.slots)) (slot_at new k)
+    inr (leaves_same shape file left o.long l k (omega (arith, is.slots)) (slot_at new k)
     (All-get_or (IsWhole shape.page_bytes) new k blank within is.whole) (f.keeps k within refl))
 
 -- what an erase makes of an image, however it ends

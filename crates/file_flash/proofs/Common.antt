@@ -12,7 +12,7 @@ pub use Rattle.mem_flash.specs.Slots.{cell_bytes, cell_of, contents_of, image_of
 pub use Rattle.image_file.specs.Spelling.{state_byte}
 pub use Rattle.image_file.specs.States.{head_bytes}
 pub use Rattle.file_flash.specs.declared.store.StoreError.{StoreError}
-pub use Rattle.file_flash.specs.Files.{FileState, values_at, LeavesBytes, Writes, MayWrite, Syncs, WritesFile, SyncsFile, BothTell}
-pub use Rattle.file_flash.specs.Layout.{state_offset, cell_offset, state_values, own_values, image_said, IsOpened, IsImageFile}
+pub use Rattle.file_flash.specs.Files.{FileState, values_at, LeavesBytes, Writes, MayWrite, Syncs, WritesFile, SyncsFile, ReadsFile, BothTell}
+pub use Rattle.file_flash.specs.Layout.{state_offset, cell_offset, state_values, own_values, image_said, IsLong, IsOpened, IsImageFile}
 pub use Rattle.file_flash.specs.Following.{slots_in, IsWritten, IsDurable, FollowsSlot, IsProgrammed, AreProgrammed, Follows}
 pub use Rattle.file_flash.specs.Losing.{IsWithout, IsBetween, LosesOnly, LosesBetween}

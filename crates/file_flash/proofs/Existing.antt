@@ -1,10 +1,11 @@
--- States of a file after a write and after a sync, and small examples.
-use Rattle.file_flash.proofs.Common.{◌≡◌, ◌≢◌, ◌⊎◌, ℕ, zero, suc, ◌+◌, ◌<◌, ◌≤◌, List, [], ◌∷◌, length, take, get_or, map, All, Contains, refl, sym, ap, ◌∙◌, inl, inr, arith, blank, damaged, FileState, LeavesBytes, Writes, Syncs, IsWithout, IsBetween}
+-- Bytes that are read, states of a file after a write and after a sync, and small examples.
+use Rattle.file_flash.proofs.Common.{◌≡◌, ◌≢◌, ◌⊎◌, ℕ, zero, suc, ◌+◌, ◌<◌, ◌≤◌, true, false, List, [], ◌∷◌, length, take, get_or, map, All, Contains, refl, sym, ap, subst, ◌∙◌, inl, inr, arith, blank, damaged, FileState, LeavesBytes, Writes, Syncs, ReadsFile, IsWithout, IsBetween}
 use Rattle.std.proofs.lemmas.List.{length-map, get_or-map, get_or_past}
-use Rattle.std.proofs.lemmas.Bool.{cases_lt}
+use Rattle.std.proofs.lemmas.Bool.{cases_lt, both_ways}
 use Rattle.std.proofs.lemmas.List.Elements.{All-get_or}
 use Rattle.list_lemmas.proofs.Membership.{Contains-one, Contains-first}
-use Rattle.file_flash.specs.LossExamples.{three, three_written, three_synced, first_slot, second_slot, slot_0, slot_1}
+use Rattle.file_flash.specs.Files.{newest}
+use Rattle.file_flash.specs.LossExamples.{three, three_written, three_synced, three_copied, first_slot, second_slot, slot_0, slot_1}
 
 -- each byte in front of the values of its place
 write_values : ℕ → List ℕ → List (List ℕ) → List (List ℕ)
@@ -54,19 +55,36 @@ written_outside (suc n) (suc k) bytes (values ∷ all) side =
 pub writes_exist : (offset : ℕ) (bytes : List ℕ) (old : FileState) → offset + length bytes ≤ length old.values →
     (new : FileState) × Writes offset bytes old new
 writes_exist offset bytes old room = (
-  record { values = write_values offset bytes old.values; copies = old.copies },
+  record { values = write_values offset bytes old.values; copies = false },
   record {
     long = length-write_values offset bytes old.values;
-    copies = refl;
+    copies = λ none. refl;
+    whole = λ all. refl;
     inside = λ k low. written_inside offset k bytes old.values room low;
     outside = λ k side. written_outside offset k bytes old.values side;
   },
 )
 
--- the newest alone
-one_value : (values : List ℕ) → values ≢ [] → (value : ℕ) × Contains values value × (take 1 values ≡ value ∷ [])
-one_value [] some = absurd (some refl)
-one_value (value ∷ values) some = (value, Contains-first value values, refl)
+-- the newest is one of them
+newest_one : (values : List ℕ) → values ≢ [] → Contains values (newest values)
+newest_one [] some = absurd (some refl)
+newest_one (value ∷ values) some = Contains-first value values
+
+pub reads_exist : (file : FileState) → All (λ values. values ≢ []) file.values → (bytes : List ℕ) × ReadsFile bytes file
+reads_exist file some = (
+  map newest file.values,
+  record {
+    left = record {
+      long = length-map file.values newest;
+      each = λ k within.
+          let low : k < length file.values = omega (arith, length-map file.values newest) in
+          subst (Contains (get_or file.values k [])) (sym (get_or-map newest file.values k [] 0 low))
+          (newest_one (get_or file.values k [])
+          (All-get_or (λ values. values ≢ []) file.values k [] low some));
+    };
+    read = λ none. refl;
+  },
+)
 
 take_at_map : (all : List (List ℕ)) (k : ℕ) → get_or (map (take 1) all) k [] ≡ take 1 (get_or all k [])
 take_at_map all k = elim (cases_lt k (length all)) [
@@ -75,16 +93,14 @@ take_at_map all k = elim (cases_lt k (length all)) [
       ∙ ap (take 1) (sym (get_or_past all k [] past))
 ]
 
-pub syncs_exist : (old : FileState) → All (λ values. values ≢ []) old.values → (new : FileState) × Syncs old new
-syncs_exist old some = (
-  record { values = map (take 1) old.values; copies = old.copies },
+pub syncs_exist : (old : FileState) → (new : FileState) × Syncs old new
+syncs_exist old = (
+  record { values = map (take 1) old.values; copies = false },
   record {
     long = length-map old.values (take 1);
-    copies = refl;
-    one = λ k low.
-        let it = one_value (get_or old.values k []) (All-get_or (λ values. values ≢ []) old.values k [] low some) in
-        (it.0, it.1, take_at_map old.values k ∙ it.2);
-    read = λ none k. take_at_map old.values k;
+    copies = λ none. refl;
+    newest = λ none k. take_at_map old.values k;
+    each = λ k. inl (take_at_map old.values k);
   },
 )
 
@@ -101,7 +117,13 @@ write_outside (suc zero) side = absurd (elim side [ inl e ↦ omega (arith, e) |
 write_outside (suc (suc k)) side = refl
 
 pub example_write : Writes 1 (9 ∷ []) three three_written
-example_write = record { long = refl; copies = refl; inside = write_inside; outside = write_outside }
+example_write = record {
+  long = refl;
+  copies = λ none. refl;
+  whole = λ all. refl;
+  inside = write_inside;
+  outside = write_outside;
+}
 
 old_each : (k : ℕ) → k < 3 → Contains (get_or three_written.values k []) (get_or (1 ∷ 2 ∷ 3 ∷ []) k 0)
 old_each zero low = (0, omega arith, refl)
@@ -121,24 +143,36 @@ new_each (suc (suc (suc k))) low = absurd (omega arith)
 pub example_new : LeavesBytes three_written (1 ∷ 9 ∷ 3 ∷ [])
 example_new = record { long = refl; each = new_each }
 
-sync_one : (k : ℕ) → k < 3 →
-    (value : ℕ) × Contains (get_or three_written.values k []) value × (get_or three_synced.values k [] ≡ value ∷ [])
-sync_one zero low = (1, (0, omega arith, refl), refl)
-sync_one (suc zero) low = (9, (0, omega arith, refl), refl)
-sync_one (suc (suc zero)) low = (3, (0, omega arith, refl), refl)
-sync_one (suc (suc (suc k))) low = absurd (omega arith)
-
-sync_read : (k : ℕ) → get_or three_synced.values k [] ≡ take 1 (get_or three_written.values k [])
-sync_read zero = refl
-sync_read (suc zero) = refl
-sync_read (suc (suc zero)) = refl
-sync_read (suc (suc (suc k))) = refl
+sync_newest : (k : ℕ) → get_or three_synced.values k [] ≡ take 1 (get_or three_written.values k [])
+sync_newest zero = refl
+sync_newest (suc zero) = refl
+sync_newest (suc (suc zero)) = refl
+sync_newest (suc (suc (suc k))) = refl
 
 pub example_sync : Syncs three_written three_synced
-example_sync = record { long = refl; copies = refl; one = sync_one; read = λ none k. sync_read k }
+example_sync = record {
+  long = refl;
+  copies = λ none. refl;
+  newest = λ none k. sync_newest k;
+  each = λ k. inl (sync_newest k);
+}
 
 pub example_durable : LeavesBytes three_synced (1 ∷ 2 ∷ 3 ∷ []) → ⊥
 example_durable l = let same : 9 ≡ 2 = Contains-one 9 2 (l.each 1 (omega arith)) in absurd (omega (arith, same))
+
+pub example_copied : Syncs three_copied three_copied
+example_copied = record {
+  long = refl;
+  copies = λ none. none;
+  newest = λ none. absurd (both_ways true none refl);
+  each = λ k. inr refl;
+}
+
+pub example_read : ReadsFile (1 ∷ 2 ∷ 3 ∷ []) three_copied
+example_read = record {
+  left = record { long = refl; each = old_each };
+  read = λ none. absurd (both_ways true none refl);
+}
 
 pub example_without : IsWithout (first_slot ∷ second_slot ∷ []) (slot_0 ∷ slot_1 ∷ []) (blank ∷ second_slot ∷ [])
 example_without zero low = inr (refl, refl)

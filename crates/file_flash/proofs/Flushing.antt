@@ -18,13 +18,13 @@ IsEither c state = (state ≡ 0) ⊎ (state ≡ state_byte (seen_of c))
 sync_written : (shape : Shape) (c : Contents) (file file' : FileState) (k : ℕ) → IsOpened shape file →
     Syncs file file' →
     IsWritten shape c file k → IsDurable shape c file' k
-sync_written shape c file file' k o s w j inside = s.read o.copies _ ∙ w j inside
+sync_written shape c file file' k o s w j inside = s.newest o.copies _ ∙ w j inside
 
 -- and those that are durable stay so
 pub sync_durable : (shape : Shape) (c : Contents) (file file' : FileState) (k : ℕ) → IsOpened shape file →
     Syncs file file' →
     IsDurable shape c file k → IsDurable shape c file' k
-sync_durable shape c file file' k o s d j inside = s.read o.copies _ ∙ ap (take 1) (d j inside)
+sync_durable shape c file file' k o s d j inside = s.newest o.copies _ ∙ ap (take 1) (d j inside)
 
 -- ---- the first sync
 
@@ -32,7 +32,7 @@ begun_slot : (shape : Shape) (c : Contents) (w : Bool) (file file' : FileState) 
     Syncs file file' →
     FollowsSlot shape c w file k → MarksSlot shape c w false file' k
 begun_slot shape c true file file' k o s f =
-    let state : state_values file' k ≡ 0 ∷ [] = s.read o.copies _ ∙ ap (take 1) (f.blank_yet refl) in
+    let state : state_values file' k ≡ 0 ∷ [] = s.newest o.copies _ ∙ ap (take 1) (f.blank_yet refl) in
     record {
       blank_yet = λ e m. state;
       newest = λ e m. absurd (both_ways false refl m);
@@ -44,7 +44,7 @@ begun_slot shape c false file file' k o s f = record {
   blank_yet = λ e m. absurd (both_ways false refl e);
   newest = λ e m. absurd (both_ways false refl e);
   either = λ e. absurd (both_ways false refl e);
-  state = λ e. s.read o.copies _ ∙ ap (take 1) (f.state refl);
+  state = λ e. s.newest o.copies _ ∙ ap (take 1) (f.state refl);
   durable = λ full. sync_durable shape c file file' k o s (f.durable refl full);
 }
 
@@ -62,13 +62,13 @@ ended_slot : (shape : Shape) (c : Contents) (w : Bool) (file file' : FileState) 
 ended_slot shape c true file file' k o s m = record {
   blank_yet = λ e. absurd (both_ways false refl e);
   written = λ e. absurd (both_ways false refl e);
-  state = λ e. s.read o.copies _ ∙ m.newest refl refl;
+  state = λ e. s.newest o.copies _ ∙ m.newest refl refl;
   durable = λ e full. sync_durable shape c file file' k o s (m.durable full);
 }
 ended_slot shape c false file file' k o s m = record {
   blank_yet = λ e. absurd (both_ways false refl e);
   written = λ e. absurd (both_ways false refl e);
-  state = λ e. s.read o.copies _ ∙ ap (take 1) (m.state refl);
+  state = λ e. s.newest o.copies _ ∙ ap (take 1) (m.state refl);
   durable = λ e full. sync_durable shape c file file' k o s (m.durable full);
 }
 
@@ -217,11 +217,11 @@ marks_lose shape image waiting n file is o m left l k inside =
     let its = m k inside in
     elim (cases_Bool (slots_in waiting k)) [
       | inl wait ↦ ⊎_elim
-          (λ zero. inr (wait, leaves_blank shape file left o l k low zero))
-          (λ own. inl (leaves_own shape file left o l k low c whole its.durable own))
+          (λ zero. inr (wait, leaves_blank shape file left o.long l k low zero))
+          (λ own. inl (leaves_own shape file left o.long l k low c whole its.durable own))
           (All-contains (IsEither c) (state_values file k) (get_or left (64 + k) 0) (its.either wait)
-          (state_one_of shape file left o l k low))
-      | inr done ↦ inl (leaves_same shape file left o l k low c whole (record {
+          (state_one_of shape file left o.long l k low))
+      | inr done ↦ inl (leaves_same shape file left o.long l k low c whole (record {
         blank_yet = λ e. absurd (both_ways false refl e);
         written = λ e. absurd (both_ways false refl e);
         state = λ e. its.state done;

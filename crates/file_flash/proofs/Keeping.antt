@@ -1,5 +1,5 @@
 -- What a call keeps of the invariant of a flash that is a file.
-use Rattle.file_flash.proofs.Common.{◌≡◌, ℕ, ◌≤◌, true, false, List, [], length, Option, Ok, IfSome, refl, sym, ap, subst, ◌∙◌, map, shape_of, Shape, IsImageFile, IsOpened, AreProgrammed, Follows, FileState}
+use Rattle.file_flash.proofs.Common.{◌≡◌, ℕ, ◌≤◌, true, false, List, [], length, Option, Ok, IfSome, refl, sym, ap, subst, ◌∙◌, map, shape_of, Shape, IsLong, IsOpened, IsImageFile, AreProgrammed, Follows, FileState}
 use Rattle.std.proofs.Common.{zero, suc, ◌∷◌, None, replicate}
 use Rattle.std.proofs.lemmas.Bool.{both_ways}
 use Rattle.tx_types.specs.Config.{checked}
@@ -66,15 +66,17 @@ module _ {S : Type 0} (told : S → Option FileState) (f g : Inside S) (i : File
 
   -- the file follows
   pub loads_follow : IfSome (told g.follower.store) (IsImageFile f.memory.shape (header_of f.config f.memory.extras)) →
+      (g.failed ≡ false → IfSome (told g.follower.store) (IsOpened g.memory.shape)) →
       (g.failed ≡ false → IfSome (told g.follower.store)
       (Follows g.memory.shape g.memory.image g.follower.waiting.items [])) →
       (g.failed ≡ false → AreProgrammed g.memory.image g.follower.waiting.items) → FileFlashInvariant told g
-  loads_follow file follows programmed = record {
+  loads_follow file opened follows programmed = record {
     checks = subst (λ c. checked c ≡ Ok (shape_of c)) (sym config) i.checks;
     shape = shape ∙ i.shape ∙ ap shape_of (sym config);
     within = subst (λ (e : Extras). e.retired ≤ e.allowance) (sym extras) i.within;
     few = subst (λ (e : Extras). e.allowance ≤ 1024) (sym extras) i.few;
     file = file_is file;
+    opened = opened;
     follows = follows;
     programmed = programmed;
     loaded = loaded;
@@ -86,7 +88,7 @@ module _ {S : Type 0} (told : S → Option FileState) (f g : Inside S) (i : File
       g.failed ≡ true →
       FileFlashInvariant told g
   loads_failed file failed = loads_follow file (λ e. absurd (both_ways g.failed e failed))
-      (λ e. absurd (both_ways g.failed e failed))
+      (λ e. absurd (both_ways g.failed e failed)) (λ e. absurd (both_ways g.failed e failed))
 
   -- the slots are as before, and so is the file
   pub loads_same : g.memory.image ≡ f.memory.image → told g.follower.store ≡ told f.follower.store →
@@ -94,6 +96,8 @@ module _ {S : Type 0} (told : S → Option FileState) (f g : Inside S) (i : File
       FileFlashInvariant told g
   loads_same image file waiting failed = loads_follow
       (subst (λ t. IfSome t (IsImageFile f.memory.shape (header_of f.config f.memory.extras))) (sym file) i.file)
+      (λ e. subst (λ t. IfSome t (IsOpened g.memory.shape)) (sym file)
+      (subst (λ s. IfSome (told f.follower.store) (IsOpened s)) (sym shape) (i.opened (failed e))))
       (λ e. subst (λ t. IfSome t (Follows g.memory.shape g.memory.image g.follower.waiting.items [])) (sym file)
       (subst (λ w. IfSome (told f.follower.store) (Follows g.memory.shape g.memory.image w [])) (sym waiting)
       (subst (λ x. IfSome (told f.follower.store) (Follows g.memory.shape x f.follower.waiting.items [])) (sym image)
@@ -113,6 +117,7 @@ module _ {S : Type 0} (told : S → Option FileState) (f g : Inside S) (i : File
   still_dies = ap length loaded ∙ i.dies ∙ ap (λ (s : Shape). s.dies) (sym stays.shape)
 
   pub still_follows : IfSome (told g.follower.store) (IsImageFile f.memory.shape (header_of f.config f.memory.extras)) →
+      (g.failed ≡ false → IfSome (told g.follower.store) (IsOpened g.memory.shape)) →
       (g.failed ≡ false → IfSome (told g.follower.store)
       (Follows g.memory.shape g.memory.image g.follower.waiting.items [])) →
       (g.failed ≡ false → AreProgrammed g.memory.image g.follower.waiting.items) → FileFlashInvariant told g
@@ -128,7 +133,7 @@ pub none_loaded : (n : ℕ) → map slot_loaded (replicate n None) ≡ replicate
 none_loaded zero = refl
 none_loaded (suc n) = ap (λ xs. None ∷ xs) (none_loaded n)
 
--- an image file is opened
-pub opened_of : (shape : Shape) (head : List ℕ) (file : Option FileState) → IfSome file (IsImageFile shape head) →
-    IfSome file (IsOpened shape)
-opened_of shape head file f = weaken (IsImageFile shape head) (IsOpened shape) file f (λ a it. it.opened)
+-- an image file is as long
+pub long_of : (shape : Shape) (head : List ℕ) (file : Option FileState) → IfSome file (IsImageFile shape head) →
+    IfSome file (IsLong shape)
+long_of shape head file f = weaken (IsImageFile shape head) (IsLong shape) file f (λ a it. it.long)

@@ -48,7 +48,7 @@ module _ (config : Config) (extras : Extras) (checks : checked config ≡ Ok (sh
   shape = shape_of config
 
   long : length left ≡ image_bytes shape
-  long = left_long shape file left f.opened l
+  long = left_long shape file left f.long l
 
   all : length left ≡ 64 + slots_of shape * (65 + shape.page_bytes)
   all = long
@@ -82,7 +82,7 @@ module _ (config : Config) (extras : Extras) (checks : checked config ≡ Ok (sh
       known_state (get_or states k 0)
       (subst (λ x. x < 3) (sym (state_said shape left long k low))
       (All-contains (λ state. state < 3) (state_values file k) (get_or left (64 + k) 0) (f.states k low)
-      (state_one_of shape file left f.opened l k low))))
+      (state_one_of shape file left f.long l k low))))
 
   head_is : take 64 left ≡ header_of config extras
   head_is =

@@ -1,5 +1,5 @@
 -- What a loss leaves of a slot, by how far the file is.
-use Rattle.file_flash.proofs.Common.{◌≡◌, ℕ, ◌+◌, ◌*◌, ◌<◌, true, false, List, [], ◌∷◌, length, get_or, Contains, refl, sym, ap, subst, ◌∙◌, inl, inr, arith, slots_of, image_bytes, Shape, Slot, Contents, blank, slot_at, IsWhole, IsImage, seen_of, Blank, Complete, cell_bytes, cell_of, state_byte, head_bytes, drop, FileState, values_at, LeavesBytes, state_values, cell_offset, image_said, IsOpened, slots_in, IsDurable, FollowsSlot, Follows, LosesOnly}
+use Rattle.file_flash.proofs.Common.{◌≡◌, ℕ, ◌+◌, ◌*◌, ◌<◌, true, false, List, [], ◌∷◌, length, get_or, Contains, refl, sym, ap, subst, ◌∙◌, inl, inr, arith, slots_of, image_bytes, Shape, Slot, Contents, blank, slot_at, IsWhole, IsImage, seen_of, Blank, Complete, cell_bytes, cell_of, state_byte, head_bytes, drop, FileState, values_at, LeavesBytes, state_values, cell_offset, image_said, IsLong, slots_in, IsDurable, FollowsSlot, Follows, LosesOnly}
 use Rattle.std.specs.Prelude.{unwrap_or}
 use Rattle.std.specs.Fork.{slice_chunk}
 use Rattle.std.proofs.lemmas.Bool.{cases_Bool}
@@ -9,6 +9,14 @@ use Rattle.mem_flash.specs.Slots.{contents_of}
 use Rattle.image_file.specs.Rules.{seen_from}
 use Rattle.file_flash.proofs.Places.{cell_end, state_end, reads_as, slot_said}
 
+-- a loss leaves the same of a file with the same values
+pub same_left : (old new : FileState) (left : List ℕ) → new.values ≡ old.values → LeavesBytes new left →
+    LeavesBytes old left
+same_left old new left same l = record {
+  long = l.long ∙ ap length same;
+  each = λ k within. subst (λ values. Contains (get_or values k []) (get_or left k 0)) same (l.each k within);
+}
+
 -- what a loss leaves of a byte with one value
 pub left_one : (file : FileState) (left : List ℕ) (at value : ℕ) → LeavesBytes file left → at < length left →
     values_at file at ≡ value ∷ [] → get_or left at 0 ≡ value
@@ -16,9 +24,9 @@ left_one file left at value l within one =
     sym (Contains-one value (get_or left at 0) (subst (λ values. Contains values (get_or left at 0)) one
     (l.each at within)))
 
-module _ (shape : Shape) (file : FileState) (left : List ℕ) (o : IsOpened shape file) (l : LeavesBytes file left) where
+module _ (shape : Shape) (file : FileState) (left : List ℕ) (o : IsLong shape file) (l : LeavesBytes file left) where
   pub left_long : length left ≡ image_bytes shape
-  left_long = l.long ∙ o.long
+  left_long = l.long ∙ o
 
   all : length left ≡ 64 + slots_of shape * (65 + shape.page_bytes)
   all = left_long
@@ -60,7 +68,7 @@ module _ (shape : Shape) (file : FileState) (left : List ℕ) (o : IsOpened shap
 
 -- a file that follows leaves each slot, or takes one that waits or is due
 pub follows_lose : (shape : Shape) (image : List Contents) (waiting due slots : List Slot) (file : FileState) →
-    IsImage shape image → IsOpened shape file → Follows shape image waiting due file →
+    IsImage shape image → IsLong shape file → Follows shape image waiting due file →
     ((k : ℕ) → slots_in waiting k ≡ true → slots_in slots k ≡ true) →
     ((k : ℕ) → slots_in due k ≡ true → slots_in slots k ≡ true) → LosesOnly shape image slots file
 follows_lose shape image waiting due slots file is o f waits dues left l k inside =

@@ -1,59 +1,66 @@
--- What a file is once it is durable and was read, and how it follows the flash that it says.
-use Rattle.file_flash.proofs.Common.{◌≡◌, ℕ, ◌+◌, ◌-◌, ◌*◌, ◌<◌, false, List, [], ◌∷◌, length, take, drop, get_or, map, Option, Some, None, Result, Ok, Err, IfSome, All, Contains, refl, sym, ap, subst, ◌∙◌, arith, slots_of, shape_of, Shape, Contents, blank, slot_at, seen_of, Seen, Blank, Complete, Damaged, cell_bytes, cell_of, contents_of, state_byte, head_bytes, StoreError, FileState, values_at, LeavesBytes, Syncs, SyncsFile, BothTell, state_values, own_values, cell_offset, IsImageFile, Follows}
+-- What a file is once it was read and is durable, and how it follows the flash that it says.
+use Rattle.file_flash.proofs.Common.{◌≡◌, ℕ, ◌+◌, ◌-◌, ◌*◌, ◌<◌, false, List, [], ◌∷◌, length, take, drop, get_or, map, Option, Some, None, Result, Ok, Err, IfSome, All, refl, sym, ap, subst, ◌∙◌, arith, slots_of, shape_of, Shape, Contents, blank, slot_at, seen_of, Seen, Blank, Complete, Damaged, cell_bytes, cell_of, contents_of, state_byte, head_bytes, StoreError, OnOk, FileState, values_at, LeavesBytes, Writes, WritesFile, Syncs, SyncsFile, ReadsFile, BothTell, state_values, own_values, cell_offset, IsOpened, IsImageFile, Follows}
 use Rattle.std.specs.Fork.{slice_chunk}
-use Rattle.std.specs.Prelude.{IfOk, Vec}
-use Rattle.std.specs.Global.{Global}
 use Rattle.std.proofs.lemmas.Bool.{both_ways}
-use Rattle.std.proofs.lemmas.List.{length-map, get_or-map, get_or-take, get_or-drop, ext_get_or}
+use Rattle.std.proofs.lemmas.List.{length-map, get_or-map, get_or-take, get_or-drop}
 use Rattle.std.proofs.lemmas.List.Elements.{All-cons, All-nil}
 use Rattle.tx_types.specs.declared.config.Config.{Config}
 use Rattle.flash_model.specs.Flash.{Extras}
 use Rattle.mem_flash.proofs.Images.{get_or-image_of, cell_of-contents_of}
 use Rattle.image_file.specs.InUse.{IsInUse}
 use Rattle.image_file.specs.Spelling.{header_of}
-use Rattle.file_flash.specs.Files.{newest, DropsCopies, ReadsFile}
 use Rattle.file_flash.specs.Opening.{IsDurable as IsDurableFile, ReadsDurably}
+use Rattle.file_flash.proofs.Told.{weaken}
 use Rattle.file_flash.proofs.Places.{cell_end, state_end}
 
-newest_take : (values : List ℕ) → newest (take 1 values) ≡ newest values
-newest_take [] = refl
-newest_take (value ∷ values) = refl
+-- bytes that are written over all of a file, and then synced
+written_back : (bytes : List ℕ) (a b c : FileState) → length bytes ≡ length a.values → Writes 0 bytes a b →
+    Syncs b c → IsDurableFile bytes c
+written_back bytes a b c long w s = record {
+  long = s.long ∙ w.long ∙ sym long;
+  copies = s.copies (w.whole long);
+  each = λ k within.
+      let here : 0 + k ≡ k = omega arith in
+      let one : values_at b k ≡ get_or bytes k 0 ∷ values_at a k =
+      subst (λ i. values_at b i ≡ get_or bytes k 0 ∷ values_at a i) here (w.inside k within) in
+      s.newest (w.whole long) k ∙ ap (take 1) one;
+}
 
-module _ (old mid : FileState) (bytes : List ℕ) (s : Syncs old mid) (is : bytes ≡ map newest mid.values) where
-  long : length bytes ≡ length mid.values
-  long = ap length is ∙ length-map mid.values newest
+back_told : (t0 t1 t2 : Option FileState) (bytes : List ℕ) (u : Unit {0}) →
+    IfSome t0 (λ file. length bytes ≡ length file.values) → BothTell (WritesFile 0 bytes (Ok tt)) t0 t1 →
+    BothTell (SyncsFile (Ok u)) t1 t2 → BothTell (λ old. IsDurableFile bytes) t0 t2
+back_told None None None bytes u long w s = tt
+back_told (Some a) (Some b) (Some c) bytes u long w s = written_back bytes a b c long w s
+back_told None None (Some c) bytes u long w s = absurd s
+back_told None (Some b) t2 bytes u long w s = absurd w
+back_told (Some a) None t2 bytes u long w s = absurd w
+back_told (Some a) (Some b) None bytes u long w s = absurd s
 
-  at : (k : ℕ) → k < length bytes → get_or bytes k 0 ≡ newest (values_at mid k)
-  at k within = ap (λ xs. get_or xs k 0) is ∙ get_or-map newest mid.values k [] 0 (omega (arith, long))
+-- whatever the sync answers
+pub back_result : (t0 t1 t2 : Option FileState) (bytes : List ℕ) (r : Result (Unit {0}) StoreError) →
+    IfSome t0 (λ file. length bytes ≡ length file.values) → BothTell (WritesFile 0 bytes (Ok tt)) t0 t1 →
+    BothTell (SyncsFile r) t1 t2 → OnOk r (BothTell (λ old. IsDurableFile bytes) t0 t2)
+back_result t0 t1 t2 bytes (Err e) long w s = tt
+back_result t0 t1 t2 bytes (Ok u) long w s = back_told t0 t1 t2 bytes u long w s
 
-  one : (k : ℕ) → k < length bytes → (Contains (values_at old k) (get_or bytes k 0))
-      × (values_at mid k ≡ get_or bytes k 0 ∷ [])
-  one k within =
-      let its = s.one k (omega (arith, long, s.long)) in
-      let same : get_or bytes k 0 ≡ its.0 = at k within ∙ ap newest its.2 in
-      (subst (Contains (values_at old k)) (sym same) its.1, its.2 ∙ ap (λ v. v ∷ []) (sym same))
+-- what is read of a file is as long as it
+pub long_read : (t0 t1 : Option FileState) (bytes : List ℕ) → t1 ≡ t0 → IfSome t0 (ReadsFile bytes) →
+    IfSome t1 (λ file. length bytes ≡ length file.values)
+long_read t0 t1 bytes same reads =
+    subst (λ t. IfSome t (λ file. length bytes ≡ length file.values)) (sym same)
+    (weaken (ReadsFile bytes) (λ file. length bytes ≡ length file.values) t0 reads (λ a it. it.left.long))
 
-  pub reads_durably : ReadsDurably bytes old (record mid { copies = false })
-  reads_durably = record {
-    left = record { long = long ∙ s.long; each = λ k within. (one k within).0 };
-    read = λ none. ext_get_or 0 bytes (map newest old.values) (long ∙ s.long
-        ∙ sym (length-map old.values newest)) (λ k within.
-        at k within ∙ ap newest (s.read none k) ∙ newest_take (values_at old k)
-        ∙ sym (get_or-map newest old.values k [] 0 (omega (arith, long, s.long))));
-    durable = record { long = sym long; copies = refl; each = λ k within. (one k within).1 };
-  }
+read_told : (t0 t2 : Option FileState) (bytes : List ℕ) → IfSome t0 (ReadsFile bytes) →
+    BothTell (λ old. IsDurableFile bytes) t0 t2 → BothTell (ReadsDurably bytes) t0 t2
+read_told None None bytes reads durable = tt
+read_told (Some a) (Some b) bytes reads durable = record { reads = reads; durable = durable }
+read_told None (Some b) bytes reads durable = absurd durable
+read_told (Some a) None bytes reads durable = absurd durable
 
-pub read_told : (t0 t1 t2 : Option FileState) (bytes : List ℕ) → BothTell (SyncsFile (Ok tt)) t0 t1 →
-    BothTell (DropsCopies (Ok tt)) t1 t2 →
-    IfSome t2 (λ file. ReadsFile file bytes) → BothTell (ReadsDurably bytes) t0 t2
-read_told None None None bytes s d r = tt
-read_told (Some a) (Some b) (Some c) bytes s d r =
-    subst (ReadsDurably bytes a) (sym d) (reads_durably a b bytes s
-    (r (ap (λ (f : FileState). f.copies) d) ∙ ap (λ (f : FileState). map newest f.values) d))
-read_told None None (Some c) bytes s d r = absurd d
-read_told None (Some b) t2 bytes s d r = absurd s
-read_told (Some a) None t2 bytes s d r = absurd s
-read_told (Some a) (Some b) None bytes s d r = absurd d
+pub reads_durably : (t0 t1 t2 : Option FileState) (bytes : List ℕ) → t1 ≡ t0 → IfSome t0 (ReadsFile bytes) →
+    BothTell (λ old. IsDurableFile bytes) t1 t2 → BothTell (ReadsDurably bytes) t0 t2
+reads_durably t0 t1 t2 bytes same reads durable =
+    read_told t0 t2 bytes reads (subst (λ t. BothTell (λ old. IsDurableFile bytes) t t2) same durable)
 
 -- ---- the flash that the bytes say
 
@@ -109,9 +116,12 @@ module _ (bytes : List ℕ) (config : Config) (image : List Contents) (extras : 
   known Complete = omega arith
   known Damaged = omega arith
 
+  pub opened_clean : IsOpened shape file
+  opened_clean = record { long = d.long ∙ said.long; copies = d.copies }
+
   pub opened_image_file : IsImageFile shape (header_of config extras) file
   opened_image_file = record {
-    opened = record { long = d.long ∙ said.long; copies = d.copies };
+    long = d.long ∙ said.long;
     header = λ k within. d.each k (omega (arith, all, within))
         ∙ ap (λ v. v ∷ []) (sym (get_or-take 64 bytes k 0 within) ∙ ap (λ xs. get_or xs k 0) said.header);
     states = λ k low. subst (All (λ state. state < 3)) (sym (state_one k low))
@@ -130,19 +140,10 @@ module _ (bytes : List ℕ) (config : Config) (image : List Contents) (extras : 
     due = λ k inside e. absurd (both_ways false refl e);
   }
 
--- whatever the read answers
-pub read_result : (t0 t1 t2 t3 : Option FileState) (r : Result (Vec ℕ Global) StoreError) →
-    BothTell (SyncsFile (Ok tt)) t0 t1 →
-    BothTell (DropsCopies (Ok tt)) t1 t2 → t3 ≡ t2 → IfOk r (λ bytes. IfSome t2 (λ file. ReadsFile file bytes.items)) →
-    IfOk r (λ bytes. BothTell (ReadsDurably bytes.items) t0 t3)
-read_result t0 t1 t2 t3 (Err e) s d same reads = tt
-read_result t0 t1 t2 t3 (Ok bytes) s d same reads =
-    subst (λ t. BothTell (ReadsDurably bytes.items) t0 t) (sym same) (read_told t0 t1 t2 bytes.items s d reads)
-
 -- what was read is what a loss might have left
 pub left_told : (t0 t1 : Option FileState) (bytes : List ℕ) → BothTell (ReadsDurably bytes) t0 t1 →
     IfSome t0 (λ file. LeavesBytes file bytes)
 left_told None None bytes r = tt
-left_told (Some a) (Some b) bytes r = r.left
+left_told (Some a) (Some b) bytes r = r.reads.left
 left_told None (Some b) bytes r = absurd r
 left_told (Some a) None bytes r = absurd r

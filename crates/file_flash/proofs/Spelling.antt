@@ -20,7 +20,7 @@ use Rattle.file_flash.specs.Filling.{reads_complete, AreWritten, AreDurable}
 use Rattle.file_flash.specs.Losing.{LeavesSpelling}
 use Rattle.file_flash.proofs.Told.{carry, carry_both, weaken_both}
 use Rattle.file_flash.proofs.Places.{cell_said}
-use Rattle.file_flash.proofs.Writing.{may_write, cell_states, cell_others, cell_written}
+use Rattle.file_flash.proofs.Writing.{may_write, values_stay, cell_states, cell_others, cell_written}
 use Rattle.file_flash.proofs.Losing.{left_one, left_long, leaves_same}
 use Rattle.file_flash.proofs.Places.{cell_end}
 use Rattle.file_flash.proofs.Leaving.{left_in_use, cells_long, seen_long}
@@ -111,13 +111,21 @@ module _ (shape : Shape) (image : List Contents) (at : Slot) (is : IsImage shape
 follow_synced : (shape : Shape) (image : List Contents) (r : Result (Unit {0}) StoreError) (a b : FileState) →
     SyncsFile r a b →
     IsOpened shape a → Follows shape image [] [] a → Follows shape image [] [] b
-follow_synced shape image (Err e) a b s o f = subst (Follows shape image [] []) (sym s) f
+follow_synced shape image (Err e) a b s o f = record {
+  keeps = λ k inside e. record {
+    blank_yet = λ x. absurd (both_ways false refl x);
+    written = λ x. absurd (both_ways false refl x);
+    state = λ x. values_stay a b s _ ∙ (f.keeps k inside e).state x;
+    durable = λ x full j within. values_stay a b s _ ∙ (f.keeps k inside e).durable x full j within;
+  };
+  due = λ k inside e. absurd (both_ways false refl e);
+}
 follow_synced shape image (Ok u) a b s o f = record {
   keeps = λ k inside e. record {
     blank_yet = λ x. absurd (both_ways false refl x);
     written = λ x. absurd (both_ways false refl x);
-    state = λ x. s.read o.copies _ ∙ ap (take 1) ((f.keeps k inside e).state x);
-    durable = λ x full j within. s.read o.copies _ ∙ ap (take 1) ((f.keeps k inside e).durable x full j within);
+    state = λ x. s.newest o.copies _ ∙ ap (take 1) ((f.keeps k inside e).state x);
+    durable = λ x full j within. s.newest o.copies _ ∙ ap (take 1) ((f.keeps k inside e).durable x full j within);
   };
   due = λ k inside e. absurd (both_ways false refl e);
 }
@@ -138,7 +146,7 @@ pub durable_synced : (shape : Shape) (image : List Contents) (n : ℕ) (old new 
 durable_synced shape image n old new (Err e) all told o w = tt
 durable_synced shape image n old new (Ok u) all told o w =
     carry_both (IsOpened shape) (AreWritten shape image n) (AreDurable shape image) (SyncsFile (Ok u)) old new told o w
-    (λ a b s it ws k low j inside. s.read it.copies _ ∙ ws k (omega (arith, all)) j inside)
+    (λ a b s it ws k low j inside. s.newest it.copies _ ∙ ws k (omega (arith, all)) j inside)
 
 -- ---- what a loss leaves of a file that is filled
 
@@ -157,7 +165,7 @@ module _ (config : Config) (extras : Extras) (checks : checked config ≡ Ok (sh
   sh = shape_of config
 
   long : length left ≡ image_bytes sh
-  long = left_long sh file left f.opened l
+  long = left_long sh file left f.long l
 
   abbrev seen : List Seen
   seen = all_seen (slice_range left 64 (head_bytes sh))
@@ -173,7 +181,7 @@ module _ (config : Config) (extras : Extras) (checks : checked config ≡ Ok (sh
       (length-image_of sh.page_bytes seen cells ∙ many ∙ sym is.slots) (λ k inside.
       let low : k < slots_of sh = omega (arith, length-image_of sh.page_bytes seen cells, many) in
       let there : k < length image = omega (arith, is.slots) in
-      leaves_same sh file left f.opened l k low (slot_at image k)
+      leaves_same sh file left f.long l k low (slot_at image k)
       (All-get_or (IsWhole sh.page_bytes) image k blank there is.whole) (follows.keeps k there refl))
 
   chunk : (k : ℕ) → k < slots_of sh → slice_chunk cells (cell_bytes sh.page_bytes) k

@@ -1,5 +1,5 @@
 -- What a write of the state byte or of the own bytes of a slot, and a sync, leave as it was.
-use Rattle.file_flash.proofs.Common.{◌≡◌, ◌≢◌, ◌⊎◌, ℕ, ◌+◌, ◌<◌, ◌≤◌, List, [], ◌∷◌, length, take, get_or, Result, Ok, Err, All, sym, ap, subst, ◌∙◌, inl, inr, ⊎_elim, arith, slots_of, Shape, cell_bytes, StoreError, FileState, values_at, Writes, MayWrite, WritesFile, SyncsFile, state_offset, cell_offset, state_values, own_values, IsOpened, IsImageFile}
+use Rattle.file_flash.proofs.Common.{◌≡◌, ◌≢◌, ◌⊎◌, ℕ, ◌+◌, ◌<◌, ◌≤◌, List, [], ◌∷◌, length, take, get_or, Result, Ok, Err, All, sym, ap, subst, ◌∙◌, inl, inr, ⊎_elim, arith, slots_of, Shape, cell_bytes, StoreError, FileState, values_at, Writes, MayWrite, WritesFile, Syncs, SyncsFile, state_offset, cell_offset, state_values, own_values, IsLong, IsOpened, IsImageFile}
 use Rattle.std.proofs.lemmas.Bool.{cases_eq}
 use Rattle.std.proofs.lemmas.List.Elements.{All-cons, All-take}
 use Rattle.file_flash.proofs.Places.{cells_apart}
@@ -17,22 +17,39 @@ may_write offset bytes (Ok u) old new w = record {
 
 pub opened_write : (shape : Shape) (offset : ℕ) (bytes : List ℕ) (old new : FileState) → MayWrite offset bytes old new →
     IsOpened shape old → IsOpened shape new
-opened_write shape offset bytes old new w o = record { long = w.long ∙ o.long; copies = w.copies ∙ o.copies }
+opened_write shape offset bytes old new w o = record { long = w.long ∙ o.long; copies = w.copies o.copies }
 
-pub opened_sync : (shape : Shape) (r : Result (Unit {0}) StoreError) (old new : FileState) → SyncsFile r old new →
-    IsOpened shape old → IsOpened shape new
-opened_sync shape (Ok u) old new s o = record { long = s.long ∙ o.long; copies = s.copies ∙ o.copies }
-opened_sync shape (Err e) old new s o = subst (IsOpened shape) (sym s) o
+pub opened_sync : (shape : Shape) (old new : FileState) → Syncs old new → IsOpened shape old → IsOpened shape new
+opened_sync shape old new s o = record { long = s.long ∙ o.long; copies = s.copies o.copies }
+
+pub long_sync : (shape : Shape) (r : Result (Unit {0}) StoreError) (old new : FileState) → SyncsFile r old new →
+    IsLong shape old → IsLong shape new
+long_sync shape (Ok u) old new s long = s.long ∙ long
+long_sync shape (Err e) old new s long = ap length s ∙ long
+
+-- a sync that fails leaves the values of each byte
+pub values_stay : (old new : FileState) → new.values ≡ old.values → (k : ℕ) → values_at new k ≡ values_at old k
+values_stay old new same k = ap (λ values. get_or values k []) same
 
 pub image_file_sync : (shape : Shape) (header : List ℕ) (r : Result (Unit {0}) StoreError) (old new : FileState) →
     SyncsFile r old new →
     IsImageFile shape header old → IsImageFile shape header new
-image_file_sync shape header (Err e) old new s f = subst (IsImageFile shape header) (sym s) f
+image_file_sync shape header (Err e) old new s f = record {
+  long = ap length s ∙ f.long;
+  header = λ k within. values_stay old new s k ∙ f.header k within;
+  states = λ at low. subst (All (λ state. state < 3)) (sym (values_stay old new s (64 + at))) (f.states at low);
+}
 image_file_sync shape header (Ok u) old new s f = record {
-  opened = opened_sync shape (Ok tt) old new s f.opened;
-  header = λ k within. s.read f.opened.copies k ∙ ap (take 1) (f.header k within);
-  states = λ at low. subst (All (λ state. state < 3)) (sym (s.read f.opened.copies (64 + at)))
-      (All-take (λ state. state < 3) 1 (state_values old at) (f.states at low));
+  long = s.long ∙ f.long;
+  header = λ k within. ⊎_elim
+      (λ one. one ∙ ap (take 1) (f.header k within))
+      (λ same. same ∙ f.header k within)
+      (s.each k);
+  states = λ at low. ⊎_elim
+      (λ one. subst (All (λ state. state < 3)) (sym one)
+      (All-take (λ state. state < 3) 1 (state_values old at) (f.states at low)))
+      (λ same. subst (All (λ state. state < 3)) (sym same) (f.states at low))
+      (s.each (64 + at));
 }
 
 -- ---- the own bytes of a slot
@@ -53,7 +70,7 @@ module _ (shape : Shape) (at : ℕ) (cell : List ℕ) (long : length cell ≡ ce
 
   pub image_file_cell : (header : List ℕ) → IsImageFile shape header old → IsImageFile shape header new
   image_file_cell header f = record {
-    opened = opened_write shape (cell_offset shape at) cell old new w f.opened;
+    long = w.long ∙ f.long;
     header = λ k within. w.outside k (inl (omega arith)) ∙ f.header k within;
     states = λ k low. subst (All (λ state. state < 3)) (sym (cell_states k low)) (f.states k low);
   }
@@ -88,7 +105,7 @@ module _ (shape : Shape) (at state : ℕ) (old new : FileState)
 
     pub image_file_state : (header : List ℕ) → state < 3 → IsImageFile shape header old → IsImageFile shape header new
     image_file_state header known f = record {
-      opened = opened_write shape (state_offset at) (state ∷ []) old new w f.opened;
+      long = w.long ∙ f.long;
       header = λ k within. w.outside k (inl (omega arith)) ∙ f.header k within;
       states = λ k inside. elim (cases_eq k at) [
         | inl here ↦ subst (λ i. All (λ s. s < 3) (state_values new i)) (sym here) (⊎_elim

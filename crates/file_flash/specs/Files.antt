@@ -2,8 +2,8 @@
 use Rattle.std.specs.Prelude.{◌≡◌, ◌⊎◌, ℕ, ◌+◌, ◌<◌, ◌≤◌, Bool, false, List, [], ◌∷◌, length, take, map, slice_index, slice_index_or, Contains, Option, None, Some, Result, Ok, Err}
 use Rattle.file_flash.specs.declared.store.StoreError.{StoreError}
 
--- Of each byte the values that a loss of power may leave, newest first: the newest is read. While the system may hold
--- copies of bytes from before the file was opened, any value may be read, and one that no sync makes durable.
+-- Of each byte the values that a loss of power may leave, newest first: the newest is read. But while the system may
+-- hold copies that no sync makes durable, from before the file was opened or from a sync that failed, any may be read.
 pub record FileState : Type 0 where
   pub values : List (List ℕ)
   pub copies : Bool
@@ -22,10 +22,12 @@ pub record LeavesBytes (file : FileState) (left : List ℕ) : Type 0 where
   pub long : length left ≡ length file.values
   pub each : (k : ℕ) → k < length left → Contains (values_at file k) (slice_index left k)
 
--- these bytes are written from an offset on: each is in front of the values of its place, and no other byte is touched
+-- These bytes are written from an offset on: each is in front of the values of its place, and no other byte is touched.
+-- Once all bytes of the file are written, the next sync makes each durable.
 pub record Writes (offset : ℕ) (bytes : List ℕ) (old new : FileState) : Type 0 where
   pub long : length new.values ≡ length old.values
-  pub copies : new.copies ≡ old.copies
+  pub copies : old.copies ≡ false → new.copies ≡ false
+  pub whole : length bytes ≡ length old.values → new.copies ≡ false
   pub inside : (k : ℕ) → k < length bytes →
       values_at new (offset + k) ≡ slice_index bytes k ∷ values_at old (offset + k)
   pub outside : (k : ℕ) → (k < offset) ⊎ (offset + length bytes ≤ k) → values_at new k ≡ values_at old k
@@ -33,38 +35,33 @@ pub record Writes (offset : ℕ) (bytes : List ℕ) (old new : FileState) : Type
 -- any of them are
 pub record MayWrite (offset : ℕ) (bytes : List ℕ) (old new : FileState) : Type 0 where
   pub long : length new.values ≡ length old.values
-  pub copies : new.copies ≡ old.copies
+  pub copies : old.copies ≡ false → new.copies ≡ false
   pub inside : (k : ℕ) → k < length bytes →
       (values_at new (offset + k) ≡ slice_index bytes k ∷ values_at old (offset + k))
       ⊎ (values_at new (offset + k) ≡ values_at old (offset + k))
   pub outside : (k : ℕ) → (k < offset) ⊎ (offset + length bytes ≤ k) → values_at new k ≡ values_at old k
 
--- A loss leaves one value of each byte: that which is read, unless copies are held from before.
+-- A loss leaves the newest value of each byte alone; but of some bytes, while copies are held, all that it left before.
 pub record Syncs (old new : FileState) : Type 0 where
   pub long : length new.values ≡ length old.values
-  pub copies : new.copies ≡ old.copies
-  pub one : (k : ℕ) → k < length old.values →
-      (value : ℕ) × Contains (values_at old k) value × (values_at new k ≡ value ∷ [])
-  pub read : old.copies ≡ false → (k : ℕ) → values_at new k ≡ take 1 (values_at old k)
+  pub copies : old.copies ≡ false → new.copies ≡ false
+  pub newest : old.copies ≡ false → (k : ℕ) → values_at new k ≡ take 1 (values_at old k)
+  pub each : (k : ℕ) → (values_at new k ≡ take 1 (values_at old k)) ⊎ (values_at new k ≡ values_at old k)
 
 -- a write of these bytes, by what it answered: one that failed may have written any of them
 abbrev pub WritesFile : ℕ → List ℕ → Result (Unit {0}) StoreError → FileState → FileState → Type 0
 WritesFile offset bytes (Ok done) old new = Writes offset bytes old new
 WritesFile offset bytes (Err failed) old new = MayWrite offset bytes old new
 
--- a sync: one that failed makes nothing durable
+-- a sync: one that failed makes nothing durable, and copies may be held from now on
 abbrev pub SyncsFile : Result (Unit {0}) StoreError → FileState → FileState → Type 0
 SyncsFile (Ok done) old new = Syncs old new
-SyncsFile (Err failed) old new = new ≡ old
+SyncsFile (Err failed) old new = new.values ≡ old.values
 
--- the copies are dropped: what is read is what a sync makes durable
-abbrev pub DropsCopies : Result (Unit {0}) StoreError → FileState → FileState → Type 0
-DropsCopies (Ok done) old new = new ≡ record old { copies = false }
-DropsCopies (Err failed) old new = new ≡ old
-
--- all bytes are read
-abbrev pub ReadsFile : FileState → List ℕ → Type 0
-ReadsFile file bytes = file.copies ≡ false → bytes ≡ map newest file.values
+-- these are all bytes that are read
+pub record ReadsFile (bytes : List ℕ) (file : FileState) : Type 0 where
+  pub left : LeavesBytes file bytes
+  pub read : file.copies ≡ false → bytes ≡ map newest file.values
 
 -- both tell what a loss may leave, and this holds of it, or neither tells
 abbrev pub BothTell : (FileState → FileState → Type 0) → Option FileState → Option FileState → Type 0

@@ -29,13 +29,17 @@ image_said shape bytes =
     image_of shape.page_bytes (all_seen (slice_range bytes header_bytes (head_bytes shape)))
     (drop (head_bytes shape) bytes)
 
--- The file has as many bytes as the image file of a flash of this shape, and no copies from before it was opened.
+-- the file has as many bytes as the image file of a flash of this shape
+abbrev pub IsLong : Shape → FileState → Type 0
+IsLong shape file = length file.values ≡ image_bytes shape
+
+-- and no copies are held, so a sync makes durable what was written
 pub record IsOpened (shape : Shape) (file : FileState) : Type 0 where
-  pub long : length file.values ≡ image_bytes shape
+  pub long : IsLong shape file
   pub copies : file.copies ≡ false
 
 -- A file with the header of an image file, which is durable. A loss leaves states of it that stand for something.
 pub record IsImageFile (shape : Shape) (head : List ℕ) (file : FileState) : Type 0 where
-  pub opened : IsOpened shape file
+  pub long : IsLong shape file
   pub header : (k : ℕ) → k < header_bytes → values_at file k ≡ slice_index head k ∷ []
   pub states : (at : ℕ) → at < slots_of shape → All (λ state. state < 3) (state_values file at)

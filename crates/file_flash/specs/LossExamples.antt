@@ -1,5 +1,5 @@
 -- Small files and images, to see what a loss leaves of them.
-use Rattle.std.specs.Prelude.{false, [], ◌∷◌}
+use Rattle.std.specs.Prelude.{true, false, [], ◌∷◌}
 use Rattle.tx_types.specs.declared.config.Slot.{Slot}
 use Rattle.flash_model.specs.Flash.{Contents, complete}
 use Rattle.file_flash.specs.Files.{FileState}
@@ -15,6 +15,10 @@ three_written = record { values = (1 ∷ []) ∷ (9 ∷ 2 ∷ []) ∷ (3 ∷ [])
 -- and is durable
 abbrev pub three_synced : FileState
 three_synced = record { values = (1 ∷ []) ∷ (9 ∷ []) ∷ (3 ∷ []) ∷ []; copies = false }
+
+-- 9 was written over the second before the file was opened, and the sync after that failed
+abbrev pub three_copied : FileState
+three_copied = record { values = (1 ∷ []) ∷ (9 ∷ 2 ∷ []) ∷ (3 ∷ []) ∷ []; copies = true }
 
 -- two slots with contents
 abbrev pub first_slot : Contents

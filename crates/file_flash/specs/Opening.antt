@@ -1,5 +1,5 @@
 -- What a file is when it is opened.
-use Rattle.std.specs.Prelude.{◌≡◌, ℕ, ◌<◌, false, List, [], ◌∷◌, length, map, slice_index, Option, IfSome}
+use Rattle.std.specs.Prelude.{◌≡◌, ℕ, ◌<◌, false, List, [], ◌∷◌, length, slice_index, Option, IfSome}
 use Rattle.tx_types.specs.Config.{shape_of}
 use Rattle.tx_types.specs.declared.config.Config.{Config}
 use Rattle.flash_model.specs.Flash.{Contents, Extras}
@@ -7,20 +7,18 @@ use Rattle.mem_flash.specs.MemFlashState.{loaded}
 use Rattle.image_file.specs.InUse.{IsInUse, broken_in_use}
 use Rattle.image_file.specs.Rules.{IsRefusal}
 use Rattle.image_file.specs.declared.error.ImageError.{ImageError}
-use Rattle.file_flash.specs.Files.{FileState, values_at, newest, LeavesBytes, BothTell}
+use Rattle.file_flash.specs.Files.{FileState, values_at, LeavesBytes, ReadsFile, BothTell}
 use Rattle.file_flash.specs.FileFlashState.{FileFlashState}
 
--- a loss leaves these bytes of the file, and no others
+-- a loss leaves these bytes of the file, and no others; and a sync makes durable what is written from now on
 pub record IsDurable (bytes : List ℕ) (file : FileState) : Type 0 where
   pub long : length file.values ≡ length bytes
   pub copies : file.copies ≡ false
   pub each : (k : ℕ) → k < length bytes → values_at file k ≡ slice_index bytes k ∷ []
 
--- These bytes are read from a file that is made durable: a loss might have left them before, and leaves them now. They
--- are the newest, unless copies were held from before the file was opened.
+-- these bytes are read of a file that is made durable: a loss might have left them before, and leaves no others now
 pub record ReadsDurably (bytes : List ℕ) (old new : FileState) : Type 0 where
-  pub left : LeavesBytes old bytes
-  pub read : old.copies ≡ false → bytes ≡ map newest old.values
+  pub reads : ReadsFile bytes old
   pub durable : IsDurable bytes new
 
 -- a loss leaves these bytes alone, which are an image file in use

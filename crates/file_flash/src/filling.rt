@@ -56,7 +56,7 @@ pub(crate) fn fill<S: Store + Drop>(
 ) -> Result<(), StoreError>
     requires opened { IfSome (S.told follower.old.store) (IsOpened memory.now.shape) }
     ensures waits { follower.new.waiting ≡ follower.old.waiting }
-    ensures opened { IfSome (S.told follower.new.store) (IsOpened memory.now.shape) }
+    ensures opened { OnOk result (IfSome (S.told follower.new.store) (IsOpened memory.now.shape)) }
     ensures kept { (header : List ℕ) → IfSome (S.told follower.old.store) (IsImageFile memory.now.shape header) →
         IfSome (S.told follower.new.store) (IsImageFile memory.now.shape header) }
     ensures follows { IfSome (S.told follower.old.store) (Follows memory.now.shape memory.now.image [] []) →

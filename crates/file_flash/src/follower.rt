@@ -132,7 +132,7 @@ impl<S: Store + Drop> Follower<S> {
         requires follows { IfSome (S.told self.old.store)
             (Follows memory.now.shape memory.now.image self.old.waiting.items []) }
         ensures none { OnOk result (self.new.waiting.items ≡ []) }
-        ensures opened { IfSome (S.told self.new.store) (IsOpened memory.now.shape) }
+        ensures opened { OnOk result (IfSome (S.told self.new.store) (IsOpened memory.now.shape)) }
         ensures kept { (header : List ℕ) → IfSome (S.told self.old.store) (IsImageFile memory.now.shape header) →
             IfSome (S.told self.new.store) (IsImageFile memory.now.shape header) }
         ensures follows { OnOk result (IfSome (S.told self.new.store)
@@ -177,7 +177,7 @@ impl<S: Store + Drop> Follower<S> {
         requires exist { first + count ≤ slots_of memory.now.shape }
         requires opened { IfSome (S.told self.old.store) (IsOpened memory.now.shape) }
         ensures same { self.new.waiting ≡ self.old.waiting }
-        ensures opened { IfSome (S.told self.new.store) (IsOpened memory.now.shape) }
+        ensures opened { OnOk result (IfSome (S.told self.new.store) (IsOpened memory.now.shape)) }
         ensures kept { (header : List ℕ) → IfSome (S.told self.old.store) (IsImageFile memory.now.shape header) →
             IfSome (S.told self.new.store) (IsImageFile memory.now.shape header) }
         ensures follows { (old : List Contents) → IsCleared old memory.now.image first count →

@@ -8,10 +8,12 @@ mod filling;
 mod follower;
 mod loads;
 mod opening;
+mod real_store;
 mod store;
 mod theorems;
 
 pub use file_flash::FileFlash;
 pub use opening::OpenError;
+pub use real_store::RealStore;
 pub use store::{Store, StoreError};
 pub use theorems::{calls_can_be_done, loss_examples};

@@ -84,6 +84,7 @@ pub(crate) fn follow_slots<S: Store + Drop>(
     requires opened { IfSome (S.told follower.old.store) (IsOpened memory.now.shape) }
     requires programmed { AreProgrammed memory.now.image follower.old.waiting.items }
     ensures programmed { OnOk result (AreProgrammed memory.now.image follower.new.waiting.items) }
+    ensures opened { IfSome (S.told follower.new.store) (IsOpened memory.now.shape) }
     ensures kept { (header : List ℕ) → IfSome (S.told follower.old.store) (IsImageFile memory.now.shape header) →
         IfSome (S.told follower.new.store) (IsImageFile memory.now.shape header) }
     ensures follows { IfSome (S.told follower.old.store)

@@ -1,11 +1,11 @@
-ghost use Rattle.std.specs.Prelude.{◌≡◌, [], false, Err, IfOk, IfSome, replicate, None};
+ghost use Rattle.std.specs.Prelude.{◌≡◌, [], length, false, Err, IfOk, OnOk, IfSome, replicate, None};
 ghost use Rattle.tx_types.specs.Config.{shape_of};
 ghost use Rattle.mem_flash.specs.MemFlashState.{loaded};
 ghost use Rattle.image_file.specs.InUse.{IsInUse};
 ghost use Rattle.image_file.specs.Spelling.{CanBeSpelled};
 ghost use Rattle.image_file.specs.declared.error.ImageError.{ImageError};
 ghost use Rattle.file_flash.specs.Files.{BothTell};
-ghost use Rattle.file_flash.specs.Opening.{ReadsDurably, HasSaid, Opens, Refuses};
+ghost use Rattle.file_flash.specs.Opening.{IsDurable, ReadsDurably, HasSaid, Opens, Refuses};
 ghost use Rattle.file_flash.specs.declared.opening.OpenError.TheVariants as error;
 
 use crate::follower::Follower;
@@ -42,14 +42,26 @@ impl From<ImageError> for OpenError {
     }
 }
 
-/// The bytes of a file, once they are durable. The system's copies, which it may hold from an earlier session, are
-/// dropped before they are read.
+/// Writes all bytes of a file anew, and makes them durable.
+fn write_back<S: Store>(store: &mut S, bytes: &[u8]) -> Result<(), StoreError>
+    requires long { IfSome (S.told store.old) (λ file. length bytes.now ≡ length file.values) }
+    ensures { OnOk result (BothTell (λ _. IsDurable bytes.now) (S.told store.old) (S.told store.new)) }
+{
+    store.write_at(0, bytes)?;
+    store.sync()
+}
+
+/// The bytes of a file, once they are durable. The system may hold copies from an earlier session that the disk does not
+/// have and that no sync would write, so all bytes are written back as they were read.
 fn read_durable<S: Store>(alloc: Global, store: &mut S) -> Result<Vec<u8>, StoreError>
     ensures { IfOk result (λ bytes. BothTell (ReadsDurably bytes.items) (S.told store.old) (S.told store.new)) }
 {
-    store.sync()?;
-    store.drop_copies()?;
-    store.read_all(alloc)
+    let bytes = store.read_all(alloc)?;
+    if write_back(store, &bytes).is_err() {
+        drop(bytes);
+        return Err(StoreError);
+    }
+    Ok(bytes)
 }
 
 /// Room for the slots that wait, taken beforehand, and a place for each die, with no slot.
@@ -90,7 +102,8 @@ fn follow<S: Store + Drop>(
 
 impl<S: Store + Drop> FileFlash<S> {
     /// Opens an image file, also one that a session has left in use at whatever moment: the flash is the one that its
-    /// states say. Power is on, nothing is armed, and nothing was counted.
+    /// states say. Power is on, nothing is armed, and nothing was counted. The whole image is written once, as it was
+    /// read, so an opening takes as long as a save.
     pub fn open(alloc: Global, store: S) -> Result<FileFlash<S>, OpenError>
         ensures opens { IfOk result (Opens (S.told store)) }
         ensures refuses { (image : ImageError) → result ≡ Err (OpenError.Image image) →

@@ -1,5 +1,5 @@
 ghost use Rattle.std.specs.Prelude.{◌≡◌, ◌+◌, ◌≤◌, length, Option, IfOk, IfSome};
-ghost use Rattle.file_flash.specs.Files.{FileState, WritesFile, SyncsFile, DropsCopies, ReadsFile, BothTell};
+ghost use Rattle.file_flash.specs.Files.{FileState, WritesFile, SyncsFile, ReadsFile, BothTell};
 
 use std::alloc::Global;
 
@@ -15,19 +15,15 @@ pub trait Store {
     /// Reads all bytes.
     fn read_all(&mut self, alloc: Global) -> Result<Vec<u8>, StoreError>
         ensures same { told self.new ≡ told self.old }
-        ensures reads { IfOk result (λ bytes. IfSome (told self.old) (λ file. ReadsFile file bytes.items)) };
+        ensures reads { IfOk result (λ bytes. IfSome (told self.old) (ReadsFile bytes.items)) };
 
     /// Writes bytes from an offset on, all of them within the file. A write that fails may have written any of them.
     fn write_at(&mut self, offset: u64, bytes: &[u8]) -> Result<(), StoreError>
         requires within { IfSome (told self.old) (λ file. offset + length bytes.now ≤ length file.values) }
         ensures { BothTell (WritesFile offset bytes.now result) (told self.old) (told self.new) };
 
-    /// Makes durable what was written. A sync that fails makes nothing durable.
+    /// Makes durable what was written. A sync that fails makes nothing durable, and no later one need, until all bytes
+    /// are written again.
     fn sync(&mut self) -> Result<(), StoreError>
         ensures { BothTell (SyncsFile result) (told self.old) (told self.new) };
-
-    /// Drops the copies of the file's bytes that the system holds, which a failed sync of an earlier session may have
-    /// left other than the file has them.
-    fn drop_copies(&mut self) -> Result<(), StoreError>
-        ensures { BothTell (DropsCopies result) (told self.old) (told self.new) };
 }

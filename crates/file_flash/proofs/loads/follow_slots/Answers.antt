@@ -3,7 +3,7 @@ use Rattle.std.proofs.Common.{◌<◌, ◌+◌, ◌∷◌}
 use Rattle.std.proofs.lemmas.Bool.{both_ways}
 use Rattle.std.proofs.lemmas.List.{drop_more, drop_all}
 use Rattle.file_flash.specs.Loads.{slots_loaded}
-use Rattle.file_flash.proofs.Calls.{follows_told}
+use Rattle.file_flash.proofs.Calls.{long_opened, follows_told}
 use Rattle.file_flash.proofs.Loading.{in_right, in_rest, within_more}
 use Rattle.file_flash.proofs.loads.follow_slots.Goals as goal
 
@@ -28,7 +28,7 @@ returns-in_err-follow_slot-clause-loses g c = λ f.
     (waiting ++ slots_loaded slots) new
     c.loop-slot.invariant.within
     (λ k e. in_right waiting (slots_loaded slots) k (in_rest slots n k e))
-    c.in_err-follow_slot.ensures.opened
+    (long_opened m.shape new c.in_err-follow_slot.ensures.opened)
     (subst (λ xs. IfSome new (Follows m.shape m.image c.loop-slot.follower.waiting.items (slots_loaded xs)))
     (sym rest) due)
 
@@ -64,6 +64,7 @@ returns-clause-loses g c = λ f.
     let end : drop n slots ≡ [] = drop_all n slots (omega arith) in
     follows_told m.shape m.image c.loop-slot.follower.waiting.items c.shape.ensures.whole []
     (waiting ++ slots_loaded slots) new
-    c.loop-slot.invariant.within (none_in (waiting ++ slots_loaded slots)) c.loop-slot.invariant.opened
+    c.loop-slot.invariant.within (none_in (waiting ++ slots_loaded slots))
+    (long_opened m.shape new c.loop-slot.invariant.opened)
     (subst (λ xs. IfSome new (Follows m.shape m.image c.loop-slot.follower.waiting.items (slots_loaded xs))) end
     (c.loop-slot.invariant.follows f))

@@ -1,4 +1,4 @@
-use Rattle.file_flash.proofs.Common.{◌≡◌, [], length, map, IfSome, sym, ap, subst, ◌∙◌, shape_of, IsProgrammed, AreProgrammed, Follows, IsImageFile}
+use Rattle.file_flash.proofs.Common.{◌≡◌, [], length, map, IfSome, sym, ap, subst, ◌∙◌, shape_of, IsProgrammed, AreProgrammed, Follows, IsOpened, IsImageFile}
 use Rattle.std.proofs.lemmas.List.{length-replicate}
 use Rattle.std.proofs.Common.{None}
 use Rattle.std.proofs.lemmas.List.Elements.{All-nil}
@@ -8,7 +8,7 @@ use Rattle.file_flash.specs.FileFlashState.{slot_loaded}
 use Rattle.file_flash.specs.Opening.{HasSaid}
 use Rattle.file_flash.proofs.Told.{weaken}
 use Rattle.file_flash.proofs.Keeping.{none_loaded}
-use Rattle.file_flash.proofs.Reopening.{opened_image_file, opened_follows}
+use Rattle.file_flash.proofs.Reopening.{opened_clean, opened_image_file, opened_follows}
 use Rattle.file_flash.proofs.opening.follow.Goals as goal
 
 pub invariant_of-result : goal.invariant_of-result
@@ -28,6 +28,9 @@ invariant_of-result g c =
           (weaken (HasSaid config m.image m.extras) (IsImageFile (shape_of config) (header_of config m.extras)) told
           c.requires.said
           (λ a it. opened_image_file it.bytes config m.image m.extras it.said a it.durable));
+      opened = λ e. subst (λ x. IfSome told (IsOpened x)) (sym shape)
+          (weaken (HasSaid config m.image m.extras) (IsOpened (shape_of config)) told c.requires.said
+          (λ a it. opened_clean it.bytes config m.image m.extras it.said a it.durable));
       follows = λ e. subst (λ x. IfSome told (Follows x m.image c.in_ok-waiting.waiting.items [])) (sym shape)
           (subst (λ w. IfSome told (Follows (shape_of config) m.image w [])) (sym none)
           (weaken (HasSaid config m.image m.extras) (Follows (shape_of config) m.image [] []) told c.requires.said

@@ -1,4 +1,4 @@
-use Rattle.file_flash.proofs.Existing.{example_write, example_old, example_new, example_sync, example_durable, example_without, example_stays, example_between, example_whole}
+use Rattle.file_flash.proofs.Existing.{example_write, example_old, example_new, example_sync, example_durable, example_copied, example_read, example_without, example_stays, example_between, example_whole}
 use Rattle.file_flash.proofs.theorems.loss_examples.Goals as goal
 
 pub returns-clause-write : goal.returns-clause-write
@@ -15,6 +15,12 @@ returns-clause-sync c = example_sync
 
 pub returns-clause-durable : goal.returns-clause-durable
 returns-clause-durable c = example_durable
+
+pub returns-clause-copied : goal.returns-clause-copied
+returns-clause-copied c = example_copied
+
+pub returns-clause-read : goal.returns-clause-read
+returns-clause-read c = example_read
 
 pub returns-clause-without : goal.returns-clause-without
 returns-clause-without c = example_without

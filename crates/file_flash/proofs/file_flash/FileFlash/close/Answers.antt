@@ -3,6 +3,7 @@ use Rattle.std.proofs.lemmas.Bool.{both_ways}
 use Rattle.image_file.specs.Spelling.{header_of}
 use Rattle.file_flash.specs.Filling.{AreDurable}
 use Rattle.file_flash.proofs.Calls.{follows_told}
+use Rattle.file_flash.proofs.Keeping.{long_of}
 use Rattle.file_flash.proofs.Programming.{on_ok}
 use Rattle.file_flash.proofs.Spelling.{spelled_told}
 use Rattle.file_flash.proofs.file_flash.FileFlash.close.Goals as goal
@@ -14,6 +15,7 @@ pub returns-then-is_err-2-clause-loses : goal.returns-then-is_err-2-clause-loses
 returns-then-is_err-2-clause-loses g c =
     let m = c.self.inside.memory in
     let waiting = c.self.inside.follower.waiting.items in
+    let head = header_of c.self.inside.config m.extras in
     let ok = sym c.is_err.ensures.value ∙ c.if-is_err.false in
     let flushed = on_ok (IfSome (g.S.Store.told c.flush-flushed.new.self.store) (Follows m.shape m.image [] []))
     c.flush-flushed.result ok
@@ -21,12 +23,16 @@ returns-then-is_err-2-clause-loses g c =
     rw (← c.self.view_is) (λ live.
     follows_told m.shape m.image [] c.shape.ensures.whole [] waiting (g.S.Store.told c.fill-filled.new.follower.store)
     (none_in waiting)
-    (none_in waiting) c.fill-filled.ensures.opened (c.fill-filled.ensures.follows flushed))
+    (none_in waiting)
+    (long_of m.shape head (g.S.Store.told c.fill-filled.new.follower.store)
+    (c.fill-filled.ensures.kept head (c.flush-flushed.ensures.kept head c.self.invariant.file)))
+    (c.fill-filled.ensures.follows flushed))
 
 pub returns-clause-loses : goal.returns-clause-loses
 returns-clause-loses g c =
     let m = c.self.inside.memory in
     let waiting = c.self.inside.follower.waiting.items in
+    let head = header_of c.self.inside.config m.extras in
     let ok = sym c.is_err.ensures.value ∙ c.if-is_err.false in
     let flushed = on_ok (IfSome (g.S.Store.told c.flush-flushed.new.self.store) (Follows m.shape m.image [] []))
     c.flush-flushed.result ok
@@ -34,7 +40,10 @@ returns-clause-loses g c =
     rw (← c.self.view_is) (λ live.
     follows_told m.shape m.image [] c.shape.ensures.whole [] waiting (g.S.Store.told c.fill-filled.new.follower.store)
     (none_in waiting)
-    (none_in waiting) c.fill-filled.ensures.opened (c.fill-filled.ensures.follows flushed))
+    (none_in waiting)
+    (long_of m.shape head (g.S.Store.told c.fill-filled.new.follower.store)
+    (c.fill-filled.ensures.kept head (c.flush-flushed.ensures.kept head c.self.invariant.file)))
+    (c.fill-filled.ensures.follows flushed))
 
 pub returns-clause-spelled : goal.returns-clause-spelled
 returns-clause-spelled g c =

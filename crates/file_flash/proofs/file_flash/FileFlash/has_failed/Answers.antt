@@ -1,7 +1,7 @@
 use Rattle.file_flash.proofs.Common.{◌≡◌, ℕ, List, [], true, false, refl, Slot, slots_in}
 use Rattle.std.proofs.lemmas.Bool.{both_ways}
 use Rattle.file_flash.proofs.Calls.{follows_told}
-use Rattle.file_flash.proofs.Keeping.{opened_of}
+use Rattle.file_flash.proofs.Keeping.{long_of}
 use Rattle.file_flash.proofs.Leaving.{left_images}
 use Rattle.image_file.specs.Spelling.{header_of}
 use Rattle.file_flash.proofs.file_flash.FileFlash.has_failed.Goals as goal
@@ -26,4 +26,4 @@ returns-clause-loses g c =
     let told = g.S.Store.told f.follower.store in
     rw (← c.self.view_is)
     (λ live. follows_told m.shape m.image waiting c.shape.ensures.whole [] waiting told (λ k e. e) (none_in waiting)
-    (opened_of m.shape (header_of f.config m.extras) told i.file) (i.follows live))
+    (long_of m.shape (header_of f.config m.extras) told i.file) (i.follows live))

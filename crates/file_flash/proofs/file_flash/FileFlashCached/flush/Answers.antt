@@ -1,5 +1,5 @@
-use Rattle.file_flash.proofs.Common.{◌≡◌, ℕ, [], true, IfSome, sym, ◌∙◌, slots_in, Follows}
-use Rattle.file_flash.proofs.Calls.{follows_told}
+use Rattle.file_flash.proofs.Common.{◌≡◌, ℕ, [], true, IfSome, sym, ◌∙◌, slots_in, IsOpened, Follows}
+use Rattle.file_flash.proofs.Calls.{long_opened, follows_told}
 use Rattle.file_flash.proofs.Programming.{on_ok}
 use Rattle.file_flash.proofs.file_flash.FileFlashCached.flush.Goals as goal
 
@@ -11,5 +11,7 @@ returns-clause-durable g c =
     let m = c.self.inside.memory in
     let new = g.S.Store.told c.flush-flushed.new.self.store in
     let ok = sym c.is_err.ensures.value ∙ c.if-is_err.false in
-    follows_told m.shape m.image [] c.shape.ensures.whole [] [] new none_in none_in c.flush-flushed.ensures.opened
+    follows_told m.shape m.image [] c.shape.ensures.whole [] [] new none_in none_in
+    (long_opened m.shape new
+    (on_ok (IfSome new (IsOpened m.shape)) c.flush-flushed.result ok c.flush-flushed.ensures.opened))
     (on_ok (IfSome new (Follows m.shape m.image [] [])) c.flush-flushed.result ok c.flush-flushed.ensures.follows)

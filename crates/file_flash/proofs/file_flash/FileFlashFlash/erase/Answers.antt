@@ -1,4 +1,4 @@
-use Rattle.file_flash.proofs.Common.{◌≡◌, ◌⊎◌, ℕ, ◌+◌, ◌*◌, ◌<◌, ◌≤◌, Option, FileState, [], IfSome, All, refl, sym, ap, subst, inr, ◌∙◌, slots_of, Shape, IsWhole, IsImageFile, IsProgrammed, AreProgrammed, Follows, LosesOnly, LosesBetween}
+use Rattle.file_flash.proofs.Common.{◌≡◌, ◌⊎◌, ℕ, ◌+◌, ◌*◌, ◌<◌, ◌≤◌, Option, FileState, [], IfSome, All, refl, sym, ap, subst, inr, ◌∙◌, slots_of, Shape, IsWhole, IsOpened, IsImageFile, IsProgrammed, AreProgrammed, Follows, LosesOnly, LosesBetween}
 use Rattle.std.specs.Prelude.{unwrap_or}
 use Rattle.std.specs.Result.{is_err}
 use Rattle.std.proofs.lemmas.List.Elements.{All-nil}
@@ -131,6 +131,7 @@ invariant_of-self-else-is_err-2 g c =
     (subst (λ x. IfSome new (IsImageFile x head)) same
     (c.rewrite-rewritten.ensures.kept head
     (subst (λ x. IfSome (g.S.Store.told c.flush.new.self.store) (IsImageFile x head)) (sym same) flushed)))
+    (λ x. on_ok (IfSome new (IsOpened m.shape)) c.rewrite-rewritten.result done c.rewrite-rewritten.ensures.opened)
     (λ x. subst (λ w. IfSome new (Follows m.shape m.image w [])) (sym empty)
     (on_ok (IfSome new (Follows m.shape m.image [] [])) c.rewrite-rewritten.result done rewritten))
     (λ x. subst (λ w. AreProgrammed m.image w) (sym empty) (All-nil (IsProgrammed m.image)))

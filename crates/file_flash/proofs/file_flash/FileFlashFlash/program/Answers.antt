@@ -6,7 +6,7 @@ use Rattle.mem_flash.specs.MemFlashState.{MemFlashState}
 use Rattle.image_file.specs.Spelling.{header_of}
 use Rattle.file_flash.specs.FileFlashState.{untold, powerless}
 use Rattle.file_flash.proofs.Breaking.{operates_powerless}
-use Rattle.file_flash.proofs.Calls.{follows_told}
+use Rattle.file_flash.proofs.Calls.{long_opened, follows_told}
 use Rattle.file_flash.proofs.Keeping.{operated_stays, powerless_stays, still_follows, has_failed}
 use Rattle.file_flash.proofs.Programming.{program_starts, follows_but, programmed_still, on_ok, in_front, only_front}
 use Rattle.file_flash.proofs.file_flash.FileFlashFlash.program.Goals as goal
@@ -69,7 +69,7 @@ returns-then-is_err-clause-loses g c = λ live.
     (subst (λ (x : MemFlashState). IfSome new (LosesOnly x.shape x.image (at ∷ waiting))) (sym lost)
     (follows_told m.shape m.image waiting c.shape.ensures.whole (at ∷ []) (at ∷ waiting) new (in_front at waiting)
     (only_front at waiting)
-    c.put.ensures.opened follows))
+    (long_opened m.shape new c.put.ensures.opened) follows))
 
 pub returns-then-is_err-clause-power : goal.returns-then-is_err-clause-power
 returns-then-is_err-clause-power g c = λ failed.
@@ -99,6 +99,7 @@ invariant_of-self-else-is_err g c =
     (subst (λ x. IfSome new (IsImageFile x head)) same
     (c.put.ensures.kept head (subst (λ x. IfSome (g.S.Store.told f.follower.store) (IsImageFile x head)) (sym same)
     c.self.invariant.file)))
+    (λ x. c.put.ensures.opened)
     (λ x. on_ok (IfSome new (Follows m.shape m.image c.put.new.self.waiting.items [])) c.put.result ok follows)
     (λ x. on_ok (AreProgrammed m.image c.put.new.self.waiting.items) c.put.result ok c.put.ensures.programmed)
 
@@ -120,4 +121,4 @@ returns-clause-loses g c = λ live.
     rw (← c.self.view_is)
     (follows_told m.shape m.image waiting c.shape.ensures.whole (at ∷ []) (at ∷ waiting) new (in_front at waiting)
     (only_front at waiting)
-    c.put.ensures.opened follows)
+    (long_opened m.shape new c.put.ensures.opened) follows)

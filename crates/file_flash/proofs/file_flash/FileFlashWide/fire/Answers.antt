@@ -153,6 +153,7 @@ invariant_of-self-else-is_err g c =
     (subst (λ x. IfSome new (IsImageFile x head)) same
     (c.follow_slots-followed.ensures.kept head
     (subst (λ x. IfSome (g.S.Store.told f.follower.store) (IsImageFile x head)) (sym same) c.self.invariant.file)))
+    (λ x. c.follow_slots-followed.ensures.opened)
     (λ x. on_ok (IfSome new (Follows m.shape m.image c.follow_slots-followed.new.follower.waiting.items []))
     c.follow_slots-followed.result ok follows)
     (λ x. on_ok (AreProgrammed m.image c.follow_slots-followed.new.follower.waiting.items)

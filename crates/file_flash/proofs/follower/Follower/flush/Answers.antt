@@ -1,6 +1,6 @@
-use Rattle.file_flash.proofs.Common.{◌≡◌, ℕ, true, false, List, [], refl, Slot, slots_in, LosesOnly}
+use Rattle.file_flash.proofs.Common.{◌≡◌, ℕ, true, false, List, [], refl, Slot, slots_in}
 use Rattle.std.proofs.lemmas.Bool.{both_ways}
-use Rattle.file_flash.proofs.Calls.{kept_synced, opened_synced, begun_told, ended_told, unsynced, follows_told, marks_told}
+use Rattle.file_flash.proofs.Calls.{kept_synced, long_opened, long_synced, begun_told, ended_told, unsynced, follows_told, marks_told}
 use Rattle.file_flash.proofs.follower.Follower.flush.Goals as goal
 
 -- nothing is due
@@ -11,20 +11,19 @@ pub returns-then-is_empty-clause-loses : goal.returns-then-is_empty-clause-loses
 returns-then-is_empty-clause-loses g c =
     let m = c.args.memory.now in
     let waiting = c.args.self.now.waiting.items in
-    follows_told m.shape m.image waiting c.shape.ensures.whole [] waiting (g.S.Store.told c.args.self.now.store)
-    (λ k e. e) (none_in waiting)
-    c.requires.opened c.requires.follows
+    let old = g.S.Store.told c.args.self.now.store in
+    follows_told m.shape m.image waiting c.shape.ensures.whole [] waiting old (λ k e. e) (none_in waiting)
+    (long_opened m.shape old c.requires.opened) c.requires.follows
 
 pub returns-in_err-sync-clause-loses : goal.returns-in_err-sync-clause-loses
 returns-in_err-sync-clause-loses g c =
     let m = c.args.memory.now in
     let waiting = c.args.self.now.waiting.items in
     let old = g.S.Store.told c.args.self.now.store in
-    unsynced m.shape m.image waiting (LosesOnly m.shape m.image waiting) old
-    (g.S.Store.told c.sync.new.self) c.sync.result
+    unsynced m.shape m.image waiting old (g.S.Store.told c.sync.new.self) c.sync.result
     c.in_err-sync.field-0.0 c.in_err-sync.was c.sync.ensures
     (follows_told m.shape m.image waiting c.shape.ensures.whole [] waiting old (λ k e. e) (none_in waiting)
-    c.requires.opened c.requires.follows)
+    (long_opened m.shape old c.requires.opened) c.requires.follows)
 
 pub returns-in_err-mark-clause-kept : goal.returns-in_err-mark-clause-kept
 returns-in_err-mark-clause-kept g c = λ header f.
@@ -61,8 +60,7 @@ returns-in_err-sync-2-clause-loses g c =
     (begun_told m.shape m.image waiting (g.S.Store.told c.args.self.now.store) (g.S.Store.told c.sync.new.self)
     c.sync.result c.in_ok-sync.was
     c.sync.ensures c.requires.opened c.requires.follows) in
-    unsynced m.shape m.image waiting (LosesOnly m.shape m.image waiting) mid (g.S.Store.told c.sync-2.new.self)
-    c.sync-2.result
+    unsynced m.shape m.image waiting mid (g.S.Store.told c.sync-2.new.self) c.sync-2.result
     c.in_err-sync-2.field-0.0 c.in_err-sync-2.was c.sync-2.ensures
     (marks_told m.shape m.image waiting c.shape.ensures.whole marks.0 mid c.in_ok-mark.ensures.opened marks.2)
 
@@ -99,6 +97,6 @@ returns-clause-loses g c =
     c.sync.result c.in_ok-sync.was
     c.sync.ensures c.requires.opened c.requires.follows) in
     follows_told m.shape m.image [] c.shape.ensures.whole [] waiting new (none_in waiting) (none_in waiting)
-    (opened_synced m.shape mid new c.sync-2.result c.sync-2.ensures c.in_ok-mark.ensures.opened)
+    (long_synced m.shape mid new c.sync-2.result c.sync-2.ensures c.in_ok-mark.ensures.opened)
     (ended_told m.shape m.image waiting mid new c.sync-2.result marks.0 marks.1 c.in_ok-sync-2.was
     c.sync-2.ensures c.in_ok-mark.ensures.opened marks.2)
