@@ -1,0 +1,4 @@
+mod Common
+pub mod Places
+pub mod Calls
+pub mod Leaving

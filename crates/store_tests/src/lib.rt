@@ -1,0 +1,19 @@
+//! Tests of a flash that is an image file: after each call, and where each call of the file fails, every loss of power.
+#![tactic(auto)]
+
+#[cfg(test)]
+mod course;
+#[cfg(test)]
+mod lines;
+#[cfg(test)]
+mod losing;
+#[cfg(test)]
+mod pictures;
+#[cfg(test)]
+mod running;
+#[cfg(test)]
+mod scripts;
+#[cfg(test)]
+mod steps;
+#[cfg(test)]
+mod trying;
