@@ -1,0 +1,4 @@
+pub mod Loaded
+pub mod Moments
+pub mod Operating
+pub mod Shown

@@ -1,0 +1,4 @@
+pub mod Entries
+pub mod ListFlash
+pub mod ListFlashState
+pub mod Registers
