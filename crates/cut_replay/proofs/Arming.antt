@@ -1,5 +1,5 @@
 -- Commands that set an arm.
-use Rattle.cut_replay.proofs.Common.{◌≡◌, ◌⊎◌, ℕ, ◌≤◌, Bool, true, false, ◌||◌, List, Option, Some, None, Ok, refl, sym, ap, ◌∙◌, subst, inr, arith, inl, MatchBool, IfSome, Config, Protocol, shape_of, FlashState, Told, BothTell, NoMoreToCome, Moment, moment_of, mention, IsSoundImage, records_in, CachedPage, PageCacheState, DeviceState, Command, is_arm, seen_after, Point, IsPoint, ServesFlash, first_point, IsSet, HoldsAlways, point_at, IsCachedAs, IsCached, flash_in, point_of, Fits, StandsAt, StandsMounted, IsSpentBy, ServesSession, CachesSession, Serves, DeviceSession}
+use Rattle.cut_replay.proofs.Common.{◌≡◌, ◌⊎◌, ℕ, ◌≤◌, Bool, true, false, ◌||◌, List, Option, Some, None, Ok, refl, sym, ap, ◌∙◌, subst, inr, arith, inl, MatchBool, IfSome, Config, Protocol, shape_of, FlashState, Told, BothTell, NoMoreToCome, Moment, moment_of, mention, IsSoundImage, records_in, CachedPage, PageCacheState, DeviceState, Command, is_arm, seen_after, Point, IsPoint, IsArmed, ArmsFlash, DoesFlash, ServesFlash, RunState, first_state, IsSet, HoldsAlways, point_at, IsCachedAs, IsCached, flash_in, point_of, Fits, StandsAt, StandsMounted, IsSpentBy, ServesSession, CachesSession, Serves, DeviceSession}
 use Rattle.std.proofs.lemmas.List.Elements.{All-weaker}
 use Rattle.std.proofs.lemmas.Bool.{or_parts}
 use Rattle.flash_model.specs.declared.outcome.Outcome.{Outcome}
@@ -7,20 +7,18 @@ use Rattle.flash_model.specs.Arms.{ChangesTold, SetsCut, SetsFault, SetsBadRead}
 use Rattle.host_protocol.specs.declared.command.Command.TheVariants as command
 use Rattle.host_protocol.specs.declared.reply.Reply.TheVariants as reply
 use Rattle.tx_engine.proofs.OfDevice.Seen.{seen_flash}
-use Rattle.flash_model.proofs.CallLemmas.{no_more_same}
 use Rattle.mounted_session.proofs.Beginning.{sets_flash}
-use Rattle.mounted_session.proofs.Telling.{then_told, weaker_told}
 use Rattle.cut_replay.specs.Sessions.{IsNotDropped, SetsArm, SetsArmHere, CachesFrom}
 use Rattle.mounted_session.specs.declared.session.Session.TheVariants as session
-use Rattle.cut_replay.proofs.Mountings.{mounted_point}
+use Rattle.cut_replay.proofs.Mountings.{point_flash}
 use Rattle.cut_replay.proofs.Followed.{always_point}
-use Rattle.cut_replay.proofs.Lifted.{Cases}
 
 -- what an arm of a kind sets and brings
 pub record IsArming (c : Command) (sets : Told → Told → Type 0) : Type 0 where
   pub arm : is_arm c ≡ true
   pub spent : (x y : Told) → sets x y → IsSpentBy c reply.Armed x y
   pub set : (x y : Told) → sets x y → IsSet c y
+  pub arms : (old new : FlashState) → ChangesTold sets old new → ArmsFlash c old new
 
 pub arming_cut : (count : ℕ) (what : Outcome) →
     IsArming (command.Cut count what) (SetsCut (record { count = count; outcome = what }))
@@ -31,6 +29,7 @@ arming_cut count what = record {
     breaks = omega (arith, h.breaks);
   };
   set = λ x y h. h.cut;
+  arms = λ old new h. h;
 }
 
 pub arming_fault : (count : ℕ) (what : Outcome) →
@@ -38,37 +37,36 @@ pub arming_fault : (count : ℕ) (what : Outcome) →
 arming_fault count what = record {
   arm = refl;
   spent = λ x y h. record { cuts = omega (arith, h.cuts); breaks = omega (arith, h.breaks) };
-  set =
-      λ x y h. h.fault;
+  set = λ x y h. h.fault;
+  arms = λ old new h. h;
 }
 
 pub arming_bad_read : (count : ℕ) → IsArming (command.BadRead count) (SetsBadRead count)
 arming_bad_read count = record {
   arm = refl;
   spent = λ x y h. record { cuts = omega (arith, h.cuts); breaks = omega (arith, h.breaks) };
-  set =
-      λ x y h. h.bad_read;
+  set = λ x y h. h.bad_read;
+  arms = λ old new h. h;
 }
 
 still_armed : (sets : Told → Told → Type 0) (old new : FlashState) → ChangesTold sets old new →
     moment_of new ≡ moment_of old
 still_armed sets old new h = ap moment_of h.stays
 
--- the point stays
-same_point : {F : Type 0} (state : F → FlashState) (its : Config) (protocol : Protocol) (sets : Told → Told → Type 0)
+armed_live : (sets : Told → Told → Type 0) (old new : FlashState) → ChangesTold sets old new → old.live ≡ true →
+    new.live ≡ true
+armed_live sets old new h on = ap (λ (x : FlashState). x.live) h.stays ∙ on
+
+-- the state of the run stays
+same_state : {F : Type 0} (state : F → FlashState) (its : Config) (protocol : Protocol) (sets : Told → Told → Type 0)
     (old new : DeviceSession F) →
-    SetsArm state protocol sets old new → point_of state its new ≡ point_of state its old
-same_point {F = F} state its protocol sets (session.Mounted s) (session.Mounted t) h =
-    ap (λ (x : DeviceState F). record {
-      state = record { machine = x.machine; up = true };
-      moment = moment_of (state t.flash);
-    }) h.stays
-    ∙ ap (λ (m : Moment). record { state = record { machine = s.machine; up = true }; moment = m })
-    (still_armed sets (state s.flash) (state t.flash) h.changes)
-same_point state its protocol sets (session.Mounted s) (session.Unmounted f) h = absurd h
-same_point state its protocol sets (session.Unmounted e) (session.Mounted t) h = absurd h
-same_point state its protocol sets (session.Unmounted e) (session.Unmounted f) h =
-    ap (λ (m : Moment). first_point its false m) (still_armed sets (state e) (state f) h)
+    SetsArm state protocol sets old new → (point_of state its new).state ≡ (point_of state its old).state
+same_state {F = F} state its protocol sets (session.Mounted s) (session.Mounted t) h =
+    ap (λ (x : DeviceState F). let at : RunState = record { machine = x.machine; up = true } in at) h.stays
+same_state state its protocol sets (session.Mounted s) (session.Unmounted f) h = absurd h
+same_state state its protocol sets (session.Unmounted e) (session.Mounted t) h = absurd h
+same_state state its protocol sets (session.Unmounted e) (session.Unmounted f) h =
+    ap (λ (m : Moment). first_state its false m) (still_armed sets (state e) (state f) h)
 
 -- the arm was set on its flash
 armed_flash : {F : Type 0} (state : F → FlashState) (protocol : Protocol) (sets : Told → Told → Type 0)
@@ -108,30 +106,34 @@ armed_point : {F : Type 0} (state : F → FlashState) (its : Config) (protocol :
     IsPoint its (point_of state its new)
 armed_point state its protocol sets entries seen faulted (session.Mounted s) (session.Mounted t) h fits stands =
     subst (λ (x : Config). IsPoint x (point_at state t)) (ap (λ (x : DeviceState _). x.config) h.stays ∙ fits.config)
-    (always_point state protocol t h.always)
+    (always_point state protocol t h.always (armed_live sets (state s.flash) (state t.flash) h.changes fits.live))
 armed_point state its protocol sets entries seen faulted (session.Mounted s) (session.Unmounted f) h fits stands =
     absurd h
 armed_point state its protocol sets entries seen faulted (session.Unmounted e) (session.Mounted t) h fits stands =
     absurd h
-armed_point {F = F} state its protocol sets entries seen faulted (session.Unmounted e) (session.Unmounted f)
-    h fits stands =
-    let after : DeviceSession F = session.Unmounted e in
-    subst (λ (p : Point). IsPoint its p)
-    (sym (same_point state its protocol sets after (session.Unmounted f) h))
-    (mounted_point state its e after (record {
-      moment = refl;
-      shape = refl;
-      later = omega arith;
-      told = no_more_same (state e).told;
-      extras =
-          refl;
-    }) stands.sound)
+armed_point state its protocol sets entries seen faulted (session.Unmounted e) (session.Unmounted f)
+    h fits stands = record {
+      sound = subst (λ (m : Moment). IsSoundImage its.protocol its.logical (shape_of its) m.image)
+          (sym (still_armed sets (state e) (state f) h)) stands.sound;
+      array = inl refl;
+      live = λ up. (let no : false ≡ true = up in absurd cc);
+    }
+
+-- and so the arm is set in the run
+armed_flash_of : {F : Type 0} (state : F → FlashState) (its : Config) (sets : Told → Told → Type 0) (c : Command)
+    (old new : DeviceSession F) → IsArming c sets → ChangesTold sets (state (flash_in old)) (state (flash_in new)) →
+    ArmsFlash c (point_of state its old).flash (point_of state its new).flash
+armed_flash_of state its sets c old new arming h =
+    subst (λ (x : FlashState). ArmsFlash c x (point_of state its new).flash) (sym (point_flash state its old))
+    (subst (λ (x : FlashState). ArmsFlash c (state (flash_in old)) x) (sym (point_flash state its new))
+    (arming.arms (state (flash_in old)) (state (flash_in new)) h))
 
 armed_serves_flash : (its : Config) (spent : ℕ → Bool) (faulted : Bool) (c : Command) (old new : Point) →
-    is_arm c ≡ true → new ≡ old →
+    is_arm c ≡ true → IsArmed c old reply.Armed new →
     ServesFlash its spent faulted c old reply.Armed new
-armed_serves_flash its spent faulted c old new arm same = subst (λ b. MatchBool b ((reply.Armed ≡ reply.Armed) ×
-    (new ≡ old)) (Cases its spent faulted c old reply.Armed new)) (sym arm) (refl, same)
+armed_serves_flash its spent faulted c old new arm h =
+    subst (λ b. MatchBool b (IsArmed c old reply.Armed new) (DoesFlash its spent faulted c old reply.Armed new))
+    (sym arm) h
 
 armed_serves : {F : Type 0} (state : F → FlashState) (its : Config) (protocol : Protocol) (sets : Told → Told →
     Type 0) (entries : List CachedPage) (c : Command) (old new : DeviceSession F) →
@@ -145,18 +147,18 @@ armed_serves state its protocol sets entries c old new arming fits h =
         may = λ page spent. (let not : false ≡ true = spent in absurd cc);
         serves = armed_serves_flash its (λ page. false) faulted c (point_of state its old)
             (point_of state its new) arming.arm
-            (same_point state its protocol sets old new h);
+            (record {
+              told = refl;
+              stays = same_state state its protocol sets old new h;
+              arms = armed_flash_of state its sets c old new arming flash;
+            });
         point = armed_point state its protocol sets entries seen faulted old new h fits stands;
         stands = armed_stands state its protocol sets c seen faulted old new h stands;
       };
       kept = inr (still_armed sets (state (flash_in old)) (state (flash_in new)) flash);
       unsound = λ unsound. subst (λ b. MatchBool b (reply.Armed ≡ reply.Armed) ((reply.Armed ≡ reply.Fault)
           ⊎ (reply.Armed ≡ reply.Cut))) (sym arming.arm) refl;
-      spends = weaker_told sets (IsSpentBy c reply.Armed) arming.spent (state (flash_in old)).told
-          (state (flash_in new)).told flash.told;
-      set = then_told sets (IsSet c) arming.set (state (flash_in old)).told (state (flash_in new)).told flash.told;
       faults = ap (λ (x : FlashState). x.faults) flash.stays;
-      mounts = inl (λ cut. cc);
       extras = ap (λ (x : FlashState). x.extras) flash.stays;
     }
 

@@ -1,12 +1,12 @@
 -- The session that serving begins with.
-use Rattle.cut_replay.proofs.Common.{◌≡◌, Bool, true, false, List, [], Option, Some, None, Result, Ok, Err, refl, sym, ap, ◌∙◌, subst, inl, inr, arith, IfOk, MatchBool, Config, checked, shape_of, Shape, CachedPage, FlashState, Told, BothTell, NoMoreToCome, Spends, Moment, moment_of, ArrayState, mentions_in, first_point, CountsBreaks, flash_in, point_of, IsSoundFlash, IsSoundOrSame, Fits, Mounted, Unmounted, Begins, Command, Watched, ServesUnsound, ServeError, DeviceSession, sound_unbroken}
-use Rattle.std.proofs.Common.{ap₂}
+use Rattle.cut_replay.proofs.Common.{◌≡◌, Bool, true, false, List, [], Option, Some, None, Result, Ok, Err, refl, sym, ap, ◌∙◌, subst, inl, inr, arith, IfOk, MatchBool, Config, checked, shape_of, Shape, CachedPage, FlashState, Told, BothTell, NoMoreToCome, Spends, Moment, moment_of, ArrayState, array_in, idle, MountsFlash, mentions_in, first_point, CountsBreaks, flash_in, point_of, IsSoundFlash, IsSoundOrSame, Fits, Mounted, Unmounted, Begins, Command, Watched, ServesUnsound, ServeError, DeviceSession, sound_unbroken}
 use Rattle.std.specs.Prelude.{IsSomeAnd}
 use Rattle.flash_model.specs.Flash.{IsSteady}
 use Rattle.cut_replay.specs.Bounds.{BeginsUnbroken}
 use Rattle.cut_replay.specs.Beginning.{MountsFirst}
 use Rattle.mounted_session.specs.Mounting.{MomentStays, StaysQuiet}
-use Rattle.flash_model.proofs.CallLemmas.{no_more_same}
+use Rattle.array_runs.specs.Run.{RunState}
+use Rattle.cut_replay.specs.FlashRun.{Point}
 use Rattle.mounted_session.proofs.Beginning.{first_by, first_still}
 use Rattle.mounted_session.proofs.Mounting.{nothing_done}
 use Rattle.mounted_session.proofs.Telling.{none_spent}
@@ -17,27 +17,36 @@ use Rattle.cut_replay.proofs.Losing.{mounted_fits}
 use Rattle.cut_replay.specs.Served.{ServesSound, CountsTold, RefusesUnsound}
 use Rattle.cut_replay.specs.declared.serving.ServeError.TheVariants as failed
 use Rattle.mounted_session.specs.declared.session.Session.TheVariants as session
-use Rattle.cut_replay.proofs.Mountings.{mounted_stands, mounted_leaves, mounted_still}
-use Rattle.cut_replay.proofs.MountingAgain.{mounts_none}
-use Rattle.cut_replay.proofs.Runs.{grew_none, least_none, spends_nothing, counts_later}
+use Rattle.cut_replay.proofs.Mountings.{mounted_stands, mounted_leaves, mounted_still, mounted_flash}
+use Rattle.cut_replay.proofs.Runs.{grew_none, least_none, counts_later}
 
 -- at the first point
 begun_point : {F : Type 0} (state : F → FlashState) (its : Config) (flash : F) (s : DeviceSession F) →
     Mounted state its flash s → (up : Bool) ×
-    (point_of state its s ≡ first_point its up (moment_of (state flash)))
+    (point_of state its s ≡ first_point its up (state (flash_in s)))
 begun_point state its flash (session.Mounted s) h = (
   true,
-  ap₂ (λ (m : ArrayState) (x : Moment). record { state = record { machine = m; up = true }; moment = x })
-      h.machine h.still.moment,
+  ap (λ (m : ArrayState). let at : RunState = record { machine = m; up = true } in
+      let p : Point = record { state = at; flash = state s.flash } in p)
+      (h.machine ∙ ap (λ (m : Moment). idle (array_in its.protocol its.logical m.image)) (sym h.still.moment)),
 )
-begun_point state its flash (session.Unmounted new) h =
-    (false, ap (λ (m : Moment). first_point its false m) h.still.moment)
+begun_point state its flash (session.Unmounted new) h = (false, refl)
 
-begun_told : {F : Type 0} (state : F → FlashState) (its : Config) (flash : F) (s : DeviceSession F) →
-    Mounted state its flash s →
-    BothTell NoMoreToCome (state flash).told (state (flash_in s)).told
-begun_told state its flash (session.Mounted s) h = h.still.told
-begun_told state its flash (session.Unmounted new) h = h.still.told
+-- a mounted device has power
+mount_live : (its : Config) (up : Bool) (old new : FlashState) → MountsFlash its up old new → up ≡ true →
+    new.live ≡ true
+mount_live its true old new h is = h.carries.lives
+mount_live its false old new h is = (let no : false ≡ true = is in absurd cc)
+
+-- by a mount
+begun_flash : {F : Type 0} (state : F → FlashState) (its : Config) (flash : F) (s : DeviceSession F) →
+    (h : Mounted state its flash s) →
+    MountsFlash its (begun_point state its flash s h).0 (state flash) (state (flash_in s))
+unfolding begun_point
+begun_flash {F = F} state its flash (session.Mounted s) h =
+    let up : DeviceSession F = session.Mounted s in mounted_flash state its flash up h
+begun_flash {F = F} state its flash (session.Unmounted new) h =
+    let alone : DeviceSession F = session.Unmounted new in mounted_flash state its flash alone h
 
 -- no fault was counted, unless the first mount met one
 pub none_counted : (s : FlashState) → CountsBreaks [] s s
@@ -60,30 +69,23 @@ begun_faults state its flash (session.Unmounted new) on h = record {
   quiet = λ unbroken all. absurd (first_unbroken (state flash) (state new) on unbroken h.spends);
 }
 
--- a steady flash is mounted
-begun_up : {F : Type 0} (state : F → FlashState) (its : Config) (flash : F) (s : DeviceSession F) →
-    (h : Mounted state its flash s) → IsSteady (state flash) →
-    (begun_point state its flash s h).0 ≡ true
-unfolding begun_point
-begun_up state its flash (session.Mounted s) h steady = refl
-begun_up state its flash (session.Unmounted new) h steady =
-    absurd (none_spent (state flash).told (state new).told (state new).live steady.none h.spends)
-
 begun : {F : Type 0} (state : F → FlashState) (its : Config) (flash : F) (s : DeviceSession F) →
     (state flash).live ≡ true → Mounted state its flash s →
     IsSoundFlash its (state flash) → Begins state its (state flash) s
 begun state its flash s on h sound =
     let at = begun_point state its flash s h in
+    let mount = begun_flash state its flash s h in
     record {
       sound = sound;
       up = at.0;
-      mounted = begun_up state its flash s h;
+      first = subst (λ b. MatchBool b (MountsFlash its at.0 (state flash) (state (flash_in s)))
+          ((at.0 ≡ false) × (state (flash_in s) ≡ state flash))) (sym on) mount;
+      moment = mount.moment;
+      live = λ up. mount_live its at.0 (state flash) (state (flash_in s)) mount up;
       point = at.1;
       stands = mounted_stands state its flash (mentions_in its (moment_of (state flash))) false s
           (mounted_leaves state its flash s h) sound
           (λ page lt. omega arith);
-      told = begun_told state its flash s h;
-      faults = begun_faults state its flash s on h;
     }
 
 -- a flash without power, which is not mounted
@@ -93,11 +95,12 @@ dead_begins : {F : Type 0} (state : F → FlashState) (its : Config) (flash : F)
 dead_begins state its flash off sound = record {
   sound = sound;
   up = false;
-  mounted = λ steady. (let both = sym off ∙ steady.live in cc);
+  first = subst (λ b. MatchBool b (MountsFlash its false (state flash) (state flash))
+      ((false ≡ false) × (state flash ≡ state flash))) (sym off) (refl, refl);
+  moment = refl;
+  live = λ up. (let no : false ≡ true = up in absurd cc);
   point = refl;
   stands = record { sound = sound; mentions = λ page lt. omega arith };
-  told = no_more_same (state flash).told;
-  faults = none_counted (state flash);
 }
 
 -- nothing was served, for want of memory
@@ -111,14 +114,17 @@ nothing_served state its list flash new w sound still = (
   inl (record {
     replies = [];
     points = [];
-    run = record { up = false; first = record { sound = sound; array = inl refl }; runs = tt };
-    last = still.still.moment;
+    run = record {
+      up = false;
+      flash = state flash;
+      begins = refl;
+      first = record { sound = sound; array = inl refl; live = λ up. (let no : false ≡ true = up in absurd cc) };
+      runs = tt;
+    };
+    begins = inr (refl, refl);
+    left = still;
     text = grew_none w.text;
     kept = grew_none w.kept;
-    spends = spends_nothing (state flash).told (state new).told still.still.told;
-    faults = counts_later [] (state flash) (state flash) (state new) (none_counted (state flash)) still.quiet;
-    up = λ steady. inl refl;
-    mounts = mounts_none its false (state flash) (state new) still.still.later;
   }),
 )
 

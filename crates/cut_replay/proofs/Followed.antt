@@ -1,5 +1,5 @@
 -- What a command comes to that was done on a mounted device.
-use Rattle.cut_replay.proofs.Common.{◌≡◌, ℕ, ◌<◌, ◌≤◌, Bool, true, false, List, [], Result, Ok, Err, refl, sym, ap, ◌∙◌, subst, inl, inr, arith, MatchBool, IfOk, OnOk, cases_Bool, Config, Protocol, checked, shape_of, FlashState, BothTell, Rose, Spends, Carries, Moment, moment_of, mention, IsSoundImage, array_in, records_in, PageCacheState, CachedPage, idle, is_spent, DeviceState, Command, Reply, CutLeavesOf, is_arm, is_break, IsPoint, MovesBy, is_fault, is_lost, CountsBreak, IsSeen, HoldsAlways, point_at, IsCached, ServesHere, flash_in, IsSoundFlash, Fits, StandsMounted, IsSpentBy, ServesIn, ServesSession, EndsServing, Serves, CachesSession, ServeError, DeviceSession}
+use Rattle.cut_replay.proofs.Common.{◌≡◌, ℕ, ◌<◌, ◌≤◌, Bool, true, false, not, List, [], Result, Ok, Err, refl, sym, ap, ◌∙◌, subst, inl, inr, arith, MatchBool, IfOk, OnOk, cases_Bool, Config, Protocol, checked, shape_of, FlashState, Rose, Carries, Moment, moment_of, mention, IsSoundImage, array_in, records_in, PageCacheState, CachedPage, idle, is_spent, DeviceState, Command, Reply, CutLeavesOf, is_arm, is_break, IsPoint, MovesBy, is_fault, is_lost, CountsBreak, IsSeen, HoldsAlways, point_at, IsCached, ServesHere, flash_in, IsSoundFlash, Fits, StandsMounted, ServesIn, ServesSession, EndsServing, Serves, CachesSession, ServeError, DeviceSession}
 use Rattle.std.specs.Prelude.{nat_le, ◌^◌, IfErr}
 use Rattle.std.proofs.lemmas.Bool.{or_parts}
 use Rattle.std.proofs.lemmas.Bool.Decides.{nat_tests}
@@ -13,7 +13,7 @@ use Rattle.cut_replay.specs.Sessions.{Follows, left}
 use Rattle.mounted_session.specs.declared.session.Session.TheVariants as session
 use Rattle.cut_replay.proofs.Losing.{Sessions, FitsAfter, ServesAfter, EndsAfter, CachesAfter, WasLost, served_no_arm, again_serves, again_ends, again_fits}
 use Rattle.cut_replay.proofs.Losing.{again_caches, no_arm_caches}
-use Rattle.cut_replay.proofs.Spending.{is_its_fault, uncut, spends_none, spends_fault, spends_cut, sets_none}
+use Rattle.cut_replay.proofs.Spending.{is_its_fault}
 
 -- a page is spent only where it may have been mentioned at the last version
 last_version : (n m : ℕ) → nat_le (2 ^ 62) n ≡ true → n ≤ m → 2 ^ 62 ≤ m
@@ -25,22 +25,39 @@ may_be_spent seen s h page is = last_version (mention_of s.noted page) (seen pag
 
 -- the point of a device
 pub always_point : {F : Type 0} (state : F → FlashState) (protocol : Protocol) (s : DeviceState F) →
-    HoldsAlways state protocol s →
+    HoldsAlways state protocol s → (state s.flash).live ≡ true →
     IsPoint s.config (point_at state s)
-always_point state protocol s h = record { sound = h.sound; array = h.array }
+always_point state protocol s h on = record { sound = h.sound; array = h.array; live = λ up. on }
+
+-- where nothing was lost each break is a fault
+pub break_is : (r : Reply) → is_lost r ≡ false → is_break r ≡ is_fault r
+break_is reply.Cut h = cc
+break_is reply.Fault h = refl
+break_is reply.Dropped h = cc
+break_is _ h = refl
 
 -- Power was not cut
 pub done_in : {F : Type 0} (state : F → FlashState) (protocol : Protocol) (c : Command) (s t : DeviceState F)
     (r : Reply) (seen : ℕ → ℕ) (faulted : Bool) →
-    is_arm c ≡ false →
+    is_arm c ≡ false → (state t.flash).live ≡ true →
     ServesHere state c s t r → HoldsAlways state protocol t → StandsMounted seen faulted s →
     ServesIn state s.config seen faulted c (session.Mounted s) r (session.Mounted t)
-done_in state protocol c s t r seen faulted no_arm h always stands = record {
+done_in state protocol c s t r seen faulted no_arm on h always stands = record {
   spent = is_spent s.noted.mentions;
   may = may_be_spent seen s stands.mentions;
   serves = served_no_arm s.config (is_spent s.noted.mentions) faulted c (point_at state s) r (point_at state t) no_arm
-      (inr (inl (record { does = h.does; up = refl; moves = h.moves; tells = h.tells faulted stands.sure })));
-  point = subst (λ (x : Config). IsPoint x (point_at state t)) h.config (always_point state protocol t always);
+      (inr (inl (record {
+        does = h.does;
+        up = refl;
+        moves = h.moves;
+        tells = h.tells faulted stands.sure;
+        first = state s.flash;
+        mounts = refl;
+        calls = subst (λ (b : Bool). Carries (state s.flash) (state t.flash) b) (sym (break_is r h.whole)) h.carries;
+        live = on;
+        kept = h.whole;
+      })));
+  point = subst (λ (x : Config). IsPoint x (point_at state t)) h.config (always_point state protocol t always on);
   stands = record {
     sure = λ whole. let parts = or_parts faulted (is_fault r) whole in h.sure (stands.sure parts.0) parts.1;
     mentions = h.seen seen stands.mentions;
@@ -55,27 +72,8 @@ not_broken old new r on off carries = elim (cases_Bool (is_fault r)) [
   | inr whole ↦ (let lives : new.live ≡ old.live = (subst (λ (b : Bool). Carries old new b) whole carries).lives in cc)
 ]
 
-live_spends : (c : Command) (r : Reply) (old new : FlashState) → is_lost r ≡ false → old.live ≡ true → new.live ≡ true →
-    Carries old new (is_fault r) →
-    BothTell (IsSpentBy c r) old.told new.told
-live_spends c r old new whole on still carries = elim (cases_Bool (is_fault r)) [
-  | inl broken ↦ (
-      let met : Carries old new true = subst (λ (b : Bool). Carries old new b) broken carries in
-      let spent : BothTell (Spends true) old.told new.told = subst (λ (b : Bool). BothTell (Spends b) old.told new.told)
-      still (met.spends on) in
-      subst (λ q. BothTell (IsSpentBy c q) old.told new.told) (sym (is_its_fault r broken whole))
-      (spends_fault c old.told new.told met.no_more spent))
-  | inr none ↦ spends_none c r old.told new.told (uncut r whole) none carries.no_more
-]
-
 -- what the flash counts
-break_is : (r : Reply) → is_lost r ≡ false → is_break r ≡ is_fault r
-break_is reply.Cut h = cc
-break_is reply.Fault h = refl
-break_is reply.Dropped h = cc
-break_is _ h = refl
-
-by_fault : (broken : Bool) (old new : FlashState) → Carries old new broken →
+pub by_fault : (broken : Bool) (old new : FlashState) → Carries old new broken →
     MatchBool broken (Rose old.faults new.faults) (new.faults ≡ old.faults)
 by_fault true old new h = h.cause
 by_fault false old new h = h.quiet
@@ -137,13 +135,11 @@ went_serves : {F : Type 0} (state : F → FlashState) (c : Command) (s t : Devic
     WasDone state s.config c s t r entries → (state t.flash).live ≡ true →
     ServesSession state s.config c (session.Mounted s) r (session.Mounted t)
 went_serves state c s t r entries w on = record {
-  in_run = λ seen faulted stands. done_in state s.config.protocol c s t r seen faulted w.no_arm w.here w.always stands;
+  in_run = λ seen faulted stands. done_in state s.config.protocol c s t r seen faulted w.no_arm on w.here
+      w.always stands;
   kept = inl (w.sound, sound_here state c s t r entries w);
   unsound = λ unsound. absurd (unsound w.sound);
-  spends = live_spends c r (state s.flash) (state t.flash) w.here.whole w.on on w.here.carries;
-  set = sets_none c w.no_arm (state t.flash).told;
   faults = live_counts r (state s.flash) (state t.flash) w.here.whole w.here.carries;
-  mounts = inl (λ lost. let no : false ≡ true = sym w.here.whole ∙ lost in cc);
   extras = w.here.carries.extras;
 }
 
@@ -185,9 +181,7 @@ cut_lost state c s t r entries w off =
           (subst (λ (x : Config). page < x.logical) (sym here.config) lt));
       moves = cut_moves its c (moment_of (state s.flash)) (moment_of (state t.flash)) here.moves;
       carries = here.carries;
-      spends = spends_cut c (state s.flash).told (state t.flash).told here.carries.no_more
-          (subst (λ (b : Bool). BothTell (Spends b) (state s.flash).told (state t.flash).told) off
-          (here.carries.spends w.on));
+      cut = ap not (sym off);
     }
 
 -- at the configuration of the device, and so at that of the session

@@ -14,3 +14,5 @@ pub mod MountingAgain
 pub mod Progress
 pub mod Begun
 pub mod Quiet
+pub mod Due
+pub mod Totals

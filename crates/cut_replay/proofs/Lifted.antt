@@ -1,5 +1,5 @@
 -- A command that mounts the device first.
-use Rattle.cut_replay.proofs.Common.{◌≡◌, ◌⊎◌, ℕ, ◌≤◌, Bool, true, false, [], Result, Ok, Err, refl, sym, ap, ◌∙◌, subst, inl, inr, arith, MatchBool, Config, Shape, checked, shape_of, FlashState, counted_by, BothTell, Rose, Spends, Moment, moment_of, mention, IsSoundImage, records_in, ArrayState, DeviceState, limits_of, Command, Reply, DoesCommand, LosesOpen, MayLose, CutLeavesOf, NotDone, is_arm, seen_after, Point, IsDone, MovesBy, ServesFlash, Tells, first_point, CountsBreak, MountsAfter, point_at, MomentStays, PageCacheState, flash_in, point_of, StandsMounted, IsSpentBy, ServesIn, ServesSession, IsSoundOrSame, EndsServing, MountsIn, Mounted, Unmounted, CachesSession, Fits, Serves, ServeError, DeviceSession}
+use Rattle.cut_replay.proofs.Common.{◌≡◌, ◌⊎◌, ℕ, ◌≤◌, Bool, true, false, not, [], Result, Ok, Err, refl, sym, ap, ◌∙◌, subst, inl, inr, arith, MatchBool, Config, Shape, checked, shape_of, FlashState, Rose, Moment, moment_of, mention, IsSoundImage, records_in, ArrayState, DeviceState, limits_of, Command, Reply, DoesCommand, MayLose, CutLeavesOf, is_arm, seen_after, Point, IsArmed, IsDone, IsLost, DoesFlash, ComesUp, MountsFlash, MovesBy, ServesFlash, Tells, first_point, first_state, is_cut, CountsBreak, point_at, MomentStays, PageCacheState, flash_in, point_of, StandsMounted, ServesIn, ServesSession, IsSoundOrSame, EndsServing, MountsIn, Mounted, Unmounted, CachesSession, Fits, Serves, ServeError, DeviceSession}
 use Rattle.host_protocol.specs.declared.reply.Reply.TheVariants as reply
 use Rattle.cut_replay.specs.FlashRun.{HasErased}
 use Rattle.mounted_session.specs.Mounting.{MeetsFault}
@@ -8,61 +8,91 @@ use Rattle.cut_replay.specs.Sessions.{StandsUnmounted}
 use Rattle.cut_replay.specs.Sessions.{EndsFor, CachesServed, CachesFrom}
 use Rattle.cut_replay.specs.declared.serving.ServeError.TheVariants as failed
 use Rattle.mounted_session.specs.declared.session.Session.TheVariants as session
-use Rattle.cut_replay.proofs.Mountings.{mounted_stands, mounted_point}
+use Rattle.cut_replay.proofs.Mountings.{mounted_stands, mounted_point, mounted_flash}
 use Rattle.flash_model.proofs.CallLemmas.{no_more_then}
-use Rattle.cut_replay.proofs.Spending.{spends_fault, spends_cut, spends_after, sets_none}
 use Rattle.cut_replay.proofs.Losing.{served_no_arm}
 
 -- From another point with the same machine and the same moment
-tells_from : (its : Config) (faulted : Bool) (a b : Point) (r : Reply) (new : Point) → b.moment ≡ a.moment →
-    Tells its faulted a r new →
-    Tells its faulted b r new
-tells_from its faulted a b reply.Collected new same h = subst (λ (m : Moment). HasErased its m new.moment) (sym same) h
+tells_from : (its : Config) (faulted : Bool) (a b : Point) (r : Reply) (new : Point) →
+    moment_of b.flash ≡ moment_of a.flash → Tells its faulted a r new → Tells its faulted b r new
+tells_from its faulted a b reply.Collected new same h =
+    subst (λ (m : Moment). HasErased its m (moment_of new.flash)) (sym same) h
 tells_from its faulted a b _ new same h = h
 
 moves_from : (its : Config) (c : Command) (r : Reply) (a b new : Moment) → b ≡ a → MovesBy its c r a new →
     MovesBy its c r b new
 moves_from its c r a b new same h = subst (λ (m : Moment). MovesBy its c r m new) (sym same) h
 
+-- the device of the first point was mounted on the flash of the other one
+record IsMountedFrom (its : Config) (a b : Point) : Type 0 where
+  up : a.state.up ≡ true
+  down : b.state.up ≡ false
+  machine : b.state.machine ≡ a.state.machine
+  mounts : MountsFlash its true b.flash a.flash
+
+comes_from : (its : Config) (a b : Point) (first : FlashState) → IsMountedFrom its a b →
+    ComesUp its a.state.up a.flash first → ComesUp its b.state.up b.flash first
+comes_from its a b first from h =
+    let same : first ≡ a.flash = subst (λ x. ComesUp its x a.flash first) from.up h in
+    subst (λ x. ComesUp its x b.flash first) (sym from.down)
+    (subst (λ (s : FlashState). MountsFlash its true b.flash s) (sym same) from.mounts)
+
 done_from : (its : Config) (spent : ℕ → Bool) (faulted : Bool) (c : Command) (a b : Point) (r : Reply) (new : Point) →
-    b.state.machine ≡ a.state.machine →
-    b.moment ≡ a.moment →
-    IsDone its spent faulted c a r new → IsDone its spent faulted c b r new
-done_from its spent faulted c a b r new machine moment h = record {
-  does = subst (λ (m : ArrayState). DoesCommand (limits_of its) spent c m r new.state.machine) (sym machine) h.does;
+    IsMountedFrom its a b → IsDone its spent faulted c a r new → IsDone its spent faulted c b r new
+done_from its spent faulted c a b r new from h = record {
+  does = subst (λ (m : ArrayState). DoesCommand (limits_of its) spent c m r new.state.machine) (sym from.machine)
+      h.does;
   up = h.up;
-  moves = moves_from its c r a.moment b.moment new.moment moment h.moves;
-  tells = tells_from its faulted a b r new moment h.tells;
+  moves = moves_from its c r (moment_of a.flash) (moment_of b.flash) (moment_of new.flash) (sym from.mounts.moment)
+      h.moves;
+  tells = tells_from its faulted a b r new (sym from.mounts.moment) h.tells;
+  first = h.first;
+  mounts = comes_from its a b h.first from h.mounts;
+  calls = h.calls;
+  live = h.live;
+  kept = h.kept;
 }
 
-abbrev pub Cases : Config → (ℕ → Bool) → Bool → Command → Point → Reply → Point → Type 0
-Cases its spent faulted c old r new =
-    (NotDone old.state r new.state × (new.moment ≡ old.moment))
-    ⊎ (IsDone its spent faulted c old r new ⊎ (LosesOpen c old.state r new.state
-    × MovesBy its c r old.moment new.moment))
+lost_from : (its : Config) (c : Command) (a b : Point) (r : Reply) (met : FlashState) (new : Point) →
+    IsMountedFrom its a b → IsLost its c a r met new → IsLost its c b r met new
+lost_from its c a b r met new from h = record {
+  loses = (
+    subst (λ (m : ArrayState). MayLose c m.pages r) (sym from.machine) h.loses.0,
+    subst (λ (m : ArrayState). CutLeavesOf c m new.state.machine) (sym from.machine) h.loses.1,
+  );
+  moves = moves_from its c r (moment_of a.flash) (moment_of b.flash) (moment_of new.flash) (sym from.mounts.moment)
+      h.moves;
+  first = h.first;
+  mounts = comes_from its a b h.first from h.mounts;
+  calls = h.calls;
+  cut = h.cut;
+}
 
 cases_of : (its : Config) (spent : ℕ → Bool) (faulted : Bool) (c : Command) (old : Point) (r : Reply) (new : Point) →
     is_arm c ≡ false →
-    ServesFlash its spent faulted c old r new → Cases its spent faulted c old r new
+    ServesFlash its spent faulted c old r new → DoesFlash its spent faulted c old r new
 cases_of its spent faulted c old r new no_arm h =
-    subst (λ b. MatchBool b ((r ≡ reply.Armed) × (new ≡ old)) (Cases its spent faulted c old r new)) no_arm h
+    subst (λ b. MatchBool b (IsArmed c old r new) (DoesFlash its spent faulted c old r new)) no_arm h
 
 -- where the first one is up the command was done
 cases_from : (its : Config) (spent : ℕ → Bool) (faulted : Bool) (c : Command) (a b : Point) (r : Reply) (new : Point) →
-    a.state.up ≡ true →
-    b.state.machine ≡ a.state.machine → b.moment ≡ a.moment →
-    Cases its spent faulted c a r new → Cases its spent faulted c b r new
-cases_from its spent faulted c a b r new up machine moment (inl not) = (let down = not.0.0 in absurd cc)
-cases_from its spent faulted c a b r new up machine moment (inr (inl done)) =
-    inr (inl (done_from its spent faulted c a b r new machine moment done))
-cases_from its spent faulted c a b r new up machine moment (inr (inr lost)) =
-    inr (inr (
-      (
-        subst (λ (m : ArrayState). MayLose c m.pages r) (sym machine) lost.0.0,
-        subst (λ (m : ArrayState). CutLeavesOf c m new.state.machine) (sym machine) lost.0.1,
-      ),
-      moves_from its c r a.moment b.moment new.moment moment lost.1,
-    ))
+    IsMountedFrom its a b → DoesFlash its spent faulted c a r new → DoesFlash its spent faulted c b r new
+cases_from its spent faulted c a b r new from (inl h) = (let down = h.stays.0 in let up = from.up in absurd cc)
+cases_from its spent faulted c a b r new from (inr (inl done)) =
+    inr (inl (done_from its spent faulted c a b r new from done))
+cases_from its spent faulted c a b r new from (inr (inr h)) =
+    inr (inr (h.0, lost_from its c a b r h.0 new from h.1, h.2))
+
+from_mount : {F : Type 0} (state : F → FlashState) (its : Config) (flash : F) (t : DeviceState F) →
+    MountsIn state its flash t → IsMountedFrom its (point_at state t) (first_point its false (state flash))
+from_mount {F = F} state its flash t mounts =
+    let up : DeviceSession F = session.Mounted t in
+    record {
+      up = refl;
+      down = refl;
+      machine = sym mounts.machine;
+      mounts = mounted_flash state its flash up mounts;
+    }
 
 lifted_run : {F : Type 0} (state : F → FlashState) (its : Config) (flash : F) (t : DeviceState F) (c : Command)
     (r : Reply) (new : DeviceSession F) →
@@ -75,13 +105,13 @@ lifted_run {F = F} state its flash t c r new no_arm mounts h seen faulted stands
     let up : DeviceSession F = session.Mounted t in
     let served = h seen faulted (mounted_stands state its flash seen faulted up mounts stands.sound
     stands.mentions) in
-    let b : Point = first_point its false (moment_of (state flash)) in
+    let b : Point = first_point its false (state flash) in
     record {
       spent = served.spent;
       may = served.may;
       serves = served_no_arm its served.spent faulted c b r (point_of state its new) no_arm
-          (cases_from its served.spent faulted c (point_at state t) b r (point_of state its new) refl
-          (sym mounts.machine) (sym mounts.still.moment)
+          (cases_from its served.spent faulted c (point_at state t) b r (point_of state its new)
+          (from_mount state its flash t mounts)
           (cases_of its served.spent faulted c (point_at state t) r (point_of state its new) no_arm served.serves));
       point = served.point;
       stands = served.stands;
@@ -96,16 +126,6 @@ sound_or_same_from its a b new same (inl sound) = inl (
 )
 sound_or_same_from its a b new same (inr is) = inr (is ∙ same)
 
--- a device that is mounted did the command
-lifted_mounts : (a b : Point) (r : Reply) (new : Point) (before first now : ℕ) → a.state.up ≡ true → before ≡ first →
-    MountsAfter a r new before now → MountsAfter b r new first now
-lifted_mounts a b r new before first now up quiet (inl again) = inl (λ cut. elim (again cut) [
-  | inl not ↦ (let down = not.0.0 in absurd cc)
-  | inr mounted ↦ inr mounted
-])
-lifted_mounts a b r new before first now up quiet (inr failed) =
-    inr (failed.0, subst (λ n. counted_by 2 n ≤ now) quiet failed.1)
-
 lifted_serves : {F : Type 0} (state : F → FlashState) (its : Config) (flash : F) (t : DeviceState F) (c : Command)
     (r : Reply) (new : DeviceSession F) →
     is_arm c ≡ false → MountsIn state its flash t →
@@ -117,14 +137,7 @@ lifted_serves state its flash t c r new no_arm mounts h = record {
   unsound = λ unsound. h.unsound (λ sound. unsound
       (subst (λ (m : Moment). IsSoundImage its.protocol its.logical (shape_of its) m.image) mounts.still.moment
       sound));
-  spends = spends_after c r (state flash).told (state t.flash).told (state (flash_in new)).told
-      mounts.still.told h.spends;
-  set = h.set;
   faults = subst (λ n. CountsBreak r n (state (flash_in new)).faults) mounts.quiet h.faults;
-  mounts = lifted_mounts (point_at state t) (first_point its false (moment_of (state flash))) r (point_of state its new)
-      (state t.flash).faults
-      (state flash).faults
-      (state (flash_in new)).faults refl mounts.quiet h.mounts;
   extras = h.extras ∙ mounts.still.extras;
 }
 
@@ -148,15 +161,15 @@ lifted_cause state its flash t c new failed.Memory no_arm mounts (inl still) =
       still = still_then (state flash) (state t.flash) (state new) mounts.still still.still;
       quiet = still.quiet ∙ mounts.quiet;
     })
-lifted_cause {F = F} state its flash t c new failed.Memory no_arm mounts (inr cut) =
-    let after : DeviceSession F = session.Unmounted new in
-    inr (
-      cut.0,
-      cut.1,
-      lifted_run state its flash t c cut.0 after no_arm mounts cut.2,
-      spends_after c cut.0 (state flash).told (state t.flash).told (state new).told mounts.still.told cut.3,
-      subst (λ n. Rose n (state new).faults) mounts.quiet cut.4,
-    )
+lifted_cause {F = F} state its flash t c new failed.Memory no_arm mounts (inr h) =
+    inr (record {
+      reply = h.reply;
+      met = h.met;
+      lost = lost_from its c (point_at state t) (first_point its false (state flash)) h.reply h.met
+          (first_point its false (state new)) (from_mount state its flash t mounts) h.lost;
+      point = h.point;
+      still = h.still;
+    })
 
 lifted_ends : {F : Type 0} (state : F → FlashState) (its : Config) (flash : F) (t : DeviceState F)
     (c : Command) (new : F) (why : ServeError) →
@@ -196,14 +209,9 @@ not_done_reply : (s : FlashState) (r : Reply) → IsFaultOrCut s r → (r ≡ re
 not_done_reply s r (inl h) = inl h.0
 not_done_reply s r (inr h) = inr h.0
 
-not_done_spends : (c : Command) (old new : FlashState) (r : Reply) → IsFaultOrCut new r → MeetsFault old new →
-    BothTell (IsSpentBy c r) old.told new.told
-not_done_spends c old new r (inl is) h =
-    subst (λ q. BothTell (IsSpentBy c q) old.told new.told) (sym is.0) (spends_fault c old.told new.told h.still.told
-    (subst (λ (b : Bool). BothTell (Spends b) old.told new.told) is.1 h.spends))
-not_done_spends c old new r (inr is) h =
-    subst (λ q. BothTell (IsSpentBy c q) old.told new.told) (sym is.0) (spends_cut c old.told new.told h.still.told
-    (subst (λ (b : Bool). BothTell (Spends b) old.told new.told) is.1 h.spends))
+not_done_cut : (s : FlashState) (r : Reply) → IsFaultOrCut s r → is_cut r ≡ not s.live
+not_done_cut s r (inl is) = ap is_cut is.0 ∙ ap not (sym is.1)
+not_done_cut s r (inr is) = ap is_cut is.0 ∙ ap not (sym is.1)
 
 not_done_counts : (s : FlashState) (r : Reply) (before now : ℕ) → IsFaultOrCut s r → Rose before now →
     CountsBreak r before now
@@ -221,15 +229,19 @@ not_done_serves : {F : Type 0} (state : F → FlashState) (its : Config) (c : Co
     ServesSession state its c (session.Unmounted flash) r (session.Unmounted new)
 not_done_serves {F = F} state its c flash new r no_arm h is =
     let after : DeviceSession F = session.Unmounted new in
-    let same : first_point its false (moment_of (state new)) ≡ first_point its false (moment_of (state flash)) =
-    ap (λ (m : Moment). first_point its false m) h.still.moment in
+    let same : first_state its false (moment_of (state new)) ≡ first_state its false (moment_of (state flash)) =
+    ap (λ (m : Moment). first_state its false m) h.still.moment in
     record {
       in_run = λ seen faulted stands. record {
         spent = λ page. false;
         may = λ page spent. (let not : false ≡ true = spent in absurd cc);
-        serves = served_no_arm its (λ page. false) faulted c (first_point its false (moment_of (state flash))) r
-            (first_point its false (moment_of (state new))) no_arm
-            (inl ((refl, not_done_reply (state new) r is, ap (λ (p : Point). p.state) same), h.still.moment));
+        serves = served_no_arm its (λ page. false) faulted c (first_point its false (state flash)) r
+            (first_point its false (state new)) no_arm
+            (inl (record {
+              stays = (refl, not_done_reply (state new) r is, same);
+              mounts = mounted_flash state its flash after h;
+              cut = not_done_cut (state new) r is;
+            }));
         point = mounted_point state its flash after h.still stands.sound;
         stands = record {
           sound = subst (λ (m : Moment). IsSoundImage its.protocol its.logical (shape_of its) m.image)
@@ -243,13 +255,7 @@ not_done_serves {F = F} state its c flash new r no_arm h is =
       kept = inr h.still.moment;
       unsound = λ unsound. subst (λ b. MatchBool b (r ≡ reply.Armed) ((r ≡ reply.Fault) ⊎ (r ≡ reply.Cut))) (sym no_arm)
           (not_done_reply (state new) r is);
-      spends = not_done_spends c (state flash) (state new) r is h;
-      set = sets_none c no_arm (state new).told;
       faults = not_done_counts (state new) r (state flash).faults (state new).faults is h.rose;
-      mounts = inl (λ cut. inl (
-        (refl, not_done_reply (state new) r is, ap (λ (p : Point). p.state) same),
-        h.still.moment,
-      ));
       extras = h.still.extras;
     }
 

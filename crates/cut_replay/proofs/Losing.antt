@@ -1,28 +1,19 @@
 -- What a call comes to after which no transaction is open, and its flash is mounted again.
-use Rattle.cut_replay.proofs.Common.{◌≡◌, ◌⊎◌, ℕ, ◌<◌, ◌≤◌, Bool, true, false, ◌||◌, List, [], Result, Ok, Err, refl, sym, ap, ◌∙◌, subst, inl, inr, arith, MatchBool, IfOk, Config, Shape, checked, shape_of, FlashState, counted_by, BothTell, Rose, Carries, Moment, moment_of, mention, IsSoundImage, array_in, records_in, PageCacheState, CachedPage, ArrayState, idle, DeviceState, Command, Reply, CutLeavesOf, LosesOpen, MayLose, NotDone, is_arm, is_break, seen_after, Point, IsDone, MovesBy, ServesFlash, is_fault, is_lost, CountsBreak, MountsAfter, IsSeen, point_at, flash_in, point_of, IsSoundFlash, Fits, StandsMounted, IsSoundOrSame, IsSpentBy, ServesIn, ServesSession, EndsServing, Mounted, Unmounted, CachesSession, ServeError, DeviceSession, sound_unbroken}
+use Rattle.cut_replay.proofs.Common.{◌≡◌, ◌⊎◌, ℕ, ◌<◌, ◌≤◌, Bool, true, false, not, ◌||◌, List, [], Result, Ok, Err, refl, sym, ap, ◌∙◌, subst, inl, inr, arith, MatchBool, IfOk, Config, Shape, checked, shape_of, FlashState, Rose, Carries, Moment, moment_of, mention, IsSoundImage, array_in, records_in, PageCacheState, CachedPage, ArrayState, idle, DeviceState, Command, Reply, CutLeavesOf, MayLose, is_arm, is_break, seen_after, Point, IsArmed, IsLost, DoesFlash, MovesBy, ServesFlash, is_cut, is_fault, is_lost, CountsBreak, IsSeen, point_at, flash_in, point_of, IsSoundFlash, Fits, StandsMounted, IsSoundOrSame, ServesIn, ServesSession, EndsServing, Mounted, Unmounted, CachesSession, ServeError, DeviceSession, sound_unbroken}
 use Rattle.std.specs.Prelude.{IfErr}
 use Rattle.host_protocol.specs.declared.reply.Reply.TheVariants as reply
 use Rattle.cut_replay.specs.Sessions.{MountsAgain, CachesServed}
 use Rattle.cut_replay.specs.declared.serving.ServeError.TheVariants as failed
 use Rattle.mounted_session.specs.declared.session.Session.TheVariants as session
 use Rattle.cut_replay.proofs.Devices.{seen_at}
-use Rattle.cut_replay.proofs.Mountings.{Leaves, mounted_leaves, mounted_machine, mounted_moment, mounted_still, mounted_point, mounted_stands}
-use Rattle.cut_replay.proofs.Spending.{spends_before, sets_none}
+use Rattle.cut_replay.proofs.Mountings.{Leaves, mounted_leaves, mounted_machine, mounted_moment, mounted_still, mounted_point, mounted_flash, mounted_stands}
 
 -- a command that is no arm
 pub served_no_arm : (its : Config) (spent : ℕ → Bool) (faulted : Bool) (c : Command) (old : Point) (r : Reply)
-    (new : Point) → is_arm c ≡ false →
-    (NotDone old.state r new.state × (new.moment ≡ old.moment)) ⊎ (IsDone its spent faulted c old r new ⊎
-    (LosesOpen c old.state r new.state × MovesBy its c r old.moment new.moment)) →
+    (new : Point) → is_arm c ≡ false → DoesFlash its spent faulted c old r new →
     ServesFlash its spent faulted c old r new
 served_no_arm its spent faulted c old r new no_arm h =
-    subst (λ b. MatchBool b ((r ≡ reply.Armed) × (new ≡ old))
-    ((NotDone old.state r new.state × (new.moment ≡ old.moment)) ⊎ (IsDone its spent faulted c old r new ⊎
-    (LosesOpen c old.state r new.state × MovesBy its c r old.moment new.moment)))) (sym no_arm) h
-
--- the fault of the call, and that of the mount after it
-rose_twice : (a b d : ℕ) → Rose a b → Rose b d → counted_by 2 a ≤ d
-rose_twice a b d first second = omega (arith, first, second)
+    subst (λ b. MatchBool b (IsArmed c old r new) (DoesFlash its spent faulted c old r new)) (sym no_arm) h
 
 rose_later : (a b d : ℕ) → Rose a b → b ≤ d → Rose a d
 rose_later a b d h le = omega (arith, h, le)
@@ -60,7 +51,7 @@ pub record WasLost {F : Type 0} (state : F → FlashState) (its : Config) (c : C
       mention (records_in its.protocol (state flash).image) page ≤ seen page
   pub moves : MovesBy its c r (moment_of (state s.flash)) (moment_of (state flash))
   pub carries : Carries (state s.flash) (state flash) true
-  pub spends : BothTell (IsSpentBy c r) (state s.flash).told (state flash).told
+  pub cut : is_cut r ≡ not (state flash).live
 
 pub lost_breaks : (r : Reply) → is_lost r ≡ true → is_break r ≡ true
 lost_breaks reply.Cut h = refl
@@ -71,28 +62,44 @@ pub lost_counts : (r : Reply) (before now : ℕ) → is_lost r ≡ true → Rose
 lost_counts r before now lost rose = subst (λ b. MatchBool b (Rose before now) (now ≡ before))
     (sym (lost_breaks r lost)) rose
 
+-- what is lost by it, whatever comes of the mount
+lost_at : {F : Type 0} (state : F → FlashState) (its : Config) (c : Command) (s : DeviceState F) (flash : F)
+    (r : Reply) (after : DeviceSession F) → WasLost state its c s flash r → Leaves state its flash after →
+    IsLost its c (point_at state s) r (state flash) (point_of state its after)
+lost_at state its c s flash r after w leaves = record {
+  loses = (
+    w.may,
+    subst (λ (m : ArrayState). CutLeavesOf c s.machine m)
+        (sym (mounted_machine state its flash after leaves)) w.leaves,
+  );
+  moves = subst (λ (m : Moment). MovesBy its c r (moment_of (state s.flash)) m)
+      (sym (mounted_moment state its flash after leaves)) w.moves;
+  first = state s.flash;
+  mounts = refl;
+  calls = w.carries;
+  cut = w.cut;
+}
+
 lost_in : {F : Type 0} (state : F → FlashState) (its : Config) (c : Command) (s : DeviceState F) (flash : F)
     (r : Reply) (after : DeviceSession F) (seen : ℕ → ℕ)
-    (faulted : Bool) → WasLost state its c s flash r → StandsMounted seen faulted s → Leaves state its flash after →
+    (faulted : Bool) → WasLost state its c s flash r → StandsMounted seen faulted s → Mounted state its flash after →
     ServesIn state its seen faulted c (session.Mounted s) r after
-lost_in state its c s flash r after seen faulted w stands leaves = record {
-  spent = λ page. false;
-  may = λ page spent. (let not : false ≡ true = spent in absurd cc);
-  serves = served_no_arm its (λ page. false) faulted c (point_at state s) r (point_of state its after) w.no_arm
-      (inr (inr (
-        (
-          w.may,
-          subst (λ (m : ArrayState). CutLeavesOf c s.machine m)
-              (sym (mounted_machine state its flash after leaves)) w.leaves,
-        ),
-        subst (λ (m : Moment). MovesBy its c r (moment_of (state s.flash)) m)
-            (sym (mounted_moment state its flash after leaves)) w.moves,
-      )));
-  point = mounted_point state its flash after leaves w.after;
-  stands = mounted_stands state its flash (seen_after seen c r) (faulted || is_fault r) after leaves w.after
-      (λ page lt. (let most = w.most seen stands.mentions page lt in let least = seen_at seen c r page in
-      omega (arith, most, least)));
-}
+lost_in state its c s flash r after seen faulted w stands mounted =
+    let leaves = mounted_leaves state its flash after mounted in
+    record {
+      spent = λ page. false;
+      may = λ page spent. (let not : false ≡ true = spent in absurd cc);
+      serves = served_no_arm its (λ page. false) faulted c (point_at state s) r (point_of state its after) w.no_arm
+          (inr (inr (
+            state flash,
+            lost_at state its c s flash r after w leaves,
+            mounted_flash state its flash after mounted,
+          )));
+      point = mounted_point state its flash after leaves w.after;
+      stands = mounted_stands state its flash (seen_after seen c r) (faulted || is_fault r) after leaves w.after
+          (λ page lt. (let most = w.most seen stands.mentions page lt in let least = seen_at seen c r page in
+          omega (arith, most, least)));
+    }
 
 -- it is sound after it was mounted again, or was not
 sound_again : {F : Type 0} (state : F → FlashState) (its : Config) (flash : F) (after : DeviceSession F) →
@@ -106,10 +113,7 @@ sound_again state its flash after sound leaves =
 -- what the call comes to, but for the mount
 record LostBy {F : Type 0} (state : F → FlashState) (its : Config) (c : Command) (s : DeviceState F) (r : Reply)
     (after : DeviceSession F) : Type 0 where
-  in_run : (seen : ℕ → ℕ) → (faulted : Bool) → StandsMounted seen faulted s →
-      ServesIn state its seen faulted c (session.Mounted s) r after
   kept : IsSoundOrSame its (state s.flash) (state (flash_in after))
-  spends : BothTell (IsSpentBy c r) (state s.flash).told (state (flash_in after)).told
   faults : Rose (state s.flash).faults (state (flash_in after)).faults
   extras : (state (flash_in after)).extras ≡ (state s.flash).extras
 
@@ -119,23 +123,11 @@ lost_by : {F : Type 0} (state : F → FlashState) (its : Config) (c : Command) (
 lost_by state its c s flash r after w leaves =
     let still = mounted_still state its flash after leaves in
     record {
-      in_run = λ seen faulted stands. lost_in state its c s flash r after seen faulted w stands leaves;
       kept = inl (w.before, sound_again state its flash after w.after leaves);
-      spends = spends_before c r (state s.flash).told (state flash).told (state (flash_in after)).told
-          w.spends still.told;
       faults = rose_later (state s.flash).faults (state flash).faults (state (flash_in after)).faults
           w.carries.cause still.later;
       extras = still.extras ∙ w.carries.extras;
     }
-
--- the device was mounted again, or the mount met a fault
-lost_mounts : {F : Type 0} (state : F → FlashState) (its : Config) (s : DeviceState F) (flash : F) (r : Reply)
-    (after : DeviceSession F) →
-    is_lost r ≡ true → Rose (state s.flash).faults (state flash).faults → Mounted state its flash after →
-    MountsAfter (point_at state s) r (point_of state its after) (state s.flash).faults (state (flash_in after)).faults
-lost_mounts state its s flash r (session.Mounted u) lost rose h = inl (λ is. inr refl)
-lost_mounts state its s flash r (session.Unmounted new) lost rose h =
-    inr (lost, rose_twice (state s.flash).faults (state flash).faults (state new).faults rose h.rose)
 
 lost_serves : {F : Type 0} (state : F → FlashState) (its : Config) (c : Command) (s : DeviceState F) (flash : F)
     (r : Reply) (after : DeviceSession F) →
@@ -144,13 +136,10 @@ lost_serves : {F : Type 0} (state : F → FlashState) (its : Config) (c : Comman
 lost_serves state its c s flash r after w mounted =
     let by = lost_by state its c s flash r after w (mounted_leaves state its flash after mounted) in
     record {
-      in_run = by.in_run;
+      in_run = λ seen faulted stands. lost_in state its c s flash r after seen faulted w stands mounted;
       kept = by.kept;
       unsound = λ unsound. absurd (unsound w.before);
-      spends = by.spends;
-      set = sets_none c w.no_arm (state (flash_in after)).told;
       faults = lost_counts r (state s.flash).faults (state (flash_in after)).faults w.lost by.faults;
-      mounts = lost_mounts state its s flash r after w.lost w.carries.cause mounted;
       extras = by.extras;
     }
 
@@ -174,7 +163,13 @@ ended_again {F = F} state its c s flash r new failed.Memory w h =
     let after : DeviceSession F = session.Unmounted new in
     let by = lost_by state its c s flash r after w h.still in
     record {
-      cause = inr (r, w.lost, by.in_run, by.spends, by.faults);
+      cause = inr (record {
+        reply = r;
+        met = state flash;
+        lost = lost_at state its c s flash r after w h.still;
+        point = mounted_point state its flash after h.still w.after;
+        still = h;
+      });
       shape = h.still.shape ∙ w.carries.shape;
       extras = h.still.extras ∙ w.carries.extras;
       kept = by.kept;

@@ -1,10 +1,9 @@
 -- After a cut or a drop the device is mounted again, or a fault more was counted.
-use Rattle.cut_replay.proofs.Common.{◌≡◌, ℕ, ◌+◌, ◌≤◌, Bool, true, List, [], ◌∷◌, ◌++◌, refl, ap, ◌∙◌, subst, inl, inr, arith, count_by, MatchBool, cases_Bool, Config, FlashState, counted_by, Rose, moment_of, Reply, is_break, Point, first_point, last_state, is_lost, CountsBreak, MountsAfter}
+use Rattle.cut_replay.proofs.Common.{◌≡◌, ℕ, ◌+◌, ◌≤◌, Bool, true, List, [], ◌∷◌, ◌++◌, refl, ap, ◌∙◌, subst, inl, inr, arith, count_by, MatchBool, cases_Bool, FlashState, counted_by, Rose, Reply, is_break, Point, last_point, last_state, is_lost, CountsBreak, MountsAfter}
 use Rattle.std.specs.Prelude.{if◌then◌else◌}
 use Rattle.std.proofs.lemmas.List.Sums.{sum_by_push}
 use Rattle.cut_replay.specs.MountedAgain.{IsMountedAgain, FailedMounts, CountsMounts}
 use Rattle.cut_replay.proofs.Losing.{lost_breaks}
-use Rattle.cut_replay.proofs.Runs.{last_point}
 
 -- one command more of a run
 failed_same : (old : Point) (rs : List Reply) (ps : List Point) (n : ℕ) (r : Reply) (p : Point) →
@@ -53,43 +52,29 @@ twice_more rs r failed a b d h lost twice =
     breaks_push rs r ∙ ap (λ (x : Bool). count_by is_break rs + (if x then 1 else 0)) (lost_breaks r lost) in
     omega (arith, h, twice, more)
 
-pub mounts_none : (its : Config) (up : Bool) (old new : FlashState) → old.faults ≤ new.faults →
-    CountsMounts its up [] [] old new
-mounts_none its up old new later = record { failed = 0; mounts = refl; faults = omega (arith, later) }
+pub mounts_none : (first : Point) (old new : FlashState) → old.faults ≤ new.faults →
+    CountsMounts first [] [] old new
+mounts_none first old new later = record { failed = 0; mounts = refl; faults = omega (arith, later) }
 
-pub mounts_more : (its : Config) (up : Bool) (rs : List Reply) (ps : List Point) (r : Reply) (p : Point)
+pub mounts_more : (first : Point) (rs : List Reply) (ps : List Point) (r : Reply) (p : Point)
     (x y z : FlashState) →
-    CountsMounts its up rs ps x y → CountsBreak r y.faults z.faults →
-    MountsAfter (last_point (first_point its up (moment_of x)) ps) r p y.faults z.faults →
-    CountsMounts its up (rs ++ r ∷ []) (ps ++ p ∷ []) x z
-mounts_more its up rs ps r p x y z h one (inl again) = record {
+    CountsMounts first rs ps x y → CountsBreak r y.faults z.faults →
+    MountsAfter (last_point first ps) r p y.faults z.faults →
+    CountsMounts first (rs ++ r ∷ []) (ps ++ p ∷ []) x z
+mounts_more first rs ps r p x y z h one (inl again) = record {
   failed = h.failed;
-  mounts = failed_same (first_point its up (moment_of x)) rs ps h.failed r p h.mounts again;
+  mounts = failed_same first rs ps h.failed r p h.mounts again;
   faults = breaks_more rs r h.failed x.faults y.faults z.faults h.faults one;
 }
-mounts_more its up rs ps r p x y z h one (inr failed) = record {
+mounts_more first rs ps r p x y z h one (inr failed) = record {
   failed = h.failed + 1;
-  mounts = failed_more (first_point its up (moment_of x)) rs ps h.failed r p h.mounts failed.0;
+  mounts = failed_more first rs ps h.failed r p h.mounts failed.0;
   faults = twice_more rs r h.failed x.faults y.faults z.faults h.faults failed.0 failed.1;
 }
 
--- a flash that counted more, or as much
-pub mounts_later : (its : Config) (up : Bool) (rs : List Reply) (ps : List Point) (r : Reply) (x y z : FlashState) →
-    CountsMounts its up rs ps x y → CountsBreak r y.faults z.faults → CountsMounts its up rs ps x z
-mounts_later its up rs ps r x y z h one = elim (cases_Bool (is_break r)) [
-  | inl broken ↦ (
-      let rose : Rose y.faults z.faults = subst (λ b. MatchBool b (Rose y.faults z.faults) (z.faults ≡ y.faults)) broken
-      one in
-      let most = h.faults in record { failed = h.failed; mounts = h.mounts; faults = omega (arith, most, rose) })
-  | inr whole ↦ (
-      let same : z.faults ≡ y.faults = subst (λ b. MatchBool b (Rose y.faults z.faults) (z.faults ≡ y.faults)) whole
-      one in
-      let most = h.faults in record { failed = h.failed; mounts = h.mounts; faults = omega (arith, most, same) })
-]
-
-pub mounts_same : (its : Config) (up : Bool) (rs : List Reply) (ps : List Point) (x y z : FlashState) →
-    CountsMounts its up rs ps x y → z.faults ≡ y.faults → CountsMounts its up rs ps x z
-mounts_same its up rs ps x y z h same =
+pub mounts_same : (first : Point) (rs : List Reply) (ps : List Point) (x y z : FlashState) →
+    CountsMounts first rs ps x y → z.faults ≡ y.faults → CountsMounts first rs ps x z
+mounts_same first rs ps x y z h same =
     let most = h.faults in record { failed = h.failed; mounts = h.mounts; faults = omega (arith, most, same) }
 
 -- the state where a run stands

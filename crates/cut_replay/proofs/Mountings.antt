@@ -1,5 +1,5 @@
 -- What is so of a session whose flash was mounted, or was not because a read met a fault.
-use Rattle.cut_replay.proofs.Common.{◌≡◌, ℕ, ◌<◌, ◌≤◌, Bool, sym, ap, ◌∙◌, subst, inl, Config, shape_of, FlashState, Moment, moment_of, mention, IsSoundImage, array_in, records_in, IndexState, ArrayState, idle, DeviceState, IsPoint, IsSeen, MomentStays, point_of, flash_in, IsSoundFlash, StandsAt, MountsIn, Mounted, DeviceSession}
+use Rattle.cut_replay.proofs.Common.{◌≡◌, ℕ, ◌<◌, ◌≤◌, Bool, true, sym, ap, ◌∙◌, subst, inl, false, refl, Config, shape_of, FlashState, Moment, moment_of, mention, IsSoundImage, array_in, records_in, IndexState, ArrayState, idle, DeviceState, IsPoint, MountsFlash, IsSeen, MomentStays, point_of, flash_in, IsSoundFlash, StandsAt, MountsIn, Mounted, DeviceSession}
 use Rattle.tx_engine.proofs.OfDevice.Seen.{opened_seen}
 use Rattle.mounted_session.specs.Devices.{IsWhy}
 use Rattle.mounted_session.specs.Mounting.{IsRefused}
@@ -35,9 +35,15 @@ mounted_still state its flash (session.Unmounted new) h = h
 
 pub mounted_moment : {F : Type 0} (state : F → FlashState) (its : Config) (flash : F) (s : DeviceSession F) →
     Leaves state its flash s →
-    (point_of state its s).moment ≡ moment_of (state flash)
+    moment_of (point_of state its s).flash ≡ moment_of (state flash)
 mounted_moment state its flash (session.Mounted s) h = h.still.moment
 mounted_moment state its flash (session.Unmounted new) h = h.moment
+
+mounted_live : {F : Type 0} (state : F → FlashState) (its : Config) (flash : F) (s : DeviceSession F) →
+    Leaves state its flash s →
+    (point_of state its s).state.up ≡ true → (point_of state its s).flash.live ≡ true
+mounted_live state its flash (session.Mounted s) h up = h.live
+mounted_live state its flash (session.Unmounted new) h up = (let no : false ≡ true = up in absurd cc)
 
 pub mounted_point : {F : Type 0} (state : F → FlashState) (its : Config) (flash : F) (s : DeviceSession F) →
     Leaves state its flash s →
@@ -48,7 +54,29 @@ mounted_point state its flash s h sound =
       sound = subst (λ (m : Moment). IsSoundImage its.protocol its.logical (shape_of its) m.image) (sym moment) sound;
       array = inl (ap (λ (m : Moment). array_in its.protocol its.logical m.image) moment ∙
           ap (λ (a : ArrayState). a.pages) (sym (mounted_machine state its flash s h)));
+      live = mounted_live state its flash s h;
     }
+
+-- the flash of the point
+pub point_flash : {F : Type 0} (state : F → FlashState) (its : Config) (s : DeviceSession F) →
+    (point_of state its s).flash ≡ state (flash_in s)
+point_flash state its (session.Mounted s) = refl
+point_flash state its (session.Unmounted flash) = refl
+
+-- and what the mount did to it
+pub mounted_flash : {F : Type 0} (state : F → FlashState) (its : Config) (flash : F) (s : DeviceSession F) →
+    Mounted state its flash s →
+    MountsFlash its (point_of state its s).state.up (state flash) (point_of state its s).flash
+mounted_flash state its flash (session.Mounted s) h = record {
+  carries = h.carries;
+  moment = h.still.moment;
+  reads = λ up. h.reads;
+}
+mounted_flash state its flash (session.Unmounted new) h = record {
+  carries = h.carries;
+  moment = h.still.moment;
+  reads = λ up. (let no : false ≡ true = up in absurd cc);
+}
 
 -- each page is mentioned as the image mentions it
 device_seen : {F : Type 0} (state : F → FlashState) (its : Config) (flash : F) (seen : ℕ → ℕ) (s : DeviceState F) →

@@ -1,5 +1,5 @@
 -- A session that has served the first commands of a list.
-use Rattle.cut_replay.proofs.Common.{◌≡◌, ℕ, ◌+◌, ◌<◌, ◌≤◌, Bool, true, false, List, [], ◌∷◌, ◌++◌, length, take, Option, Some, None, Result, Ok, Err, refl, sym, ap, ◌∙◌, subst, inl, inr, arith, IfSome, OnOk, Config, Memory, shape_of, CachedPage, FlashState, Told, BothTell, NoMoreToCome, Moment, moment_of, IsSoundImage, Command, Reply, text_of, seen_after, Point, IsPoint, FlashRun, ServesFlash, first_point, mentions_in, last_state, Grew, CountsBreak, CountsBreaks, MountsAfter, Watched, ServesUnsound, flash_in, point_of, Fits, IsSoundFlash, StandsAt, ServesIn, ServesSession, EndsServing, IsSpentBy, IsSoundOrSame, Begins, ServeError, DeviceSession, sound_unbroken}
+use Rattle.cut_replay.proofs.Common.{◌≡◌, ℕ, ◌+◌, ◌<◌, ◌≤◌, Bool, true, false, List, [], ◌∷◌, ◌++◌, length, take, Option, Result, Ok, Err, refl, sym, ap, ◌∙◌, subst, inl, inr, arith, OnOk, Config, Memory, shape_of, FlashState, Moment, moment_of, IsSoundImage, Command, Reply, text_of, seen_after, Point, IsPoint, BeginsFlash, EndsLost, FlashRun, ServesFlash, first_point, last_point, mentions_in, StaysQuiet, Grew, CountsBreaks, Watched, ServesUnsound, flash_in, point_of, IsSoundFlash, StandsAt, ServesIn, ServesSession, EndsServing, IsSoundOrSame, Begins, ServeError, DeviceSession, sound_unbroken}
 use Rattle.std.proofs.Common.{get_or}
 use Rattle.std.specs.Prelude.{OnErr}
 use Rattle.std.specs.Prelude.{map}
@@ -9,28 +9,21 @@ use Rattle.std.proofs.lemmas.Slice.Zip.{all_zipped_more}
 use Rattle.std.proofs.lemmas.List.{take_more, take_all, length-take-le, map-append}
 use Rattle.list_lemmas.proofs.Lists.{take_whole, take_before_last}
 use Rattle.tx_types.specs.declared.config.Slot.{Slot}
-use Rattle.flash_model.specs.Flash.{IsSteady}
-use Rattle.flash_model.proofs.CallLemmas.{no_more_same}
+use Rattle.mounted_session.proofs.Mounting.{nothing_done}
 use Rattle.judged_records.specs.Images.{IsLeastImageBreach}
-use Rattle.array_runs.specs.Run.{RunState}
-use Rattle.cut_replay.specs.FlashRun.{first_state, last_moment}
 use Rattle.cut_replay.specs.Watching.{ToldReply, text_of_all, replies_told}
-use Rattle.cut_replay.specs.Bounds.{SpendsTold, LastIsSet}
-use Rattle.cut_replay.specs.MountedAgain.{CountsMounts}
 use Rattle.cut_replay.specs.Served.{ServesRun, ServesSound, CountsTold, RefusesUnsound}
 use Rattle.cut_replay.specs.Sessions.{EndsFor, EndsForMemory, Refuses}
 use Rattle.cut_replay.specs.Sessions.{RepliesUnmounted}
 use Rattle.cut_replay.specs.declared.serving.ServeError.TheVariants as failed
 use Rattle.mounted_session.specs.declared.session.Session.TheVariants as session
-use Rattle.cut_replay.proofs.MountingAgain.{mounts_more, mounts_later, mounts_same, last_state_is}
-use Rattle.cut_replay.proofs.Losing.{lost_counts}
-use Rattle.cut_replay.proofs.Runs.{last_point, seen_through, faulted_through, run_more, last_more, seen_more, faulted_more, last_moment_is, run_lengths}
-use Rattle.cut_replay.proofs.Runs.{grew_none, grew_more, text_more, told_more, spends_nothing, spends_more, spends_later, counts_more, counts_later, last_sets}
-use Rattle.cut_replay.proofs.Runs.{none_sets}
+use Rattle.cut_replay.proofs.Mountings.{point_flash}
+use Rattle.cut_replay.proofs.Runs.{seen_through, faulted_through, run_more, last_more, seen_more, faulted_more, run_lengths}
+use Rattle.cut_replay.proofs.Runs.{grew_none, grew_more, text_more, told_more, counts_more, counts_later}
 
 -- the moment of a session is that of its flash
 pub point_moment : {F : Type 0} (state : F → FlashState) (its : Config) (s : DeviceSession F) →
-    (point_of state its s).moment ≡ moment_of (state (flash_in s))
+    moment_of (point_of state its s).flash ≡ moment_of (state (flash_in s))
 point_moment state its (session.Mounted s) = refl
 point_moment state its (session.Unmounted flash) = refl
 
@@ -39,12 +32,13 @@ pub record Runs {F : Type 0} (state : F → FlashState) (its : Config) (init : F
     (rs : List Reply) (ps : List Point)
     (s : DeviceSession F) : Type 0 where
   pub up : Bool
-  pub first : IsPoint its (first_point its up (moment_of init))
-  pub run : FlashRun its (mentions_in its (moment_of init)) false (first_point its up (moment_of init)) cs rs ps
-  pub last : point_of state its s ≡ last_point (first_point its up (moment_of init)) ps
+  pub flash : FlashState
+  pub begins : moment_of flash ≡ moment_of init
+  pub from : BeginsFlash its init up flash
+  pub first : IsPoint its (first_point its up flash)
+  pub run : FlashRun its (mentions_in its (moment_of init)) false (first_point its up flash) cs rs ps
+  pub last : point_of state its s ≡ last_point (first_point its up flash) ps
   pub stands : StandsAt state its (seen_through (mentions_in its (moment_of init)) cs rs) (faulted_through false rs) s
-  pub spends : SpendsTold cs rs init.told (state (flash_in s)).told
-  pub faults : CountsBreaks rs init (state (flash_in s))
 
 -- and its replies were told
 pub record HasServed {F : Type 0} (state : F → FlashState) (its : Config) (init : FlashState) (cs : List Command)
@@ -55,9 +49,6 @@ pub record HasServed {F : Type 0} (state : F → FlashState) (its : Config) (ini
   pub runs : Runs state its init cs replies points s
   pub text : Grew before.text after.text (text_of_all replies)
   pub kept : Grew before.kept after.kept (replies_told replies points)
-  pub set : IfSome (state (flash_in s)).told (LastIsSet cs)
-  pub mounted : IsSteady init → runs.up ≡ true
-  pub mounts : CountsMounts its runs.up replies points init (state (flash_in s))
 
 -- at the beginning
 pub served_none : {F : Type 0} (state : F → FlashState) (its : Config) (init : FlashState) (s : DeviceSession F)
@@ -68,18 +59,21 @@ served_none state its init s w h = record {
   points = [];
   runs = record {
     up = h.up;
-    first = record { sound = h.sound; array = inl refl };
+    flash = state (flash_in s);
+    begins = h.moment;
+    from = h.first;
+    first = record {
+      sound = subst (λ (m : Moment). IsSoundImage its.protocol its.logical (shape_of its) m.image) (sym h.moment)
+          h.sound;
+      array = inl refl;
+      live = h.live;
+    };
     run = tt;
     last = h.point;
     stands = h.stands;
-    spends = spends_nothing init.told (state (flash_in s)).told h.told;
-    faults = h.faults;
   };
   text = grew_none w.text;
   kept = grew_none w.kept;
-  set = none_sets (state (flash_in s)).told;
-  mounted = h.mounted;
-  mounts = record { failed = 0; mounts = refl; faults = h.faults.least };
 }
 
 -- one command more
@@ -88,18 +82,19 @@ pub runs_more : {F : Type 0} (state : F → FlashState) (its : Config) (init : F
     (r : Reply) (s t : DeviceSession F) →
     Runs state its init cs rs ps s →
     ((seen : ℕ → ℕ) → (faulted : Bool) → StandsAt state its seen faulted s → ServesIn state its seen faulted c s r t) →
-    BothTell (IsSpentBy c r) (state (flash_in s)).told (state (flash_in t)).told →
-    CountsBreak r (state (flash_in s)).faults (state (flash_in t)).faults →
     Runs state its init (cs ++ c ∷ []) (rs ++ r ∷ [])
     (ps ++ point_of state its t ∷ []) t
-runs_more state its init cs rs ps c r s t h served spends faults =
+runs_more state its init cs rs ps c r s t h served =
     let seen = mentions_in its (moment_of init) in
-    let old = first_point its h.up (moment_of init) in
+    let old = first_point its h.up h.flash in
     let p = point_of state its t in
     let one = served (seen_through seen cs rs) (faulted_through false rs) h.stands in
     let same = run_lengths its seen false old cs rs ps h.run in
     record {
       up = h.up;
+      flash = h.flash;
+      begins = h.begins;
+      from = h.from;
       first = h.first;
       run = run_more its seen false old cs rs ps c r p h.run (
         (
@@ -115,9 +110,6 @@ runs_more state its init cs rs ps c r s t h served spends faults =
           (sym (seen_more seen cs rs c r same.0))
           (subst (λ (b : Bool). StandsAt state its (seen_after (seen_through seen cs rs) c r) b t)
           (sym (faulted_more false rs r)) one.stands);
-      spends = spends_more cs rs c r init.told (state (flash_in s)).told (state (flash_in t)).told same.0
-          h.spends spends;
-      faults = counts_more rs r init (state (flash_in s)) (state (flash_in t)) h.faults faults;
     }
 
 -- which was told
@@ -127,67 +119,61 @@ pub served_more : {F : Type 0} (state : F → FlashState) (its : Config) (init :
     HasServed state its init cs s a b → ServesSession state its c s r t → Grew b.text d.text (text_of r) →
     Grew b.kept d.kept (record { text = text_of r; moment = moment_of (state (flash_in t)) } ∷ []) →
     HasServed state its init (cs ++ c ∷ []) t a d
-unfolding runs_more
 served_more state its init cs c r s t a b d h serves text kept =
     let p = point_of state its t in
-    let same = run_lengths its (mentions_in its (moment_of init)) false (first_point its h.runs.up (moment_of init)) cs
+    let same = run_lengths its (mentions_in its (moment_of init)) false (first_point its h.runs.up h.runs.flash) cs
     h.replies h.points h.runs.run in
     record {
       replies = h.replies ++ r ∷ [];
       points = h.points ++ p ∷ [];
-      runs = runs_more state its init cs h.replies h.points c r s t h.runs serves.in_run serves.spends serves.faults;
+      runs = runs_more state its init cs h.replies h.points c r s t h.runs serves.in_run;
       text = subst (λ (x : List ℕ). Grew a.text d.text x) (sym (text_more h.replies r))
           (grew_more a.text b.text d.text (text_of_all h.replies) (text_of r) h.text text);
       kept = subst (λ (x : List ToldReply). Grew a.kept d.kept x)
           (sym (told_more h.replies h.points r p (same.0 ∙ sym same.1)))
           (grew_more a.kept b.kept d.kept (replies_told h.replies h.points)
-          (record { text = text_of r; moment = p.moment } ∷ []) h.kept
+          (record { text = text_of r; moment = moment_of p.flash } ∷ []) h.kept
           (subst (λ (m : Moment). Grew b.kept d.kept (record { text = text_of r; moment = m } ∷ []))
           (sym (point_moment state its t)) kept));
-      set = last_sets cs c (state (flash_in t)).told serves.set;
-      mounted = h.mounted;
-      mounts = mounts_more its h.runs.up h.replies h.points r p init (state (flash_in s)) (state (flash_in t))
-          h.mounts serves.faults
-          (subst (λ (q : Point). MountsAfter q r p (state (flash_in s)).faults (state (flash_in t)).faults) h.runs.last
-          serves.mounts);
     }
 
--- What has been served is what serving comes to
-run_parts : {F : Type 0} (state : F → FlashState) (its : Config) (init : FlashState) (cs : List Command)
-    (rs : List Reply) (ps : List Point) (s : DeviceSession F)
-    (final : FlashState) →
-    Runs state its init cs rs ps s → moment_of final ≡ moment_of (state (flash_in s)) →
-    moment_of final ≡ last_moment (moment_of init) ps
-run_parts state its init cs rs ps s final h same =
-    same ∙ sym (point_moment state its s) ∙ ap (λ (p : Point). p.moment) h.last
-    ∙ last_moment_is (first_point its h.up (moment_of init)) ps
+-- What has been served is what serving comes to: the flash of the session is that of the last point
+run_ends : {F : Type 0} (state : F → FlashState) (its : Config) (init : FlashState) (cs : List Command)
+    (rs : List Reply) (ps : List Point) (s : DeviceSession F) → (h : Runs state its init cs rs ps s) →
+    state (flash_in s) ≡ (last_point (first_point its h.up h.flash) ps).flash
+run_ends state its init cs rs ps s h = sym (point_flash state its s) ∙ ap (λ (p : Point). p.flash) h.last
+
+run_left : {F : Type 0} (state : F → FlashState) (its : Config) (init : FlashState) (cs : List Command)
+    (rs : List Reply) (ps : List Point) (s : DeviceSession F) (final : FlashState) →
+    (h : Runs state its init cs rs ps s) → StaysQuiet (state (flash_in s)) final →
+    StaysQuiet (last_point (first_point its h.up h.flash) ps).flash final
+run_left state its init cs rs ps s final h =
+    subst (λ (x : FlashState). StaysQuiet x final) (run_ends state its init cs rs ps s h)
 
 pub all_served : {F : Type 0} (state : F → FlashState) (its : Config) (init : FlashState) (cs : List Command)
     (s : DeviceSession F) (final : FlashState)
-    (a b : Watched) → HasServed state its init cs s a b →
-    moment_of final ≡ moment_of (state (flash_in s)) → BothTell NoMoreToCome (state (flash_in s)).told final.told →
-    final.faults ≡ (state (flash_in s)).faults →
+    (a b : Watched) → HasServed state its init cs s a b → StaysQuiet (state (flash_in s)) final →
     ServesRun its cs (length cs) init final a b
-all_served state its init cs s final a b h same no_more quiet =
-    let lengths = run_lengths its (mentions_in its (moment_of init)) false (first_point its h.runs.up (moment_of init))
-    cs h.replies h.points h.runs.run in
+all_served state its init cs s final a b h still =
+    let first = first_point its h.runs.up h.runs.flash in
+    let lengths = run_lengths its (mentions_in its (moment_of init)) false first cs h.replies h.points h.runs.run in
     let replies = take_whole (length cs) h.replies lengths.0 in
     let points = take_whole (length cs) h.points lengths.1 in
     record {
       replies = h.replies;
       points = h.points;
-      run = record { up = h.runs.up; first = h.runs.first; runs = h.runs.run };
-      last = run_parts state its init cs h.replies h.points s final h.runs same;
+      run = record {
+        up = h.runs.up;
+        flash = h.runs.flash;
+        begins = h.runs.begins;
+        first = h.runs.first;
+        runs = h.runs.run;
+      };
+      begins = inl h.runs.from;
+      left = run_left state its init cs h.replies h.points s final h.runs still;
       text = subst (λ (x : List Reply). Grew a.text b.text (text_of_all x)) (sym replies) h.text;
       kept = subst (λ (x : List Reply). Grew a.kept b.kept (replies_told x (take (length cs) h.points))) (sym replies)
           (subst (λ (x : List Point). Grew a.kept b.kept (replies_told h.replies x)) (sym points) h.kept);
-      spends = spends_later cs h.replies init.told (state (flash_in s)).told final.told h.runs.spends no_more;
-      faults = counts_later h.replies init (state (flash_in s)) final h.runs.faults quiet;
-      up = λ steady. inr (h.mounted steady);
-      mounts = subst (λ (x : List Reply). CountsMounts its h.runs.up x (take (length cs) h.points) init final)
-          (sym replies)
-          (subst (λ (x : List Point). CountsMounts its h.runs.up h.replies x init final) (sym points)
-          (mounts_same its h.runs.up h.replies h.points init (state (flash_in s)) final h.mounts quiet));
     }
 
 -- where one command more was served whose reply was not told
@@ -195,43 +181,57 @@ pub one_untold : {F : Type 0} (state : F → FlashState) (its : Config) (init : 
     (c : Command) (r : Reply) (s t : DeviceSession F)
     (a b d : Watched) → HasServed state its init cs s a b →
     ((seen : ℕ → ℕ) → (faulted : Bool) → StandsAt state its seen faulted s → ServesIn state its seen faulted c s r t) →
-    BothTell (IsSpentBy c r) (state (flash_in s)).told (state (flash_in t)).told →
-    CountsBreak r (state (flash_in s)).faults (state (flash_in t)).faults → d.text ≡ b.text → d.kept ≡ b.kept →
+    d.text ≡ b.text → d.kept ≡ b.kept →
     ServesRun its (cs ++ c ∷ []) (length cs) init (state (flash_in t)) a d
-unfolding runs_more
-one_untold state its init cs c r s t a b d h served spends faults text kept =
-    let lengths = run_lengths its (mentions_in its (moment_of init)) false (first_point its h.runs.up (moment_of init))
-    cs h.replies h.points h.runs.run in
+one_untold state its init cs c r s t a b d h served text kept =
+    let first = first_point its h.runs.up h.runs.flash in
+    let lengths = run_lengths its (mentions_in its (moment_of init)) false first cs h.replies h.points h.runs.run in
     let p = point_of state its t in
-    let runs = runs_more state its init cs h.replies h.points c r s t h.runs served spends faults in
+    let runs = runs_more state its init cs h.replies h.points c r s t h.runs served in
     let replies = take_before_last (length cs) h.replies r lengths.0 in
     let points = take_before_last (length cs) h.points p lengths.1 in
     record {
       replies = h.replies ++ r ∷ [];
       points = h.points ++ p ∷ [];
-      run = record { up = runs.up; first = runs.first; runs = runs.run };
-      last = run_parts state its init (cs ++ c ∷ []) (h.replies ++ r ∷ []) (h.points ++ p ∷ []) t
-          (state (flash_in t)) runs refl;
+      run = record {
+        up = runs.up;
+        flash = runs.flash;
+        begins = runs.begins;
+        first = runs.first;
+        runs = runs.run;
+      };
+      begins = inl runs.from;
+      left = run_left state its init (cs ++ c ∷ []) (h.replies ++ r ∷ []) (h.points ++ p ∷ []) t
+          (state (flash_in t)) runs (nothing_done (state (flash_in t)));
       text = subst (λ (x : List Reply). Grew a.text d.text (text_of_all x)) (sym replies)
           (subst (λ (o : Option (List ℕ)). Grew a.text o (text_of_all h.replies)) (sym text) h.text);
       kept = subst (λ (x : List Reply). Grew a.kept d.kept (replies_told x (take (length cs) (h.points ++ p ∷ []))))
           (sym replies)
           (subst (λ (x : List Point). Grew a.kept d.kept (replies_told h.replies x)) (sym points)
           (subst (λ (o : Option (List ToldReply)). Grew a.kept o (replies_told h.replies h.points)) (sym kept) h.kept));
-      spends = runs.spends;
-      faults = runs.faults;
-      up = λ steady. inr (h.mounted steady);
-      mounts = subst (λ (x : List Reply). CountsMounts its h.runs.up x (take (length cs) (h.points ++ p ∷ [])) init
-          (state (flash_in t))) (sym replies)
-          (subst (λ (x : List Point). CountsMounts its h.runs.up h.replies x init (state (flash_in t))) (sym points)
-          (mounts_later its h.runs.up h.replies h.points r init (state (flash_in s)) (state (flash_in t))
-          h.mounts faults));
     }
 
 -- The next command of a list
 pub next_of : (list : List Command) (at : ℕ) (c : Command) → at < length list → c ≡ get_or list at c →
     take (at + 1) list ≡ take at list ++ c ∷ []
 next_of list at c lt read = take_more list at c lt ∙ ap (λ x. take at list ++ x ∷ []) (sym read)
+
+-- The commands before it were served, and what was open was lost in it
+abbrev pub EndsBehind : Config → FlashState → List Command → Command → FlashState → FlashState → Watched → Watched →
+    ℕ → Type 0
+EndsBehind its init cs c between final a b told =
+    (serves : ServesRun its cs told init between a b)
+    × EndsLost its c (last_point (first_point its serves.run.up serves.run.flash) serves.points) final
+
+pub ends_behind : {F : Type 0} (state : F → FlashState) (its : Config) (init : FlashState) (cs : List Command)
+    (c : Command) (s : DeviceSession F) (final : FlashState) (a b : Watched) → HasServed state its init cs s a b →
+    EndsLost its c (point_of state its s) final →
+    EndsBehind its init cs c (state (flash_in s)) final a b (length cs)
+unfolding all_served
+ends_behind state its init cs c s final a b h lost = (
+  all_served state its init cs s (state (flash_in s)) a b h (nothing_done (state (flash_in s))),
+  subst (λ (p : Point). EndsLost its c p final) h.runs.last lost,
+)
 
 -- Serving ended before that command did anything, or in it
 pub ended_for_memory : {F : Type 0} (state : F → FlashState) (its : Config) (init : FlashState) (list : List Command)
@@ -244,19 +244,22 @@ ended_for_memory state its init list at c s flash a b lt read h (inl still) =
       at,
       omega arith,
       inl (subst (λ n. ServesRun its (take at list) n init (state flash) a b) count
-          (all_served state its init (take at list) s (state flash) a b h still.still.moment still.still.told
-          still.quiet)),
+          (all_served state its init (take at list) s (state flash) a b h still)),
     )
-ended_for_memory {F = F} state its init list at c s flash a b lt read h (inr cut) =
-    let after : DeviceSession F = session.Unmounted flash in
-    let count : length (take at list) ≡ at = length-take-le at list (omega arith) in (
+ended_for_memory state its init list at c s flash a b lt read h (inr lost) =
+    let count : length (take at list) ≡ at = length-take-le at list (omega arith) in
+    let between = state (flash_in s) in
+    let ends = subst (λ n. EndsBehind its init (take at list) c between (state flash) a b n) count
+    (ends_behind state its init (take at list) c s (state flash) a b h lost) in (
       at,
       omega arith,
-      inr (subst (λ n. ServesRun its (take (at + 1) list) n init (state flash) a b) count
-          (subst (λ (cs : List Command). ServesRun its cs (length (take at list)) init (state flash) a b)
-          (sym (next_of list at c lt read))
-          (one_untold state its init (take at list) c cut.0 s after a b b h cut.2 cut.3
-          (lost_counts cut.0 (state (flash_in s)).faults (state flash).faults cut.1 cut.4) refl refl))),
+      inr (inr (record {
+        next = c;
+        is = next_of list at c lt read;
+        between = between;
+        serves = ends.0;
+        lost = ends.1;
+      })),
     )
 
 -- a session that stands has no image that is refused
@@ -290,44 +293,25 @@ untold_in state its init list at c r s t flash a b d lt read h serves is text ke
     let count : length (take at list) ≡ at = length-take-le at list (omega arith) in (
       at,
       omega arith,
-      inr (subst (λ n. ServesRun its (take (at + 1) list) n init (state flash) a d) count
+      inr (inl (subst (λ n. ServesRun its (take (at + 1) list) n init (state flash) a d) count
           (subst (λ (cs : List Command). ServesRun its cs (length (take at list)) init (state flash) a d)
           (sym (next_of list at c lt read))
           (subst (λ x. ServesRun its (take at list ++ c ∷ []) (length (take at list)) init (state x) a d) (sym is)
-          (one_untold state its init (take at list) c r s t a b d h serves.in_run serves.spends serves.faults
-          text kept)))),
+          (one_untold state its init (take at list) c r s t a b d h serves.in_run text kept))))),
     )
 
 -- all was served
-fits_live : {F : Type 0} (state : F → FlashState) (its : Config) (cache : List CachedPage) (s : DeviceSession F) →
-    Fits state its cache s →
-    (point_of state its s).state.up ≡ true → (state (flash_in s)).live ≡ true
-fits_live state its cache (session.Mounted t) fits up = fits.live
-fits_live state its cache (session.Unmounted flash) fits up = cc
-
-ends_live : {F : Type 0} (state : F → FlashState) (its : Config) (init : FlashState) (cs : List Command)
-    (cache : List CachedPage) (s : DeviceSession F)
-    (a b : Watched) →
-    Fits state its cache s → (h : HasServed state its init cs s a b) →
-    (last_state (first_state its h.runs.up (moment_of init)) h.points).up ≡ true →
-    (state (flash_in s)).live ≡ true
-ends_live state its init cs cache s a b fits h up =
-    fits_live state its cache s fits (ap (λ (p : Point). p.state.up) h.runs.last
-    ∙ ap (λ (x : RunState). x.up) (last_state_is (first_point its h.runs.up (moment_of init)) h.points) ∙ up)
-
 pub served_to_the_end : {F : Type 0} (state : F → FlashState) (its : Config) (init : FlashState) (list : List Command)
-    (at : ℕ) (cache : List CachedPage)
-    (s : DeviceSession F) (flash : F) (a b : Watched) → length list ≤ at →
-    Fits state its cache s → HasServed state its init (take at list) s a b → flash ≡ flash_in s →
+    (at : ℕ) (s : DeviceSession F) (flash : F) (a b : Watched) → length list ≤ at →
+    HasServed state its init (take at list) s a b → flash ≡ flash_in s →
     ServesSound its list init (state flash) a b (Ok tt)
 unfolding all_served
-served_to_the_end state its init list at cache s flash a b ge fits h is =
+served_to_the_end state its init list at s flash a b ge h is =
     let whole : take at list ≡ list = take_all at list ge in
     let end = subst (λ (cs : List Command). HasServed state its init cs s a b) whole h in
     subst (λ x. ServesSound its list init (state x) a b (Ok tt)) (sym is) (
-      all_served state its init list s (state (flash_in s)) a b end refl (no_more_same (state (flash_in s)).told) refl,
-      end.set,
-      ends_live state its init list cache s a b fits end,
+      all_served state its init list s (state (flash_in s)) a b end (nothing_done (state (flash_in s))),
+      run_ends state its init list end.replies end.points s end.runs,
     )
 
 -- Of the flash that was handed in

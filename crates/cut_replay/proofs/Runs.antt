@@ -1,5 +1,5 @@
 -- A run on a flash goes on by one command.
-use Rattle.cut_replay.proofs.Common.{◌≡◌, ℕ, ◌+◌, ◌≤◌, Bool, false, ◌||◌, List, [], ◌∷◌, ◌++◌, length, take, Option, Some, None, refl, sym, ap, ◌∙◌, subst, inl, inr, arith, count_by, IfSome, MatchBool, cases_Bool, Config, FlashState, Told, counted_by, BothTell, NoMoreToCome, Rose, Command, Reply, text_of, is_break, seen_after, Point, IsPoint, FlashRun, ServesFlash, is_fault, Grew, IsSet, CountsBreak, CountsBreaks, IsSpentBy}
+use Rattle.cut_replay.proofs.Common.{◌≡◌, ℕ, ◌+◌, ◌≤◌, Bool, false, ◌||◌, List, [], ◌∷◌, ◌++◌, length, take, Option, Some, None, refl, sym, ap, ◌∙◌, subst, inl, inr, arith, count_by, IfSome, MatchBool, cases_Bool, Config, FlashState, Told, counted_by, BothTell, NoMoreToCome, Rose, Command, Reply, text_of, is_break, seen_after, Point, IsPoint, FlashRun, ServesFlash, moment_of, last_point, is_fault, Grew, IsSet, CountsBreak, CountsBreaks, IsSpentBy}
 use Rattle.std.proofs.Common.{zero, suc}
 use Rattle.std.proofs.Common.{append-nil, append_assoc, length-append}
 use Rattle.std.specs.Prelude.{if◌then◌else◌}
@@ -16,11 +16,7 @@ use Rattle.cut_replay.specs.Bounds.{AreSpent, SpendsTold, LastIsSet}
 use Rattle.array_runs.specs.Breaks.{is_cut, arms_cut, arms_fault}
 use Rattle.mounted_session.proofs.Telling.{both_tell, weaker_told}
 
--- where a run stands after these commands
-abbrev pub last_point : Point → List Point → Point
-last_point old [] = old
-last_point old (p ∷ ps) = last_point p ps
-
+-- what was seen after these commands, and whether a fault was met
 abbrev pub seen_through : (ℕ → ℕ) → List Command → List Reply → ℕ → ℕ
 seen_through seen (c ∷ cs) (r ∷ rs) = seen_through (seen_after seen c r) cs rs
 seen_through seen _ _ = seen
@@ -63,7 +59,8 @@ pub faulted_more : (faulted : Bool) (rs : List Reply) (r : Reply) →
 faulted_more faulted [] r = refl
 faulted_more faulted (s ∷ rs) r = faulted_more (faulted || is_fault s) rs r
 
-pub last_moment_is : (old : Point) (ps : List Point) → (last_point old ps).moment ≡ last_moment old.moment ps
+pub last_moment_is : (old : Point) (ps : List Point) → moment_of (last_point old ps).flash
+    ≡ last_moment (moment_of old.flash) ps
 last_moment_is old [] = refl
 last_moment_is old (p ∷ ps) = last_moment_is p ps
 
@@ -95,12 +92,12 @@ pub text_more : (rs : List Reply) (r : Reply) → text_of_all (rs ++ r ∷ []) �
 text_more rs r = flat_map-append text_of rs (r ∷ []) ∙ ap (λ t. flat_map text_of rs ++ t) (append-nil (text_of r))
 
 pub told_more : (rs : List Reply) (ps : List Point) (r : Reply) (p : Point) → length rs ≡ length ps →
-    replies_told (rs ++ r ∷ []) (ps ++ p ∷ []) ≡ replies_told rs ps ++ record { text = text_of r; moment = p.moment }
-    ∷ []
+    replies_told (rs ++ r ∷ []) (ps ++ p ∷ [])
+    ≡ replies_told rs ps ++ record { text = text_of r; moment = moment_of p.flash } ∷ []
 told_more [] [] r p same = refl
 told_more [] (q ∷ ps) r p same = absurd (omega arith)
 told_more (s ∷ rs) [] r p same = absurd (omega arith)
-told_more (s ∷ rs) (q ∷ ps) r p same = ap (λ xs. record { text = text_of s; moment = q.moment } ∷ xs)
+told_more (s ∷ rs) (q ∷ ps) r p same = ap (λ xs. record { text = text_of s; moment = moment_of q.flash } ∷ xs)
     (told_more rs ps r p (omega arith))
 
 -- How many cuts and faults there were
@@ -235,17 +232,7 @@ counts_later rs x y z h same = record {
   quiet = λ unbroken all. same ∙ h.quiet unbroken all;
 }
 
--- The last arm
-pub last_set : (cs : List Command) (c : Command) (told : Told) → IsSet c told → LastIsSet (cs ++ c ∷ []) told
-last_set [] c told h = h
-last_set (d ∷ []) c told h = h
-last_set (d ∷ e ∷ cs) c told h = last_set (e ∷ cs) c told h
-
-pub last_sets : (cs : List Command) (c : Command) (o : Option Told) → IfSome o (IsSet c) →
-    IfSome o (LastIsSet (cs ++ c ∷ []))
-last_sets cs c None h = tt
-last_sets cs c (Some told) h = last_set cs c told h
-
+-- Nothing was armed last
 pub none_sets : (o : Option Told) → IfSome o (LastIsSet [])
 none_sets None = tt
 none_sets (Some told) = tt

@@ -3,7 +3,7 @@ use Rattle.cut_replay.proofs.Common.{◌≡◌, true, false, Option, Some, None,
 use Rattle.host_protocol.specs.declared.command.Command.TheVariants as command
 use Rattle.host_protocol.specs.declared.reply.Reply.TheVariants as reply
 use Rattle.array_runs.specs.Breaks.{is_cut}
-use Rattle.cut_replay.specs.Sessions.{cuts_armed, faults_armed}
+use Rattle.cut_replay.specs.Bounds.{cuts_armed, faults_armed}
 use Rattle.mounted_session.proofs.Telling as telling
 
 -- a reply that is a fault, and after which something may be open

@@ -1,13 +1,25 @@
 -- How many cuts and faults a run has: no more than were to come and were armed, and no more than
 -- the flash counts. A fault by which transactions were dropped is one of them.
-use Rattle.std.specs.Prelude.{◌≡◌, ◌⊎◌, ℕ, ◌+◌, ◌≤◌, false, List, [], ◌∷◌, count_by, All, Option, Some, MatchBool}
+use Rattle.std.specs.Prelude.{◌≡◌, ◌⊎◌, ℕ, ◌+◌, ◌≤◌, false, List, [], ◌∷◌, count_by, All, Option, Some, MatchBool, if◌then◌else◌}
 use Rattle.flash_model.specs.Flash.{FlashState, Told, IsSteady, counted_by}
 use Rattle.flash_model.specs.Calls.{BothTell, Rose}
 use Rattle.host_protocol.specs.declared.command.Command.{Command}
 use Rattle.host_protocol.specs.declared.command.Command.TheVariants as command
 use Rattle.host_protocol.specs.declared.reply.Reply.{Reply}
 use Rattle.array_runs.specs.Run.{is_break}
+use Rattle.mounted_session.specs.Spending.{IsSpent}
 use Rattle.array_runs.specs.Breaks.{is_cut, is_fault, arms_cut, arms_fault, AreFew}
+
+-- how many cuts and faults a command arms
+abbrev pub cuts_armed : Command → ℕ
+cuts_armed c = if arms_cut c then 1 else 0
+
+abbrev pub faults_armed : Command → ℕ
+faults_armed c = if arms_fault c then 1 else 0
+
+-- the command and its reply use up a cut or a fault, or an arm brings one
+abbrev pub IsSpentBy : Command → Reply → Told → Told → Type 0
+IsSpentBy c r old new = IsSpent (is_cut r) (is_fault r) (cuts_armed c) (faults_armed c) old new
 
 -- and with what is to come still, of all commands
 pub record AreSpent (cs : List Command) (rs : List Reply) (old new : Told) : Type 0 where

@@ -1,9 +1,11 @@
--- A run on a flash: a run of the array machine in which each state has a moment, which is what the
--- flash was when the reply was given.
-use Rattle.std.specs.Prelude.{◌≡◌, ◌⊎◌, ℕ, ◌||◌, Bool, true, false, List, [], ◌∷◌, Any, MatchBool}
+-- A run on a flash: a run of the array machine in which each state has the whole flash, as it was when the reply was
+-- given.
+use Rattle.std.specs.Prelude.{◌≡◌, ◌⊎◌, ℕ, ◌||◌, Bool, true, false, not, List, [], ◌∷◌, Any, MatchBool}
 use Rattle.tx_types.specs.declared.config.Config.{Config}
 use Rattle.tx_types.specs.Config.{shape_of}
-use Rattle.flash_model.specs.Operations.{Operation, program, erase, fire, Moment}
+use Rattle.flash_model.specs.Calls.{Carries}
+use Rattle.flash_model.specs.Flash.{FlashState}
+use Rattle.flash_model.specs.Operations.{Operation, program, erase, fire, Moment, moment_of}
 use Rattle.flash_model.specs.Moves.{Does, MovesTogether}
 use Rattle.record_list.specs.Records.{mention}
 use Rattle.record_list.specs.declared.found.Found.{Found}
@@ -16,19 +18,21 @@ use Rattle.host_protocol.specs.declared.reply.Reply.TheVariants as reply
 use Rattle.array_machine.specs.ArrayState.{idle, Represents}
 use Rattle.tx_engine.specs.Collections.{HasNothingToCollect}
 use Rattle.tx_engine.specs.DeviceState.{limits_of}
-use Rattle.array_runs.specs.Breaks.{is_fault}
+use Rattle.array_runs.specs.Breaks.{is_cut, is_fault, is_lost}
 use Rattle.array_runs.specs.Run.{RunState, DoesCommand, NotDone, LosesOpen, MayBeSpent, is_arm, is_break, seen_after}
+use Rattle.cut_replay.specs.FlashCalls.{ArmsFlash, ComesUp, MountsFlash}
 
--- where a run stands: its state, and what the flash holds and has counted
+-- where a run stands: its state, and what the flash is
 pub record Point : Type 0 where
   pub state : RunState
-  pub moment : Moment
+  pub flash : FlashState
 
--- the image of a point is sound, and its array is that of the machine, or that with the pages of
--- the transaction in doubt
+-- The image of a point is sound, and its array is that of the machine, or that with the pages of
+-- the transaction in doubt. While the device is mounted power is on.
 pub record IsPoint (its : Config) (p : Point) : Type 0 where
-  pub sound : IsSoundImage its.protocol its.logical (shape_of its) p.moment.image
-  pub array : Represents p.state.machine (array_in its.protocol its.logical p.moment.image)
+  pub sound : IsSoundImage its.protocol its.logical (shape_of its) p.flash.image
+  pub array : Represents p.state.machine (array_in its.protocol its.logical p.flash.image)
+  pub live : p.state.up ≡ true → p.flash.live ≡ true
 
 -- a command that asks for no program and no erase
 abbrev pub is_still : Command → Bool
@@ -84,31 +88,68 @@ IsReportOn its text = (list : List Found) × (text ≡ report its.protocol list 
 -- image where no fault was met before; that a block was erased; that there is nothing to collect.
 abbrev pub Tells : Config → Bool → Point → Reply → Point → Type 0
 Tells its faulted old (reply.Stats told) new =
-    (told.programs ≡ new.moment.programs) × (told.erases ≡ new.moment.erases)
+    (told.programs ≡ new.flash.programs) × (told.erases ≡ new.flash.erases)
 Tells its faulted old (reply.Report text) new =
     IsReportOn its text
     × (faulted ≡ false →
-    text ≡ report its.protocol (records_in its.protocol new.moment.image) its.logical)
-Tells its faulted old reply.Collected new = HasErased its old.moment new.moment
+    text ≡ report its.protocol (records_in its.protocol new.flash.image) its.logical)
+Tells its faulted old reply.Collected new = HasErased its (moment_of old.flash) (moment_of new.flash)
 Tells its faulted old reply.Nothing new =
-    HasNothingToCollect its.protocol its.logical new.moment.image new.state.machine.entries
+    HasNothingToCollect its.protocol its.logical new.flash.image new.state.machine.entries
 Tells its faulted old _ new = Unit {0}
 
--- the command was done, and power was not cut
+-- an arm is set for a break to come
+pub record IsArmed (c : Command) (old : Point) (r : Reply) (new : Point) : Type 0 where
+  pub told : r ≡ reply.Armed
+  pub stays : new.state ≡ old.state
+  pub arms : ArmsFlash c old.flash new.flash
+
+-- The device could not be mounted: this mount met a fault, and the command was not done. The reply is `cut` exactly
+-- where power went off in it.
+pub record IsNotDone (its : Config) (old : Point) (r : Reply) (new : Point) : Type 0 where
+  pub stays : NotDone old.state r new.state
+  pub mounts : MountsFlash its false old.flash new.flash
+  pub cut : is_cut r ≡ not new.flash.live
+
+-- The command was done, and power stayed on. Its calls met a fault exactly where the reply is `fault`, and nothing that
+-- was open is lost.
 pub record IsDone (its : Config) (spent : ℕ → Bool) (faulted : Bool) (c : Command) (old : Point)
     (r : Reply) (new : Point) : Type 0 where
   pub does : DoesCommand (limits_of its) spent c old.state.machine r new.state.machine
   pub up : new.state.up ≡ true
-  pub moves : MovesBy its c r old.moment new.moment
+  pub moves : MovesBy its c r (moment_of old.flash) (moment_of new.flash)
   pub tells : Tells its faulted old r new
+  pub first : FlashState
+  pub mounts : ComesUp its old.state.up old.flash first
+  pub calls : Carries first new.flash (is_break r)
+  pub live : new.flash.live ≡ true
+  pub kept : is_lost r ≡ false
+
+-- What was open was lost in the calls of the command, of which the last met a break and left this flash. The reply is
+-- `cut` exactly where power went off in it, and else `dropped`.
+pub record IsLost (its : Config) (c : Command) (old : Point) (r : Reply) (met : FlashState) (new : Point) :
+    Type 0 where
+  pub loses : LosesOpen c old.state r new.state
+  pub moves : MovesBy its c r (moment_of old.flash) (moment_of new.flash)
+  pub first : FlashState
+  pub mounts : ComesUp its old.state.up old.flash first
+  pub calls : Carries first met true
+  pub cut : is_cut r ≡ not met.live
+
+-- and the device is mounted again at once, unless this mount meets a fault
+abbrev pub IsMountedAnew : Config → Command → Point → Reply → Point → Type 0
+IsMountedAnew its c old r new =
+    (met : FlashState) × IsLost its c old r met new × MountsFlash its new.state.up met new.flash
+
+-- a command that is no arm
+abbrev pub DoesFlash : Config → (ℕ → Bool) → Bool → Command → Point → Reply → Point → Type 0
+DoesFlash its spent faulted c old r new =
+    IsNotDone its old r new ⊎ (IsDone its spent faulted c old r new ⊎ IsMountedAnew its c old r new)
 
 -- a command on a flash, its reply, and where that leaves the run
 abbrev pub ServesFlash : Config → (ℕ → Bool) → Bool → Command → Point → Reply → Point → Type 0
 ServesFlash its spent faulted c old r new =
-    MatchBool (is_arm c) ((r ≡ reply.Armed) × (new ≡ old))
-    ((NotDone old.state r new.state × (new.moment ≡ old.moment))
-    ⊎ (IsDone its spent faulted c old r new
-    ⊎ (LosesOpen c old.state r new.state × MovesBy its c r old.moment new.moment)))
+    MatchBool (is_arm c) (IsArmed c old r new) (DoesFlash its spent faulted c old r new)
 
 -- A run over a list of commands: one reply and one point for each. `seen` is at least the greatest
 -- mention of each page on the flash, and `faulted` says whether a fault was met before.
@@ -121,13 +162,15 @@ FlashRun its seen faulted old (c ∷ cs) (r ∷ rs) (p ∷ ps) =
     × FlashRun its (seen_after seen c r) (faulted || is_fault r) p cs rs ps
 FlashRun its seen faulted old _ _ _ = ⊥
 
--- the point at which a run begins: the array of the image, with nothing open
-abbrev pub first_point : Config → Bool → Moment → Point
-first_point its its_up its_moment = record {
-  state =
-      record { machine = idle (array_in its.protocol its.logical its_moment.image); up = its_up };
-  moment = its_moment;
-}
+-- the state at which a run begins: the array of the image, with nothing open
+abbrev pub first_state : Config → Bool → Moment → RunState
+first_state its its_up from =
+    record { machine = idle (array_in its.protocol its.logical from.image); up = its_up }
+
+-- the point at which it begins
+abbrev pub first_point : Config → Bool → FlashState → Point
+first_point its its_up its_flash =
+    record { state = first_state its its_up (moment_of its_flash); flash = its_flash }
 
 -- the greatest mention of each page in an image
 abbrev pub mentions_in : Config → Moment → ℕ → ℕ
@@ -137,18 +180,21 @@ mentions_in its m page = mention (records_in its.protocol m.image) page
 pub record IsFlashRun (its : Config) (from : Moment) (cs : List Command) (rs : List Reply)
     (ps : List Point) : Type 0 where
   pub up : Bool
-  pub first : IsPoint its (first_point its up from)
-  pub runs : FlashRun its (mentions_in its from) false (first_point its up from) cs rs ps
+  pub flash : FlashState
+  pub begins : moment_of flash ≡ from
+  pub first : IsPoint its (first_point its up flash)
+  pub runs : FlashRun its (mentions_in its from) false (first_point its up flash) cs rs ps
+
+-- the point where a run ends
+abbrev pub last_point : Point → List Point → Point
+last_point old [] = old
+last_point old (p ∷ ps) = last_point p ps
 
 abbrev pub last_moment : Moment → List Point → Moment
 last_moment from [] = from
-last_moment from (p ∷ ps) = last_moment p.moment ps
+last_moment from (p ∷ ps) = last_moment (moment_of p.flash) ps
 
 -- and the state where it ends
 abbrev pub last_state : RunState → List Point → RunState
 last_state from [] = from
 last_state from (p ∷ ps) = last_state p.state ps
-
--- the state at which it begins
-abbrev pub first_state : Config → Bool → Moment → RunState
-first_state its its_up from = (first_point its its_up from).state

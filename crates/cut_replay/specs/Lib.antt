@@ -1,8 +1,11 @@
+pub mod FlashCalls
 pub mod FlashRun
 pub mod Watching
 pub mod Bounds
 pub mod MountedAgain
 pub mod Mounted
+pub mod EndsLost
+pub mod CutsDue
 pub mod Sessions
 pub mod Beginning
 pub mod Served

@@ -33,7 +33,7 @@ is_step_all _ = false
 -- the point of a run at which a device is mounted
 abbrev pub point_at : {F : Type 0} → (F → FlashState) → DeviceState F → Point
 point_at state s =
-    record { state = record { machine = s.machine; up = true }; moment = moment_of (state s.flash) }
+    record { state = record { machine = s.machine; up = true }; flash = state s.flash }
 
 -- a cached page is at its current version at most, and where it is at that, its bytes are those of
 -- the array

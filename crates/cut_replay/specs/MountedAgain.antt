@@ -1,18 +1,17 @@
 -- That a device is mounted again once power was cut in a command, or what was open was dropped.
-use Rattle.std.specs.Prelude.{◌≡◌, ◌⊎◌, ℕ, ◌+◌, ◌≤◌, Bool, true, List, [], ◌∷◌, count_by}
-use Rattle.tx_types.specs.declared.config.Config.{Config}
+use Rattle.std.specs.Prelude.{◌≡◌, ◌⊎◌, ℕ, ◌+◌, ◌≤◌, true, List, [], ◌∷◌, count_by}
 use Rattle.flash_model.specs.Flash.{FlashState, counted_by}
 use Rattle.flash_model.specs.Operations.{moment_of}
 use Rattle.host_protocol.specs.declared.reply.Reply.{Reply}
 use Rattle.array_runs.specs.Run.{NotDone, is_break}
-use Rattle.cut_replay.specs.FlashRun.{Point, first_point}
+use Rattle.cut_replay.specs.FlashRun.{Point}
 use Rattle.array_runs.specs.Breaks.{is_lost}
 
 -- after a reply `cut` or `dropped` the device is mounted, unless the command was not done
 abbrev pub IsMountedAgain : Point → Reply → Point → Type 0
 IsMountedAgain old r new =
     is_lost r ≡ true →
-    (NotDone old.state r new.state × (new.moment ≡ old.moment)) ⊎ (new.state.up ≡ true)
+    (NotDone old.state r new.state × (moment_of new.flash ≡ moment_of old.flash)) ⊎ (new.state.up ≡ true)
 
 -- or the mount after it met a fault, which was counted beside the one of the reply
 abbrev pub MountsAfter : Point → Reply → Point → ℕ → ℕ → Type 0
@@ -28,8 +27,7 @@ FailedMounts old (r ∷ rs) (p ∷ ps) failed =
 FailedMounts old _ _ failed = ⊥
 
 -- the flash counted each of these faults, beside those of the replies
-pub record CountsMounts (its : Config) (up : Bool) (rs : List Reply) (ps : List Point)
-    (old new : FlashState) : Type 0 where
+pub record CountsMounts (first : Point) (rs : List Reply) (ps : List Point) (old new : FlashState) : Type 0 where
   pub failed : ℕ
-  pub mounts : FailedMounts (first_point its up (moment_of old)) rs ps failed
+  pub mounts : FailedMounts first rs ps failed
   pub faults : counted_by (count_by is_break rs + failed) old.faults ≤ new.faults

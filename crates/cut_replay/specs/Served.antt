@@ -1,17 +1,19 @@
 -- What serving a list of commands comes to.
-use Rattle.std.specs.Prelude.{◌≡◌, ◌⊎◌, ℕ, ◌+◌, ◌≤◌, true, List, [], length, take, map, Option, IfSome, OnOk, Result, Ok, Err}
+use Rattle.std.specs.Prelude.{◌≡◌, ◌⊎◌, ℕ, ◌+◌, ◌≤◌, List, [], ◌∷◌, ◌++◌, length, take, map, Option, OnOk, Result, Ok, Err}
 use Rattle.std.specs.List.{AllZip}
 use Rattle.tx_types.specs.declared.config.Config.{Config}
 use Rattle.tx_types.specs.Config.{shape_of}
-use Rattle.flash_model.specs.Flash.{FlashState, IsSteady}
+use Rattle.flash_model.specs.Flash.{FlashState}
 use Rattle.flash_model.specs.Operations.{moment_of}
 use Rattle.judged_records.specs.Images.{IsLeastImageBreach}
+use Rattle.mounted_session.specs.Mounting.{StaysQuiet}
 use Rattle.host_protocol.specs.declared.command.Command.{Command}
 use Rattle.host_protocol.specs.declared.reply.Reply.{Reply}
-use Rattle.cut_replay.specs.FlashRun.{Point, IsFlashRun, last_moment, last_state, first_state}
+use Rattle.cut_replay.specs.EndsLost.{EndsLost}
+use Rattle.cut_replay.specs.FlashCalls.{BeginsFlash}
+use Rattle.cut_replay.specs.FlashRun.{Point, IsFlashRun, first_point, last_point}
 use Rattle.cut_replay.specs.Watching.{ToldReply, Grew, text_of_all, replies_told}
-use Rattle.cut_replay.specs.Bounds.{SpendsTold, LastIsSet, CountsBreaks}
-use Rattle.cut_replay.specs.MountedAgain.{CountsMounts}
+use Rattle.cut_replay.specs.Bounds.{CountsBreaks}
 use Rattle.host_protocol.specs.Replies.{text_of}
 use Rattle.cut_replay.specs.Sessions.{IsSoundOrSame, RepliesUnmounted}
 use Rattle.cut_replay.specs.declared.serving.ServeError.{ServeError}
@@ -23,42 +25,46 @@ pub record Watched : Type 0 where
   pub text : Option (List ℕ)
   pub kept : Option (List ToldReply)
 
--- There is one run on the flash over these commands. Its last moment is that of the flash that comes back. Of its
--- replies the first `told` were told, each with its moment. Where a command was served and the flash was live and told
--- that no break was to come, the run begins mounted. When the reply `cut` or `dropped` of a command that was done is
--- told, the device is mounted again, unless the mount met a fault.
+-- There is one run on the flash over these commands, and in each point of it the whole flash. A flash with power is
+-- mounted first. The flash that comes back is that of the last point, but for reads that met no fault. Of the replies
+-- the first `told` were told, each with its moment.
 pub record ServesRun
     (its : Config) (cs : List Command) (told : ℕ) (old new : FlashState)
     (before after : Watched) : Type 0 where
   pub replies : List Reply
   pub points : List Point
   pub run : IsFlashRun its (moment_of old) cs replies points
-  pub last : moment_of new ≡ last_moment (moment_of old) points
+  pub begins : BeginsFlash its old run.up run.flash ⊎ ((cs ≡ []) × (run.flash ≡ old))
+  pub left : StaysQuiet (last_point (first_point its run.up run.flash) points).flash new
   pub text : Grew before.text after.text (text_of_all (take told replies))
   pub kept : Grew before.kept after.kept (replies_told (take told replies) (take told points))
-  pub spends : SpendsTold cs replies old.told new.told
-  pub faults : CountsBreaks replies old new
-  pub up : IsSteady old → (cs ≡ []) ⊎ (run.up ≡ true)
-  pub mounts : CountsMounts its run.up (take told replies) (take told points) old new
 
--- where the run ends with a mounted device, power is on
-abbrev pub EndsLive : (its : Config) (cs : List Command) (told : ℕ) (old new : FlashState)
+-- the flash that comes back is that of the last point
+abbrev pub EndsThere : (its : Config) (cs : List Command) (told : ℕ) (old new : FlashState)
     (before after : Watched) → ServesRun its cs told old new before after → Type 0
-EndsLive its cs told old new before after serves =
-    (last_state (first_state its serves.run.up (moment_of old)) serves.points).up ≡ true →
-    new.live ≡ true
+EndsThere its cs told old new before after serves =
+    new ≡ (last_point (first_point its serves.run.up serves.run.flash) serves.points).flash
+
+-- the first `told` commands were served and told, and the one after them ended for want of memory in its mount
+pub record EndsInMount (its : Config) (cs : List Command) (told : ℕ) (old new : FlashState)
+    (before after : Watched) : Type 0 where
+  pub next : Command
+  pub is : take (told + 1) cs ≡ take told cs ++ next ∷ []
+  pub between : FlashState
+  pub serves : ServesRun its (take told cs) told old between before after
+  pub lost : EndsLost its next (last_point (first_point its serves.run.up serves.run.flash) serves.points) new
 
 -- what serving comes to where the image handed in was sound
 abbrev pub ServesSound : Config → List Command → FlashState → FlashState → Watched → Watched →
     Result (Unit {0}) ServeError → Type 0
 ServesSound its cs old new before after (Ok u) =
     (serves : ServesRun its cs (length cs) old new before after)
-    × IfSome new.told (LastIsSet cs)
-    × EndsLive its cs (length cs) old new before after serves
+    × EndsThere its cs (length cs) old new before after serves
 ServesSound its cs old new before after (Err failed.Memory) =
     (told : ℕ) × (told ≤ length cs)
     × (ServesRun its (take told cs) told old new before after
-    ⊎ ServesRun its (take (told + 1) cs) told old new before after)
+    ⊎ (ServesRun its (take (told + 1) cs) told old new before after
+    ⊎ EndsInMount its cs told old new before after))
 ServesSound its cs old new before after (Err (failed.Unsound law slot)) = ⊥
 
 -- the breaks that were told were counted; where memory ran out nothing is said of the count

@@ -1,12 +1,11 @@
 -- What serving a command comes to, in a session with its device while that is mounted.
 use Rattle.std.specs.Prelude.{◌≡◌, ◌⊎◌, ◌<◌, ◌≤◌, ◌+◌, ℕ, Bool, true, false, ◌||◌, List, [], IfSome, IfOk, IfErr, OnOk, Result, Ok, Err}
-use Rattle.std.specs.Prelude.{MatchBool, if◌then◌else◌}
+use Rattle.std.specs.Prelude.{MatchBool}
 use Rattle.tx_types.specs.declared.config.Config.{Config}
 use Rattle.tx_types.specs.declared.config.Protocol.{Protocol}
 use Rattle.tx_types.specs.declared.config.Slot.{Slot}
 use Rattle.tx_types.specs.Config.{checked, shape_of}
 use Rattle.flash_model.specs.Flash.{FlashState, Told}
-use Rattle.flash_model.specs.Calls.{BothTell, Rose}
 use Rattle.flash_model.specs.Arms.{ChangesTold}
 use Rattle.flash_model.specs.Operations.{moment_of}
 use Rattle.record_list.specs.Records.{mention}
@@ -16,7 +15,6 @@ use Rattle.mounted_session.specs.Devices.{MountsIn}
 use Rattle.mounted_session.specs.Mounting.{StaysQuiet}
 use Rattle.mounted_session.specs.Sessions as sessions
 use Rattle.mounted_session.specs.Sessions.{BothOf, EachOf, Mounts}
-use Rattle.mounted_session.specs.Spending.{IsSpent}
 use Rattle.mounted_session.specs.declared.device.Refusal.{Refusal}
 use Rattle.mounted_session.specs.declared.device.Refusal.TheVariants as refusal
 use Rattle.mounted_session.specs.declared.session.Session.{Session}
@@ -29,9 +27,9 @@ use Rattle.host_protocol.specs.declared.reply.Reply.{Reply}
 use Rattle.host_protocol.specs.declared.reply.Reply.TheVariants as reply
 use Rattle.array_runs.specs.Run.{MayBeSpent, is_arm, seen_after}
 use Rattle.cut_replay.specs.FlashRun.{Point, IsPoint, ServesFlash, first_point}
-use Rattle.array_runs.specs.Breaks.{is_fault, is_cut, is_lost, arms_cut, arms_fault}
-use Rattle.cut_replay.specs.Bounds.{IsSet, CountsBreak}
-use Rattle.cut_replay.specs.MountedAgain.{MountsAfter}
+use Rattle.cut_replay.specs.EndsLost.{EndsLost}
+use Rattle.array_runs.specs.Breaks.{is_fault, is_lost}
+use Rattle.cut_replay.specs.Bounds.{CountsBreak}
 use Rattle.tx_engine.specs.Always.{IsSeen, HoldsAlways}
 use Rattle.cut_replay.specs.Mounted.{point_at, IsCached, CachesCommand}
 use Rattle.cut_replay.specs.declared.serving.ServeError.{ServeError}
@@ -52,7 +50,7 @@ IsNotDropped s = EachOf (λ d. d.dropped ≡ false) (λ flash. Unit {0}) s
 -- the point of a run that a session is at
 abbrev pub point_of : {F : Type 0} → (F → FlashState) → Config → DeviceSession F → Point
 point_of state its (session.Mounted s) = point_at state s
-point_of state its (session.Unmounted flash) = first_point its false (moment_of (state flash))
+point_of state its (session.Unmounted flash) = first_point its false (state flash)
 
 -- the image of a flash is sound
 abbrev pub IsSoundFlash : Config → FlashState → Type 0
@@ -90,17 +88,6 @@ abbrev pub StandsAt : {F : Type 0} → (F → FlashState) → Config → (ℕ �
 StandsAt state its seen faulted s =
     EachOf (StandsMounted seen faulted) (λ flash. StandsUnmounted its seen (state flash)) s
 
--- how many cuts and faults a command arms
-abbrev pub cuts_armed : Command → ℕ
-cuts_armed c = if arms_cut c then 1 else 0
-
-abbrev pub faults_armed : Command → ℕ
-faults_armed c = if arms_fault c then 1 else 0
-
--- the command and its reply use up a cut or a fault, or an arm brings one
-abbrev pub IsSpentBy : Command → Reply → Told → Told → Type 0
-IsSpentBy c r old new = IsSpent (is_cut r) (is_fault r) (cuts_armed c) (faults_armed c) old new
-
 -- A command was served in a session, with this reply.
 pub record ServesIn {F : Type 0}
     (state : F → FlashState) (its : Config) (seen : ℕ → ℕ) (faulted : Bool)
@@ -129,11 +116,7 @@ pub record ServesSession {F : Type 0}
       ServesIn state its seen faulted c old r new
   pub kept : IsSoundOrSame its (state (flash_in old)) (state (flash_in new))
   pub unsound : (IsSoundFlash its (state (flash_in old)) → ⊥) → RepliesUnmounted c r
-  pub spends : BothTell (IsSpentBy c r) (state (flash_in old)).told (state (flash_in new)).told
-  pub set : IfSome (state (flash_in new)).told (IsSet c)
   pub faults : CountsBreak r (state (flash_in old)).faults (state (flash_in new)).faults
-  pub mounts : MountsAfter (point_of state its old) r (point_of state its new)
-      (state (flash_in old)).faults (state (flash_in new)).faults
   pub extras : (state (flash_in new)).extras ≡ (state (flash_in old)).extras
 
 -- The flash was refused: it was never mounted, and its image is not sound.
@@ -145,16 +128,12 @@ Refuses state its (session.Unmounted old) flash law slot =
     × IsLeastImageBreach its.protocol its.logical (shape_of its) (state old).image
     (record { law = law; slot = slot })
 
--- there was no memory before the command did anything, or after what was open was lost in it
+-- there was no memory before the command did anything, or in the mount after what was open was lost in it
 abbrev pub EndsForMemory : {F : Type 0} → (F → FlashState) → Config → Command → DeviceSession F → F →
     Type 0
 EndsForMemory state its c old flash =
     StaysQuiet (state (flash_in old)) (state flash)
-    ⊎ ((r : Reply) × (is_lost r ≡ true)
-    × ((seen : ℕ → ℕ) → (faulted : Bool) → StandsAt state its seen faulted old →
-    ServesIn state its seen faulted c old r (session.Unmounted flash))
-    × BothTell (IsSpentBy c r) (state (flash_in old)).told (state flash).told
-    × Rose (state (flash_in old)).faults (state flash).faults)
+    ⊎ EndsLost its c (point_of state its old) (state flash)
 
 -- Why no more commands are served.
 abbrev pub EndsFor : {F : Type 0} → (F → FlashState) → Config → Command → DeviceSession F → F →

@@ -1,7 +1,7 @@
 -- What is told of a run while it goes on.
 use Rattle.std.specs.Prelude.{◌≡◌, ℕ, List, ◌++◌, flat_map, map, Option, None, Some}
 use Rattle.std.specs.List.{zip}
-use Rattle.flash_model.specs.Operations.{Moment}
+use Rattle.flash_model.specs.Operations.{Moment, moment_of}
 use Rattle.host_protocol.specs.Replies.{text_of}
 use Rattle.host_protocol.specs.declared.reply.Reply.{Reply}
 use Rattle.cut_replay.specs.FlashRun.{Point}
@@ -23,4 +23,4 @@ text_of_all replies = flat_map text_of replies
 -- what is told of replies and the points that they were given at
 abbrev pub replies_told : List Reply → List Point → List ToldReply
 replies_told replies points =
-    map (λ (r, p). record { text = text_of r; moment = p.moment }) (zip replies points)
+    map (λ (r, p). record { text = text_of r; moment = moment_of p.flash }) (zip replies points)

@@ -252,15 +252,14 @@ fn begin<F: Power, R: CommitRule>(
 /// The check of the configuration gives the shape of the flash, and its protocol is that of `R`.
 /// Each batch that is written has pages of `page_bytes`, and each arm counts from 1.
 ///
-/// - Cuts: where power is cut in a command, its reply is `Cut`. Before this is told power is turned
-///   on and the device is mounted again, unless that mount meets a fault, which is counted. All open
-///   transactions are gone.
-/// - Faults: where a command meets a fault and power stays on, its reply is `Fault`, and the device
-///   goes on. Where this is a command by which several transactions go on at once, its reply is
-///   `Dropped`, all open transactions are gone, and the device is mounted again as after a cut. The
-///   flash counts at least as many faults as such replies, `Cut` included. Where none is
-///   told, and the flash had no power at the beginning or told that no break was to come, it counts
-///   none. Else the mount at the beginning may meet one, which is not told.
+/// - Cuts: the reply of a command is `Cut` exactly where power goes off in its calls. Before this is
+///   told power is turned on and the device is mounted again. A fault in that mount leaves the
+///   flash unmounted. All open transactions are gone.
+/// - Faults: where a call of a command meets a fault and power stays on, its reply is `Fault`, and
+///   the device goes on. Where this is a command by which several transactions go on at once, its
+///   reply is `Dropped`, all open transactions are gone, and the device is mounted again as after a
+///   cut. No other reply comes of calls that meet a fault. Of those of mounts, one before the first
+///   command and one after `Cut` or `Dropped` are not told.
 /// - Mounts: a flash that is live and tells that no break is to come is mounted before the first
 ///   command. Where a mount meets a fault, the flash stays unmounted. Each command after that, other
 ///   than an arm, turns power on and mounts first. Where that mount meets a fault, the command is

@@ -1,12 +1,21 @@
 //! What holds of all runs on a flash. The functions do nothing: each is there for what it ensures.
-ghost use Rattle.std.specs.Prelude.{◌≡◌, Bool, List, length};
+ghost use Rattle.std.specs.Prelude.{◌≡◌, ◌⊎◌, ◌+◌, ◌<◌, ◌≤◌, ◌^◌, ℕ, Bool, true, false, List, [], length, All, Some, IfSome};
 ghost use Rattle.tx_types.specs.declared.config.Config.{Config};
-ghost use Rattle.flash_model.specs.Operations.{Moment};
+ghost use Rattle.flash_model.specs.Flash.{FlashState, Told, IsSteady};
+ghost use Rattle.flash_model.specs.Operations.{Moment, moment_of};
+ghost use Rattle.flash_model.specs.declared.outcome.Outcome.{Outcome};
 ghost use Rattle.tx_engine.specs.DeviceState.{limits_of};
 ghost use Rattle.host_protocol.specs.declared.command.Command.{Command};
 ghost use Rattle.host_protocol.specs.declared.reply.Reply.{Reply};
+ghost use Rattle.host_protocol.specs.declared.command.Command.TheVariants as command;
+ghost use Rattle.host_protocol.specs.declared.reply.Reply.TheVariants as reply;
+ghost use Rattle.array_runs.specs.Breaks.{arms_cut, is_cut};
 ghost use Rattle.array_runs.specs.Run.{Run, IsClosedUnmounted};
-ghost use Rattle.cut_replay.specs.FlashRun.{Point, IsFlashRun, first_state, last_state, mentions_in};
+ghost use Rattle.cut_replay.specs.Bounds.{SpendsTold, CountsBreaks, LastIsSet};
+ghost use Rattle.cut_replay.specs.CutsDue.{CutIsDue};
+ghost use Rattle.cut_replay.specs.MountedAgain.{CountsMounts};
+ghost use Rattle.cut_replay.specs.Served.{Watched, ServesRun, EndsThere};
+ghost use Rattle.cut_replay.specs.FlashRun.{Point, IsPoint, IsArmed, IsLost, IsNotDone, FlashRun, IsFlashRun, first_point, first_state, last_moment, last_point, last_state, mentions_in};
 
 /// The state at which a run on a flash begins has an array of all logical pages, and nothing open.
 pub fn first_states()
@@ -23,4 +32,59 @@ pub fn flash_runs_are_runs()
         (run : IsFlashRun its from cs rs ps) →
         Run (limits_of its) (mentions_in its from) (first_state its run.up from) cs rs
         (last_state (first_state its run.up from) ps) }
+{}
+
+/// Where a flash tells its arms, a cut that is armed comes at the operation of its number, counted from the arm on,
+/// over all commands, mounts and collections, unless another cut is armed before. While no reply is `cut` and power
+/// is on after each command, fewer are started. Where the reply is `cut`, power went off with just so many started.
+pub fn cuts_come_due()
+    ensures armed { (count : ℕ) (what : Outcome) (old : Point) (r : Reply) (new : Point) (told : Told) →
+        1 ≤ count → IsArmed (command.Cut count what) old r new → new.flash.told ≡ Some told →
+        CutIsDue (new.flash.started + count) what new.flash }
+    ensures waits { (due : ℕ) (what : Outcome) → due < 2 ^ 64 →
+        (its : Config) (seen : ℕ → ℕ) (faulted : Bool) (old : Point)
+        (cs : List Command) (rs : List Reply) (ps : List Point) → IsPoint its old →
+        FlashRun its seen faulted old cs rs ps →
+        All (λ c. arms_cut c ≡ false) cs → All (λ r. is_cut r ≡ false) rs →
+        All (λ p. p.flash.live ≡ true) ps → CutIsDue due what old.flash →
+        CutIsDue due what (last_point old ps).flash }
+    ensures calls { (due : ℕ) (what : Outcome) → due < 2 ^ 64 →
+        (its : Config) (c : Command) (old : Point) (r : Reply) (met : FlashState) (new : Point) →
+        IsPoint its old → IsLost its c old r met new → r ≡ reply.Cut → CutIsDue due what old.flash →
+        met.started ≡ due }
+    ensures mount { (due : ℕ) (what : Outcome) → due < 2 ^ 64 →
+        (its : Config) (old : Point) (r : Reply) (new : Point) →
+        IsNotDone its old r new → r ≡ reply.Cut → CutIsDue due what old.flash →
+        new.flash.started ≡ due }
+{}
+
+/// What is said of each command of a run adds up. No more cuts and faults are replied than were to come and were armed
+/// (`spends`). The flash counted each of them, and each mount that met a fault after `cut` or `dropped`; none, where
+/// none is replied and nothing breaks before the first command (`faults`, `mounts`). A live flash that tells that no
+/// break is to come is mounted before the first command (`up`). Where the last command is an arm, it is set at the end
+/// (`set`), and where a device is mounted then, power is on (`live`).
+pub fn runs_add_up()
+    ensures last { (its : Config) (cs : List Command) (told : ℕ) (old new : FlashState) (before after : Watched) →
+        (serves : ServesRun its cs told old new before after) →
+        moment_of new ≡ last_moment (moment_of old) serves.points }
+    ensures spends { (its : Config) (cs : List Command) (told : ℕ) (old new : FlashState)
+        (before after : Watched) → (serves : ServesRun its cs told old new before after) →
+        SpendsTold cs serves.replies old.told new.told }
+    ensures faults { (its : Config) (cs : List Command) (told : ℕ) (old new : FlashState)
+        (before after : Watched) → (serves : ServesRun its cs told old new before after) →
+        CountsBreaks serves.replies old new }
+    ensures mounts { (its : Config) (cs : List Command) (told : ℕ) (old new : FlashState)
+        (before after : Watched) → (serves : ServesRun its cs told old new before after) →
+        CountsMounts (first_point its serves.run.up serves.run.flash) serves.replies serves.points old new }
+    ensures up { (its : Config) (cs : List Command) (told : ℕ) (old new : FlashState) (before after : Watched) →
+        (serves : ServesRun its cs told old new before after) → IsSteady old →
+        (cs ≡ []) ⊎ (serves.run.up ≡ true) }
+    ensures set { (its : Config) (cs : List Command) (told : ℕ) (old new : FlashState) (before after : Watched) →
+        (serves : ServesRun its cs told old new before after) →
+        EndsThere its cs told old new before after serves → IfSome new.told (LastIsSet cs) }
+    ensures live { (its : Config) (cs : List Command) (told : ℕ) (old new : FlashState) (before after : Watched) →
+        (serves : ServesRun its cs told old new before after) →
+        EndsThere its cs told old new before after serves →
+        (last_state (first_state its serves.run.up (moment_of old)) serves.points).up ≡ true →
+        new.live ≡ true }
 {}

@@ -41,6 +41,7 @@ module _ (old on new : FlashState) (turned : TurnsOn old on) (moment : moment_of
     rose = subst (λ (s : FlashState). Rose s.faults new.faults) turned carries.cause;
     spends = subst (λ (s : FlashState). BothTell (Spends new.live) s.told new.told) turned
         (carries.spends (ap (λ (s : FlashState). s.live) turned));
+    carries = subst (λ (s : FlashState). Carries s new true) turned carries;
   }
 
 module _ {F : Type 0} (state : F → FlashState) (its : Config) (old on : F)
@@ -64,6 +65,7 @@ module _ {F : Type 0} (state : F → FlashState) (its : Config) (old on : F)
         quiet = quiet.quiet;
         reads = subst (λ (x : FlashState).
             (state s.flash).reads ≡ counted_times (engine.mount_reads its x) x.reads) turned mounts.reads;
+        carries = subst (λ (x : FlashState). Carries x (state s.flash) false) turned mounts.carries;
         always = subst (λ (p : Protocol). HoldsAlways state p s) (sym rule) always;
       }
 

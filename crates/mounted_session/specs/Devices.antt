@@ -1,7 +1,8 @@
 -- A device that was mounted on a flash, and why none was.
-use Rattle.std.specs.Prelude.{◌≡◌, true, []}
+use Rattle.std.specs.Prelude.{◌≡◌, true, false, []}
 use Rattle.tx_types.specs.Config.{shape_of}
 use Rattle.tx_types.specs.declared.config.Config.{Config}
+use Rattle.flash_model.specs.Calls.{Carries}
 use Rattle.flash_model.specs.Flash.{FlashState, counted_times}
 use Rattle.judged_records.specs.Images.{IsLeastImageBreach, array_in}
 use Rattle.scan_recovery.specs.Opening.{IsOpened}
@@ -12,7 +13,7 @@ use Rattle.tx_engine.specs.DeviceState.{DeviceState}
 use Rattle.tx_engine.specs.Opens.{mount_reads}
 use Rattle.tx_engine.specs.declared.device.MountError.{MountError}
 use Rattle.tx_engine.specs.declared.device.MountError.TheVariants as mount
-use Rattle.mounted_session.specs.Mounting.{MomentStays}
+use Rattle.mounted_session.specs.Mounting.{MomentStays, powered}
 use Rattle.mounted_session.specs.declared.device.Refusal.{Refusal}
 use Rattle.mounted_session.specs.declared.device.Refusal.TheVariants as refusal
 use Rattle.mounted_session.specs.declared.mounted.NotMounted.{NotMounted}
@@ -30,6 +31,7 @@ pub record MountsIn {F : Type 0} (state : F → FlashState) (its : Config) (flas
   pub still : MomentStays (state flash) (state s.flash)
   pub quiet : (state s.flash).faults ≡ (state flash).faults
   pub reads : (state s.flash).reads ≡ counted_times (mount_reads its (state flash)) (state flash).reads
+  pub carries : Carries (powered (state flash)) (state s.flash) false
   pub always : HoldsAlways state its.protocol s
 
 -- why a flash is refused: by its image, or for want of memory

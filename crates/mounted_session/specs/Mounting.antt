@@ -1,6 +1,6 @@
 -- What mounting a flash leaves of it, and why it fails.
-use Rattle.std.specs.Prelude.{◌≡◌, ◌≤◌}
-use Rattle.flash_model.specs.Calls.{BothTell, NoMoreToCome, Rose, Spends}
+use Rattle.std.specs.Prelude.{◌≡◌, ◌≤◌, true}
+use Rattle.flash_model.specs.Calls.{BothTell, Carries, NoMoreToCome, Rose, Spends}
 use Rattle.flash_model.specs.Flash.{FlashState}
 use Rattle.flash_model.specs.Operations.{moment_of}
 use Rattle.mounted_session.specs.declared.mounted.NotMounted.{NotMounted}
@@ -19,11 +19,16 @@ pub record StaysQuiet (old new : FlashState) : Type 0 where
   pub still : MomentStays old new
   pub quiet : new.faults ≡ old.faults
 
--- or a read met a fault
+-- the flash with power on, and all else as it was
+abbrev pub powered : FlashState → FlashState
+powered s = record s { live = true }
+
+-- or a read met a fault, once power was on
 pub record MeetsFault (old new : FlashState) : Type 0 where
   pub still : MomentStays old new
   pub rose : Rose old.faults new.faults
   pub spends : BothTell (Spends new.live) old.told new.told
+  pub carries : Carries (powered old) new true
 
 -- a flash is refused for this reason, and is as it was but for reads
 pub record IsRefused {W : Type 0} (refuses : W → Type 0) (old new : FlashState) (why : W) : Type 0 where

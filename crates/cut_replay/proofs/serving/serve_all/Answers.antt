@@ -176,11 +176,11 @@ returns-clause-unsound g c = λ init unsound same counted.
 pub returns-clause-serves : goal.returns-clause-serves
 returns-clause-serves g c = λ init begins.
     served_to_the_end g.F.Flash.state c.args.config init c.args.list.now c.loop-command.command-index
-    c.loop-command.cache.entries c.loop-command.session
+    c.loop-command.session
     c.close-2.result
     (record { text = g.W.Watch.text c.args.out.now; kept = g.W.Watch.kept c.args.out.now })
     (record { text = g.W.Watch.text c.loop-command.out; kept = g.W.Watch.kept c.loop-command.out })
-    c.loop-command-test.false c.loop-command.invariant.fits (c.loop-command.invariant.served init begins)
+    c.loop-command-test.false (c.loop-command.invariant.served init begins)
     c.close-2.ensures
 
 pub returns-clause-shape : goal.returns-clause-shape

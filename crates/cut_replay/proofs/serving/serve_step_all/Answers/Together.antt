@@ -1,5 +1,5 @@
 -- What going on with several transactions at once comes to on a mounted device.
-use Rattle.cut_replay.proofs.Common.{◌≡◌, ℕ, ◌<◌, ◌≤◌, Bool, true, false, List, Result, Ok, refl, sym, ap, ◌∙◌, subst, inl, inr, arith, Config, Protocol, Shape, shape_of, FlashState, BothTell, Spends, moment_of, mention, IsSoundImage, records_in, PageCacheState, CachedPage, IsSeen, HoldsAlways, DeviceState, Reply, MayLose, is_break, is_lost, IsCached, ServesHere, Fits, Serves, IsSpentBy, ServesSession, CachesSession, EndsServing, ServeError, DeviceSession}
+use Rattle.cut_replay.proofs.Common.{◌≡◌, ℕ, ◌<◌, ◌≤◌, Bool, true, false, not, List, Result, Ok, refl, sym, ap, ◌∙◌, subst, inl, inr, arith, Config, Protocol, Shape, shape_of, FlashState, moment_of, mention, IsSoundImage, records_in, PageCacheState, CachedPage, IsSeen, HoldsAlways, DeviceState, Reply, MayLose, is_break, is_cut, is_lost, IsCached, ServesHere, Fits, Serves, ServesSession, CachesSession, EndsServing, ServeError, DeviceSession}
 use Rattle.flash_model.specs.Moves.{MovesTogether}
 use Rattle.array_machine.specs.declared.answers.Moved.{Moved}
 use Rattle.tx_engine.specs.Batches.{MovesDevice, DropsDevice}
@@ -11,7 +11,6 @@ use Rattle.mounted_session.specs.declared.session.Session.TheVariants as session
 use Rattle.cut_replay.proofs.Devices.{cached_stays, exits_serve}
 use Rattle.cut_replay.proofs.Followed.{mounted_serves, was_done, left_ok, left_on, left_err}
 use Rattle.cut_replay.proofs.Losing.{FitsAfter, WasLost, again_serves, again_ends, again_fits, again_caches}
-use Rattle.cut_replay.proofs.Spending.{spends_cut, spends_dropped}
 
 -- ---- they went on
 
@@ -46,17 +45,6 @@ moved_session {F = F} state its protocol s t answer cache rule fits is moves =
     here cached is) refl refl follows
 
 -- ---- a fault was met
-
-dropped_spends : {F : Type 0} (state : F → FlashState) (s t : DeviceState F) (b : Bool) → (state s.flash).live ≡ true →
-    (state t.flash).live ≡ b →
-    DropsDevice state s t → BothTell (IsSpentBy command.StepAll (lost_reply b)) (state s.flash).told
-    (state t.flash).told
-dropped_spends state s t true on is drops =
-    spends_dropped command.StepAll (state s.flash).told (state t.flash).told drops.carries.no_more
-    (subst (λ (b : Bool). BothTell (Spends b) (state s.flash).told (state t.flash).told) is (drops.carries.spends on))
-dropped_spends state s t false on is drops =
-    spends_cut command.StepAll (state s.flash).told (state t.flash).told drops.carries.no_more
-    (subst (λ (b : Bool). BothTell (Spends b) (state s.flash).told (state t.flash).told) is (drops.carries.spends on))
 
 -- each page is mentioned in the image as often as it was seen at most
 dropped_seen : {F : Type 0} (state : F → FlashState) (protocol : Protocol) (s t : DeviceState F) →
@@ -95,12 +83,16 @@ dropped_lost state s t entries b is fits drops =
         still = λ still. cc;
       };
       carries = drops.carries;
-      spends = dropped_spends state s t b fits.live is drops;
+      cut = by_cut b ∙ ap not (sym is);
     }
   where
     by_lost : (b : Bool) → is_lost (lost_reply b) ≡ true
     by_lost true = refl
     by_lost false = refl
+
+    by_cut : (b : Bool) → is_cut (lost_reply b) ≡ not b
+    by_cut true = refl
+    by_cut false = refl
 
     by_may : (b : Bool) → MayLose command.StepAll s.machine.pages (lost_reply b)
     by_may true = inr (refl, refl)
