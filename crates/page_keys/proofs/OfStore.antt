@@ -1,2 +1,3 @@
 pub mod StoreReads
 pub mod Mentions
+pub mod Turns

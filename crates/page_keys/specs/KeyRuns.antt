@@ -6,15 +6,18 @@ use Rattle.std.specs.FinMap.{get}
 use Rattle.tx_types.specs.Config.{shape_of}
 use Rattle.tx_types.specs.declared.config.Config.{Config}
 use Rattle.flash_model.specs.Arms.{ArmsCut}
-use Rattle.flash_model.specs.Calls.{BothTell, Rose}
-use Rattle.flash_model.specs.Flash.{FlashState, Told}
+use Rattle.flash_model.specs.Calls.{BothTell, Carries, Rose}
+use Rattle.flash_model.specs.Flash.{FlashState, Told, counted_times}
 use Rattle.flash_model.specs.Moves.{Moves}
 use Rattle.flash_model.specs.Operations.{Moment, moment_of}
 use Rattle.flash_model.specs.declared.outcome.Outcome.{Outcome}
 use Rattle.record_list.specs.Records.{mention}
 use Rattle.judged_records.specs.Images.{IsSoundImage, array_in, records_in}
 use Rattle.array_runs.specs.Run.{MayBeSpent}
+use Rattle.tx_engine.specs.Opens.{mount_reads}
+use Rattle.mounted_session.specs.Mounting.{powered}
 use Rattle.mounted_session.specs.Spending.{IsSpent}
+use Rattle.page_keys.specs.BucketWrites.{WritesBuckets}
 use Rattle.page_keys.specs.Buckets.{EncodesMap}
 use Rattle.page_keys.specs.KeyMaps.{KeyMap, apply, seen_by}
 use Rattle.page_keys.specs.Puts.{put_refusal}
@@ -26,15 +29,17 @@ use Rattle.page_keys.specs.declared.command.KeyCommand.TheVariants as command
 use Rattle.page_keys.specs.declared.key_reply.KeyReply.{KeyReply}
 use Rattle.page_keys.specs.declared.key_reply.KeyReply.TheVariants as reply
 
--- where a run stands: the map, and what the flash is when the reply is told
+-- where a run stands when the reply is told: the map, whether the store is open, and what the flash is
 pub record KeyPoint : Type 0 where
   pub keys : KeyMap
+  pub up : Bool
   pub flash : FlashState
 
--- the image is sound, and its array shows the map
+-- the image is sound, and its array shows the map; while the store is open power is on
 pub record IsKeyPoint (its : Config) (p : KeyPoint) : Type 0 where
   pub sound : IsSoundImage its.protocol its.logical (shape_of its) p.flash.image
   pub shows : EncodesMap its (array_in its.protocol its.logical p.flash.image) p.keys
+  pub live : p.up ≡ true → p.flash.live ≡ true
 
 -- the map, the image and what was counted of programs and erases are as before
 pub record Stays (old new : KeyPoint) : Type 0 where
@@ -71,10 +76,11 @@ pub record BreaksPut (its : Config) (spent : ℕ → Bool) (cs : List Change) (o
   pub whole : (new.keys ≡ old.keys) ⊎ TakesPut its spent cs old new
   pub moves : MovesTo its old true new
 
--- a put, where these pages are spent, by its reply
+-- A put, where these pages are spent, by its reply. One that is stored has written each bucket that a key falls in.
 abbrev pub DoesPut : Config → (ℕ → Bool) → List Change → KeyPoint → KeyReply → KeyPoint → Type 0
 DoesPut its spent cs old (reply.Stored changes) new =
     TakesPut its spent cs old new × (changes ≡ length cs) × MovesTo its old false new
+    × WritesBuckets its cs (moment_of old.flash) (moment_of new.flash)
 DoesPut its spent cs old reply.RefusedEmpty new = RefusesPut its spent cs refused.Empty old new
 DoesPut its spent cs old (reply.RefusedRepeated key) new =
     (i : ℕ) × RefusesPut its spent cs (refused.Repeated i) old new × (key ≡ key_at cs i)
@@ -111,7 +117,7 @@ DoesKeys its spent (command.Put changes) old r new = DoesPut its spent changes o
 DoesKeys its spent (command.Get key) old r new = DoesGet key old r new
 DoesKeys its spent (command.Cut count what) old r new = DoesArm count what old r new
 
--- ---- causes
+-- ---- opening the store
 
 abbrev pub is_key_cut : KeyReply → Bool
 is_key_cut reply.Cut = true
@@ -131,6 +137,44 @@ abbrev pub arms_key_cut : KeyCommand → Bool
 arms_key_cut (command.Cut count what) = true
 arms_key_cut _ = false
 
+-- The store is opened on a flash: power is turned on where it is off, and the flash is read. Where no read meets a fault
+-- the store is open, by the reads of one mount and perhaps more. Where one does it is not, and nothing else is done.
+pub record OpensFlash (its : Config) (up : Bool) (old new : FlashState) : Type 0 where
+  pub carries : Carries (powered old) new (not up)
+  pub moment : moment_of new ≡ moment_of old
+  pub reads : up ≡ true → (more : ℕ)
+      × (new.reads ≡ counted_times more (counted_times (mount_reads its old) old.reads))
+
+-- the store could not be opened: this mount met a fault, and the command was not done
+pub record NotDone (its : Config) (old : KeyPoint) (r : KeyReply) (new : KeyPoint) : Type 0 where
+  pub broken : is_key_break r ≡ true
+  pub opens : OpensFlash its false old.flash new.flash
+  pub keys : new.keys ≡ old.keys
+  pub up : new.up ≡ false
+
+-- The command was done on the open store, which is closed where power was cut or a fault was met: exactly where the
+-- reply tells one.
+pub record IsDone (its : Config) (spent : ℕ → Bool) (c : KeyCommand) (old : KeyPoint) (r : KeyReply)
+    (new : KeyPoint) : Type 0 where
+  pub does : DoesKeys its spent c old r new
+  pub calls : Carries old.flash new.flash (is_key_break r)
+  pub up : new.up ≡ not (is_key_break r)
+
+-- where the store is not open it is opened first: that meets a fault, or the command is done
+abbrev pub OpensFirst : Config → (ℕ → Bool) → KeyCommand → KeyPoint → KeyReply → KeyPoint → Type 0
+OpensFirst its spent c old r new =
+    NotDone its old r new
+    ⊎ ((opened : FlashState) × OpensFlash its true old.flash opened
+    × IsDone its spent c (record { keys = old.keys; up = true; flash = opened }) r new)
+
+-- an arm needs no store
+abbrev pub DoesCommand : Config → (ℕ → Bool) → KeyCommand → KeyPoint → KeyReply → KeyPoint → Type 0
+DoesCommand its spent c old r new =
+    MatchBool (arms_key_cut c) (DoesKeys its spent c old r new × (new.up ≡ old.up))
+    (MatchBool old.up (IsDone its spent c old r new) (OpensFirst its spent c old r new))
+
+-- ---- causes
+
 -- how many cuts a command arms
 abbrev pub cuts_armed : KeyCommand → ℕ
 cuts_armed c = if arms_key_cut c then 1 else 0
@@ -148,7 +192,7 @@ IsKeySpent c r old new = IsSpent (is_key_cut r) (is_key_fault r) (cuts_armed c) 
 -- a command on a flash, its reply, and where that leaves the run
 pub record ServesKeys (its : Config) (spent : ℕ → Bool) (c : KeyCommand) (old : KeyPoint)
     (r : KeyReply) (new : KeyPoint) : Type 0 where
-  pub does : DoesKeys its spent c old r new
+  pub does : DoesCommand its spent c old r new
   pub causes : arms_key_cut c ≡ false → IsCaused r old.flash new.flash
   pub spends : BothTell (IsKeySpent c r) old.flash.told new.flash.told
 

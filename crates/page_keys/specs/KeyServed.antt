@@ -4,9 +4,10 @@ use Rattle.tx_types.specs.declared.config.Config.{Config}
 use Rattle.flash_model.specs.Calls.{BothTell, NoMoreToCome}
 use Rattle.flash_model.specs.Flash.{FlashState, IsSteady}
 use Rattle.flash_model.specs.Operations.{moment_of}
+use Rattle.mounted_session.specs.Sessions.{is_mounted}
 use Rattle.page_keys.specs.KeyMaps.{KeyMap}
 use Rattle.page_keys.specs.KeyReplies.{key_texts}
-use Rattle.page_keys.specs.KeyRuns.{KeyPoint, IsKeyRun, AreFewBreaks, last_point, mentions_in}
+use Rattle.page_keys.specs.KeyRuns.{KeyPoint, IsKeyRun, AreFewBreaks, OpensFlash, last_point, mentions_in}
 use Rattle.page_keys.specs.KeySessions.{IsKeyImage, IsWhy, KeySession, StandsAt, flash_in}
 use Rattle.page_keys.specs.declared.command.KeyCommand.{KeyCommand}
 use Rattle.page_keys.specs.declared.key_error.KeyServeError.{KeyServeError}
@@ -25,15 +26,18 @@ pub record BeginsKeys {F : Type 0} (state : F → FlashState) (its : Config) (in
     (s : KeySession F) : Type 0 where
   pub image : IsKeyImage its init
   pub first : IsFirstFlash init (state (flash_in s))
+  pub opened : is_mounted s ≡ true → OpensFlash its true init (state (flash_in s))
   pub keys : KeyMap
   pub stands : StandsAt state its (mentions_in its (moment_of init)) keys s
 
--- There is one run over these commands. Its last point is where the flash is that comes back. Of its replies the first
+-- There is one run over these commands, and where the store is open at its first point it was opened before. Its last
+-- point is where the flash is that comes back. Of its replies the first
 -- `told` were told.
 pub record ServesKeyRun (its : Config) (cs : List KeyCommand) (told : ℕ) (old new : FlashState)
     (before after : List ℕ) : Type 0 where
   pub first : KeyPoint
   pub begins : IsFirstFlash old first.flash
+  pub opened : first.up ≡ true → OpensFlash its true old first.flash
   pub replies : List KeyReply
   pub points : List KeyPoint
   pub run : IsKeyRun its first cs replies points

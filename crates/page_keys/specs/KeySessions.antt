@@ -6,16 +6,17 @@ use Rattle.tx_types.specs.declared.config.Protocol.{Protocol}
 use Rattle.flash_model.specs.Arms.{ArmsCut}
 use Rattle.flash_model.specs.declared.outcome.Outcome.{Outcome}
 use Rattle.flash_model.specs.Calls.{Carries}
-use Rattle.flash_model.specs.Flash.{FlashState}
+use Rattle.flash_model.specs.Flash.{FlashState, counted_times}
 use Rattle.flash_model.specs.Operations.{moment_of}
 use Rattle.judged_records.specs.Images.{IsSoundImage, IsLeastImageBreach, array_in}
 use Rattle.array_runs.specs.Run.{MayBeSpent}
 use Rattle.tx_engine.specs.Always.{IsSeen, HoldsAlways}
 use Rattle.array_machine.specs.ArrayState.{idle}
 use Rattle.tx_engine.specs.Naming.{is_spent}
-use Rattle.mounted_session.specs.Mounting.{IsRefused, StaysQuiet}
+use Rattle.tx_engine.specs.Opens.{mount_reads}
+use Rattle.mounted_session.specs.Mounting.{IsRefused, StaysQuiet, powered}
 use Rattle.mounted_session.specs.Sessions as sessions
-use Rattle.mounted_session.specs.Sessions.{BothOf, EachOf}
+use Rattle.mounted_session.specs.Sessions.{BothOf, EachOf, is_mounted}
 use Rattle.mounted_session.specs.declared.device.Refusal.{Refusal}
 use Rattle.mounted_session.specs.declared.device.Refusal.TheVariants as refusal
 use Rattle.mounted_session.specs.declared.mounted.NotMounted.{NotMounted}
@@ -46,7 +47,7 @@ flash_in s = sessions.flash_in (λ k. k.device.flash) s
 
 -- the point of a run that a session is at, with this map
 abbrev pub point_of : {F : Type 0} → (F → FlashState) → KeyMap → KeySession F → KeyPoint
-point_of state m s = record { keys = m; flash = state (flash_in s) }
+point_of state m s = record { keys = m; up = is_mounted s; flash = state (flash_in s) }
 
 -- the image of a flash is sound, and each page is a bucket
 pub record IsKeyImage (its : Config) (s : FlashState) : Type 0 where
@@ -138,6 +139,9 @@ pub record Opens {F : Type 0} (state : F → FlashState) (its : Config) (flash :
       ((page : ℕ) → page < its.logical → mentions_in its (moment_of (state flash)) page ≤ seen page) →
       IsSeen seen k.device
   pub still : StaysQuiet (state flash) (state k.device.flash)
+  pub reads : (more : ℕ) × ((state k.device.flash).reads
+      ≡ counted_times more (counted_times (mount_reads its (state flash)) (state flash).reads))
+  pub carries : Carries (powered (state flash)) (state k.device.flash) false
 
 -- what opening a store over a flash comes to: a store, or a fault that a read met
 abbrev pub Mounts : {F : Type 0} → (F → FlashState) → Config → F → KeySession F → Type 0
@@ -170,13 +174,14 @@ reply_of cs (refused.Spent page) = Some (reply.RefusedSpent page)
 reply_of cs refused.Fault = Some reply.Fault
 reply_of cs refused.Memory = None
 
--- What a command that is no arm does on a store, with this reply unless power was cut.
+-- What a command that is no arm does on a store, with this reply unless power was cut, whether or not the store is open
+-- afterwards.
 pub record DoesHere {F : Type 0} (state : F → FlashState) (c : KeyCommand) (m : KeyMap)
     (old new : KeyStoreState F) (r : KeyReply) : Type 0 where
   pub left : KeyMap
-  pub does : DoesKeys old.device.config (is_spent old.device.noted.mentions) c
-      (record { keys = m; flash = state old.device.flash }) r
-      (record { keys = left; flash = state new.device.flash })
+  pub does : (up : Bool) → DoesKeys old.device.config (is_spent old.device.noted.mentions) c
+      (record { keys = m; up = true; flash = state old.device.flash }) r
+      (record { keys = left; up = up; flash = state new.device.flash })
   pub shows : is_key_fault r ≡ false → EncodesMap new.device.config new.device.machine.pages left
   pub image : is_key_fault r ≡ true → EncodesMap new.device.config
       (array_in new.device.config.protocol new.device.config.logical (state new.device.flash).image)

@@ -1,3 +1,4 @@
+pub mod BucketWrites
 pub mod Buckets
 pub mod Entries
 pub mod Groups

@@ -1,12 +1,14 @@
 -- What a put answers, and what it leaves.
-use Rattle.std.specs.Prelude.{◌≡◌, ◌⊎◌, ◌≤◌, ◌+◌, ℕ, true, false, List, length, None, Some, IsSome, IfErr, Result, Ok, Err}
+use Rattle.std.specs.Prelude.{◌≡◌, ◌⊎◌, ◌<◌, ◌≤◌, ◌+◌, ℕ, true, false, List, length, None, Some, IsSome, IfErr, Result, Ok, Err}
 use Rattle.flash_model.specs.Flash.{FlashState}
 use Rattle.flash_model.specs.Calls.{Carries}
 use Rattle.flash_model.specs.Moves.{FlashMoves}
 use Rattle.flash_model.specs.Operations.{moment_of}
 use Rattle.judged_records.specs.Images.{array_in}
+use Rattle.judged_records.specs.IndexState.{mention_of}
 use Rattle.tx_engine.specs.Always.{IsSeen}
 use Rattle.tx_engine.specs.Naming.{is_spent}
+use Rattle.page_keys.specs.BucketWrites.{WritesBuckets}
 use Rattle.page_keys.specs.Buckets.{EncodesMap}
 use Rattle.page_keys.specs.KeyMaps.{KeyMap, apply, pages_of, seen_by}
 use Rattle.page_keys.specs.Putting.{is_failed, is_put_fault}
@@ -27,7 +29,8 @@ pub record StaysPut {F : Type 0} (state : F → FlashState) (old new : KeyStoreS
   pub seen : (seen : ℕ → ℕ) → IsSeen seen old.device → IsSeen seen new.device
   pub usable : new.broken ≡ false
 
--- all changes are made
+-- All changes are made. Each page that a key falls in is mentioned once more, and no other page: its bucket was
+-- written, also where none of its bytes changed.
 pub record MakesAll {F : Type 0} (state : F → FlashState) (old new : KeyStoreState F) (m : KeyMap)
     (cs : List Change) : Type 0 where
   pub taken : put_refusal old.device.config (is_spent old.device.noted.mentions) m cs ≡ None
@@ -35,6 +38,10 @@ pub record MakesAll {F : Type 0} (state : F → FlashState) (old new : KeyStoreS
   pub moved : Moved state old.device new.device false
   pub seen : (seen : ℕ → ℕ) → IsSeen seen old.device →
       IsSeen (seen_by old.device.config.logical cs seen) new.device
+  pub mentions : (page : ℕ) → page < old.device.config.logical → mention_of new.device.noted page
+      ≡ seen_by old.device.config.logical cs (mention_of old.device.noted) page
+  pub written : WritesBuckets old.device.config cs (moment_of (state old.device.flash))
+      (moment_of (state new.device.flash))
   pub usable : new.broken ≡ false
 
 -- the image shows the map as it was, or with all changes, which were not refused

@@ -1,11 +1,15 @@
 -- Writing the pages of a put as one transaction.
-use Rattle.std.specs.Prelude.{◌≡◌, ◌⊎◌, ℕ, ◌+◌, Bool, true, false, List, [], ◌∷◌, None, Some, if◌then◌else◌}
+use Rattle.std.specs.Prelude.{◌≡◌, ◌⊎◌, ℕ, ◌+◌, ◌<◌, Bool, true, false, List, [], ◌∷◌, map, All, None, Some, if◌then◌else◌}
 use Rattle.std.specs.List.{list_any}
 use Rattle.tx_types.specs.Batch.{PageWrite}
 use Rattle.flash_model.specs.Flash.{FlashState}
 use Rattle.flash_model.specs.Calls.{Carries}
 use Rattle.flash_model.specs.Moves.{FlashMoves}
-use Rattle.judged_records.specs.Images.{array_in}
+use Rattle.flash_model.specs.Operations.{moment_of}
+use Rattle.record_list.specs.Records.{mention}
+use Rattle.judged_records.specs.Images.{array_in, records_in}
+use Rattle.judged_records.specs.IndexState.{mention_of}
+use Rattle.open_table.specs.OpenTransactionsState.{next_name}
 use Rattle.array_machine.specs.ArrayState.{ArrayState, Pages, put, idle}
 use Rattle.tx_engine.specs.Always.{IsSeen}
 use Rattle.array_machine.specs.Submit.{spent_page, is_of}
@@ -13,6 +17,7 @@ use Rattle.tx_engine.specs.Naming.{is_spent}
 use Rattle.tx_engine.specs.DeviceState.{DeviceState}
 use Rattle.array_machine.specs.declared.mark.Mark.TheVariants.{Plain}
 use Rattle.array_machine.specs.declared.answers.SubmitError.TheVariants as submit
+use Rattle.page_keys.specs.BucketWrites.{WritesInTurn, linked}
 use Rattle.page_keys.specs.declared.answers.PutError.{PutError}
 use Rattle.page_keys.specs.declared.answers.PutError.TheVariants as refused
 
@@ -28,13 +33,21 @@ pub record Moved {F : Type 0} (state : F → FlashState) (old new : DeviceState 
   pub moves : FlashMoves (state old.flash) (state new.flash) broken
   pub carries : Carries (state old.flash) (state new.flash) broken
 
--- the array has all the writes, and nothing is open
+-- The array has all the writes, and nothing is open. Each page of them is mentioned once more, and no other page. The
+-- records were written one after another, each one version above the mention of its page, which is above all that the
+-- image mentioned of it.
 pub record Writes {F : Type 0} (state : F → FlashState) (old new : DeviceState F)
     (writes : List PageWrite) : Type 0 where
   pub unspent : spent_page (is_spent old.noted.mentions) writes ≡ None
   pub machine : new.machine ≡ idle (put old.machine.pages writes)
   pub moved : Moved state old new false
   pub seen : (seen : ℕ → ℕ) → IsSeen seen old → IsSeen (seen_more seen writes) new
+  pub mentions : (page : ℕ) → page < old.config.logical →
+      mention_of new.noted page ≡ seen_more (mention_of old.noted) writes page
+  pub above : All (λ name. mention (records_in old.config.protocol (state old.flash).image) name.page < name.version)
+      (map (next_name old.noted) writes)
+  pub turns : WritesInTurn old.config (moment_of (state old.flash)) (linked (map (next_name old.noted) writes))
+      (moment_of (state new.flash))
 
 -- nothing changed but what is pinned
 pub record Refuses {F : Type 0} (old new : DeviceState F) : Type 0 where

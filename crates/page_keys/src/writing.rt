@@ -1,5 +1,6 @@
 ghost use Rattle.std.specs.Prelude.{◌≡◌, ℕ, false, [], None, OnOk, IfErr};
-ghost use Rattle.tx_engine.specs.DeviceState.{limits_of};
+ghost use Rattle.tx_engine.specs.Always.{HoldsAlways};
+ghost use Rattle.tx_engine.specs.DeviceState.{Stands, limits_of};
 ghost use Rattle.array_machine.specs.Submit.{first_refusals};
 ghost use Rattle.page_keys.specs.Writing.{Writes, WritesNot};
 
@@ -7,7 +8,7 @@ use crate::answers::PutError;
 use flash_model::Flash;
 use record_list::CommitRule;
 use tx_engine::{Device, Progress, SubmitError, device_facts};
-use tx_types::Batch;
+use tx_types::{Batch, Config};
 
 /// Writes a batch as one transaction, on a device on which nothing is open. Only a page that has no version left is
 /// refused.
@@ -23,17 +24,18 @@ pub(crate) fn write<F: Flash, R: CommitRule>(
     ensures not_written { IfErr result (WritesNot F.state device.old device.new batch.now.entries) }
     ensures kept { device.new.dropped ≡ false }
 {
+    standing_facts(device);
     if let Err(refusal) = device.submit(0, batch) {
         return Err(spent_refusal(refusal));
     }
-    device_facts(device);
+    standing_facts(device);
     'steps: loop {
         match device.step(0) {
             Ok(Progress::Wrote { .. }) => {
-                device_facts(device);
+                standing_facts(device);
             }
             Ok(Progress::Done) => {
-                device_facts(device);
+                standing_facts(device);
                 return Ok(());
             }
             Err(_) => {
@@ -42,6 +44,17 @@ pub(crate) fn write<F: Flash, R: CommitRule>(
             }
         }
     }
+}
+
+/// The configuration of a device that is not dropped, that it stands for its array, and what holds of it at every
+/// moment.
+fn standing_facts<F: Flash, R: CommitRule>(device: &Device<F, R>) -> Config
+    requires kept { device.now.dropped ≡ false }
+    ensures stands { Stands F.state device.now }
+    ensures always { HoldsAlways F.state R.protocol device.now }
+{
+    device.config();
+    device_facts(device)
 }
 
 /// The refusal of a page that has no version left.

@@ -1,8 +1,16 @@
 -- What a put gives, by what its parts gave.
-use Rattle.page_keys.proofs.Common.{◌≡◌, ◌⊎◌, ◌+◌, ◌<◌, ◌≤◌, ℕ, Bool, true, false, List, [], ◌∷◌, ◌++◌, length, if◌then◌else◌, Option, Some, None, Result, Ok, Err, option_map, refl, sym, ap, subst, ◌∙◌, inl, inr, arith, nat_le, list_any, find, IsErrAnd, FlashState, Contents, Carries, Moment, moment_of, Carries-nothing, Carries-then, PageWrite, Config, Protocol, array_in, ArrayState, Pages, Represents, put, idle, IsSeen, seen_flash, is_spent, DeviceState, EncodesMap, KeyMap, apply, pages_of, PutGives, IsFull, is_put_fault, early_refusal, has_key, repeated, KeyStoreState, OnlyReads, OnOk, IsErr, spent_page, put_writes, Moved, PutError, Change}
+use Rattle.page_keys.proofs.Common.{◌≡◌, ◌⊎◌, ◌+◌, ◌<◌, ◌≤◌, ℕ, Bool, true, false, ◌||◌, ◌==◌, List, [], ◌∷◌, ◌++◌, length, map, if◌then◌else◌, Option, Some, None, Result, Ok, Err, option_map, refl, sym, ap, subst, ◌∙◌, inl, inr, arith, nat_le, list_any, find, IsErrAnd, FlashState, Contents, Carries, Moment, moment_of, Carries-nothing, Carries-then, PageWrite, Config, Protocol, array_in, ArrayState, Pages, Represents, put, idle, IndexState, IsSeen, seen_flash, is_spent, DeviceState, EncodesMap, KeyMap, apply, is_touched, pages_of, PutGives, IsFull, is_put_fault, early_refusal, has_key, repeated, KeyStoreState, OnlyReads, OnOk, IsErr, spent_page, put_writes, write_of, Moved, PutError, Change}
 use Rattle.std.specs.Option.{option_or}
 use Rattle.flash_model.proofs.MoveLemmas.{FlashMoves-nothing, FlashMoves-then}
 use Rattle.std.proofs.lemmas.List.FromFn.{length-map-range_with_len}
+use Rattle.std.specs.Prelude.{All}
+use Rattle.tx_types.specs.declared.record.Link.{Link}
+use Rattle.record_list.specs.Records.{mention}
+use Rattle.judged_records.specs.Images.{records_in}
+use Rattle.judged_records.specs.IndexState.{mention_of}
+use Rattle.open_table.specs.OpenTransactionsState.{next_name}
+use Rattle.array_machine.specs.Submit.{is_of}
+use Rattle.page_keys.specs.BucketWrites.{WritesBuckets, WritesInTurn, linked}
 use Rattle.page_keys.specs.KeyMaps.{seen_by}
 use Rattle.page_keys.specs.PutAnswers.{StaysPut, MakesAll, MakesAllOrNone, ReadsFirst}
 use Rattle.page_keys.specs.Puts as puts
@@ -11,8 +19,25 @@ use Rattle.std.specs.Prelude.{IfErr, IsSome}
 use Rattle.array_machine.specs.declared.answers.SubmitError.TheVariants as submit
 use Rattle.page_keys.specs.Writing.{Writes, WritesNot, Breaks, seen_more}
 use Rattle.page_keys.proofs.OfStore.Mentions.{put_seen, seen_by_least, seen_later, seen_same}
-use Rattle.page_keys.proofs.OfPut.PutWrites.{spent_pages, map_none}
+use Rattle.page_keys.proofs.OfPut.PutWrites.{among, among_passing, spent_pages, map_none}
 use Rattle.page_keys.specs.declared.answers.PutError.TheVariants as refused
+
+-- the pages of what is written are mentioned once more, and no others
+any_written : (its : Config) (n : KeyMap) (page : ℕ) (ps : List ℕ) →
+    list_any (is_of page) (map (write_of its n) ps) ≡ among page ps
+any_written its n page [] = refl
+any_written its n page (p ∷ ps) = ap (λ b. (p == page) || b) (any_written its n page ps)
+
+seen_exactly : (its : Config) (m : KeyMap) (cs : List Change) (seen : ℕ → ℕ) (page : ℕ) → page < its.logical →
+    seen_more seen (put_writes its m cs) page ≡ seen_by its.logical cs seen page
+seen_exactly its m cs seen page lt =
+    ap (λ b. if b then seen page + 1 else seen page) (any_written its (apply m cs) page (pages_of its.logical cs)
+    ∙ among_passing (is_touched its.logical cs) page 0 its.logical (omega arith) (omega (arith, lt)))
+
+named_pages : (its : Config) (m : KeyMap) (n : IndexState) (ps : List ℕ) →
+    map (λ (name : Link). name.page) (map (next_name n) (map (write_of its m) ps)) ≡ ps
+named_pages its m n [] = refl
+named_pages its m n (p ∷ ps) = ap (λ (l : List ℕ). p ∷ l) (named_pages its m n ps)
 
 -- a refusal that the changes alone give
 abbrev is_early : PutError → Bool
@@ -261,6 +286,39 @@ module _ {F : Type 0} (state : F → FlashState) (old new : KeyStoreState F) (t 
       (put_seen old.device.config m cs seen page))
       (more seen (subst (IsSeen seen) (sym reads.stays) (seen_flash seen old.device t.flash h)))
 
+  names_are : map (λ (name : Link). name.page) (map (next_name t.noted) ws) ≡ pages_of old.device.config.logical cs
+  names_are =
+      ap (λ (l : List PageWrite). map (λ (name : Link). name.page) (map (next_name t.noted) l)) are
+      ∙ named_pages old.device.config (apply m cs) t.noted (pages_of old.device.config.logical cs)
+
+  -- each bucket that a key falls in was written
+  written_each : Writes state t new.device ws → WritesBuckets old.device.config cs
+      (moment_of (state old.device.flash)) (moment_of (state new.device.flash))
+  written_each writes =
+      let names = map (next_name t.noted) ws in
+      record {
+        names = names;
+        pages = names_are;
+        above = subst (λ (x : Moment). All (λ (name : Link).
+            mention (records_in old.device.config.protocol x.image) name.page < name.version) names) reads.moment
+            (subst (λ (c : Config). All (λ (name : Link).
+            mention (records_in c.protocol (state t.flash).image) name.page < name.version) names) its_config
+            writes.above);
+        turns = subst (λ (x : Moment). WritesInTurn old.device.config x (linked names)
+            (moment_of (state new.device.flash))) reads.moment
+            (subst (λ (c : Config). WritesInTurn c (moment_of (state t.flash)) (linked names)
+            (moment_of (state new.device.flash))) its_config writes.turns);
+      }
+
+  mentioned_more : Writes state t new.device ws → (page : ℕ) → page < old.device.config.logical →
+      mention_of new.device.noted page
+      ≡ seen_by old.device.config.logical cs (mention_of old.device.noted) page
+  mentioned_more writes page lt =
+      writes.mentions page (subst (λ (c : Config). page < c.logical) (sym its_config) lt)
+      ∙ ap (λ (s : DeviceState F). seen_more (mention_of s.noted) ws page) reads.stays
+      ∙ ap (λ (l : List PageWrite). seen_more (mention_of old.device.noted) l page) are
+      ∙ seen_exactly old.device.config m cs (mention_of old.device.noted) page lt
+
   pub all_made : Writes state t new.device ws → new.broken ≡ false → MakesAll state old new m cs
   all_made writes usable = record {
     taken = none_spent writes.unspent;
@@ -269,6 +327,8 @@ module _ {F : Type 0} (state : F → FlashState) (old new : KeyStoreState F) (t 
         (sym (writes.machine ∙ ap (λ (s : ArrayState). idle (put s.pages ws)) its_machine)) made);
     moved = moved_on false writes.moved;
     seen = written_seen writes.seen;
+    mentions = mentioned_more writes;
+    written = written_each writes;
     usable = usable;
   }
 

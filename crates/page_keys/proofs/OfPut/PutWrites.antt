@@ -54,7 +54,7 @@ module _ (t : ℕ → Bool) where
   head_among q n false = not_among q (q + 1) n (omega arith)
 
   -- a number is among those of a range that pass where it passes
-  among_passing : (q a n : ℕ) → a ≤ q → q < a + n →
+  pub among_passing : (q a n : ℕ) → a ≤ q → q < a + n →
       among q (filter t (range_with_len a n)) ≡ t q
   among_passing q a zero least most = absurd (omega arith)
   among_passing q a (suc n) least most =

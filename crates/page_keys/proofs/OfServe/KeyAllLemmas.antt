@@ -7,7 +7,7 @@ use Rattle.std.proofs.lemmas.Grind.{flat_map-append}
 use Rattle.judged_records.specs.Images.{IsLeastImageBreach}
 use Rattle.judged_records.proofs.OfNotes.OneBreach.{sound_unbroken}
 use Rattle.page_keys.specs.KeyReplies.{key_text, key_texts}
-use Rattle.page_keys.specs.KeyRuns.{IsKeyRun, last_point}
+use Rattle.page_keys.specs.KeyRuns.{IsKeyRun, OpensFlash, last_point}
 use Rattle.page_keys.specs.KeyServed.{IsFirstFlash, RefusesKeys, ServesKeyRun, ServesScript}
 use Rattle.page_keys.specs.KeySessions.{IsWhy, StandsAt, point_of}
 use Rattle.page_keys.specs.Stores.{IsFirstBad}
@@ -60,7 +60,7 @@ module _ {F : Type 0} (state : F → FlashState) (its : Config) where
       StandsAt state its seen m s → IsKeyPoint its (point_of state m s)
   point_is (session.Mounted k) seen m fits stands = mounted_point state its k fits m stands.shows
   point_is (session.Unmounted flash) seen m fits stands =
-      record { sound = stands.sound; shows = stands.shows }
+      record { sound = stands.sound; shows = stands.shows; live = λ up. cc }
 
   -- and its image
   image_is : (s : KeySession F) (seen : ℕ → ℕ) (m : KeyMap) → Fits state its s →
@@ -83,6 +83,7 @@ module _ {F : Type 0} (state : F → FlashState) (its : Config) where
       (before after : List ℕ) : Type 0 where
     pub first : KeyPoint
     pub begins : IsFirstFlash init first.flash
+    pub opened : first.up ≡ true → OpensFlash its true init first.flash
     pub replies : List KeyReply
     pub points : List KeyPoint
     pub run : IsKeyRun its first cs replies points
@@ -102,6 +103,7 @@ module _ {F : Type 0} (state : F → FlashState) (its : Config) where
       record {
         first = point_of state begins.keys s;
         begins = begins.first;
+        opened = begins.opened;
         replies = [];
         points = [];
         run = record { begins = point; runs = tt };
@@ -123,6 +125,7 @@ module _ {F : Type 0} (state : F → FlashState) (its : Config) where
         record {
           first = served.first;
           begins = served.begins;
+          opened = served.opened;
           replies = served.replies ++ r ∷ [];
           points = served.points ++ point_of state inside.left t ∷ [];
           run = record {
@@ -149,6 +152,7 @@ module _ {F : Type 0} (state : F → FlashState) (its : Config) where
     run_of told now text = record {
       first = served.first;
       begins = served.begins;
+      opened = served.opened;
       replies = served.replies;
       points = served.points;
       run = served.run;

@@ -1,6 +1,6 @@
 -- The session that serving a key script begins with.
-use Rattle.page_keys.proofs.Common.{◌≡◌, ◌≤◌, ℕ, Bool, true, false, List, Option, Some, None, Result, Ok, Err, refl, sym, ap, ◌∙◌, subst, arith, OnOk, Config, Shape, checked, shape_of, FlashState, Told, BothTell, NoMoreToCome, Spends, Moment, moment_of, ArrayState, Pages, IsSoundImage, array_in, AreBuckets, EncodesMap, KeyMap, mentions_in, BeginsKeys, Ends, IsKeyImage, KeyCommand, KeyServeError, KeySession}
-use Rattle.std.specs.Prelude.{IfOk, IsSomeAnd, ◌<◌}
+use Rattle.page_keys.proofs.Common.{◌≡◌, ◌≤◌, ℕ, true, List, Result, Ok, Err, refl, sym, ap, ◌∙◌, subst, arith, OnOk, Config, Shape, checked, shape_of, FlashState, Moment, moment_of, ArrayState, Pages, IsSoundImage, array_in, AreBuckets, EncodesMap, KeyMap, mentions_in, BeginsKeys, Ends, IsKeyImage, KeyCommand, KeyServeError, KeySession}
+use Rattle.std.specs.Prelude.{◌<◌}
 use Rattle.flash_model.specs.Flash.{IsSteady}
 use Rattle.page_keys.specs.KeyServed.{ServesScript}
 use Rattle.page_keys.specs.KeySessions.{Mounts, StandsUnmounted}
@@ -14,7 +14,7 @@ use Rattle.page_keys.specs.KeySessions.{Fits, flash_in, Opens}
 use Rattle.page_keys.specs.Stores.{KeyStoreState}
 use Rattle.page_keys.proofs.OfPut.Existing.{shows_some}
 use Rattle.page_keys.proofs.OfServe.KeyAllLemmas.{ended_first, served_none}
-use Rattle.page_keys.proofs.OfServe.KeyServeLemmas.{key_image}
+use Rattle.page_keys.proofs.OfServe.KeyServeLemmas.{key_image, opens_flash}
 
 module _ {F : Type 0} (state : F → FlashState) (its : Config) (flash : F) where
   -- an image that stays is an image of keys before and after
@@ -53,6 +53,7 @@ module _ {F : Type 0} (state : F → FlashState) (its : Config) (flash : F) wher
           told = opens.still.still.told;
           steady = λ steady. (opens.fits.live, opens.still.quiet);
         };
+        opened = λ up. opens_flash state its flash k opens;
         keys = shown.0;
         stands = record {
           shows = subst (λ (p : Pages). EncodesMap its p shown.0)
@@ -70,6 +71,7 @@ module _ {F : Type 0} (state : F → FlashState) (its : Config) (flash : F) wher
           steady = λ steady. absurd (none_spent (state flash).told (state new).told
               (state new).live steady.none meets.spends);
         };
+        opened = λ up. cc;
         keys = shown.0;
         stands = stands_still state its flash (state new) meets.still.moment image shown.0 shown.1;
       }
@@ -85,6 +87,7 @@ module _ {F : Type 0} (state : F → FlashState) (its : Config) (flash : F) wher
           told = no_more_same (state flash).told;
           steady = λ steady. (steady.live, refl);
         };
+        opened = λ up. cc;
         keys = shown.0;
         stands = stands_still state its flash (state flash) refl image shown.0 shown.1;
       }

@@ -41,10 +41,11 @@ module _ {F : Type 0} (state : F → FlashState) (protocol : Protocol) (old new 
       DoesHere state (command.Put cs) m old new (reply.Stored n)
   stored_here n count all = record {
     left = apply m cs;
-    does = (
+    does = λ up. (
       record { allowed = all.taken; keys = refl },
       count,
       moves_by false all.moved.moves,
+      all.written,
     );
     shows = λ h. all.shows;
     image = λ h. cc;
@@ -61,7 +62,7 @@ module _ {F : Type 0} (state : F → FlashState) (protocol : Protocol) (old new 
   broken_here any = elim any.left [
     | inl none ↦ record {
       left = m;
-      does = record { whole = inl refl; moves = moves_by true any.moved.moves };
+      does = λ up. record { whole = inl refl; moves = moves_by true any.moved.moves };
       shows = λ h. cc;
       image = λ h. none;
       config = any.moved.config;
@@ -72,7 +73,7 @@ module _ {F : Type 0} (state : F → FlashState) (protocol : Protocol) (old new 
     }
     | inr all ↦ record {
       left = apply m cs;
-      does = record {
+      does = λ up. record {
         whole = inr (record { allowed = all.0; keys = refl });
         moves = moves_by true any.moved.moves;
       };
@@ -98,15 +99,15 @@ module _ {F : Type 0} (state : F → FlashState) (protocol : Protocol) (old new 
       ((seen : ℕ → ℕ) → IsSeen seen new.device →
       IsSeen (seen_after old.device.config seen (command.Put cs) r) new.device) →
       StaysPut state old new →
-      (Stays (record { keys = m; flash = state old.device.flash })
-      (record { keys = m; flash = state new.device.flash }) →
+      ((up : Bool) → Stays (record { keys = m; up = true; flash = state old.device.flash })
+      (record { keys = m; up = up; flash = state new.device.flash }) →
       DoesPut old.device.config (is_spent old.device.noted.mentions) cs
-      (record { keys = m; flash = state old.device.flash }) r
-      (record { keys = m; flash = state new.device.flash })) →
+      (record { keys = m; up = true; flash = state old.device.flash }) r
+      (record { keys = m; up = up; flash = state new.device.flash })) →
       DoesHere state (command.Put cs) m old new r
   refused_here r no_fault no_cut same stays does = record {
     left = m;
-    does = does (record { keys = refl; moment = stays.moment });
+    does = λ up. does up (record { keys = refl; moment = stays.moment });
     shows = λ h. shown_still stays;
     image = λ h. cc;
     config = stays.config;
@@ -122,21 +123,21 @@ module _ {F : Type 0} (state : F → FlashState) (protocol : Protocol) (old new 
       reply_of cs e ≡ Some r → DoesHere state (command.Put cs) m old new r
   put_here refused.Empty r gives is =
       subst (DoesHere state (command.Put cs) m old new) (some_same reply.RefusedEmpty r is)
-      (refused_here reply.RefusedEmpty refl refl (λ seen h. h) gives.1 (λ s. (gives.0, s)))
+      (refused_here reply.RefusedEmpty refl refl (λ seen h. h) gives.1 (λ up s. (gives.0, s)))
   put_here (refused.Repeated i) r gives is =
       subst (DoesHere state (command.Put cs) m old new)
       (some_same (reply.RefusedRepeated (key_at cs i)) r is)
       (refused_here (reply.RefusedRepeated (key_at cs i)) refl refl (λ seen h. h) gives.1
-      (λ s. (i, (gives.0, s), refl)))
+      (λ up s. (i, (gives.0, s), refl)))
   put_here (refused.Wide n) r gives is =
       subst (DoesHere state (command.Put cs) m old new) (some_same (reply.RefusedWide n) r is)
-      (refused_here (reply.RefusedWide n) refl refl (λ seen h. h) gives.1 (λ s. (gives.0, s)))
+      (refused_here (reply.RefusedWide n) refl refl (λ seen h. h) gives.1 (λ up s. (gives.0, s)))
   put_here (refused.Bucket p) r gives is =
       subst (DoesHere state (command.Put cs) m old new) (some_same (reply.RefusedBucket p) r is)
-      (refused_here (reply.RefusedBucket p) refl refl (λ seen h. h) gives.1 (λ s. (gives.0, s)))
+      (refused_here (reply.RefusedBucket p) refl refl (λ seen h. h) gives.1 (λ up s. (gives.0, s)))
   put_here (refused.Spent p) r gives is =
       subst (DoesHere state (command.Put cs) m old new) (some_same (reply.RefusedSpent p) r is)
-      (refused_here (reply.RefusedSpent p) refl refl (λ seen h. h) gives.1 (λ s. (gives.0, s)))
+      (refused_here (reply.RefusedSpent p) refl refl (λ seen h. h) gives.1 (λ up s. (gives.0, s)))
   put_here refused.Fault r gives is =
       subst (DoesHere state (command.Put cs) m old new) (some_same reply.Fault r is)
       (broken_here gives)
@@ -159,15 +160,15 @@ module _ {F : Type 0} (state : F → FlashState) (protocol : Protocol) (old new 
     (always : HoldsAlways state protocol old.device) (key : List ℕ) (m : KeyMap)
     (shows : EncodesMap old.device.config old.device.machine.pages m)
     (closed : HasKeys old.device) (usable : new.broken ≡ false) where
-  its_stays : (broken : Bool) → OnlyReads state old.device new.device broken →
-      Stays (record { keys = m; flash = state old.device.flash })
-      (record { keys = m; flash = state new.device.flash })
-  its_stays broken reads = record { keys = refl; moment = reads.moment }
+  its_stays : (broken : Bool) → OnlyReads state old.device new.device broken → (up : Bool) →
+      Stays (record { keys = m; up = true; flash = state old.device.flash })
+      (record { keys = m; up = up; flash = state new.device.flash })
+  its_stays broken reads up = record { keys = refl; moment = reads.moment }
 
   got : (r : KeyReply) → is_key_cut r ≡ false →
       OnlyReads state old.device new.device (is_key_fault r) →
-      DoesGet key (record { keys = m; flash = state old.device.flash }) r
-      (record { keys = m; flash = state new.device.flash }) →
+      ((up : Bool) → DoesGet key (record { keys = m; up = true; flash = state old.device.flash }) r
+      (record { keys = m; up = up; flash = state new.device.flash })) →
       DoesHere state (command.Get key) m old new r
   got r no_cut reads does = record {
     left = m;
@@ -203,7 +204,7 @@ module _ {F : Type 0} (state : F → FlashState) (protocol : Protocol) (old new 
           ∙ subst (λ n. take n (v ++ drop len room) ≡ v) (sym h.0) (take-append_seam v (drop len room)))
           in
           got (reply.Value k value) refl reads
-          (its, told ∙ ap (λ (x : List ℕ). Some x) same, its_stays false reads)
+          (λ up. (its, told ∙ ap (λ (x : List ℕ). Some x) same, its_stays false reads up))
 
   pub got_none : (k : List ℕ) (room into : List ℕ) → k ≡ key → OnlyReads state old.device new.device false →
       GivesValue (get m key) None room into →
@@ -212,7 +213,7 @@ module _ {F : Type 0} (state : F → FlashState) (protocol : Protocol) (old new 
     where
       by : (o : Option (List ℕ)) → get m key ≡ o → GivesValue o None room into →
           DoesHere state (command.Get key) m old new (reply.Absent k)
-      by None told h = got (reply.Absent k) refl reads (its, told, its_stays false reads)
+      by None told h = got (reply.Absent k) refl reads (λ up. (its, told, its_stays false reads up))
       by (Some v) told h = absurd h
 
   pub got_fault : OnlyReads state old.device new.device true →

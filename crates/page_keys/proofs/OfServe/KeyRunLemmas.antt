@@ -1,9 +1,10 @@
 -- How runs of the map machine grow, and how many breaks they have.
-use Rattle.page_keys.proofs.Common.{◌≡◌, ◌⊎◌, inl, inr, ℕ, zero, suc, ◌+◌, ◌≤◌, Bool, true, cond, List, [], ◌∷◌, ◌++◌, length, take, Option, Some, None, refl, ap, subst, arith, count_by, IfSome, Config, BothTell, NoMoreToCome, Told, KeyPoint, IsKeyPoint, ServesKeys, is_key_cut, is_key_fault, seen_after, KeyCommand, apply, KeyReply}
+use Rattle.page_keys.proofs.Common.{◌≡◌, ◌⊎◌, inl, inr, ℕ, zero, suc, ◌+◌, ◌≤◌, Bool, true, false, cond, List, [], ◌∷◌, ◌++◌, length, take, Option, Some, None, refl, ap, subst, arith, count_by, IfSome, Config, BothTell, NoMoreToCome, Told, KeyPoint, IsKeyPoint, ServesKeys, is_key_cut, is_key_fault, seen_after, KeyCommand, apply, KeyReply}
 use Rattle.std.proofs.lemmas.List.Sums.{sum_by-cons}
+use Rattle.std.specs.Prelude.{MatchBool}
 use Rattle.array_runs.specs.Run.{MayBeSpent}
-use Rattle.page_keys.specs.KeyRuns.{KeyRun, DoesKeys, IsKeySpent, AreFewBreaks, ChangesAtOnce, arms_key_cut, changes_in}
-use Rattle.page_keys.specs.KeyRuns.{is_stored, last_point}
+use Rattle.page_keys.specs.KeyRuns.{KeyRun, DoesKeys, DoesCommand, IsDone, OpensFirst, IsKeySpent, AreFewBreaks, ChangesAtOnce, arms_key_cut, changes_in}
+use Rattle.page_keys.specs.KeyRuns.{is_key_break, is_stored, last_point}
 use Rattle.page_keys.specs.declared.command.KeyCommand.TheVariants as command
 use Rattle.page_keys.specs.declared.key_reply.KeyReply.TheVariants as reply
 
@@ -146,6 +147,36 @@ taken its spent (command.Cut count what) old new (reply.RefusedWide n) h = absur
 taken its spent (command.Cut count what) old new (reply.RefusedBucket p) h = absurd h
 taken its spent (command.Cut count what) old new (reply.RefusedSpent p) h = absurd h
 
+unstored : (r : KeyReply) → is_key_break r ≡ true → is_stored r ≡ true → ⊥
+unstored (reply.Stored n) broken stored = cc
+unstored reply.RefusedEmpty broken stored = cc
+unstored (reply.RefusedRepeated k) broken stored = cc
+unstored (reply.RefusedWide n) broken stored = cc
+unstored (reply.RefusedBucket p) broken stored = cc
+unstored (reply.RefusedSpent p) broken stored = cc
+unstored (reply.Value k v) broken stored = cc
+unstored (reply.Absent k) broken stored = cc
+unstored reply.Armed broken stored = cc
+unstored reply.Cut broken stored = cc
+unstored reply.Fault broken stored = cc
+
+-- also where the store is opened first
+taken_first : (its : Config) (spent : ℕ → Bool) (c : KeyCommand) (old new : KeyPoint) (r : KeyReply) →
+    DoesCommand its spent c old r new →
+    ((new.keys ≡ old.keys) ⊎ (new.keys ≡ apply old.keys (changes_in c)))
+    × (is_stored r ≡ true → new.keys ≡ apply old.keys (changes_in c))
+taken_first its spent c old new r h = by (arms_key_cut c) old.up h
+  where
+    by : (arm up : Bool) → MatchBool arm (DoesKeys its spent c old r new × (new.up ≡ old.up))
+        (MatchBool up (IsDone its spent c old r new) (OpensFirst its spent c old r new)) →
+        ((new.keys ≡ old.keys) ⊎ (new.keys ≡ apply old.keys (changes_in c)))
+        × (is_stored r ≡ true → new.keys ≡ apply old.keys (changes_in c))
+    by true up h = taken its spent c old new r h.0
+    by false true h = taken its spent c old new r h.does
+    by false false (inl not) = (inl not.keys, λ stored. absurd (unstored r not.broken stored))
+    by false false (inr done) =
+        taken its spent c (record { keys = old.keys; up = true; flash = done.0 }) new r done.2.does
+
 pub at_once : (its : Config) (seen : ℕ → ℕ) (old : KeyPoint) (cs : List KeyCommand)
     (rs : List KeyReply) (ps : List KeyPoint) → KeyRun its seen old cs rs ps →
     ChangesAtOnce old cs rs ps
@@ -155,7 +186,7 @@ at_once its seen old [] (s ∷ rs) ps run = absurd run
 at_once its seen old (d ∷ cs) [] ps run = absurd run
 at_once its seen old (d ∷ cs) (s ∷ rs) [] run = absurd run
 at_once its seen old (d ∷ cs) (s ∷ rs) (q ∷ ps) run =
-    let one = taken its run.0.0 d old q s run.0.2.does in
+    let one = taken_first its run.0.0 d old q s run.0.2.does in
     (one.0, one.1, at_once its (seen_after its seen d s) q cs rs ps run.2)
 
 -- a run ends at a point whose image is sound and shows its map

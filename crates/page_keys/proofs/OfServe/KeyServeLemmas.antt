@@ -1,21 +1,18 @@
 -- What serving a command of a key script comes to.
-use Rattle.page_keys.proofs.Common.{◌≡◌, ℕ, ◌+◌, ◌<◌, ◌≤◌, Bool, true, false, not, cond, if◌then◌else◌, List, Option, Some, None, Result, Ok, Err, refl, sym, ap, subst, ◌∙◌, inl, inr, arith, nat_tests, checked, shape_of, Config, Protocol, Shape, BothTell, Carries, NoMoreToCome, Spends, FlashState, Told, Moment, moment_of, IsSoundImage, array_in, seen_flash, HoldsAlways, IsSeen, ArrayState, Pages, is_spent, AreBuckets, EncodesMap, KeyMap, is_touched, IsKeyPoint, KeyPoint, ServesKeys, is_key_cut, is_key_fault, mentions_in, seen_after, DoesHere, Ends, Fits, IsKeyImage, ServesOne, flash_in, HasKeys, KeyStoreState, Change, KeyCommand, KeyServeError, KeyReply, KeySession}
+use Rattle.page_keys.proofs.Common.{◌≡◌, ℕ, ◌+◌, ◌<◌, ◌≤◌, Bool, true, false, not, cond, if◌then◌else◌, Result, Ok, Err, refl, sym, ap, subst, ◌∙◌, inl, inr, arith, nat_tests, checked, shape_of, Config, Protocol, Shape, BothTell, Carries, NoMoreToCome, Spends, FlashState, Told, Moment, moment_of, IsSoundImage, array_in, seen_flash, HoldsAlways, IsSeen, ArrayState, Pages, is_spent, AreBuckets, EncodesMap, KeyMap, is_touched, IsKeyPoint, KeyPoint, ServesKeys, is_key_cut, is_key_fault, mentions_in, seen_after, DoesHere, Fits, IsKeyImage, ServesOne, flash_in, HasKeys, KeyStoreState, KeyCommand, KeyServeError, KeyReply, KeySession}
 use Rattle.std.specs.Prelude.{IfOk, MatchBool}
 use Rattle.tx_types.specs.Limits.{max_version}
 use Rattle.flash_model.specs.Arms.{ArmsCut, SetsCut as ArmOf}
 use Rattle.flash_model.specs.Calls.{Rose}
-use Rattle.flash_model.specs.Moves.{Moves}
 use Rattle.flash_model.specs.declared.outcome.Outcome.{Outcome}
-use Rattle.flash_model.proofs.MoveLemmas.{Moves-nothing}
 use Rattle.judged_records.specs.IndexState.{mention_of}
 use Rattle.array_runs.specs.Run.{MayBeSpent}
 use Rattle.tx_engine.proofs.OfDevice.Seen.{image_seen}
-use Rattle.page_keys.specs.KeyRuns.{BreaksPut, DoesGet, DoesKeys, DoesPut, TakesPut, changes_in, is_tried, IsKeySpent, Stays}
+use Rattle.page_keys.specs.KeyRuns.{DoesCommand, DoesKeys, IsDone, NotDone, OpensFirst, OpensFlash, changes_in, is_tried, IsKeySpent}
 use Rattle.page_keys.specs.KeyRuns.{arms_key_cut, cuts_armed, is_key_break}
 use Rattle.page_keys.specs.KeySessions.{DoesFor, FitsMounted, Mounts, Opens, SetsCut}
 use Rattle.page_keys.specs.KeySessions.{IsUsable, StandsUnmounted, point_of}
 use Rattle.page_keys.specs.declared.command.KeyCommand.TheVariants as command
-use Rattle.page_keys.specs.declared.key_error.KeyServeError.TheVariants as failed
 use Rattle.page_keys.specs.declared.key_reply.KeyReply.TheVariants as reply
 use Rattle.mounted_session.specs.declared.session.Session.TheVariants as session
 use Rattle.mounted_session.specs.Mounting.{MeetsFault, StaysQuiet}
@@ -46,37 +43,85 @@ does_cut its spent (command.Put cs) old new h = h
 does_cut its spent (command.Get key) old new h = h
 does_cut its spent (command.Cut count what) old new h = h
 
--- nothing is done
-does_not : (its : Config) (spent : ℕ → Bool) (c : KeyCommand) (old new : KeyPoint) →
-    arms_key_cut c ≡ false → Stays old new → DoesKeys its spent c old reply.Fault new
-does_not its spent (command.Put cs) old new no_arm stays = record {
-  whole = inl stays.keys;
-  moves = subst (λ (x : Moment). Moves (shape_of its) (moment_of old.flash) true x) (sym stays.moment)
-      (Moves-nothing (shape_of its) (moment_of old.flash) true);
-}
-does_not its spent (command.Get key) old new no_arm stays = stays
-does_not its spent (command.Cut count what) old new no_arm stays = cc
-
 -- a reply that tells of a fault, by whether power is on
 abbrev pub broken_reply : Bool → KeyReply
 broken_reply live = if live then reply.Fault else reply.Cut
 
--- a fault that was met, in a command that did this much
+-- ---- commands on the store, and before it is open
+
+abbrev pub point : KeyMap → Bool → FlashState → KeyPoint
+point m its_up s = record { keys = m; up = its_up; flash = s }
+
+module _ (its : Config) (spent : ℕ → Bool) (c : KeyCommand) (old : KeyPoint) (r : KeyReply) (new : KeyPoint)
+    (no_arm : arms_key_cut c ≡ false) where
+  done_open : old.up ≡ true → IsDone its spent c old r new → DoesCommand its spent c old r new
+  done_open on done = by (arms_key_cut c) old.up no_arm on
+    where
+      by : (arm up : Bool) → arm ≡ false → up ≡ true →
+          MatchBool arm (DoesKeys its spent c old r new × (new.up ≡ old.up))
+          (MatchBool up (IsDone its spent c old r new) (OpensFirst its spent c old r new))
+      by true up none on = cc
+      by false true none on = done
+      by false false none on = cc
+
+  open_done : old.up ≡ true → DoesCommand its spent c old r new → IsDone its spent c old r new
+  open_done on does = by (arms_key_cut c) old.up no_arm on does
+    where
+      by : (arm up : Bool) → arm ≡ false → up ≡ true →
+          MatchBool arm (DoesKeys its spent c old r new × (new.up ≡ old.up))
+          (MatchBool up (IsDone its spent c old r new) (OpensFirst its spent c old r new)) →
+          IsDone its spent c old r new
+      by true up none on h = cc
+      by false true none on h = h
+      by false false none on h = cc
+
+  opens_first : old.up ≡ false → OpensFirst its spent c old r new → DoesCommand its spent c old r new
+  opens_first shut first = by (arms_key_cut c) old.up no_arm shut
+    where
+      by : (arm up : Bool) → arm ≡ false → up ≡ false →
+          MatchBool arm (DoesKeys its spent c old r new × (new.up ≡ old.up))
+          (MatchBool up (IsDone its spent c old r new) (OpensFirst its spent c old r new))
+      by true up none off = cc
+      by false true none off = cc
+      by false false none off = first
+
+-- a command that met a fault, whose reply is by whether power is on
+fault_done : (its : Config) (spent : ℕ → Bool) (c : KeyCommand) (old new : KeyPoint) (live : Bool) →
+    DoesKeys its spent c old reply.Fault new → Carries old.flash new.flash true → new.up ≡ false →
+    IsDone its spent c old (broken_reply live) new
+fault_done its spent c old new true does calls shut = record { does = does; calls = calls; up = shut }
+fault_done its spent c old new false does calls shut =
+    record { does = does_cut its spent c old new does; calls = calls; up = shut }
+
+-- or whose mount met one
+not_done : (its : Config) (old new : KeyPoint) (live : Bool) → MeetsFault old.flash new.flash →
+    new.keys ≡ old.keys → new.up ≡ false → NotDone its old (broken_reply live) new
+not_done its old new live meets keys shut = record {
+  broken = told live;
+  opens = record { carries = meets.carries; moment = meets.still.moment; reads = λ up. cc };
+  keys = keys;
+  up = shut;
+}
+  where
+    told : (b : Bool) → is_key_break (broken_reply b) ≡ true
+    told true = refl
+    told false = refl
+
+-- a fault that was met
 module _ (its : Config) (spent : ℕ → Bool) (c : KeyCommand) (old new : KeyPoint)
-    (does : DoesKeys its spent c old reply.Fault new)
     (rose : Rose old.flash.faults new.flash.faults)
     (less : BothTell NoMoreToCome old.flash.told new.flash.told)
     (spends : BothTell (Spends new.flash.live) old.flash.told new.flash.told) where
-  broken_by : (live : Bool) → new.flash.live ≡ live →
+  broken_by : (live : Bool) → new.flash.live ≡ live → DoesCommand its spent c old (broken_reply live) new →
       ServesKeys its spent c old (broken_reply live) new
-  broken_by true on = record {
+  broken_by true on does = record {
     does = does;
     causes = λ arm. record { cut = sym (ap not on); faults = rose };
     spends = spends_one (cuts_armed c) 0 true old.flash.told new.flash.told less
         (subst (λ b. BothTell (Spends b) old.flash.told new.flash.told) on spends);
   }
-  broken_by false off = record {
-    does = does_cut its spent c old new does;
+  broken_by false off does = record {
+    does = does;
     causes = λ arm. record { cut = sym (ap not off); faults = rose };
     spends = spends_one (cuts_armed c) 0 false old.flash.told new.flash.told less
         (subst (λ b. BothTell (Spends b) old.flash.told new.flash.told) off spends);
@@ -116,10 +161,11 @@ module _ {F : Type 0} (state : F → FlashState) (its : Config) (k : KeyStoreSta
   }
 
   pub mounted_point : (m : KeyMap) → EncodesMap its k.device.machine.pages m →
-      IsKeyPoint its (record { keys = m; flash = state k.device.flash })
+      IsKeyPoint its (point m true (state k.device.flash))
   mounted_point m shows = record {
     sound = sound_is;
     shows = subst (λ (p : Pages). EncodesMap its p m) (sym array_is) shows;
+    live = λ up. fits.live;
   }
 
   may_be : (seen : ℕ → ℕ) → IsSeen seen k.device →
@@ -169,14 +215,19 @@ module _ {F : Type 0} (state : F → FlashState) (its : Config) (k : KeyStoreSta
       live_is = fine_carries.lives ∙ fits.live
 
       serves_fine : (m : KeyMap) (shows : EncodesMap its k.device.machine.pages m) →
-          ServesKeys its (is_spent k.device.noted.mentions) c
-          (record { keys = m; flash = state k.device.flash }) r
-          (record { keys = (here m shows).left; flash = state l.device.flash })
+          ServesKeys its (is_spent k.device.noted.mentions) c (point m true (state k.device.flash)) r
+          (point (here m shows).left true (state l.device.flash))
       serves_fine m shows = record {
-        does = subst (λ (x : Config). DoesKeys x (is_spent k.device.noted.mentions) c
-            (record { keys = m; flash = state k.device.flash }) r
-            (record { keys = (here m shows).left; flash = state l.device.flash })) fits.config
-            (here m shows).does;
+        does = done_open its (is_spent k.device.noted.mentions) c (point m true (state k.device.flash)) r
+            (point (here m shows).left true (state l.device.flash)) no_arm refl (record {
+              does = subst (λ (x : Config). DoesKeys x (is_spent k.device.noted.mentions) c
+                  (point m true (state k.device.flash)) r
+                  (point (here m shows).left true (state l.device.flash))) fits.config
+                  ((here m shows).does true);
+              calls = subst (λ b. Carries (state k.device.flash) (state l.device.flash) b)
+                  (sym (no_break r some.whole fine)) fine_carries;
+              up = sym (ap not (no_break r some.whole fine));
+            });
         causes = λ arm. record {
           cut = some.whole ∙ sym (ap not live_is);
           faults = rw (no_break r some.whole fine) fine_carries.quiet;
@@ -236,21 +287,19 @@ module _ {F : Type 0} (state : F → FlashState) (its : Config) (k : KeyStoreSta
 
       serves_fault : (m : KeyMap) (shows : EncodesMap its k.device.machine.pages m) (live : Bool) →
           (state l.device.flash).live ≡ live →
-          ServesKeys its (is_spent k.device.noted.mentions) c
-          (record { keys = m; flash = state k.device.flash }) (broken_reply live)
-          (record { keys = (here m shows).left; flash = state l.device.flash })
+          ServesKeys its (is_spent k.device.noted.mentions) c (point m true (state k.device.flash))
+          (broken_reply live) (point (here m shows).left false (state l.device.flash))
       serves_fault m shows live on =
-          broken_by its (is_spent k.device.noted.mentions) c
-          (record { keys = m; flash = state k.device.flash })
-          (record { keys = (here m shows).left; flash = state l.device.flash })
-          (subst (λ (x : Config). DoesKeys x (is_spent k.device.noted.mentions) c
-          (record { keys = m; flash = state k.device.flash }) reply.Fault
-          (record { keys = (here m shows).left; flash = state l.device.flash })) fits.config
-          (subst (λ (q : KeyReply). DoesKeys k.device.config (is_spent k.device.noted.mentions) c
-          (record { keys = m; flash = state k.device.flash }) q
-          (record { keys = (here m shows).left; flash = state l.device.flash })) is
-          (here m shows).does))
-          torn.cause torn.no_more (torn.spends fits.live) live on
+          let old = point m true (state k.device.flash) in
+          let new = point (here m shows).left false (state l.device.flash) in
+          let does = subst (λ (x : Config). DoesKeys x (is_spent k.device.noted.mentions) c old reply.Fault new)
+          fits.config
+          (subst (λ (q : KeyReply). DoesKeys k.device.config (is_spent k.device.noted.mentions) c old q new) is
+          ((here m shows).does false)) in
+          broken_by its (is_spent k.device.noted.mentions) c old new torn.cause torn.no_more (torn.spends fits.live)
+          live on
+          (done_open its (is_spent k.device.noted.mentions) c old (broken_reply live) new no_arm refl
+          (fault_done its (is_spent k.device.noted.mentions) c old new live does torn refl))
 
       pub closed : (live : Bool) → (state l.device.flash).live ≡ live →
           ServesOne state its c (session.Mounted k) (broken_reply live)
@@ -272,77 +321,29 @@ module _ {F : Type 0} (state : F → FlashState) (its : Config) (k : KeyStoreSta
 
 -- ---- a flash on which the store was opened before the command
 
-module _ (its : Config) (spent : ℕ → Bool) (m : KeyMap) (a b : FlashState) (new : KeyPoint)
-    (quiet : StaysQuiet a b) where
-  stays_later : Stays (record { keys = m; flash = b }) new → Stays (record { keys = m; flash = a }) new
-  stays_later h = record { keys = h.keys; moment = h.moment ∙ quiet.still.moment }
+pub opens_flash : {F : Type 0} (state : F → FlashState) (its : Config) (flash : F) (k : KeyStoreState F) →
+    Opens state its flash k → OpensFlash its true (state flash) (state k.device.flash)
+opens_flash state its flash k opens = record {
+  carries = opens.carries;
+  moment = opens.still.still.moment;
+  reads = λ up. opens.reads;
+}
 
-  takes_later : (cs : List Change) → TakesPut its spent cs (record { keys = m; flash = b }) new →
-      TakesPut its spent cs (record { keys = m; flash = a }) new
-  takes_later cs h = record { allowed = h.allowed; keys = h.keys }
-
-  moves_later : (broken : Bool) → Moves (shape_of its) (moment_of b) broken (moment_of new.flash) →
-      Moves (shape_of its) (moment_of a) broken (moment_of new.flash)
-  moves_later broken h =
-      subst (λ (x : Moment). Moves (shape_of its) x broken (moment_of new.flash)) quiet.still.moment h
-
-  breaks_later : (cs : List Change) → BreaksPut its spent cs (record { keys = m; flash = b }) new →
-      BreaksPut its spent cs (record { keys = m; flash = a }) new
-  breaks_later cs h = record {
-    whole = elim h.whole [ inl none ↦ inl none | inr all ↦ inr (takes_later cs all) ];
-    moves = moves_later true h.moves;
-  }
-
-  put_later : (cs : List Change) (r : KeyReply) →
-      DoesPut its spent cs (record { keys = m; flash = b }) r new →
-      DoesPut its spent cs (record { keys = m; flash = a }) r new
-  put_later cs (reply.Stored n) h = (takes_later cs h.0, h.1, moves_later false h.2)
-  put_later cs reply.RefusedEmpty h = (h.0, stays_later h.1)
-  put_later cs (reply.RefusedRepeated k) h = (h.0, (h.1.0, stays_later h.1.1), h.2)
-  put_later cs (reply.RefusedWide n) h = (h.0, stays_later h.1)
-  put_later cs (reply.RefusedBucket p) h = (h.0, stays_later h.1)
-  put_later cs (reply.RefusedSpent p) h = (h.0, stays_later h.1)
-  put_later cs reply.Cut h = breaks_later cs h
-  put_later cs reply.Fault h = breaks_later cs h
-  put_later cs (reply.Value k v) h = absurd h
-  put_later cs (reply.Absent k) h = absurd h
-  put_later cs reply.Armed h = absurd h
-
-  get_later : (key : List ℕ) (r : KeyReply) → DoesGet key (record { keys = m; flash = b }) r new →
-      DoesGet key (record { keys = m; flash = a }) r new
-  get_later key (reply.Value k v) h = (h.0, h.1, stays_later h.2)
-  get_later key (reply.Absent k) h = (h.0, h.1, stays_later h.2)
-  get_later key reply.Cut h = stays_later h
-  get_later key reply.Fault h = stays_later h
-  get_later key (reply.Stored n) h = absurd h
-  get_later key reply.Armed h = absurd h
-  get_later key reply.RefusedEmpty h = absurd h
-  get_later key (reply.RefusedRepeated k) h = absurd h
-  get_later key (reply.RefusedWide n) h = absurd h
-  get_later key (reply.RefusedBucket p) h = absurd h
-  get_later key (reply.RefusedSpent p) h = absurd h
-
-  does_later : (c : KeyCommand) (r : KeyReply) → arms_key_cut c ≡ false →
-      DoesKeys its spent c (record { keys = m; flash = b }) r new →
-      DoesKeys its spent c (record { keys = m; flash = a }) r new
-  does_later (command.Put cs) r no_arm h = put_later cs r h
-  does_later (command.Get key) r no_arm h = get_later key r h
-  does_later (command.Cut count what) r no_arm h = cc
-
-  pub served_later : (c : KeyCommand) (r : KeyReply) → arms_key_cut c ≡ false →
-      ServesKeys its spent c (record { keys = m; flash = b }) r new →
-      ServesKeys its spent c (record { keys = m; flash = a }) r new
-  served_later c r no_arm serves = record {
-    does = does_later c r no_arm serves.does;
-    causes = λ arm. record {
-      cut = (serves.causes arm).cut;
-      faults = subst (λ n.
-          MatchBool (is_key_break r) (Rose n new.flash.faults) (new.flash.faults ≡ n)) quiet.quiet
-          (serves.causes arm).faults;
-    };
-    spends = spends_after (cuts_armed c) 0 (is_key_cut r) (is_key_fault r) a.told b.told new.flash.told
-        quiet.still.told serves.spends;
-  }
+served_later : (its : Config) (spent : ℕ → Bool) (m : KeyMap) (a b : FlashState) (new : KeyPoint)
+    (c : KeyCommand) (r : KeyReply) → arms_key_cut c ≡ false → StaysQuiet a b →
+    OpensFlash its true a b → ServesKeys its spent c (point m true b) r new → ServesKeys its spent c (point m false a) r new
+served_later its spent m a b new c r no_arm quiet opened serves = record {
+  does = opens_first its spent c (point m false a) r new no_arm refl
+      (inr (b, opened, open_done its spent c (point m true b) r new no_arm refl serves.does));
+  causes = λ arm. record {
+    cut = (serves.causes arm).cut;
+    faults = subst (λ n.
+        MatchBool (is_key_break r) (Rose n new.flash.faults) (new.flash.faults ≡ n)) quiet.quiet
+        (serves.causes arm).faults;
+  };
+  spends = spends_after (cuts_armed c) 0 (is_key_cut r) (is_key_fault r) a.told b.told new.flash.told
+      quiet.still.told serves.spends;
+}
 
 least_of : (tried touched : Bool) (n : ℕ) → n ≤ cond tried (cond touched (n + 1) n) n
 least_of true true n = omega arith
@@ -374,7 +375,8 @@ module _ {F : Type 0} (state : F → FlashState) (its : Config) (c : KeyCommand)
           spent = inside.spent;
           may = inside.may;
           serves = served_later its inside.spent m (state flash) (state k.device.flash)
-              (point_of state inside.left new) opens.still c r no_arm inside.serves;
+              (point_of state inside.left new) c r no_arm opens.still (opens_flash state its flash k opens)
+              inside.serves;
           stands = inside.stands;
         };
     unopened = λ not_keys.
@@ -399,12 +401,12 @@ module _ {F : Type 0} (state : F → FlashState) (its : Config) (c : KeyCommand)
       left = m;
       spent = λ page. false;
       may = λ page is. cc;
-      serves = broken_by its (λ page. false) c (record { keys = m; flash = state flash })
-          (record { keys = m; flash = state new })
-          (does_not its (λ page. false) c (record { keys = m; flash = state flash })
-          (record { keys = m; flash = state new }) no_arm
-          (record { keys = refl; moment = meets.still.moment }))
-          meets.rose meets.still.told meets.spends live on;
+      serves =
+          let old = point m false (state flash) in
+          let after = point m false (state new) in
+          broken_by its (λ page. false) c old after meets.rose meets.still.told meets.spends live on
+          (opens_first its (λ page. false) c old (broken_reply live) after no_arm refl
+          (inl (not_done its old after live meets refl refl)));
       stands = record {
         sound = subst (λ (x : Moment). IsSoundImage its.protocol its.logical (shape_of its) x.image)
             (sym meets.still.moment) stands.sound;
@@ -436,11 +438,10 @@ module _ (its : Config) (count : ℕ) (what : Outcome) where
     breaks = let a = sets.breaks in omega arith;
   }
 
-  arm_serves : (m : KeyMap) (a b : FlashState) → ArmsCut a b count what →
-      ServesKeys its (λ page. false) (command.Cut count what) (record { keys = m; flash = a })
-      reply.Armed (record { keys = m; flash = b })
-  arm_serves m a b arms = record {
-    does = (refl, arms);
+  arm_serves : (m : KeyMap) (up : Bool) (a b : FlashState) → ArmsCut a b count what →
+      ServesKeys its (λ page. false) (command.Cut count what) (point m up a) reply.Armed (point m up b)
+  arm_serves m up a b arms = record {
+    does = ((refl, arms), refl);
     causes = λ h. cc;
     spends = weaker_told (ArmOf (record { count = count; outcome = what }))
         (IsKeySpent (command.Cut count what) reply.Armed) arm_spent a.told b.told arms.told;
@@ -467,7 +468,7 @@ module _ {F : Type 0} (state : F → FlashState) (its : Config) (count : ℕ) (w
           left = m;
           spent = λ page. false;
           may = λ page is. cc;
-          serves = arm_serves its count what m (state k.device.flash) (state l.device.flash) sets.arms;
+          serves = arm_serves its count what m true (state k.device.flash) (state l.device.flash) sets.arms;
           stands = record {
             shows = subst (λ (x : KeyStoreState F). EncodesMap its x.device.machine.pages m) (sym sets.stays)
                 stands.shows;
@@ -484,7 +485,7 @@ module _ {F : Type 0} (state : F → FlashState) (its : Config) (count : ℕ) (w
       left = m;
       spent = λ page. false;
       may = λ page is. cc;
-      serves = arm_serves its count what m (state a) (state b) sets;
+      serves = arm_serves its count what m false (state a) (state b) sets;
       stands = record {
         sound = subst (λ (s : FlashState). IsSoundImage its.protocol its.logical (shape_of its)
             s.image) (sym sets.stays) stands.sound;

@@ -1,12 +1,15 @@
 mod WriteSteps
 mod Steps
-use Rattle.page_keys.proofs.Common.{◌+◌, Ok, Some, false, ap, subst, ◌∙◌, IndexState, is_spent, limits_of, SubmitError, ArrayState, StepsAs}
+use Rattle.page_keys.proofs.Common.{ℕ, ◌+◌, Ok, Some, false, ap, subst, ◌∙◌, IndexState, IsSeen, is_spent, limits_of, SubmitError, ArrayState, StepsAs}
 use Rattle.array_machine.specs.declared.answers.Progress.TheVariants as progress
 use Rattle.tx_engine.specs.Exits.{is_there}
 use Rattle.tx_engine.proofs.OfDevice.Seen.{exits_seen}
+use Rattle.judged_records.specs.Images.{records_in}
+use Rattle.judged_records.specs.IndexState.{mention_of}
 use Rattle.page_keys.specs.Writing.{seen_more}
 use Rattle.page_keys.proofs.OfStore.Mentions.{submitted_seen}
-use Rattle.page_keys.proofs.writing.write.Answers.Steps.{wrote, done_writing}
+use Rattle.page_keys.proofs.OfStore.Turns.{all_above, last_there, mentioned, seen_closed, turned, turning_first, turning_more}
+use Rattle.page_keys.proofs.writing.write.Answers.Steps.{wrote, done_writing, last_page}
 use Rattle.page_keys.proofs.writing.write.Answers.WriteSteps.{accepted, moved_nothing, moved_then, breaks_off, named_spent, some_write}
 use Rattle.page_keys.proofs.writing.write.Goals as goal
 
@@ -30,8 +33,13 @@ steps-preserved g c =
             i.moved exits;
         seen = λ seen h. exits_seen g.F.Flash.state g.R.CommitRule.protocol c.steps.device
             c.step.new.self (seen_more seen c.args.batch.now.entries) i.always
-            c.device_facts-in-Ok-Wrote.ensures.always exits.tables (i.seen seen h);
-        always = c.device_facts-in-Ok-Wrote.ensures.always;
+            c.standing_facts-in-Ok-Wrote.ensures.always exits.tables (i.seen seen h);
+        always = c.standing_facts-in-Ok-Wrote.ensures.always;
+        turning = turning_more g.F.Flash.state g.R.CommitRule.protocol c.args.device.now c.steps.device
+            c.step.new.self c.args.batch.now.entries k i.turning i.always
+            c.standing_facts-in-Ok-Wrote.ensures.always i.moved.config i.machine
+            c.standing_facts-in-Ok-Wrote.ensures.stands exits.tables exits.moves c.in-Ok-Wrote.ensures.sure next.0
+            next.1;
       },
     )
 
@@ -44,15 +52,31 @@ returns-in-Ok-Done-clause-written g c =
     (Ok progress.Done)) i.machine
     (rw c.in-Ok-Done.field-0-is at c.in-Ok-Done.ensures.steps) in
     let exits = c.in-Ok-Done.ensures.exits in
+    let state = g.F.Flash.state in
+    let protocol = g.R.CommitRule.protocol in
+    let old = c.args.device.now in
+    let prev = c.steps.device in
+    let new = c.step.new.self in
+    let ws = c.args.batch.now.entries in
+    let always = c.standing_facts-in-Ok-Done.ensures.always in
+    let stands = c.standing_facts-in-Ok-Done.ensures.stands in
+    let sure = c.in-Ok-Done.ensures.sure in
+    let last = last_page old.machine.pages ws k new.machine _ steps in
+    let there = last_there state protocol old prev new ws k i.turning i.always always i.moved.config i.machine
+    stands exits.tables exits.moves sure last c.in-Ok-Done.ensures.found c.in-Ok-Done.ensures.brings in
+    let seen : (seen : ℕ → ℕ) → IsSeen seen old → IsSeen (seen_more seen ws) new = λ seen h.
+    exits_seen state protocol prev new (seen_more seen ws) i.always always exits.tables (i.seen seen h) in
     record {
       unspent = i.unspent;
-      machine = done_writing c.args.device.now.machine.pages c.args.batch.now.entries k
-          c.step.new.self.machine _ steps;
-      moved = moved_then g.F.Flash.state c.args.device.now c.steps.device c.step.new.self false
-          i.moved exits;
-      seen = λ seen h. exits_seen g.F.Flash.state g.R.CommitRule.protocol c.steps.device
-          c.step.new.self (seen_more seen c.args.batch.now.entries) i.always
-          c.device_facts-in-Ok-Done.ensures.always exits.tables (i.seen seen h);
+      machine = done_writing old.machine.pages ws k new.machine _ steps;
+      moved = moved_then state old prev new false i.moved exits;
+      seen = seen;
+      mentions = mentioned state protocol old prev new ws k i.turning i.always always i.moved.config i.machine
+          stands exits.tables exits.moves sure i.less there last
+          (seen (mention_of old.noted) (seen_closed state old c.standing_facts.ensures.stands c.requires.closed));
+      above = all_above old.noted ws (records_in old.config.protocol (state old.flash).image) i.turning.above;
+      turns = turned state protocol old prev new ws k i.turning i.always always i.moved.config i.machine
+          stands exits.tables exits.moves sure i.less there last;
     }
 
 pub returns-in-Err-step-clause-not_written : goal.returns-in-Err-step-clause-not_written
@@ -65,8 +89,8 @@ returns-in-Err-step-clause-not_written g c =
     c.in-Err-step.field-0
     (λ seen h. exits_seen g.F.Flash.state g.R.CommitRule.protocol c.steps.device
     c.step.new.self (seen_more seen c.args.batch.now.entries) i.always
-    c.device_facts-in-Err-step.ensures.always exits.tables (i.seen seen h)) i.machine i.unspent i.moved
-    steps exits c.device_facts-in-Err-step.ensures.always.array
+    c.device_facts.ensures.always exits.tables (i.seen seen h)) i.machine i.unspent i.moved
+    steps exits c.device_facts.ensures.always.array
 
 pub spent_refusal-requires : goal.spent_refusal-requires
 spent_refusal-requires g c =
@@ -109,6 +133,10 @@ steps-init g c =
             keeps.flash;
         seen = λ seen h. submitted_seen c.args.device.now c.submit.new.self seen ws
             c.in_default.field-0 c.in_default.ensures.named keeps h;
-        always = c.device_facts.ensures.always;
+        always = c.standing_facts-2.ensures.always;
+        turning = turning_first g.F.Flash.state g.R.CommitRule.protocol c.args.device.now c.submit.new.self ws
+            c.in_default.field-0 c.standing_facts.ensures.always c.standing_facts.ensures.stands c.requires.closed
+            c.standing_facts-2.ensures.stands (ap (λ (m : ArrayState). m.entries) opened.1)
+            c.in_default.ensures.named keeps;
       },
     )

@@ -1,6 +1,7 @@
 use Rattle.page_keys.proofs.Common.{◌≡◌, ◌<◌, ℕ, None, false, length, spent_page, IsSeen, HoldsAlways, is_spent, writing, Moved}
 use Rattle.array_runs.specs.Run.{pages_left}
 use Rattle.page_keys.specs.Writing.{seen_more}
+use Rattle.page_keys.proofs.OfStore.Turns.{Turning}
 use Rattle.page_keys.proofs.writing.write.Given as goal
 
 abbrev pub decreases-steps : goal.decreases-steps
@@ -16,4 +17,5 @@ invariant-steps g l =
       seen : (seen : ℕ → ℕ) → IsSeen seen l.fn.device →
           IsSeen (seen_more seen l.batch.entries) l.device;
       always : HoldsAlways g.F.Flash.state g.R.CommitRule.protocol l.device;
+      turning : Turning g.F.Flash.state l.fn.device l.device l.batch.entries done;
     }

@@ -25,6 +25,18 @@ module _ (array : Pages) (writes : List PageWrite) (done : ℕ) (new : ArrayStat
   done_writing true steps = finished refl steps
   done_writing false steps = finished refl steps
 
+  at_last : {a : Pages} →
+      ((Plain ≡ Whole) × (new ≡ idle a)) ⊎ ((Plain ≡ Plain) × (done + 1 ≡ length writes)
+      × (new ≡ idle (put a writes))) → done + 1 ≡ length writes
+  at_last (inl h) = let clash = h.0 in cc
+  at_last (inr h) = h.1
+
+  -- it was the last page
+  pub last_page : (there : Bool) →
+      StepsAs there (writing array writes done) new 0 (Ok progress.Done) → done + 1 ≡ length writes
+  last_page true steps = at_last steps
+  last_page false steps = at_last steps
+
   pub not_unknown : (there : Bool) →
       StepsAs there (writing array writes done) new 0 (Err failed.Unknown) → ⊥
   not_unknown true steps = steps

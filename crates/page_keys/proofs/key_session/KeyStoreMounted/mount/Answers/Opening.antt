@@ -1,11 +1,11 @@
 -- Opening a store over a device that was mounted.
-use Rattle.page_keys.proofs.Common.{◌≡◌, ◌≤◌, ℕ, true, false, List, Ok, sym, ap, subst, ◌∙◌, checked, shape_of, Config, Protocol, Shape, FlashState, Moment, moment_of, IsSoundImage, array_in, IndexState, HoldsAlways, ArrayState, Pages, DeviceState, HasKeys, KeyStoreState, OnlyReads}
-use Rattle.record_list.specs.Records.{mention}
+use Rattle.page_keys.proofs.Common.{◌≡◌, ◌≤◌, false, Ok, sym, ap, subst, ◌∙◌, checked, shape_of, Config, Protocol, Shape, FlashState, Moment, Carries-then, IsSoundImage, array_in, IndexState, HoldsAlways, ArrayState, Pages, DeviceState, HasKeys, KeyStoreState, OnlyReads}
+use Rattle.flash_model.specs.Flash.{counted_times}
 use Rattle.judged_records.specs.Images.{records_in}
 use Rattle.tx_engine.proofs.OfDevice.Seen.{opened_seen}
 use Rattle.mounted_session.proofs.Mounting.{fault_then, quiet_then}
 use Rattle.mounted_session.specs.Devices as device
-use Rattle.mounted_session.specs.Mounting.{FailsToMount, StaysQuiet}
+use Rattle.mounted_session.specs.Mounting.{FailsToMount, StaysQuiet, powered}
 use Rattle.mounted_session.specs.declared.device.Refusal.{Refusal}
 use Rattle.mounted_session.specs.declared.device.Refusal.TheVariants as refusal
 use Rattle.mounted_session.specs.declared.mounted.NotMounted.{NotMounted}
@@ -27,7 +27,8 @@ module _ {F : Type 0} (state : F → FlashState) (its : Config) (old : F) (s : D
   pub fails_to_open : (t : DeviceState F) (e : KeyError) → OpensNot s e → OnlyReads state s t (is_key_fault e) →
       FailsToMount (IsWhy its (state old)) (state old) (state t.flash) (not_opened e)
   fails_to_open t opening.Fault cause reads =
-      fault_then (state old) (state s.flash) (state t.flash) quiet reads.moment mounts.live reads.carries
+      fault_then (state old) (state s.flash) (state t.flash) quiet reads.moment mounts.carries mounts.live
+      reads.carries
   fails_to_open t opening.Memory cause reads = record { cause = tt; still = read_quiet t reads }
   fails_to_open t (opening.Bucket page) cause reads =
       let sound = subst (λ (c : Config).
@@ -50,6 +51,7 @@ module _ {F : Type 0} (state : F → FlashState) (its : Config) (old : F) (s : D
       OnlyReads state s k.device false → HoldsAlways state protocol k.device → Opens state its old k
   opened protocol k rule check keys reads always =
       let still = read_quiet k.device reads in
+      let starts = reads.carries.starts mounts.live in
       let config : k.device.config ≡ its =
       ap (λ (t : DeviceState F). t.config) reads.stays ∙ mounts.config in
       record {
@@ -70,6 +72,9 @@ module _ {F : Type 0} (state : F → FlashState) (its : Config) (old : F) (s : D
             (λ page ge. always.beyond page
             (subst (λ (c : Config). c.logical ≤ page) (sym config) ge)) most;
         still = still;
+        reads = (starts.1, starts.3 ∙ ap (counted_times starts.1) mounts.reads);
+        carries = Carries-then (powered (state old)) (state s.flash) (state k.device.flash) false mounts.carries
+            reads.carries;
       }
 
 -- there is no device
