@@ -1,5 +1,5 @@
 -- Runs in which nothing is armed, and the images with which runs end.
-use Rattle.std.proofs.Common.{◌≡◌, inl, inr, ℕ, Bool, ◌||◌, List, [], ◌∷◌, false, refl, sym, ap, subst}
+use Rattle.std.proofs.Common.{◌≡◌, inl, inr, ℕ, Bool, ◌||◌, List, [], ◌∷◌, false, refl, sym, ap, ◌∙◌, subst}
 use Rattle.std.specs.Prelude.{All}
 use Rattle.std.proofs.lemmas.List.Elements.{All-nil, All-contains}
 use Rattle.tx_types.specs.declared.config.Config.{Config}
@@ -14,10 +14,13 @@ use Rattle.array_machine.specs.UnbrokenCalls.{AllPlain}
 use Rattle.host_protocol.specs.declared.command.Command.{Command}
 use Rattle.host_protocol.specs.declared.reply.Reply.{Reply}
 use Rattle.array_runs.specs.Breaks.{AreFew, is_fault}
-use Rattle.cut_replay.specs.FlashRun.{Point, FlashRun, IsFlashRun, IsPoint, mentions_in, last_moment, last_state, first_point, first_state}
-use Rattle.array_runs.specs.Run.{is_arm, seen_after}
+use Rattle.cut_replay.specs.FlashRun.{Point, FlashRun, IsFlashRun, IsPoint, mentions_in, last_moment, last_point, last_state, first_point, first_state}
+use Rattle.array_runs.specs.Run.{RunState, is_arm, seen_after}
 use Rattle.array_runs.specs.Unbroken.{Handed, UnbrokenRun, AreMaybeSpent, FinishesAreDone}
-use Rattle.cut_replay.proofs.Quiet.{flash_run_is_run}
+use Rattle.cut_replay.proofs.MountingAgain.{last_state_is}
+use Rattle.cut_replay.proofs.Quiet.{run_from}
+use Rattle.cut_replay.proofs.Runs.{last_moment_is}
+use Rattle.cut_replay.proofs.Totals.{last_stands}
 use Rattle.array_runs.proofs.Quiet.{none_broken, finishes_done}
 use Rattle.array_runs.proofs.Unbroken.{run_fine}
 use Rattle.desk_tasks.specs.Runs.{IsRun, first_moment, machine_left}
@@ -39,7 +42,7 @@ unbroken its from cs rs ps run few none =
     run_fine (limits_of its) (mentions_in its from) (first_state its run.up from) cs rs
     (last_state (first_state its run.up from) ps)
     (All-nil (λ (e : Entry). e.mark ≡ Plain))
-    (flash_run_is_run its (mentions_in its from) false (first_point its run.up from) cs rs ps run.runs)
+    (run_from its from cs rs ps run)
     (none_broken cs rs none few)
 
 pub unarmed : (its : Config) (from : Moment) (cs : List Command) (rs : List Reply) (ps : List Point)
@@ -56,41 +59,43 @@ unarmed its from cs rs ps run few none =
 
 -- ---- where a run ends
 
-abbrev last_of : Point → List Point → Point
-last_of old ps = record { state = last_state old.state ps; moment = last_moment old.moment ps }
-
-last_stands : (its : Config) (seen : ℕ → ℕ) (faulted : Bool) (old : Point) (cs : List Command) (rs : List Reply)
-    (ps : List Point) →
-    FlashRun its seen faulted old cs rs ps → IsPoint its old → IsPoint its (last_of old ps)
-last_stands its seen faulted old [] [] [] run is = record { sound = is.sound; array = is.array }
-last_stands its seen faulted old [] [] (p ∷ ps) run is = absurd run
-last_stands its seen faulted old [] (r ∷ rs) ps run is = absurd run
-last_stands its seen faulted old (c ∷ cs) [] ps run is = absurd run
-last_stands its seen faulted old (c ∷ cs) (r ∷ rs) [] run is = absurd run
-last_stands its seen faulted old (c ∷ cs) (r ∷ rs) (p ∷ ps) run is =
-    last_stands its (seen_after seen c r) (faulted || is_fault r) p cs rs ps run.2 run.1
+abbrev end_of : {its : Config} {image left : List Contents} {cs : List Command} {text : List ℕ} →
+    IsRun its image cs left text → Point
+end_of {its = its} run = last_point (first_point its run.run.up run.run.flash) run.points
 
 run_stands : (its : Config) (image left : List Contents) (cs : List Command) (text : List ℕ)
-    (run : IsRun its image cs left text) →
-    IsPoint its (last_of (first_point its run.run.up (first_moment image)) run.points)
+    (run : IsRun its image cs left text) → IsPoint its (end_of run)
 run_stands its image left cs text run =
-    last_stands its (mentions_in its (first_moment image)) false (first_point its run.run.up (first_moment image)) cs
-    run.replies run.points run.run.runs
-    (record { sound = run.sound; array = inl refl })
+    last_stands its (mentions_in its (first_moment image)) false (first_point its run.run.up run.run.flash) cs
+    run.replies run.points run.run.first run.run.runs
+
+ends_with : (its : Config) (image left : List Contents) (cs : List Command) (text : List ℕ)
+    (run : IsRun its image cs left text) → left ≡ (end_of run).flash.image
+ends_with its image left cs text run =
+    run.last ∙ ap (λ (m : Moment). m.image) (sym (last_moment_is (first_point its run.run.up run.run.flash) run.points
+    ∙ ap (λ (m : Moment). last_moment m run.points) run.run.begins))
+
+ends_in : (its : Config) (image left : List Contents) (cs : List Command) (text : List ℕ)
+    (run : IsRun its image cs left text) → (end_of run).state.machine ≡ machine_left run
+ends_in its image left cs text run =
+    ap (λ (s : RunState). s.machine) (last_state_is (first_point its run.run.up run.run.flash) run.points
+    ∙ ap (λ (m : Moment). last_state (first_state its run.run.up m) run.points) run.run.begins)
 
 pub left_sound : (its : Config) (image left : List Contents) (cs : List Command) (text : List ℕ) →
     IsRun its image cs left text →
     IsSoundImage its.protocol its.logical (shape_of its) left
 left_sound its image left cs text run =
-    subst (λ i. IsSoundImage its.protocol its.logical (shape_of its) i) (sym run.last)
+    subst (λ i. IsSoundImage its.protocol its.logical (shape_of its) i) (sym (ends_with its image left cs text run))
     (run_stands its image left cs text run).sound
 
 pub left_stands : (its : Config) (image left : List Contents) (cs : List Command) (text : List ℕ)
     (run : IsRun its image cs left text) →
     Represents (machine_left run) (array_in its.protocol its.logical left)
 left_stands its image left cs text run =
-    subst (λ i. Represents (machine_left run) (array_in its.protocol its.logical i)) (sym run.last)
-    (run_stands its image left cs text run).array
+    subst (λ i. Represents (machine_left run) (array_in its.protocol its.logical i))
+    (sym (ends_with its image left cs text run))
+    (subst (λ (m : ArrayState). Represents m (array_in its.protocol its.logical (end_of run).flash.image))
+    (ends_in its image left cs text run) (run_stands its image left cs text run).array)
 
 -- where nothing is in doubt
 sure_array : (s : ArrayState) (pages : Pages) → AllPlain s → Represents s pages → pages ≡ s.pages

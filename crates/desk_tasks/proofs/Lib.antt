@@ -8,4 +8,5 @@ pub mod Parts
 pub mod Findings
 pub mod Copies
 pub mod KeyEndings
+pub mod MovedRecords
 pub mod Retirements

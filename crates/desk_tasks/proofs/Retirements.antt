@@ -1,17 +1,27 @@
 -- Retiring a block of the device of an image, from what its parts come to.
-use Rattle.desk_tasks.proofs.Common.{◌≡◌, inl, inr, ℕ, false, List, Option, None, Ok, Err, refl, sym, ap, subst, ◌∙◌, shape_of, Config, Protocol, Contents, Extras, MemFlashState, loaded, state_of, IsSoundImage, array_in, ReadsImage, Ending, Retiring, RefusesRetirement}
-use Rattle.std.proofs.Common.{Bool, true, unwrap_or}
-use Rattle.flash_model.specs.Flash.{no_extras}
-use Rattle.flash_model.specs.Retiring.{one_more}
+use Rattle.desk_tasks.proofs.Common.{◌≡◌, inl, inr, ℕ, false, List, Option, None, Some, Ok, Err, refl, sym, ap, subst, ◌∙◌, shape_of, Config, Protocol, Contents, Extras, MemFlashState, loaded, state_of, IsSoundImage, array_in, ReadsImage, Ending, Retiring, RefusesRetirement}
+use Rattle.std.proofs.Common.{◌<◌, Bool, true, nat_lt, if◌then◌else◌, unwrap_or}
+use Rattle.std.proofs.lemmas.Bool.{ltb-true}
+use Rattle.std.proofs.lemmas.Option.{none-some}
+use Rattle.flash_model.specs.Flash.{IsFlash, no_extras}
+use Rattle.flash_model.specs.Operations.{Moment}
+use Rattle.flash_model.specs.Retiring.{RetiresAfter, one_more}
 use Rattle.array_machine.specs.ArrayState.{ArrayState, Pages, idle}
 use Rattle.array_machine.specs.Step.{settled}
+use Rattle.die_alloc.specs.BlocksState.{BlocksState}
+use Rattle.judged_records.specs.Opening.{IsChosenSpare, opening_noted}
+use Rattle.collector.specs.Retiring.{retiring_first}
+use Rattle.collector.specs.Settling.{settlement}
 use Rattle.tx_engine.specs.Always.{DevicesStand}
 use Rattle.tx_engine.specs.DeviceCalls.{RetiresDevice}
 use Rattle.tx_engine.specs.Exits.{is_there}
 use Rattle.tx_engine.specs.Opens.{Mounts}
 use Rattle.tx_engine.specs.DeviceState.{DeviceState, Stands}
-use Rattle.desk_tasks.specs.Ending.{Retired}
-use Rattle.desk_tasks.specs.Retirements.{IsBlankBlock, LeavesRetired, RetiresIdle, block_refusal}
+use Rattle.tx_engine.specs.Retire.{RetireEnds}
+use Rattle.tx_types.specs.Config.{blocks_of}
+use Rattle.desk_tasks.specs.Ending.{Retired, RefusedBlock}
+use Rattle.desk_tasks.specs.Retirements.{IsBlankBlock, LeavesRetired, MovesNeeded, RetiresIdle, block_refusal, worn_ending}
+use Rattle.desk_tasks.proofs.MovedRecords.{moves_needed}
 
 -- a device with nothing open
 pub idle_again : (s : ArrayState) (pages : Pages) → s ≡ idle pages → s ≡ idle s.pages
@@ -35,6 +45,7 @@ retires_idle old new block p none stands rule laws retires = record {
   array = subst (λ (c : Config). array_in c.protocol c.logical image ≡ new.machine.pages) same
       (rw rule (laws.records new stands rule retires.sure).1) ∙ pages;
   blank = subst (λ (c : Config). IsBlankBlock c image block) (sym stands.config ∙ same) retires.blank;
+  ends = retires.exits.ends;
 }
   where
     image : List Contents
@@ -49,6 +60,16 @@ retires_idle old new block p none stands rule laws retires = record {
     pages : new.machine.pages ≡ old.machine.pages
     pages = ap (λ (s : ArrayState). s.pages) (retires.retires ∙ ap (settled (is_there state_of old)) none ∙
         settled_idle (is_there state_of old) old.machine.pages)
+
+-- a block that is not refused exists
+block_exists : (its : Config) (extras : Extras) (block : ℕ) → block_refusal its extras block ≡ None →
+    block < blocks_of (shape_of its)
+block_exists its extras block none = by_test (nat_lt block (blocks_of (shape_of its))) refl none
+  where
+    by_test : (low : Bool) → nat_lt block (blocks_of (shape_of its)) ≡ low →
+        (if low then worn_ending extras else Some (RefusedBlock block)) ≡ None → block < blocks_of (shape_of its)
+    by_test true low h = ltb-true block (blocks_of (shape_of its)) low
+    by_test false past h = absurd (none-some (RefusedBlock block) (sym h))
 
 -- ---- the flash that is left, from a device that was mounted
 
@@ -68,11 +89,44 @@ module _ (its : Config) (flash : MemFlashState) (opened : DeviceState MemFlashSt
       subst (λ (c : Config). block_refusal c flash.extras block ≡ refusal) mounts.config
       (subst (λ (x : Extras). block_refusal opened.config x block ≡ refusal) opened_extras e)
 
+  opened_image : opened.flash.image ≡ flash.image
+  opened_image = ap (λ (m : Moment). m.image) mounts.moment
+
+  -- the operations that retire a block of it, by the tables of its image
+  opened_ends : (block : ℕ) (new : DeviceState MemFlashState) → RetireEnds state_of opened new block (Ok tt) →
+      RetiresAfter (state_of opened.flash) (state_of new.flash)
+      (retiring_first (opening_noted its opened.flash.image mounts.tables.spare) opened.flash.image
+      mounts.tables.spare block) block
+  opened_ends block new ends =
+      let spare = mounts.tables.spare in
+      let image = opened.flash.image in
+      let noted : opened.noted ≡ opening_noted its image spare =
+      mounts.tables.noted_is ∙ ap (λ i. opening_noted its i spare) (sym opened_image) in
+      let spare_is : opened.table.spare ≡ spare = ap (λ (t : BlocksState). t.spare) mounts.tables.table_is in
+      subst (λ n. RetiresAfter (state_of opened.flash) (state_of new.flash) (retiring_first n image spare block) block)
+      noted
+      (subst (λ k. RetiresAfter (state_of opened.flash) (state_of new.flash)
+      (retiring_first opened.noted image k block) block) spare_is
+      (subst (λ u. RetiresAfter (state_of opened.flash) (state_of new.flash)
+      (retiring_first (settlement opened.noted opened.table image u).noted image
+      (settlement opened.noted opened.table image u).table.spare block) block) mounts.unsure ends))
+
+  opened_moves : (block : ℕ) (new : DeviceState MemFlashState) → IsFlash (state_of opened.flash) →
+      block < blocks_of (shape_of its) → RetireEnds state_of opened new block (Ok tt) →
+      MovesNeeded its flash.image block new.flash.image
+  opened_moves block new whole low ends =
+      let spare = mounts.tables.spare in
+      subst (λ (image : List Contents). MovesNeeded its image block new.flash.image) opened_image
+      (moves_needed its (state_of opened.flash) (state_of new.flash) spare block opened_shape whole low
+      (subst (λ (image : List Contents). IsChosenSpare its image spare) (sym opened_image) mounts.tables.chosen)
+      (opened_ends block new ends))
+
   pub leaves_retired : (block : ℕ) (new : DeviceState MemFlashState) (left : MemFlashState) →
+      IsFlash (state_of opened.flash) →
       IsSoundImage its.protocol its.logical (shape_of its) flash.image →
       block_refusal opened.config opened.flash.extras block ≡ None →
       RetiresIdle opened new block → left ≡ new.flash → LeavesRetired its flash block left
-  leaves_retired block new left sound none retires is = record {
+  leaves_retired block new left whole sound none retires is = record {
     refusal = opened_refusal block None none;
     shape = ap (λ (s : MemFlashState). s.shape) is ∙ retires.shape ∙ opened_shape;
     extras = ap (λ (s : MemFlashState). s.extras) is ∙ retires.extras ∙ ap one_more opened_extras;
@@ -85,6 +139,8 @@ module _ (its : Config) (flash : MemFlashState) (opened : DeviceState MemFlashSt
           mounts.config retires.array
           ∙ ap (λ (s : ArrayState). s.pages) mounts.machine);
       blank = rw is (subst (λ (c : Config). IsBlankBlock c new.flash.image block) mounts.config retires.blank);
+      moves = rw is (opened_moves block new whole
+          (block_exists its flash.extras block (opened_refusal block None none)) retires.ends);
     };
   }
 

@@ -1,10 +1,10 @@
 -- Serving commands on a device from an image on, on a flash that breaks only where the commands arm
 -- it.
-use Rattle.std.specs.Prelude.{◌≡◌, ◌⊎◌, ℕ, true, List, [], replicate}
+use Rattle.std.specs.Prelude.{◌≡◌, ◌⊎◌, ℕ, true, List, [], replicate, None, IsSomeAnd}
 use Rattle.tx_types.specs.declared.config.Config.{Config}
 use Rattle.tx_types.specs.declared.config.Protocol.{Protocol}
 use Rattle.tx_types.specs.Config.{shape_of, slots_of}
-use Rattle.flash_model.specs.Flash.{Contents, blank}
+use Rattle.flash_model.specs.Flash.{Contents, FlashState, blank}
 use Rattle.flash_model.specs.Operations.{Moment}
 use Rattle.judged_records.specs.Images.{IsSoundImage}
 use Rattle.array_machine.specs.ArrayState.{ArrayState}
@@ -34,9 +34,15 @@ blank_image its = replicate (slots_of (shape_of its)) blank
 abbrev pub first_moment : List Contents → Moment
 first_moment its_image = record { image = its_image; programs = 0; erases = 0 }
 
+-- the flash counted no fault, and tells that no arm is set
+pub record IsUnarmed (s : FlashState) : Type 0 where
+  pub faults : s.faults ≡ 0
+  pub arms : IsSomeAnd s.told (λ told. (told.cut ≡ None) × (told.fault ≡ None) × (told.bad_read ≡ None))
+
 -- The image is sound, and there is a run on a flash over these commands, from it on, with nothing
--- counted. It begins with a mounted device. The run ends with that image, and the text is that of its replies. Among
--- the replies to the first so many commands there are at most as many cuts and faults as were armed among these.
+-- counted and nothing armed. It begins with a mounted device. The run ends with that image, and the
+-- text is that of its replies. Among the replies to the first so many commands there are at most as
+-- many cuts and faults as were armed among these.
 pub record IsRun (its : Config) (image : List Contents) (commands : List Command)
     (left : List Contents) (text : List ℕ) : Type 0 where
   pub sound : IsSoundImage its.protocol its.logical (shape_of its) image
@@ -44,6 +50,7 @@ pub record IsRun (its : Config) (image : List Contents) (commands : List Command
   pub points : List Point
   pub run : IsFlashRun its (first_moment image) commands replies points
   pub up : (commands ≡ []) ⊎ (run.up ≡ true)
+  pub unarmed : IsUnarmed run.flash
   pub last : left ≡ (last_moment (first_moment image) points).image
   pub said : text ≡ text_of_all replies
   pub few : AreFew 0 0 commands replies

@@ -102,6 +102,7 @@ fn retire_by<R: CommitRule>(
     ensures err { IfErr result (StopsBy (RefusesRetirement config flash.image flash.extras block.0)) }
 {
     let mut device = sound_device::<R>(alloc, flash, config)?;
+    let _ = device.config();
     let done = retire(&mut device, block);
     let left = device.close();
     match done {

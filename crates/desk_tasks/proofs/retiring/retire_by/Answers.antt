@@ -40,5 +40,5 @@ pub returns-in-Ok-clause-ok : goal.returns-in-Ok-clause-ok
 returns-in-Ok-clause-ok g c =
     let kept = c.in_ok-device.ensures in
     leaves_retired c.args.config c.args.flash c.in_ok-device.device c.requires.ready kept.ok c.args.block.0
-    c.retire-done.new.device c.close-left.result
+    c.retire-done.new.device c.close-left.result c.config.ensures.stands.matches.flash
     kept.sound c.in-Ok.ensures.refusal c.in-Ok.ensures.retires c.close-left.ensures
