@@ -1,5 +1,5 @@
 -- Commands that set an arm.
-use Rattle.cut_replay.proofs.Common.{◌≡◌, ◌⊎◌, ℕ, ◌≤◌, Bool, true, false, ◌||◌, List, Option, Some, None, Ok, refl, sym, ap, ◌∙◌, subst, inr, arith, inl, MatchBool, IfSome, Config, Protocol, shape_of, FlashState, Told, BothTell, NoMoreToCome, Moment, moment_of, mention, IsSoundImage, records_in, CachedPage, PageCacheState, DeviceState, Command, is_arm, seen_after, Point, IsPoint, IsArmed, ArmsFlash, DoesFlash, ServesFlash, RunState, first_state, IsSet, HoldsAlways, point_at, IsCachedAs, IsCached, flash_in, point_of, Fits, StandsAt, StandsMounted, IsSpentBy, ServesSession, CachesSession, Serves, DeviceSession}
+use Rattle.cut_replay.proofs.Common.{◌≡◌, ℕ, ◌≤◌, Bool, true, false, ◌||◌, List, Ok, refl, sym, ap, ◌∙◌, subst, inr, arith, inl, MatchBool, Config, Protocol, shape_of, FlashState, Told, Moment, moment_of, mention, IsSoundImage, records_in, CachedPage, PageCacheState, DeviceState, Command, is_arm, seen_after, Point, IsPoint, IsArmed, ArmsFlash, DoesFlash, ServesFlash, RunState, first_state, IsSet, HoldsAlways, point_at, IsCachedAs, IsCached, flash_in, point_of, Fits, StandsAt, StandsMounted, IsSpentBy, ServesSession, CachesSession, Serves, DeviceSession}
 use Rattle.std.proofs.lemmas.List.Elements.{All-weaker}
 use Rattle.std.proofs.lemmas.Bool.{or_parts}
 use Rattle.flash_model.specs.declared.outcome.Outcome.{Outcome}
@@ -8,6 +8,7 @@ use Rattle.host_protocol.specs.declared.command.Command.TheVariants as command
 use Rattle.host_protocol.specs.declared.reply.Reply.TheVariants as reply
 use Rattle.tx_engine.proofs.OfDevice.Seen.{seen_flash}
 use Rattle.mounted_session.proofs.Beginning.{sets_flash}
+use Rattle.cut_replay.specs.UnmountedRun.{FailsUnmounted, ServesUnmounted}
 use Rattle.cut_replay.specs.Sessions.{IsNotDropped, SetsArm, SetsArmHere, CachesFrom}
 use Rattle.mounted_session.specs.declared.session.Session.TheVariants as session
 use Rattle.cut_replay.proofs.Mountings.{point_flash}
@@ -135,6 +136,12 @@ armed_serves_flash its spent faulted c old new arm h =
     subst (λ b. MatchBool b (IsArmed c old reply.Armed new) (DoesFlash its spent faulted c old reply.Armed new))
     (sym arm) h
 
+armed_unmounted : (its : Config) (c : Command) (old new : FlashState) → is_arm c ≡ true → ArmsFlash c old new →
+    ServesUnmounted its c old reply.Armed new
+armed_unmounted its c old new arm h =
+    subst (λ b. MatchBool b ((reply.Armed ≡ reply.Armed) × ArmsFlash c old new)
+    (FailsUnmounted its old reply.Armed new)) (sym arm) (refl, h)
+
 armed_serves : {F : Type 0} (state : F → FlashState) (its : Config) (protocol : Protocol) (sets : Told → Told →
     Type 0) (entries : List CachedPage) (c : Command) (old new : DeviceSession F) →
     IsArming c sets → Fits state its entries old → SetsArm state protocol sets old new →
@@ -156,8 +163,8 @@ armed_serves state its protocol sets entries c old new arming fits h =
         stands = armed_stands state its protocol sets c seen faulted old new h stands;
       };
       kept = inr (still_armed sets (state (flash_in old)) (state (flash_in new)) flash);
-      unsound = λ unsound. subst (λ b. MatchBool b (reply.Armed ≡ reply.Armed) ((reply.Armed ≡ reply.Fault)
-          ⊎ (reply.Armed ≡ reply.Cut))) (sym arming.arm) refl;
+      unsound = λ unsound. armed_unmounted its c (state (flash_in old)) (state (flash_in new)) arming.arm
+          (arming.arms (state (flash_in old)) (state (flash_in new)) flash);
       faults = ap (λ (x : FlashState). x.faults) flash.stays;
       extras = ap (λ (x : FlashState). x.extras) flash.stays;
     }

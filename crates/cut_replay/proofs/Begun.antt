@@ -1,6 +1,5 @@
 -- The session that serving begins with.
-use Rattle.cut_replay.proofs.Common.{◌≡◌, Bool, true, false, List, [], Option, Some, None, Result, Ok, Err, refl, sym, ap, ◌∙◌, subst, inl, inr, arith, IfOk, MatchBool, Config, checked, shape_of, Shape, CachedPage, FlashState, Told, BothTell, NoMoreToCome, Spends, Moment, moment_of, ArrayState, array_in, idle, MountsFlash, mentions_in, first_point, CountsBreaks, flash_in, point_of, IsSoundFlash, IsSoundOrSame, Fits, Mounted, Unmounted, Begins, Command, Watched, ServesUnsound, ServeError, DeviceSession, sound_unbroken}
-use Rattle.std.specs.Prelude.{IsSomeAnd}
+use Rattle.cut_replay.proofs.Common.{◌≡◌, Bool, true, false, List, [], Ok, Err, refl, sym, ap, ◌∙◌, subst, inl, inr, arith, MatchBool, Config, checked, shape_of, Shape, CachedPage, FlashState, BothTell, Spends, Moment, moment_of, ArrayState, array_in, idle, MountsFlash, BeginsFlash, mentions_in, first_point, CountsBreaks, flash_in, point_of, IsSoundFlash, Fits, Mounted, Unmounted, Begins, Command, Watched, ServesUnsound, ServeError, DeviceSession, sound_unbroken}
 use Rattle.flash_model.specs.Flash.{IsSteady}
 use Rattle.cut_replay.specs.Bounds.{BeginsUnbroken}
 use Rattle.cut_replay.specs.Beginning.{MountsFirst}
@@ -10,15 +9,34 @@ use Rattle.cut_replay.specs.FlashRun.{Point}
 use Rattle.mounted_session.proofs.Beginning.{first_by, first_still}
 use Rattle.mounted_session.proofs.Mounting.{nothing_done}
 use Rattle.mounted_session.proofs.Telling.{none_spent}
-use Rattle.mounted_session.specs.Devices.{MountsIn}
+use Rattle.mounted_session.specs.Devices.{MountsIn, ReadsFew}
+use Rattle.mounted_session.specs.Sessions.{IfAlone}
 use Rattle.judged_records.specs.Images.{IsSoundImage}
 use Rattle.tx_engine.specs.DeviceState.{DeviceState}
 use Rattle.cut_replay.proofs.Losing.{mounted_fits}
 use Rattle.cut_replay.specs.Served.{ServesSound, CountsTold, RefusesUnsound}
+use Rattle.cut_replay.specs.UnmountedRun.{EndsUnmounted}
 use Rattle.cut_replay.specs.declared.serving.ServeError.TheVariants as failed
 use Rattle.mounted_session.specs.declared.session.Session.TheVariants as session
-use Rattle.cut_replay.proofs.Mountings.{mounted_stands, mounted_leaves, mounted_still, mounted_flash}
+use Rattle.cut_replay.proofs.Mountings.{mounted_stands, mounted_leaves, mounted_flash, mounted_by}
 use Rattle.cut_replay.proofs.Runs.{grew_none, least_none, counts_later}
+
+-- a device is mounted on a sound image alone
+mounted_sound : {F : Type 0} (state : F → FlashState) (its : Config) (flash : F) (s : DeviceState F) →
+    MountsIn state its flash s → IsSoundFlash its (state flash)
+mounted_sound state its flash s h =
+    subst (λ (m : Moment). IsSoundImage its.protocol its.logical (shape_of its) m.image) h.still.moment
+    (subst (λ (c : Config). IsSoundImage c.protocol c.logical (shape_of c) (state s.flash).image) h.config
+    h.always.sound)
+
+on_begins : (its : Config) (up : Bool) (old first : FlashState) → old.live ≡ true → MountsFlash its up old first →
+    BeginsFlash its old up first
+on_begins its up old first on mount =
+    subst (λ b. MatchBool b (MountsFlash its up old first) ((up ≡ false) × (first ≡ old))) (sym on) mount
+
+off_begins : (its : Config) (old : FlashState) → old.live ≡ false → BeginsFlash its old false old
+off_begins its old off =
+    subst (λ b. MatchBool b (MountsFlash its false old old) ((false ≡ false) × (old ≡ old))) (sym off) (refl, refl)
 
 -- at the first point
 begun_point : {F : Type 0} (state : F → FlashState) (its : Config) (flash : F) (s : DeviceSession F) →
@@ -78,8 +96,7 @@ begun state its flash s on h sound =
     record {
       sound = sound;
       up = at.0;
-      first = subst (λ b. MatchBool b (MountsFlash its at.0 (state flash) (state (flash_in s)))
-          ((at.0 ≡ false) × (state (flash_in s) ≡ state flash))) (sym on) mount;
+      first = on_begins its at.0 (state flash) (state (flash_in s)) on mount;
       moment = mount.moment;
       live = λ up. mount_live its at.0 (state flash) (state (flash_in s)) mount up;
       point = at.1;
@@ -95,8 +112,7 @@ dead_begins : {F : Type 0} (state : F → FlashState) (its : Config) (flash : F)
 dead_begins state its flash off sound = record {
   sound = sound;
   up = false;
-  first = subst (λ b. MatchBool b (MountsFlash its false (state flash) (state flash))
-      ((false ≡ false) × (state flash ≡ state flash))) (sym off) (refl, refl);
+  first = off_begins its (state flash) off;
   moment = refl;
   live = λ up. (let no : false ≡ true = up in absurd cc);
   point = refl;
@@ -108,25 +124,7 @@ nothing_served : {F : Type 0} (state : F → FlashState) (its : Config) (list : 
     (w : Watched) →
     IsSoundFlash its (state flash) → StaysQuiet (state flash) (state new) →
     ServesSound its list (state flash) (state new) w w (Err failed.Memory)
-nothing_served state its list flash new w sound still = (
-  0,
-  omega arith,
-  inl (record {
-    replies = [];
-    points = [];
-    run = record {
-      up = false;
-      flash = state flash;
-      begins = refl;
-      first = record { sound = sound; array = inl refl; live = λ up. (let no : false ≡ true = up in absurd cc) };
-      runs = tt;
-    };
-    begins = inr (refl, refl);
-    left = still;
-    text = grew_none w.text;
-    kept = grew_none w.kept;
-  }),
-)
+nothing_served state its list flash new w sound still = inl (record { still = still; untold = refl })
 
 pub rooms_ended : {F : Type 0} (state : F → FlashState) (its : Config) (list : List Command) (flash : F)
     (w : Watched) →
@@ -158,37 +156,59 @@ same_shape its old new was is = cc
 -- a flash that tells that no break is to come has a sound image once it was mounted
 begun_steady : {F : Type 0} (state : F → FlashState) (its : Config) (flash : F) (s : DeviceSession F) →
     Mounted state its flash s → IsSteady (state flash) → IsSoundFlash its (state flash)
-begun_steady state its flash (session.Mounted s) h steady =
-    subst (λ (m : Moment). IsSoundImage its.protocol its.logical (shape_of its) m.image) h.still.moment
-    (subst (λ (c : Config). IsSoundImage c.protocol c.logical (shape_of c) (state s.flash).image) h.config
-    h.always.sound)
+begun_steady state its flash (session.Mounted s) h steady = mounted_sound state its flash s h
 begun_steady state its flash (session.Unmounted new) h steady =
     absurd (none_spent (state flash).told (state new).told (state new).live steady.none h.spends)
+
+unsound_begun : {F : Type 0} (state : F → FlashState) (its : Config) (flash : F) (s : DeviceSession F) →
+    (state flash).live ≡ true → Mounted state its flash s → (IsSoundFlash its (state flash) → ⊥) →
+    BeginsFlash its (state flash) false (state (flash_in s))
+unsound_begun state its flash (session.Mounted s) on h unsound =
+    absurd (unsound (mounted_sound state its flash s h))
+unsound_begun {F = F} state its flash (session.Unmounted new) on h unsound =
+    let alone : DeviceSession F = session.Unmounted new in
+    on_begins its false (state flash) (state new) on (mounted_flash state its flash alone h)
 
 -- the session that serving begins with: a live flash was mounted, and another one stays
 module _ {F : Type 0} (state : F → FlashState) (its : Config) (flash : F) (s : DeviceSession F)
     (first : MountsFirst state its flash s) where
+  -- of a session that mounting leaves
+  first_of : (Q : DeviceSession F → Type 0) →
+      ((t : DeviceSession F) → (state flash).live ≡ true → Mounted state its flash t → Q t) →
+      ((state flash).live ≡ false → Q (session.Unmounted flash)) → Q s
+  first_of Q on off = first_by state (MountsIn state its) flash
+      (λ t. ((state flash).live ≡ true → IfAlone (λ new. ReadsFew its (state flash) (state new)) t) → Q t)
+      (λ t live h met. on t live (mounted_by state its flash t h (met live))) (λ dead met. off dead) s first.mounts
+      first.met
+
   pub first_begins : IsSoundFlash its (state flash) → Begins state its (state flash) s
-  first_begins sound = first_by state (MountsIn state its) flash (λ t. Begins state its (state flash) t)
-      (λ t on h. begun state its flash t on h sound) (λ off. dead_begins state its flash off sound) s first
+  first_begins sound = first_of (λ t. Begins state its (state flash) t)
+      (λ t on h. begun state its flash t on h sound) (λ off. dead_begins state its flash off sound)
+
+  -- of an image that is not sound no device is mounted
+  pub first_unsound : (IsSoundFlash its (state flash) → ⊥) →
+      BeginsFlash its (state flash) false (state (flash_in s))
+  first_unsound unsound = first_of
+      (λ t. BeginsFlash its (state flash) false (state (flash_in t)))
+      (λ t on h. unsound_begun state its flash t on h unsound) (λ off. off_begins its (state flash) off)
 
   pub first_steady : IsSteady (state flash) → IsSoundFlash its (state flash)
-  first_steady steady = first_by state (MountsIn state its) flash (λ t. IsSoundFlash its (state flash))
+  first_steady steady = first_of (λ t. IsSoundFlash its (state flash))
       (λ t on h. begun_steady state its flash t h steady)
-      (λ off. let both = sym off ∙ steady.live in cc) s first
+      (λ off. let both = sym off ∙ steady.live in cc)
 
   pub first_faults : CountsBreaks [] (state flash) (state (flash_in s))
-  first_faults = first_by state (MountsIn state its) flash
+  first_faults = first_of
       (λ t. CountsBreaks [] (state flash) (state (flash_in t)))
-      (λ t on h. begun_faults state its flash t on h) (λ off. none_counted (state flash)) s first
+      (λ t on h. begun_faults state its flash t on h) (λ off. none_counted (state flash))
 
   pub first_fits : checked its ≡ Ok (state flash).shape → Fits state its [] s
-  first_fits check = first_by state (MountsIn state its) flash (λ t. Fits state its [] t)
-      (λ t on h. mounted_fits state its flash t check h) (λ off. check) s first
+  first_fits check = first_of (λ t. Fits state its [] t)
+      (λ t on h. mounted_fits state its flash t check h) (λ off. check)
 
   pub first_stays : MomentStays (state flash) (state (flash_in s))
   first_stays = first_still state (MountsIn state its) flash (λ (d : DeviceState F). d.flash)
-      (λ d h. record { still = h.still; quiet = h.quiet }) s first
+      (λ d h. record { still = h.still; quiet = h.quiet }) s first.mounts
 
 pub begin_refused : {F : Type 0} (state : F → FlashState) (its : Config) (flash new : F) (why : ServeError) →
     Unmounted state its flash new why →
@@ -201,23 +221,33 @@ ended_as : (init final : FlashState) (why : ServeError) → StaysQuiet init fina
 ended_as init final (failed.Unsound law slot) still = counts_later [] init init final (none_counted init) still.quiet
 ended_as init final failed.Memory still = tt
 
-pub unsound_ended : (init final : FlashState) (list : List Command) (w : Watched) (why : ServeError) →
+left_as : (its : Config) (list : List Command) (init final : FlashState) (why : ServeError) → StaysQuiet init final →
+    EndsUnmounted its list 0 init final (Err why)
+left_as its list init final (failed.Unsound law slot) still = still
+left_as its list init final failed.Memory still = inl still
+
+pub unsound_ended : (its : Config) (init final : FlashState) (list : List Command) (w : Watched) (why : ServeError) →
     StaysQuiet init final →
-    ServesUnsound list init final w w (Err why)
-unsound_ended init final list w why still = record {
+    ServesUnsound its list init final w w (Err why)
+unsound_ended its init final list w why still = record {
   told = 0;
   replies = [];
-  unmounted = tt;
+  first = init;
+  points = [];
+  begins = inr (refl, refl);
+  run = tt;
   all = tt;
+  ends = left_as its list init final why still;
   still = still.still.moment;
   text = grew_none w.text;
   kept = grew_none w.kept;
+  flashes = grew_none w.flashes;
   faults = ended_as init final why still;
 }
 
-pub unsound_unserved : (init : FlashState) (list : List Command) (w : Watched) →
-    ServesUnsound list init init w w (Err failed.Memory)
-unsound_unserved init list w = unsound_ended init init list w failed.Memory (nothing_done init)
+pub unsound_unserved : (its : Config) (init : FlashState) (list : List Command) (w : Watched) →
+    ServesUnsound its list init init w w (Err failed.Memory)
+unsound_unserved its init list w = unsound_ended its init init list w failed.Memory (nothing_done init)
 
 unmounted_quiet : {F : Type 0} (state : F → FlashState) (its : Config) (flash new : F) (why : ServeError) →
     Unmounted state its flash new why →
@@ -228,8 +258,8 @@ unmounted_quiet state its flash new failed.Memory h = h
 pub begin_unsound : {F : Type 0} (state : F → FlashState) (its : Config) (list : List Command) (flash new : F)
     (why : ServeError) (w : Watched) →
     Unmounted state its flash new why →
-    ServesUnsound list (state flash) (state new) w w (Err why)
-begin_unsound state its list flash new why w h = unsound_ended (state flash) (state new) list w why
+    ServesUnsound its list (state flash) (state new) w w (Err why)
+begin_unsound state its list flash new why w h = unsound_ended its (state flash) (state new) list w why
     (unmounted_quiet state its flash new why h)
 
 pub begin_shape : {F : Type 0} (state : F → FlashState) (its : Config) (flash new : F) (why : ServeError) →

@@ -1,10 +1,10 @@
 -- A command that mounts the device first.
-use Rattle.cut_replay.proofs.Common.{◌≡◌, ◌⊎◌, ℕ, ◌≤◌, Bool, true, false, not, [], Result, Ok, Err, refl, sym, ap, ◌∙◌, subst, inl, inr, arith, MatchBool, Config, Shape, checked, shape_of, FlashState, Rose, Moment, moment_of, mention, IsSoundImage, records_in, ArrayState, DeviceState, limits_of, Command, Reply, DoesCommand, MayLose, CutLeavesOf, is_arm, seen_after, Point, IsArmed, IsDone, IsLost, DoesFlash, ComesUp, MountsFlash, MovesBy, ServesFlash, Tells, first_point, first_state, is_cut, CountsBreak, point_at, MomentStays, PageCacheState, flash_in, point_of, StandsMounted, ServesIn, ServesSession, IsSoundOrSame, EndsServing, MountsIn, Mounted, Unmounted, CachesSession, Fits, Serves, ServeError, DeviceSession}
+use Rattle.cut_replay.proofs.Common.{◌≡◌, ◌⊎◌, ℕ, ◌≤◌, Bool, true, false, not, [], Result, Ok, Err, refl, sym, ap, ◌∙◌, subst, inl, inr, arith, MatchBool, Config, Shape, checked, shape_of, FlashState, Rose, Moment, moment_of, mention, IsSoundImage, records_in, ArrayState, DeviceState, limits_of, Command, Reply, DoesCommand, MayLose, CutLeavesOf, is_arm, seen_after, Point, IsArmed, IsDone, IsLost, DoesFlash, ArmsFlash, ComesUp, MountsFlash, MovesBy, ServesFlash, Tells, first_point, first_state, is_cut, CountsBreak, point_at, MomentStays, PageCacheState, flash_in, point_of, StandsMounted, ServesIn, ServesSession, IsSoundOrSame, EndsServing, MountsIn, Mounted, Unmounted, CachesSession, Fits, Serves, ServeError, DeviceSession}
 use Rattle.host_protocol.specs.declared.reply.Reply.TheVariants as reply
 use Rattle.cut_replay.specs.FlashRun.{HasErased}
-use Rattle.mounted_session.specs.Mounting.{MeetsFault}
 use Rattle.mounted_session.specs.Sessions.{is_mounted}
-use Rattle.cut_replay.specs.Sessions.{StandsUnmounted}
+use Rattle.cut_replay.specs.Sessions.{MeetsOne, StandsUnmounted}
+use Rattle.cut_replay.specs.UnmountedRun.{FailsUnmounted}
 use Rattle.cut_replay.specs.Sessions.{EndsFor, CachesServed, CachesFrom}
 use Rattle.cut_replay.specs.declared.serving.ServeError.TheVariants as failed
 use Rattle.mounted_session.specs.declared.session.Session.TheVariants as session
@@ -134,9 +134,10 @@ lifted_serves : {F : Type 0} (state : F → FlashState) (its : Config) (flash : 
 lifted_serves state its flash t c r new no_arm mounts h = record {
   in_run = lifted_run state its flash t c r new no_arm mounts h.in_run;
   kept = sound_or_same_from its (state flash) (state t.flash) (state (flash_in new)) mounts.still.moment h.kept;
-  unsound = λ unsound. h.unsound (λ sound. unsound
-      (subst (λ (m : Moment). IsSoundImage its.protocol its.logical (shape_of its) m.image) mounts.still.moment
-      sound));
+  unsound = λ unsound. absurd (unsound (subst
+      (λ (m : Moment). IsSoundImage its.protocol its.logical (shape_of its) m.image) mounts.still.moment
+      (subst (λ (x : Config). IsSoundImage x.protocol x.logical (shape_of x) (state t.flash).image) mounts.config
+      mounts.always.sound)));
   faults = subst (λ n. CountsBreak r n (state (flash_in new)).faults) mounts.quiet h.faults;
   extras = h.extras ∙ mounts.still.extras;
 }
@@ -225,7 +226,7 @@ not_opened s c seen r page (inr is) = ap (λ q. seen_after seen c q page) is.0
 
 not_done_serves : {F : Type 0} (state : F → FlashState) (its : Config) (c : Command) (flash new : F)
     (r : Reply) → is_arm c ≡ false →
-    MeetsFault (state flash) (state new) → IsFaultOrCut (state new) r →
+    MeetsOne its (state flash) (state new) → IsFaultOrCut (state new) r →
     ServesSession state its c (session.Unmounted flash) r (session.Unmounted new)
 not_done_serves {F = F} state its c flash new r no_arm h is =
     let after : DeviceSession F = session.Unmounted new in
@@ -253,8 +254,12 @@ not_done_serves {F = F} state its c flash new r no_arm h is =
         };
       };
       kept = inr h.still.moment;
-      unsound = λ unsound. subst (λ b. MatchBool b (r ≡ reply.Armed) ((r ≡ reply.Fault) ⊎ (r ≡ reply.Cut))) (sym no_arm)
-          (not_done_reply (state new) r is);
+      unsound = λ unsound. subst (λ b. MatchBool b ((r ≡ reply.Armed) × ArmsFlash c (state flash) (state new))
+          (FailsUnmounted its (state flash) r (state new))) (sym no_arm) (record {
+            told = not_done_reply (state new) r is;
+            cut = not_done_cut (state new) r is;
+            mounts = mounted_flash state its flash after h;
+          });
       faults = not_done_counts (state new) r (state flash).faults (state new).faults is h.rose;
       extras = h.still.extras;
     }

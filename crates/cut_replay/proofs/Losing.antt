@@ -1,5 +1,5 @@
 -- What a call comes to after which no transaction is open, and its flash is mounted again.
-use Rattle.cut_replay.proofs.Common.{◌≡◌, ◌⊎◌, ℕ, ◌<◌, ◌≤◌, Bool, true, false, not, ◌||◌, List, [], Result, Ok, Err, refl, sym, ap, ◌∙◌, subst, inl, inr, arith, MatchBool, IfOk, Config, Shape, checked, shape_of, FlashState, Rose, Carries, Moment, moment_of, mention, IsSoundImage, array_in, records_in, PageCacheState, CachedPage, ArrayState, idle, DeviceState, Command, Reply, CutLeavesOf, MayLose, is_arm, is_break, seen_after, Point, IsArmed, IsLost, DoesFlash, MovesBy, ServesFlash, is_cut, is_fault, is_lost, CountsBreak, IsSeen, point_at, flash_in, point_of, IsSoundFlash, Fits, StandsMounted, IsSoundOrSame, ServesIn, ServesSession, EndsServing, Mounted, Unmounted, CachesSession, ServeError, DeviceSession, sound_unbroken}
+use Rattle.cut_replay.proofs.Common.{◌≡◌, ℕ, ◌<◌, ◌≤◌, Bool, true, false, not, ◌||◌, List, [], Result, Ok, Err, refl, sym, ap, ◌∙◌, subst, inl, inr, arith, MatchBool, IfOk, Config, Shape, checked, shape_of, FlashState, Rose, Carries, Moment, moment_of, mention, IsSoundImage, array_in, records_in, PageCacheState, CachedPage, ArrayState, idle, DeviceState, Command, Reply, CutLeavesOf, MayLose, is_arm, is_break, seen_after, Point, IsArmed, IsLost, DoesFlash, MovesBy, ServesFlash, is_cut, is_fault, is_lost, CountsBreak, IsSeen, point_at, flash_in, point_of, IsSoundFlash, Fits, StandsMounted, IsSoundOrSame, ServesIn, ServesSession, EndsServing, Mounted, Unmounted, CachesSession, ServeError, DeviceSession, sound_unbroken}
 use Rattle.std.specs.Prelude.{IfErr}
 use Rattle.host_protocol.specs.declared.reply.Reply.TheVariants as reply
 use Rattle.cut_replay.specs.Sessions.{MountsAgain, CachesServed}

@@ -1,7 +1,8 @@
 -- What is so of a session whose flash was mounted, or was not because a read met a fault.
 use Rattle.cut_replay.proofs.Common.{◌≡◌, ℕ, ◌<◌, ◌≤◌, Bool, true, sym, ap, ◌∙◌, subst, inl, false, refl, Config, shape_of, FlashState, Moment, moment_of, mention, IsSoundImage, array_in, records_in, IndexState, ArrayState, idle, DeviceState, IsPoint, MountsFlash, IsSeen, MomentStays, point_of, flash_in, IsSoundFlash, StandsAt, MountsIn, Mounted, DeviceSession}
 use Rattle.tx_engine.proofs.OfDevice.Seen.{opened_seen}
-use Rattle.mounted_session.specs.Devices.{IsWhy}
+use Rattle.mounted_session.specs.Devices.{IsWhy, ReadsFew}
+use Rattle.mounted_session.specs.Sessions.{IfAlone, Mounts}
 use Rattle.mounted_session.specs.Mounting.{IsRefused}
 use Rattle.mounted_session.specs.declared.device.Refusal.{Refusal}
 use Rattle.mounted_session.specs.declared.device.Refusal.TheVariants as refusal
@@ -70,12 +71,27 @@ pub mounted_flash : {F : Type 0} (state : F → FlashState) (its : Config) (flas
 mounted_flash state its flash (session.Mounted s) h = record {
   carries = h.carries;
   moment = h.still.moment;
-  reads = λ up. h.reads;
+  reads = h.reads;
+  started = h.started;
 }
 mounted_flash state its flash (session.Unmounted new) h = record {
   carries = h.carries;
   moment = h.still.moment;
-  reads = λ up. (let no : false ≡ true = up in absurd cc);
+  reads = h.few.reads;
+  started = h.few.started;
+}
+
+-- by what mounting it says
+pub mounted_by : {F : Type 0} (state : F → FlashState) (its : Config) (flash : F) (s : DeviceSession F) →
+    Mounts state (MountsIn state its) flash s → IfAlone (λ new. ReadsFew its (state flash) (state new)) s →
+    Mounted state its flash s
+mounted_by state its flash (session.Mounted s) h met = h
+mounted_by state its flash (session.Unmounted new) h met = record {
+  still = h.still;
+  rose = h.rose;
+  spends = h.spends;
+  carries = h.carries;
+  few = met;
 }
 
 -- each page is mentioned as the image mentions it

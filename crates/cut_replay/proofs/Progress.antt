@@ -3,18 +3,16 @@ use Rattle.cut_replay.proofs.Common.{◌≡◌, ℕ, ◌+◌, ◌<◌, ◌≤◌
 use Rattle.std.proofs.Common.{get_or}
 use Rattle.std.specs.Prelude.{OnErr}
 use Rattle.std.specs.Prelude.{map}
-use Rattle.std.specs.List.{AllZip}
 use Rattle.std.specs.Result.{is_err}
-use Rattle.std.proofs.lemmas.Slice.Zip.{all_zipped_more}
 use Rattle.std.proofs.lemmas.List.{take_more, take_all, length-take-le, map-append}
 use Rattle.list_lemmas.proofs.Lists.{take_whole, take_before_last}
 use Rattle.tx_types.specs.declared.config.Slot.{Slot}
 use Rattle.mounted_session.proofs.Mounting.{nothing_done}
 use Rattle.judged_records.specs.Images.{IsLeastImageBreach}
-use Rattle.cut_replay.specs.Watching.{ToldReply, text_of_all, replies_told}
+use Rattle.cut_replay.specs.Watching.{ToldReply, text_of_all, replies_told, flashes_at}
 use Rattle.cut_replay.specs.Served.{ServesRun, ServesSound, CountsTold, RefusesUnsound}
 use Rattle.cut_replay.specs.Sessions.{EndsFor, EndsForMemory, Refuses}
-use Rattle.cut_replay.specs.Sessions.{RepliesUnmounted}
+use Rattle.cut_replay.specs.UnmountedRun.{ServesUnmounted, UnmountedRun, EndsUnmounted, last_flash}
 use Rattle.cut_replay.specs.declared.serving.ServeError.TheVariants as failed
 use Rattle.mounted_session.specs.declared.session.Session.TheVariants as session
 use Rattle.cut_replay.proofs.Mountings.{point_flash}
@@ -49,6 +47,7 @@ pub record HasServed {F : Type 0} (state : F → FlashState) (its : Config) (ini
   pub runs : Runs state its init cs replies points s
   pub text : Grew before.text after.text (text_of_all replies)
   pub kept : Grew before.kept after.kept (replies_told replies points)
+  pub flashes : Grew before.flashes after.flashes (flashes_at points)
 
 -- at the beginning
 pub served_none : {F : Type 0} (state : F → FlashState) (its : Config) (init : FlashState) (s : DeviceSession F)
@@ -74,6 +73,7 @@ served_none state its init s w h = record {
   };
   text = grew_none w.text;
   kept = grew_none w.kept;
+  flashes = grew_none w.flashes;
 }
 
 -- one command more
@@ -112,14 +112,18 @@ runs_more state its init cs rs ps c r s t h served =
           (sym (faulted_more false rs r)) one.stands);
     }
 
+flashes_more : (ps : List Point) (p : Point) → flashes_at (ps ++ p ∷ []) ≡ flashes_at ps ++ p.flash ∷ []
+flashes_more ps p = map-append (λ (q : Point). q.flash) ps (p ∷ [])
+
 -- which was told
 pub served_more : {F : Type 0} (state : F → FlashState) (its : Config) (init : FlashState) (cs : List Command)
     (c : Command) (r : Reply) (s t : DeviceSession F)
     (a b d : Watched) →
     HasServed state its init cs s a b → ServesSession state its c s r t → Grew b.text d.text (text_of r) →
     Grew b.kept d.kept (record { text = text_of r; moment = moment_of (state (flash_in t)) } ∷ []) →
+    Grew b.flashes d.flashes (state (flash_in t) ∷ []) →
     HasServed state its init (cs ++ c ∷ []) t a d
-served_more state its init cs c r s t a b d h serves text kept =
+served_more state its init cs c r s t a b d h serves text kept flashes =
     let p = point_of state its t in
     let same = run_lengths its (mentions_in its (moment_of init)) false (first_point its h.runs.up h.runs.flash) cs
     h.replies h.points h.runs.run in
@@ -135,6 +139,9 @@ served_more state its init cs c r s t a b d h serves text kept =
           (record { text = text_of r; moment = moment_of p.flash } ∷ []) h.kept
           (subst (λ (m : Moment). Grew b.kept d.kept (record { text = text_of r; moment = m } ∷ []))
           (sym (point_moment state its t)) kept));
+      flashes = subst (λ (x : List FlashState). Grew a.flashes d.flashes x) (sym (flashes_more h.points p))
+          (grew_more a.flashes b.flashes d.flashes (flashes_at h.points) (p.flash ∷ []) h.flashes
+          (subst (λ (x : FlashState). Grew b.flashes d.flashes (x ∷ [])) (sym (point_flash state its t)) flashes));
     }
 
 -- What has been served is what serving comes to: the flash of the session is that of the last point
@@ -169,11 +176,12 @@ all_served state its init cs s final a b h still =
         first = h.runs.first;
         runs = h.runs.run;
       };
-      begins = inl h.runs.from;
+      begins = h.runs.from;
       left = run_left state its init cs h.replies h.points s final h.runs still;
       text = subst (λ (x : List Reply). Grew a.text b.text (text_of_all x)) (sym replies) h.text;
       kept = subst (λ (x : List Reply). Grew a.kept b.kept (replies_told x (take (length cs) h.points))) (sym replies)
           (subst (λ (x : List Point). Grew a.kept b.kept (replies_told h.replies x)) (sym points) h.kept);
+      flashes = subst (λ (x : List Point). Grew a.flashes b.flashes (flashes_at x)) (sym points) h.flashes;
     }
 
 -- where one command more was served whose reply was not told
@@ -181,9 +189,9 @@ pub one_untold : {F : Type 0} (state : F → FlashState) (its : Config) (init : 
     (c : Command) (r : Reply) (s t : DeviceSession F)
     (a b d : Watched) → HasServed state its init cs s a b →
     ((seen : ℕ → ℕ) → (faulted : Bool) → StandsAt state its seen faulted s → ServesIn state its seen faulted c s r t) →
-    d.text ≡ b.text → d.kept ≡ b.kept →
+    d.text ≡ b.text → d.kept ≡ b.kept → d.flashes ≡ b.flashes →
     ServesRun its (cs ++ c ∷ []) (length cs) init (state (flash_in t)) a d
-one_untold state its init cs c r s t a b d h served text kept =
+one_untold state its init cs c r s t a b d h served text kept flashes =
     let first = first_point its h.runs.up h.runs.flash in
     let lengths = run_lengths its (mentions_in its (moment_of init)) false first cs h.replies h.points h.runs.run in
     let p = point_of state its t in
@@ -200,7 +208,7 @@ one_untold state its init cs c r s t a b d h served text kept =
         first = runs.first;
         runs = runs.run;
       };
-      begins = inl runs.from;
+      begins = runs.from;
       left = run_left state its init (cs ++ c ∷ []) (h.replies ++ r ∷ []) (h.points ++ p ∷ []) t
           (state (flash_in t)) runs (nothing_done (state (flash_in t)));
       text = subst (λ (x : List Reply). Grew a.text d.text (text_of_all x)) (sym replies)
@@ -209,6 +217,8 @@ one_untold state its init cs c r s t a b d h served text kept =
           (sym replies)
           (subst (λ (x : List Point). Grew a.kept d.kept (replies_told h.replies x)) (sym points)
           (subst (λ (o : Option (List ToldReply)). Grew a.kept o (replies_told h.replies h.points)) (sym kept) h.kept));
+      flashes = subst (λ (x : List Point). Grew a.flashes d.flashes (flashes_at x)) (sym points)
+          (subst (λ (o : Option (List FlashState)). Grew a.flashes o (flashes_at h.points)) (sym flashes) h.flashes);
     }
 
 -- The next command of a list
@@ -240,7 +250,7 @@ pub ended_for_memory : {F : Type 0} (state : F → FlashState) (its : Config) (i
     HasServed state its init (take at list) s a b → EndsForMemory state its c s flash →
     ServesSound its list init (state flash) a b (Err failed.Memory)
 ended_for_memory state its init list at c s flash a b lt read h (inl still) =
-    let count : length (take at list) ≡ at = length-take-le at list (omega arith) in (
+    let count : length (take at list) ≡ at = length-take-le at list (omega arith) in inr (
       at,
       omega arith,
       inl (subst (λ n. ServesRun its (take at list) n init (state flash) a b) count
@@ -250,7 +260,7 @@ ended_for_memory state its init list at c s flash a b lt read h (inr lost) =
     let count : length (take at list) ≡ at = length-take-le at list (omega arith) in
     let between = state (flash_in s) in
     let ends = subst (λ n. EndsBehind its init (take at list) c between (state flash) a b n) count
-    (ends_behind state its init (take at list) c s (state flash) a b h lost) in (
+    (ends_behind state its init (take at list) c s (state flash) a b h lost) in inr (
       at,
       omega arith,
       inr (inr (record {
@@ -288,16 +298,16 @@ pub untold_in : {F : Type 0} (state : F → FlashState) (its : Config) (init : F
     (s t : DeviceSession F) (flash : F) (a b d : Watched) → at < length list →
     c ≡ get_or list at c → HasServed state its init (take at list) s a b → ServesSession state its c s r t →
     flash ≡ flash_in t → d.text ≡ b.text →
-    d.kept ≡ b.kept → ServesSound its list init (state flash) a d (Err failed.Memory)
-untold_in state its init list at c r s t flash a b d lt read h serves is text kept =
-    let count : length (take at list) ≡ at = length-take-le at list (omega arith) in (
+    d.kept ≡ b.kept → d.flashes ≡ b.flashes → ServesSound its list init (state flash) a d (Err failed.Memory)
+untold_in state its init list at c r s t flash a b d lt read h serves is text kept flashes =
+    let count : length (take at list) ≡ at = length-take-le at list (omega arith) in inr (
       at,
       omega arith,
       inr (inl (subst (λ n. ServesRun its (take (at + 1) list) n init (state flash) a d) count
           (subst (λ (cs : List Command). ServesRun its cs (length (take at list)) init (state flash) a d)
           (sym (next_of list at c lt read))
           (subst (λ x. ServesRun its (take at list ++ c ∷ []) (length (take at list)) init (state x) a d) (sym is)
-          (one_untold state its init (take at list) c r s t a b d h serves.in_run text kept))))),
+          (one_untold state its init (take at list) c r s t a b d h serves.in_run text kept flashes))))),
     )
 
 -- all was served
@@ -366,38 +376,73 @@ moment_stays its init old new unsound was (inr same) = same ∙ was
 abbrev pub told_at : Moment → Reply → ToldReply
 told_at at r = record { text = text_of r; moment = at }
 
-pub record StaysUnmounted (cs : List Command) (init now : FlashState) (before after : Watched) : Type 0 where
+pub record StaysUnmounted (its : Config) (cs : List Command) (init now : FlashState) (before after : Watched) :
+    Type 0 where
   pub replies : List Reply
-  pub unmounted : AllZip RepliesUnmounted cs replies
+  pub first : FlashState
+  pub points : List FlashState
+  pub begins : BeginsFlash its init false first
+  pub run : UnmountedRun its first cs replies points
+  pub last : now ≡ last_flash first points
   pub still : moment_of now ≡ moment_of init
   pub text : Grew before.text after.text (text_of_all replies)
   pub kept : Grew before.kept after.kept (map (told_at (moment_of init)) replies)
+  pub flashes : Grew before.flashes after.flashes points
   pub faults : CountsBreaks replies init now
 
-pub unmounted_none : (init now : FlashState) (w : Watched) → moment_of now ≡ moment_of init → CountsBreaks [] init now →
-    StaysUnmounted [] init now w w
-unmounted_none init now w same faults = record {
+pub unmounted_none : (its : Config) (init now : FlashState) (w : Watched) → BeginsFlash its init false now →
+    moment_of now ≡ moment_of init → CountsBreaks [] init now →
+    StaysUnmounted its [] init now w w
+unmounted_none its init now w begins same faults = record {
   replies = [];
-  unmounted = tt;
+  first = now;
+  points = [];
+  begins = begins;
+  run = tt;
+  last = refl;
   still = same;
   text = grew_none w.text;
   kept = grew_none w.kept;
+  flashes = grew_none w.flashes;
   faults = faults;
 }
+
+-- the run goes on by one command
+unmounted_one : (its : Config) (old : FlashState) (cs : List Command) (rs : List Reply) (ss : List FlashState)
+    (c : Command) (r : Reply) (new : FlashState) → UnmountedRun its old cs rs ss →
+    ServesUnmounted its c (last_flash old ss) r new →
+    UnmountedRun its old (cs ++ c ∷ []) (rs ++ r ∷ []) (ss ++ new ∷ [])
+unmounted_one its old [] [] [] c r new run h = (h, tt)
+unmounted_one its old [] [] (t ∷ ss) c r new run h = absurd run
+unmounted_one its old [] (q ∷ rs) ss c r new run h = absurd run
+unmounted_one its old (d ∷ cs) [] ss c r new run h = absurd run
+unmounted_one its old (d ∷ cs) (q ∷ rs) [] c r new run h = absurd run
+unmounted_one its old (d ∷ cs) (q ∷ rs) (t ∷ ss) c r new run h =
+    (run.0, unmounted_one its t cs rs ss c r new run.1 h)
+
+last_flash_more : (old : FlashState) (ss : List FlashState) (new : FlashState) → last_flash old (ss ++ new ∷ []) ≡ new
+last_flash_more old [] new = refl
+last_flash_more old (s ∷ ss) new = last_flash_more s ss new
 
 pub unmounted_more : {F : Type 0} (state : F → FlashState) (its : Config) (init : FlashState) (cs : List Command)
     (c : Command) (r : Reply)
     (s t : DeviceSession F) (a b d : Watched) → (IsSoundFlash its init → ⊥) →
-    StaysUnmounted cs init (state (flash_in s)) a b → ServesSession state its c s r t → Grew b.text d.text (text_of r) →
-    Grew b.kept d.kept (told_at (moment_of (state (flash_in t))) r ∷ []) →
-    StaysUnmounted (cs ++ c ∷ []) init (state (flash_in t)) a d
-unmounted_more state its init cs c r s t a b d unsound h serves text kept =
+    StaysUnmounted its cs init (state (flash_in s)) a b → ServesSession state its c s r t →
+    Grew b.text d.text (text_of r) → Grew b.kept d.kept (told_at (moment_of (state (flash_in t))) r ∷ []) →
+    Grew b.flashes d.flashes (state (flash_in t) ∷ []) →
+    StaysUnmounted its (cs ++ c ∷ []) init (state (flash_in t)) a d
+unmounted_more state its init cs c r s t a b d unsound h serves text kept flashes =
     let still = moment_stays its init (state (flash_in s)) (state (flash_in t)) unsound h.still serves.kept in
     let here : IsSoundFlash its (state (flash_in s)) → ⊥ = λ sound. unsound (subst
     (λ (m : Moment). IsSoundImage its.protocol its.logical (shape_of its) m.image) h.still sound) in
     record {
       replies = h.replies ++ r ∷ [];
-      unmounted = all_zipped_more RepliesUnmounted cs h.replies c r h.unmounted (serves.unsound here);
+      first = h.first;
+      points = h.points ++ state (flash_in t) ∷ [];
+      begins = h.begins;
+      run = unmounted_one its h.first cs h.replies h.points c r (state (flash_in t)) h.run
+          (subst (λ (x : FlashState). ServesUnmounted its c x r (state (flash_in t))) h.last (serves.unsound here));
+      last = sym (last_flash_more h.first h.points (state (flash_in t)));
       still = still;
       text = subst (λ (x : List ℕ). Grew a.text d.text x) (sym (text_more h.replies r))
           (grew_more a.text b.text d.text (text_of_all h.replies) (text_of r) h.text text);
@@ -406,25 +451,82 @@ unmounted_more state its init cs c r s t a b d unsound h serves text kept =
           (grew_more a.kept b.kept d.kept (map (told_at (moment_of init)) h.replies)
           (told_at (moment_of init) r ∷ []) h.kept
           (subst (λ (m : Moment). Grew b.kept d.kept (told_at m r ∷ [])) still kept));
+      flashes = grew_more a.flashes b.flashes d.flashes h.points (state (flash_in t) ∷ []) h.flashes flashes;
       faults = counts_more h.replies r init (state (flash_in s)) (state (flash_in t)) h.faults serves.faults;
     }
 
 -- and what serving comes to then
-pub unmounted_in : (init now final : FlashState) (list : List Command) (at : ℕ) (a b d : Watched) (why : ServeError) →
-    (h : StaysUnmounted (take at list) init now a b) → moment_of final ≡ moment_of init →
-    d.text ≡ b.text → d.kept ≡ b.kept → CountsTold h.replies init final (Err why) →
-    ServesUnsound list init final a d (Err why)
-unmounted_in init now final list at a b d why h same text kept faults = record {
+pub unmounted_in : (its : Config) (init now final : FlashState) (list : List Command) (at : ℕ) (a b d : Watched)
+    (why : ServeError) →
+    (h : StaysUnmounted its (take at list) init now a b) → moment_of final ≡ moment_of init →
+    d.text ≡ b.text → d.kept ≡ b.kept → d.flashes ≡ b.flashes → CountsTold h.replies init final (Err why) →
+    EndsUnmounted its list at now final (Err why) →
+    ServesUnsound its list init final a d (Err why)
+unmounted_in its init now final list at a b d why h same text kept flashes faults ends = record {
   told = at;
   replies = h.replies;
-  unmounted = h.unmounted;
+  first = h.first;
+  points = h.points;
+  begins = inl h.begins;
+  run = h.run;
   all = tt;
+  ends = subst (λ (x : FlashState). EndsUnmounted its list at x final (Err why)) h.last ends;
   still = same;
   text = subst (λ (o : Option (List ℕ)). Grew a.text o (text_of_all h.replies)) (sym text) h.text;
   kept = subst (λ (o : Option (List ToldReply)). Grew a.kept o (map (told_at (moment_of init)) h.replies))
       (sym kept) h.kept;
+  flashes = subst (λ (o : Option (List FlashState)). Grew a.flashes o h.points) (sym flashes) h.flashes;
   faults = faults;
 }
+
+-- one command more was answered
+pub unmounted_untold : {F : Type 0} (state : F → FlashState) (its : Config) (list : List Command) (at : ℕ) (c : Command)
+    (r : Reply) (s t : DeviceSession F) (flash : F) → at < length list → c ≡ get_or list at c →
+    (IsSoundFlash its (state (flash_in s)) → ⊥) → ServesSession state its c s r t → flash ≡ flash_in t →
+    EndsUnmounted its list at (state (flash_in s)) (state flash) (Err failed.Memory)
+unmounted_untold state its list at c r s t flash lt read unsound serves is = inr (record {
+  next = c;
+  is = next_of list at c lt read;
+  reply = r;
+  serves = subst (λ x. ServesUnmounted its c (state (flash_in s)) r (state x)) (sym is) (serves.unsound unsound);
+})
+
+-- or there was no memory for it, or the flash was refused
+unmounted_refused : {F : Type 0} (state : F → FlashState) (its : Config) (list : List Command) (at : ℕ)
+    (s : DeviceSession F) (flash : F) (law : ℕ) (slot : Slot) → Refuses state its s flash law slot →
+    EndsUnmounted its list at (state (flash_in s)) (state flash) (Err (failed.Unsound law slot))
+unmounted_refused state its list at (session.Mounted s) flash law slot h = absurd h
+unmounted_refused state its list at (session.Unmounted old) flash law slot h = h.0
+
+-- what was lost was on a sound flash
+lost_on_sound : (its : Config) (c : Command) (p : Point) (old final : FlashState) → EndsLost its c p final →
+    IsSoundOrSame its old final → IsSoundFlash its old
+lost_on_sound its c p old final h (inl sound) = sound.0
+lost_on_sound its c p old final h (inr same) =
+    subst (λ (m : Moment). IsSoundImage its.protocol its.logical (shape_of its) m.image) same h.point.sound
+
+unmounted_for_memory : {F : Type 0} (state : F → FlashState) (its : Config) (list : List Command) (at : ℕ)
+    (c : Command) (s : DeviceSession F) (flash : F) → (IsSoundFlash its (state (flash_in s)) → ⊥) →
+    IsSoundOrSame its (state (flash_in s)) (state flash) → EndsForMemory state its c s flash →
+    EndsUnmounted its list at (state (flash_in s)) (state flash) (Err failed.Memory)
+unmounted_for_memory state its list at c s flash unsound kept (inl still) = inl still
+unmounted_for_memory state its list at c s flash unsound kept (inr lost) =
+    absurd (unsound (lost_on_sound its c (point_of state its s) (state (flash_in s)) (state flash) lost kept))
+
+pub unmounted_ended : {F : Type 0} (state : F → FlashState) (its : Config) (list : List Command) (at : ℕ)
+    (c : Command) (s : DeviceSession F) (flash : F) (why : ServeError) →
+    (IsSoundFlash its (state (flash_in s)) → ⊥) → EndsServing state its c s flash why →
+    EndsUnmounted its list at (state (flash_in s)) (state flash) (Err why)
+unmounted_ended state its list at c s flash (failed.Unsound law slot) unsound ends =
+    unmounted_refused state its list at s flash law slot ends.cause
+unmounted_ended state its list at c s flash failed.Memory unsound ends =
+    unmounted_for_memory state its list at c s flash unsound ends.kept ends.cause
+
+-- the image of a session is that of the flash that was handed in
+pub unsound_still : (its : Config) (init now : FlashState) → (IsSoundFlash its init → ⊥) →
+    moment_of now ≡ moment_of init → IsSoundFlash its now → ⊥
+unsound_still its init now unsound same sound = unsound
+    (subst (λ (m : Moment). IsSoundImage its.protocol its.logical (shape_of its) m.image) same sound)
 
 refused_counts : {F : Type 0} (state : F → FlashState) (its : Config) (init : FlashState) (rs : List Reply)
     (s : DeviceSession F) (flash : F) (law : ℕ)
@@ -442,17 +544,23 @@ ended_counts state its init rs c s flash failed.Memory h ends = tt
 ended_counts state its init rs c s flash (failed.Unsound law slot) h ends =
     refused_counts state its init rs s flash law slot h ends.cause
 
-pub unmounted_to_the_end : (init now : FlashState) (list : List Command) (at : ℕ) (a b : Watched) → length list ≤ at →
-    StaysUnmounted (take at list) init now a b → ServesUnsound list init now a b (Ok tt)
-unmounted_to_the_end init now list at a b ge h = record {
+pub unmounted_to_the_end : (its : Config) (init now : FlashState) (list : List Command) (at : ℕ) (a b : Watched) →
+    length list ≤ at →
+    StaysUnmounted its (take at list) init now a b → ServesUnsound its list init now a b (Ok tt)
+unmounted_to_the_end its init now list at a b ge h = record {
   told = length list;
   replies = h.replies;
-  unmounted = subst (λ (cs : List Command). AllZip RepliesUnmounted cs h.replies) (take_all at list ge ∙
-      sym (take_all (length list) list (omega arith))) h.unmounted;
+  first = h.first;
+  points = h.points;
+  begins = h.begins;
+  run = subst (λ (cs : List Command). UnmountedRun its h.first cs h.replies h.points) (take_all at list ge ∙
+      sym (take_all (length list) list (omega arith))) h.run;
   all = refl;
+  ends = h.last;
   still = h.still;
   text = h.text;
   kept = h.kept;
+  flashes = h.flashes;
   faults = h.faults;
 }
 

@@ -1,5 +1,5 @@
 -- A run on a flash goes on by one command.
-use Rattle.cut_replay.proofs.Common.{◌≡◌, ℕ, ◌+◌, ◌≤◌, Bool, false, ◌||◌, List, [], ◌∷◌, ◌++◌, length, take, Option, Some, None, refl, sym, ap, ◌∙◌, subst, inl, inr, arith, count_by, IfSome, MatchBool, cases_Bool, Config, FlashState, Told, counted_by, BothTell, NoMoreToCome, Rose, Command, Reply, text_of, is_break, seen_after, Point, IsPoint, FlashRun, ServesFlash, moment_of, last_point, is_fault, Grew, IsSet, CountsBreak, CountsBreaks, IsSpentBy}
+use Rattle.cut_replay.proofs.Common.{◌≡◌, ℕ, ◌+◌, ◌≤◌, Bool, false, ◌||◌, List, [], ◌∷◌, ◌++◌, length, take, Option, Some, None, refl, sym, ap, ◌∙◌, subst, inl, inr, arith, count_by, IfSome, MatchBool, cases_Bool, Config, FlashState, Told, counted_by, BothTell, NoMoreToCome, Rose, Command, Reply, text_of, is_break, seen_after, Point, IsPoint, FlashRun, ServesFlash, moment_of, last_point, is_fault, Grew, CountsBreak, CountsBreaks, IsSpentBy}
 use Rattle.std.proofs.Common.{zero, suc}
 use Rattle.std.proofs.Common.{append-nil, append_assoc, length-append}
 use Rattle.std.specs.Prelude.{if◌then◌else◌}

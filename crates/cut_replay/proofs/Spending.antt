@@ -1,5 +1,5 @@
 -- How many cuts and faults are to come still.
-use Rattle.cut_replay.proofs.Common.{◌≡◌, true, false, Option, Some, None, refl, arith, IfSome, Told, BothTell, NoMoreToCome, Spends, Command, Reply, is_arm, is_fault, is_lost, IsSet, IsSpentBy}
+use Rattle.cut_replay.proofs.Common.{◌≡◌, true, false, Option, Some, None, refl, IfSome, Told, BothTell, NoMoreToCome, Spends, Command, Reply, is_arm, is_fault, is_lost, IsSet, IsSpentBy}
 use Rattle.host_protocol.specs.declared.command.Command.TheVariants as command
 use Rattle.host_protocol.specs.declared.reply.Reply.TheVariants as reply
 use Rattle.array_runs.specs.Breaks.{is_cut}

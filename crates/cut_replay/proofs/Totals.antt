@@ -1,5 +1,5 @@
 -- What the commands of a run add up to.
-use Rattle.cut_replay.proofs.Common.{◌≡◌, ◌⊎◌, inl, inr, ℕ, ◌+◌, ◌≤◌, Bool, true, false, not, ◌||◌, List, [], ◌∷◌, ◌++◌, length, Option, None, Some, refl, sym, ap, ◌∙◌, subst, arith, cases_Bool, MatchBool, IfSome, Config, FlashState, Told, counted_by, BothTell, NoMoreToCome, Rose, Spends, Carries, Moment, moment_of, powered, Command, Reply, is_arm, is_break, is_cut, is_fault, is_lost, seen_after, ArmsFlash, ComesUp, MountsFlash, BeginsFlash, Point, IsPoint, IsArmed, IsNotDone, IsDone, IsLost, DoesFlash, ServesFlash, FlashRun, first_point, first_state, last_point, last_state, mentions_in, IsSet, IsSpentBy, CountsBreak, CountsBreaks, MountsAfter, Watched}
+use Rattle.cut_replay.proofs.Common.{◌≡◌, ◌⊎◌, inl, inr, ℕ, ◌≤◌, Bool, true, false, not, ◌||◌, List, [], ◌∷◌, ◌++◌, length, Option, None, Some, refl, sym, ap, ◌∙◌, subst, arith, cases_Bool, MatchBool, IfSome, Config, FlashState, Told, counted_by, BothTell, NoMoreToCome, Rose, Spends, Carries, Moment, moment_of, powered, Command, Reply, is_arm, is_break, is_cut, is_fault, is_lost, seen_after, ArmsFlash, ComesUp, MountsFlash, BeginsFlash, Point, IsPoint, IsArmed, IsNotDone, IsLost, DoesFlash, ServesFlash, FlashRun, first_point, first_state, last_point, last_state, mentions_in, IsSet, IsSpentBy, CountsBreak, CountsBreaks, MountsAfter, Watched}
 use Rattle.std.proofs.Common.{append-nil, append_assoc, length-append}
 use Rattle.flash_model.proofs.CallLemmas.{no_more_same, no_more_then, steady_unbroken}
 use Rattle.flash_model.specs.Arms.{SetsCut, SetsFault, SetsBadRead}
@@ -342,10 +342,7 @@ steady_up its up old first h steady =
 module _ (its : Config) (cs : List Command) (told : ℕ) (old new : FlashState) (before after : Watched)
     (serves : ServesRun its cs told old new before after) where
   starts_with : IsStart old serves.run.flash
-  starts_with = elim serves.begins [
-    | inl h ↦ start_of its serves.run.up old serves.run.flash h
-    | inr h ↦ same_start old serves.run.flash h.1
-  ]
+  starts_with = start_of its serves.run.up old serves.run.flash serves.begins
 
   all_add_up : AddsUp its old (first_point its serves.run.up serves.run.flash) cs serves.replies serves.points
   all_add_up =
@@ -381,11 +378,8 @@ module _ (its : Config) (cs : List Command) (told : ℕ) (old new : FlashState) 
       (last_point (first_point its serves.run.up serves.run.flash) serves.points).flash new all_add_up.mounts
       serves.left.quiet
 
-  pub run_up : IsSteady old → (cs ≡ []) ⊎ (serves.run.up ≡ true)
-  run_up steady = elim serves.begins [
-    | inl h ↦ inr (steady_up its serves.run.up old serves.run.flash h steady)
-    | inr h ↦ inl h.0
-  ]
+  pub run_up : IsSteady old → serves.run.up ≡ true
+  run_up steady = steady_up its serves.run.up old serves.run.flash serves.begins steady
 
   pub last_set_in : EndsThere its cs told old new before after serves → IfSome new.told (LastIsSet cs)
   last_set_in there = subst (λ (s : FlashState). IfSome s.told (LastIsSet cs)) (sym there)

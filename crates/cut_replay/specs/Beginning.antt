@@ -1,11 +1,11 @@
 -- How a session begins that serves a list of commands.
-use Rattle.std.specs.Prelude.{◌≡◌, Bool, true, false, []}
+use Rattle.std.specs.Prelude.{◌≡◌, Bool, true, false}
 use Rattle.tx_types.specs.declared.config.Config.{Config}
 use Rattle.flash_model.specs.Flash.{FlashState}
 use Rattle.flash_model.specs.Operations.{moment_of}
 use Rattle.cut_replay.specs.FlashCalls.{BeginsFlash}
 use Rattle.cut_replay.specs.FlashRun.{mentions_in, first_point}
-use Rattle.mounted_session.specs.Devices.{MountsIn}
+use Rattle.mounted_session.specs.Devices.{MountsIn, ReadsFew}
 use Rattle.mounted_session.specs.Sessions as sessions
 use Rattle.cut_replay.specs.Sessions.{DeviceSession, point_of, flash_in, IsSoundFlash, StandsAt}
 
@@ -22,5 +22,7 @@ pub record Begins {F : Type 0}
   pub stands : StandsAt state its (mentions_in its (moment_of init)) false s
 
 -- a live flash was mounted, once, and any other is as it was
-abbrev pub MountsFirst : {F : Type 0} → (F → FlashState) → Config → F → DeviceSession F → Type 0
-MountsFirst state its flash s = sessions.MountsFirst state (MountsIn state its) flash s
+pub record MountsFirst {F : Type 0} (state : F → FlashState) (its : Config) (flash : F) (s : DeviceSession F) :
+    Type 0 where
+  pub mounts : sessions.MountsFirst state (MountsIn state its) flash s
+  pub met : (state flash).live ≡ true → sessions.IfAlone (λ new. ReadsFew its (state flash) (state new)) s

@@ -7,6 +7,7 @@ pub mod Mounted
 pub mod EndsLost
 pub mod CutsDue
 pub mod Sessions
+pub mod UnmountedRun
 pub mod Beginning
 pub mod Served
 pub mod LinesText

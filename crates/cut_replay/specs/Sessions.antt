@@ -1,5 +1,5 @@
 -- What serving a command comes to, in a session with its device while that is mounted.
-use Rattle.std.specs.Prelude.{◌≡◌, ◌⊎◌, ◌<◌, ◌≤◌, ◌+◌, ℕ, Bool, true, false, ◌||◌, List, [], IfSome, IfOk, IfErr, OnOk, Result, Ok, Err}
+use Rattle.std.specs.Prelude.{◌≡◌, ◌⊎◌, ◌<◌, ◌≤◌, ℕ, Bool, true, false, ◌||◌, List, [], IfOk, IfErr, OnOk, Result, Ok, Err}
 use Rattle.std.specs.Prelude.{MatchBool}
 use Rattle.tx_types.specs.declared.config.Config.{Config}
 use Rattle.tx_types.specs.declared.config.Protocol.{Protocol}
@@ -7,20 +7,20 @@ use Rattle.tx_types.specs.declared.config.Slot.{Slot}
 use Rattle.tx_types.specs.Config.{checked, shape_of}
 use Rattle.flash_model.specs.Flash.{FlashState, Told}
 use Rattle.flash_model.specs.Arms.{ChangesTold}
+use Rattle.flash_model.specs.Calls.{BothTell, Carries, Rose, Spends}
 use Rattle.flash_model.specs.Operations.{moment_of}
 use Rattle.record_list.specs.Records.{mention}
-use Rattle.judged_records.specs.Images.{IsSoundImage, IsLeastImageBreach, array_in, records_in}
+use Rattle.judged_records.specs.Images.{IsSoundImage, IsLeastImageBreach, records_in}
 use Rattle.collector.specs.declared.unsure.Unsure.TheVariants as unsure
-use Rattle.mounted_session.specs.Devices.{MountsIn}
-use Rattle.mounted_session.specs.Mounting.{StaysQuiet}
+use Rattle.mounted_session.specs.Devices.{MountsIn, ReadsFew}
+use Rattle.mounted_session.specs.Mounting.{MomentStays, StaysQuiet, powered}
 use Rattle.mounted_session.specs.Sessions as sessions
-use Rattle.mounted_session.specs.Sessions.{BothOf, EachOf, Mounts}
+use Rattle.mounted_session.specs.Sessions.{BothOf, EachOf}
 use Rattle.mounted_session.specs.declared.device.Refusal.{Refusal}
 use Rattle.mounted_session.specs.declared.device.Refusal.TheVariants as refusal
 use Rattle.mounted_session.specs.declared.session.Session.{Session}
 use Rattle.mounted_session.specs.declared.session.Session.TheVariants as session
 use Rattle.page_cache.specs.PageCacheState.{PageCacheState, CachedPage}
-use Rattle.array_machine.specs.ArrayState.{idle}
 use Rattle.tx_engine.specs.DeviceState.{DeviceState}
 use Rattle.host_protocol.specs.declared.command.Command.{Command}
 use Rattle.host_protocol.specs.declared.reply.Reply.{Reply}
@@ -32,6 +32,7 @@ use Rattle.array_runs.specs.Breaks.{is_fault, is_lost}
 use Rattle.cut_replay.specs.Bounds.{CountsBreak}
 use Rattle.tx_engine.specs.Always.{IsSeen, HoldsAlways}
 use Rattle.cut_replay.specs.Mounted.{point_at, IsCached, CachesCommand}
+use Rattle.cut_replay.specs.UnmountedRun.{ServesUnmounted}
 use Rattle.cut_replay.specs.declared.serving.ServeError.{ServeError}
 use Rattle.cut_replay.specs.declared.serving.ServeError.TheVariants as failed
 
@@ -103,11 +104,6 @@ abbrev pub IsSoundOrSame : Config → FlashState → FlashState → Type 0
 IsSoundOrSame its old new =
     (IsSoundFlash its old × IsSoundFlash its new) ⊎ (moment_of new ≡ moment_of old)
 
--- the reply to a command where the device can't be mounted
-abbrev pub RepliesUnmounted : Command → Reply → Type 0
-RepliesUnmounted c r =
-    MatchBool (is_arm c) (r ≡ reply.Armed) ((r ≡ reply.Fault) ⊎ (r ≡ reply.Cut))
-
 -- What serving a command comes to, whatever the image is.
 pub record ServesSession {F : Type 0}
     (state : F → FlashState) (its : Config)
@@ -115,7 +111,8 @@ pub record ServesSession {F : Type 0}
   pub in_run : (seen : ℕ → ℕ) → (faulted : Bool) → StandsAt state its seen faulted old →
       ServesIn state its seen faulted c old r new
   pub kept : IsSoundOrSame its (state (flash_in old)) (state (flash_in new))
-  pub unsound : (IsSoundFlash its (state (flash_in old)) → ⊥) → RepliesUnmounted c r
+  pub unsound : (IsSoundFlash its (state (flash_in old)) → ⊥) →
+      ServesUnmounted its c (state (flash_in old)) r (state (flash_in new))
   pub faults : CountsBreak r (state (flash_in old)).faults (state (flash_in new)).faults
   pub extras : (state (flash_in new)).extras ≡ (state (flash_in old)).extras
 
@@ -150,9 +147,17 @@ pub record EndsServing {F : Type 0}
   pub extras : (state flash).extras ≡ (state (flash_in old)).extras
   pub kept : IsSoundOrSame its (state (flash_in old)) (state flash)
 
+-- a read met a fault in a mount, which read no more than a mount does, and started nothing
+pub record MeetsOne (its : Config) (old new : FlashState) : Type 0 where
+  pub still : MomentStays old new
+  pub rose : Rose old.faults new.faults
+  pub spends : BothTell (Spends new.live) old.told new.told
+  pub carries : Carries (powered old) new true
+  pub few : ReadsFew its old new
+
 -- What mounting a flash comes to: its device, or a fault that a read met.
 abbrev pub Mounted : {F : Type 0} → (F → FlashState) → Config → F → DeviceSession F → Type 0
-Mounted state its flash s = Mounts state (MountsIn state its) flash s
+Mounted state its flash s = EachOf (MountsIn state its flash) (λ new. MeetsOne its (state flash) (state new)) s
 
 -- why no more commands are served where a flash is refused
 abbrev pub serve_error : Refusal → ServeError

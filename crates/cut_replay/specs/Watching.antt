@@ -1,6 +1,7 @@
 -- What is told of a run while it goes on.
 use Rattle.std.specs.Prelude.{◌≡◌, ℕ, List, ◌++◌, flat_map, map, Option, None, Some}
 use Rattle.std.specs.List.{zip}
+use Rattle.flash_model.specs.Flash.{FlashState}
 use Rattle.flash_model.specs.Operations.{Moment, moment_of}
 use Rattle.host_protocol.specs.Replies.{text_of}
 use Rattle.host_protocol.specs.declared.reply.Reply.{Reply}
@@ -24,3 +25,7 @@ text_of_all replies = flat_map text_of replies
 abbrev pub replies_told : List Reply → List Point → List ToldReply
 replies_told replies points =
     map (λ (r, p). record { text = text_of r; moment = moment_of p.flash }) (zip replies points)
+
+-- the whole flash at each of these points
+abbrev pub flashes_at : List Point → List FlashState
+flashes_at points = map (λ p. p.flash) points

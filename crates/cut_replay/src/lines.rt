@@ -48,6 +48,8 @@ impl<F: Flash> Watch<F> for Lines {
 
     ghost kept = { λ l. None };
 
+    ghost flashes = { λ l. None };
+
     fn tell(&mut self, flash: &F, reply: &Reply) -> Result<(), Memory> {
         let _ = flash;
         reply_text(self.alloc, reply, &mut self.text)

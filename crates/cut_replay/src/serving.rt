@@ -6,6 +6,7 @@ ghost use Rattle.flash_model.specs.Flash.{FlashState, IsSteady};
 ghost use Rattle.flash_model.specs.Operations.{moment_of};
 ghost use Rattle.cut_replay.specs.Beginning.{Begins, MountsFirst};
 ghost use Rattle.cut_replay.specs.Bounds.{CountsBreaks};
+ghost use Rattle.cut_replay.specs.FlashCalls.{BeginsFlash};
 ghost use Rattle.cut_replay.specs.Mounted.{IsCached};
 ghost use Rattle.cut_replay.specs.Served.{ServesSound, ServesUnsound, RefusesUnsound};
 ghost use Rattle.mounted_session.specs.Sessions.{is_mounted};
@@ -180,17 +181,18 @@ fn serve_all<F: Power + Arms + Wide, R: CommitRule, W: Watch<F>>(
     requires size { cache.old.page_bytes ≡ config.page_bytes }
     ensures serves { (init : FlashState) → Begins F.state config init session →
         ServesSound config list.now init (F.state result.0)
-        (record { text = W.text out.old; kept = W.kept out.old })
-        (record { text = W.text out.new; kept = W.kept out.new }) result.1 }
+        (record { text = W.text out.old; kept = W.kept out.old; flashes = W.flashes out.old })
+        (record { text = W.text out.new; kept = W.kept out.new; flashes = W.flashes out.new }) result.1 }
     ensures refuses { (init : FlashState) →
         IsSoundOrSame config init (F.state (flash_in session)) →
         RefusesUnsound config init (F.state result.0) result.1 }
     ensures unsound { (init : FlashState) → (IsSoundFlash config init → ⊥) →
+        BeginsFlash config init false (F.state (flash_in session)) →
         moment_of (F.state (flash_in session)) ≡ moment_of init →
         CountsBreaks [] init (F.state (flash_in session)) →
-        ServesUnsound list.now init (F.state result.0)
-        (record { text = W.text out.old; kept = W.kept out.old })
-        (record { text = W.text out.new; kept = W.kept out.new }) result.1 }
+        ServesUnsound config list.now init (F.state result.0)
+        (record { text = W.text out.old; kept = W.kept out.old; flashes = W.flashes out.old })
+        (record { text = W.text out.new; kept = W.kept out.new; flashes = W.flashes out.new }) result.1 }
     ensures shape { checked config ≡ Ok (F.state result.0).shape }
     ensures extras { (F.state result.0).extras ≡ (F.state (flash_in session)).extras }
 {
@@ -235,6 +237,8 @@ fn begin<F: Power, R: CommitRule>(
         IsSoundOrSame config (F.state flash) (F.state (flash_in s))) }
     ensures faults { IfOk result (λ s.
         CountsBreaks [] (F.state flash) (F.state (flash_in s))) }
+    ensures unsound { (IsSoundFlash config (F.state flash) → ⊥) → IfOk result (λ s.
+        BeginsFlash config (F.state flash) false (F.state (flash_in s))) }
     ensures extras { IfOk result (λ s. (F.state (flash_in s)).extras ≡ (F.state flash).extras) }
     ensures failed { IfErr result (λ e. Unmounted F.state config flash e.0 e.1) }
     ensures size { cache.new.page_bytes ≡ cache.old.page_bytes }
@@ -286,13 +290,13 @@ pub fn serve<F: Power + Arms + Wide, R: CommitRule, W: Watch<F>>(
         OnOk result.1 (IsSoundFlash config (F.state flash)) }
     ensures serves { IsSoundFlash config (F.state flash) →
         ServesSound config list.now (F.state flash) (F.state result.0)
-        (record { text = W.text out.old; kept = W.kept out.old })
-        (record { text = W.text out.new; kept = W.kept out.new }) result.1 }
+        (record { text = W.text out.old; kept = W.kept out.old; flashes = W.flashes out.old })
+        (record { text = W.text out.new; kept = W.kept out.new; flashes = W.flashes out.new }) result.1 }
     ensures refuses { RefusesUnsound config (F.state flash) (F.state result.0) result.1 }
     ensures unsound { (IsSoundFlash config (F.state flash) → ⊥) →
-        ServesUnsound list.now (F.state flash) (F.state result.0)
-        (record { text = W.text out.old; kept = W.kept out.old })
-        (record { text = W.text out.new; kept = W.kept out.new }) result.1 }
+        ServesUnsound config list.now (F.state flash) (F.state result.0)
+        (record { text = W.text out.old; kept = W.kept out.old; flashes = W.flashes out.old })
+        (record { text = W.text out.new; kept = W.kept out.new; flashes = W.flashes out.new }) result.1 }
     ensures shape { (F.state result.0).shape ≡ (F.state flash).shape }
     ensures extras { (F.state result.0).extras ≡ (F.state flash).extras }
 {

@@ -1,5 +1,5 @@
 //! What holds of all runs on a flash. The functions do nothing: each is there for what it ensures.
-ghost use Rattle.std.specs.Prelude.{◌≡◌, ◌⊎◌, ◌+◌, ◌<◌, ◌≤◌, ◌^◌, ℕ, Bool, true, false, List, [], length, All, Some, IfSome};
+ghost use Rattle.std.specs.Prelude.{◌≡◌, ◌+◌, ◌<◌, ◌≤◌, ◌^◌, ℕ, Bool, true, false, List, length, All, Some, IfSome};
 ghost use Rattle.tx_types.specs.declared.config.Config.{Config};
 ghost use Rattle.flash_model.specs.Flash.{FlashState, Told, IsSteady};
 ghost use Rattle.flash_model.specs.Operations.{Moment, moment_of};
@@ -78,7 +78,7 @@ pub fn runs_add_up()
         CountsMounts (first_point its serves.run.up serves.run.flash) serves.replies serves.points old new }
     ensures up { (its : Config) (cs : List Command) (told : ℕ) (old new : FlashState) (before after : Watched) →
         (serves : ServesRun its cs told old new before after) → IsSteady old →
-        (cs ≡ []) ⊎ (serves.run.up ≡ true) }
+        serves.run.up ≡ true }
     ensures set { (its : Config) (cs : List Command) (told : ℕ) (old new : FlashState) (before after : Watched) →
         (serves : ServesRun its cs told old new before after) →
         EndsThere its cs told old new before after serves → IfSome new.told (LastIsSet cs) }

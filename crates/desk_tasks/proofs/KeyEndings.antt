@@ -24,7 +24,7 @@ use Rattle.desk_tasks.specs.Ending.{BadBucket}
 use Rattle.desk_tasks.specs.KeyWork.{IsKeysRun}
 use Rattle.desk_tasks.specs.Stops.{RefusesScript, RefusesStore, StopsBy, key_serving_failure, lines_failure}
 use Rattle.desk_tasks.specs.declared.output.Failure.{Failure}
-use Rattle.desk_tasks.proofs.RunLemmas.{starts}
+use Rattle.desk_tasks.proofs.RunLemmas.{keys_unarmed, starts}
 
 -- ---- the ending, from its parts
 
@@ -67,9 +67,12 @@ is_keys_run its flash left cs before after e none served =
     let whole = take_whole (length cs) served.replies
     (as_many its (mentions_in its (moment_of served.first.flash)) served.first cs served.replies
     served.points served.run.runs) in
+    let first = keys_unarmed its flash served.first.flash served.first.up e served.opened in
     record {
       first = served.first;
       begins = served.begins.moment ∙ starts its flash e;
+      up = first.0;
+      unarmed = first.1;
       replies = served.replies;
       points = served.points;
       run = served.run;

@@ -18,6 +18,8 @@ use Rattle.cut_replay.specs.Served.{RefusesUnsound, ServesRun, Watched}
 use Rattle.cut_replay.specs.declared.serving.ServeError.{ServeError}
 use Rattle.cut_replay.specs.declared.serving.ServeError.TheVariants as failed
 use Rattle.cut_replay.specs.Watching.{text_of_all}
+use Rattle.page_keys.specs.KeyRuns.{OpensFlash}
+use Rattle.page_keys.specs.KeyServed as key_first
 use Rattle.array_runs.specs.Breaks.{AreFew}
 use Rattle.cut_replay.proofs.Runs.{run_lengths}
 use Rattle.cut_replay.proofs.Totals.{run_last, run_spends, run_up}
@@ -71,46 +73,65 @@ mounted_unarmed its false old new mount steady h =
     let on : FlashState = record old { live = true } in
     absurd (steady_unbroken on new (record { live = refl; none = steady.none }) mount.carries)
 
-first_unarmed : (its : Config) (flash : MemFlashState) (first : FlashState) (cs : List Command) (up : Bool) →
+was_unarmed : (its : Config) (flash : MemFlashState) → flash ≡ loaded (shape_of its) flash.image flash.extras →
+    IsUnarmed (state_of flash)
+was_unarmed its flash e = record {
+  faults = ap (λ (s : MemFlashState). s.faults) e;
+  arms = (
+    ap (λ (s : MemFlashState). s.armed.cut) e,
+    ap (λ (s : MemFlashState). s.armed.fault) e,
+    ap (λ (s : MemFlashState). s.armed.bad_read) e,
+  );
+}
+
+first_unarmed : (its : Config) (flash : MemFlashState) (first : FlashState) (up : Bool) →
     flash ≡ loaded (shape_of its) flash.image flash.extras →
-    BeginsFlash its (state_of flash) up first ⊎ ((cs ≡ []) × (first ≡ state_of flash)) → IsUnarmed first
-first_unarmed its flash first cs up e begins =
+    BeginsFlash its (state_of flash) up first → IsUnarmed first
+first_unarmed its flash first up e begins =
     let steady = is_steady its flash e in
-    let was : IsUnarmed (state_of flash) = record {
-      faults = ap (λ (s : MemFlashState). s.faults) e;
-      arms = (
-        ap (λ (s : MemFlashState). s.armed.cut) e,
-        ap (λ (s : MemFlashState). s.armed.fault) e,
-        ap (λ (s : MemFlashState). s.armed.bad_read) e,
-      );
-    } in
-    elim begins [
-      | inl mount ↦ mounted_unarmed its up (state_of flash) first
-          (subst (λ b. MatchBool b (MountsFlash its up (state_of flash) first)
-          ((up ≡ false) × (first ≡ state_of flash))) steady.live mount) steady was
-      | inr none ↦ subst IsUnarmed (sym none.1) was
-    ]
+    mounted_unarmed its up (state_of flash) first
+    (subst (λ b. MatchBool b (MountsFlash its up (state_of flash) first)
+    ((up ≡ false) × (first ≡ state_of flash))) steady.live begins) steady (was_unarmed its flash e)
+
+-- the store of such a flash is opened, and no arm comes of it
+opened_unarmed : (its : Config) (up : Bool) (old new : FlashState) → OpensFlash its up old new → IsSteady old →
+    IsUnarmed old → (up ≡ true) × IsUnarmed new
+opened_unarmed its true old new opens steady h =
+    let on : FlashState = record old { live = true } in
+    (refl, stays_unarmed on new opens.carries refl (record { faults = h.faults; arms = h.arms }))
+opened_unarmed its false old new opens steady h =
+    let on : FlashState = record old { live = true } in
+    absurd (steady_unbroken on new (record { live = refl; none = steady.none }) opens.carries)
+
+pub keys_unarmed : (its : Config) (flash : MemFlashState) (first : FlashState) (up : Bool) →
+    flash ≡ loaded (shape_of its) flash.image flash.extras → key_first.BeginsFlash its (state_of flash) up first →
+    (up ≡ true) × IsUnarmed first
+keys_unarmed its flash first up e begins =
+    let steady = is_steady its flash e in
+    opened_unarmed its up (state_of flash) first
+    (subst (λ b. MatchBool b (OpensFlash its up (state_of flash) first)
+    ((up ≡ false) × (first ≡ state_of flash))) steady.live begins) steady (was_unarmed its flash e)
 
 -- what serving such a flash gives
 pub is_run : (its : Config) (flash left : MemFlashState) (cs : List Command) (before after : List ℕ) →
     flash ≡ loaded (shape_of its) flash.image flash.extras → before ≡ [] →
     IsSoundImage its.protocol its.logical (shape_of its) flash.image →
-    ServesRun its cs (length cs) (state_of flash) (state_of left) (record { text = Some before; kept = None })
-    (record { text = Some after; kept = None }) →
+    ServesRun its cs (length cs) (state_of flash) (state_of left) (record { text = Some before; kept = None; flashes = None })
+    (record { text = Some after; kept = None; flashes = None }) →
     IsRun its flash.image cs left.image after
 is_run its flash left cs before after e none is_sound served =
     let start = starts its flash e in
-    let told_before : Watched = record { text = Some before; kept = None } in
-    let told_after : Watched = record { text = Some after; kept = None } in
+    let told_before : Watched = record { text = Some before; kept = None; flashes = None } in
+    let told_after : Watched = record { text = Some after; kept = None; flashes = None } in
     let told : after ≡ before ++ text_of_all (take (length cs) served.replies) = cc (served.text) in
     let whole = take_whole (length cs) served.replies
     (run_lengths its (mentions_in its (moment_of (state_of flash))) false
     (first_point its served.run.up served.run.flash) cs served.replies served.points served.run.runs).0 in
     let from = subst (λ m. (run : IsFlashRun its m cs served.replies served.points)
-    × ((cs ≡ []) ⊎ (run.up ≡ true)) × IsUnarmed run.flash) start (
+    × (run.up ≡ true) × IsUnarmed run.flash) start (
       served.run,
       run_up its cs (length cs) (state_of flash) (state_of left) told_before told_after served (is_steady its flash e),
-      first_unarmed its flash served.run.flash cs served.run.up e served.begins,
+      first_unarmed its flash served.run.flash served.run.up e served.begins,
     ) in
     record {
       sound = is_sound;

@@ -1,5 +1,5 @@
 -- Serving a key script on the store of an image, on a flash that breaks only where the script arms it.
-use Rattle.std.specs.Prelude.{◌≡◌, ℕ, List, Result, Ok, Err}
+use Rattle.std.specs.Prelude.{◌≡◌, ℕ, true, List, Result, Ok, Err}
 use Rattle.tx_types.specs.declared.config.Config.{Config}
 use Rattle.flash_model.specs.Flash.{Contents}
 use Rattle.flash_model.specs.Operations.{moment_of}
@@ -12,15 +12,17 @@ use Rattle.page_keys.specs.Stores.{IsFirstBad}
 use Rattle.page_keys.specs.declared.command.KeyCommand.{KeyCommand}
 use Rattle.page_keys.specs.declared.key_reply.KeyReply.{KeyReply}
 use Rattle.desk_tasks.specs.Ending.{Ending, BadLine, BadBucket}
-use Rattle.desk_tasks.specs.Runs.{first_moment}
+use Rattle.desk_tasks.specs.Runs.{IsUnarmed, first_moment}
 
--- There is a run of the map machine over these commands, from the map of this image on, with nothing counted. It ends
--- with that image, and the text is that of its replies. Among the replies to the first so many commands there are at
--- most as many cuts as were armed among these, and no fault.
+-- There is a run of the map machine over these commands, from the map of this image on, with nothing counted and
+-- nothing armed. It begins with an open store. It ends with that image, and the text is that of its replies. Among the
+-- replies to the first so many commands there are at most as many cuts as were armed among these, and no fault.
 pub record IsKeysRun (its : Config) (image : List Contents) (commands : List KeyCommand)
     (left : List Contents) (text : List ℕ) : Type 0 where
   pub first : KeyPoint
   pub begins : moment_of first.flash ≡ first_moment image
+  pub up : first.up ≡ true
+  pub unarmed : IsUnarmed first.flash
   pub replies : List KeyReply
   pub points : List KeyPoint
   pub run : IsKeyRun its first commands replies points

@@ -49,7 +49,7 @@ pub record IsRun (its : Config) (image : List Contents) (commands : List Command
   pub replies : List Reply
   pub points : List Point
   pub run : IsFlashRun its (first_moment image) commands replies points
-  pub up : (commands ≡ []) ⊎ (run.up ≡ true)
+  pub up : run.up ≡ true
   pub unarmed : IsUnarmed run.flash
   pub last : left ≡ (last_moment (first_moment image) points).image
   pub said : text ≡ text_of_all replies

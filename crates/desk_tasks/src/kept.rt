@@ -1,6 +1,6 @@
-ghost use Rattle.std.specs.Prelude.{◌≡◌, ◌<◌, ◌++◌, [], ◌∷◌, Some, IfOk, OnOk, OnErr, length};
+ghost use Rattle.std.specs.Prelude.{◌≡◌, ◌<◌, ◌++◌, List, [], ◌∷◌, Option, Some, None, IfOk, OnOk, OnErr, length};
 ghost use Rattle.std.specs.Prelude.{map, flat_map};
-ghost use Rattle.flash_model.specs.Flash.{slot_at};
+ghost use Rattle.flash_model.specs.Flash.{FlashState, slot_at};
 ghost use Rattle.flash_model.specs.Calls.{seen_of};
 ghost use Rattle.flash_model.specs.Operations.{moment_of};
 ghost use Rattle.mem_flash.specs.MemFlashState.{state_of};
@@ -126,13 +126,17 @@ impl Watch<MemFlash> for Kept {
 
     ghost kept = { λ k. Some (told_in k) };
 
+    ghost flashes = { λ k. None };
+
     fn tell(&mut self, flash: &MemFlash, reply: &Reply) -> Result<(), Memory>
         ensures text { OnOk result (
             Grew (Some (texts_in self.old)) (Some (texts_in self.new)) (text_of reply.now)) }
         ensures kept { OnOk result (Grew (Some (told_in self.old)) (Some (told_in self.new))
             (record { text = text_of reply.now; moment = moment_of (state_of flash.now) } ∷ [])) }
+        ensures flashes { OnOk result (Grew None None (state_of flash.now ∷ [])) }
         ensures err { OnErr result ((Some (texts_in self.new) ≡ Some (texts_in self.old))
-            × (Some (told_in self.new) ≡ Some (told_in self.old))) }
+            × (Some (told_in self.new) ≡ Some (told_in self.old))
+            × (◌≡◌ {A = Option (List FlashState)} None None)) }
         ensures exact { OnOk result (
             self.new ≡ self.old ++ (kept_of (state_of flash.now) reply.now ∷ [])) }
         ensures same { OnErr result (self.new ≡ self.old) }

@@ -23,6 +23,8 @@ impl Watch<MemFlash> for Moments {
 
     ghost kept = { λ m. None };
 
+    ghost flashes = { λ m. None };
+
     fn tell(&mut self, flash: &MemFlash, reply: &Reply) -> Result<(), Memory> {
         let _ = reply;
         self.all.push((flash.live(), flash.reads()))?;

@@ -1,5 +1,5 @@
 -- Mounting a flash on which power was turned on.
-use Rattle.std.proofs.Common.{◌≡◌, ◌≤◌, Bool, true, false, List, sym, ap, ◌∙◌, subst}
+use Rattle.std.proofs.Common.{◌≡◌, ◌+◌, ◌≤◌, Bool, true, false, List, sym, ap, ◌∙◌, subst}
 use Rattle.tx_types.specs.Config.{shape_of}
 use Rattle.tx_types.specs.declared.config.Config.{Config}
 use Rattle.tx_types.specs.declared.config.Protocol.{Protocol}
@@ -15,8 +15,8 @@ use Rattle.tx_engine.specs.DeviceState.{DeviceState}
 use Rattle.tx_engine.specs.Opens as engine
 use Rattle.tx_engine.specs.declared.device.MountError.{MountError}
 use Rattle.tx_engine.specs.declared.device.MountError.TheVariants as mount
-use Rattle.mounted_session.specs.Devices.{IsWhy, MountsIn, not_mounted}
-use Rattle.mounted_session.specs.Mounting.{FailsToMount, MeetsFault, MomentStays, StaysQuiet}
+use Rattle.mounted_session.specs.Devices.{IsWhy, MountsIn, ReadsFew, not_mounted}
+use Rattle.mounted_session.specs.Mounting.{FailsToMount, IfFault, MeetsFault, MomentStays, StaysQuiet}
 
 -- a call on the powered flash that leaves its moment
 module _ (old on new : FlashState) (turned : TurnsOn old on) (moment : moment_of new ≡ moment_of on) where
@@ -65,6 +65,7 @@ module _ {F : Type 0} (state : F → FlashState) (its : Config) (old on : F)
         quiet = quiet.quiet;
         reads = subst (λ (x : FlashState).
             (state s.flash).reads ≡ counted_times (engine.mount_reads its x) x.reads) turned mounts.reads;
+        started = mounts.started ∙ ap (λ (x : FlashState). x.started) turned;
         carries = subst (λ (x : FlashState). Carries x (state s.flash) false) turned mounts.carries;
         always = subst (λ (p : Protocol). HoldsAlways state p s) (sym rule) always;
       }
@@ -82,3 +83,13 @@ module _ {F : Type 0} (state : F → FlashState) (its : Config) (old on : F)
     cause = tt;
     still = powered_quiet (state old) (state on) (state new) turned h.0 h.1;
   }
+
+  pub powered_met : (new : F) (error : MountError) → engine.ReadsUnmounted state on its new error →
+      (state new).started ≡ (state on).started →
+      IfFault (ReadsFew its (state old) (state new)) (not_mounted error)
+  powered_met new mount.Fault h started = record {
+    reads = subst (λ (x : FlashState). (state new).reads ≤ x.reads + engine.mount_reads its x) turned h;
+    started = started ∙ ap (λ (x : FlashState). x.started) turned;
+  }
+  powered_met new (mount.Unsound law slot) h started = tt
+  powered_met new mount.Memory h started = tt

@@ -1,5 +1,5 @@
 -- A device that was mounted on a flash, and why none was.
-use Rattle.std.specs.Prelude.{◌≡◌, true, false, []}
+use Rattle.std.specs.Prelude.{◌≡◌, ◌+◌, ◌≤◌, true, false, []}
 use Rattle.tx_types.specs.Config.{shape_of}
 use Rattle.tx_types.specs.declared.config.Config.{Config}
 use Rattle.flash_model.specs.Calls.{Carries}
@@ -19,7 +19,7 @@ use Rattle.mounted_session.specs.declared.device.Refusal.TheVariants as refusal
 use Rattle.mounted_session.specs.declared.mounted.NotMounted.{NotMounted}
 use Rattle.mounted_session.specs.declared.mounted.NotMounted.TheVariants as fails
 
--- the device of a flash, with nothing open, by the reads of one mount
+-- the device of a flash, with nothing open, by the reads of one mount, which starts nothing
 pub record MountsIn {F : Type 0} (state : F → FlashState) (its : Config) (flash : F)
     (s : DeviceState F) : Type 0 where
   pub config : s.config ≡ its
@@ -31,6 +31,7 @@ pub record MountsIn {F : Type 0} (state : F → FlashState) (its : Config) (flas
   pub still : MomentStays (state flash) (state s.flash)
   pub quiet : (state s.flash).faults ≡ (state flash).faults
   pub reads : (state s.flash).reads ≡ counted_times (mount_reads its (state flash)) (state flash).reads
+  pub started : (state s.flash).started ≡ (state flash).started
   pub carries : Carries (powered (state flash)) (state s.flash) false
   pub always : HoldsAlways state its.protocol s
 
@@ -45,3 +46,8 @@ abbrev pub not_mounted : MountError → NotMounted Refusal
 not_mounted mount.Fault = fails.Fault
 not_mounted (mount.Unsound law slot) = fails.Refused (refusal.Unsound law slot)
 not_mounted mount.Memory = fails.Refused refusal.Memory
+
+-- a mount that met a fault read no more than a mount does, and started nothing
+pub record ReadsFew (its : Config) (old new : FlashState) : Type 0 where
+  pub reads : new.reads ≤ old.reads + mount_reads its old
+  pub started : new.started ≡ old.started

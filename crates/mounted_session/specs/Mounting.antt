@@ -38,3 +38,8 @@ pub record IsRefused {W : Type 0} (refuses : W → Type 0) (old new : FlashState
 abbrev pub FailsToMount : {W : Type 0} → (W → Type 0) → FlashState → FlashState → NotMounted W → Type 0
 FailsToMount refuses old new fails.Fault = MeetsFault old new
 FailsToMount refuses old new (fails.Refused why) = IsRefused refuses old new why
+
+-- and this is so where a read met a fault
+abbrev pub IfFault : {W : Type 0} → Type 0 → NotMounted W → Type 0
+IfFault met fails.Fault = met
+IfFault met (fails.Refused why) = Unit {0}

@@ -35,3 +35,7 @@ Mounts state opens flash s = EachOf (opens flash) (λ new. MeetsFault (state fla
 abbrev pub MountsFirst : {F M : Type 0} → (F → FlashState) → (F → M → Type 0) → F → Session F M → Type 0
 MountsFirst state opens flash s =
     MatchBool (state flash).live (Mounts state opens flash s) (s ≡ session.Unmounted flash)
+
+-- where nothing is mounted this is so of the flash that is alone
+abbrev pub IfAlone : {F M : Type 0} → (F → Type 0) → Session F M → Type 0
+IfAlone alone s = EachOf (λ m. Unit {0}) alone s

@@ -1,6 +1,6 @@
 ghost use Rattle.std.specs.Prelude.{◌≡◌};
 ghost use Rattle.flash_model.specs.Arms.{TurnsOn};
-ghost use Rattle.mounted_session.specs.Devices.{MountsIn, IsWhy, not_mounted};
+ghost use Rattle.mounted_session.specs.Devices.{MountsIn, IsWhy, ReadsFew, not_mounted};
 
 use crate::{Mounted, NotMounted};
 use flash_model::Power;
@@ -28,6 +28,8 @@ impl<F: Power, R: CommitRule> Mounted<F> for Device<F, R> {
     ghost opens = { MountsIn F.state };
 
     ghost refuses = { IsWhy };
+
+    ghost meets = { ReadsFew };
 
     fn mount(
         alloc: Global,

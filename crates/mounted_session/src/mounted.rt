@@ -2,7 +2,7 @@ ghost use Rattle.std.specs.Prelude.{◌≡◌, Ok, IfOk, IfErr};
 ghost use Rattle.tx_types.specs.Config.{checked};
 ghost use Rattle.tx_types.specs.declared.config.Config.{Config};
 ghost use Rattle.flash_model.specs.Flash.{FlashState};
-ghost use Rattle.mounted_session.specs.Mounting.{FailsToMount, StaysQuiet};
+ghost use Rattle.mounted_session.specs.Mounting.{FailsToMount, IfFault, StaysQuiet};
 
 use flash_model::Power;
 use std::alloc::Global;
@@ -34,13 +34,17 @@ pub trait Mounted<F: Power> {
     /// Which flash is refused, and why.
     ghost refuses: { Config → FlashState → Self.Why → Type 0 };
 
+    /// What else is so of a flash on which a mount met a fault, once and now.
+    ghost meets: { Config → FlashState → FlashState → Type 0 };
+
     /// Turns power on where it is off, and mounts the flash, which comes back where this fails.
     fn mount(alloc: Global, flash: F, config: Config) -> Result<Self, (F, NotMounted<Self::Why>)>
         requires check { checked config ≡ Ok (F.state flash).shape }
         requires takes { takes config }
         ensures mounted { IfOk result (opens config flash) }
         ensures failed { IfErr result (λ e.
-            FailsToMount (refuses config (F.state flash)) (F.state flash) (F.state e.0) e.1) };
+            FailsToMount (refuses config (F.state flash)) (F.state flash) (F.state e.0) e.1) }
+        ensures met { IfErr result (λ e. IfFault (meets config (F.state flash) (F.state e.0)) e.1) };
 
     /// The flash, as it stands.
     fn flash(&self) -> &F

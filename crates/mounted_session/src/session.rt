@@ -1,7 +1,7 @@
-ghost use Rattle.std.specs.Prelude.{◌≡◌, Ok, IfOk, IfErr, OnOk};
+ghost use Rattle.std.specs.Prelude.{◌≡◌, Ok, true, IfOk, IfErr, OnOk};
 ghost use Rattle.tx_types.specs.Config.{checked};
 ghost use Rattle.mounted_session.specs.Mounting.{IsRefused};
-ghost use Rattle.mounted_session.specs.Sessions.{flash_in, is_mounted, Mounts, MountsFirst};
+ghost use Rattle.mounted_session.specs.Sessions.{flash_in, is_mounted, IfAlone, Mounts, MountsFirst};
 ghost use Rattle.mounted_session.specs.declared.session.Session.TheVariants as sessions;
 
 use crate::{Mounted, NotMounted};
@@ -71,6 +71,8 @@ impl<F: Power, M: Mounted<F>> Session<F, M> {
         ensures mounted { OnOk result (Mounts F.state (M.opens config) (flash_in M.flash_of self.old) self.new) }
         ensures failed { IfErr result (IsRefused (M.refuses config (F.state (flash_in M.flash_of self.old)))
             (F.state (flash_in M.flash_of self.old)) (F.state (flash_in M.flash_of self.new))) }
+        ensures met { OnOk result (IfAlone (λ new.
+            M.meets config (F.state (flash_in M.flash_of self.old)) (F.state new)) self.new) }
     {
         replace_with(self, (alloc, config, PhantomData), mount_anew)
     }
@@ -93,6 +95,8 @@ fn mount_anew<F: Power, M: Mounted<F>>(
     ensures mounted { OnOk result.1 (Mounts F.state (M.opens with.1) (flash_in M.flash_of session) result.0) }
     ensures failed { IfErr result.1 (IsRefused (M.refuses with.1 (F.state (flash_in M.flash_of session)))
         (F.state (flash_in M.flash_of session)) (F.state (flash_in M.flash_of result.0))) }
+    ensures met { OnOk result.1 (IfAlone (λ new.
+        M.meets with.1 (F.state (flash_in M.flash_of session)) (F.state new)) result.0) }
 {
     let (alloc, config, _) = with;
     match mount(alloc, session.close(), config) {
@@ -110,6 +114,7 @@ pub fn mount<F: Power, M: Mounted<F>>(
     requires check { checked config ≡ Ok (F.state flash).shape }
     requires takes { M.takes config }
     ensures mounted { IfOk result (Mounts F.state (M.opens config) flash) }
+    ensures met { IfOk result (IfAlone (λ new. M.meets config (F.state flash) (F.state new))) }
     ensures failed { IfErr result (λ e. IsRefused (M.refuses config (F.state flash)) (F.state flash) (F.state e.0) e.1) }
 {
     match M::mount(alloc, flash, config) {
@@ -130,6 +135,8 @@ pub fn begin<F: Power, M: Mounted<F>>(
     requires check { checked config ≡ Ok (F.state flash).shape }
     requires takes { M.takes config }
     ensures begins { IfOk result (MountsFirst F.state (M.opens config) flash) }
+    ensures met { (F.state flash).live ≡ true →
+        IfOk result (IfAlone (λ new. M.meets config (F.state flash) (F.state new))) }
     ensures failed { IfErr result (λ e. IsRefused (M.refuses config (F.state flash)) (F.state flash) (F.state e.0) e.1) }
 {
     if flash.live() {

@@ -3,3 +3,4 @@ pub mod KeyBeginLemmas
 pub mod KeyCallLemmas
 pub mod KeyRunLemmas
 pub mod KeyServeLemmas
+pub mod UnopenedLemmas

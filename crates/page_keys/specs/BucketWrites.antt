@@ -6,7 +6,7 @@ use Rattle.tx_types.specs.declared.config.Config.{Config}
 use Rattle.tx_types.specs.declared.record.Link.{Link}
 use Rattle.flash_model.specs.Moves.{Moves}
 use Rattle.flash_model.specs.Operations.{Moment}
-use Rattle.record_list.specs.Records.{mention, name_of}
+use Rattle.record_list.specs.Records.{is_present, mention, name_of}
 use Rattle.record_list.specs.Transaction.{next_names}
 use Rattle.record_list.specs.declared.found.Found.{Found}
 use Rattle.judged_records.specs.Images.{records_in}
@@ -25,11 +25,13 @@ linked names = zip names (next_names names)
 abbrev pub HasLinked : List Found → Linked → Type 0
 HasLinked list pair = Any (λ f. (name_of f.rec ≡ pair.0) × (f.rec.next ≡ pair.1)) list
 
--- records with these names and links are written one after another: each is there once it was written
+-- Records with these names and links are written one after another, in this order: before its turn each is not there,
+-- and after it is.
 abbrev pub WritesInTurn : Config → Moment → List Linked → Moment → Type 0
 WritesInTurn its old [] new = new ≡ old
 WritesInTurn its old (pair ∷ pairs) new =
-    (mid : Moment) × Moves (shape_of its) old false mid
+    (is_present (records_in its.protocol old.image) pair.0 ≡ false)
+    × (mid : Moment) × Moves (shape_of its) old false mid
     × HasLinked (records_in its.protocol mid.image) pair × WritesInTurn its mid pairs new
 
 -- Each bucket that a key falls in is written, also where none of its bytes changes, in ascending order of the pages, in

@@ -20,7 +20,7 @@ use Rattle.mounted_session.specs.Spending.{IsSpent}
 use Rattle.page_keys.specs.BucketWrites.{WritesBuckets}
 use Rattle.page_keys.specs.Buckets.{EncodesMap}
 use Rattle.page_keys.specs.KeyMaps.{KeyMap, apply, seen_by}
-use Rattle.page_keys.specs.Puts.{put_refusal}
+use Rattle.page_keys.specs.Puts.{early_refusal, put_refusal}
 use Rattle.page_keys.specs.declared.answers.PutError.{PutError}
 use Rattle.page_keys.specs.declared.answers.PutError.TheVariants as refused
 use Rattle.page_keys.specs.declared.changes.Change.{Change}
@@ -70,9 +70,11 @@ pub record TakesPut (its : Config) (spent : ℕ → Bool) (cs : List Change) (ol
   pub allowed : put_refusal its spent old.keys cs ≡ None
   pub keys : new.keys ≡ apply old.keys cs
 
--- power was cut in it, or it met a fault: all its changes are made or none is
+-- Power was cut in it, or it met a fault: all its changes are made or none is. It is not one that its changes alone
+-- refuse: such a put does nothing on the flash.
 pub record BreaksPut (its : Config) (spent : ℕ → Bool) (cs : List Change) (old new : KeyPoint) :
     Type 0 where
+  pub tried : early_refusal its cs ≡ None
   pub whole : (new.keys ≡ old.keys) ⊎ TakesPut its spent cs old new
   pub moves : MovesTo its old true new
 
@@ -195,6 +197,20 @@ pub record ServesKeys (its : Config) (spent : ℕ → Bool) (c : KeyCommand) (ol
   pub does : DoesCommand its spent c old r new
   pub causes : arms_key_cut c ≡ false → IsCaused r old.flash new.flash
   pub spends : BothTell (IsKeySpent c r) old.flash.told new.flash.told
+
+-- ---- a store that cannot be opened
+
+-- a command on a flash whose store cannot be opened: an arm, or an opening that meets a fault
+abbrev pub RepliesUnopened : Config → KeyCommand → FlashState → KeyReply → FlashState → Type 0
+RepliesUnopened its (command.Cut count what) old r new = (r ≡ reply.Armed) × ArmsCut old new count what
+RepliesUnopened its _ old r new = (is_key_break r ≡ true) × OpensFlash its false old new × IsCaused r old new
+
+-- such commands, with one reply for each
+abbrev pub UnopenedRun : Config → FlashState → List KeyCommand → List KeyReply → FlashState → Type 0
+UnopenedRun its old [] [] new = new ≡ old
+UnopenedRun its old (c ∷ cs) (r ∷ rs) new =
+    (mid : FlashState) × RepliesUnopened its c old r mid × UnopenedRun its mid cs rs new
+UnopenedRun its old _ _ new = ⊥
 
 -- ---- runs
 

@@ -1,13 +1,14 @@
 -- What serving a key script comes to.
-use Rattle.std.specs.Prelude.{◌≡◌, ◌⊎◌, ◌+◌, ◌≤◌, ℕ, true, List, ◌++◌, length, take, IfSome, Result, Ok, Err}
+use Rattle.std.specs.Prelude.{◌≡◌, ◌⊎◌, ◌+◌, ◌≤◌, ℕ, Bool, true, false, List, ◌++◌, length, take, IfSome, MatchBool, Result, Ok, Err}
 use Rattle.tx_types.specs.declared.config.Config.{Config}
 use Rattle.flash_model.specs.Calls.{BothTell, NoMoreToCome}
 use Rattle.flash_model.specs.Flash.{FlashState, IsSteady}
 use Rattle.flash_model.specs.Operations.{moment_of}
+use Rattle.mounted_session.specs.Mounting.{StaysQuiet}
 use Rattle.mounted_session.specs.Sessions.{is_mounted}
 use Rattle.page_keys.specs.KeyMaps.{KeyMap}
 use Rattle.page_keys.specs.KeyReplies.{key_texts}
-use Rattle.page_keys.specs.KeyRuns.{KeyPoint, IsKeyRun, AreFewBreaks, OpensFlash, last_point, mentions_in}
+use Rattle.page_keys.specs.KeyRuns.{KeyPoint, IsKeyRun, AreFewBreaks, OpensFlash, UnopenedRun, last_point, mentions_in}
 use Rattle.page_keys.specs.KeySessions.{IsKeyImage, IsWhy, KeySession, StandsAt, flash_in}
 use Rattle.page_keys.specs.declared.command.KeyCommand.{KeyCommand}
 use Rattle.page_keys.specs.declared.key_error.KeyServeError.{KeyServeError}
@@ -21,23 +22,27 @@ pub record IsFirstFlash (init first : FlashState) : Type 0 where
   pub told : BothTell NoMoreToCome init.told first.told
   pub steady : IsSteady init → (first.live ≡ true) × (first.faults ≡ init.faults)
 
+-- a flash with power is opened first, and another one is as it was handed in
+abbrev pub BeginsFlash : Config → FlashState → Bool → FlashState → Type 0
+BeginsFlash its old up first =
+    MatchBool old.live (OpensFlash its up old first) ((up ≡ false) × (first ≡ old))
+
 -- the session that serving begins with stands for a map
 pub record BeginsKeys {F : Type 0} (state : F → FlashState) (its : Config) (init : FlashState)
     (s : KeySession F) : Type 0 where
   pub image : IsKeyImage its init
   pub first : IsFirstFlash init (state (flash_in s))
-  pub opened : is_mounted s ≡ true → OpensFlash its true init (state (flash_in s))
+  pub opened : BeginsFlash its init (is_mounted s) (state (flash_in s))
   pub keys : KeyMap
   pub stands : StandsAt state its (mentions_in its (moment_of init)) keys s
 
--- There is one run over these commands, and where the store is open at its first point it was opened before. Its last
--- point is where the flash is that comes back. Of its replies the first
--- `told` were told.
+-- There is one run over these commands, before which a flash with power was opened. Its last point is where the flash
+-- is that comes back. Of its replies the first `told` were told.
 pub record ServesKeyRun (its : Config) (cs : List KeyCommand) (told : ℕ) (old new : FlashState)
     (before after : List ℕ) : Type 0 where
   pub first : KeyPoint
   pub begins : IsFirstFlash old first.flash
-  pub opened : first.up ≡ true → OpensFlash its true old first.flash
+  pub opened : BeginsFlash its old first.up first.flash
   pub replies : List KeyReply
   pub points : List KeyPoint
   pub run : IsKeyRun its first cs replies points
@@ -45,16 +50,46 @@ pub record ServesKeyRun (its : Config) (cs : List KeyCommand) (told : ℕ) (old 
   pub text : after ≡ before ++ key_texts (take told replies)
   pub few : IfSome old.told (λ t. AreFewBreaks t.cuts t.breaks cs replies)
 
+-- No command was served: the store could not be opened, for want of memory or since the image is no image of keys. The
+-- flash is as it was handed in, but for reads.
+pub record ServesNone (old new : FlashState) (before after : List ℕ) : Type 0 where
+  pub still : StaysQuiet old new
+  pub text : after ≡ before
+
 -- what serving comes to where the image handed in is sound and its pages are buckets
 abbrev pub ServesScript : Config → List KeyCommand → FlashState → FlashState → List ℕ → List ℕ →
     Result (Unit {0}) KeyServeError → Type 0
 ServesScript its cs old new before after (Ok u) =
     ServesKeyRun its cs (length cs) old new before after
 ServesScript its cs old new before after (Err failed.Memory) =
-    (told : ℕ) × (told ≤ length cs)
+    ServesNone old new before after
+    ⊎ ((told : ℕ) × (told ≤ length cs)
     × (ServesKeyRun its (take told cs) told old new before after
-    ⊎ ServesKeyRun its (take (told + 1) cs) told old new before after)
+    ⊎ ServesKeyRun its (take (told + 1) cs) told old new before after))
 ServesScript its cs old new before after (Err _) = ⊥
+
+-- There is one run over these commands in which the store was never open, nor was it opened before them. After it the
+-- flash that comes back was read at most. Of its replies the first `told` were told.
+pub record ServesUnopenedRun (its : Config) (cs : List KeyCommand) (told : ℕ) (old new : FlashState)
+    (before after : List ℕ) : Type 0 where
+  pub first : FlashState
+  pub opened : BeginsFlash its old false first
+  pub replies : List KeyReply
+  pub last : FlashState
+  pub run : UnopenedRun its first cs replies last
+  pub still : StaysQuiet last new
+  pub text : after ≡ before ++ key_texts (take told replies)
+
+-- What serving comes to where it is another one: the store is never open.
+abbrev pub ServesUnopened : Config → List KeyCommand → FlashState → FlashState → List ℕ → List ℕ →
+    Result (Unit {0}) KeyServeError → Type 0
+ServesUnopened its cs old new before after (Ok u) =
+    ServesUnopenedRun its cs (length cs) old new before after
+ServesUnopened its cs old new before after (Err why) =
+    ServesNone old new before after
+    ⊎ ((told : ℕ) × (told ≤ length cs)
+    × (ServesUnopenedRun its (take told cs) told old new before after
+    ⊎ ((why ≡ failed.Memory) × ServesUnopenedRun its (take (told + 1) cs) told old new before after)))
 
 -- and why it ends where it is another one
 abbrev pub RefusesKeys : Config → FlashState → Result (Unit {0}) KeyServeError → Type 0

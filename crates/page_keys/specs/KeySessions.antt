@@ -24,7 +24,7 @@ use Rattle.mounted_session.specs.declared.mounted.NotMounted.TheVariants as fail
 use Rattle.mounted_session.specs.declared.session.Session.{Session}
 use Rattle.page_keys.specs.Buckets.{AreBuckets, EncodesMap}
 use Rattle.page_keys.specs.KeyMaps.{KeyMap}
-use Rattle.page_keys.specs.KeyRuns.{KeyPoint, key_at, DoesKeys, ServesKeys, is_key_cut, is_key_fault, mentions_in, seen_after}
+use Rattle.page_keys.specs.KeyRuns.{KeyPoint, key_at, DoesKeys, RepliesUnopened, ServesKeys, is_key_cut, is_key_fault, mentions_in, seen_after}
 use Rattle.page_keys.specs.Stores.{KeyStoreState, HasKeys, IsFirstBad}
 use Rattle.page_keys.specs.declared.command.KeyCommand.{KeyCommand}
 use Rattle.page_keys.specs.declared.answers.KeyError.{KeyError}
@@ -94,14 +94,16 @@ pub record ServesIn {F : Type 0} (state : F → FlashState) (its : Config) (seen
   pub serves : ServesKeys its spent c (point_of state m old) r (point_of state left new)
   pub stands : StandsAt state its (seen_after its seen c r) left new
 
--- What serving a command comes to. Where the image is not sound, or has a page that is no bucket, nothing is written.
+-- What serving a command comes to. Where the image is not sound, or has a page that is no bucket, the store is not
+-- opened, and nothing is written.
 pub record ServesOne {F : Type 0} (state : F → FlashState) (its : Config) (c : KeyCommand)
     (old : KeySession F) (r : KeyReply) (new : KeySession F) : Type 0 where
   pub fits : Fits state its new
   pub in_run : (seen : ℕ → ℕ) → (m : KeyMap) → StandsAt state its seen m old →
       ServesIn state its seen m c old r new
   pub unopened : (IsKeyImage its (state (flash_in old)) → ⊥) →
-      moment_of (state (flash_in new)) ≡ moment_of (state (flash_in old))
+      (moment_of (state (flash_in new)) ≡ moment_of (state (flash_in old)))
+      × RepliesUnopened its c (state (flash_in old)) r (state (flash_in new))
   pub extras : (state (flash_in new)).extras ≡ (state (flash_in old)).extras
 
 -- why no more commands are served: by the image, or for want of memory

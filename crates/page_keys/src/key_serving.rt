@@ -3,7 +3,7 @@ ghost use Rattle.tx_types.specs.Config.{checked};
 ghost use Rattle.flash_model.specs.Flash.{FlashState, IsSteady};
 ghost use Rattle.flash_model.specs.Operations.{moment_of};
 ghost use Rattle.page_keys.specs.KeyRuns.{arms_key_cut};
-ghost use Rattle.page_keys.specs.KeyServed.{BeginsKeys, RefusesKeys, ServesScript};
+ghost use Rattle.page_keys.specs.KeyServed.{BeginsFlash, BeginsKeys, RefusesKeys, ServesScript, ServesUnopened};
 ghost use Rattle.mounted_session.specs.Sessions.{is_mounted};
 ghost use Rattle.page_keys.specs.KeySessions.{flash_in, Ends, Fits, IsKeyImage, ServesOne};
 ghost use Rattle.page_keys.specs.Scripts.{SuitsKeys};
@@ -121,6 +121,10 @@ fn serve_all<F: Power + Arms, R: CommitRule>(
     ensures unopened { (init : FlashState) → (IsKeyImage config init → ⊥) →
         moment_of (F.state (flash_in session)) ≡ moment_of init →
         moment_of (F.state result.0) ≡ moment_of init }
+    ensures unserved { (init : FlashState) → (IsKeyImage config init → ⊥) →
+        moment_of (F.state (flash_in session)) ≡ moment_of init →
+        BeginsFlash config init false (F.state (flash_in session)) →
+        ServesUnopened config list.now init (F.state result.0) out.old.items out.new.items result.1 }
     ensures refuses { (init : FlashState) → (IsKeyImage config init → ⊥) →
         moment_of (F.state (flash_in session)) ≡ moment_of init →
         RefusesKeys config init result.1 }
@@ -150,7 +154,8 @@ fn serve_all<F: Power + Arms, R: CommitRule>(
 ///   `cut` turns power on and opens it again. Where that meets a fault the command is not done, and its reply is
 ///   `Fault`, or `Cut` where power is off.
 /// - `Unsound` and `Bucket` come only from an opening before the first one that succeeded. The flash then comes back
-///   with its image and its counts of programs and erases.
+///   with its image and its counts of programs and erases. Over such an image each reply before that is of an opening
+///   that met a fault, or of an arm.
 /// - `Memory` ends the run before a command, in it, or where its reply is to be told. The replies before it were told.
 pub fn key_serve<F: Power + Arms, R: CommitRule>(
     alloc: Global,
@@ -170,6 +175,9 @@ pub fn key_serve<F: Power + Arms, R: CommitRule>(
     ensures steady { IsSteady (F.state flash) → OnOk result.1 (IsKeyImage config (F.state flash)) }
     ensures unopened { (IsKeyImage config (F.state flash) → ⊥) →
         moment_of (F.state result.0) ≡ moment_of (F.state flash) }
+    ensures unserved { (IsKeyImage config (F.state flash) → ⊥) →
+        ServesUnopened config list.now (F.state flash) (F.state result.0) out.old.items
+        out.new.items result.1 }
     ensures refuses { (IsKeyImage config (F.state flash) → ⊥) →
         RefusesKeys config (F.state flash) result.1 }
     ensures shape { (F.state result.0).shape ≡ (F.state flash).shape }

@@ -22,6 +22,8 @@ impl<F: Power, R: CommitRule> Mounted<F> for KeyStore<F, R> {
 
     ghost refuses = { IsWhy };
 
+    ghost meets = { λ its old new. Unit {0} };
+
     fn mount(
         alloc: Global,
         flash: F,

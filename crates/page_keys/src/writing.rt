@@ -5,6 +5,7 @@ ghost use Rattle.array_machine.specs.Submit.{first_refusals};
 ghost use Rattle.page_keys.specs.Writing.{Writes, WritesNot};
 
 use crate::answers::PutError;
+use collector::theorems::image_is_sound;
 use flash_model::Flash;
 use record_list::CommitRule;
 use tx_engine::{Device, Progress, SubmitError, device_facts};
@@ -24,6 +25,7 @@ pub(crate) fn write<F: Flash, R: CommitRule>(
     ensures not_written { IfErr result (WritesNot F.state device.old device.new batch.now.entries) }
     ensures kept { device.new.dropped ≡ false }
 {
+    image_is_sound::<R>();
     standing_facts(device);
     if let Err(refusal) = device.submit(0, batch) {
         return Err(spent_refusal(refusal));

@@ -58,6 +58,7 @@ pub fn recover<F: Flash, R: CommitRule>(
 
     // Nothing changes, and this many slots are read.
     ensures moment { moment_of (F.state flash.new) ≡ moment_of (F.state flash.old) }
+    ensures started { (F.state flash.new).started ≡ (F.state flash.old).started }
     ensures carries { Carries (F.state flash.old) (F.state flash.new) (is_read_failure result) }
     ensures reads { ReadsFor config.protocol (F.state flash.old) (F.state flash.new) result }
 {

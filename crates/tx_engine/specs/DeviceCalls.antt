@@ -59,6 +59,7 @@ pub record MountsDevice {F : Type 0} (state : F → FlashState) (flash : F) (its
   pub mounted : IfOk result (Mounts state flash its)
   pub failed : IfErr result (λ e. FailsToMount state flash its e.0 e.1)
   pub reads : IfErr result (λ e. ReadsUnmounted state flash its e.0 e.1)
+  pub started : IfErr result (λ e. (state e.0).started ≡ (state flash).started)
 
 -- A transaction went on by a page, or a fault was met.
 pub record StepsDevice {F : Type 0} (state : F → FlashState) (old new : DeviceState F) (tag : ℕ)

@@ -22,7 +22,7 @@ abbrev pub mount_reads : Config → FlashState → ℕ
 mount_reads its s = slots_of s.shape + 2 * compared (records_in its.protocol s.image)
 
 -- The device stands for the array of the image, with nothing open. Its tables are those of the image, and it is not
--- dropped.
+-- dropped. No operation was started.
 pub record Mounts {F : Type 0} (state : F → FlashState) (flash : F) (its : Config)
     (s : DeviceState F) : Type 0 where
   pub config : s.config ≡ its
@@ -32,6 +32,7 @@ pub record Mounts {F : Type 0} (state : F → FlashState) (flash : F) (its : Con
   pub tables : IsOpened its (state flash).image s.noted s.table
   pub moment : moment_of (state s.flash) ≡ moment_of (state flash)
   pub reads : (state s.flash).reads ≡ counted_times (mount_reads its (state flash)) (state flash).reads
+  pub started : (state s.flash).started ≡ (state flash).started
   pub carries : Carries (state flash) (state s.flash) false
   pub kept : s.dropped ≡ false
 
@@ -65,4 +66,5 @@ pub record StoresOpened {F : Type 0} (state : F → FlashState) (flash : F) (its
   pub unsure : s.unsure ≡ unsure.Nothing
   pub moment : moment_of (state s.flash) ≡ moment_of (state flash)
   pub reads : (state s.flash).reads ≡ counted_times (mount_reads its (state flash)) (state flash).reads
+  pub started : (state s.flash).started ≡ (state flash).started
   pub carries : Carries (state flash) (state s.flash) false

@@ -31,6 +31,7 @@ pub record OpensStore {F : Type 0} (state : F → FlashState) (p : Protocol) (fl
   pub stored : IfOk result (IsStoreState state p)
   pub failed : IfErr result (λ e. FailsToMount state flash its e.0 e.1)
   pub reads : IfErr result (λ e. ReadsUnmounted state flash its e.0 e.1)
+  pub started : IfErr result (λ e. (state e.0).started ≡ (state flash).started)
 
 -- The slot from which a page is read shows its bytes; there is none where the page is blank.
 pub record PlacesPage {F : Type 0} (state : F → FlashState) (s : StoreState F) (page : ℕ)

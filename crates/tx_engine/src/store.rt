@@ -266,6 +266,7 @@ fn recover_tables<F: Flash, R: CommitRule>(
     ensures moment { moment_of (F.state flash.new) ≡ moment_of (F.state flash.old) }
     ensures reads { let old = F.state flash.old in
         OnOk result (ReadsAll old (F.state flash.new) (mount_reads config old)) }
+    ensures started { (F.state flash.new).started ≡ (F.state flash.old).started }
     ensures failed { IfErr result (FailsToMount F.state flash.old config flash.new) }
     ensures reads_failed { IfErr result (ReadsUnmounted F.state flash.old config flash.new) }
 {

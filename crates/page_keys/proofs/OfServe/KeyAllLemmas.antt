@@ -7,8 +7,8 @@ use Rattle.std.proofs.lemmas.Grind.{flat_map-append}
 use Rattle.judged_records.specs.Images.{IsLeastImageBreach}
 use Rattle.judged_records.proofs.OfNotes.OneBreach.{sound_unbroken}
 use Rattle.page_keys.specs.KeyReplies.{key_text, key_texts}
-use Rattle.page_keys.specs.KeyRuns.{IsKeyRun, OpensFlash, last_point}
-use Rattle.page_keys.specs.KeyServed.{IsFirstFlash, RefusesKeys, ServesKeyRun, ServesScript}
+use Rattle.page_keys.specs.KeyRuns.{IsKeyRun, last_point}
+use Rattle.page_keys.specs.KeyServed.{BeginsFlash, IsFirstFlash, RefusesKeys, ServesKeyRun, ServesScript}
 use Rattle.page_keys.specs.KeySessions.{IsWhy, StandsAt, point_of}
 use Rattle.page_keys.specs.Stores.{IsFirstBad}
 use Rattle.page_keys.specs.declared.key_error.KeyServeError.TheVariants as failed
@@ -18,7 +18,7 @@ use Rattle.page_keys.proofs.OfServe.KeyServeLemmas.{mounted_point}
 use Rattle.page_keys.proofs.OfBucket.Parts.{shown_buckets}
 
 -- an image that is served does not end the run
-never_for : (its : Config) (s : FlashState) (why : KeyServeError) → IsKeyImage its s → IsWhy its s why →
+pub never_for : (its : Config) (s : FlashState) (why : KeyServeError) → IsKeyImage its s → IsWhy its s why →
     why ≡ failed.Memory
 never_for its s (failed.Unsound law slot) image cause =
     absurd (sound_unbroken its.protocol its.logical (shape_of its) s.image
@@ -27,7 +27,7 @@ never_for its s (failed.Bucket page) image cause =
     absurd (cause.1.bad (image.buckets page cause.1.exists))
 never_for its s failed.Memory image cause = refl
 
-text_more : (rs : List KeyReply) (r : KeyReply) (before between after : List ℕ) →
+pub text_more : (rs : List KeyReply) (r : KeyReply) (before between after : List ℕ) →
     between ≡ before ++ key_texts rs → after ≡ between ++ key_text r →
     after ≡ before ++ key_texts (rs ++ r ∷ [])
 text_more rs r before between after was is =
@@ -36,16 +36,16 @@ text_more rs r before between after was is =
     is ∙ ap (λ (l : List ℕ). l ++ key_text r) was ∙ append_assoc before (key_texts rs) (key_text r)
     ∙ ap (λ (l : List ℕ). before ++ l) (sym more)
 
-taken_more : (list : List KeyCommand) (at : ℕ) (c : KeyCommand) → at < length list →
+pub taken_more : (list : List KeyCommand) (at : ℕ) (c : KeyCommand) → at < length list →
     c ≡ get_or list at c → take (at + 1) list ≡ take at list ++ c ∷ []
 taken_more list at c lt read =
     take_more list at c lt ∙ ap (λ (x : KeyCommand). take at list ++ x ∷ []) (sym read)
 
-taken : (list : List KeyCommand) (at : ℕ) → at < length list → length (take at list) ≡ at
+pub taken : (list : List KeyCommand) (at : ℕ) → at < length list → length (take at list) ≡ at
 taken list at lt = length-take-le at list (omega arith)
 
 -- an image that is no image of keys stays
-other_image : (its : Config) (init : FlashState) (s : FlashState) → (IsKeyImage its init → ⊥) →
+pub other_image : (its : Config) (init : FlashState) (s : FlashState) → (IsKeyImage its init → ⊥) →
     moment_of s ≡ moment_of init → IsKeyImage its s → ⊥
 other_image its init s not same image = not (record {
   sound = subst (λ (x : Moment). IsSoundImage its.protocol its.logical (shape_of its) x.image) same
@@ -83,7 +83,7 @@ module _ {F : Type 0} (state : F → FlashState) (its : Config) where
       (before after : List ℕ) : Type 0 where
     pub first : KeyPoint
     pub begins : IsFirstFlash init first.flash
-    pub opened : first.up ≡ true → OpensFlash its true init first.flash
+    pub opened : BeginsFlash its init first.up first.flash
     pub replies : List KeyReply
     pub points : List KeyPoint
     pub run : IsKeyRun its first cs replies points
@@ -210,7 +210,8 @@ module _ {F : Type 0} (state : F → FlashState) (its : Config) where
       ServesScript its list init (state new) before after (Err failed.Memory)
   ended_untold init list at c r s t new before between after lt read served one is same =
       let run = untold init (take at list) c r s t before between (state new) served one
-      (ap (λ (f : F). moment_of (state f)) is) in (
+      (ap (λ (f : F). moment_of (state f)) is) in
+      inr (
         at,
         omega arith,
         inr (subst (λ (x : List ℕ). ServesKeyRun its (take (at + 1) list) at init (state new) before x)
@@ -234,27 +235,12 @@ module _ {F : Type 0} (state : F → FlashState) (its : Config) where
       let still = ap (λ (f : F). moment_of (state f)) is ∙ ends.still.still.moment in
       let run = run_told init (take at list) s before after served (state new) still in
       subst (λ (w : KeyServeError). ServesScript its list init (state new) before after (Err w))
-      (sym memory) (
+      (sym memory) (inr (
         at,
         omega arith,
         inl (subst (λ n. ServesKeyRun its (take at list) n init (state new) before after)
             (taken list at lt) run),
-      )
-
-  pub ended_first : (init : FlashState) (list : List KeyCommand) (s t : KeySession F)
-      (why : KeyServeError) (before after : List ℕ) → Fits state its s →
-      HasServed init [] s before after → Ends its (state (flash_in s)) (state (flash_in t)) why →
-      ServesScript its list init (state (flash_in t)) before after (Err why)
-  ended_first init list s t why before after fits served ends =
-      let image = image_is s _ served.left fits served.stands in
-      let memory = never_for its (state (flash_in s)) why image ends.cause in
-      subst (λ (w : KeyServeError).
-      ServesScript its list init (state (flash_in t)) before after (Err w)) (sym memory) (
-        0,
-        omega arith,
-        inl (run_told init [] s before after served (state (flash_in t))
-            ends.still.still.moment),
-      )
+      ))
 
   -- all is served
   pub served_all : (init : FlashState) (list : List KeyCommand) (at : ℕ) (s : KeySession F)
@@ -286,7 +272,7 @@ module _ {F : Type 0} (state : F → FlashState) (its : Config) where
       moment_of (state (flash_in s)) ≡ moment_of init → ServesOne state its c s r t →
       moment_of (state (flash_in t)) ≡ moment_of init
   moment_stays init c r s t not same one =
-      one.unopened (other_image its init (state (flash_in s)) not same) ∙ same
+      (one.unopened (other_image its init (state (flash_in s)) not same)).0 ∙ same
 
   pub shape_here : (s : KeySession F) (new : F) → Fits state its s → new ≡ flash_in s →
       checked its ≡ Ok (state new).shape
@@ -322,14 +308,20 @@ run_keeps its cs told old new before after serves =
 -- what was served leaves a sound image with buckets
 pub script_keeps : (its : Config) (cs : List KeyCommand) (old new : FlashState)
     (before after : List ℕ) (r : Result (Unit {0}) KeyServeError) →
-    ServesScript its cs old new before after r → IsKeyImage its new
-script_keeps its cs old new before after (Ok u) serves =
+    IsKeyImage its old → ServesScript its cs old new before after r → IsKeyImage its new
+script_keeps its cs old new before after (Ok u) image serves =
     run_keeps its cs (length cs) old new before after serves
-script_keeps its cs old new before after (Err failed.Memory) serves =
-    let told = serves.0 in
-    elim serves.2 [
+script_keeps its cs old new before after (Err failed.Memory) image (inl none) = record {
+  sound = subst (λ (x : Moment). IsSoundImage its.protocol its.logical (shape_of its) x.image)
+      (sym none.still.still.moment) image.sound;
+  buckets = subst (λ (x : Moment). AreBuckets its (array_in its.protocol its.logical x.image))
+      (sym none.still.still.moment) image.buckets;
+}
+script_keeps its cs old new before after (Err failed.Memory) image (inr some) =
+    let told = some.0 in
+    elim some.2 [
       | inl run ↦ run_keeps its (take told cs) told old new before after run
       | inr run ↦ run_keeps its (take (told + 1) cs) told old new before after run
     ]
-script_keeps its cs old new before after (Err (failed.Unsound law slot)) serves = absurd serves
-script_keeps its cs old new before after (Err (failed.Bucket page)) serves = absurd serves
+script_keeps its cs old new before after (Err (failed.Unsound law slot)) image serves = absurd serves
+script_keeps its cs old new before after (Err (failed.Bucket page)) image serves = absurd serves

@@ -1,11 +1,12 @@
 -- The session that serving a key script begins with.
-use Rattle.page_keys.proofs.Common.{◌≡◌, ◌≤◌, ℕ, true, List, Result, Ok, Err, refl, sym, ap, ◌∙◌, subst, arith, OnOk, Config, Shape, checked, shape_of, FlashState, Moment, moment_of, ArrayState, Pages, IsSoundImage, array_in, AreBuckets, EncodesMap, KeyMap, mentions_in, BeginsKeys, Ends, IsKeyImage, KeyCommand, KeyServeError, KeySession}
-use Rattle.std.specs.Prelude.{◌<◌}
+use Rattle.page_keys.proofs.Common.{◌≡◌, ◌≤◌, ℕ, true, false, List, Result, Ok, Err, refl, sym, ap, ◌∙◌, subst, inl, arith, OnOk, Config, Shape, checked, shape_of, FlashState, Moment, moment_of, ArrayState, Pages, IsSoundImage, array_in, AreBuckets, EncodesMap, KeyMap, mentions_in, BeginsKeys, Ends, IsKeyImage, KeyCommand, KeyServeError, KeySession}
+use Rattle.std.specs.Prelude.{◌<◌, MatchBool}
 use Rattle.flash_model.specs.Flash.{IsSteady}
-use Rattle.page_keys.specs.KeyServed.{ServesScript}
+use Rattle.page_keys.specs.KeyRuns.{OpensFlash}
+use Rattle.page_keys.specs.KeyServed.{BeginsFlash, ServesScript}
 use Rattle.page_keys.specs.KeySessions.{Mounts, StandsUnmounted}
 use Rattle.mounted_session.specs.declared.session.Session.TheVariants as session
-use Rattle.mounted_session.specs.Mounting.{MomentStays}
+use Rattle.mounted_session.specs.Mounting.{MeetsFault, MomentStays}
 use Rattle.mounted_session.specs.Sessions.{MountsFirst}
 use Rattle.mounted_session.proofs.Beginning.{first_by, first_still}
 use Rattle.mounted_session.proofs.Telling.{none_spent}
@@ -13,8 +14,8 @@ use Rattle.flash_model.proofs.CallLemmas.{no_more_same}
 use Rattle.page_keys.specs.KeySessions.{Fits, flash_in, Opens}
 use Rattle.page_keys.specs.Stores.{KeyStoreState}
 use Rattle.page_keys.proofs.OfPut.Existing.{shows_some}
-use Rattle.page_keys.proofs.OfServe.KeyAllLemmas.{ended_first, served_none}
-use Rattle.page_keys.proofs.OfServe.KeyServeLemmas.{key_image, opens_flash}
+use Rattle.page_keys.proofs.OfServe.KeyAllLemmas.{never_for}
+use Rattle.page_keys.proofs.OfServe.KeyServeLemmas.{key_image, opens_flash, opens_not}
 
 module _ {F : Type 0} (state : F → FlashState) (its : Config) (flash : F) where
   -- an image that stays is an image of keys before and after
@@ -42,6 +43,19 @@ module _ {F : Type 0} (state : F → FlashState) (its : Config) (flash : F) wher
   }
 
 module _ {F : Type 0} (state : F → FlashState) (its : Config) (flash : F) where
+  -- a flash with power on which the store is not opened
+  meets_begins : (new : F) → (state flash).live ≡ true → MeetsFault (state flash) (state new) →
+      BeginsFlash its (state flash) false (state new)
+  meets_begins new on meets =
+      subst (λ b. MatchBool b (OpensFlash its false (state flash) (state new))
+      ((false ≡ false) × (state new ≡ state flash))) (sym on) (opens_not its (state flash) (state new) meets)
+
+  -- and one without
+  alone_begins : (state flash).live ≡ false → BeginsFlash its (state flash) false (state flash)
+  alone_begins off =
+      subst (λ b. MatchBool b (OpensFlash its false (state flash) (state flash))
+      ((false ≡ false) × (state flash ≡ state flash))) (sym off) (refl, refl)
+
   begins : (s : KeySession F) → (state flash).live ≡ true → Mounts state its flash s →
       IsKeyImage its (state flash) → BeginsKeys state its (state flash) s
   begins (session.Mounted k) on opens image =
@@ -53,7 +67,8 @@ module _ {F : Type 0} (state : F → FlashState) (its : Config) (flash : F) wher
           told = opens.still.still.told;
           steady = λ steady. (opens.fits.live, opens.still.quiet);
         };
-        opened = λ up. opens_flash state its flash k opens;
+        opened = subst (λ b. MatchBool b (OpensFlash its true (state flash) (state k.device.flash))
+            ((true ≡ false) × (state k.device.flash ≡ state flash))) (sym on) (opens_flash state its flash k opens);
         keys = shown.0;
         stands = record {
           shows = subst (λ (p : Pages). EncodesMap its p shown.0)
@@ -71,14 +86,15 @@ module _ {F : Type 0} (state : F → FlashState) (its : Config) (flash : F) wher
           steady = λ steady. absurd (none_spent (state flash).told (state new).told
               (state new).live steady.none meets.spends);
         };
-        opened = λ up. cc;
+        opened = meets_begins new on meets;
         keys = shown.0;
         stands = stands_still state its flash (state new) meets.still.moment image shown.0 shown.1;
       }
 
   -- a flash without power, which is not opened
-  stands_alone : IsKeyImage its (state flash) → BeginsKeys state its (state flash) (session.Unmounted flash)
-  stands_alone image =
+  stands_alone : (state flash).live ≡ false → IsKeyImage its (state flash) →
+      BeginsKeys state its (state flash) (session.Unmounted flash)
+  stands_alone off image =
       let shown = shows_some its (array_in its.protocol its.logical (state flash).image) image.buckets in
       record {
         image = image;
@@ -87,10 +103,17 @@ module _ {F : Type 0} (state : F → FlashState) (its : Config) (flash : F) wher
           told = no_more_same (state flash).told;
           steady = λ steady. (steady.live, refl);
         };
-        opened = λ up. cc;
+        opened = alone_begins off;
         keys = shown.0;
         stands = stands_still state its flash (state flash) refl image shown.0 shown.1;
       }
+
+  unopened_begins : (s : KeySession F) → (state flash).live ≡ true → Mounts state its flash s →
+      (IsKeyImage its (state flash) → ⊥) → BeginsFlash its (state flash) false (state (flash_in s))
+  unopened_begins (session.Mounted k) on opens not =
+      absurd (not (stays_image state its flash (state k.device.flash) opens.still.still.moment
+      (key_image state its k opens.fits)))
+  unopened_begins (session.Unmounted new) on meets not = meets_begins new on meets
 
   steady_begun : (s : KeySession F) → Mounts state its flash s → IsSteady (state flash) →
       IsKeyImage its (state flash)
@@ -107,7 +130,13 @@ module _ {F : Type 0} (state : F → FlashState) (its : Config) (flash : F) wher
   module _ (s : KeySession F) (first : MountsFirst state (Opens state its) flash s) where
     pub first_begins : IsKeyImage its (state flash) → BeginsKeys state its (state flash) s
     first_begins image = first_by state (Opens state its) flash (λ t. BeginsKeys state its (state flash) t)
-        (λ t on h. begins t on h image) (λ off. stands_alone image) s first
+        (λ t on h. begins t on h image) (λ off. stands_alone off image) s first
+
+    pub first_unopened : (IsKeyImage its (state flash) → ⊥) →
+        BeginsFlash its (state flash) false (state (flash_in s))
+    first_unopened not = first_by state (Opens state its) flash
+        (λ t. BeginsFlash its (state flash) false (state (flash_in t)))
+        (λ t on h. unopened_begins t on h not) (λ off. alone_begins off) s first
 
     pub first_steady : IsSteady (state flash) → IsKeyImage its (state flash)
     first_steady steady = first_by state (Opens state its) flash (λ t. IsKeyImage its (state flash))
@@ -122,15 +151,11 @@ module _ {F : Type 0} (state : F → FlashState) (its : Config) (flash : F) wher
         (λ k h. h.still) s first
 
 -- nothing was served, for want of memory
-pub begin_ended : {F : Type 0} (state : F → FlashState) (its : Config)
-    (list : List KeyCommand) (flash new : F) (why : KeyServeError) (out : List ℕ) →
-    checked its ≡ Ok (state flash).shape → IsKeyImage its (state flash) →
-    Ends its (state flash) (state new) why →
-    ServesScript its list (state flash) (state new) out out (Err why)
-begin_ended state its list flash new why out check image ends =
-    ended_first state its (state flash) list (session.Unmounted flash) (session.Unmounted new) why out
-    out check (served_none state its (state flash) (session.Unmounted flash) out check
-    (stands_alone state its flash image)) ends
+pub begin_ended : (its : Config) (list : List KeyCommand) (old new : FlashState) (why : KeyServeError)
+    (out : List ℕ) → IsKeyImage its old → Ends its old new why → ServesScript its list old new out out (Err why)
+begin_ended its list old new why out image ends =
+    subst (λ (w : KeyServeError). ServesScript its list old new out out (Err w))
+    (sym (never_for its old why image ends.cause)) (inl (record { still = ends.still; text = refl }))
 
 pub on_each : {A E : Type 0} (P : Type 0) (r : Result A E) → P → OnOk r P
 on_each P (Ok a) h = h

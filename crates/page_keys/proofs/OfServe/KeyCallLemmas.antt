@@ -62,7 +62,7 @@ module _ {F : Type 0} (state : F → FlashState) (protocol : Protocol) (old new 
   broken_here any = elim any.left [
     | inl none ↦ record {
       left = m;
-      does = λ up. record { whole = inl refl; moves = moves_by true any.moved.moves };
+      does = λ up. record { tried = any.tried; whole = inl refl; moves = moves_by true any.moved.moves };
       shows = λ h. cc;
       image = λ h. none;
       config = any.moved.config;
@@ -74,6 +74,7 @@ module _ {F : Type 0} (state : F → FlashState) (protocol : Protocol) (old new 
     | inr all ↦ record {
       left = apply m cs;
       does = λ up. record {
+        tried = any.tried;
         whole = inr (record { allowed = all.0; keys = refl });
         moves = moves_by true any.moved.moves;
       };

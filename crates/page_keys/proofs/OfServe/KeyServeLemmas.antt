@@ -8,7 +8,7 @@ use Rattle.flash_model.specs.declared.outcome.Outcome.{Outcome}
 use Rattle.judged_records.specs.IndexState.{mention_of}
 use Rattle.array_runs.specs.Run.{MayBeSpent}
 use Rattle.tx_engine.proofs.OfDevice.Seen.{image_seen}
-use Rattle.page_keys.specs.KeyRuns.{DoesCommand, DoesKeys, IsDone, NotDone, OpensFirst, OpensFlash, changes_in, is_tried, IsKeySpent}
+use Rattle.page_keys.specs.KeyRuns.{DoesCommand, DoesKeys, IsCaused, IsDone, NotDone, OpensFirst, OpensFlash, RepliesUnopened, changes_in, is_tried, IsKeySpent}
 use Rattle.page_keys.specs.KeyRuns.{arms_key_cut, cuts_armed, is_key_break}
 use Rattle.page_keys.specs.KeySessions.{DoesFor, FitsMounted, Mounts, Opens, SetsCut}
 use Rattle.page_keys.specs.KeySessions.{IsUsable, StandsUnmounted, point_of}
@@ -93,19 +93,36 @@ fault_done its spent c old new true does calls shut = record { does = does; call
 fault_done its spent c old new false does calls shut =
     record { does = does_cut its spent c old new does; calls = calls; up = shut }
 
--- or whose mount met one
+tells_break : (live : Bool) → is_key_break (broken_reply live) ≡ true
+tells_break true = refl
+tells_break false = refl
+
+-- the store is not opened where its mount met a fault
+pub opens_not : (its : Config) (a b : FlashState) → MeetsFault a b → OpensFlash its false a b
+opens_not its a b meets = record { carries = meets.carries; moment = meets.still.moment; reads = λ up. cc }
+
+-- a command whose mount met one
 not_done : (its : Config) (old new : KeyPoint) (live : Bool) → MeetsFault old.flash new.flash →
     new.keys ≡ old.keys → new.up ≡ false → NotDone its old (broken_reply live) new
 not_done its old new live meets keys shut = record {
-  broken = told live;
-  opens = record { carries = meets.carries; moment = meets.still.moment; reads = λ up. cc };
+  broken = tells_break live;
+  opens = opens_not its old.flash new.flash meets;
   keys = keys;
   up = shut;
 }
-  where
-    told : (b : Bool) → is_key_break (broken_reply b) ≡ true
-    told true = refl
-    told false = refl
+
+-- why it is told so
+caused_by : (a b : FlashState) (live : Bool) → Rose a.faults b.faults → b.live ≡ live →
+    IsCaused (broken_reply live) a b
+caused_by a b true rose on = record { cut = sym (ap not on); faults = rose }
+caused_by a b false rose off = record { cut = sym (ap not off); faults = rose }
+
+-- the same where the store cannot be opened
+unopened_by : (its : Config) (c : KeyCommand) (a b : FlashState) (r : KeyReply) → arms_key_cut c ≡ false →
+    (is_key_break r ≡ true) × OpensFlash its false a b × IsCaused r a b → RepliesUnopened its c a r b
+unopened_by its (command.Put cs) a b r no_arm h = h
+unopened_by its (command.Get key) a b r no_arm h = h
+unopened_by its (command.Cut count what) a b r no_arm h = cc
 
 -- a fault that was met
 module _ (its : Config) (spent : ℕ → Bool) (c : KeyCommand) (old new : KeyPoint)
@@ -116,13 +133,13 @@ module _ (its : Config) (spent : ℕ → Bool) (c : KeyCommand) (old new : KeyPo
       ServesKeys its spent c old (broken_reply live) new
   broken_by true on does = record {
     does = does;
-    causes = λ arm. record { cut = sym (ap not on); faults = rose };
+    causes = λ arm. caused_by old.flash new.flash true rose on;
     spends = spends_one (cuts_armed c) 0 true old.flash.told new.flash.told less
         (subst (λ b. BothTell (Spends b) old.flash.told new.flash.told) on spends);
   }
   broken_by false off does = record {
     does = does;
-    causes = λ arm. record { cut = sym (ap not off); faults = rose };
+    causes = λ arm. caused_by old.flash new.flash false rose off;
     spends = spends_one (cuts_armed c) 0 false old.flash.told new.flash.told less
         (subst (λ b. BothTell (Spends b) old.flash.told new.flash.told) off spends);
   }
@@ -419,7 +436,14 @@ module _ {F : Type 0} (state : F → FlashState) (its : Config) (c : KeyCommand)
             let most = stands.mentions page lt in omega arith);
       };
     };
-    unopened = λ not_keys. meets.still.moment;
+    unopened = λ not_keys. (
+      meets.still.moment,
+      unopened_by its c (state flash) (state new) (broken_reply live) no_arm (
+        tells_break live,
+        opens_not its (state flash) (state new) meets,
+        caused_by (state flash) (state new) live meets.rose on,
+      ),
+    );
     extras = meets.still.extras;
   }
 
@@ -495,7 +519,7 @@ module _ {F : Type 0} (state : F → FlashState) (its : Config) (count : ℕ) (w
             ≤ seen page) (sym sets.stays) (stands.mentions page lt);
       };
     };
-    unopened = λ not_keys. ap moment_of sets.stays;
+    unopened = λ not_keys. (ap moment_of sets.stays, (refl, sets));
     extras = ap (λ (s : FlashState). s.extras) sets.stays;
   }
   armed protocol (session.Mounted k) (session.Unmounted b) rule fits sets = absurd sets

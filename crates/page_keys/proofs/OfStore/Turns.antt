@@ -1,9 +1,9 @@
 -- How the buckets of a put are written one after another, over the steps of its transaction.
-use Rattle.page_keys.proofs.Common.{◌≡◌, ◌⊎◌, ℕ, ◌+◌, ◌<◌, ◌≤◌, ◌==◌, Bool, true, false, cond, if◌then◌else◌, List, [], ◌∷◌, ◌++◌, length, map, take, set, get_or, option_map, Option, Some, Ok, refl, sym, ap, subst, ◌∙◌, inl, inr, arith, list_any, length-append, take_more, cases_lt, nat_tests, PageWrite, Config, Shape, shape_of, FlashState, Contents, Moment, moment_of, IndexState, IsSeen, HoldsAlways, ArrayState, DeviceState, writing}
+use Rattle.page_keys.proofs.Common.{◌≡◌, ℕ, ◌+◌, ◌<◌, ◌≤◌, ◌==◌, Bool, true, false, cond, if◌then◌else◌, List, [], ◌∷◌, ◌++◌, length, map, take, set, get_or, option_map, Option, Some, Ok, refl, sym, ap, subst, ◌∙◌, inl, inr, arith, list_any, length-append, take_more, cases_lt, nat_tests, PageWrite, Config, Shape, shape_of, FlashState, Contents, Moment, moment_of, IndexState, IsSeen, HoldsAlways, ArrayState, DeviceState, writing}
 use Rattle.std.proofs.Common.{eq-eqb, All, Any, Contains}
-use Rattle.std.specs.Prelude.{IfSome, find}
+use Rattle.std.specs.Prelude.{◌≢◌, AllPairs, IfSome, find}
 use Rattle.std.specs.List.{AllZip, zip}
-use Rattle.std.proofs.lemmas.Bool.{cond-true, lt-ltb, le-ltb, false≢true}
+use Rattle.std.proofs.lemmas.Bool.{cases_Bool, cond-true, lt-ltb, false≢true}
 use Rattle.std.proofs.lemmas.List.{get_or_past, get_or-map, get_or-set_same, length-map, length-set, take_all}
 use Rattle.std.proofs.lemmas.List.Elements.{All-contains, All-from_get_or, All-head}
 use Rattle.std.proofs.lemmas.Slice.Zip.{get_or-zip, length-zip}
@@ -26,6 +26,7 @@ use Rattle.judged_records.specs.Notes.{found_in}
 use Rattle.judged_records.specs.declared.note.Note.{Note}
 use Rattle.judged_records.specs.declared.note.Note.TheVariants.{Blank, Holds}
 use Rattle.judged_records.proofs.OfNotes.FoundIn.{found, noted_in}
+use Rattle.collector.specs.Laws.{ImageIsSound}
 use Rattle.collector.specs.Preserves.{IsThere}
 use Rattle.collector.specs.declared.unsure.Unsure.TheVariants as unsure
 use Rattle.array_machine.specs.ArrayState.{Entry, has_tag, new_entry}
@@ -35,8 +36,9 @@ use Rattle.open_table.specs.OpenTransactionsState.{Naming, name_at, next_name, n
 use Rattle.tx_engine.specs.DeviceState.{IsOpenAs, IsUnderWay, Stands}
 use Rattle.tx_engine.specs.Exits.{ExitsTables, IsNamedAt}
 use Rattle.tx_engine.specs.Naming.{KeepsTables, named_after}
-use Rattle.tx_engine.specs.Settling.{link_place, settlement_of, with_settlement}
+use Rattle.tx_engine.specs.Settling.{AddsOnly, link_place, settlement_of, with_settlement}
 use Rattle.tx_engine.specs.Writing.{BringsPage, DueRecord, WritesRecord, due_record, next_of, open_of}
+use Rattle.tx_engine.proofs.OfDevice.OpenOnes.{can_take}
 use Rattle.tx_engine.proofs.OfSubmit.Submitted.{above_mention}
 use Rattle.page_keys.specs.BucketWrites.{HasLinked, Linked, WritesInTurn, linked}
 use Rattle.page_keys.specs.Writing.{seen_more}
@@ -64,12 +66,18 @@ pair_at names k within =
 
 -- one record more
 turn_more : (its : Config) (pairs : List Linked) (pair : Linked) (old mid new : Moment) →
-    WritesInTurn its old pairs mid → Moves (shape_of its) mid false new →
+    WritesInTurn its old pairs mid → is_present (records_in its.protocol mid.image) pair.0 ≡ false →
+    Moves (shape_of its) mid false new →
     HasLinked (records_in its.protocol new.image) pair → WritesInTurn its old (pairs ++ pair ∷ []) new
-turn_more its [] pair old mid new turns moves there =
-    (new, subst (λ (m : Moment). Moves (shape_of its) m false new) turns moves, there, refl)
-turn_more its (p ∷ pairs) pair old mid new turns moves there =
-    (turns.0, turns.1, turns.2, turn_more its pairs pair turns.0 mid new turns.3 moves there)
+turn_more its [] pair old mid new turns absent moves there = (
+  subst (λ (m : Moment). is_present (records_in its.protocol m.image) pair.0 ≡ false) turns absent,
+  new,
+  subst (λ (m : Moment). Moves (shape_of its) m false new) turns moves,
+  there,
+  refl,
+)
+turn_more its (p ∷ pairs) pair old mid new turns absent moves there =
+    (turns.0, turns.1, turns.2, turns.3, turn_more its pairs pair turns.1 mid new turns.4 absent moves there)
 
 -- the records of a list mention the names that they have
 linked_mention : (l : List Found) (pair : Linked) → HasLinked l pair →
@@ -186,8 +194,9 @@ pub record Turning {F : Type 0} (state : F → FlashState) (old now : DeviceStat
   pub namings : now.namings ≡ naming ∷ []
   pub names : naming.names ≡ map (next_name old.noted) ws
   pub stands : Stands state now
-  pub calm : ((done ≡ 0) × (moment_of (state now.flash) ≡ moment_of (state old.flash)))
-      ⊎ (now.unsure ≡ unsure.Nothing)
+  pub absent : (k : ℕ) → done ≤ k → k < length ws →
+      is_present (records_in old.config.protocol (state now.flash).image)
+      (get_or (map (next_name old.noted) ws) k no_name) ≡ false
   pub range : (k : ℕ) → k < length ws →
       (get_or (map (next_name old.noted) ws) k no_name).page < old.config.logical
   pub above : (k : ℕ) → k < length ws →
@@ -229,32 +238,39 @@ turning_first {F = F} state protocol old new ws u always was closed stands one n
     let within : (k : ℕ) → k < length ws → (get_or names k no_name).page < old.config.logical = λ k lt.
     subst (λ (c : Config). (get_or names k no_name).page < c.logical) config
     (its.named.transaction.in_range k no_name (omega (arith, long, lt))).0 in
+    let above : (k : ℕ) → k < length ws →
+    mention (records_in old.config.protocol (state old.flash).image) (get_or names k no_name).page
+    < (get_or names k no_name).version = λ k lt.
+    let is = get_or-map (next_name old.noted) ws k no_write no_name lt in
+    let page = within k lt in
+    let most = always.mentions (get_or names k no_name).page
+    (subst (λ (c : Config). (get_or names k no_name).page < c.logical) (sym always.its) page) in
+    let version : (get_or names k no_name).version
+    ≡ mention_of old.noted (get_or names k no_name).page + 1 =
+    ap (λ (a : Link). a.version) is
+    ∙ ap (λ (a : Link). mention_of old.noted a.page + 1) (sym is) in
+    elim most [
+      | inl less ↦ (
+          let here = subst (λ (c : Config). mention (records_in c.protocol (state old.flash).image)
+          (get_or names k no_name).page ≤ mention_of old.noted (get_or names k no_name).page)
+          always.its less in
+          omega (arith, here, version))
+      | inr of ↦ (
+          let lost = subst (λ (l : List Naming). IsNamedAt l (get_or names k no_name).page of.0) none of.1 in
+          let out = lost.2 in absurd (omega (arith, out)))
+    ] in
     record {
       naming = x;
       namings = namings;
       names = refl;
       stands = stands;
-      calm = inl (refl, flash);
+      absent = λ k low lt.
+          subst (λ (m : Moment). is_present (records_in old.config.protocol m.image) (get_or names k no_name) ≡ false)
+          (sym flash)
+          (above_mention (records_in old.config.protocol (state old.flash).image) (get_or names k no_name)
+          (above k lt));
       range = within;
-      above = λ k lt.
-          let is = get_or-map (next_name old.noted) ws k no_write no_name lt in
-          let page = within k lt in
-          let most = always.mentions (get_or names k no_name).page
-          (subst (λ (c : Config). (get_or names k no_name).page < c.logical) (sym always.its) page) in
-          let version : (get_or names k no_name).version
-          ≡ mention_of old.noted (get_or names k no_name).page + 1 =
-          ap (λ (a : Link). a.version) is
-          ∙ ap (λ (a : Link). mention_of old.noted a.page + 1) (sym is) in
-          elim most [
-            | inl less ↦ (
-                let here = subst (λ (c : Config). mention (records_in c.protocol (state old.flash).image)
-                (get_or names k no_name).page ≤ mention_of old.noted (get_or names k no_name).page)
-                always.its less in
-                omega (arith, here, version))
-            | inr of ↦ (
-                let lost = subst (λ (l : List Naming). IsNamedAt l (get_or names k no_name).page of.0) none of.1 in
-                let out = lost.2 in absurd (omega (arith, out)))
-          ];
+      above = above;
       turns = flash;
       least = λ k lt. absurd (omega (arith, lt));
       later = λ page lt.
@@ -297,6 +313,17 @@ module _ {F : Type 0} (state : F → FlashState) (protocol : Protocol) (old prev
   as_long : length names ≡ length ws
   as_long = length-map ws (next_name old.noted)
 
+  open_now : open_of prev 0 ≡ Some (entry_at ws k, so_far.naming)
+  open_now =
+      ap (λ (es : List Entry). find (λ (e, x). has_tag 0 e) (zip es prev.namings))
+      (ap (λ (m : ArrayState). m.entries) machine)
+      ∙ ap (λ (xs : List Naming). find (λ (e, x). has_tag 0 e) (zip (entry_at ws k ∷ []) xs)) so_far.namings
+
+  next_now : next_of prev 0 ≡ Some (get_or names k no_name)
+  next_now =
+      ap (λ (o : Option (Entry × Naming)). option_map (λ (e, x). name_at x e.done) o) open_now
+      ∙ ap (λ (l : List Link). Some (get_or l k no_name)) so_far.names
+
   risen : (page : ℕ) → page < old.config.logical → mention_of prev.noted page ≤ mention_of new.noted page
   risen page lt =
       elim (tables.mentions page (subst (λ (c : Config). page < c.logical) (sym (was.its ∙ config)) lt)) [
@@ -311,6 +338,8 @@ module _ {F : Type 0} (state : F → FlashState) (protocol : Protocol) (old prev
     turns_on =
         let long = pairs_long names in
         let inside : k < length (linked names) = omega (arith, long, as_long, within) in
+        let first : pair.0 ≡ get_or names k no_name =
+        ap (λ (p : Linked). p.0) (pair_at names k (omega (arith, as_long, within))) in
         let shape : (state prev.flash).shape ≡ shape_of old.config = was.shape ∙ ap shape_of config in
         let on = subst (λ (x : Shape). Moves x (moment_of (state prev.flash)) false (moment_of (state new.flash)))
         shape moves in
@@ -319,7 +348,9 @@ module _ {F : Type 0} (state : F → FlashState) (protocol : Protocol) (old prev
         subst (λ (l : List Linked). WritesInTurn old.config (moment_of (state old.flash)) l
         (moment_of (state new.flash))) (sym (take_more (linked names) k no_pair inside))
         (turn_more old.config (take k (linked names)) pair (moment_of (state old.flash))
-        (moment_of (state prev.flash)) (moment_of (state new.flash)) so_far.turns on here)
+        (moment_of (state prev.flash)) (moment_of (state new.flash)) so_far.turns
+        (subst (λ (a : Link). is_present (records_in old.config.protocol (state prev.flash).image) a ≡ false)
+        (sym first) (so_far.absent k (omega arith) within)) on here)
 
     least_here : (get_or names k no_name).version ≤ mention_of new.noted (get_or names k no_name).page
     least_here =
@@ -375,10 +406,42 @@ module _ {F : Type 0} (state : F → FlashState) (protocol : Protocol) (old prev
           let same : w.0.page ≡ page = grind (arith, nat_tests) in
           subst (λ p. mention_of old.noted p + 1 ≤ mention_of new.noted p) same here)
 
+  -- the records of the pages that follow are not there: neither before the step, nor is one of them written in it
+  absent_on : ImageIsSound protocol →
+      AddsOnly (get_or names k no_name) (settlement_of state prev).noted new.noted → (j : ℕ) → k + 1 ≤ j →
+      j < length ws →
+      is_present (records_in old.config.protocol (state new.flash).image) (get_or names j no_name) ≡ false
+  absent_on laws adds j low lt =
+      let name = get_or names j no_name in
+      let before : records_in old.config.protocol (state prev.flash).image
+      ≡ found_in (settlement_of state prev).noted.notes =
+      subst (λ (p : Protocol). records_in p (state prev.flash).image ≡ found_in (settlement_of state prev).noted.notes)
+      (sym was.rule ∙ ap (λ (c : Config). c.protocol) config)
+      (laws.records (state prev.flash) prev.noted prev.table prev.unsure so_far.stands.matches
+      (can_take state prev so_far.stands) (ap (λ (c : Config). c.protocol) was.its ∙ was.rule)) in
+      let after : records_in old.config.protocol (state new.flash).image ≡ found_in new.noted.notes =
+      subst (λ (c : Config). records_in c.protocol (state new.flash).image ≡ found_in new.noted.notes) config_now
+      (is.records sure) in
+      elim (cases_Bool (is_present (found_in new.noted.notes) name)) [
+        | inr gone ↦ ap (λ (l : List Found). is_present l name) after ∙ gone
+        | inl here ↦ elim (adds name here) [
+          | inl there ↦ absurd (false≢true (sym (so_far.absent j (omega (arith, low)) lt)
+              ∙ ap (λ (l : List Found). is_present l name) before ∙ there))
+          | inr same ↦ (
+              let distinct = subst (λ (l : List Link). AllPairs (λ a b. a.page ≢ b.page) l) so_far.names
+              its.named.transaction.distinct in
+              absurd (distinct k j no_name (omega (arith, low)) (omega (arith, as_long, lt))
+              (sym (ap (λ (a : Link). a.page) same))))
+        ]
+      ]
+
   -- a page was written, and others are to come
-  pub turning_more : new.machine ≡ writing old.machine.pages ws (k + 1) → k + 1 < length ws →
-      Turning state old new ws (k + 1)
-  turning_more after more =
+  pub turning_more : ImageIsSound protocol →
+      IfSome (next_of prev 0) (λ name. AddsOnly name (settlement_of state prev).noted new.noted) →
+      new.machine ≡ writing old.machine.pages ws (k + 1) → k + 1 < length ws → Turning state old new ws (k + 1)
+  turning_more laws notes after more =
+      let adds = subst (λ (o : Option Link). IfSome o
+      (λ a. AddsOnly a (settlement_of state prev).noted new.noted)) next_now notes in
       let entries = ap (λ (m : ArrayState). m.entries) after in
       let x = one_named state new stands (entry_at ws (k + 1)) entries in
       let now = opened_as state new stands (entry_at ws (k + 1)) x.0 entries x.1 in
@@ -394,7 +457,7 @@ module _ {F : Type 0} (state : F → FlashState) (protocol : Protocol) (old prev
         namings = x.1;
         names = same;
         stands = stands;
-        calm = inr sure;
+        absent = absent_on laws adds;
         range = so_far.range;
         above = so_far.above;
         turns = turns_on within there;
@@ -409,19 +472,13 @@ module _ {F : Type 0} (state : F → FlashState) (protocol : Protocol) (old prev
       IsThere (settlement_of state prev).noted name →
       moment_of (state new.flash) ≡ moment_of (state prev.flash)))
       (brings : IfSome (open_of prev 0) (λ (e, x). BringsPage state prev new e x)) where
-    open_now : open_of prev 0 ≡ Some (entry_at ws k, so_far.naming)
-    open_now =
-        ap (λ (es : List Entry). find (λ (e, x). has_tag 0 e) (zip es prev.namings))
-        (ap (λ (m : ArrayState). m.entries) machine)
-        ∙ ap (λ (xs : List Naming). find (λ (e, x). has_tag 0 e) (zip (entry_at ws k ∷ []) xs)) so_far.namings
-
     abbrev name : Link
     name = name_at so_far.naming k
 
     name_is : name ≡ get_or names k no_name
     name_is = ap (λ (l : List Link). get_or l k no_name) so_far.names
 
-    -- its record was not there yet: neither in the image with which the put began, nor in the tables
+    -- its record was not there yet
     not_there : IsThere (settlement_of state prev).noted name → moment_of (state new.flash)
         ≡ moment_of (state prev.flash) → (new.noted ≡ record (settlement_of state prev).noted { pins = new.noted.pins })
         → ⊥
@@ -433,24 +490,10 @@ module _ {F : Type 0} (state : F → FlashState) (protocol : Protocol) (old prev
         let before : is_present (records_in old.config.protocol (state prev.flash).image) name ≡ true =
         subst (λ (c : Config). is_present (records_in c.protocol (state prev.flash).image) name ≡ true) config_now
         (subst (λ (m : Moment). is_present (records_in new.config.protocol m.image) name ≡ true) still held) in
-        elim so_far.calm [
-          | inl fresh ↦ (
-              let first = subst
-              (λ (m : Moment). is_present (records_in old.config.protocol m.image) name ≡ true) fresh.1 before in
-              let above = subst (λ (a : Link). mention (records_in old.config.protocol (state old.flash).image) a.page
-              < a.version) (sym name_is) (so_far.above k (omega (arith, last))) in
-              false≢true (sym (above_mention (records_in old.config.protocol (state old.flash).image) name above)
-              ∙ first))
-          | inr calm ↦ (
-              let known = subst (λ (c : Config).
-              is_present (records_in c.protocol (state prev.flash).image) name ≡ true) (sym config) before in
-              let under = its.marked in
-              let long : length so_far.naming.names ≡ length ws = ap (length {A = Link}) so_far.names ∙ as_long in
-              let short = under.short in
-              let few : so_far.naming.noted_count ≤ k = omega (arith, short, long, last) in
-              let none = under.noted k (omega (arith, long, last)) ∙ le-ltb k so_far.naming.noted_count few in
-              false≢true (sym none ∙ sym (ap (λ (l : List Found). is_present l name) (was.records calm)) ∙ known))
-        ]
+        let none = subst
+        (λ (a : Link). is_present (records_in old.config.protocol (state prev.flash).image) a ≡ false) (sym name_is)
+        (so_far.absent k (omega arith) (omega (arith, last))) in
+        false≢true (sym none ∙ before)
 
     pub last_there : HasLinked (found_in new.noted.notes) pair
     last_there =

@@ -11,7 +11,7 @@ counted_times-most (suc more) n = omega arith
 
 -- no slot is read
 pub reads_nothing : (s : FlashState) → ReadsAll s s 0
-reads_nothing s = record { carries = Carries-nothing s; moment = refl; reads = refl }
+reads_nothing s = record { carries = Carries-nothing s; moment = refl; reads = refl; started = refl }
 
 module _ (a b c : FlashState) (first then : ℕ) where
   pub reads_all_then : ReadsAll a b first → ReadsAll b c then → ReadsAll a c (first + then)
@@ -19,6 +19,7 @@ module _ (a b c : FlashState) (first then : ℕ) where
     carries = Carries-then a b c false ab.carries bc.carries;
     moment = bc.moment ∙ ab.moment;
     reads = bc.reads ∙ ap (counted_times then) ab.reads ∙ counted_times-then first then a.reads;
+    started = bc.started ∙ ab.started;
   }
 
   pub reads_some_then : (broken : Bool) → ReadsAll a b first → ReadsSome b c broken then →
@@ -27,6 +28,7 @@ module _ (a b c : FlashState) (first then : ℕ) where
     carries = Carries-then a b c broken ab.carries bc.carries;
     moment = bc.moment ∙ ab.moment;
     reads = omega (arith, ab.reads, bc.reads, counted_times-most first a.reads);
+    started = bc.started ∙ ab.started;
   }
 
 -- at most this many, and so at most more
@@ -36,6 +38,7 @@ reads_some_within a b broken most more ab within = record {
   carries = ab.carries;
   moment = ab.moment;
   reads = omega (arith, ab.reads);
+  started = ab.started;
 }
 
 -- all of them are some of them
@@ -44,4 +47,5 @@ reads_some_all a b count ab = record {
   carries = ab.carries;
   moment = ab.moment;
   reads = omega (arith, ab.reads, counted_times-most count a.reads);
+  started = ab.started;
 }

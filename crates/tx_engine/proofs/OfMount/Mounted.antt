@@ -78,6 +78,7 @@ module _ {F : Type 0} (state : F → FlashState) (p : Protocol) (flash : F) (its
     tables = opened.tables;
     moment = opened.moment;
     reads = opened.reads;
+    started = opened.started;
     carries = opened.carries;
     kept = refl;
   }

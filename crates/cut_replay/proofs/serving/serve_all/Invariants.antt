@@ -1,4 +1,4 @@
-use Rattle.cut_replay.proofs.Common.{◌≡◌, [], take, length, FlashState, moment_of, flash_in, Fits, IsSoundFlash, IsSoundOrSame, CountsBreaks, Begins}
+use Rattle.cut_replay.proofs.Common.{◌≡◌, false, [], take, length, FlashState, moment_of, flash_in, Fits, IsSoundFlash, IsSoundOrSame, CountsBreaks, Begins, BeginsFlash}
 use Rattle.cut_replay.proofs.Progress.{HasServed, StaysUnmounted}
 use Rattle.cut_replay.proofs.serving.serve_all.Given as goal
 
@@ -9,15 +9,16 @@ invariant-loop-command g l = record {
   room : length l.room ≡ l.config.page_bytes;
   served : (init : FlashState) → Begins g.F.Flash.state l.config init l.initial.session →
       HasServed g.F.Flash.state l.config init (take l.command-index l.list) l.session
-      (record { text = g.W.Watch.text l.initial.out; kept = g.W.Watch.kept l.initial.out })
-      (record { text = g.W.Watch.text l.out; kept = g.W.Watch.kept l.out });
+      (record { text = g.W.Watch.text l.initial.out; kept = g.W.Watch.kept l.initial.out; flashes = g.W.Watch.flashes l.initial.out })
+      (record { text = g.W.Watch.text l.out; kept = g.W.Watch.kept l.out; flashes = g.W.Watch.flashes l.out });
   kept : (init : FlashState) → IsSoundOrSame l.config init (g.F.Flash.state (flash_in l.initial.session)) →
       IsSoundOrSame l.config init (g.F.Flash.state (flash_in l.session));
   extras : (g.F.Flash.state (flash_in l.session)).extras ≡ (g.F.Flash.state (flash_in l.initial.session)).extras;
   unsound : (init : FlashState) → (IsSoundFlash l.config init → ⊥) →
+      BeginsFlash l.config init false (g.F.Flash.state (flash_in l.initial.session)) →
       moment_of (g.F.Flash.state (flash_in l.initial.session)) ≡ moment_of init →
       CountsBreaks [] init (g.F.Flash.state (flash_in l.initial.session)) →
-      StaysUnmounted (take l.command-index l.list) init (g.F.Flash.state (flash_in l.session))
-      (record { text = g.W.Watch.text l.initial.out; kept = g.W.Watch.kept l.initial.out })
-      (record { text = g.W.Watch.text l.out; kept = g.W.Watch.kept l.out });
+      StaysUnmounted l.config (take l.command-index l.list) init (g.F.Flash.state (flash_in l.session))
+      (record { text = g.W.Watch.text l.initial.out; kept = g.W.Watch.kept l.initial.out; flashes = g.W.Watch.flashes l.initial.out })
+      (record { text = g.W.Watch.text l.out; kept = g.W.Watch.kept l.out; flashes = g.W.Watch.flashes l.out });
 }

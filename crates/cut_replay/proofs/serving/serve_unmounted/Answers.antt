@@ -1,4 +1,4 @@
-use Rattle.cut_replay.proofs.Common.{refl, sym, ap, inl, inr, ◌∙◌}
+use Rattle.cut_replay.proofs.Common.{refl, sym, inl, inr, ◌∙◌}
 use Rattle.host_protocol.specs.declared.reply.Reply.TheVariants.{Fault, Cut}
 use Rattle.cut_replay.proofs.Lifted.{lifted, not_done}
 use Rattle.cut_replay.proofs.serving.serve_unmounted.Goals as goal

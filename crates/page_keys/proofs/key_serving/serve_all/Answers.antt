@@ -1,6 +1,7 @@
 use Rattle.page_keys.proofs.Common.{Ok, refl, sym, ap, ◌∙◌, Shape, moment_of, flash_in}
 use Rattle.page_keys.proofs.OfServe.KeyAllLemmas.{ended_in, ended_untold, is_not_ok, is_ok, moment_stays, refuses, served_all, served_next, served_none}
 use Rattle.page_keys.proofs.OfServe.KeyAllLemmas.{shape_here, shape_is}
+use Rattle.page_keys.proofs.OfServe.UnopenedLemmas.{replies_unopened, unopened_all, unopened_in, unopened_next, unopened_none, unopened_untold}
 use Rattle.page_keys.proofs.key_serving.serve_all.Goals as goal
 
 pub loop-command-init : goal.loop-command-init
@@ -9,6 +10,8 @@ loop-command-init g c = record {
   served = λ init begins. served_none g.F.Flash.state c.args.config init c.args.session
       c.args.out.now.items c.requires.fits begins;
   other = λ init not same. same;
+  unopened = λ init not same begins. unopened_none g.F.Flash.state c.args.config init c.args.session
+      c.args.out.now.items begins;
   extras = refl;
 }
 
@@ -27,6 +30,16 @@ loop-command-preserved g c = record {
       moment_stays g.F.Flash.state c.args.config init c.command-item.result c.in-Ok.reply
       c.loop-command.session c.serve_one.new.session not
       (c.loop-command.invariant.other init not same) c.in-Ok.ensures.served;
+  unopened = λ init not same begins.
+      unopened_next g.F.Flash.state c.args.config init c.args.list.now c.loop-command.command-index
+      c.command-item.result c.in-Ok.reply c.loop-command.session c.serve_one.new.session
+      c.args.out.now.items c.loop-command.out.items c.key_reply_text.new.out.items
+      c.loop-command-test.true c.command-item.is (c.loop-command.invariant.unopened init not same begins)
+      (replies_unopened g.F.Flash.state c.args.config init c.command-item.result c.in-Ok.reply
+      c.loop-command.session c.serve_one.new.session not (c.loop-command.invariant.other init not same)
+      c.in-Ok.ensures.served)
+      (is_ok _ c.key_reply_text.result (sym c.is_err.ensures.value ∙ c.if-is_err.false)
+      c.key_reply_text.ensures.ok);
   extras = c.in-Ok.ensures.served.extras ∙ c.loop-command.invariant.extras;
 }
 
@@ -46,6 +59,18 @@ returns-then-is_err-clause-unopened g c = λ init not same.
     ∙ moment_stays g.F.Flash.state c.args.config init c.command-item.result c.in-Ok.reply
     c.loop-command.session c.serve_one.new.session not
     (c.loop-command.invariant.other init not same) c.in-Ok.ensures.served
+
+pub returns-then-is_err-clause-unserved : goal.returns-then-is_err-clause-unserved
+returns-then-is_err-clause-unserved g c = λ init not same begins.
+    unopened_untold g.F.Flash.state c.args.config init c.args.list.now c.loop-command.command-index
+    c.command-item.result c.in-Ok.reply c.loop-command.session c.serve_one.new.session c.close.result
+    c.args.out.now.items c.loop-command.out.items c.key_reply_text.new.out.items
+    c.loop-command-test.true c.command-item.is (c.loop-command.invariant.unopened init not same begins)
+    (replies_unopened g.F.Flash.state c.args.config init c.command-item.result c.in-Ok.reply
+    c.loop-command.session c.serve_one.new.session not (c.loop-command.invariant.other init not same)
+    c.in-Ok.ensures.served) c.close.ensures
+    (is_not_ok _ c.key_reply_text.result (sym c.is_err.ensures.value ∙ c.if-is_err.true)
+    c.key_reply_text.ensures.err)
 
 pub returns-then-is_err-clause-refuses : goal.returns-then-is_err-clause-refuses
 returns-then-is_err-clause-refuses g c = λ init not same. tt
@@ -71,6 +96,13 @@ pub returns-in-Err-clause-unopened : goal.returns-in-Err-clause-unopened
 returns-in-Err-clause-unopened g c = λ init not same.
     ap (λ f. moment_of (g.F.Flash.state f)) c.close-in-Err.ensures
     ∙ c.in-Err.ensures.ended.still.still.moment ∙ c.loop-command.invariant.other init not same
+
+pub returns-in-Err-clause-unserved : goal.returns-in-Err-clause-unserved
+returns-in-Err-clause-unserved g c = λ init not same begins.
+    unopened_in g.F.Flash.state c.args.config init c.args.list.now c.loop-command.command-index
+    c.loop-command.session c.serve_one.new.session c.close-in-Err.result c.in-Err.why c.args.out.now.items
+    c.loop-command.out.items c.loop-command-test.true (c.loop-command.invariant.unopened init not same begins)
+    c.in-Err.ensures.ended.still c.close-in-Err.ensures
 
 pub returns-in-Err-clause-refuses : goal.returns-in-Err-clause-refuses
 returns-in-Err-clause-refuses g c = λ init not same.
@@ -99,6 +131,12 @@ pub returns-clause-unopened : goal.returns-clause-unopened
 returns-clause-unopened g c = λ init not same.
     ap (λ f. moment_of (g.F.Flash.state f)) c.close-2.ensures
     ∙ c.loop-command.invariant.other init not same
+
+pub returns-clause-unserved : goal.returns-clause-unserved
+returns-clause-unserved g c = λ init not same begins.
+    unopened_all g.F.Flash.state c.args.config init c.args.list.now c.loop-command.command-index
+    c.loop-command.session c.close-2.result c.args.out.now.items c.loop-command.out.items
+    c.loop-command-test.false (c.loop-command.invariant.unopened init not same begins) c.close-2.ensures
 
 pub returns-clause-refuses : goal.returns-clause-refuses
 returns-clause-refuses g c = λ init not same. tt

@@ -38,8 +38,8 @@ steps-preserved g c =
         turning = turning_more g.F.Flash.state g.R.CommitRule.protocol c.args.device.now c.steps.device
             c.step.new.self c.args.batch.now.entries k i.turning i.always
             c.standing_facts-in-Ok-Wrote.ensures.always i.moved.config i.machine
-            c.standing_facts-in-Ok-Wrote.ensures.stands exits.tables exits.moves c.in-Ok-Wrote.ensures.sure next.0
-            next.1;
+            c.standing_facts-in-Ok-Wrote.ensures.stands exits.tables exits.moves c.in-Ok-Wrote.ensures.sure
+            c.image_is_sound.ensures c.in-Ok-Wrote.ensures.fresh next.0 next.1;
       },
     )
 

@@ -17,6 +17,7 @@ one_read old new at bytes spare_area how r = record {
   carries = r.carries;
   moment = same_moment r.image r.programs r.erases;
   reads = r.reads ∙ ap (λ (on : Bool). if on then counted old.reads else old.reads) r.powered;
+  started = r.started;
 }
   where
     same_moment : new.image ≡ old.image → new.programs ≡ old.programs → new.erases ≡ old.erases →
@@ -30,6 +31,7 @@ one_broken old new at bytes spare_area how r = record {
   carries = r.carries;
   moment = same_moment r.image r.programs r.erases;
   reads = by old.live r.reads;
+  started = r.started;
 }
   where
     same_moment : new.image ≡ old.image → new.programs ≡ old.programs → new.erases ≡ old.erases →

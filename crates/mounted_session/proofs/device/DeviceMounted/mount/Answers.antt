@@ -1,7 +1,7 @@
 use Rattle.std.proofs.Common.{sym, subst}
-use Rattle.mounted_session.specs.Devices.{IsWhy}
-use Rattle.mounted_session.specs.Mounting.{FailsToMount}
-use Rattle.mounted_session.proofs.Powering.{powered_fails, powered_mounts}
+use Rattle.mounted_session.specs.Devices.{IsWhy, ReadsFew}
+use Rattle.mounted_session.specs.Mounting.{FailsToMount, IfFault}
+use Rattle.mounted_session.proofs.Powering.{powered_fails, powered_met, powered_mounts}
 use Rattle.mounted_session.proofs.device.DeviceMounted.mount.Goals as goal
 
 pub returns-in-Ok-clause-mounted : goal.returns-in-Ok-clause-mounted
@@ -15,3 +15,10 @@ returns-in-Err-clause-failed g c =
     (g.F.Flash.state c.in-Err.flash)) (sym c.not_mounted.ensures)
     (powered_fails g.F.Flash.state c.args.config c.args.flash c.with_power.result c.with_power.ensures
     c.in-Err.flash c.in-Err.error c.in-Err.ensures.failed)
+
+pub returns-in-Err-clause-met : goal.returns-in-Err-clause-met
+returns-in-Err-clause-met g c =
+    subst (IfFault (ReadsFew c.args.config (g.F.Flash.state c.args.flash) (g.F.Flash.state c.in-Err.flash)))
+    (sym c.not_mounted.ensures)
+    (powered_met g.F.Flash.state c.args.config c.args.flash c.with_power.result c.with_power.ensures
+    c.in-Err.flash c.in-Err.error c.in-Err.ensures.reads c.in-Err.ensures.started)

@@ -1,6 +1,8 @@
 mod Opening
 use Rattle.page_keys.proofs.Common.{sym, subst}
-use Rattle.mounted_session.specs.Mounting.{FailsToMount}
+use Rattle.mounted_session.specs.Mounting.{FailsToMount, IfFault}
+use Rattle.mounted_session.specs.declared.mounted.NotMounted.{NotMounted}
+use Rattle.mounted_session.specs.declared.mounted.NotMounted.TheVariants as fails
 use Rattle.page_keys.specs.KeySessions.{IsWhy}
 use Rattle.page_keys.proofs.key_session.KeyStoreMounted.mount.Answers.Opening.{fails_to_open, opened, refused}
 use Rattle.page_keys.proofs.key_session.KeyStoreMounted.mount.Goals as goal
@@ -23,3 +25,14 @@ returns-in-Err-clause-failed g c =
     (g.F.Flash.state c.in-Err.flash)) (sym c.refused_device.ensures)
     (refused c.args.config (g.F.Flash.state c.args.flash) (g.F.Flash.state c.in-Err.flash) c.in-Err.error
     c.in-Err.ensures.failed)
+
+-- nothing else is said of a mount that met a fault
+nothing_met : {W : Type 0} (why : NotMounted W) → IfFault (Unit {0}) why
+nothing_met fails.Fault = tt
+nothing_met (fails.Refused why) = tt
+
+pub returns-in-Err-over-clause-met : goal.returns-in-Err-over-clause-met
+returns-in-Err-over-clause-met g c = nothing_met c.not_opened.result
+
+pub returns-in-Err-clause-met : goal.returns-in-Err-clause-met
+returns-in-Err-clause-met g c = nothing_met c.refused_device.result

@@ -33,6 +33,7 @@ returns-in-Ok g c =
           c.in_ok-store.ensures.stored c.image_is_sound.ensures);
       failed = tt;
       reads = tt;
+      started = tt;
     }
 
 pub returns-in-Err : goal.returns-in-Err
@@ -47,4 +48,6 @@ returns-in-Err g c =
       reads = subst (λ f. (g.F.Flash.state f).reads ≤ before.reads + most) (sym c.close.ensures)
           (subst (λ n. n ≤ before.reads + most) (sym c.in_ok-store.ensures.opened.reads)
           (counted_times-most most before.reads));
+      started = subst (λ f. (g.F.Flash.state f).started ≡ before.started) (sym c.close.ensures)
+          c.in_ok-store.ensures.opened.started;
     }

@@ -34,6 +34,7 @@ returns-in-Ok-recover_tables g c =
       };
       failed = tt;
       reads = tt;
+      started = tt;
     }
 
 pub returns-in_default : goal.returns-in_default
@@ -42,4 +43,5 @@ returns-in_default g c = record {
   stored = tt;
   failed = (refl, Carries-nothing (g.F.Flash.state c.args.flash));
   reads = omega arith;
+  started = refl;
 }
