@@ -44,18 +44,11 @@ samp { max-height: 12em; overflow: auto; padding-left: 2em }
 p, samp { margin: 0; color: var(--dim) }
 p { font-size: 12px }
 #stage { overflow: auto; padding: 1em }
-#stage svg { max-width: 100%; height: auto }
 #stage pre { font: 12px/1.5 monospace; margin: 0 }
 #stage .changed rect, #stage rect.changed { stroke: var(--new); stroke-width: 3 }
 pre .changed { outline: 2px solid var(--new) }
 pre .current { background: #4a45 } pre .loose { background: #e905 } pre .stale { background: #8885 }
 pre .damaged { background: #d445 } pre .blank { color: var(--dim) } pre .held { text-decoration: underline }
-@media (prefers-color-scheme: dark) {
-  #stage svg { background: #16181c } #stage text, #stage tspan { fill: #ddd } #stage rect { fill: #22262c }
-  #stage .current rect { fill: #1d4a22 } #stage .loose rect { fill: #5c4210 } #stage .stale rect { fill: #3a3d42 }
-  #stage .damaged rect { fill: #5d2525 } #stage path { stroke: #9aa7d8 } #stage .loose path { stroke: #f0a03c }
-  #stage marker polygon { fill: #9aa7d8 } #stage .spare text { fill: #8ab4f8 } #stage .unsound { fill: #ff6b5e }
-}
 @media (max-width: 50em) { body { display: block; height: auto } #turns { max-height: 30vh } }
 @media print { header, #turns { display: none } }
 """

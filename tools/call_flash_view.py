@@ -21,6 +21,8 @@ count or do not.
     ./flash_view [OPTIONS] IMAGE
 
     --svg                       draws in SVG, for a browser
+    --block N, --page N         lists the slots of a block, or those with records of a page, in place of a picture
+    --loose                     lists those with loose records, and with records that are held for them
     --unsound                   draws an image too whose records contradict each other
     --color always|never|auto   colours in text; auto, on a terminal alone, if nothing is said
     --unproved                  without any proof, where the program is not built
@@ -36,17 +38,19 @@ STARTS = ((r"^spare", "34"), (r"^unsound", "1;31"))
 
 
 class Asked(NamedTuple):
-    """What the words ask for. `wrong` says what is wrong with them."""
+    """What the words ask for. `form` has the words for a form of its own, and `wrong` says what is wrong."""
     options: List[str]
     names: List[str]
     color: str = "auto"
     wrong: Optional[str] = None
+    form: Sequence[str] = ()
 
 
 def asked_for(words: Sequence[str]) -> Asked:
     """Reads the words: options in any order, and names."""
     options: List[str] = []
     names: List[str] = []
+    forms: List[List[str]] = []
     color = "auto"
     rest = list(words)
     while rest:
@@ -58,14 +62,21 @@ def asked_for(words: Sequence[str]) -> Asked:
             color = word[8:] if "=" in word else rest.pop(0) if rest else ""
             if color not in ("always", "never", "auto"):
                 return Asked(options, names, color, "--color wants always, never or auto")
-        elif word in ("--svg", "--unsound", "--unproved", "--version", "--help"):
+        elif word in ("--svg", "--loose"):
+            forms.append([word])
+        elif word in ("--block", "--page") or word.startswith(("--block=", "--page=")):
+            option, behind, number = word.partition("=")
+            forms.append([option, number if behind else rest.pop(0) if rest else ""])
+        elif word in ("--unsound", "--unproved", "--version", "--help"):
             options.append(word)
         elif word.startswith("--"):
             return Asked(options, names, color, f"there is no option {word}; a name may stand behind --")
         else:
             names.append(word)
     wrong = None if len(names) == 1 else f"one image is wanted, and {len(names) or 'none'} named"
-    return Asked(options, names, color, wrong)
+    if len(forms) > 1:
+        wrong = "one of --svg, --block, --page and --loose is wanted at most"
+    return Asked(options, names, color, wrong, sum(forms[:1], []))
 
 
 def painted(text: str) -> str:
@@ -84,7 +95,7 @@ def on_terminal() -> bool:
 
 def draw(asked: Asked, words: Sequence[str]) -> int:
     """Runs the program, and answers its status."""
-    colored = "--svg" not in asked.options and (asked.color == "always" or asked.color == "auto" and on_terminal())
+    colored = "--svg" not in asked.form and (asked.color == "always" or asked.color == "auto" and on_terminal())
     if "--unproved" in asked.options and proved_program("flash_view") is None:
         with copies.new_room() as room:
             held = copies.Copies(room)
@@ -115,7 +126,7 @@ def main() -> int:
     if asked.wrong:
         tell("flash_view", f"{asked.wrong}; ./flash_view --help has the words")
         return 1
-    status = draw(asked, [it for it in ("--svg", "--unsound") if it in asked.options] + asked.names)
+    status = draw(asked, [*asked.form, *(it for it in ["--unsound"] if it in asked.options), *asked.names])
     if status == 5:
         tell("flash_view", faults.why_not_read(asked.names[0]) or faults.why_not_said() or
              "what failed cannot be seen any more")

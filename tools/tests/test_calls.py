@@ -95,9 +95,12 @@ class Pictures(unittest.TestCase):
     def test_options_stand_in_any_order(self):
         asked = asked_for(["d.img", "--svg", "--color=always", "--unsound"])
         self.assertEqual((asked.names, asked.color, asked.wrong), (["d.img"], "always", None))
-        self.assertEqual(sorted(asked.options), ["--svg", "--unsound"])
+        self.assertEqual((asked.options, asked.form), (["--unsound"], ["--svg"]))
         self.assertEqual(asked_for(["--", "--svg"]).names, ["--svg"])
-        for words in ([], ["a", "b"], ["--color", "d.img"], ["--size", "d.img"], ["d.img", "--color"]):
+        self.assertEqual(asked_for(["d.img", "--page", "7"]).form, ["--page", "7"])
+        self.assertEqual(asked_for(["--block=3", "d.img"]).form, ["--block", "3"])
+        for words in ([], ["a", "b"], ["--color", "d.img"], ["--size", "d.img"], ["d.img", "--color"],
+                      ["--svg", "--loose", "d.img"]):
             self.assertIsNotNone(asked_for(words).wrong)
 
     def test_states_of_cells_have_colours(self):

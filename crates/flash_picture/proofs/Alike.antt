@@ -1,5 +1,5 @@
 -- The picture of records in order of their names is that of the list.
-use Rattle.flash_picture.proofs.Common.{◌≡◌, ℕ, ◌==◌, nat_lt, List, ◌++◌, sym, Bool, map, ap, ap₂, ◌∙◌, refl, flat_map, list_any, range_with_len, Rec, Config, Protocol, shape_of, Scc, Bpcc, Found, is_held, Sorts, Note, found_in, Cell, Holds, Marks, cell_of, cells_of, end_of, walk_line}
+use Rattle.flash_picture.proofs.Common.{◌≡◌, ℕ, ◌==◌, nat_lt, List, ◌++◌, sym, Bool, map, ap, ap₂, ◌∙◌, refl, flat_map, list_any, range_with_len, Rec, Config, Protocol, shape_of, Scc, Bpcc, Found, is_held, Sorts, Note, found_in, Cell, Holds, Marks, cell_of, cells_of, line_end, walk_line}
 use Rattle.std.proofs.Common.{◌&&◌}
 use mathlib.Core.Path.{fun_ext}
 use Rattle.std.proofs.lemmas.List.Sorted.{list_any-IsPermutation}
@@ -11,7 +11,7 @@ use Rattle.flash_picture.specs.Cells.{rank_by}
 use Rattle.flash_picture.specs.Map.{map_text}
 use Rattle.flash_picture.specs.Picture.{breach_line, heading, parts, picture}
 use Rattle.flash_picture.specs.Walks.{walks_text}
-use Rattle.flash_picture.proofs.Shown.{end_alike, line_alike}
+use Rattle.flash_picture.proofs.Shown.{line_alike, line_end_alike}
 
 module _ (list sorted : List Found) (is : Sorts list sorted) where
   held_alike : (protocol : Protocol) (logical : ℕ) (r : Rec) →
@@ -40,8 +40,8 @@ module _ (list sorted : List Found) (is : Sorts list sorted) where
       ≡ walks_text protocol list logical
   walks_alike protocol logical =
       ap (λ f. flat_map f (range_with_len 0 logical))
-      (fun_ext (λ page. line_alike list sorted is logical page (end_of protocol sorted logical page)
-      ∙ ap (walk_line list logical page) (end_alike list sorted is protocol logical page)))
+      (fun_ext (λ page. line_alike list sorted is logical page (line_end protocol sorted logical page)
+      ∙ ap (walk_line list logical page) (line_end_alike list sorted is protocol logical page)))
 
   pub cells_alike : (its : Config) (notes : List Note) → list ≡ found_in notes →
       map (cell_of its.protocol sorted its.logical) notes ≡ cells_of its notes

@@ -1,13 +1,16 @@
 -- Which steps are shown of a walk.
-use Rattle.flash_picture.proofs.Common.{◌≡◌, ℕ, zero, suc, ◌+◌, ◌-◌, ◌<◌, ◌≤◌, true, false, ◌||◌, nat_lt, cond, Option, None, Some, List, [], ◌∷◌, ◌++◌, length, map, take, refl, sym, ap, ap₂, ◌∙◌, inl, inr, arith, append-nil, append_assoc, codes, lt-ltb, cases_Bool, cases_lt, cond-true, cond-false, le-ltb, flat_map, Link, Protocol, Found, is_same, newest_name, link_of, Sorts, To, steps_rows, walk_rows, walk_takes, end_of, leaving_at, left_from, step_text, walk_line}
-use Rattle.std.proofs.Common.{min}
+use Rattle.flash_picture.proofs.Common.{◌≡◌, ℕ, zero, suc, ◌+◌, ◌-◌, ◌<◌, ◌≤◌, true, false, ◌||◌, nat_lt, cond, Option, None, Some, List, [], ◌∷◌, ◌++◌, length, map, take, refl, sym, ap, ap₂, ◌∙◌, inl, inr, arith, append-nil, append_assoc, codes, lt-ltb, cases_Bool, cases_lt, cond-true, cond-false, le-ltb, ◌==◌, flat_map, list_any, range_with_len, Link, Protocol, Found, is_same, newest_name, link_of, Sorts, To, steps_rows, walk_rows, walk_takes, end_of, line_end, leaving_at, left_from, step_text, walk_line}
+use Rattle.std.proofs.Common.{min, not, ◌&&◌, ◌%◌}
+use Rattle.std.specs.Prelude.{is_some}
+use mathlib.Core.Path.{fun_ext}
+use Rattle.record_list.specs.Verdict.{is_committed}
 use Rattle.sorted_records.proofs.OfSort.Alike.{newest_alike, newest_name_alike, link_alike, why_alike}
-use Rattle.verdict_report.specs.Walks.{is_end, walk_links}
+use Rattle.verdict_report.specs.Walks.{is_end, links_of, walk_links}
 use Rattle.flash_picture.specs.declared.walk.Step.{Step}
 use Rattle.flash_picture.specs.declared.walk.End.{End}
 use Rattle.flash_picture.specs.Pieces.{next_line}
 use Rattle.flash_picture.specs.Svg.{steps_begin}
-use Rattle.flash_picture.specs.Walks.{end_by, end_text, last_steps, start_text, steps_of, steps_over}
+use Rattle.flash_picture.specs.Walks.{end_by, end_text, is_led_to, is_part, last_steps, leads_to, start_text, steps_of, steps_over}
 
 one_less : (a b : ℕ) → nat_lt (suc a) (suc b) ≡ nat_lt a b
 one_less a b = elim (cases_lt a b) [
@@ -133,14 +136,40 @@ module _ (list sorted : List Found) (is : Sorts list sorted) where
   pub leaving_at_alike : (logical page : ℕ) → leaving_at sorted logical page ≡ leaving_at list logical page
   leaving_at_alike logical page = first_alike left_from left_alike logical page
 
+  links_of_alike : (logical page : ℕ) → links_of sorted logical page ≡ links_of list logical page
+  links_of_alike logical page = first_alike walk_links links_alike logical page
+
   pub steps_alike : (logical page : ℕ) → steps_of sorted logical page ≡ steps_of list logical page
-  steps_alike logical page = ap₂ steps_over (first_alike walk_links links_alike logical page)
-      (leaving_at_alike logical page)
+  steps_alike logical page = ap₂ steps_over (links_of_alike logical page) (leaving_at_alike logical page)
 
   pub end_alike : (protocol : Protocol) (logical page : ℕ) →
       end_of protocol sorted logical page ≡ end_of protocol list logical page
   end_alike protocol logical page = ap₂ end_by (why_alike list sorted is protocol logical page)
       (leaving_at_alike logical page)
+
+  -- which pages have a line of their own, and how it ends
+  led_alike : (protocol : Protocol) (logical page : ℕ) →
+      is_led_to protocol sorted logical page ≡ is_led_to protocol list logical page
+  led_alike protocol logical page =
+      ap (λ name. list_any (leads_to protocol sorted logical name) (range_with_len 0 logical))
+      (newest_name_alike list sorted is page)
+      ∙ ap (λ test. list_any test (range_with_len 0 logical))
+      (fun_ext (λ other. ap₂ (λ w link. not (is_committed w) && is_same link (newest_name list page))
+      (why_alike list sorted is protocol logical other)
+      (link_alike list sorted is (newest_name sorted other)
+      ∙ ap (link_of list) (newest_name_alike list sorted is other))))
+
+  part_alike : (logical page : ℕ) → is_part sorted logical page ≡ is_part list logical page
+  part_alike logical page =
+      ap₂ (λ last links. is_some last && not (length links % 17 == 0)) (leaving_at_alike logical page)
+      (links_of_alike logical page)
+
+  pub line_end_alike : (protocol : Protocol) (logical page : ℕ) →
+      line_end protocol sorted logical page ≡ line_end protocol list logical page
+  line_end_alike protocol logical page =
+      ap₂ (λ shared end. cond shared None end)
+      (ap₂ (λ led part. led && part) (led_alike protocol logical page) (part_alike logical page))
+      (end_alike protocol logical page)
 
   -- the line of a page, and its lines in SVG
   pub line_alike : (logical page : ℕ) (end : Option End) →

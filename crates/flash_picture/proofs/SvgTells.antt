@@ -1,24 +1,29 @@
 -- The cells and labels of a picture in SVG are those of which the words tell.
-use Rattle.flash_picture.proofs.Common.{◌≡◌, ℕ, zero, suc, ◌+◌, ◌<◌, ◌≤◌, Bool, true, None, Some, List, [], ◌∷◌, ◌++◌, refl, sym, ap, ◌∙◌, append_assoc, codes, arith, inl, inr, join_with_byte, range_with_len, false≢true, cases_Bool, cases_lt, cond-true, cond-false, Config, Link, Rec, shape_of, Note, found_in, note_at, Found, has_name, Marks, cell_of, cell_words, is_named, slot_text, word_if, height, cells_of, above, arrow_svg, cell_svg, die_heading, grid_of, label_svg, lines_svg, walk_svg, walks_svg, walks_take}
+use Rattle.flash_picture.proofs.Common.{◌≡◌, ℕ, zero, suc, ◌+◌, ◌<◌, ◌≤◌, Bool, true, false, Option, None, Some, List, [], ◌∷◌, ◌++◌, ◌||◌, refl, sym, ap, ◌∙◌, append_assoc, codes, arith, inl, inr, join_with_byte, range_with_len, false≢true, cases_Bool, cases_lt, cond-true, cond-false, Config, Link, Rec, shape_of, Note, found_in, note_at, Found, has_name, Cell, Marks, cell_at, cell_of, cell_words, is_named, slot_text, word_if, height, cells_of, above, append-nil, arrow_svg, cell_svg, cells_svg, cond, die_heading, grid_of, is_held, label_svg, lines_svg, view_svg, views_svg, walk_svg, walks_svg, walks_take}
 use Rattle.std.proofs.Common.{filter, flat_map, AllPairs, Contains}
+use Rattle.record_list.specs.Current.{cur}
+use Rattle.flash_picture.specs.declared.cell.Rank.{Rank}
+use Rattle.flash_picture.specs.declared.cell.Rank.TheVariants.{Current, Loose, Stale}
+use Rattle.flash_picture.specs.Cells.{rank_by}
 use Rattle.list_lemmas.proofs.Membership.{Contains-cases, Contains-first, Contains-nil, Contains-rest}
 use Rattle.list_lemmas.proofs.Pairs.{pairs_head, pairs_tail}
 use Rattle.tx_types.specs.Config.{blocks_of, slots_of}
+use Rattle.tx_types.specs.declared.config.Slot.{Slot}
 use Rattle.judged_records.specs.declared.note.Note.TheVariants as note
 use Rattle.judged_records.proofs.OfNotes.FoundIn.{found, found_in_ascending, holds_within, noted_from, noted_in}
 use Rattle.record_list.proofs.OfFacts.Names.{has_name_true, has_own_name}
-use Rattle.flash_picture.specs.Grid.{bottom}
-use Rattle.flash_picture.specs.Laws.{ArrowTells, HoldsName, IsLowest, Shows, SvgCellTells, SvgLabelTells, SvgWalkTells, arrow_of}
-use Rattle.flash_picture.specs.Pieces.{attribute}
-use Rattle.flash_picture.proofs.Tells.{cell_noted}
-use Rattle.flash_picture.specs.Svg.{arrow_to, arrows_svg, breach_svg, first_slot}
-use Rattle.flash_picture.specs.Svg.{map_svg, slot_named, svg, target}
+use Rattle.flash_picture.specs.declared.grid.Grid.{Grid}
+use Rattle.flash_picture.specs.Grid.{bottom, cell_width, spot_of, width}
+use Rattle.flash_picture.specs.Laws.{ArrowTells, HoldsName, IsInView, IsLowest, Shows, SvgCellTells, SvgLabelTells, SvgWalkTells, arrow_of, view_of}
+use Rattle.flash_picture.specs.Pieces.{attribute, beside, group_begin, rectangle, title, words_at}
+use Rattle.flash_picture.proofs.Tells.{cell_noted, rank_loose}
+use Rattle.flash_picture.specs.Svg.{arrow_to, breach_svg, first_slot, is_above, is_in_view, map_svg, slot_named, slot_title, svg, target, view_to}
 
 -- what a part of a text shows, the text shows
-shows_left : (x y part : List ℕ) → Shows x part → Shows (x ++ y) part
+pub shows_left : (x y part : List ℕ) → Shows x part → Shows (x ++ y) part
 shows_left x y part s = (s.0, s.1 ++ y, ap (λ t. t ++ y) s.2 ∙ append_assoc (s.0 ++ part) s.1 y)
 
-shows_right : (x y part : List ℕ) → Shows y part → Shows (x ++ y) part
+pub shows_right : (x y part : List ℕ) → Shows y part → Shows (x ++ y) part
 shows_right x y part s = (
   x ++ s.0,
   s.1,
@@ -26,8 +31,16 @@ shows_right x y part s = (
       ∙ ap (λ t. t ++ s.1) (sym (append_assoc x s.0 part)),
 )
 
+pub shows_self : (x : List ℕ) → Shows x x
+shows_self x = ([], [], sym (append-nil x))
+
+-- what a part shows that a text shows
+pub shows_through : (x y part : List ℕ) → Shows x y → Shows y part → Shows x part
+shows_through x y part (before, behind, e) s =
+    let t = shows_left (before ++ y) behind part (shows_right before y part s) in (t.0, t.1, e ∙ t.2)
+
 -- pieces for the numbers of a range show each of them
-shows_piece : (f : ℕ → List ℕ) (a n k : ℕ) → a ≤ k → k < a + n → Shows (flat_map f (range_with_len a n)) (f k)
+pub shows_piece : (f : ℕ → List ℕ) (a n k : ℕ) → a ≤ k → k < a + n → Shows (flat_map f (range_with_len a n)) (f k)
 shows_piece f a zero k low high = absurd (omega arith)
 shows_piece f a (suc n) k low high = elim (cases_lt a k) [
   | inl later ↦ shows_right (f a) (flat_map f (range_with_len (a + 1) n)) (f k)
@@ -89,114 +102,206 @@ nowhere_named : (notes : List Note) (name : Link) → ((slot : ℕ) → HoldsNam
     slot_named (found_in notes) name ≡ None
 nowhere_named notes name none = first_none name (found_in notes) (λ g i pass. none g.slot.0 (noted name notes g i pass))
 
+-- ---- which arrows are in view
+
+pub above_loose : (rank : Rank) → is_above rank ≡ true → rank ≡ Loose
+above_loose Current e = absurd (false≢true e)
+above_loose Loose e = refl
+above_loose Stale e = absurd (false≢true e)
+
+module _ (current version : ℕ) (held : Bool) where
+  abbrev shown : Bool
+  shown = is_above (rank_by current version) || held
+
+  pub loose_shown : current < version → shown ≡ true
+  loose_shown less = ap (λ rank. is_above rank || held) ((rank_loose current version).1 less)
+
+  pub held_shown : held ≡ true → shown ≡ true
+  held_shown e = elim (cases_Bool (is_above (rank_by current version))) [
+    | inl f ↦ ap (λ b. b || held) f
+    | inr f ↦ ap (λ b. b || held) f ∙ e
+  ]
+
+  not_shown : (current < version → ⊥) → (held ≡ true → ⊥) → shown ≡ false
+  not_shown not_loose not_held = elim (cases_Bool (is_above (rank_by current version))) [
+    | inl f ↦ absurd (not_loose ((rank_loose current version).0 (above_loose (rank_by current version) f)))
+    | inr f ↦ ap (λ b. b || held) f ∙ elim (cases_Bool held) [
+      | inl g ↦ absurd (not_held g)
+      | inr g ↦ g
+    ]
+  ]
+
 -- ---- what the picture shows
 
 module _ (its : Config) (notes : List Note) (marks : Marks) where
+  abbrev cells : List Cell
+  cells = cells_of its notes
+
+  abbrev list : List Found
+  list = found_in notes
+
+  abbrev grid : Grid
+  grid = grid_of (shape_of its) cells marks
+
+  abbrev dies : List ℕ
+  dies = flat_map (die_heading grid) (range_with_len 0 grid.shape.dies)
+
+  abbrev labels : List ℕ
+  labels = flat_map (label_svg grid marks) (range_with_len 0 (blocks_of grid.shape))
+
+  abbrev views : List ℕ
+  views = views_svg grid list cells marks
+
+  abbrev drawn : List ℕ
+  drawn = cells_svg grid list cells marks
+
+  abbrev top : List ℕ
+  top = above its (width grid) (height grid (walks_take its.protocol list its.logical its.logical))
+
   -- what the map shows, the picture shows
-  shows_map : (part : List ℕ) →
-      Shows (map_svg (grid_of (shape_of its) (cells_of its notes) marks) (cells_of its notes) marks) part →
-      Shows (svg its notes marks) part
+  shows_map : (part : List ℕ) → Shows (map_svg grid list cells marks) part → Shows (svg its notes marks) part
   unfolding svg
   shows_map part s =
-      let cells = cells_of its notes in
-      let grid = grid_of (shape_of its) cells marks in
-      let list = found_in notes in
-      let top = above its (height grid (walks_take its.protocol list its.logical its.logical)) in
-      let drawn = map_svg grid cells marks in
-      let arrows = arrows_svg grid list cells marks in
       let lines = lines_svg grid (walks_svg its.protocol list its.logical) marks.breach in
-      shows_left (top ++ drawn ++ arrows ++ lines) (codes "</svg>\n") part
-      (shows_left (top ++ drawn ++ arrows) lines part
-      (shows_left (top ++ drawn) arrows part (shows_right top drawn part s)))
+      shows_left (top ++ map_svg grid list cells marks ++ lines) (codes "</svg>\n") part
+      (shows_left (top ++ map_svg grid list cells marks) lines part
+      (shows_right top (map_svg grid list cells marks) part s))
+
+  shows_cell : (slot : ℕ) → slot < slots_of (shape_of its) →
+      Shows (svg its notes marks) (cell_svg grid list cells marks slot)
+  shows_cell slot within =
+      shows_map (cell_svg grid list cells marks slot)
+      (shows_right (dies ++ labels ++ views) drawn (cell_svg grid list cells marks slot)
+      (shows_piece (cell_svg grid list cells marks) 0 (slots_of grid.shape) slot (omega arith) (omega arith)))
 
   pub svg_cell_tells : (slot : ℕ) → slot < slots_of (shape_of its) → SvgCellTells its notes marks slot
   unfolding slot_text
-  svg_cell_tells slot within =
-      let cells = cells_of its notes in
-      let grid = grid_of (shape_of its) cells marks in
-      record {
-        shown = shows_map (cell_svg grid cells marks slot)
-            (shows_right (flat_map (die_heading grid) (range_with_len 0 grid.shape.dies)
-            ++ flat_map (label_svg grid marks)
-            (range_with_len 0 (blocks_of grid.shape)))
-            (flat_map (cell_svg grid cells marks) (range_with_len 0 (slots_of grid.shape)))
-            (cell_svg grid cells marks slot)
-            (shows_piece (cell_svg grid cells marks) 0 (slots_of grid.shape) slot (omega arith) (omega arith)));
-        words = ap (λ k. join_with_byte 32 (cell_words k ++ word_if (is_named marks.breach slot) (codes "!")))
-            (cell_noted its notes slot);
-      }
+  svg_cell_tells slot within = record {
+    shown = shows_cell slot within;
+    words = ap (λ k. join_with_byte 32 (cell_words k ++ word_if (is_named marks.breach slot) (codes "!")))
+        (cell_noted its notes slot);
+  }
 
   pub svg_label_tells : (block : ℕ) → block < blocks_of (shape_of its) → SvgLabelTells its notes marks block
   svg_label_tells block within =
-      let cells = cells_of its notes in
-      let grid = grid_of (shape_of its) cells marks in
-      shows_map (label_svg grid marks block)
-      (shows_left (flat_map (die_heading grid) (range_with_len 0 grid.shape.dies)
-      ++ flat_map (label_svg grid marks) (range_with_len 0 (blocks_of grid.shape)))
-      (flat_map (cell_svg grid cells marks) (range_with_len 0 (slots_of grid.shape))) (label_svg grid marks block)
-      (shows_right (flat_map (die_heading grid) (range_with_len 0 grid.shape.dies))
-      (flat_map (label_svg grid marks) (range_with_len 0 (blocks_of grid.shape)))
-      (label_svg grid marks block)
-      (shows_piece (label_svg grid marks) 0 (blocks_of grid.shape) block (omega arith) (omega arith))))
+      let part = label_svg grid marks block in
+      shows_map part
+      (shows_left (dies ++ labels ++ views) drawn part
+      (shows_left (dies ++ labels) views part
+      (shows_right dies labels part
+      (shows_piece (label_svg grid marks) 0 (blocks_of grid.shape) block (omega arith) (omega arith)))))
 
   pub svg_walk_tells : (page : ℕ) → page < its.logical → SvgWalkTells its notes marks page
   unfolding svg
   svg_walk_tells page within =
-      let cells = cells_of its notes in
-      let grid = grid_of (shape_of its) cells marks in
-      let list = found_in notes in
       let walk = walk_svg its.protocol list its.logical in
       let walks = walks_svg its.protocol list its.logical in
       let part = walk page in
-      let top = above its (height grid (walks_take its.protocol list its.logical its.logical))
-      ++ map_svg grid cells marks ++ arrows_svg grid list cells marks
-      in
+      let begun = top ++ map_svg grid list cells marks in
       let begin = codes "<text" ++ attribute (codes "y") (bottom grid) ++ codes ">" in
       let lines = begin ++ walks ++ breach_svg marks.breach ++ codes "</text>\n" in
-      shows_left (top ++ lines) (codes "</svg>\n") part
-      (shows_right top lines part
+      shows_left (begun ++ lines) (codes "</svg>\n") part
+      (shows_right begun lines part
       (shows_left (begin ++ walks ++ breach_svg marks.breach) (codes "</text>\n") part
       (shows_left (begin ++ walks) (breach_svg marks.breach) part
       (shows_right begin walks part (shows_piece walk 0 its.logical page (omega arith) (omega arith))))))
 
+  -- ---- arrows
+
   -- an arrow, by what is noted of its slot
   arrow_noted : (slot : ℕ) (n : Note) → note_at notes slot ≡ n → arrow_of its notes marks slot
-      ≡ arrow_to (grid_of (shape_of its) (cells_of its notes) marks) (slot_text (cells_of its notes) marks slot) slot
-      (target (found_in notes) (cell_of its.protocol (found_in notes) its.logical n))
+      ≡ arrow_to grid slot (target list (cell_of its.protocol list its.logical n))
   arrow_noted slot n e =
-      ap (λ k. arrow_to (grid_of (shape_of its) (cells_of its notes) marks) (slot_text (cells_of its notes) marks slot)
-      slot (target (found_in notes) k))
-      (cell_noted its notes slot ∙ ap (cell_of its.protocol (found_in notes) its.logical) e)
+      ap (λ k. arrow_to grid slot (target list k))
+      (cell_noted its notes slot ∙ ap (cell_of its.protocol list its.logical) e)
 
-  -- what the arrows show, the picture shows
-  shows_arrows : (part : List ℕ) →
-      Shows (arrows_svg (grid_of (shape_of its) (cells_of its notes) marks) (found_in notes) (cells_of its notes) marks)
-      part → Shows (svg its notes marks) part
-  unfolding svg
-  shows_arrows part s =
-      let cells = cells_of its notes in
-      let grid = grid_of (shape_of its) cells marks in
-      let list = found_in notes in
-      let top = above its (height grid (walks_take its.protocol list its.logical its.logical))
-      ++ map_svg grid cells marks in
-      let arrows = arrows_svg grid list cells marks in
-      let lines = lines_svg grid (walks_svg its.protocol list its.logical) marks.breach in
-      shows_left (top ++ arrows ++ lines) (codes "</svg>\n") part
-      (shows_left (top ++ arrows) lines part (shows_right top arrows part s))
+  -- the cell of a slot shows its arrow
+  cell_shows : (slot : ℕ) → Shows (cell_svg grid list cells marks slot) (arrow_svg grid list cells slot)
+  cell_shows slot =
+      let words = slot_text cells marks slot in
+      let arrow = arrow_svg grid list cells slot in
+      let titled = title (slot_title cells marks slot) in
+      let box = rectangle (beside (spot_of grid slot) 0 10) (cell_width grid) 24 in
+      let said = words_at (beside (spot_of grid slot) 8 26) words in
+      shows_left (group_begin words ++ (titled ++ arrow ++ box ++ said)) (codes "</g>\n") arrow
+      (shows_right (group_begin words) (titled ++ arrow ++ box ++ said) arrow
+      (shows_left (titled ++ arrow ++ box) said arrow
+      (shows_left (titled ++ arrow) box arrow
+      (shows_right titled arrow arrow (shows_self arrow)))))
+
+  -- whether the arrow of a slot is in view, by what is noted of the slot
+  seen : (slot : ℕ) (n : Note) (there : Bool) → note_at notes slot ≡ n →
+      is_in_view (cell_of its.protocol list its.logical n) ≡ there → is_in_view (cell_at cells slot) ≡ there
+  seen slot n there e is = ap is_in_view (cell_noted its notes slot ∙ ap (cell_of its.protocol list its.logical) e) ∙ is
+
+  -- an arrow in view, to a slot
+  abbrev viewed : ℕ → Option Slot → List ℕ
+  viewed slot to = view_to grid (slot_text cells marks slot) slot to
+
+  view_there : (slot : ℕ) → is_in_view (cell_at cells slot) ≡ true →
+      view_of its notes marks slot ≡ viewed slot (target list (cell_at cells slot))
+  view_there slot is =
+      ap (viewed slot) (cond-true (is_in_view (cell_at cells slot)) (target list (cell_at cells slot)) None is)
+
+  view_away : (slot : ℕ) → is_in_view (cell_at cells slot) ≡ false → view_of its notes marks slot ≡ []
+  view_away slot is =
+      ap (viewed slot) (cond-false (is_in_view (cell_at cells slot)) (target list (cell_at cells slot)) None is)
+
+  -- where the arrow of a record leads
+  leads : (slot : ℕ) (r : Rec) (to : Option Slot) → note_at notes slot ≡ note.Holds r → slot_named list r.next ≡ to →
+      target list (cell_at cells slot) ≡ to
+  leads slot r to e is =
+      ap (target list) (cell_noted its notes slot ∙ ap (cell_of its.protocol list its.logical) e) ∙ is
+
+  in_view : (slot : ℕ) (r : Rec) (to : Option Slot) → note_at notes slot ≡ note.Holds r → IsInView its notes r →
+      slot_named list r.next ≡ to → view_of its notes marks slot ≡ viewed slot to
+  in_view slot r to e is there =
+      let c = cur its.protocol list its.logical r.page in
+      let held = is_held its.protocol list its.logical r in
+      view_there slot (seen slot (note.Holds r) true e (elim is [
+        | inl loose ↦ loose_shown c r.version held loose
+        | inr holds ↦ held_shown c r.version held holds
+      ]))
+      ∙ ap (viewed slot) (leads slot r to e there)
+
+  out_of_view : (slot : ℕ) (r : Rec) → note_at notes slot ≡ note.Holds r → (IsInView its notes r → ⊥) →
+      view_of its notes marks slot ≡ []
+  out_of_view slot r e away =
+      let c = cur its.protocol list its.logical r.page in
+      let held = is_held its.protocol list its.logical r in
+      view_away slot (seen slot (note.Holds r) false e
+      (not_shown c r.version held (λ loose. away (inl loose)) (λ holds. away (inr holds))))
+
+  -- no arrow, whether it is in view or not
+  view_nowhere : (slot : ℕ) → target list (cell_at cells slot) ≡ None → view_of its notes marks slot ≡ []
+  view_nowhere slot e = elim (cases_Bool (is_in_view (cell_at cells slot))) [
+    | inl is ↦ view_there slot is ∙ ap (viewed slot) e
+    | inr is ↦ view_away slot is
+  ]
 
   pub arrow_tells : (slot : ℕ) → slot < slots_of (shape_of its) → ArrowTells its notes marks slot
   arrow_tells slot within =
-      let cells = cells_of its notes in
-      let grid = grid_of (shape_of its) cells marks in
-      let list = found_in notes in
-      let arrow = arrow_svg grid list cells marks in
-      let to = arrow_to grid (slot_text cells marks slot) slot in
+      let arrow = arrow_svg grid list cells slot in
+      let view = view_svg grid list cells marks slot in
       record {
-        shown = shows_arrows (arrow slot) (shows_piece arrow 0 (slots_of grid.shape) slot (omega arith) (omega arith));
+        shown = shows_through (svg its notes marks) (cell_svg grid list cells marks slot) arrow
+            (shows_cell slot within) (cell_shows slot);
+        within = cell_shows slot;
         to = λ r other holds lowest. arrow_noted slot (note.Holds r) holds
-            ∙ ap to (lowest_named notes r.next other lowest);
-        none = λ r holds nowhere. arrow_noted slot (note.Holds r) holds ∙ ap to (nowhere_named notes r.next nowhere);
+            ∙ ap (arrow_to grid slot) (lowest_named notes r.next other lowest);
+        none = λ r holds nowhere. arrow_noted slot (note.Holds r) holds
+            ∙ ap (arrow_to grid slot) (nowhere_named notes r.next nowhere);
         bare = λ no_record. bare_arrow slot (note_at notes slot) refl no_record;
+        view_shown = shows_map view
+            (shows_left (dies ++ labels ++ views) drawn view
+            (shows_right (dies ++ labels) views view
+            (shows_piece (view_svg grid list cells marks) 0 (slots_of grid.shape) slot (omega arith) (omega arith))));
+        in_view = λ r other holds is lowest. in_view slot r (Some (record { 0 = other })) holds is
+            (lowest_named notes r.next other lowest);
+        no_view = λ r holds nowhere. view_nowhere slot
+            (leads slot r None holds (nowhere_named notes r.next nowhere));
+        out_of_view = λ r holds away. out_of_view slot r holds away;
+        bare_view = λ no_record. bare_view slot (note_at notes slot) refl no_record;
       }
     where
       bare_arrow : (slot : ℕ) (n : Note) → note_at notes slot ≡ n →
@@ -204,3 +309,9 @@ module _ (its : Config) (notes : List Note) (marks : Marks) where
       bare_arrow slot note.Blank e no_record = arrow_noted slot note.Blank e
       bare_arrow slot note.Damaged e no_record = arrow_noted slot note.Damaged e
       bare_arrow slot (note.Holds r) e no_record = absurd (no_record r e)
+
+      bare_view : (slot : ℕ) (n : Note) → note_at notes slot ≡ n →
+          ((r : Rec) → note_at notes slot ≡ note.Holds r → ⊥) → view_of its notes marks slot ≡ []
+      bare_view slot note.Blank e no_record = view_away slot (seen slot note.Blank false e refl)
+      bare_view slot note.Damaged e no_record = view_away slot (seen slot note.Damaged false e refl)
+      bare_view slot (note.Holds r) e no_record = absurd (no_record r e)

@@ -145,7 +145,7 @@ module _ (current version : ℕ) where
     | Below h e ↦ (λ f. absurd (let g = sym e ∙ f in cc), λ f. absurd (omega arith))
   ]
 
-  rank_loose : (rank_by current version ≡ Loose) ↔ (current < version)
+  pub rank_loose : (rank_by current version ≡ Loose) ↔ (current < version)
   rank_loose = elim (ranked current version) [
     | At h e ↦ (λ f. absurd (let g = sym e ∙ f in cc), λ f. absurd (omega arith))
     | Above h e ↦ (λ _. h, λ _. e)

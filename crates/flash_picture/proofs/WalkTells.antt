@@ -1,19 +1,20 @@
 -- What the walk of a page tells.
-use Rattle.flash_picture.proofs.Common.{◌≡◌, ℕ, zero, suc, ◌-◌, ◌<◌, ◌≤◌, Bool, true, false, ◌==◌, ◌||◌, nat_lt, cond, Option, None, Some, List, [], ◌∷◌, ◌++◌, length, map, take, get_or, codes, refl, sym, ap, ◌∙◌, inl, inr, arith, append-nil, lt-ltb, flat_map, false≢true, cases_Bool, cond-true, cond-false, le-ltb, Protocol, Scc, Bpcc, Link, Found, is_same, link_of, newest_name, To, name_word, leaving_at, left_from, step_text, walk_line}
+use Rattle.flash_picture.proofs.Common.{◌≡◌, ℕ, zero, suc, ◌-◌, ◌<◌, ◌≤◌, Bool, true, false, ◌==◌, ◌||◌, nat_lt, cond, Option, None, Some, List, [], ◌∷◌, ◌++◌, length, map, take, get_or, codes, refl, sym, ap, ◌∙◌, inl, inr, arith, append-nil, lt-ltb, flat_map, false≢true, cases_Bool, cond-true, cond-false, le-ltb, Protocol, Scc, Bpcc, Link, Found, is_same, link_of, newest_name, To, name_word, end_of, leaving_at, left_from, step_text, walk_line}
 use Rattle.std.proofs.Common.{◌↔◌}
 use Rattle.std.proofs.Common.{IsTrue}
 use Rattle.std.proofs.lemmas.List.{take_all}
 use Rattle.std.proofs.lemmas.List.Concat.{flat_map-append}
 use Rattle.record_list.specs.declared.found.Why.{Why}
 use Rattle.record_list.specs.declared.found.Why.TheVariants as reason
-use Rattle.record_list.specs.Verdict.{is_ahead, is_behind, is_committed, why_below_newest, straddling, why}
+use Rattle.record_list.specs.Verdict.{is_ahead, is_behind, why_below_newest, straddling, why}
 use Rattle.verdict_report.specs.Walks.{is_end}
 use Rattle.verdict_report.proofs.WalkLemmas.{after, after_end, after_more, after_none, walk_decides}
 use Rattle.flash_picture.specs.declared.walk.End.{End}
 use Rattle.flash_picture.specs.declared.walk.End.TheVariants.{Absent, Straddled, TooLong}
 use Rattle.verdict_report.specs.Walks.{links_of}
 use Rattle.flash_picture.specs.Laws.{WalkSays, WalkTells, arrows_text, last_of}
-use Rattle.flash_picture.specs.Walks.{end_by, last_steps, leaving, steps_over}
+use Rattle.flash_picture.specs.Walks.{end_by, is_shared, last_steps, leaving, steps_over}
+use Rattle.flash_picture.proofs.Told.{drawn_by, told}
 
 -- the last of a link and those after it
 abbrev final : Link → List Link → Link
@@ -71,13 +72,6 @@ leaving_at_last list logical page none =
     left_last list start logical link ∙ ap (leaving list) (sym (final_at link (after list start logical link) none))
 
 -- ---- how it ends, by what its last link shows
-
-drawn_by : (w : Why) (o : Option Link) → (end_by w o ≡ None) ↔ IsTrue (is_committed w)
-drawn_by reason.Cycle o = (λ _. refl, λ _. refl)
-drawn_by reason.Passed o = (λ _. refl, λ _. refl)
-drawn_by reason.Absent None = (λ e. cc, λ h. absurd (false≢true h))
-drawn_by reason.Absent (Some link) = (λ e. cc, λ h. absurd (false≢true h))
-drawn_by (reason.Straddled version) o = (λ e. cc, λ h. absurd (false≢true h))
 
 straddled_by : (w : Why) (o : Option Link) (version : ℕ) → (end_by w o ≡ Some (Straddled version))
     ↔ (w ≡ reason.Straddled version)
@@ -156,6 +150,7 @@ walk_tells protocol list logical page =
           rw (decides.last none, leaving_at_last list logical page none)
           (long_by (is_ahead list last) (is_behind list last) (is_same last start) (why_below_newest protocol list last)
           last (not_absent protocol list last)));
+      told = told protocol list logical page;
     }
   where
     left_there : (link last : Link) → leaving list last ≡ Some link → link ≡ last
@@ -192,16 +187,28 @@ module _ (links : List Link) (last : Option Link) where
       ∙ flat_map-append step_text (map To (take 16 links)) (last_steps last)
       ∙ ap (λ t. t ++ flat_map step_text (last_steps last)) (steps_arrows (take 16 links))
 
+-- whether a page has a line of its own does not matter where its newest version counts
+no_end : (shared : Bool) → cond {A = Option End} shared None None ≡ None
+no_end true = refl
+no_end false = refl
+
 pub walk_says : (protocol : Protocol) (list : List Found) (logical page : ℕ) → WalkSays protocol list logical page
 walk_says protocol list logical page =
     let tells = walk_tells protocol list logical page in
     let links = links_of list logical page in
     let last = leaving_at list logical page in
+    let shared = is_shared protocol list logical page in
+    let end = end_of protocol list logical page in
     record {
-      nothing = λ counts. ap (walk_line list logical page) (tells.drawn.1 counts);
-      absent = λ none ahead. ap (walk_line list logical page) ((tells.absent none).1 ahead);
-      straddled = λ version is. ap (walk_line list logical page) ((tells.straddled version).1 is);
-      too_long = λ none ends. ap (walk_line list logical page) ((tells.too_long none).1 ends);
+      nothing = λ counts. ap (λ e. walk_line list logical page (cond shared None e)) (tells.drawn.1 counts)
+          ∙ ap (walk_line list logical page) (no_end shared);
+      shared = λ is. ap (walk_line list logical page) (cond-true shared None end is);
+      absent = λ none own ahead. ap (walk_line list logical page) (cond-false shared None end own
+          ∙ (tells.absent none).1 ahead);
+      straddled = λ version own is. ap (walk_line list logical page) (cond-false shared None end own
+          ∙ (tells.straddled version).1 is);
+      too_long = λ none own ends. ap (walk_line list logical page) (cond-false shared None end own
+          ∙ (tells.too_long none).1 ends);
       few = all_steps links last;
       many = λ link longer_than left. first_steps links last longer_than
           ∙ ap (λ (o : Option Link). arrows_text (take 16 links) ++ flat_map step_text (last_steps o)) left;

@@ -1,5 +1,5 @@
 -- Where the cells of a picture stand: numbers of pixels, from the left edge and from the top.
-use Rattle.std.specs.Prelude.{ℕ, ◌+◌, ◌*◌, ◌/◌, ◌%◌, ◌≤◌, max}
+use Rattle.std.specs.Prelude.{ℕ, ◌+◌, ◌*◌, ◌/◌, ◌%◌, ◌≤◌, max, min}
 use Rattle.std.specs.Int.{div_ceil}
 use Rattle.tx_types.specs.Config.{IsShape, blocks_of}
 use Rattle.flash_picture.specs.declared.grid.Grid.{Grid}
@@ -33,19 +33,23 @@ rows_of_block grid = div_ceil grid.shape.pages_per_block (cells_in_row grid)
 -- where a block begins: below the legend, the headings of the dies before, and the lines of the blocks before
 abbrev pub top_of_block : Grid → ℕ → ℕ
 top_of_block grid block =
-    88 + 32 * (block / grid.shape.blocks_per_die) + 56 * (block * rows_of_block grid)
+    132 + 32 * (block / grid.shape.blocks_per_die) + 36 * (block * rows_of_block grid)
 
 -- where the cell of this number in a block stands, below the heading of its die
 abbrev pub spot_in : Grid → ℕ → ℕ → Spot
 spot_in grid block at = record {
   left = 104 + pitch grid * (at % cells_in_row grid);
-  top = top_of_block grid block + 32 + 56 * (at / cells_in_row grid);
+  top = top_of_block grid block + 32 + 36 * (at / cells_in_row grid);
 }
 
 -- where the cell of a slot stands
 abbrev pub spot_of : Grid → ℕ → Spot
 spot_of grid slot =
     spot_in grid (slot / grid.shape.pages_per_block) (slot % grid.shape.pages_per_block)
+
+-- the width of a picture: that of its lines of cells, and of the legend at least
+abbrev pub width : Grid → ℕ
+width grid = max 800 (104 + pitch grid * min (cells_in_row grid) grid.shape.pages_per_block)
 
 -- the bottom of the map
 abbrev pub bottom : Grid → ℕ

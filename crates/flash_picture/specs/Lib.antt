@@ -6,4 +6,5 @@ pub mod Picture
 pub mod Grid
 pub mod Pieces
 pub mod Svg
+pub mod Selection
 pub mod Laws

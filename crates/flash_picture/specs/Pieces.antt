@@ -45,8 +45,8 @@ point spot = decimal spot.left ++ 44 ∷ decimal spot.top
 -- a curve that leaves a cell at its upper edge, and comes to the upper edge of a cell from above
 unfoldable pub curve : Spot → Spot → List ℕ
 curve from to =
-    codes "<path d='M" ++ point (beside from 28 24) ++ codes "C" ++ point (beside from 28 2) ++ codes " "
-    ++ point (beside to 12 2) ++ codes " " ++ point (beside to 12 24) ++ codes "'/>"
+    codes "<path d='M" ++ point (beside from 28 10) ++ codes "C" ++ point (beside from 28 0) ++ codes " "
+    ++ point (beside to 12 0) ++ codes " " ++ point (beside to 12 10) ++ codes "'/>"
 
 -- a line below the one before
 abbrev pub next_line : List ℕ → List ℕ → List ℕ

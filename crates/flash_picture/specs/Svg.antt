@@ -1,5 +1,5 @@
 -- The picture of a flash in SVG.
-use Rattle.std.specs.Prelude.{ℕ, zero, suc, ◌+◌, ◌*◌, min, nat_lt, if◌then◌else◌, Option, Some, None, List, [], ◌∷◌, ◌++◌, length, filter, codes}
+use Rattle.std.specs.Prelude.{ℕ, zero, suc, ◌+◌, ◌*◌, ◌||◌, min, nat_lt, Bool, true, false, if◌then◌else◌, Option, Some, None, List, [], ◌∷◌, ◌++◌, length, filter, codes}
 use Rattle.std.specs.List.{flat_map, join_with_byte, range_with_len}
 use Rattle.std.specs.Fmt.{decimal}
 use Rattle.tx_types.specs.declared.config.Config.{Config}
@@ -16,43 +16,52 @@ use Rattle.judged_records.specs.declared.note.Note.{Note}
 use Rattle.judged_records.specs.Notes.{found_in}
 use Rattle.flash_picture.specs.declared.cell.Cell.{Cell}
 use Rattle.flash_picture.specs.declared.cell.Cell.TheVariants.{Blank, Damaged, Holds}
+use Rattle.flash_picture.specs.declared.cell.Rank.{Rank}
+use Rattle.flash_picture.specs.declared.cell.Rank.TheVariants.{Current, Loose, Stale}
 use Rattle.flash_picture.specs.declared.grid.Grid.{Grid}
 use Rattle.flash_picture.specs.declared.grid.Spot.{Spot}
 use Rattle.flash_picture.specs.declared.marks.Marks.{Marks}
 use Rattle.flash_picture.specs.Cells.{cell_at, name_word, slot_text}
-use Rattle.flash_picture.specs.Grid.{bottom, cell_width, height, most_columns, spot_of, top_of_block}
+use Rattle.flash_picture.specs.Grid.{bottom, cell_width, height, most_columns, spot_of, top_of_block, width}
 use Rattle.flash_picture.specs.Map.{label_words, widest}
 use Rattle.flash_picture.specs.Picture.{breach_line, cells_of, heading}
 use Rattle.flash_picture.specs.Pieces.{attribute, beside, curve, group, next_line, rectangle, title, words_at}
 use Rattle.flash_picture.specs.declared.walk.End.{End}
 use Rattle.flash_picture.specs.declared.walk.Step.{Step}
-use Rattle.flash_picture.specs.Walks.{end_of, end_text, start_text, step_text, steps_of}
+use Rattle.flash_picture.specs.Walks.{end_text, line_end, start_text, step_text, steps_of}
 
 -- ---- above the map
 
 -- how the classes look
 unfoldable pub style : List ℕ
 style =
-    codes "<style>svg{background:#fff}text{font:12px monospace;fill:#222}"
-    ++ codes "rect{fill:#fff;stroke:#888}path{fill:none;stroke:#557;stroke-opacity:.8;marker-end:url(#tip)}"
+    codes "<style>svg{max-width:100%;height:auto;background:#fff}text{font:12px monospace;fill:#222}"
+    ++ codes "rect{fill:#fff;fill-opacity:.8;stroke:#888}"
+    ++ codes "path{fill:none;stroke:#557;marker-end:url(#tip);visibility:hidden}"
+    ++ codes ".arrow path,g:hover path{visibility:visible}g:hover path{stroke-width:3}.loose path{stroke:#b60}"
     ++ codes ".current rect{fill:#cdebc9}.loose rect{fill:#fde1b1}.stale rect{fill:#e4e4e4}"
     ++ codes ".held rect{stroke:#0a62b5;stroke-width:2}.discard rect{stroke-dasharray:5 2}"
     ++ codes ".damaged rect{fill:#f4c3c3}[class~='!'] rect{stroke:#c00;stroke-width:3}"
-    ++ codes ".blank text{fill:#777}.loose path{stroke:#b60}g:hover path{stroke-width:3}"
-    ++ codes ".die text,.spare text,.unsound{font-weight:bold}.spare text{fill:#1a4fb4}"
-    ++ codes ".unsound{fill:#c00}</style>\n"
+    ++ codes ".blank text{fill:#777}.die text,.spare text,.unsound{font-weight:bold}.spare text{fill:#1a4fb4}"
+    ++ codes ".unsound{fill:#c00}@media(prefers-color-scheme:dark){svg{background:#16181c}rect{fill:#16181c}"
+    ++ codes "text,polygon{fill:#ddd}path{stroke:#9aa7d8}.loose path{stroke:#f0a03c}.current rect{fill:#1d4a22}"
+    ++ codes ".loose rect{fill:#5c4210}.stale rect{fill:#3a3d42}.held rect{stroke:#6ab0ff}"
+    ++ codes ".damaged rect{fill:#5d2525}.blank text{fill:#888}.spare text{fill:#8ab4f8}.unsound{fill:#f66}}"
+    ++ codes "</style>\n"
 
 -- the tip of an arrow
 unfoldable pub tip : List ℕ
 tip =
     codes "<defs><marker id='tip' viewBox='0 0 8 8' refX='7' refY='4' markerWidth='7' "
-    ++ codes "markerHeight='7' orient='auto'><polygon points='0,1 8,4 0,7'/></marker></defs>\n"
+    ++ codes "markerHeight='7' markerUnits='userSpaceOnUse' orient='auto'><polygon points='0,1 8,4 0,7'/>"
+    ++ codes "</marker></defs>\n"
 
--- the head, of a picture of this height
-abbrev pub head : ℕ → List ℕ
-head height =
-    codes "<svg xmlns='http://www.w3.org/2000/svg' width='1400'" ++ attribute (codes "height") height
-    ++ codes " viewBox='0 0 1400 " ++ decimal height ++ codes "'>\n" ++ style ++ tip
+-- the head, of a picture of this width and height
+abbrev pub head : ℕ → ℕ → List ℕ
+head width height =
+    codes "<svg xmlns='http://www.w3.org/2000/svg'" ++ attribute (codes "width") width
+    ++ attribute (codes "height") height ++ codes " viewBox='0 0 " ++ decimal width ++ codes " " ++ decimal height
+    ++ codes "'>\n" ++ style ++ tip
 
 -- a line of the legend: what a class looks like, and what it says
 unfoldable pub entry : List ℕ → ℕ → ℕ → List ℕ → List ℕ
@@ -64,22 +73,23 @@ entry class left top says =
 unfoldable pub link_entry : List ℕ
 link_entry =
     group (codes "link")
-    (words_at (record { left = 908; top = 66 }) (codes "arrow: from a record to the one that it links to"))
+    (words_at (record { left = 308; top = 110 }) (codes "arrow: to the record of a link; a pointer shows others"))
 
 unfoldable pub legend : List ℕ
 legend =
     entry (codes "current") 8 34 (codes "current: the version that counts")
-    ++ entry (codes "loose") 308 34 (codes "loose: above the current version")
-    ++ entry (codes "stale") 608 34 (codes "stale: below the current version")
-    ++ entry (codes "held") 908 34 (codes "held: a loose record needs it")
-    ++ entry (codes "discard") 8 56 (codes "discard: written to empty its page")
+    ++ entry (codes "loose") 8 56 (codes "loose: above the current version")
+    ++ entry (codes "stale") 8 78 (codes "stale: below the current version")
+    ++ entry (codes "held") 8 100 (codes "held: a loose record needs it")
+    ++ entry (codes "discard") 308 34 (codes "discard: written to empty its page")
     ++ entry (codes "damaged") 308 56 (codes "damaged: nothing that can be read")
-    ++ entry (codes "!") 608 56 (codes "!: a broken law names the slot")
+    ++ entry (codes "!") 308 78 (codes "!: a broken law names the slot")
     ++ link_entry
 
 -- the head, the first line of the picture as text, and the legend
-unfoldable pub above : Config → ℕ → List ℕ
-above its height = head height ++ words_at (record { left = 8; top = 20 }) (heading its) ++ legend
+unfoldable pub above : Config → ℕ → ℕ → List ℕ
+above its width height =
+    head width height ++ words_at (record { left = 8; top = 20 }) (heading its) ++ legend
 
 -- ---- the map
 
@@ -94,7 +104,7 @@ die_heading grid die =
 abbrev pub label_svg : Grid → Marks → ℕ → List ℕ
 label_svg grid marks block =
     let label = join_with_byte 32 (label_words marks block) in
-    group label (words_at (record { left = 8; top = top_of_block grid block + 72 }) label)
+    group label (words_at (record { left = 8; top = top_of_block grid block + 58 }) label)
 
 -- what a record links to, and its back version
 abbrev pub links_text : Cell → List ℕ
@@ -106,20 +116,6 @@ links_text (Holds rec rank held) = codes ", link " ++ name_word rec.next ++ code
 abbrev pub slot_title : List Cell → Marks → ℕ → List ℕ
 slot_title cells marks slot =
     codes "slot " ++ decimal slot ++ codes ": " ++ slot_text cells marks slot ++ links_text (cell_at cells slot)
-
--- the cell of a slot: a rectangle with the words of the slot, by which it has its colours
-abbrev pub cell_svg : Grid → List Cell → Marks → ℕ → List ℕ
-cell_svg grid cells marks slot =
-    let spot = spot_of grid slot in
-    group (slot_text cells marks slot)
-    (title (slot_title cells marks slot) ++ rectangle (beside spot 0 24) (cell_width grid) 24
-    ++ words_at (beside spot 8 40) (slot_text cells marks slot))
-
-abbrev pub map_svg : Grid → List Cell → Marks → List ℕ
-map_svg grid cells marks =
-    flat_map (die_heading grid) (range_with_len 0 grid.shape.dies)
-    ++ flat_map (label_svg grid marks) (range_with_len 0 (blocks_of grid.shape))
-    ++ flat_map (cell_svg grid cells marks) (range_with_len 0 (slots_of grid.shape))
 
 -- ---- the arrows
 
@@ -138,25 +134,70 @@ target list Blank = None
 target list Damaged = None
 target list (Holds rec rank held) = slot_named list rec.next
 
--- an arrow of a class from a cell to that of a slot, if there is one
-abbrev pub arrow_to : Grid → List ℕ → ℕ → Option Slot → List ℕ
-arrow_to grid class slot None = []
-arrow_to grid class slot (Some to) = group class (curve (spot_of grid slot) (spot_of grid to.0))
+-- an arrow from the cell of a slot to that of another one, if there is one
+abbrev pub arrow_to : Grid → ℕ → Option Slot → List ℕ
+arrow_to grid slot None = []
+arrow_to grid slot (Some to) = curve (spot_of grid slot) (spot_of grid to.0)
 
 -- the arrow from the cell of a slot
-abbrev pub arrow_svg : Grid → List Found → List Cell → Marks → ℕ → List ℕ
-arrow_svg grid list cells marks slot =
-    arrow_to grid (slot_text cells marks slot) slot (target list (cell_at cells slot))
+abbrev pub arrow_svg : Grid → List Found → List Cell → ℕ → List ℕ
+arrow_svg grid list cells slot = arrow_to grid slot (target list (cell_at cells slot))
 
-abbrev pub arrows_svg : Grid → List Found → List Cell → Marks → List ℕ
-arrows_svg grid list cells marks =
-    flat_map (arrow_svg grid list cells marks) (range_with_len 0 (slots_of grid.shape))
+abbrev pub is_above : Rank → Bool
+is_above Current = false
+is_above Loose = true
+is_above Stale = false
+
+-- whether the arrow from a cell is in view without a pointer: that of a loose record, and of one that is held
+abbrev pub is_in_view : Cell → Bool
+is_in_view Blank = false
+is_in_view Damaged = false
+is_in_view (Holds rec rank held) = is_above rank || held
+
+-- the slot to which the record of a cell links, if there is one, and the arrow is in view
+abbrev pub view_target : List Found → Cell → Option Slot
+view_target list cell = if is_in_view cell then target list cell else None
+
+-- an arrow in view, from the cell of a slot with these words to that of another one, if there is one
+abbrev pub view_to : Grid → List ℕ → ℕ → Option Slot → List ℕ
+view_to grid words slot None = []
+view_to grid words slot (Some to) = group (codes "arrow " ++ words) (arrow_to grid slot (Some to))
+
+abbrev pub view_svg : Grid → List Found → List Cell → Marks → ℕ → List ℕ
+view_svg grid list cells marks slot =
+    view_to grid (slot_text cells marks slot) slot (view_target list (cell_at cells slot))
+
+abbrev pub views_svg : Grid → List Found → List Cell → Marks → List ℕ
+views_svg grid list cells marks =
+    flat_map (view_svg grid list cells marks) (range_with_len 0 (slots_of grid.shape))
+
+-- ---- the cells
+
+-- the cell of a slot: its arrow, which a pointer shows, and a rectangle with the words of the slot, by which it has its
+-- colours
+abbrev pub cell_svg : Grid → List Found → List Cell → Marks → ℕ → List ℕ
+cell_svg grid list cells marks slot =
+    let spot = spot_of grid slot in
+    group (slot_text cells marks slot)
+    (title (slot_title cells marks slot) ++ arrow_svg grid list cells slot
+    ++ rectangle (beside spot 0 10) (cell_width grid) 24 ++ words_at (beside spot 8 26) (slot_text cells marks slot))
+
+abbrev pub cells_svg : Grid → List Found → List Cell → Marks → List ℕ
+cells_svg grid list cells marks =
+    flat_map (cell_svg grid list cells marks) (range_with_len 0 (slots_of grid.shape))
+
+-- the map: the arrows that are in view pass under the words of all cells
+abbrev pub map_svg : Grid → List Found → List Cell → Marks → List ℕ
+map_svg grid list cells marks =
+    flat_map (die_heading grid) (range_with_len 0 grid.shape.dies)
+    ++ flat_map (label_svg grid marks) (range_with_len 0 (blocks_of grid.shape))
+    ++ views_svg grid list cells marks ++ cells_svg grid list cells marks
 
 -- ---- below the map
 
 -- a line of a walk is full with this many columns
 abbrev pub full_columns : ℕ
-full_columns = 120
+full_columns = 80
 
 -- what ends a line of a walk, and begins the next one
 abbrev pub row_break : List ℕ
@@ -192,7 +233,7 @@ rows_text start steps end =
 abbrev pub rows_taken : Link → List Step → ℕ
 rows_taken start steps = suc (steps_begin (length (start_text start)) steps)
 
--- the lines of the walk of a page that ends so, and how many these are; none where its newest version counts
+-- the lines of the walk of a page that ends so, and how many these are; none where the page has no line of its own
 abbrev pub walk_rows : List Found → ℕ → ℕ → Option End → List ℕ
 walk_rows list logical page None = []
 walk_rows list logical page (Some end) = rows_text (newest_name list page) (steps_of list logical page) end
@@ -202,7 +243,7 @@ walk_takes list logical page None = 0
 walk_takes list logical page (Some end) = rows_taken (newest_name list page) (steps_of list logical page)
 
 abbrev pub walk_svg : Protocol → List Found → ℕ → ℕ → List ℕ
-walk_svg protocol list logical page = walk_rows list logical page (end_of protocol list logical page)
+walk_svg protocol list logical page = walk_rows list logical page (line_end protocol list logical page)
 
 abbrev pub walks_svg : Protocol → List Found → ℕ → List ℕ
 walks_svg protocol list logical = flat_map (walk_svg protocol list logical) (range_with_len 0 logical)
@@ -211,7 +252,7 @@ walks_svg protocol list logical = flat_map (walk_svg protocol list logical) (ran
 abbrev pub walks_take : Protocol → List Found → ℕ → ℕ → ℕ
 walks_take protocol list logical zero = 0
 walks_take protocol list logical (suc pages) =
-    walks_take protocol list logical pages + walk_takes list logical pages (end_of protocol list logical pages)
+    walks_take protocol list logical pages + walk_takes list logical pages (line_end protocol list logical pages)
 
 -- the law that is broken
 abbrev pub breach_svg : Option Breach → List ℕ
@@ -234,8 +275,8 @@ grid_of shape cells marks =
 -- the picture of records with these cells
 abbrev pub drawing : Config → Grid → List Found → List Cell → Marks → List ℕ
 drawing its grid list cells marks =
-    above its (height grid (walks_take its.protocol list its.logical its.logical)) ++ map_svg grid cells marks
-    ++ arrows_svg grid list cells marks ++ lines_svg grid (walks_svg its.protocol list its.logical) marks.breach
+    above its (width grid) (height grid (walks_take its.protocol list its.logical its.logical))
+    ++ map_svg grid list cells marks ++ lines_svg grid (walks_svg its.protocol list its.logical) marks.breach
     ++ codes "</svg>\n"
 
 -- the picture in SVG of a device whose slots are noted so

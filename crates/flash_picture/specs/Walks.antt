@@ -1,14 +1,14 @@
 -- The walks that decide that the newest version of a page does not count, each as a chain of arrows.
-use Rattle.std.specs.Prelude.{ℕ, zero, suc, ◌||◌, nat_lt, if◌then◌else◌, List, [], ◌∷◌, ◌++◌, length, map, take, Option, None, Some, codes}
-use Rattle.std.specs.List.{flat_map, range_with_len}
+use Rattle.std.specs.Prelude.{◌≡◌, ℕ, zero, suc, ◌%◌, ◌<◌, ◌==◌, Bool, true, false, not, ◌&&◌, ◌||◌, nat_lt, if◌then◌else◌, List, [], ◌∷◌, ◌++◌, length, map, take, slice_index_or, slice_set, Option, None, Some, is_some, codes}
+use Rattle.std.specs.List.{flat_map, list_any, range_with_len}
 use Rattle.std.specs.Fmt.{decimal}
 use Rattle.tx_types.specs.declared.config.Protocol.{Protocol}
 use Rattle.tx_types.specs.declared.record.Link.{Link}
 use Rattle.record_list.specs.declared.found.Found.{Found}
 use Rattle.record_list.specs.declared.found.Why.{Why}
 use Rattle.record_list.specs.declared.found.Why.TheVariants as reason
-use Rattle.record_list.specs.Records.{is_same, record_at}
-use Rattle.record_list.specs.Verdict.{newest_name, link_of, is_ahead, is_behind, why}
+use Rattle.record_list.specs.Records.{is_same, newest, record_at}
+use Rattle.record_list.specs.Verdict.{newest_name, link_of, is_ahead, is_behind, is_committed, why}
 use Rattle.sorted_records.specs.declared.orbit.Orbit.{Orbit}
 use Rattle.sorted_records.specs.declared.orbit.Orbit.TheVariants.{Ends, Round, Aside}
 use Rattle.verdict_report.specs.Walks.{links_of}
@@ -79,6 +79,67 @@ end_by (reason.Straddled version) last = Some (Straddled version)
 abbrev pub end_of : Protocol → List Found → ℕ → ℕ → Option End
 end_of protocol list logical page = end_by (why protocol list logical page) (leaving_at list logical page)
 
+-- ---- which pages have a line of their own
+
+-- whether the newest record of a page does not count, and links to this name
+abbrev pub leads_to : Protocol → List Found → ℕ → Link → ℕ → Bool
+leads_to protocol list logical name page =
+    not (is_committed (why protocol list logical page)) && is_same (link_of list (newest_name list page)) name
+
+-- whether such a record links to the newest one of this page: its walk goes on as the walk of this page
+abbrev pub is_led_to : Protocol → List Found → ℕ → ℕ → Bool
+is_led_to protocol list logical page =
+    list_any (leads_to protocol list logical (newest_name list page)) (range_with_len 0 logical)
+
+-- how many records a line names: that at which its walk begins, and those of its first links
+abbrev pub most_named : ℕ
+most_named = 17
+
+-- whether a walk leaves the newest records, and not after a multiple of so many links
+abbrev pub is_part : List Found → ℕ → ℕ → Bool
+is_part list logical page =
+    is_some (leaving_at list logical page) && not (length (links_of list logical page) % most_named == 0)
+
+-- the same of the page of an orbit
+abbrev pub part_by : List Found → ℕ → Orbit → Bool
+part_by list logical (Ends after at) =
+    is_some (leaving_by list logical (Ends after at)) && not (suc after % most_named == 0)
+part_by list logical (Round turns) = false
+part_by list logical Aside = false
+
+-- Whether a page leaves it to the line of another one to name its newest record. A walk that many pages share is told
+-- once: the lines are those of pages to which no walk leads, of each seventeenth page from the end of a long walk, and
+-- of pages whose walk leaves the newest records nowhere.
+abbrev pub is_shared : Protocol → List Found → ℕ → ℕ → Bool
+is_shared protocol list logical page = is_led_to protocol list logical page && is_part list logical page
+
+-- how the line of a page ends; nothing where its newest version counts, or the line of another page names that
+abbrev pub line_end : Protocol → List Found → ℕ → ℕ → Option End
+line_end protocol list logical page =
+    if is_shared protocol list logical page then None else end_of protocol list logical page
+
+-- the page to whose newest record a link leads, if it leads to one
+abbrev pub page_of_newest : List Found → ℕ → Link → Option ℕ
+page_of_newest list logical link =
+    if nat_lt link.page logical && (link.version == newest list link.page) then Some link.page else None
+
+-- the page to whose newest record that of this page links, where the latter does not count
+abbrev pub page_behind : Protocol → List Found → ℕ → ℕ → Option ℕ
+page_behind protocol list logical page =
+    if is_committed (why protocol list logical page) then None
+    else page_of_newest list logical (link_of list (newest_name list page))
+
+-- marks, with that of a page, if there is one
+abbrev pub marked : Option ℕ → List Bool → List Bool
+marked None led = led
+marked (Some page) led = slice_set led page true
+
+-- for each page whether the newest record of one of the first pages does not count, and links to its newest one
+pub record AreLedTo (protocol : Protocol) (list : List Found) (logical some : ℕ) (led : List Bool) : Type 0 where
+  pub size : length led ≡ logical
+  pub each : (page : ℕ) (none : Bool) → page < logical → slice_index_or led page none
+      ≡ list_any (leads_to protocol list logical (newest_name list page)) (range_with_len 0 some)
+
 -- ---- its text
 
 abbrev pub step_text : Step → List ℕ
@@ -97,13 +158,13 @@ start_text start = codes "walk " ++ name_word start
 abbrev pub line_text : Link → List Step → End → List ℕ
 line_text start steps end = start_text start ++ flat_map step_text steps ++ end_text end ++ 10 ∷ []
 
--- the line of a page whose walk ends so; nothing where its newest version counts
+-- the line of a page that ends so; nothing where it has none
 abbrev pub walk_line : List Found → ℕ → ℕ → Option End → List ℕ
 walk_line list logical page None = []
 walk_line list logical page (Some end) = line_text (newest_name list page) (steps_of list logical page) end
 
 abbrev pub walk_text : Protocol → List Found → ℕ → ℕ → List ℕ
-walk_text protocol list logical page = walk_line list logical page (end_of protocol list logical page)
+walk_text protocol list logical page = walk_line list logical page (line_end protocol list logical page)
 
 abbrev pub walks_text : Protocol → List Found → ℕ → List ℕ
 walks_text protocol list logical =

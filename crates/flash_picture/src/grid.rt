@@ -1,5 +1,5 @@
 ghost use Rattle.std.specs.Prelude.{◌≡◌, ◌*◌, ◌+◌, ◌<◌, ◌≤◌, ◌^◌};
-ghost use Rattle.flash_picture.specs.Grid.{IsGrid, bottom, cell_width, cells_in_row, height, pitch, rows_of_block, spot_in, spot_of, top_of_block};
+ghost use Rattle.flash_picture.specs.Grid.{IsGrid, bottom, cell_width, cells_in_row, height, pitch, rows_of_block, spot_in, spot_of, top_of_block, width};
 ghost use Rattle.flash_picture.specs.Pieces.{beside};
 
 use tx_types::{Shape, Slot};
@@ -76,7 +76,16 @@ impl Grid {
         ensures few { result < 2 ^ 48 }
     {
         let die = block / self.shape.blocks_per_die;
-        88 + 32 * u64::from(die) + 56 * (u64::from(block) * self.rows_of_block())
+        132 + 32 * u64::from(die) + 36 * (u64::from(block) * self.rows_of_block())
+    }
+
+    /// The width of a picture.
+    pub fn width(self) -> u64
+        requires { IsGrid self }
+        ensures { result ≡ width self }
+    {
+        let count = u64::from(self.shape.pages_per_block).min(self.cells_in_row());
+        (104 + self.pitch() * count).max(800)
     }
 
     /// Where the map ends.
@@ -107,7 +116,7 @@ impl Grid {
         let count = self.cells_in_row();
         Spot {
             left: 104 + self.pitch() * (u64::from(at) % count),
-            top: self.top_of_block(block) + 32 + 56 * (u64::from(at) / count),
+            top: self.top_of_block(block) + 32 + 36 * (u64::from(at) / count),
         }
     }
 

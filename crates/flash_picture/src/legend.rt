@@ -7,16 +7,16 @@ use crate::pieces::{add_attribute, add_rectangle, add_words, open_group};
 use crate::text::{add, add_number};
 use std::alloc::AllocError;
 
-/// Appends the head of a picture of this height.
-pub fn write_head(height: u64, text: &mut Vec<u8>) -> Result<(), AllocError>
-    ensures { OnOk result (text.new.items ≡ text.old.items ++ head height) }
+/// Appends the head of a picture of this width and height.
+pub fn write_head(width: u64, height: u64, text: &mut Vec<u8>) -> Result<(), AllocError>
+    ensures { OnOk result (text.new.items ≡ text.old.items ++ head width height) }
 {
-    add(
-        b"<svg xmlns='http://www.w3.org/2000/svg' width='1400'",
-        text,
-    )?;
+    add(b"<svg xmlns='http://www.w3.org/2000/svg'", text)?;
+    add_attribute(b"width", width, text)?;
     add_attribute(b"height", height, text)?;
-    add(b" viewBox='0 0 1400 ", text)?;
+    add(b" viewBox='0 0 ", text)?;
+    add_number(width, text)?;
+    add(b" ", text)?;
     add_number(height, text)?;
     add(b"'>\n", text)?;
     add(style(), text)?;
@@ -28,14 +28,19 @@ pub fn write_head(height: u64, text: &mut Vec<u8>) -> Result<(), AllocError>
 fn style() -> &'static [u8]
     ensures { result.now ≡ style }
 {
-    b"<style>svg{background:#fff}text{font:12px monospace;fill:#222}\
-        rect{fill:#fff;stroke:#888}path{fill:none;stroke:#557;stroke-opacity:.8;marker-end:url(#tip)}\
+    b"<style>svg{max-width:100%;height:auto;background:#fff}text{font:12px monospace;fill:#222}\
+        rect{fill:#fff;fill-opacity:.8;stroke:#888}\
+        path{fill:none;stroke:#557;marker-end:url(#tip);visibility:hidden}\
+        .arrow path,g:hover path{visibility:visible}g:hover path{stroke-width:3}.loose path{stroke:#b60}\
         .current rect{fill:#cdebc9}.loose rect{fill:#fde1b1}.stale rect{fill:#e4e4e4}\
         .held rect{stroke:#0a62b5;stroke-width:2}.discard rect{stroke-dasharray:5 2}\
         .damaged rect{fill:#f4c3c3}[class~='!'] rect{stroke:#c00;stroke-width:3}\
-        .blank text{fill:#777}.loose path{stroke:#b60}g:hover path{stroke-width:3}\
-        .die text,.spare text,.unsound{font-weight:bold}.spare text{fill:#1a4fb4}\
-        .unsound{fill:#c00}</style>\n"
+        .blank text{fill:#777}.die text,.spare text,.unsound{font-weight:bold}.spare text{fill:#1a4fb4}\
+        .unsound{fill:#c00}@media(prefers-color-scheme:dark){svg{background:#16181c}rect{fill:#16181c}\
+        text,polygon{fill:#ddd}path{stroke:#9aa7d8}.loose path{stroke:#f0a03c}.current rect{fill:#1d4a22}\
+        .loose rect{fill:#5c4210}.stale rect{fill:#3a3d42}.held rect{stroke:#6ab0ff}\
+        .damaged rect{fill:#5d2525}.blank text{fill:#888}.spare text{fill:#8ab4f8}.unsound{fill:#f66}}\
+        </style>\n"
 }
 
 /// The tip of an arrow.
@@ -44,7 +49,7 @@ fn tip() -> &'static [u8]
     ensures { result.now ≡ tip }
 {
     b"<defs><marker id='tip' viewBox='0 0 8 8' refX='7' refY='4' markerWidth='7' \
-        markerHeight='7' orient='auto'><polygon points='0,1 8,4 0,7'/></marker></defs>\n"
+        markerHeight='7' markerUnits='userSpaceOnUse' orient='auto'><polygon points='0,1 8,4 0,7'/></marker></defs>\n"
 }
 
 /// Appends the legend.
@@ -53,13 +58,13 @@ pub fn write_legend(text: &mut Vec<u8>) -> Result<(), AllocError>
     ensures { OnOk result (text.new.items ≡ text.old.items ++ legend) }
 {
     write_entry(b"current", 8, 34, b"current: the version that counts", text)?;
-    write_entry(b"loose", 308, 34, b"loose: above the current version", text)?;
-    write_entry(b"stale", 608, 34, b"stale: below the current version", text)?;
-    write_entry(b"held", 908, 34, b"held: a loose record needs it", text)?;
+    write_entry(b"loose", 8, 56, b"loose: above the current version", text)?;
+    write_entry(b"stale", 8, 78, b"stale: below the current version", text)?;
+    write_entry(b"held", 8, 100, b"held: a loose record needs it", text)?;
     write_entry(
         b"discard",
-        8,
-        56,
+        308,
+        34,
         b"discard: written to empty its page",
         text,
     )?;
@@ -70,7 +75,7 @@ pub fn write_legend(text: &mut Vec<u8>) -> Result<(), AllocError>
         b"damaged: nothing that can be read",
         text,
     )?;
-    write_entry(b"!", 608, 56, b"!: a broken law names the slot", text)?;
+    write_entry(b"!", 308, 78, b"!: a broken law names the slot", text)?;
     write_link_entry(text)
 }
 
@@ -100,10 +105,13 @@ fn write_link_entry(text: &mut Vec<u8>) -> Result<(), AllocError>
     ensures { OnOk result (text.new.items ≡ text.old.items ++ link_entry) }
 {
     open_group(b"link", text)?;
-    let spot = Spot { left: 908, top: 66 };
+    let spot = Spot {
+        left: 308,
+        top: 110,
+    };
     add_words(
         spot,
-        b"arrow: from a record to the one that it links to",
+        b"arrow: to the record of a link; a pointer shows others",
         text,
     )?;
     add(b"</g>\n", text)

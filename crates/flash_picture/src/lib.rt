@@ -9,17 +9,23 @@ mod grid;
 mod legend;
 mod map;
 mod marks;
+mod own_lines;
 mod picture;
 mod pieces;
+mod selection;
 mod svg;
 mod svg_lines;
 mod svg_map;
 mod text;
 mod theorems;
+mod titles;
 mod walk;
 
 pub use cell::{Cell, Rank};
 pub use marks::Marks;
 pub use picture::draw;
+pub use selection::{Selection, draw_selected};
 pub use svg::draw_svg;
-pub use theorems::{cells_tell, labels_tell, svg_tells, walks_tell, words_tell};
+pub use theorems::{
+    cells_tell, labels_tell, places_tell, selection_tells, svg_tells, walks_tell, words_tell,
+};

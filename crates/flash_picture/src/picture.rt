@@ -25,11 +25,13 @@ use tx_types::{Config, Memory, Protocol, Shape, Slot};
 /// says `blank`, `damaged`, or PAGE.VERSION and what the record is: `current`, `loose` or `stale`, as its
 /// version is the current one of its page, or above it, or below; then `held` where it is responsible for a
 /// loose record, `discard` where it has no contents, and `!` where a broken law names the slot. Cells are as
-/// wide as the widest, and a row goes on in the next line where 80 columns are too few. Then comes a line for
-/// each page whose newest version does not count: `walk PAGE.VERSION -> LINK -> .. END`, with the links that
-/// the walk from that record takes: of more than 16 the first 16, two dots, and the last. END is `absent` or
+/// wide as the widest, and a row goes on in the next line where 80 columns are too few. Then come lines for the
+/// pages whose newest version does not count: `walk PAGE.VERSION -> LINK -> .. END`, with the links that the walk
+/// from that record takes: of more than 16 the first 16, two dots, and the last. END is `absent` or
 /// `straddled by V`, by the last link, or `too long` where the walk takes more links than there are pages, as it
-/// may in an image that is not sound. Last comes `unsound law N slot S`, where a law is broken.
+/// may in an image that is not sound. A page leaves it to the line of another one to name its newest record among
+/// these 16, but for each seventeenth page from the end of a long walk, and for walks that are too long. Last comes
+/// `unsound law N slot S`, where a law is broken.
 pub fn draw(
     alloc: Global,
     config: Config,
@@ -166,7 +168,7 @@ pub fn write_heading(config: Config, text: &mut Vec<u8>) -> Result<(), AllocErro
 }
 
 /// Appends the line of a law that is broken.
-fn write_breach(breach: Option<Breach>, text: &mut Vec<u8>) -> Result<(), AllocError>
+pub fn write_breach(breach: Option<Breach>, text: &mut Vec<u8>) -> Result<(), AllocError>
     ensures { OnOk result (text.new.items ≡ text.old.items ++ breach_line breach) }
 {
     match breach {

@@ -94,9 +94,9 @@ pub fn add_curve(from: Spot, to: Spot, text: &mut Vec<u8>) -> Result<(), AllocEr
     requires to_top { to.top < 2 ^ 49 }
     ensures { OnOk result (text.new.items ≡ text.old.items ++ curve from to) }
 {
-    add_point(b"<path d='M", from.beside(28, 24), text)?;
-    add_point(b"C", from.beside(28, 2), text)?;
-    add_point(b" ", to.beside(12, 2), text)?;
-    add_point(b" ", to.beside(12, 24), text)?;
+    add_point(b"<path d='M", from.beside(28, 10), text)?;
+    add_point(b"C", from.beside(28, 0), text)?;
+    add_point(b" ", to.beside(12, 0), text)?;
+    add_point(b" ", to.beside(12, 10), text)?;
     add(b"'/>", text)
 }

@@ -117,19 +117,23 @@ fn write_drawing(
         ++ drawing config p.grid chart.now p.map.cells.now p.map.marks) }
 {
     let lines = write_walks(alloc, chart, config.protocol, config.logical, walks)?;
-    write_above(config, plan.grid.height(lines), text)?;
-    plan.write(text)?;
-    plan.write_arrows(chart, text)?;
+    write_above(config, plan.grid.width(), plan.grid.height(lines), text)?;
+    plan.write(chart, text)?;
     write_lines(plan, walks.as_slice(), text)?;
     Ok(add(b"</svg>\n", text)?)
 }
 
-/// Appends what stands above the map of a picture of this height.
+/// Appends what stands above the map of a picture of this width and height.
 #[tactic(auto, unfolding(crate::specs::Svg::above))]
-fn write_above(config: Config, height: u64, text: &mut Vec<u8>) -> Result<(), AllocError>
-    ensures { OnOk result (text.new.items ≡ text.old.items ++ above config height) }
+fn write_above(
+    config: Config,
+    width: u64,
+    height: u64,
+    text: &mut Vec<u8>,
+) -> Result<(), AllocError>
+    ensures { OnOk result (text.new.items ≡ text.old.items ++ above config width height) }
 {
-    write_head(height, text)?;
+    write_head(width, height, text)?;
     open_words(Spot { left: 8, top: 20 }, text)?;
     write_heading(config, text)?;
     add(b"</text>", text)?;

@@ -1,8 +1,9 @@
 //! The lines below the map of a picture in SVG.
 ghost use Rattle.std.specs.Prelude.{◌≡◌, ◌+◌, ◌*◌, ◌≤◌, ◌++◌, IfOk, OnOk, codes, length};
 ghost use Rattle.flash_picture.specs.Svg.{breach_svg, columns_with, count_rows, rows_taken, rows_text, step_row, steps_begin, steps_rows, walk_rows, walk_takes, walks_svg, walks_take};
-ghost use Rattle.flash_picture.specs.Walks.{step_text};
+ghost use Rattle.flash_picture.specs.Walks.{AreLedTo, step_text};
 
+use crate::own_lines::{line_end, pages_led_to};
 use crate::picture::write_law;
 use crate::text::add;
 use crate::walk::{End, Step, newest_name, steps, write_start};
@@ -12,7 +13,7 @@ use std::alloc::{AllocError, Global};
 use tx_types::{Link, Memory, Protocol};
 
 /// A line of a walk is full with this many columns: a step behind more stands in the next line.
-const FULL_COLUMNS: usize = 120;
+const FULL_COLUMNS: usize = 80;
 
 /// Appends the walks of all pages whose newest version does not count, and returns how many lines they are.
 pub fn write_walks(
@@ -26,15 +27,36 @@ pub fn write_walks(
     ensures lines { IfOk result (λ lines. lines ≡ walks_take protocol chart.now logical logical) }
     ensures few { IfOk result (λ lines. lines ≤ 19 * logical) }
 {
+    let led = pages_led_to(alloc, chart, protocol, logical)?;
+    let outcome = write_lines(alloc, chart, protocol, logical, &led, text);
+    drop(led);
+    outcome
+}
+
+/// Appends the walks of all pages, by whether a walk leads to their newest records, and returns how many lines they
+/// are.
+fn write_lines(
+    alloc: Global,
+    chart: &SortedRecords,
+    protocol: Protocol,
+    logical: u32,
+    led: &[bool],
+    text: &mut Vec<u8>,
+) -> Result<u64, Memory>
+    requires { AreLedTo protocol chart.now logical logical led.now }
+    ensures text { OnOk result (text.new.items ≡ text.old.items ++ walks_svg protocol chart.now logical) }
+    ensures lines { IfOk result (λ lines. lines ≡ walks_take protocol chart.now logical logical) }
+    ensures few { IfOk result (λ lines. lines ≤ 19 * logical) }
+{
     let mut lines = 0;
     for page in 0..logical {
-        let end = End::of_page(chart, protocol, logical, page);
+        let end = line_end(chart, protocol, logical, page, led[page as usize]);
         lines += write_walk(alloc, chart, logical, page, end, text)?;
     }
     Ok(lines)
 }
 
-/// Appends the walk of a page that ends so, if its newest version does not count, and returns how many lines it is.
+/// Appends the walk of a page that ends so, if it has a line of its own, and returns how many lines it is.
 fn write_walk(
     alloc: Global,
     chart: &SortedRecords,

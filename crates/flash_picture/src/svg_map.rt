@@ -1,18 +1,18 @@
 //! The map of a picture in SVG: headings of dies, labels of blocks, cells of slots, and arrows between cells.
-ghost use Rattle.std.specs.Prelude.{◌≡◌, ◌<◌, ◌++◌, OnOk};
+ghost use Rattle.std.specs.Prelude.{◌≡◌, ◌<◌, ◌++◌, OnOk, codes};
 ghost use Rattle.std.specs.List.{flat_map, join_with_byte, range_with_len};
 ghost use Rattle.tx_types.specs.Config.{blocks_of, slots_of};
 ghost use Rattle.flash_picture.specs.Cells.{slot_text};
 ghost use Rattle.flash_picture.specs.Grid.{IsGrid};
 ghost use Rattle.flash_picture.specs.Map.{label_words};
 ghost use Rattle.flash_picture.specs.Pieces.{group_begin, title};
-ghost use Rattle.flash_picture.specs.Svg.{arrow_svg, arrow_to, arrows_svg, cell_svg, die_heading, first_slot, label_svg, links_text, map_svg, slot_title, target};
+ghost use Rattle.flash_picture.specs.Svg.{arrow_svg, arrow_to, cell_svg, cells_svg, die_heading, first_slot, is_above, is_in_view, label_svg, map_svg, slot_title, target, view_svg, view_target, view_to, views_svg};
 
-use crate::cell::Cell;
+use crate::cell::{Cell, Rank};
 use crate::grid::{Grid, Spot};
 use crate::map::Map;
 use crate::pieces::{add_curve, add_rectangle, open_group, open_words};
-use crate::text::{add, add_count, add_name, add_number};
+use crate::text::{add, add_count};
 use record_list::Found;
 use sorted_records::SortedRecords;
 use std::alloc::AllocError;
@@ -27,14 +27,15 @@ pub struct Plan<'a> {
 
 impl Plan<'_> {
     /// Appends the map.
-    pub fn write(&self, text: &mut Vec<u8>) -> Result<(), AllocError>
+    pub fn write(&self, chart: &SortedRecords, text: &mut Vec<u8>) -> Result<(), AllocError>
         requires { IsGrid self.now.grid }
         ensures { let p = self.now in OnOk result (text.new.items
-            ≡ text.old.items ++ map_svg p.grid p.map.cells.now p.map.marks) }
+            ≡ text.old.items ++ map_svg p.grid chart.now p.map.cells.now p.map.marks) }
     {
         self.write_dies(text)?;
         self.write_labels(text)?;
-        self.write_cells(text)
+        self.write_views(chart, text)?;
+        self.write_cells(chart, text)
     }
 
     /// Appends the headings of all dies.
@@ -92,7 +93,7 @@ impl Plan<'_> {
         open_words(
             Spot {
                 left: 8,
-                top: top + 72,
+                top: top + 58,
             },
             text,
         )?;
@@ -112,29 +113,34 @@ impl Plan<'_> {
     }
 
     /// Appends the cells of all slots.
-    fn write_cells(&self, text: &mut Vec<u8>) -> Result<(), AllocError>
+    fn write_cells(&self, chart: &SortedRecords, text: &mut Vec<u8>) -> Result<(), AllocError>
         requires { IsGrid self.now.grid }
-        ensures { let p = self.now in OnOk result (text.new.items ≡ text.old.items
-            ++ flat_map (cell_svg p.grid p.map.cells.now p.map.marks)
-            (range_with_len 0 (slots_of p.grid.shape))) }
+        ensures { let p = self.now in OnOk result (text.new.items
+            ≡ text.old.items ++ cells_svg p.grid chart.now p.map.cells.now p.map.marks) }
     {
         for slot in 0..self.grid.shape.slots() {
-            self.write_cell(Slot(slot), text)?;
+            self.write_cell(chart, Slot(slot), text)?;
         }
         Ok(())
     }
 
     /// Appends the cell of a slot.
-    fn write_cell(&self, slot: Slot, text: &mut Vec<u8>) -> Result<(), AllocError>
+    fn write_cell(
+        &self,
+        chart: &SortedRecords,
+        slot: Slot,
+        text: &mut Vec<u8>,
+    ) -> Result<(), AllocError>
         requires { IsGrid self.now.grid }
         ensures { let p = self.now in OnOk result (text.new.items
-            ≡ text.old.items ++ cell_svg p.grid p.map.cells.now p.map.marks slot.0) }
+            ≡ text.old.items ++ cell_svg p.grid chart.now p.map.cells.now p.map.marks slot.0) }
     {
         let spot = self.grid.spot(slot);
         self.open_group(slot, text)?;
         self.write_title(slot, text)?;
-        add_rectangle(spot.beside(0, 24), self.grid.cell_width(), 24, text)?;
-        open_words(spot.beside(8, 40), text)?;
+        self.write_arrow(chart, slot, text)?;
+        add_rectangle(spot.beside(0, 10), self.grid.cell_width(), 24, text)?;
+        open_words(spot.beside(8, 26), text)?;
         self.map.write_slot(slot, text)?;
         add(b"</text></g>\n", text)
     }
@@ -155,24 +161,68 @@ impl Plan<'_> {
         ensures { let m = self.now.map in OnOk result (text.new.items
             ≡ text.old.items ++ title (slot_title m.cells.now m.marks slot.0)) }
     {
-        add(b"<title>slot ", text)?;
-        add_count(slot.0, text)?;
-        add(b": ", text)?;
-        self.map.write_slot(slot, text)?;
-        write_links(self.map.cell(slot), text)?;
+        add(b"<title>", text)?;
+        self.map.write_slot_title(slot, text)?;
         add(b"</title>", text)
     }
 
-    /// Appends the arrows from all cells.
-    pub fn write_arrows(&self, chart: &SortedRecords, text: &mut Vec<u8>) -> Result<(), AllocError>
+    /// Appends the arrows that are in view.
+    fn write_views(&self, chart: &SortedRecords, text: &mut Vec<u8>) -> Result<(), AllocError>
         requires { IsGrid self.now.grid }
         ensures { let p = self.now in OnOk result (text.new.items
-            ≡ text.old.items ++ arrows_svg p.grid chart.now p.map.cells.now p.map.marks) }
+            ≡ text.old.items ++ views_svg p.grid chart.now p.map.cells.now p.map.marks) }
     {
         for slot in 0..self.grid.shape.slots() {
-            self.write_arrow(chart, Slot(slot), text)?;
+            self.write_view(chart, Slot(slot), text)?;
         }
         Ok(())
+    }
+
+    /// Appends the arrow from the cell of a slot, if it is in view.
+    fn write_view(
+        &self,
+        chart: &SortedRecords,
+        slot: Slot,
+        text: &mut Vec<u8>,
+    ) -> Result<(), AllocError>
+        requires { IsGrid self.now.grid }
+        ensures { let p = self.now in OnOk result (text.new.items
+            ≡ text.old.items ++ view_svg p.grid chart.now p.map.cells.now p.map.marks slot.0) }
+    {
+        self.write_view_to(slot, view_target(chart, self.map.cell(slot)), text)
+    }
+
+    /// Appends an arrow in view from the cell of a slot to that of another one, if there is one.
+    fn write_view_to(
+        &self,
+        slot: Slot,
+        target: Option<Slot>,
+        text: &mut Vec<u8>,
+    ) -> Result<(), AllocError>
+        requires { IsGrid self.now.grid }
+        ensures { let p = self.now in OnOk result (text.new.items ≡ text.old.items
+            ++ view_to p.grid (slot_text p.map.cells.now p.map.marks slot.0) slot.0 target) }
+    {
+        match target {
+            None => Ok(()),
+            Some(to) => {
+                self.open_view(slot, text)?;
+                add_curve(self.grid.spot(slot), self.grid.spot(to), text)?;
+                add(b"</g>\n", text)
+            }
+        }
+    }
+
+    /// Begins an arrow that is in view, from the cell of a slot.
+    #[tactic(auto, unfolding(crate::specs::Pieces::group_begin))]
+    fn open_view(&self, slot: Slot, text: &mut Vec<u8>) -> Result<(), AllocError>
+        ensures { let m = self.now.map in OnOk result (text.new.items
+            ≡ text.old.items ++ group_begin (codes "arrow " ++ slot_text m.cells.now m.marks slot.0)) }
+    {
+        add(b"<g class='", text)?;
+        add(b"arrow ", text)?;
+        self.map.write_slot(slot, text)?;
+        add(b"'>", text)
     }
 
     /// Appends the arrow from the cell of a slot.
@@ -184,7 +234,7 @@ impl Plan<'_> {
     ) -> Result<(), AllocError>
         requires { IsGrid self.now.grid }
         ensures { let p = self.now in OnOk result (text.new.items
-            ≡ text.old.items ++ arrow_svg p.grid chart.now p.map.cells.now p.map.marks slot.0) }
+            ≡ text.old.items ++ arrow_svg p.grid chart.now p.map.cells.now slot.0) }
     {
         self.write_arrow_to(slot, target(chart, self.map.cell(slot)), text)
     }
@@ -197,33 +247,46 @@ impl Plan<'_> {
         text: &mut Vec<u8>,
     ) -> Result<(), AllocError>
         requires { IsGrid self.now.grid }
-        ensures { let p = self.now in OnOk result (text.new.items ≡ text.old.items
-            ++ arrow_to p.grid (slot_text p.map.cells.now p.map.marks slot.0) slot.0 target) }
+        ensures { OnOk result (text.new.items
+            ≡ text.old.items ++ arrow_to self.now.grid slot.0 target) }
     {
         match target {
             None => Ok(()),
-            Some(to) => {
-                self.open_group(slot, text)?;
-                add_curve(self.grid.spot(slot), self.grid.spot(to), text)?;
-                add(b"</g>\n", text)
-            }
+            Some(to) => add_curve(self.grid.spot(slot), self.grid.spot(to), text),
         }
     }
 }
 
-/// Appends what a record links to, and its back version.
-fn write_links(cell: Cell, text: &mut Vec<u8>) -> Result<(), AllocError>
-    ensures { OnOk result (text.new.items ≡ text.old.items ++ links_text cell) }
+/// The slot to which the record of a cell links, if there is one, and the arrow is in view.
+fn view_target(chart: &SortedRecords, cell: Cell) -> Option<Slot>
+    ensures { result ≡ view_target chart.now cell }
+{
+    if is_in_view(cell) {
+        target(chart, cell)
+    } else {
+        None
+    }
+}
+
+/// Whether the arrow from a cell is in view without a pointer: that of a loose record, and of one that is held.
+pub fn is_in_view(cell: Cell) -> bool
+    ensures { result ≡ is_in_view cell }
 {
     match cell {
-        Cell::Blank => Ok(()),
-        Cell::Damaged => Ok(()),
-        Cell::Holds { rec, .. } => {
-            add(b", link ", text)?;
-            add_name(rec.next, text)?;
-            add(b", back ", text)?;
-            add_number(rec.back, text)
-        }
+        Cell::Blank => false,
+        Cell::Damaged => false,
+        Cell::Holds { rank, held, .. } => is_above(rank) || held,
+    }
+}
+
+/// Whether a record of this rank is above the current one.
+fn is_above(rank: Rank) -> bool
+    ensures { result ≡ is_above rank }
+{
+    match rank {
+        Rank::Current => false,
+        Rank::Loose => true,
+        Rank::Stale => false,
     }
 }
 

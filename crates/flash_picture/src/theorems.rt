@@ -6,8 +6,9 @@ ghost use Rattle.tx_types.specs.declared.config.Protocol.{Protocol};
 ghost use Rattle.tx_types.specs.declared.record.Rec.{Rec};
 ghost use Rattle.record_list.specs.declared.found.Found.{Found};
 ghost use Rattle.judged_records.specs.declared.note.Note.{Note};
-ghost use Rattle.flash_picture.specs.Laws.{ArrowTells, CellTells, LabelTells, SvgCellTells, SvgLabelTells, SvgWalkTells, WalkSays, WalkTells, WordsTell};
+ghost use Rattle.flash_picture.specs.Laws.{ArrowTells, CellTells, LabelTells, PlaceTells, SelectionTells, SvgCellTells, SvgLabelTells, SvgWalkTells, WalkSays, WalkTells, WordsTell};
 ghost use Rattle.flash_picture.specs.declared.marks.Marks.{Marks};
+ghost use Rattle.flash_picture.specs.declared.selection.Selection.{Selection};
 
 /// A cell says current, loose, stale, held or discard exactly where its record is so, whatever else its slot says.
 pub fn cells_tell()
@@ -27,8 +28,9 @@ pub fn words_tell()
         WordsTell its notes marks slot }
 {}
 
-/// The walk of a page is drawn exactly where its newest version does not count, over the links of the walk that decides
-/// this, and it ends in the words for what its last link shows.
+/// The newest record of each page is named in a line exactly where its version does not count: in that of its own walk,
+/// or of one that leads to it. A line is over the links of the walk that decides this, and ends in the words for what
+/// its last link shows.
 pub fn walks_tell()
     ensures tells { (protocol : Protocol) (list : List Found) (logical page : ℕ) →
         WalkTells protocol list logical page }
@@ -36,10 +38,16 @@ pub fn walks_tell()
         WalkSays protocol list logical page }
 {}
 
+/// The cell of a slot stands in the row of its block. In SVG it stands below the cells of the blocks before.
+pub fn places_tell()
+    ensures { (its : Config) (notes : List Note) (marks : Marks) (slot : ℕ) →
+        slot < slots_of (shape_of its) → PlaceTells its notes marks slot }
+{}
+
 /// A picture in SVG has the cell of each slot, with the words of which `cells_tell` and `words_tell` speak, the label
 /// of each block, of which `labels_tell` does, and the lines of each walk, of which `walks_tell` does. An arrow leads
 /// from the cell of a record to that of the lowest slot which holds the record of its link, and there is no other
-/// arrow.
+/// arrow. Those of loose and held records, and no others, are in view without a pointer.
 pub fn svg_tells()
     ensures cells { (its : Config) (notes : List Note) (marks : Marks) (slot : ℕ) →
         slot < slots_of (shape_of its) → SvgCellTells its notes marks slot }
@@ -49,4 +57,10 @@ pub fn svg_tells()
         page < its.logical → SvgWalkTells its notes marks page }
     ensures arrows { (its : Config) (notes : List Note) (marks : Marks) (slot : ℕ) →
         slot < slots_of (shape_of its) → ArrowTells its notes marks slot }
+{}
+
+/// Where a selection is asked for, each slot that it names has its line, and no other slot has one.
+pub fn selection_tells()
+    ensures { (its : Config) (notes : List Note) (marks : Marks) (selection : Selection) (slot : ℕ) →
+        slot < slots_of (shape_of its) → SelectionTells its notes marks selection slot }
 {}

@@ -5,8 +5,9 @@ ghost use Rattle.std.specs.List.{flat_map};
 ghost use Rattle.record_list.specs.Verdict.{link_of, newest_name};
 ghost use Rattle.sorted_records.specs.SortedRecords.{EndsBelow};
 ghost use Rattle.verdict_report.specs.Walks.{is_end, walk_links};
-ghost use Rattle.flash_picture.specs.Walks.{end_by, end_of, end_text, last_steps, leaving, leaving_at, leaving_by, line_text, start_text, step_text, steps_of, steps_over, walk_line, walks_text};
+ghost use Rattle.flash_picture.specs.Walks.{AreLedTo, end_by, end_of, end_text, last_steps, leaving, leaving_at, leaving_by, line_text, start_text, step_text, steps_of, steps_over, walk_line, walks_text};
 
+use crate::own_lines::{line_end, pages_led_to};
 use crate::text::{add, add_name, add_number};
 use record_list::Why;
 use sorted_records::{Orbit, SortedRecords};
@@ -97,7 +98,7 @@ fn end_by(why: Why, last: Option<Link>) -> Option<End>
 
 /// The link at which the walk from the newest record of a page leaves the newest records, if it does. It is the link of
 /// the record at which the orbit ends, so a picture of long walks takes no longer.
-fn leaving_at(chart: &SortedRecords, logical: u32, page: u32) -> Option<Link>
+pub fn leaving_at(chart: &SortedRecords, logical: u32, page: u32) -> Option<Link>
     ensures { result ≡ leaving_at chart.now logical page }
 {
     match chart.orbit(page) {
@@ -108,7 +109,7 @@ fn leaving_at(chart: &SortedRecords, logical: u32, page: u32) -> Option<Link>
 
 /// The link at which the walk from the newest record of a page leaves the newest records, by the orbit of the place of
 /// that record.
-fn leaving_by(chart: &SortedRecords, logical: u32, orbit: Orbit) -> Option<Link>
+pub fn leaving_by(chart: &SortedRecords, logical: u32, orbit: Orbit) -> Option<Link>
     requires { EndsBelow (length chart.now) orbit }
     ensures { result ≡ leaving_by chart.now logical orbit }
 {
@@ -211,7 +212,7 @@ pub fn newest_name(chart: &SortedRecords, page: u32) -> Link
     }
 }
 
-/// Appends a line for each page whose newest version does not count.
+/// Appends the lines of the walks of all pages whose newest version does not count.
 pub fn write_walks(
     alloc: Global,
     chart: &SortedRecords,
@@ -222,15 +223,34 @@ pub fn write_walks(
     ensures { OnOk result (text.new.items
         ≡ text.old.items ++ walks_text protocol chart.now logical) }
 {
+    let led = pages_led_to(alloc, chart, protocol, logical)?;
+    let outcome = write_lines(alloc, chart, protocol, logical, &led, text);
+    drop(led);
+    outcome
+}
+
+/// Appends the lines of all pages, by whether a walk leads to their newest records.
+fn write_lines(
+    alloc: Global,
+    chart: &SortedRecords,
+    protocol: Protocol,
+    logical: u32,
+    led: &[bool],
+    text: &mut Vec<u8>,
+) -> Result<(), Memory>
+    requires { AreLedTo protocol chart.now logical logical led.now }
+    ensures { OnOk result (text.new.items
+        ≡ text.old.items ++ walks_text protocol chart.now logical) }
+{
     for page in 0..logical {
-        let end = End::of_page(chart, protocol, logical, page);
+        let end = line_end(chart, protocol, logical, page, led[page as usize]);
         write_walk(alloc, chart, logical, page, end, text)?;
     }
     Ok(())
 }
 
-/// Appends the line of a page whose walk ends so, if its newest version does not count.
-fn write_walk(
+/// Appends the line of a page that ends so, if it has one.
+pub fn write_walk(
     alloc: Global,
     chart: &SortedRecords,
     logical: u32,

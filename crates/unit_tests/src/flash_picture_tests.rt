@@ -137,6 +137,43 @@ fn draws_a_ring_that_a_walk_comes_to(rt: HostRuntime) {
     assert!(rt; is_ring_drawn(rt.alloc()));
 }
 
+/// Notes, and the walks that their picture tells: none that is the rest of another one, and two that have the same
+/// rest, as in unsound images.
+const SHARED: &str = "\
+0.1>1.1 blank 1.1>2.1 | walk 0.1 -> 1.1 -> 2.1 absent
+2.1>0.1 blank 1.1>2.1 0.1>0.2 | walk 1.1 -> 2.1 -> 0.1 -> 0.2 absent
+0.1>1.1 2.1>1.1 blank 1.1>1.2 | walk 0.1 -> 1.1 -> 1.2 absent;walk 2.1 -> 1.1 -> 1.2 absent";
+
+/// How many walks a picture tells.
+fn walk_count(picture: &[u8]) -> usize {
+    let mut count: usize = 0;
+    for at in 0..picture.len() {
+        if picture[at..].starts_with(b"walk ") {
+            count = count.wrapping_add(1);
+        }
+    }
+    count
+}
+
+/// Whether the picture of these notes tells these walks, and no others.
+fn is_shared_told(alloc: Global, line: &str) -> bool {
+    let (notes, walks) = match line.split_once(" | ") {
+        Some(parts) => parts,
+        None => return false,
+    };
+    let mut out = Vec::new(alloc);
+    draws(alloc, Protocol::Scc, notes, SPARE, &mut out)
+        && stands_in(alloc, walks, &out)
+        && walk_count(&out) == walk_count(walks.as_bytes())
+}
+
+#[test]
+fn tells_a_shared_walk_once(rt: HostRuntime) {
+    for line in SHARED.split('\n') {
+        assert!(rt; is_shared_told(rt.alloc(), line), "{line}");
+    }
+}
+
 /// Of two records of one name, as unsound images have them, the one straddles the link of a loose record.
 const NAMESAKES: &str = "0.1>1.1 1.2>1.2/1 1.2>1.2 1.3>1.3/2";
 
@@ -182,13 +219,13 @@ const COPIED: &str = "0.1>1.1 blank 0.2>2.1/1 1.1>0.1 damaged 1.1>0.1";
 /// What stands in the picture of that: cells with their words, the label of the spare, arrows, and a walk. A link to a
 /// record that stands twice leads to the lower slot.
 const PIECES: &str = "\
-height='436'
+width='800' height='400' viewBox='0 0 800 400'
 <title>slot 2: 0.2 loose, link 2.1, back 1</title>
 <g class='1.1 current'><title>slot 3: 1.1 current, link 0.1, back 0</title>
-<g class='spare 3'><text x='8' y='360'>spare 3</text></g>
-<path d='M132,144C132,122 236,178 236,200'/>
-<path d='M252,200C252,178 116,122 116,144'/>
-<path d='M252,288C252,266 116,122 116,144'/>
+<g class='spare 3'><text x='8' y='330'>spare 3</text></g>
+<path d='M132,174C132,164 236,200 236,210'/>
+<path d='M252,210C252,200 116,164 116,174'/>
+<path d='M252,278C252,268 116,164 116,174'/>
 >walk 0.2 -> 2.1 absent</tspan>";
 
 /// Whether they stand there, with three arrows.
@@ -248,20 +285,25 @@ fn chained() -> [Note; 64] {
 }
 
 /// What stands in the pictures of that, as text and in SVG: of a walk of more than sixteen links the first ones and
-/// the last, and in SVG the rest of a long line in the next one.
+/// the last, in a line that names seventeen pages, and one more line, that of the seventeenth page from the end; and in
+/// SVG the rest of a long line in the next one.
 const LONG: &str = "\
+|;walk 0.1 -> 1.1 -> 2.1 ->
 14.1 -> 15.1 -> 16.1 .. -> 18.1 absent;walk 1.1 -> 2.1 ->
-15.1 -> 16.1 -> 17.1 .. -> 18.1 absent;walk 2.1 -> 3.1 ->
-15.1 -> 16.1 -> 17.1 -> 18.1 absent;walk 3.1 -> 4.1 ->";
+15.1 -> 16.1 -> 17.1 .. -> 18.1 absent;";
 
 const LONG_SVG: &str = "\
-15.1 -> 16.1</tspan>;<tspan class='walk' x='40' dy='20'> .. -> 18.1 absent</tspan>;
-height='1028'";
+-> 11.1</tspan>;<tspan class='walk' x='40' dy='20'> -> 12.1 -> 13.1 -> 14.1 ->
+-> 15.1 -> 16.1 .. -> 18.1 absent</tspan>;
+<g class='arrow 16.1 loose'><path d='
+height='572'";
 
-/// Whether the picture as text has its pieces.
+/// Whether the picture as text has its pieces, and no other walks.
 fn are_long_walks_drawn(alloc: Global) -> bool {
     let mut out = Vec::new(alloc);
-    draw(alloc, wide_device(), &chained(), SPARE, &mut out).is_ok() && has_pieces(alloc, LONG, &out)
+    draw(alloc, wide_device(), &chained(), SPARE, &mut out).is_ok()
+        && has_pieces(alloc, LONG, &out)
+        && walk_count(&out) == 2
 }
 
 /// Whether the picture in SVG has its pieces.

@@ -10,6 +10,8 @@ use Rattle.judged_records.specs.declared.note.Note.{Note}
 use Rattle.flash_picture.specs.declared.marks.Marks.{Marks}
 use Rattle.flash_picture.specs.Picture.{picture, heading, cells_of, breach_line}
 use Rattle.flash_picture.specs.Map.{map_text}
+use Rattle.flash_picture.specs.Selection.{selected, selected_lines, selected_walks}
+use Rattle.flash_picture.specs.declared.selection.Selection.{Selection}
 use Rattle.flash_picture.specs.Svg.{above, svg}
 use Rattle.flash_picture.specs.Walks.{walks_text}
 use Rattle.tx_types.specs.Config.{shape_of}
@@ -23,7 +25,7 @@ use Rattle.program_base.proofs.Refusing.{line_said, never_done, never_fault}
 use Rattle.program_base.proofs.Spoken.{faults_tried, files_asked, files_said, files_tried, same_files}
 use Rattle.view_command_line.specs.Request.{Request}
 use Rattle.view_command_line.specs.Ending.{Ending, Drawn, IsEnding, Refused, said, status}
-use Rattle.view_command_line.specs.declared.words.Form.TheVariants.{Text, Svg}
+use Rattle.view_command_line.specs.declared.words.Form.TheVariants.{Text, Svg, Selected}
 use Rattle.view_command_line.specs.Top.{CallFails, EndsCall, Decided, Faulted, Starved, LoadFails, SayStops, WorkRunsOut, after_load}
 
 -- ---- what is said
@@ -50,11 +52,31 @@ svg_said : (its : Config) (notes : List Note) (marks : Marks) (desk : DeskState)
 unfolding svg above
 svg_said its notes marks desk = refl
 
+-- what is said of a selection begins as a picture does
+selected_said : (its : Config) (notes : List Note) (marks : Marks) (selection : Selection) (desk : DeskState) →
+    after_text (selected its notes marks selection) desk
+    ≡ after_answer (with_said (selected its notes marks selection)) desk
+unfolding selected
+selected_said its notes marks selection desk = by_protocol its.protocol
+  where
+    by_protocol : (protocol : Protocol) →
+        after_text (heading (record its { protocol = protocol })
+        ++ selected_lines (shape_of its) (cells_of its notes) marks selection
+        ++ selected_walks its.protocol (found_in notes) its.logical selection
+        ++ breach_line marks.breach) desk
+        ≡ after_answer (with_said (heading (record its { protocol = protocol })
+        ++ selected_lines (shape_of its) (cells_of its notes) marks selection
+        ++ selected_walks its.protocol (found_in notes) its.logical selection
+        ++ breach_line marks.breach)) desk
+    by_protocol Scc = refl
+    by_protocol Bpcc = refl
+
 -- each ending has a text
 said_whole : (ending : Ending) (desk : DeskState) → after_text (said ending) desk
     ≡ after_answer (with_said (said ending)) desk
 said_whole (Drawn Text its image marks) desk = picture_said its _ marks desk
 said_whole (Drawn Svg its image marks) desk = svg_said its _ marks desk
+said_whole (Drawn (Selected selection) its image marks) desk = selected_said its _ marks selection desk
 said_whole (Refused why) desk = line_said why desk
 
 -- ---- the end

@@ -14,10 +14,11 @@ use Rattle.desk_io.specs.Desk.{DeskState, FileFound, Finds}
 use Rattle.program_base.specs.Refusals.{ImageEnding, BadWords, Missing, TooLong, BadImage, Unsound, image_line, image_status}
 use Rattle.flash_picture.specs.declared.marks.Marks.{Marks}
 use Rattle.flash_picture.specs.Picture.{picture}
+use Rattle.flash_picture.specs.Selection.{selected}
 use Rattle.flash_picture.specs.Svg.{svg}
 use Rattle.view_command_line.specs.Request.{Request}
 use Rattle.view_command_line.specs.declared.words.Form.{Form}
-use Rattle.view_command_line.specs.declared.words.Form.TheVariants.{Text, Svg}
+use Rattle.view_command_line.specs.declared.words.Form.TheVariants.{Text, Svg, Selected}
 use Rattle.view_command_line.specs.declared.opening.Opening.{Opening}
 use Rattle.view_command_line.specs.declared.opening.Opening.TheVariants as opening
 
@@ -34,6 +35,7 @@ status (Refused why) = image_status why
 abbrev pub picture_in : Form → Config → List Note → Marks → List ℕ
 picture_in Text its notes marks = picture its notes marks
 picture_in Svg its notes marks = svg its notes marks
+picture_in (Selected selection) its notes marks = selected its notes marks selection
 
 -- what is said
 abbrev pub said : Ending → List ℕ

@@ -6,7 +6,7 @@ ghost use Rattle.view_command_line.specs.Ending.{Drawing, Gives, Opens, Refused,
 
 use crate::opening::{Opening, notes, open};
 use crate::words::Form;
-use flash_picture::{Marks, draw, draw_svg};
+use flash_picture::{Marks, draw, draw_selected, draw_svg};
 use judged_records::Note;
 use mem_flash::MemFlash;
 use program_base::{ImageRefusal, ImageStop, open_image};
@@ -85,6 +85,9 @@ fn text(
     match form {
         Form::Text => draw(alloc, config, notes, marks, &mut text)?,
         Form::Svg => draw_svg(alloc, config, notes, marks, &mut text)?,
+        Form::Selected(selection) => {
+            draw_selected(alloc, config, notes, marks, selection, &mut text)?
+        }
     }
     Ok(text)
 }

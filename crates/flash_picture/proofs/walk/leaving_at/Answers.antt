@@ -1,7 +1,6 @@
-mod Leaving
 use Rattle.flash_picture.proofs.Common.{◌∙◌}
 use Rattle.sorted_records.proofs.OfWalk.WalkOrbits.{ends_below}
-use Rattle.flash_picture.proofs.walk.leaving_at.Answers.Leaving.{left_none, left_some}
+use Rattle.flash_picture.proofs.Leaving.{left_none, left_some}
 use Rattle.flash_picture.proofs.walk.leaving_at.Goals as goal
 
 pub leaving_by-requires : goal.leaving_by-requires

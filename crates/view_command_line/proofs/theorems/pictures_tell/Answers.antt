@@ -7,6 +7,7 @@ use Rattle.judged_records.proofs.OfLaws.NotedImages.{found_in_notes}
 use Rattle.flash_picture.specs.Map.{map_text}
 use Rattle.flash_picture.specs.Picture.{breach_line, cells_of, heading, picture}
 use Rattle.flash_picture.specs.Walks.{walks_text}
+use Rattle.flash_picture.proofs.PlaceTells.{place_tells}
 use Rattle.flash_picture.proofs.WalkTells.{walk_says, walk_tells}
 use Rattle.view_command_line.proofs.theorems.pictures_tell.Answers.Pictures.{bare_tells, breach_tells, rows_tell, slots_tell}
 use Rattle.view_command_line.proofs.theorems.pictures_tell.Goals as goal
@@ -22,6 +23,9 @@ returns-clause-cells c = slots_tell
 
 pub returns-clause-bare : goal.returns-clause-bare
 returns-clause-bare c = bare_tells
+
+pub returns-clause-places : goal.returns-clause-places
+returns-clause-places c = λ its image marks. place_tells its (notes_of its.protocol image) marks
 
 pub returns-clause-walks : goal.returns-clause-walks
 returns-clause-walks c = λ its image page. walk_tells its.protocol (records_in its.protocol image) its.logical page

@@ -3,5 +3,5 @@ use Rattle.flash_picture.proofs.svg_map.Plan.write_cells.Given as goal
 
 abbrev pub invariant-loop-slot : goal.invariant-loop-slot
 invariant-loop-slot l =
-    l.text.items ≡ l.initial.text.items ++ flat_map (cell_svg l.self.grid l.self.map.cells.now l.self.map.marks)
-    (range_with_len 0 l.slot)
+    l.text.items ≡ l.initial.text.items ++ flat_map (cell_svg l.self.grid l.chart l.self.map.cells.now
+    l.self.map.marks) (range_with_len 0 l.slot)

@@ -6,7 +6,7 @@ pub returns : goal.returns
 returns c =
     let old = c.args.text.now.items in
     let begun = c.open_label.new.text.items in
-    let place = c.in_ok-open_words.ensures ∙ ap (λ top. begun ++ words_begin (record { left = 8; top = top + 72 }))
+    let place = c.in_ok-open_words.ensures ∙ ap (λ top. begun ++ words_begin (record { left = 8; top = top + 58 }))
     c.top_of_block-top.ensures.top in
     let said = c.write_label_words.new.text.items in
     let words = then begun _ said (codes "</text>") (said ++ codes "</text>")

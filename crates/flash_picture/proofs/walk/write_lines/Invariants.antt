@@ -1,6 +1,6 @@
 use Rattle.flash_picture.proofs.Common.{◌≡◌, ◌++◌, flat_map, range_with_len}
 use Rattle.flash_picture.specs.Walks.{walk_text}
-use Rattle.flash_picture.proofs.walk.write_walks.Given as goal
+use Rattle.flash_picture.proofs.walk.write_lines.Given as goal
 
 abbrev pub invariant-loop-page : goal.invariant-loop-page
 invariant-loop-page l =

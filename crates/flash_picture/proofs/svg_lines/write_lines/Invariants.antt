@@ -1,6 +1,6 @@
 use Rattle.flash_picture.proofs.Common.{◌≡◌, ◌≤◌, ◌++◌, flat_map, range_with_len, walk_svg, walks_take}
 use Rattle.std.proofs.Common.{◌*◌}
-use Rattle.flash_picture.proofs.svg_lines.write_walks.Given as goal
+use Rattle.flash_picture.proofs.svg_lines.write_lines.Given as goal
 
 abbrev pub invariant-loop-page : goal.invariant-loop-page
 invariant-loop-page l =

@@ -1,7 +1,7 @@
 use Rattle.flash_picture.proofs.Common.{◌∙◌, ◌+◌, ◌++◌, ap, ap₂, arith, sym, walk_rows, walk_svg, walk_takes, walks_take}
 use Rattle.std.proofs.Common.{add-one}
 use Rattle.flash_picture.proofs.Texts.{text_more}
-use Rattle.flash_picture.proofs.svg_lines.write_walks.Goals as goal
+use Rattle.flash_picture.proofs.svg_lines.write_lines.Goals as goal
 
 pub loop-page-preserved : goal.loop-page-preserved
 loop-page-preserved c =
@@ -11,9 +11,9 @@ loop-page-preserved c =
       text_more (walk_svg c.args.protocol list logical) page c.args.text.now.items c.loop-page.text.items
           _ c.loop-page.invariant.0
           (c.in_ok-lines.ensures.text ∙ ap (λ e. c.loop-page.text.items ++ walk_rows list logical page e)
-          c.of_page-end.ensures),
+          c.line_end-end.ensures),
       ap₂ (λ a b. a + b) c.loop-page.invariant.1 (c.in_ok-lines.ensures.lines
-          ∙ ap (walk_takes list logical page) c.of_page-end.ensures)
+          ∙ ap (walk_takes list logical page) c.line_end-end.ensures)
           ∙ ap (walks_take c.args.protocol list logical) (sym (add-one page)),
       omega (arith, c.in_ok-lines.ensures.few, c.loop-page.invariant.2),
     )

@@ -1,7 +1,7 @@
 use Rattle.flash_picture.proofs.Common.{◌∙◌, ◌++◌, ap, walk_line}
 use Rattle.flash_picture.specs.Walks.{walk_text}
 use Rattle.flash_picture.proofs.Texts.{text_more}
-use Rattle.flash_picture.proofs.walk.write_walks.Goals as goal
+use Rattle.flash_picture.proofs.walk.write_lines.Goals as goal
 
 pub loop-page-preserved : goal.loop-page-preserved
 loop-page-preserved c =
@@ -9,4 +9,4 @@ loop-page-preserved c =
     c.loop-page.text.items _
     c.loop-page.invariant
     (c.in_ok-write_walk.ensures ∙ ap (λ e. c.loop-page.text.items ++ walk_line c.args.chart.now c.args.logical
-    c.loop-page.page e) c.of_page-end.ensures)
+    c.loop-page.page e) c.line_end-end.ensures)

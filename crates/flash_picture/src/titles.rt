@@ -1,0 +1,39 @@
+//! What is said of a slot in one line.
+ghost use Rattle.std.specs.Prelude.{◌≡◌, ◌++◌, OnOk};
+ghost use Rattle.flash_picture.specs.Svg.{links_text, slot_title};
+
+use crate::cell::Cell;
+use crate::map::Map;
+use crate::text::{add, add_count, add_name, add_number};
+use std::alloc::AllocError;
+use tx_types::Slot;
+
+impl Map<'_> {
+    /// Appends the number of a slot, the words of its cell, and what its record links to.
+    pub fn write_slot_title(&self, slot: Slot, text: &mut Vec<u8>) -> Result<(), AllocError>
+        ensures { OnOk result (text.new.items
+            ≡ text.old.items ++ slot_title self.now.cells.now self.now.marks slot.0) }
+    {
+        add(b"slot ", text)?;
+        add_count(slot.0, text)?;
+        add(b": ", text)?;
+        self.write_slot(slot, text)?;
+        write_links(self.cell(slot), text)
+    }
+}
+
+/// Appends what a record links to, and its back version.
+fn write_links(cell: Cell, text: &mut Vec<u8>) -> Result<(), AllocError>
+    ensures { OnOk result (text.new.items ≡ text.old.items ++ links_text cell) }
+{
+    match cell {
+        Cell::Blank => Ok(()),
+        Cell::Damaged => Ok(()),
+        Cell::Holds { rec, .. } => {
+            add(b", link ", text)?;
+            add_name(rec.next, text)?;
+            add(b", back ", text)?;
+            add_number(rec.back, text)
+        }
+    }
+}
