@@ -1,0 +1,13 @@
+mod Common
+mod Slots
+mod Spared
+mod Quiet
+mod Arrays
+mod Grows
+mod Steps
+mod Left
+mod Folds
+mod Doubts
+mod Commands
+mod Sessions
+mod OnImages
