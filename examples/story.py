@@ -24,6 +24,8 @@ from programs import NOT_STARTED, built_program, stop_at_signals
 
 SMALL = "scc 16 4 4 2 20 7"
 WORDS = ("current", "loose", "stale", "held", "discard", "damaged", "blank", "!")
+LETTERS = {"c": "current", "l": "loose", "s": "stale", "x": "damaged", ".": "blank", "!": "unsound"}
+ROW = r"((?:block|spare) [0-9 ]{5}| {11})([.!xclsCLS]+)"
 
 STYLE = """
 :root { color-scheme: light dark; --page: #fff; --ink: #222; --dim: #666; --line: #ccc; --here: #e8f0fe; --new: #c00 }
@@ -45,7 +47,7 @@ p, samp { margin: 0; color: var(--dim) }
 p { font-size: 12px }
 #stage { overflow: auto; padding: 1em }
 #stage pre { font: 12px/1.5 monospace; margin: 0 }
-#stage .changed rect, #stage rect.changed { stroke: var(--new); stroke-width: 3 }
+#stage .changed > rect, #stage rect.changed { stroke: var(--new); stroke-width: 3 }
 pre .changed { outline: 2px solid var(--new) }
 pre .current { background: #4a45 } pre .loose { background: #e905 } pre .stale { background: #8885 }
 pre .damaged { background: #d445 } pre .blank { color: var(--dim) } pre .held { text-decoration: underline }
@@ -233,10 +235,19 @@ def cell_html(cell: str) -> str:
     return f"<span class='{classes}'>{html.escape(cell)}</span>"
 
 
+def letter_html(letter: str) -> str:
+    """A letter of an overview as text, with what it stands for as classes."""
+    return f"<span class='{LETTERS[letter.lower()]}{' held' if letter.isupper() else ''}'>{letter}</span>"
+
+
 def text_html(picture: str) -> str:
-    """A picture as text. Cells stand between bars."""
+    """A picture as text. Cells stand between bars, and letters behind a label."""
     lines = []
     for line in picture.splitlines():
+        letters = re.fullmatch(ROW, line)
+        if letters:
+            lines.append(letters[1] + "".join(map(letter_html, letters[2])))
+            continue
         label, *cells = line.split("|")
         rest = "|".join(map(cell_html, cells[:-1]))
         lines.append(f"{html.escape(label)}|{rest}|" if cells else html.escape(label))

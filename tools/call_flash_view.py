@@ -36,6 +36,10 @@ CELLS = ((r"(?<= )current\b", "32"), (r"(?<= )loose\b", "33"), (r"(?<= )stale\b"
          (r"(?<=\|)blank\b", "2"), (r"(?<=\|)damaged\b", "31"), (r"(?<= )!", "1;31"))
 STARTS = ((r"^spare", "34"), (r"^unsound", "1;31"))
 
+# A row of letters, and the escapes for these.
+ROW = re.compile(r"((?:block|spare) [0-9 ]{5}| {11})([.!xclsCLS]+)\n")
+LETTERS = {"c": "32", "l": "33", "s": "2", "x": "31", "!": "1;31"}
+
 
 class Asked(NamedTuple):
     """What the words ask for. `form` has the words for a form of its own, and `wrong` says what is wrong."""
@@ -81,7 +85,13 @@ def asked_for(words: Sequence[str]) -> Asked:
 
 def painted(text: str) -> str:
     """A picture as text with colours."""
+    def paint_letters(found: "re.Match[str]") -> str:
+        return f"\x1b[{LETTERS[found[0][0].lower()]}m{found[0]}\x1b[0m"
+
     def paint(line: str) -> str:
+        row = ROW.fullmatch(line)
+        if row:
+            line = row[1] + re.sub(r"[cC]+|[lL]+|[sS]+|x+|!", paint_letters, row[2]) + "\n"
         for pattern, code in (CELLS if "|" in line else ()) + STARTS:
             line = re.sub(pattern, lambda it, code=code: f"\x1b[{code}m{it[0]}\x1b[0m", line)
         return line

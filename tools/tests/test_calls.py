@@ -108,6 +108,10 @@ class Pictures(unittest.TestCase):
         self.assertEqual(row, "block 0    |0.1 \x1b[33mloose\x1b[0m \x1b[36mheld\x1b[0m|\x1b[2mblank\x1b[0m      |\n"
                               "walk 0.1 loose\n")
 
+    def test_letters_of_an_overview_have_colours(self):
+        self.assertEqual(painted("block 12   ccS.\nspare 3    ..\n"),
+                         "block 12   \x1b[32mcc\x1b[0m\x1b[2mS\x1b[0m.\n\x1b[34mspare\x1b[0m 3    ..\n")
+
 
 if __name__ == "__main__":
     unittest.main()

@@ -98,6 +98,10 @@ class Lines(unittest.TestCase):
         self.assertEqual(found, [(["One page."], "write 1 0=41", b"0=41\n"), ([], "finish 1", b"h 1\r\n"),
                                  (["Read & see."], "read 0", b"ead 0")])
 
+    def test_letters_of_an_overview_are_cells(self):
+        self.assertEqual(story.text_html("spare 3    S.\n"),
+                         "<pre>spare 3    <span class='stale held'>S</span><span class='blank'>.</span></pre>")
+
 
 if __name__ == "__main__":
     unittest.main()

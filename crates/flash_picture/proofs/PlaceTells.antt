@@ -1,6 +1,6 @@
 -- Where the cells of a picture stand.
-use Rattle.flash_picture.proofs.Common.{◌≡◌, ℕ, zero, suc, ◌+◌, ◌<◌, ◌≤◌, List, ◌∷◌, ◌++◌, ap, arith, codes, flat_map, range_with_len, Config, shape_of, Note, found_in, Marks, cell_at, slot_text, cells_of, grid_of}
-use Rattle.std.proofs.Common.{◌*◌, ◌/◌, ◌%◌, max, min, subst}
+use Rattle.flash_picture.proofs.Common.{◌≡◌, ℕ, zero, suc, ◌+◌, ◌<◌, ◌≤◌, List, ◌∷◌, ◌++◌, arith, codes, Config, shape_of, Note, found_in, Marks, slot_text, cells_of, grid_of}
+use Rattle.std.proofs.Common.{◌*◌, ◌/◌, ◌%◌, subst}
 use Rattle.std.proofs.lemmas.Grind.{div_ceil_times}
 use Rattle.std.proofs.lemmas.Nat.{div-add-mod', div_below, le-div, mod_below, mul-le, row-Below}
 use Rattle.std.proofs.Math.Nat.{le-max_left, suc-mul}
@@ -8,18 +8,18 @@ use Rattle.tx_types.specs.Config.{blocks_of, slots_of}
 use Rattle.flash_picture.specs.declared.cell.Cell.{Cell}
 use Rattle.flash_picture.specs.declared.grid.Grid.{Grid}
 use Rattle.flash_picture.specs.Grid.{cells_in_row, rows_of_block, spot_of, top_of_block}
-use Rattle.flash_picture.specs.Laws.{PlaceTells, Shows, block_with, cell_in_row, row_of}
+use Rattle.flash_picture.specs.Laws.{PlaceTells, Shows, cell_in_row}
 use Rattle.flash_picture.specs.Map.{before_cell, block_text, cell_text, cells_text, die_text, map_text, padded, widest}
 use Rattle.flash_picture.specs.Picture.{breach_line, heading, picture}
 use Rattle.flash_picture.specs.Walks.{walks_text}
 use Rattle.flash_picture.proofs.SvgTells.{shows_left, shows_piece, shows_right, shows_self, shows_through}
 
 -- a product above a number has no factor 0
-first_some : (a b n : ℕ) → n < a * b → 0 < a
+pub first_some : (a b n : ℕ) → n < a * b → 0 < a
 first_some zero b n less = absurd (omega arith)
 first_some (suc a) b n less = omega arith
 
-second_some : (a b n : ℕ) → n < a * b → 0 < b
+pub second_some : (a b n : ℕ) → n < a * b → 0 < b
 second_some a zero n less = absurd (omega arith)
 second_some a (suc b) n less = omega arith
 

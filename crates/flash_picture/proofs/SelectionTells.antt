@@ -8,7 +8,7 @@ use Rattle.record_list.specs.Current.{cur}
 use Rattle.flash_picture.specs.declared.selection.Selection.{Selection}
 use Rattle.flash_picture.specs.declared.selection.Selection.TheVariants as chosen
 use Rattle.flash_picture.specs.Cells.{rank_by}
-use Rattle.flash_picture.specs.Laws.{HoldsInView, HoldsPage, IsInView, Names, SelectionTells, Shows, line_of}
+use Rattle.flash_picture.specs.Laws.{HoldsInView, HoldsPage, IsInView, Names, SelectionTells, line_of}
 use Rattle.flash_picture.specs.Picture.{breach_line, heading}
 use Rattle.flash_picture.specs.Selection.{is_of_page, is_selected, selected, selected_line, selected_lines, selected_walks, slot_line}
 use Rattle.flash_picture.specs.Svg.{is_above, is_in_view}
@@ -83,7 +83,8 @@ selection_tells its notes marks selection slot within =
       shown = shows_left (heading its ++ lines ++ walks) (breach_line marks.breach) part
           (shows_left (heading its ++ lines) walks part
           (shows_right (heading its) lines part
-          (shows_piece (selected_line shape cells marks selection) 0 (slots_of shape) slot (omega arith) (omega arith))));
+          (shows_piece (selected_line shape cells marks selection) 0 (slots_of shape) slot (omega arith)
+          (omega arith))));
       line = λ is. cond-true named_so line [] (names.1 is);
       none = λ no. cond-false named_so line [] (false_from_ne_true named_so (λ t. no (names.0 t)));
     }

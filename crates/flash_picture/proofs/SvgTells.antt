@@ -1,5 +1,5 @@
 -- The cells and labels of a picture in SVG are those of which the words tell.
-use Rattle.flash_picture.proofs.Common.{◌≡◌, ℕ, zero, suc, ◌+◌, ◌<◌, ◌≤◌, Bool, true, false, Option, None, Some, List, [], ◌∷◌, ◌++◌, ◌||◌, refl, sym, ap, ◌∙◌, append_assoc, codes, arith, inl, inr, join_with_byte, range_with_len, false≢true, cases_Bool, cases_lt, cond-true, cond-false, Config, Link, Rec, shape_of, Note, found_in, note_at, Found, has_name, Cell, Marks, cell_at, cell_of, cell_words, is_named, slot_text, word_if, height, cells_of, above, append-nil, arrow_svg, cell_svg, cells_svg, cond, die_heading, grid_of, is_held, label_svg, lines_svg, view_svg, views_svg, walk_svg, walks_svg, walks_take}
+use Rattle.flash_picture.proofs.Common.{◌≡◌, ℕ, zero, suc, ◌+◌, ◌<◌, ◌≤◌, Bool, true, false, Option, None, Some, List, [], ◌∷◌, ◌++◌, ◌||◌, refl, sym, ap, ◌∙◌, append_assoc, codes, arith, inl, inr, join_with_byte, range_with_len, false≢true, cases_Bool, cases_lt, cond-true, cond-false, Config, Link, Rec, shape_of, Note, found_in, note_at, Found, has_name, Cell, Marks, cell_at, cell_of, cell_words, is_named, slot_text, word_if, height, cells_of, above, append-nil, arrow_svg, cell_svg, cells_svg, die_heading, grid_of, is_held, label_svg, lines_svg, view_svg, views_svg, walk_svg, walks_svg, walks_take}
 use Rattle.std.proofs.Common.{filter, flat_map, AllPairs, Contains}
 use Rattle.record_list.specs.Current.{cur}
 use Rattle.flash_picture.specs.declared.cell.Rank.{Rank}

@@ -138,7 +138,7 @@ ranked current version = elim (eqb_tells version current) [
 ]
 
 module _ (current version : ℕ) where
-  rank_current : (rank_by current version ≡ Current) ↔ (version ≡ current)
+  pub rank_current : (rank_by current version ≡ Current) ↔ (version ≡ current)
   rank_current = elim (ranked current version) [
     | At h e ↦ (λ _. h, λ _. e)
     | Above h e ↦ (λ f. absurd (let g = sym e ∙ f in cc), λ f. absurd (omega arith))
@@ -152,7 +152,7 @@ module _ (current version : ℕ) where
     | Below h e ↦ (λ f. absurd (let g = sym e ∙ f in cc), λ f. absurd (omega arith))
   ]
 
-  rank_stale : (rank_by current version ≡ Stale) ↔ (version < current)
+  pub rank_stale : (rank_by current version ≡ Stale) ↔ (version < current)
   rank_stale = elim (ranked current version) [
     | At h e ↦ (λ f. absurd (let g = sym e ∙ f in cc), λ f. absurd (omega arith))
     | Above h e ↦ (λ f. absurd (let g = sym e ∙ f in cc), λ f. absurd (omega arith))
@@ -221,7 +221,7 @@ label_tells marks block = label_spare marks.spare block
 
 -- ---- the words of any slot
 
-is_mark : (breach : Option Breach) (slot : ℕ) → (is_named breach slot ≡ true) ↔ IsNamed breach slot
+pub is_mark : (breach : Option Breach) (slot : ℕ) → (is_named breach slot ≡ true) ↔ IsNamed breach slot
 is_mark None slot = (λ e. absurd (false≢true e), λ (b, e, at). absurd cc)
 is_mark (Some b) slot = elim (eqb_tells b.slot.0 slot) [
   | inl h ↦ (λ _. (b, refl, h.1), λ _. h.0)

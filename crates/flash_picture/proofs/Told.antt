@@ -1,5 +1,5 @@
 -- The newest record of each page that does not count is named in a line.
-use Rattle.flash_picture.proofs.Common.{◌≡◌, ℕ, zero, suc, ◌+◌, ◌-◌, ◌<◌, ◌≤◌, Bool, true, false, ◌==◌, ◌||◌, cond, Option, None, Some, List, [], ◌∷◌, length, take, refl, sym, ap, ◌∙◌, inl, inr, arith, false≢true, cases_Bool, cond-true, cond-false, le-ltb, range_with_len, Protocol, Link, Found, is_same, link_of, newest_name, end_of, leaving_at, left_from, line_end}
+use Rattle.flash_picture.proofs.Common.{◌≡◌, ℕ, zero, suc, ◌+◌, ◌-◌, ◌<◌, ◌≤◌, Bool, true, false, ◌==◌, ◌||◌, cond, Option, None, Some, List, [], ◌∷◌, length, take, refl, sym, ap, ◌∙◌, inl, inr, arith, false≢true, cases_Bool, cond-false, le-ltb, range_with_len, Protocol, Link, Found, is_same, link_of, newest_name, end_of, leaving_at, left_from}
 use Rattle.std.proofs.Common.{◌*◌, ◌/◌, ◌%◌, ◌↔◌, not, is_some, IsTrue, Contains, eq-eqb, subst}
 use Rattle.std.proofs.lemmas.Bool.{and_left, and_parts, and_right, eqb-false, not-true, not_from_true, or_from}
 use Rattle.std.proofs.lemmas.Option.{none-some, same_Some}

@@ -7,4 +7,8 @@ pub mod Grid
 pub mod Pieces
 pub mod Svg
 pub mod Selection
+pub mod Kinds
+pub mod Overview
+pub mod OverviewSvg
 pub mod Laws
+pub mod OverviewLaws

@@ -259,11 +259,14 @@ abbrev pub breach_svg : Option Breach → List ℕ
 breach_svg None = []
 breach_svg (Some breach) = next_line (codes "unsound") (breach_line (Some breach))
 
--- the lines below the map: those of walks, and of the law that is broken
+-- lines from a place on: those of walks, and of the law that is broken
+abbrev pub lines_at : ℕ → List ℕ → Option Breach → List ℕ
+lines_at top walks breach =
+    codes "<text" ++ attribute (codes "y") top ++ codes ">" ++ walks ++ breach_svg breach ++ codes "</text>\n"
+
+-- the lines below the map
 abbrev pub lines_svg : Grid → List ℕ → Option Breach → List ℕ
-lines_svg grid walks breach =
-    codes "<text" ++ attribute (codes "y") (bottom grid) ++ codes ">" ++ walks ++ breach_svg breach
-    ++ codes "</text>\n"
+lines_svg grid walks breach = lines_at (bottom grid) walks breach
 
 -- ---- the whole
 

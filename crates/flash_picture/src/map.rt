@@ -11,7 +11,7 @@ use std::alloc::{AllocError, Global};
 use tx_types::{Block, Memory, Shape, Slot};
 
 /// The columns of the label before the row of a block.
-const LABEL_COLUMNS: usize = 11;
+pub const LABEL_COLUMNS: usize = 11;
 
 /// The columns that cells have in a line of 80: all but those of the label and the last bar.
 const CELL_COLUMNS: usize = 68;
@@ -129,7 +129,7 @@ impl Map<'_> {
     }
 
     /// Appends the label of a block, padded to its columns.
-    fn write_label(&self, block: Block, text: &mut Vec<u8>) -> Result<(), AllocError>
+    pub fn write_label(&self, block: Block, text: &mut Vec<u8>) -> Result<(), AllocError>
         ensures { OnOk result (text.new.items
             ≡ text.old.items ++ padded 11 (join_with_byte 32 (label_words self.now.marks block.0))) }
     {
@@ -165,7 +165,7 @@ impl Map<'_> {
     }
 
     /// Whether a broken law names a slot.
-    fn is_named(&self, slot: Slot) -> bool
+    pub fn is_named(&self, slot: Slot) -> bool
         ensures { result ≡ is_named self.now.marks.breach slot.0 }
     {
         match self.marks.breach {
@@ -193,7 +193,7 @@ fn label_word(is_spare: bool) -> &'static [u8]
 }
 
 /// Appends the heading of a die before its first block.
-fn write_die(shape: Shape, block: Block, text: &mut Vec<u8>) -> Result<(), AllocError>
+pub fn write_die(shape: Shape, block: Block, text: &mut Vec<u8>) -> Result<(), AllocError>
     requires { IsShape shape }
     ensures { OnOk result (text.new.items ≡ text.old.items ++ die_text shape block.0) }
 {
@@ -206,7 +206,7 @@ fn write_die(shape: Shape, block: Block, text: &mut Vec<u8>) -> Result<(), Alloc
 }
 
 /// The slot of this number in a block.
-fn slot_in(shape: Shape, block: Block, at: u32) -> Slot
+pub fn slot_in(shape: Shape, block: Block, at: u32) -> Slot
     requires shape { IsShape shape }
     requires exists { block.0 < blocks_of shape }
     requires within { at < shape.pages_per_block }

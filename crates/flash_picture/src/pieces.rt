@@ -76,7 +76,7 @@ pub fn open_group(class: &[u8], text: &mut Vec<u8>) -> Result<(), AllocError>
 
 /// Appends a place as a path names it, behind some words.
 #[tactic(auto, unfolding(crate::specs::Pieces::point))]
-fn add_point(words: &[u8], spot: Spot, text: &mut Vec<u8>) -> Result<(), AllocError>
+pub fn add_point(words: &[u8], spot: Spot, text: &mut Vec<u8>) -> Result<(), AllocError>
     ensures { OnOk result (text.new.items ≡ text.old.items ++ words.now ++ point spot) }
 {
     add(words, text)?;

@@ -31,10 +31,10 @@ pub enum Selection {
 
 /// Appends what is said of the slots that a selection names. After `Memory` the bytes are as before.
 ///
-/// The first line is that of a picture. Then each slot that is named has a line: its block, its number, the words of its
-/// cell, and of a record the link and the back version. Then come walks, in the lines of a picture: that of the page
-/// that is named, where its newest version does not count, or all, where loose records are asked for. Last comes the
-/// law that is broken, if one is.
+/// The first line is that of a picture. Then each slot that is named has a line: its block, its number, the words of
+/// its cell, and of a record the link and the back version. Then come walks, in the lines of a picture: that of the
+/// page that is named, where its newest version does not count, or all, where loose records are asked for. Last comes
+/// the law that is broken, if one is.
 pub fn draw_selected(
     alloc: Global,
     config: Config,

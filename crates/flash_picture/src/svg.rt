@@ -9,8 +9,8 @@ use crate::legend::{write_head, write_legend};
 use crate::map::Map;
 use crate::marks::Marks;
 use crate::picture::{current_versions_of, shape, write_heading};
-use crate::pieces::{add_attribute, open_words};
-use crate::svg_lines::{write_breach, write_walks};
+use crate::pieces::open_words;
+use crate::svg_lines::{write_below, write_walks};
 use crate::svg_map::Plan;
 use crate::text::{add, append};
 use judged_records::Note;
@@ -146,10 +146,5 @@ fn write_lines(plan: &Plan<'_>, walks: &[u8], text: &mut Vec<u8>) -> Result<(), 
     ensures { let p = plan.now in OnOk result (text.new.items ≡ text.old.items
         ++ lines_svg p.grid walks.now p.map.marks.breach) }
 {
-    add(b"<text", text)?;
-    add_attribute(b"y", plan.grid.bottom(), text)?;
-    add(b">", text)?;
-    add(walks, text)?;
-    write_breach(plan.map.marks.breach, text)?;
-    add(b"</text>\n", text)
+    write_below(plan.grid.bottom(), walks, plan.map.marks.breach, text)
 }

@@ -1,10 +1,11 @@
 //! The lines below the map of a picture in SVG.
 ghost use Rattle.std.specs.Prelude.{◌≡◌, ◌+◌, ◌*◌, ◌≤◌, ◌++◌, IfOk, OnOk, codes, length};
-ghost use Rattle.flash_picture.specs.Svg.{breach_svg, columns_with, count_rows, rows_taken, rows_text, step_row, steps_begin, steps_rows, walk_rows, walk_takes, walks_svg, walks_take};
+ghost use Rattle.flash_picture.specs.Svg.{breach_svg, columns_with, count_rows, lines_at, rows_taken, rows_text, step_row, steps_begin, steps_rows, walk_rows, walk_takes, walks_svg, walks_take};
 ghost use Rattle.flash_picture.specs.Walks.{AreLedTo, step_text};
 
 use crate::own_lines::{line_end, pages_led_to};
 use crate::picture::write_law;
+use crate::pieces::add_attribute;
 use crate::text::add;
 use crate::walk::{End, Step, newest_name, steps, write_start};
 use record_list::Breach;
@@ -144,8 +145,25 @@ fn write_behind(step: Step, columns: usize, text: &mut Vec<u8>) -> Result<usize,
     Ok(text.len() - from)
 }
 
+/// Appends the lines below the map: these of walks, and the law that is broken. They begin below this place.
+pub fn write_below(
+    top: u64,
+    walks: &[u8],
+    breach: Option<Breach>,
+    text: &mut Vec<u8>,
+) -> Result<(), AllocError>
+    ensures { OnOk result (text.new.items ≡ text.old.items ++ lines_at top walks.now breach) }
+{
+    add(b"<text", text)?;
+    add_attribute(b"y", top, text)?;
+    add(b">", text)?;
+    add(walks, text)?;
+    write_breach(breach, text)?;
+    add(b"</text>\n", text)
+}
+
 /// Appends the law that is broken, if one is.
-pub fn write_breach(breach: Option<Breach>, text: &mut Vec<u8>) -> Result<(), AllocError>
+fn write_breach(breach: Option<Breach>, text: &mut Vec<u8>) -> Result<(), AllocError>
     ensures { OnOk result (text.new.items ≡ text.old.items ++ breach_svg breach) }
 {
     match breach {

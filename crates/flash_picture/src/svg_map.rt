@@ -5,8 +5,8 @@ ghost use Rattle.tx_types.specs.Config.{blocks_of, slots_of};
 ghost use Rattle.flash_picture.specs.Cells.{slot_text};
 ghost use Rattle.flash_picture.specs.Grid.{IsGrid};
 ghost use Rattle.flash_picture.specs.Map.{label_words};
-ghost use Rattle.flash_picture.specs.Pieces.{group_begin, title};
-ghost use Rattle.flash_picture.specs.Svg.{arrow_svg, arrow_to, cell_svg, cells_svg, die_heading, first_slot, is_above, is_in_view, label_svg, map_svg, slot_title, target, view_svg, view_target, view_to, views_svg};
+ghost use Rattle.flash_picture.specs.Pieces.{group_begin};
+ghost use Rattle.flash_picture.specs.Svg.{arrow_svg, arrow_to, cell_svg, cells_svg, die_heading, first_slot, is_above, is_in_view, label_svg, map_svg, target, view_svg, view_target, view_to, views_svg};
 
 use crate::cell::{Cell, Rank};
 use crate::grid::{Grid, Spot};
@@ -137,7 +137,7 @@ impl Plan<'_> {
     {
         let spot = self.grid.spot(slot);
         self.open_group(slot, text)?;
-        self.write_title(slot, text)?;
+        self.map.write_title(slot, text)?;
         self.write_arrow(chart, slot, text)?;
         add_rectangle(spot.beside(0, 10), self.grid.cell_width(), 24, text)?;
         open_words(spot.beside(8, 26), text)?;
@@ -154,16 +154,6 @@ impl Plan<'_> {
         add(b"<g class='", text)?;
         self.map.write_slot(slot, text)?;
         add(b"'>", text)
-    }
-
-    /// Appends what a pointer shows at the cell of a slot.
-    fn write_title(&self, slot: Slot, text: &mut Vec<u8>) -> Result<(), AllocError>
-        ensures { let m = self.now.map in OnOk result (text.new.items
-            ≡ text.old.items ++ title (slot_title m.cells.now m.marks slot.0)) }
-    {
-        add(b"<title>", text)?;
-        self.map.write_slot_title(slot, text)?;
-        add(b"</title>", text)
     }
 
     /// Appends the arrows that are in view.
@@ -280,7 +270,7 @@ pub fn is_in_view(cell: Cell) -> bool
 }
 
 /// Whether a record of this rank is above the current one.
-fn is_above(rank: Rank) -> bool
+pub fn is_above(rank: Rank) -> bool
     ensures { result ≡ is_above rank }
 {
     match rank {

@@ -7,6 +7,7 @@ ghost use Rattle.tx_types.specs.declared.record.Rec.{Rec};
 ghost use Rattle.record_list.specs.declared.found.Found.{Found};
 ghost use Rattle.judged_records.specs.declared.note.Note.{Note};
 ghost use Rattle.flash_picture.specs.Laws.{ArrowTells, CellTells, LabelTells, PlaceTells, SelectionTells, SvgCellTells, SvgLabelTells, SvgWalkTells, WalkSays, WalkTells, WordsTell};
+ghost use Rattle.flash_picture.specs.OverviewLaws.{SignTells, SquareTells};
 ghost use Rattle.flash_picture.specs.declared.marks.Marks.{Marks};
 ghost use Rattle.flash_picture.specs.declared.selection.Selection.{Selection};
 
@@ -63,4 +64,14 @@ pub fn svg_tells()
 pub fn selection_tells()
     ensures { (its : Config) (notes : List Note) (marks : Marks) (selection : Selection) (slot : ℕ) →
         slot < slots_of (shape_of its) → SelectionTells its notes marks selection slot }
+{}
+
+/// In an overview the letter of a slot stands in the row of its block, and tells what the slot is. In SVG the lines of
+/// a slot stand in its square, one for each kind of the slot and no others. The squares of a block stand in one row,
+/// below those of the blocks before it in the die, and right of those of the dies before.
+pub fn overviews_tell()
+    ensures signs { (its : Config) (notes : List Note) (marks : Marks) (slot : ℕ) →
+        slot < slots_of (shape_of its) → SignTells its notes marks slot }
+    ensures squares { (its : Config) (notes : List Note) (marks : Marks) (slot : ℕ) →
+        slot < slots_of (shape_of its) → SquareTells its notes marks slot }
 {}

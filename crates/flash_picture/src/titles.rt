@@ -1,5 +1,6 @@
 //! What is said of a slot in one line.
 ghost use Rattle.std.specs.Prelude.{◌≡◌, ◌++◌, OnOk};
+ghost use Rattle.flash_picture.specs.Pieces.{title};
 ghost use Rattle.flash_picture.specs.Svg.{links_text, slot_title};
 
 use crate::cell::Cell;
@@ -9,6 +10,16 @@ use std::alloc::AllocError;
 use tx_types::Slot;
 
 impl Map<'_> {
+    /// Appends what a pointer shows at a slot.
+    pub fn write_title(&self, slot: Slot, text: &mut Vec<u8>) -> Result<(), AllocError>
+        ensures { let m = self.now in OnOk result (text.new.items
+            ≡ text.old.items ++ title (slot_title m.cells.now m.marks slot.0)) }
+    {
+        add(b"<title>", text)?;
+        self.write_slot_title(slot, text)?;
+        add(b"</title>", text)
+    }
+
     /// Appends the number of a slot, the words of its cell, and what its record links to.
     pub fn write_slot_title(&self, slot: Slot, text: &mut Vec<u8>) -> Result<(), AllocError>
         ensures { OnOk result (text.new.items

@@ -4,7 +4,7 @@ ghost use Rattle.tx_types.specs.Config.{checked, shape_of, slots_of};
 
 use crate::samples::{rec, word};
 use crate::texts::stands_in;
-use flash_picture::{Marks, draw, draw_svg};
+use flash_picture::{Marks, draw, draw_overview, draw_svg};
 use judged_records::Note;
 use record_list::Breach;
 use std::alloc::Global;
@@ -246,6 +246,74 @@ fn is_copy_drawn(alloc: Global) -> bool {
 #[test]
 fn draws_in_svg(rt: HostRuntime) {
     assert!(rt; is_copy_drawn(rt.alloc()));
+}
+
+/// The overview of the flash on which a link is straddled: a letter for each slot, and how many slots are of each kind.
+const OVERVIEW: &str = "\
+>bpcc, 3 pages, dies of 2 blocks of 2 slots
+die 0
+block 0    lS
+block 1    c.
+die 1
+block 2    ..
+block 3    !.
+c current 2
+l loose 1
+s stale 1
+x damaged 0
+. blank 4
+C L S held 1
+discard 0
+walk 0.1 -> 1.1 straddled by 2
+unsound law 9 slot 6
+";
+
+/// What stands in the same in SVG: a line in the square of a slot for each kind of the slot, a frame around the slot
+/// that a broken law names, and what a pointer shows.
+const SQUARES: &str = "\
+width='640' height='220' viewBox='0 0 640 220'
+<text x='290' y='66'>held, a line below: 1</text></g>
+<g class='die'><text x='92' y='134'>die 1</text></g>
+<title>block 0 current 0 loose 1 stale 1 damaged 0 blank 0 held 1 discard 0</title><text x='8' y='146'>block 0</text>
+<path class='loose' d='M72,143h5'/><path class='stale' d='M78,143h5'/><path class='damaged' d=''/>
+<path class='held' d='M78,146h5'/>
+<path class='current' d='M156,151h5'/>
+<path class='blank' d='M156,143h5M162,143h5'/>
+<title>slot 1: 1.2 stale held, link 1.2, back 0</title><rect x='78' y='140' width='6' height='8'/></g>
+<g class='!'><rect x='156' y='148' width='6' height='8'/></g>
+<text y='160'><tspan class='walk' x='8' dy='20'>walk 0.1 -> 1.1 straddled by 2</tspan>";
+
+/// The overview of that flash behind a byte that was there before, if there is memory for it.
+fn overview(alloc: Global, in_svg: bool) -> Option<Vec<u8>> {
+    let mut out = Vec::new(alloc);
+    let notes = notes_of(STRADDLED);
+    let marks = breach(9, 6);
+    let is_drawn = out.push(b'>').is_ok()
+        && draw_overview(
+            alloc,
+            device(Protocol::Bpcc),
+            &notes,
+            marks,
+            in_svg,
+            &mut out,
+        )
+        .is_ok();
+    if is_drawn { Some(out) } else { None }
+}
+
+/// Whether the overview as text is this, and that in SVG has these pieces.
+fn are_overviews_drawn(alloc: Global) -> bool {
+    match (overview(alloc, false), overview(alloc, true)) {
+        (Some(text), Some(svg)) => {
+            text.as_slice() == OVERVIEW.as_bytes() && has_pieces(alloc, SQUARES, &svg)
+        }
+        _ => false,
+    }
+}
+
+#[test]
+fn draws_overviews(rt: HostRuntime) {
+    assert!(rt; are_overviews_drawn(rt.alloc()));
 }
 
 /// A device of 64 slots, for twenty pages.

@@ -1,5 +1,5 @@
 -- How a call of the program ends.
-use Rattle.std.proofs.Common.{◌≡◌, ◌≢◌, inl, inr, ℕ, List, ◌++◌, Option, None, Some, Result, Ok, Err, refl, sym, ap, ap₂, ◌∙◌, subst, arith}
+use Rattle.std.proofs.Common.{◌≡◌, ◌≢◌, inl, inr, ℕ, Bool, true, false, cond, List, ◌++◌, Option, None, Some, Result, Ok, Err, refl, sym, ap, ap₂, ◌∙◌, subst, arith}
 use Rattle.std.specs.Prelude.{IfOk, String, string_bytes}
 use Rattle.std.specs.Global.{Global}
 use Rattle.std.specs.declared.alloc.AllocError.{AllocError}
@@ -10,12 +10,14 @@ use Rattle.judged_records.specs.declared.note.Note.{Note}
 use Rattle.flash_picture.specs.declared.marks.Marks.{Marks}
 use Rattle.flash_picture.specs.Picture.{picture, heading, cells_of, breach_line}
 use Rattle.flash_picture.specs.Map.{map_text}
+use Rattle.flash_picture.specs.Overview.{counts_text, rows_text}
+use Rattle.flash_picture.specs.OverviewSvg.{overview}
 use Rattle.flash_picture.specs.Selection.{selected, selected_lines, selected_walks}
 use Rattle.flash_picture.specs.declared.selection.Selection.{Selection}
 use Rattle.flash_picture.specs.Svg.{above, svg}
 use Rattle.flash_picture.specs.Walks.{walks_text}
 use Rattle.tx_types.specs.Config.{shape_of}
-use Rattle.judged_records.specs.Notes.{found_in}
+use Rattle.judged_records.specs.Notes.{found_in, notes_of}
 use Rattle.desk_io.specs.Desk.{DeskState, Rose, after_answer, as_before, counted, with_said}
 use Rattle.desk_io.specs.declared.desk.SinkError.{SinkError}
 use Rattle.desk_io.specs.declared.desk.SinkError.TheVariants as sink
@@ -24,7 +26,7 @@ use Rattle.program_base.specs.Saying.{Refuses, Speaks, TextStops, after_text, fi
 use Rattle.program_base.proofs.Refusing.{line_said, never_done, never_fault}
 use Rattle.program_base.proofs.Spoken.{faults_tried, files_asked, files_said, files_tried, same_files}
 use Rattle.view_command_line.specs.Request.{Request}
-use Rattle.view_command_line.specs.Ending.{Ending, Drawn, IsEnding, Refused, said, status}
+use Rattle.view_command_line.specs.Ending.{Ending, Drawn, IsEnding, Refused, is_large, said, status}
 use Rattle.view_command_line.specs.declared.words.Form.TheVariants.{Text, Svg, Selected}
 use Rattle.view_command_line.specs.Top.{CallFails, EndsCall, Decided, Faulted, Starved, LoadFails, SayStops, WorkRunsOut, after_load}
 
@@ -52,6 +54,34 @@ svg_said : (its : Config) (notes : List Note) (marks : Marks) (desk : DeskState)
 unfolding svg above
 svg_said its notes marks desk = refl
 
+-- an overview begins as a picture does
+overview_said : (its : Config) (notes : List Note) (marks : Marks) (desk : DeskState) →
+    after_text (overview false its notes marks) desk ≡ after_answer (with_said (overview false its notes marks)) desk
+unfolding overview
+overview_said its notes marks desk = by_protocol its.protocol
+  where
+    by_protocol : (protocol : Protocol) →
+        after_text (heading (record its { protocol = protocol }) ++ rows_text (shape_of its) (cells_of its notes) marks
+        ++ counts_text (shape_of its) (cells_of its notes) ++ walks_text its.protocol (found_in notes) its.logical
+        ++ breach_line marks.breach) desk
+        ≡ after_answer (with_said (heading (record its { protocol = protocol })
+        ++ rows_text (shape_of its) (cells_of its notes) marks ++ counts_text (shape_of its) (cells_of its notes)
+        ++ walks_text its.protocol (found_in notes) its.logical ++ breach_line marks.breach)) desk
+    by_protocol Scc = refl
+    by_protocol Bpcc = refl
+
+overview_svg_said : (its : Config) (notes : List Note) (marks : Marks) (desk : DeskState) →
+    after_text (overview true its notes marks) desk ≡ after_answer (with_said (overview true its notes marks)) desk
+unfolding overview
+overview_svg_said its notes marks desk = refl
+
+-- either of two texts is said whole
+either_said : (large : Bool) (a b : List ℕ) (desk : DeskState) →
+    after_text a desk ≡ after_answer (with_said a) desk → after_text b desk ≡ after_answer (with_said b) desk →
+    after_text (cond large a b) desk ≡ after_answer (with_said (cond large a b)) desk
+either_said true a b desk one other = one
+either_said false a b desk one other = other
+
 -- what is said of a selection begins as a picture does
 selected_said : (its : Config) (notes : List Note) (marks : Marks) (selection : Selection) (desk : DeskState) →
     after_text (selected its notes marks selection) desk
@@ -74,8 +104,14 @@ selected_said its notes marks selection desk = by_protocol its.protocol
 -- each ending has a text
 said_whole : (ending : Ending) (desk : DeskState) → after_text (said ending) desk
     ≡ after_answer (with_said (said ending)) desk
-said_whole (Drawn Text its image marks) desk = picture_said its _ marks desk
-said_whole (Drawn Svg its image marks) desk = svg_said its _ marks desk
+said_whole (Drawn Text its image marks) desk =
+    let notes = notes_of its.protocol image in
+    either_said (is_large its) (overview false its notes marks) (picture its notes marks) desk
+    (overview_said its notes marks desk) (picture_said its notes marks desk)
+said_whole (Drawn Svg its image marks) desk =
+    let notes = notes_of its.protocol image in
+    either_said (is_large its) (overview true its notes marks) (svg its notes marks) desk
+    (overview_svg_said its notes marks desk) (svg_said its notes marks desk)
 said_whole (Drawn (Selected selection) its image marks) desk = selected_said its _ marks selection desk
 said_whole (Refused why) desk = line_said why desk
 

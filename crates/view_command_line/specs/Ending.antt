@@ -1,7 +1,7 @@
 -- What becomes of a call of the program: what it says, and its status.
-use Rattle.std.specs.Prelude.{◌≡◌, ℕ, Bool, if◌then◌else◌, List, Option, None, Some, Result, Ok, Err}
+use Rattle.std.specs.Prelude.{◌≡◌, ℕ, nat_lt, Bool, true, false, if◌then◌else◌, List, Option, None, Some, Result, Ok, Err}
 use Rattle.tx_types.specs.declared.config.Config.{Config}
-use Rattle.tx_types.specs.Config.{shape_of}
+use Rattle.tx_types.specs.Config.{shape_of, slots_of}
 use Rattle.flash_model.specs.Flash.{Contents, Extras}
 use Rattle.judged_records.specs.Images.{IsSoundImage, IsLeastImageBreach}
 use Rattle.judged_records.specs.declared.note.Note.{Note}
@@ -13,6 +13,7 @@ use Rattle.desk_io.specs.Desk as found
 use Rattle.desk_io.specs.Desk.{DeskState, FileFound, Finds}
 use Rattle.program_base.specs.Refusals.{ImageEnding, BadWords, Missing, TooLong, BadImage, Unsound, image_line, image_status}
 use Rattle.flash_picture.specs.declared.marks.Marks.{Marks}
+use Rattle.flash_picture.specs.OverviewSvg.{overview}
 use Rattle.flash_picture.specs.Picture.{picture}
 use Rattle.flash_picture.specs.Selection.{selected}
 use Rattle.flash_picture.specs.Svg.{svg}
@@ -31,10 +32,17 @@ abbrev pub status : Ending → ℕ
 status (Drawn form config image marks) = 0
 status (Refused why) = image_status why
 
+-- a flash of more slots is drawn as an overview
+abbrev pub most_drawn : ℕ
+most_drawn = 512
+
+abbrev pub is_large : Config → Bool
+is_large its = nat_lt most_drawn (slots_of (shape_of its))
+
 -- the picture in a form
 abbrev pub picture_in : Form → Config → List Note → Marks → List ℕ
-picture_in Text its notes marks = picture its notes marks
-picture_in Svg its notes marks = svg its notes marks
+picture_in Text its notes marks = if is_large its then overview false its notes marks else picture its notes marks
+picture_in Svg its notes marks = if is_large its then overview true its notes marks else svg its notes marks
 picture_in (Selected selection) its notes marks = selected its notes marks selection
 
 -- what is said

@@ -9,4 +9,4 @@ mod theorems;
 mod words;
 
 pub use call::top;
-pub use theorems::{pictures_tell, selections_tell, svgs_tell};
+pub use theorems::{overviews_tell, pictures_tell, selections_tell, svgs_tell};

@@ -1,5 +1,5 @@
 -- How many links a walk takes, from the orbit of the place at which it begins.
-use Rattle.flash_picture.proofs.Common.{◌≡◌, ℕ, zero, suc, ◌<◌, ◌≤◌, Bool, true, false, ◌==◌, ◌||◌, nat_lt, cond, Option, Some, None, List, [], ◌∷◌, length, position, refl, sym, ap, ◌∙◌, inl, inr, arith, false≢true, cases_Bool, le-ltb, Link, Scc, Found, has_name, is_same, newest_name, link_of, leaving_at}
+use Rattle.flash_picture.proofs.Common.{◌≡◌, ℕ, zero, suc, ◌<◌, Bool, true, false, ◌==◌, ◌||◌, nat_lt, cond, Option, Some, None, List, [], ◌∷◌, length, position, refl, sym, ap, ◌∙◌, inl, inr, arith, false≢true, le-ltb, Link, Scc, Found, has_name, is_same, newest_name, link_of, leaving_at}
 use Rattle.std.proofs.Common.{◌≢◌, ◌&&◌, ◌%◌, not, is_some}
 use Rattle.std.proofs.lemmas.Bool.{and_left, ltb-false, ne_eqb}
 use Rattle.std.proofs.lemmas.List.Quantifiers.{position-Some}
@@ -7,7 +7,7 @@ use Rattle.record_list.specs.Records.{newest, record_at, nothing}
 use Rattle.record_list.specs.Verdict.{is_ahead, is_behind}
 use Rattle.sorted_records.specs.declared.orbit.Orbit.{Orbit}
 use Rattle.sorted_records.specs.declared.orbit.Orbit.TheVariants.{Ends, Round, Aside}
-use Rattle.sorted_records.specs.Orbits.{next_of, steps, IsEnd, IsOrbit}
+use Rattle.sorted_records.specs.Orbits.{next_of, steps, IsEnd}
 use Rattle.sorted_records.specs.SortedRecords.{place_of, link_graph, IsOrbitOfNewest}
 use Rattle.sorted_records.proofs.OfRecords.Steps.{some_or_none, steps_none, steps_stop, steps_more}
 use Rattle.sorted_records.proofs.OfWalk.WalkOrbits.{link_at, leads, same_place, next_within, end_never}
@@ -76,8 +76,8 @@ module _ (list : List Found) (start : Link) (first : ℕ) (there : position (λ 
           | inr some ↦ (
               let (y, next) = some in
               let to = next_within Scc list start first there x y within next in
-              goes turns (record_at list x).next y to.0 (λ e. never 1 (omega arith) (steps_more (link_graph list) 0 x y next
-              ∙ steps_none (link_graph list) y ∙ ap Some e))
+              goes turns (record_at list x).next y to.0 (λ e. never 1 (omega arith)
+              (steps_more (link_graph list) 0 x y next ∙ steps_none (link_graph list) y ∙ ap Some e))
               ∙ ap suc (counted turns y after at to.1
               record { leads = sym (steps_more (link_graph list) after x y next) ∙ end.leads; last = end.last }
               (λ k more e. never (suc k) (omega arith) (steps_more (link_graph list) k x y next ∙ e)) (omega arith)

@@ -1,5 +1,5 @@
 -- The pages to which walks lead: a page more that is looked at.
-use Rattle.flash_picture.proofs.Common.{◌≡◌, ℕ, zero, suc, ◌+◌, ◌<◌, ◌≤◌, Bool, true, false, ◌==◌, ◌||◌, nat_lt, cond, Option, None, Some, List, [], ◌∷◌, length, get_or, refl, sym, ap, ap₂, ◌∙◌, inl, inr, arith, lt-ltb, list_any, range_with_len, false≢true, cases_Bool, cond-true, cond-false, Protocol, Link, Found, is_same, link_of, newest_name}
+use Rattle.flash_picture.proofs.Common.{◌≡◌, ℕ, zero, suc, ◌+◌, ◌<◌, Bool, true, false, ◌==◌, ◌||◌, nat_lt, Option, None, Some, List, length, get_or, refl, sym, ap, ap₂, ◌∙◌, inl, inr, arith, lt-ltb, list_any, range_with_len, false≢true, cases_Bool, cond-true, cond-false, Protocol, Link, Found, is_same, link_of, newest_name}
 use Rattle.std.proofs.Common.{◌&&◌, not, eq-eqb, replicate, set}
 use Rattle.std.proofs.lemmas.Bool.{and_cases, and_from, and_left, and_parts, and_right, cases_eq, eqb-true, ne_eqb, or_right}
 use Rattle.std.proofs.lemmas.List.{get_or-replicate, get_or-set_other, get_or-set_same, length-replicate, length-set}

@@ -1,5 +1,5 @@
 -- The picture in SVG of records in order of their names is that of the list.
-use Rattle.flash_picture.proofs.Common.{◌≡◌, ℕ, zero, suc, ◌+◌, None, List, ◌++◌, map, cond, codes, refl, ap, ap₂, ◌∙◌, flat_map, range_with_len, Config, Protocol, shape_of, Found, Sorts, Note, found_in, Cell, Blank, Damaged, Holds, Marks, cell_at, cell_of, slot_text, height, above, arrow_svg, cells_svg, die_heading, drawing, grid_of, label_svg, lines_svg, views_svg, walk_rows, walk_takes, walks_svg, walks_take, line_end}
+use Rattle.flash_picture.proofs.Common.{◌≡◌, ℕ, None, List, ◌++◌, map, cond, codes, refl, ap, ap₂, ◌∙◌, flat_map, range_with_len, Config, shape_of, Found, Sorts, Note, found_in, Cell, Blank, Damaged, Holds, Marks, cell_at, cell_of, slot_text, height, above, arrow_svg, cells_svg, die_heading, drawing, grid_of, label_svg, lines_svg, views_svg, walks_svg, walks_take}
 use mathlib.Core.Path.{fun_ext}
 use Rattle.tx_types.specs.Config.{blocks_of, slots_of}
 use Rattle.flash_picture.specs.declared.grid.Grid.{Grid}
@@ -7,17 +7,9 @@ use Rattle.flash_picture.specs.Grid.{cell_width, spot_of, width}
 use Rattle.flash_picture.specs.Pieces.{beside, group, rectangle, title, words_at}
 use Rattle.flash_picture.specs.Svg.{arrow_to, first_slot, is_in_view, map_svg, slot_title, svg, target, view_to}
 use Rattle.flash_picture.proofs.Alike.{cells_alike}
-use Rattle.flash_picture.proofs.Shown.{line_end_alike, rows_alike, takes_alike}
+use Rattle.flash_picture.proofs.SvgWalks.{svg_walks_alike, take_alike}
 
 module _ (list sorted : List Found) (is : Sorts list sorted) where
-  take_alike : (protocol : Protocol) (logical pages : ℕ) → walks_take protocol sorted logical pages
-      ≡ walks_take protocol list logical pages
-  take_alike protocol logical zero = refl
-  take_alike protocol logical (suc pages) =
-      ap₂ (λ a b. a + b) (take_alike protocol logical pages)
-      (takes_alike list sorted is logical pages (line_end protocol sorted logical pages) ∙
-      ap (walk_takes list logical pages) (line_end_alike list sorted is protocol logical pages))
-
   target_alike : (cell : Cell) → target sorted cell ≡ target list cell
   target_alike Blank = refl
   target_alike Damaged = refl
@@ -51,22 +43,15 @@ module _ (list sorted : List Found) (is : Sorts list sorted) where
       ++ flat_map (label_svg grid marks) (range_with_len 0 (blocks_of grid.shape)) ++ views ++ drawn)
       (views_alike grid cells marks) (drawn_alike grid cells marks)
 
-  walks_alike : (protocol : Protocol) (logical : ℕ) → walks_svg protocol sorted logical
-      ≡ walks_svg protocol list logical
-  walks_alike protocol logical =
-      ap (λ f. flat_map f (range_with_len 0 logical))
-      (fun_ext (λ page. rows_alike list sorted is logical page (line_end protocol sorted logical page)
-      ∙ ap (walk_rows list logical page) (line_end_alike list sorted is protocol logical page)))
-
   pub drawing_alike : (its : Config) (grid : Grid) (cells : List Cell) (marks : Marks) →
       drawing its grid sorted cells marks ≡ drawing its grid list cells marks
   drawing_alike its grid cells marks =
       let lines = lines_svg grid (walks_svg its.protocol sorted its.logical) marks.breach in
       ap (λ n. above its (width grid) (height grid n) ++ map_svg grid sorted cells marks ++ lines ++ codes "</svg>\n")
-      (take_alike its.protocol its.logical its.logical)
+      (take_alike list sorted is its.protocol its.logical its.logical)
       ∙ ap₂ (λ m w. above its (width grid) (height grid (walks_take its.protocol list its.logical its.logical))
       ++ m ++ lines_svg grid w marks.breach ++ codes "</svg>\n")
-      (map_alike grid cells marks) (walks_alike its.protocol its.logical)
+      (map_alike grid cells marks) (svg_walks_alike list sorted is its.protocol its.logical)
 
 -- a picture that is drawn of the records in order of their names
 pub svg_drawn : (its : Config) (notes : List Note) (marks : Marks) (sorted : List Found) (cells : List Cell)
