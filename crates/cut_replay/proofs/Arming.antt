@@ -176,7 +176,7 @@ fits_kept state its entries (session.Mounted s) fits = fits.always.kept
 fits_kept state its entries (session.Unmounted e) fits = tt
 
 -- and the session fits still
-fits_flash : {F : Type 0} (s : DeviceState F) (flash : F) (e : CachedPage) → IsCachedAs s e →
+pub fits_flash : {F : Type 0} (s : DeviceState F) (flash : F) (e : CachedPage) → IsCachedAs s e →
     IsCachedAs (record s { flash = flash }) e
 fits_flash s flash e h = record { exists = h.exists; least = h.least; current = h.current }
 

@@ -7,10 +7,9 @@ use Rattle.mounted_session.specs.Mounting.{MomentStays, StaysQuiet}
 use Rattle.array_runs.specs.Run.{RunState}
 use Rattle.cut_replay.specs.FlashRun.{Point}
 use Rattle.mounted_session.proofs.Beginning.{first_by, first_still}
-use Rattle.mounted_session.proofs.Mounting.{nothing_done}
 use Rattle.mounted_session.proofs.Telling.{none_spent}
 use Rattle.mounted_session.specs.Devices.{MountsIn, ReadsFew}
-use Rattle.mounted_session.specs.Sessions.{IfAlone}
+use Rattle.mounted_session.specs.Sessions.{IfAlone, is_mounted}
 use Rattle.judged_records.specs.Images.{IsSoundImage}
 use Rattle.tx_engine.specs.DeviceState.{DeviceState}
 use Rattle.cut_replay.proofs.Losing.{mounted_fits}
@@ -126,13 +125,6 @@ nothing_served : {F : Type 0} (state : F → FlashState) (its : Config) (list : 
     ServesSound its list (state flash) (state new) w w (Err failed.Memory)
 nothing_served state its list flash new w sound still = inl (record { still = still; untold = refl })
 
-pub rooms_ended : {F : Type 0} (state : F → FlashState) (its : Config) (list : List Command) (flash : F)
-    (w : Watched) →
-    IsSoundFlash its (state flash) →
-    ServesSound its list (state flash) (state flash) w w (Err failed.Memory)
-rooms_ended state its list flash w sound =
-    nothing_served state its list flash flash w sound (nothing_done (state flash))
-
 pub begin_ended : {F : Type 0} (state : F → FlashState) (its : Config) (list : List Command)
     (flash new : F) (why : ServeError) (w : Watched) →
     IsSoundFlash its (state flash) → Unmounted state its flash new why →
@@ -159,6 +151,12 @@ begun_steady : {F : Type 0} (state : F → FlashState) (its : Config) (flash : F
 begun_steady state its flash (session.Mounted s) h steady = mounted_sound state its flash s h
 begun_steady state its flash (session.Unmounted new) h steady =
     absurd (none_spent (state flash).told (state new).told (state new).live steady.none h.spends)
+
+-- and any other one, where a device is mounted
+begun_mounted : {F : Type 0} (state : F → FlashState) (its : Config) (flash : F) (s : DeviceSession F) →
+    Mounted state its flash s → is_mounted s ≡ true → IsSoundFlash its (state flash)
+begun_mounted state its flash (session.Mounted s) h up = mounted_sound state its flash s h
+begun_mounted state its flash (session.Unmounted new) h up = (let no : false ≡ true = up in absurd cc)
 
 unsound_begun : {F : Type 0} (state : F → FlashState) (its : Config) (flash : F) (s : DeviceSession F) →
     (state flash).live ≡ true → Mounted state its flash s → (IsSoundFlash its (state flash) → ⊥) →
@@ -196,6 +194,11 @@ module _ {F : Type 0} (state : F → FlashState) (its : Config) (flash : F) (s :
   first_steady steady = first_of (λ t. IsSoundFlash its (state flash))
       (λ t on h. begun_steady state its flash t h steady)
       (λ off. let both = sym off ∙ steady.live in cc)
+
+  pub first_mounted : is_mounted s ≡ true → IsSoundFlash its (state flash)
+  first_mounted = first_of (λ t. is_mounted t ≡ true → IsSoundFlash its (state flash))
+      (λ t on h. begun_mounted state its flash t h)
+      (λ off up. (let no : false ≡ true = up in absurd cc))
 
   pub first_faults : CountsBreaks [] (state flash) (state (flash_in s))
   first_faults = first_of
@@ -244,10 +247,6 @@ unsound_ended its init final list w why still = record {
   flashes = grew_none w.flashes;
   faults = ended_as init final why still;
 }
-
-pub unsound_unserved : (its : Config) (init : FlashState) (list : List Command) (w : Watched) →
-    ServesUnsound its list init init w w (Err failed.Memory)
-unsound_unserved its init list w = unsound_ended its init init list w failed.Memory (nothing_done init)
 
 unmounted_quiet : {F : Type 0} (state : F → FlashState) (its : Config) (flash new : F) (why : ServeError) →
     Unmounted state its flash new why →

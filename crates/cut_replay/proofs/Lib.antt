@@ -11,8 +11,11 @@ pub mod Lifted
 pub mod Arming
 pub mod Runs
 pub mod MountingAgain
+pub mod ServerRuns
 pub mod Progress
 pub mod Begun
+pub mod ServerCalls
+pub mod Flushes
 pub mod Quiet
 pub mod Due
 pub mod Totals

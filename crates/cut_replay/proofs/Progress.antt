@@ -1,5 +1,5 @@
 -- A session that has served the first commands of a list.
-use Rattle.cut_replay.proofs.Common.{◌≡◌, ℕ, ◌+◌, ◌<◌, ◌≤◌, Bool, true, false, List, [], ◌∷◌, ◌++◌, length, take, Option, Result, Ok, Err, refl, sym, ap, ◌∙◌, subst, inl, inr, arith, OnOk, Config, Memory, shape_of, FlashState, Moment, moment_of, IsSoundImage, Command, Reply, text_of, seen_after, Point, IsPoint, BeginsFlash, EndsLost, FlashRun, ServesFlash, first_point, last_point, mentions_in, StaysQuiet, Grew, CountsBreaks, Watched, ServesUnsound, flash_in, point_of, IsSoundFlash, StandsAt, ServesIn, ServesSession, EndsServing, IsSoundOrSame, Begins, ServeError, DeviceSession, sound_unbroken}
+use Rattle.cut_replay.proofs.Common.{◌≡◌, ℕ, ◌+◌, ◌<◌, ◌≤◌, Bool, true, false, List, [], ◌∷◌, ◌++◌, length, take, Option, Result, Ok, Err, refl, sym, ap, ◌∙◌, subst, inl, inr, arith, OnOk, Config, Memory, shape_of, FlashState, Moment, moment_of, IsSoundImage, Command, Reply, text_of, Point, BeginsFlash, EndsLost, first_point, last_point, mentions_in, StaysQuiet, Grew, CountsBreaks, Watched, ServesUnsound, flash_in, point_of, IsSoundFlash, StandsAt, ServesSession, EndsServing, IsSoundOrSame, ServeError, DeviceSession, sound_unbroken}
 use Rattle.std.proofs.Common.{get_or}
 use Rattle.std.specs.Prelude.{OnErr}
 use Rattle.std.specs.Prelude.{map}
@@ -16,7 +16,8 @@ use Rattle.cut_replay.specs.UnmountedRun.{ServesUnmounted, UnmountedRun, EndsUnm
 use Rattle.cut_replay.specs.declared.serving.ServeError.TheVariants as failed
 use Rattle.mounted_session.specs.declared.session.Session.TheVariants as session
 use Rattle.cut_replay.proofs.Mountings.{point_flash}
-use Rattle.cut_replay.proofs.Runs.{seen_through, faulted_through, run_more, last_more, seen_more, faulted_more, run_lengths}
+use Rattle.cut_replay.specs.ServerRuns.{IsServed, RunsOn, seen_through, faulted_through}
+use Rattle.cut_replay.proofs.ServerRuns.{served_lengths}
 use Rattle.cut_replay.proofs.Runs.{grew_none, grew_more, text_more, told_more, counts_more, counts_later}
 
 -- the moment of a session is that of its flash
@@ -25,112 +26,48 @@ pub point_moment : {F : Type 0} (state : F → FlashState) (its : Config) (s : D
 point_moment state its (session.Mounted s) = refl
 point_moment state its (session.Unmounted flash) = refl
 
--- a run over commands that leads to this session
-pub record Runs {F : Type 0} (state : F → FlashState) (its : Config) (init : FlashState) (cs : List Command)
-    (rs : List Reply) (ps : List Point)
-    (s : DeviceSession F) : Type 0 where
-  pub up : Bool
-  pub flash : FlashState
-  pub begins : moment_of flash ≡ moment_of init
-  pub from : BeginsFlash its init up flash
-  pub first : IsPoint its (first_point its up flash)
-  pub run : FlashRun its (mentions_in its (moment_of init)) false (first_point its up flash) cs rs ps
-  pub last : point_of state its s ≡ last_point (first_point its up flash) ps
-  pub stands : StandsAt state its (seen_through (mentions_in its (moment_of init)) cs rs) (faulted_through false rs) s
-
--- and its replies were told
+-- commands were served, and their replies were told
 pub record HasServed {F : Type 0} (state : F → FlashState) (its : Config) (init : FlashState) (cs : List Command)
     (s : DeviceSession F)
     (before after : Watched) : Type 0 where
   pub replies : List Reply
   pub points : List Point
-  pub runs : Runs state its init cs replies points s
+  pub runs : IsServed state its init cs replies points s
   pub text : Grew before.text after.text (text_of_all replies)
   pub kept : Grew before.kept after.kept (replies_told replies points)
   pub flashes : Grew before.flashes after.flashes (flashes_at points)
 
 -- at the beginning
 pub served_none : {F : Type 0} (state : F → FlashState) (its : Config) (init : FlashState) (s : DeviceSession F)
-    (w : Watched) → Begins state its init s →
+    (w : Watched) → IsServed state its init [] [] [] s →
     HasServed state its init [] s w w
 served_none state its init s w h = record {
   replies = [];
   points = [];
-  runs = record {
-    up = h.up;
-    flash = state (flash_in s);
-    begins = h.moment;
-    from = h.first;
-    first = record {
-      sound = subst (λ (m : Moment). IsSoundImage its.protocol its.logical (shape_of its) m.image) (sym h.moment)
-          h.sound;
-      array = inl refl;
-      live = h.live;
-    };
-    run = tt;
-    last = h.point;
-    stands = h.stands;
-  };
+  runs = h;
   text = grew_none w.text;
   kept = grew_none w.kept;
   flashes = grew_none w.flashes;
 }
 
--- one command more
-pub runs_more : {F : Type 0} (state : F → FlashState) (its : Config) (init : FlashState) (cs : List Command)
-    (rs : List Reply) (ps : List Point) (c : Command)
-    (r : Reply) (s t : DeviceSession F) →
-    Runs state its init cs rs ps s →
-    ((seen : ℕ → ℕ) → (faulted : Bool) → StandsAt state its seen faulted s → ServesIn state its seen faulted c s r t) →
-    Runs state its init (cs ++ c ∷ []) (rs ++ r ∷ [])
-    (ps ++ point_of state its t ∷ []) t
-runs_more state its init cs rs ps c r s t h served =
-    let seen = mentions_in its (moment_of init) in
-    let old = first_point its h.up h.flash in
-    let p = point_of state its t in
-    let one = served (seen_through seen cs rs) (faulted_through false rs) h.stands in
-    let same = run_lengths its seen false old cs rs ps h.run in
-    record {
-      up = h.up;
-      flash = h.flash;
-      begins = h.begins;
-      from = h.from;
-      first = h.first;
-      run = run_more its seen false old cs rs ps c r p h.run (
-        (
-          one.spent,
-          one.may,
-          subst (λ (q : Point). ServesFlash its one.spent (faulted_through false rs) c q r p)
-              h.last one.serves,
-        ),
-        one.point,
-      );
-      last = sym (last_more old ps p);
-      stands = subst (λ (f : ℕ → ℕ). StandsAt state its f (faulted_through false (rs ++ r ∷ [])) t)
-          (sym (seen_more seen cs rs c r same.0))
-          (subst (λ (b : Bool). StandsAt state its (seen_after (seen_through seen cs rs) c r) b t)
-          (sym (faulted_more false rs r)) one.stands);
-    }
-
 flashes_more : (ps : List Point) (p : Point) → flashes_at (ps ++ p ∷ []) ≡ flashes_at ps ++ p.flash ∷ []
 flashes_more ps p = map-append (λ (q : Point). q.flash) ps (p ∷ [])
 
--- which was told
+-- one command more was served, and its reply was told
 pub served_more : {F : Type 0} (state : F → FlashState) (its : Config) (init : FlashState) (cs : List Command)
     (c : Command) (r : Reply) (s t : DeviceSession F)
     (a b d : Watched) →
-    HasServed state its init cs s a b → ServesSession state its c s r t → Grew b.text d.text (text_of r) →
+    HasServed state its init cs s a b → RunsOn state its c s r t → Grew b.text d.text (text_of r) →
     Grew b.kept d.kept (record { text = text_of r; moment = moment_of (state (flash_in t)) } ∷ []) →
     Grew b.flashes d.flashes (state (flash_in t) ∷ []) →
     HasServed state its init (cs ++ c ∷ []) t a d
-served_more state its init cs c r s t a b d h serves text kept flashes =
+served_more state its init cs c r s t a b d h on text kept flashes =
     let p = point_of state its t in
-    let same = run_lengths its (mentions_in its (moment_of init)) false (first_point its h.runs.up h.runs.flash) cs
-    h.replies h.points h.runs.run in
+    let same = served_lengths state its init cs h.replies h.points s h.runs in
     record {
       replies = h.replies ++ r ∷ [];
       points = h.points ++ p ∷ [];
-      runs = runs_more state its init cs h.replies h.points c r s t h.runs serves.in_run;
+      runs = on init cs h.replies h.points h.runs;
       text = subst (λ (x : List ℕ). Grew a.text d.text x) (sym (text_more h.replies r))
           (grew_more a.text b.text d.text (text_of_all h.replies) (text_of r) h.text text);
       kept = subst (λ (x : List ToldReply). Grew a.kept d.kept x)
@@ -146,14 +83,14 @@ served_more state its init cs c r s t a b d h serves text kept flashes =
 
 -- What has been served is what serving comes to: the flash of the session is that of the last point
 run_ends : {F : Type 0} (state : F → FlashState) (its : Config) (init : FlashState) (cs : List Command)
-    (rs : List Reply) (ps : List Point) (s : DeviceSession F) → (h : Runs state its init cs rs ps s) →
-    state (flash_in s) ≡ (last_point (first_point its h.up h.flash) ps).flash
+    (rs : List Reply) (ps : List Point) (s : DeviceSession F) → (h : IsServed state its init cs rs ps s) →
+    state (flash_in s) ≡ (last_point (first_point its h.run.up h.run.flash) ps).flash
 run_ends state its init cs rs ps s h = sym (point_flash state its s) ∙ ap (λ (p : Point). p.flash) h.last
 
 run_left : {F : Type 0} (state : F → FlashState) (its : Config) (init : FlashState) (cs : List Command)
     (rs : List Reply) (ps : List Point) (s : DeviceSession F) (final : FlashState) →
-    (h : Runs state its init cs rs ps s) → StaysQuiet (state (flash_in s)) final →
-    StaysQuiet (last_point (first_point its h.up h.flash) ps).flash final
+    (h : IsServed state its init cs rs ps s) → StaysQuiet (state (flash_in s)) final →
+    StaysQuiet (last_point (first_point its h.run.up h.run.flash) ps).flash final
 run_left state its init cs rs ps s final h =
     subst (λ (x : FlashState). StaysQuiet x final) (run_ends state its init cs rs ps s h)
 
@@ -162,21 +99,14 @@ pub all_served : {F : Type 0} (state : F → FlashState) (its : Config) (init : 
     (a b : Watched) → HasServed state its init cs s a b → StaysQuiet (state (flash_in s)) final →
     ServesRun its cs (length cs) init final a b
 all_served state its init cs s final a b h still =
-    let first = first_point its h.runs.up h.runs.flash in
-    let lengths = run_lengths its (mentions_in its (moment_of init)) false first cs h.replies h.points h.runs.run in
+    let lengths = served_lengths state its init cs h.replies h.points s h.runs in
     let replies = take_whole (length cs) h.replies lengths.0 in
     let points = take_whole (length cs) h.points lengths.1 in
     record {
       replies = h.replies;
       points = h.points;
-      run = record {
-        up = h.runs.up;
-        flash = h.runs.flash;
-        begins = h.runs.begins;
-        first = h.runs.first;
-        runs = h.runs.run;
-      };
-      begins = h.runs.from;
+      run = h.runs.run;
+      begins = h.runs.begins;
       left = run_left state its init cs h.replies h.points s final h.runs still;
       text = subst (λ (x : List Reply). Grew a.text b.text (text_of_all x)) (sym replies) h.text;
       kept = subst (λ (x : List Reply). Grew a.kept b.kept (replies_told x (take (length cs) h.points))) (sym replies)
@@ -187,28 +117,20 @@ all_served state its init cs s final a b h still =
 -- where one command more was served whose reply was not told
 pub one_untold : {F : Type 0} (state : F → FlashState) (its : Config) (init : FlashState) (cs : List Command)
     (c : Command) (r : Reply) (s t : DeviceSession F)
-    (a b d : Watched) → HasServed state its init cs s a b →
-    ((seen : ℕ → ℕ) → (faulted : Bool) → StandsAt state its seen faulted s → ServesIn state its seen faulted c s r t) →
+    (a b d : Watched) → HasServed state its init cs s a b → RunsOn state its c s r t →
     d.text ≡ b.text → d.kept ≡ b.kept → d.flashes ≡ b.flashes →
     ServesRun its (cs ++ c ∷ []) (length cs) init (state (flash_in t)) a d
-one_untold state its init cs c r s t a b d h served text kept flashes =
-    let first = first_point its h.runs.up h.runs.flash in
-    let lengths = run_lengths its (mentions_in its (moment_of init)) false first cs h.replies h.points h.runs.run in
+one_untold state its init cs c r s t a b d h on text kept flashes =
+    let lengths = served_lengths state its init cs h.replies h.points s h.runs in
     let p = point_of state its t in
-    let runs = runs_more state its init cs h.replies h.points c r s t h.runs served in
+    let runs = on init cs h.replies h.points h.runs in
     let replies = take_before_last (length cs) h.replies r lengths.0 in
     let points = take_before_last (length cs) h.points p lengths.1 in
     record {
       replies = h.replies ++ r ∷ [];
       points = h.points ++ p ∷ [];
-      run = record {
-        up = runs.up;
-        flash = runs.flash;
-        begins = runs.begins;
-        first = runs.first;
-        runs = runs.run;
-      };
-      begins = runs.from;
+      run = runs.run;
+      begins = runs.begins;
       left = run_left state its init (cs ++ c ∷ []) (h.replies ++ r ∷ []) (h.points ++ p ∷ []) t
           (state (flash_in t)) runs (nothing_done (state (flash_in t)));
       text = subst (λ (x : List Reply). Grew a.text d.text (text_of_all x)) (sym replies)
@@ -295,31 +217,30 @@ ended_in state its init list at c s flash failed.Memory a b lt read h ends =
 -- the reply of it could not be told
 pub untold_in : {F : Type 0} (state : F → FlashState) (its : Config) (init : FlashState) (list : List Command)
     (at : ℕ) (c : Command) (r : Reply)
-    (s t : DeviceSession F) (flash : F) (a b d : Watched) → at < length list →
-    c ≡ get_or list at c → HasServed state its init (take at list) s a b → ServesSession state its c s r t →
-    flash ≡ flash_in t → d.text ≡ b.text →
-    d.kept ≡ b.kept → d.flashes ≡ b.flashes → ServesSound its list init (state flash) a d (Err failed.Memory)
-untold_in state its init list at c r s t flash a b d lt read h serves is text kept flashes =
-    let count : length (take at list) ≡ at = length-take-le at list (omega arith) in inr (
+    (s t : DeviceSession F) (a b d : Watched) → at < length list →
+    c ≡ get_or list at c → HasServed state its init (take at list) s a b → RunsOn state its c s r t →
+    d.text ≡ b.text → d.kept ≡ b.kept → d.flashes ≡ b.flashes →
+    ServesSound its list init (state (flash_in t)) a d (Err failed.Memory)
+untold_in state its init list at c r s t a b d lt read h on text kept flashes =
+    let count : length (take at list) ≡ at = length-take-le at list (omega arith) in
+    let final = state (flash_in t) in inr (
       at,
       omega arith,
-      inr (inl (subst (λ n. ServesRun its (take (at + 1) list) n init (state flash) a d) count
-          (subst (λ (cs : List Command). ServesRun its cs (length (take at list)) init (state flash) a d)
+      inr (inl (subst (λ n. ServesRun its (take (at + 1) list) n init final a d) count
+          (subst (λ (cs : List Command). ServesRun its cs (length (take at list)) init final a d)
           (sym (next_of list at c lt read))
-          (subst (λ x. ServesRun its (take at list ++ c ∷ []) (length (take at list)) init (state x) a d) (sym is)
-          (one_untold state its init (take at list) c r s t a b d h serves.in_run text kept flashes))))),
+          (one_untold state its init (take at list) c r s t a b d h on text kept flashes)))),
     )
 
 -- all was served
 pub served_to_the_end : {F : Type 0} (state : F → FlashState) (its : Config) (init : FlashState) (list : List Command)
-    (at : ℕ) (s : DeviceSession F) (flash : F) (a b : Watched) → length list ≤ at →
-    HasServed state its init (take at list) s a b → flash ≡ flash_in s →
-    ServesSound its list init (state flash) a b (Ok tt)
+    (at : ℕ) (s : DeviceSession F) (a b : Watched) → length list ≤ at →
+    HasServed state its init (take at list) s a b →
+    ServesSound its list init (state (flash_in s)) a b (Ok tt)
 unfolding all_served
-served_to_the_end state its init list at s flash a b ge h is =
+served_to_the_end state its init list at s a b ge h =
     let whole : take at list ≡ list = take_all at list ge in
-    let end = subst (λ (cs : List Command). HasServed state its init cs s a b) whole h in
-    subst (λ x. ServesSound its list init (state x) a b (Ok tt)) (sym is) (
+    let end = subst (λ (cs : List Command). HasServed state its init cs s a b) whole h in (
       all_served state its init list s (state (flash_in s)) a b end (nothing_done (state (flash_in s))),
       run_ends state its init list end.replies end.points s end.runs,
     )
@@ -481,14 +402,14 @@ unmounted_in its init now final list at a b d why h same text kept flashes fault
 
 -- one command more was answered
 pub unmounted_untold : {F : Type 0} (state : F → FlashState) (its : Config) (list : List Command) (at : ℕ) (c : Command)
-    (r : Reply) (s t : DeviceSession F) (flash : F) → at < length list → c ≡ get_or list at c →
-    (IsSoundFlash its (state (flash_in s)) → ⊥) → ServesSession state its c s r t → flash ≡ flash_in t →
-    EndsUnmounted its list at (state (flash_in s)) (state flash) (Err failed.Memory)
-unmounted_untold state its list at c r s t flash lt read unsound serves is = inr (record {
+    (r : Reply) (s t : DeviceSession F) → at < length list → c ≡ get_or list at c →
+    (IsSoundFlash its (state (flash_in s)) → ⊥) → ServesSession state its c s r t →
+    EndsUnmounted its list at (state (flash_in s)) (state (flash_in t)) (Err failed.Memory)
+unmounted_untold state its list at c r s t lt read unsound serves = inr (record {
   next = c;
   is = next_of list at c lt read;
   reply = r;
-  serves = subst (λ x. ServesUnmounted its c (state (flash_in s)) r (state x)) (sym is) (serves.unsound unsound);
+  serves = serves.unsound unsound;
 })
 
 -- or there was no memory for it, or the flash was refused

@@ -11,19 +11,11 @@ use Rattle.std.proofs.lemmas.List.Sums.{sum_by_push}
 use Rattle.list_lemmas.proofs.Quantifiers.{all_left, all_right}
 use Rattle.array_runs.specs.Run.{MayBeSpent}
 use Rattle.cut_replay.specs.FlashRun.{last_moment}
+use Rattle.cut_replay.specs.ServerRuns.{seen_through, faulted_through}
 use Rattle.cut_replay.specs.Watching.{text_of_all, replies_told}
 use Rattle.cut_replay.specs.Bounds.{AreSpent, SpendsTold, LastIsSet}
 use Rattle.array_runs.specs.Breaks.{is_cut, arms_cut, arms_fault}
 use Rattle.mounted_session.proofs.Telling.{both_tell, weaker_told}
-
--- what was seen after these commands, and whether a fault was met
-abbrev pub seen_through : (ℕ → ℕ) → List Command → List Reply → ℕ → ℕ
-seen_through seen (c ∷ cs) (r ∷ rs) = seen_through (seen_after seen c r) cs rs
-seen_through seen _ _ = seen
-
-abbrev pub faulted_through : Bool → List Reply → Bool
-faulted_through faulted [] = faulted
-faulted_through faulted (r ∷ rs) = faulted_through (faulted || is_fault r) rs
 
 -- one command more
 abbrev pub GoesOn : Config → (ℕ → ℕ) → Bool → Command → Point → Reply → Point → Type 0

@@ -10,4 +10,9 @@ pub mod Sessions
 pub mod UnmountedRun
 pub mod Beginning
 pub mod Served
+pub mod ServerState
+pub mod ServerParts
+pub mod ServerRuns
+pub mod ServerCalls
+pub mod UnflushedReply
 pub mod LinesText

@@ -6,13 +6,18 @@ mod arms;
 mod calls;
 mod executing;
 mod finishing;
+mod flushing;
 mod lines;
 mod mounting;
 mod reading;
+mod server;
 mod serving;
 pub mod theorems;
+mod unflushed;
 mod watch;
 
 pub use lines::Lines;
+pub use server::Server;
 pub use serving::{ServeError, serve};
+pub use unflushed::Unflushed;
 pub use watch::Watch;

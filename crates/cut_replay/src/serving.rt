@@ -1,21 +1,20 @@
-ghost use Rattle.std.specs.Prelude.{◌≡◌, Ok, true, false, [], length, OnOk, IfOk, IfErr, All};
+ghost use Rattle.std.specs.Prelude.{◌≡◌, Ok, true, false, [], length, OnOk, All};
 ghost use Rattle.tx_types.specs.Config.{checked};
 ghost use Rattle.host_protocol.specs.Commands.{Suits};
 ghost use Rattle.array_runs.specs.Run.{is_arm};
 ghost use Rattle.flash_model.specs.Flash.{FlashState, IsSteady};
 ghost use Rattle.flash_model.specs.Operations.{moment_of};
-ghost use Rattle.cut_replay.specs.Beginning.{Begins, MountsFirst};
 ghost use Rattle.cut_replay.specs.Bounds.{CountsBreaks};
 ghost use Rattle.cut_replay.specs.FlashCalls.{BeginsFlash};
-ghost use Rattle.cut_replay.specs.Mounted.{IsCached};
 ghost use Rattle.cut_replay.specs.Served.{ServesSound, ServesUnsound, RefusesUnsound};
+ghost use Rattle.cut_replay.specs.ServerRuns.{IsServed};
 ghost use Rattle.mounted_session.specs.Sessions.{is_mounted};
-ghost use Rattle.cut_replay.specs.Sessions.{flash_in, serve_error, Fits, Serves, Unmounted, IsSoundFlash, IsSoundOrSame};
+ghost use Rattle.cut_replay.specs.Sessions.{flash_in, serve_error, Fits, Serves, IsSoundFlash, IsSoundOrSame};
 
-use crate::Watch;
 use crate::arms::{arm_bad_read, arm_cut, arm_fault};
 use crate::executing::execute;
 use crate::mounting::{mount_again, remount, remount_if_cut};
+use crate::{Server, Watch};
 use flash_model::{Arms, Power, Wide};
 use host_protocol::{Command, Reply};
 use mounted_session::{Refusal, Session};
@@ -23,7 +22,7 @@ use page_cache::PageCache;
 use record_list::CommitRule;
 use std::alloc::Global;
 use tx_engine::{Device, Fault, Moved, device_facts};
-use tx_types::{Config, Memory, Slot};
+use tx_types::{Config, Slot};
 
 /// Why the commands were not all served.
 #[derive(Clone, Copy, PartialEq, Eq)]
@@ -131,7 +130,7 @@ fn serve_unmounted<F: Power + Wide, R: CommitRule>(
 }
 
 /// Serves a command. The session is changed in place: only a mount takes its device apart.
-fn serve_one<F: Power + Arms + Wide, R: CommitRule>(
+pub fn serve_one<F: Power + Arms + Wide, R: CommitRule>(
     alloc: Global,
     config: Config,
     session: &mut Session<F, Device<F, R>>,
@@ -167,87 +166,41 @@ fn serve_one<F: Power + Arms + Wide, R: CommitRule>(
 /// Serves the commands in order, and tells each reply at the end of its command.
 fn serve_all<F: Power + Arms + Wide, R: CommitRule, W: Watch<F>>(
     alloc: Global,
-    config: Config,
-    mut session: Session<F, Device<F, R>>,
-    cache: &mut PageCache,
-    room: &mut [u8],
+    server: &mut Server<F, R>,
     list: &[Command],
     out: &mut W,
-) -> (F, Result<(), ServeError>)
-    requires rule { config.protocol ≡ R.protocol }
-    requires fits { Fits F.state config cache.old.entries session }
-    requires suits { All (Suits config.page_bytes) list.now }
-    requires room { length room.old ≡ config.page_bytes }
-    requires size { cache.old.page_bytes ≡ config.page_bytes }
-    ensures serves { (init : FlashState) → Begins F.state config init session →
-        ServesSound config list.now init (F.state result.0)
+) -> Result<(), ServeError>
+    requires { All (Suits server.old.config.page_bytes) list.now }
+    ensures serves { (init : FlashState) →
+        IsServed F.state server.old.config init [] [] [] server.old.session →
+        ServesSound server.old.config list.now init (F.state (flash_in server.new.session))
         (record { text = W.text out.old; kept = W.kept out.old; flashes = W.flashes out.old })
-        (record { text = W.text out.new; kept = W.kept out.new; flashes = W.flashes out.new }) result.1 }
+        (record { text = W.text out.new; kept = W.kept out.new; flashes = W.flashes out.new }) result }
     ensures refuses { (init : FlashState) →
-        IsSoundOrSame config init (F.state (flash_in session)) →
-        RefusesUnsound config init (F.state result.0) result.1 }
-    ensures unsound { (init : FlashState) → (IsSoundFlash config init → ⊥) →
-        BeginsFlash config init false (F.state (flash_in session)) →
-        moment_of (F.state (flash_in session)) ≡ moment_of init →
-        CountsBreaks [] init (F.state (flash_in session)) →
-        ServesUnsound config list.now init (F.state result.0)
+        IsSoundOrSame server.old.config init (F.state (flash_in server.old.session)) →
+        RefusesUnsound server.old.config init (F.state (flash_in server.new.session)) result }
+    ensures unsound { (init : FlashState) → (IsSoundFlash server.old.config init → ⊥) →
+        BeginsFlash server.old.config init false (F.state (flash_in server.old.session)) →
+        moment_of (F.state (flash_in server.old.session)) ≡ moment_of init →
+        CountsBreaks [] init (F.state (flash_in server.old.session)) →
+        ServesUnsound server.old.config list.now init (F.state (flash_in server.new.session))
         (record { text = W.text out.old; kept = W.kept out.old; flashes = W.flashes out.old })
-        (record { text = W.text out.new; kept = W.kept out.new; flashes = W.flashes out.new }) result.1 }
-    ensures shape { checked config ≡ Ok (F.state result.0).shape }
-    ensures extras { (F.state result.0).extras ≡ (F.state (flash_in session)).extras }
+        (record { text = W.text out.new; kept = W.kept out.new; flashes = W.flashes out.new }) result }
+    ensures config { server.new.config ≡ server.old.config }
+    ensures extras { (F.state (flash_in server.new.session)).extras
+        ≡ (F.state (flash_in server.old.session)).extras }
 {
     for command in list {
-        match serve_one(alloc, config, &mut session, cache, room, command) {
+        match server.answer_next(alloc, command) {
             Ok(reply) => {
-                if out.tell(session.flash(), &reply).is_err() {
-                    return (session.close(), Err(ServeError::Memory));
+                if out.tell(server.flash(), &reply).is_err() {
+                    return Err(ServeError::Memory);
                 }
             }
-            Err(why) => return (session.close(), Err(why)),
+            Err(why) => return Err(why),
         }
     }
-    (session.close(), Ok(()))
-}
-
-/// A cache and room for a page.
-fn buffers(alloc: Global, page_bytes: u32) -> Result<(PageCache, Vec<u8>), Memory>
-    ensures size { IfOk result (λ rooms. rooms.0.page_bytes ≡ page_bytes) }
-    ensures room { IfOk result (λ rooms. length rooms.1.items ≡ page_bytes) }
-{
-    let cache = PageCache::new(alloc, page_bytes)?;
-    let room = vec![in alloc; 0; page_bytes as usize]?;
-    Ok((cache, room))
-}
-
-/// The session that serving begins with: a flash without power is mounted later.
-fn begin<F: Power, R: CommitRule>(
-    alloc: Global,
-    flash: F,
-    config: Config,
-    cache: &mut PageCache,
-) -> Result<Session<F, Device<F, R>>, (F, ServeError)>
-    requires check { checked config ≡ Ok (F.state flash).shape }
-    requires rule { config.protocol ≡ R.protocol }
-    ensures steady { IsSteady (F.state flash) → OnOk result (IsSoundFlash config (F.state flash)) }
-    ensures fits { IfOk result (λ s. Fits F.state config cache.new.entries s) }
-    ensures begins { IsSoundFlash config (F.state flash) →
-        IfOk result (Begins F.state config (F.state flash)) }
-    ensures first { IfOk result (MountsFirst F.state config flash) }
-    ensures kept { IfOk result (λ s.
-        IsSoundOrSame config (F.state flash) (F.state (flash_in s))) }
-    ensures faults { IfOk result (λ s.
-        CountsBreaks [] (F.state flash) (F.state (flash_in s))) }
-    ensures unsound { (IsSoundFlash config (F.state flash) → ⊥) → IfOk result (λ s.
-        BeginsFlash config (F.state flash) false (F.state (flash_in s))) }
-    ensures extras { IfOk result (λ s. (F.state (flash_in s)).extras ≡ (F.state flash).extras) }
-    ensures failed { IfErr result (λ e. Unmounted F.state config flash e.0 e.1) }
-    ensures size { cache.new.page_bytes ≡ cache.old.page_bytes }
-{
-    cache.clear();
-    match mounted_session::begin(alloc, flash, config) {
-        Ok(session) => Ok(session),
-        Err((flash, why)) => Err((flash, ServeError::from(why))),
-    }
+    Ok(())
 }
 
 /// Serves the commands in order on the device of a flash, and tells each reply at the end of its
@@ -300,13 +253,11 @@ pub fn serve<F: Power + Arms + Wide, R: CommitRule, W: Watch<F>>(
     ensures shape { (F.state result.0).shape ≡ (F.state flash).shape }
     ensures extras { (F.state result.0).extras ≡ (F.state flash).extras }
 {
-    let Ok((mut cache, mut room)) = buffers(alloc, config.page_bytes) else {
-        return (flash, Err(ServeError::Memory));
-    };
-    match begin(alloc, flash, config, &mut cache) {
-        Ok(session) => serve_all::<F, R, W>(
-            alloc, config, session, &mut cache, &mut room, list, out,
-        ),
+    match Server::<F, R>::open(alloc, flash, config) {
+        Ok(mut server) => {
+            let outcome = serve_all::<F, R, W>(alloc, &mut server, list, out);
+            (server.close(), outcome)
+        }
         Err((flash, why)) => (flash, Err(why)),
     }
 }

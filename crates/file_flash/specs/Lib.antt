@@ -5,6 +5,7 @@ pub mod Losing
 pub mod Marking
 pub mod Clearing
 pub mod FileFlashState
+pub mod Flushes
 pub mod FileFlash
 pub mod Opening
 pub mod Loads

@@ -7,6 +7,7 @@ ghost use Rattle.flash_model.specs.Firing.{no_loads, loads_in, IsFreeAt, with_lo
 ghost use Rattle.mem_flash.specs.Breaking.{broken_by, fire_broken_by, answered, operated, fired, after_read};
 ghost use Rattle.file_flash.specs.Losing.{LosesOnly, LosesBetween, LeavesImages, LeavesSpelling};
 ghost use Rattle.file_flash.specs.FileFlashState.{untold, slots_of_loads, IsFrozen, LosesPower};
+ghost use Rattle.file_flash.specs.Flushes.{Flushes};
 
 use crate::Store;
 use crate::cutting::{cut_erase, cut_fire, cut_program, lose_power};
@@ -248,17 +249,10 @@ impl<S: Store + Drop> Arms for FileFlash<S> {
 }
 
 impl<S: Store + Drop> Cached for FileFlash<S> {
+    ghost flushes = { Flushes };
+
     /// A loss leaves each slot as it is, or blank where it waited; and once this is done, each slot as it is.
-    fn flush(&mut self) -> Result<(), NotDurable>
-        ensures stays { self.new.memory ≡ self.old.memory }
-        ensures answer { is_err result ≡ self.new.failed }
-        ensures none { OnOk result (self.new.waiting ≡ []) }
-        ensures durable { OnOk result (IfSome self.new.file
-            (LosesOnly self.new.memory.shape self.new.memory.image [])) }
-        ensures loses { self.old.failed ≡ false → IfSome self.new.file
-            (LosesOnly self.new.memory.shape self.new.memory.image self.old.waiting) }
-        ensures frozen { self.old.failed ≡ true → IsFrozen self.old self.new }
-    {
+    fn flush(&mut self) -> Result<(), NotDurable> {
         let _ = self.memory.shape();
         if self.failed {
             return Err(NotDurable);

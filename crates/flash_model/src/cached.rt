@@ -1,4 +1,5 @@
-ghost use Rattle.std.specs.Prelude.{◌≡◌};
+ghost use Rattle.std.specs.Prelude.{◌≡◌, Result};
+ghost use Rattle.flash_model.specs.declared.cached.NotDurable.{NotDurable};
 
 use crate::Flash;
 
@@ -8,8 +9,12 @@ pub struct NotDurable;
 
 /// A flash whose programs wait to be made durable. A loss of power leaves any part of those that wait.
 pub trait Cached: Flash {
+    /// What a flush does to what waits, done or failed.
+    ghost flushes: { Self → Self → Result (Unit {0}) NotDurable → Type 0 };
+
     /// Makes durable all that was done. What the flash shows is as before, also where this fails: then a loss of
     /// power may still take what waits, nothing may be answered that rests on it, and each later flush fails too.
     fn flush(&mut self) -> Result<(), NotDurable>
-        ensures { Self.state self.new ≡ Self.state self.old };
+        ensures same { Self.state self.new ≡ Self.state self.old }
+        ensures flushes { flushes self.old self.new result };
 }

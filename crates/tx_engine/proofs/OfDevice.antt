@@ -8,4 +8,5 @@ pub mod Seen
 pub mod InDoubt
 pub mod ImageMoves
 pub mod ExitsThen
+pub mod HeldRecords
 pub mod OpenNames

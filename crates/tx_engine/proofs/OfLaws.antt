@@ -1,1 +1,3 @@
 pub mod DevicesStand
+pub mod LaterSlots
+pub mod ReadySteps

@@ -3,3 +3,4 @@ pub mod CostFacts
 pub mod StepExits
 pub mod StepWrites
 pub mod NextRecord
+pub mod NextThere

@@ -1,7 +1,9 @@
 pub mod Breaking
+pub mod HeldImages
 pub mod Leaving
 pub mod PageWrites
 pub mod RecordWrites
+pub mod RoomMaking
 pub mod WriteAfter
 pub mod WriteExits
 pub mod Programs

@@ -29,6 +29,7 @@ use Rattle.array_machine.specs.ArrayState.{ArrayState, Entry}
 use Rattle.tx_engine.specs.Batches.{jobs_of, chosen_in, noted_each, record_due, taken_writes, takes_each, used_each}
 use Rattle.tx_engine.specs.Calls.{IsReady, AdvancesTo}
 use Rattle.tx_engine.specs.Exits.{Exits, MentionsAtMost, VersionsRise}
+use Rattle.tx_engine.specs.Held.{AddsNoHeldIn}
 use Rattle.open_table.specs.OpenTransactionsState.{OpenTransactionsState, TransactionState, HasLimitsOf, HasPlace, IsDueAt, bytes_due, entries_of, name_due, namings_of, transaction_at, with_transaction, name_at}
 use Rattle.tx_engine.specs.Settling.{Counts, CountsOn, must_program, with_next}
 use Rattle.tx_engine.specs.DeviceState.{Stands}
@@ -192,6 +193,7 @@ pub record DroppedAll {F : Type 0} (state : F → FlashState) (S S' : StoreState
   pub array : MayTakeEach (device_in state S O).machine.pages IsAtLast (entries_of O)
       (array_in S.noted.config.protocol S.noted.config.logical (state S'.flash).image)
   pub mentions : MentionsAtMost S.noted (namings_of O) (state S'.flash).image
+  pub held : AddsNoHeldIn S.noted.config.protocol S.noted.config.logical (state S.flash).image (state S'.flash).image
   pub can : CanDo (state S.flash).shape (state S.flash).image (fire (loads_for S.noted O 0 jobs))
   pub torn : Torn (state S.flash).shape (moment_of (state S.flash)) (fire (loads_for S.noted O 0 jobs))
       (moment_of (state S'.flash))

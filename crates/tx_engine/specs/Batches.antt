@@ -26,6 +26,7 @@ use Rattle.array_machine.specs.declared.answers.Progress.{Progress}
 use Rattle.array_machine.specs.ArrayState.{Entry, Pages, idle, put}
 use Rattle.tx_engine.specs.DeviceCalls.{StepsDevice}
 use Rattle.tx_engine.specs.Exits.{Exits, MentionsAtMost, VersionsRise, is_there, plain_writes, settled_writes}
+use Rattle.tx_engine.specs.Held.{AddsNoHeldIn}
 use Rattle.open_table.specs.OpenTransactionsState.{TransactionState, name_at, write_at}
 use Rattle.tx_engine.specs.Settling.{is_at_last, is_whole, link_place, with_settlement}
 use Rattle.tx_engine.specs.DeviceState.{DeviceState}
@@ -158,6 +159,7 @@ pub record DropsDevice {F : Type 0} (state : F → FlashState) (old new : Device
   pub array : CutLeavesEach old.machine
       (idle (array_in old.config.protocol old.config.logical (state new.flash).image))
   pub mentions : MentionsAtMost old.noted old.namings (state new.flash).image
+  pub held : AddsNoHeldIn old.config.protocol old.config.logical (state old.flash).image (state new.flash).image
   pub moves : MovesTogether true (state old.flash).shape (moment_of (state old.flash)) true
       (moment_of (state new.flash))
   pub carries : Carries (state old.flash) (state new.flash) true

@@ -155,3 +155,8 @@ pub record TellsDevice {F : Type 0} (state : F → FlashState) (s : DeviceState 
 pub record ArmsDevice {F : Type 0} (old new : DeviceState F) (Armed : Type 0) : Type 0 where
   pub arms : Armed
   pub stays : new ≡ record old { flash = new.flash }
+
+-- What a flash shows is as before, and nothing else of the device changed.
+pub record FlushesDevice {F : Type 0} (state : F → FlashState) (old new : DeviceState F) : Type 0 where
+  pub same : state new.flash ≡ state old.flash
+  pub stays : new ≡ record old { flash = new.flash }

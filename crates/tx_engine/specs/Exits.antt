@@ -15,6 +15,7 @@ use Rattle.array_machine.specs.declared.mark.Mark.{Mark}
 use Rattle.array_machine.specs.declared.mark.Mark.TheVariants.{Plain, Doubt, Whole}
 use Rattle.array_machine.specs.Step.{settled, doubted}
 use Rattle.tx_engine.specs.DeviceState.{DeviceState}
+use Rattle.tx_engine.specs.Held.{AddsNoHeldIn}
 use Rattle.open_table.specs.OpenTransactionsState.{Naming}
 use Rattle.array_machine.specs.declared.answers.Progress.{Progress}
 use Rattle.array_machine.specs.declared.answers.Progress.TheVariants as progress
@@ -127,12 +128,14 @@ pub record ExitsTables {F : Type 0} (old new : DeviceState F) : Type 0 where
   pub names : All (λ x. Any (λ before. before.names ≡ x.names) old.namings) new.namings
   pub kept : new.dropped ≡ false
 
--- and with it what the flash carries over, and the operations by which its moment moves
+-- and with it what the flash carries over, the operations by which its moment moves, and that no record is held which
+-- was not, but for those that came into force
 pub record Exits {F : Type 0} (state : F → FlashState) (old new : DeviceState F)
     (broken : Bool) : Type 0 where
   pub tables : ExitsTables old new
   pub moves : FlashMoves (state old.flash) (state new.flash) broken
   pub carries : Carries (state old.flash) (state new.flash) broken
+  pub held : AddsNoHeldIn old.config.protocol old.config.logical (state old.flash).image (state new.flash).image
 
 -- a page is mentioned in the image at most as the tables have it, or as an open transaction names it
 abbrev pub MentionsAtMost : IndexState → List Naming → List Contents → Type 0

@@ -7,9 +7,13 @@ pub mod Collections
 pub mod Costs
 pub mod DeviceCalls
 pub mod Exits
+pub mod Held
+pub mod LaterSlots
 pub mod Naming
 pub mod Opens
 pub mod Read
+pub mod Readying
+pub mod ReadySteps
 pub mod Retire
 pub mod Settling
 pub mod DeviceState

@@ -16,6 +16,7 @@ use Rattle.array_machine.specs.ArrayState.{ArrayState}
 use Rattle.tx_engine.specs.Breaking.{BreaksThen}
 use Rattle.tx_engine.specs.Calls.{IsReady}
 use Rattle.tx_engine.specs.Exits.{ExitsTables, VersionsRise, SettlesOrNot, settled_writes}
+use Rattle.tx_engine.specs.Held.{AddsNoHeldIn}
 use Rattle.open_table.specs.OpenTransactionsState.{OpenTransactionsState}
 use Rattle.tx_engine.specs.Settling.{StaysUnread, settlement_of}
 use Rattle.tx_engine.specs.DeviceState.{DeviceState, Stands}
@@ -85,12 +86,14 @@ RetireEnds state old new block (Err failed.Fault) =
     RetiresNone (state old.flash) (state new.flash)
     ⊎ RetiresTorn (state old.flash) (state new.flash) block
 
--- what retiring a block keeps of what is known, what it did to the flash, and what the flash carries over
+-- what retiring a block keeps of what is known, what it did to the flash, what the flash carries over, and that no
+-- record is held which was not, but for those that came into force
 pub record RetireExits {F : Type 0} (state : F → FlashState) (old new : DeviceState F) (block : ℕ)
     (result : Result (Unit {0}) RetireError) : Type 0 where
   pub tables : ExitsTables old new
   pub ends : RetireEnds state old new block result
   pub carries : CarriesRetiring (state old.flash) (state new.flash) (is_retire_fault result)
+  pub held : AddsNoHeldIn old.config.protocol old.config.logical (state old.flash).image (state new.flash).image
 
 -- What retiring a block does to the tables that are known once the place was read, each of its slots once: as where the
 -- block is collected, or erased where it is the spare. Each slot that is copied is read once.
@@ -130,6 +133,7 @@ pub record LeavesTables {F : Type 0} (state : F → FlashState) (old new : Devic
   pub versions : (page : ℕ) → page < old.config.logical →
       current_of new.noted page ≡ current_of old.noted page
   pub kept : Preserves old.noted new.noted
+  pub held : AddsNoHeldIn old.config.protocol old.config.logical (state old.flash).image (state new.flash).image
 
 -- The refusal of a block, if there is one. Where there is none the block exists, and may be retired.
 pub record RefusesRetiring (s : FlashState) (block : ℕ) (result : Option RetireError) : Type 0 where

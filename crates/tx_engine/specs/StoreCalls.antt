@@ -77,3 +77,8 @@ pub record FindsStored {F : Type 0} (state : F → FlashState) (p : Protocol) (o
 pub record ArmsStored {F : Type 0} (old new : StoreState F) (Armed : Type 0) : Type 0 where
   pub arms : Armed
   pub stays : new ≡ record old { flash = new.flash }
+
+-- What a flash shows is as before, and nothing else changed.
+pub record FlushesStored {F : Type 0} (state : F → FlashState) (old new : StoreState F) : Type 0 where
+  pub same : state new.flash ≡ state old.flash
+  pub stays : new ≡ record old { flash = new.flash }

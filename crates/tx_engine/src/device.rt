@@ -6,6 +6,8 @@ ghost use Rattle.tx_engine.specs.DeviceCalls.{MountsDevice, ReadsDevice, Submits
 ghost use Rattle.tx_engine.specs.DeviceState.{Stands};
 
 mod arms;
+mod flush;
+mod make_ready;
 mod retire;
 mod step_all;
 

@@ -10,6 +10,7 @@ mod collecting;
 mod device;
 mod jobs;
 mod programming;
+mod readying;
 mod retiring;
 mod settling;
 mod store;

@@ -17,5 +17,6 @@ pub(crate) fn retire_settled<F: Retire, R: CommitRule>(
     ensures { RetiresSettled F.state R.protocol store.old store.new transactions.now block.0 result }
 {
     theorems::array_stays::<R>();
+    theorems::image_is_sound::<R>();
     store.retire(block)
 }

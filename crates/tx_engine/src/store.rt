@@ -14,9 +14,11 @@ ghost use Rattle.tx_engine.specs.StoreState.{CanWrite, IsStoreState, WritesOwn, 
 
 mod arms;
 mod counts;
+mod flush;
 mod pins;
 mod registers;
 mod retire;
+mod room;
 
 use crate::MountError;
 use crate::programming::write_record;

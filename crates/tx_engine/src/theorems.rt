@@ -1,5 +1,8 @@
 //! What holds of all devices. The functions do nothing of their own: each is there for what it ensures.
+ghost use Rattle.tx_types.specs.declared.config.Protocol.{Protocol};
 ghost use Rattle.tx_engine.specs.Always.{CutsLeave, DevicesStand};
+ghost use Rattle.tx_engine.specs.LaterSlots.{LaterSlotLaw};
+ghost use Rattle.tx_engine.specs.ReadySteps.{ReadyStepLaw};
 
 use flash_model::Flash;
 use record_list::CommitRule;
@@ -20,3 +23,14 @@ pub fn crash_states<F: Flash, R: CommitRule>()
 {
     device_invariant::<F, R>();
 }
+
+/// Where no version rose since an image, what came to its blank slots since may be lost: each current and each held
+/// record has a slot that stays, outside some block.
+pub fn later_slots_may_go()
+    ensures { (protocol : Protocol) → LaterSlotLaw protocol }
+{}
+
+/// A step of a settled device that is ready for the next page of its transaction takes one program at most, and no erase.
+pub fn ready_steps<F: Flash>()
+    ensures { ReadyStepLaw F.state }
+{}

@@ -3,6 +3,7 @@ ghost use Rattle.record_list.specs.Transaction.{back_version};
 ghost use Rattle.judged_records.specs.Notes.{found_in};
 ghost use Rattle.tx_engine.specs.Calls.{CanProgram, CanWriteNext, ClearsFor, FindsFor, IsClearFor, IsReadyFor, IsRecordDue, WritesPage};
 ghost use Rattle.open_table.specs.OpenTransactionsState.{HasPlace, bytes_due, name_due, transaction_at, with_transaction, with_mark};
+ghost use Rattle.tx_engine.specs.Readying.{MakesRoom};
 ghost use Rattle.tx_engine.specs.Settling.{is_at_last};
 ghost use Rattle.tx_engine.specs.StoreState.{WritesOwn, store_in};
 
@@ -51,6 +52,7 @@ fn clear_superseded<F: Flash, R: CommitRule>(
         (name_due transactions.now at) result }
 {
     theorems::array_stays::<R>();
+    theorems::image_is_sound::<R>();
     let name = transactions.name(at, transactions.done_count(at));
     store.clear_superseded(name.page, name.version)
 }
@@ -66,7 +68,27 @@ fn find_slot<F: Flash, R: CommitRule>(
         (name_due transactions.now at) result }
 {
     theorems::array_stays::<R>();
+    theorems::image_is_sound::<R>();
     store.allocate_slot()
+}
+
+/// Makes room for the next page of the transaction at an index: records that must go are cleared away, and where no
+/// block has room one is collected.
+pub(crate) fn make_room<F: Flash, R: CommitRule>(
+    store: &mut Store<F, R>,
+    transactions: &OpenTransactions,
+    at: usize,
+) -> Result<(), Broken>
+    requires { IsReadyFor F.state R.protocol store.old transactions.now at }
+    ensures { MakesRoom F.state store.old store.new transactions.now (name_due transactions.now at) result }
+{
+    clear_superseded(store, transactions, at)?;
+    if store.has_room() {
+        return Ok(());
+    }
+    // The slot stays free, and the search comes to it again.
+    let _slot = find_slot(store, transactions, at)?;
+    Ok(())
 }
 
 /// The record that the transaction at an index writes next.

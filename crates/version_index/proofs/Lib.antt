@@ -7,3 +7,4 @@ pub mod OfLosses
 pub mod OfChanges
 pub mod OfReadings
 pub mod OfTables
+pub mod OfWritten

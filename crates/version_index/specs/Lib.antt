@@ -1,3 +1,4 @@
+pub mod Written
 pub mod Tables
 pub mod Going
 pub mod Losing

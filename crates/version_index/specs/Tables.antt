@@ -14,6 +14,7 @@ use Rattle.judged_records.specs.declared.note.Note.TheVariants as note
 use Rattle.judged_records.specs.IndexState.{IndexState, IsNoted}
 use Rattle.judged_records.specs.DerivedChanges.{derived_of}
 use Rattle.judged_records.specs.Numbered.{Numbered, rec_at, number_at, AreDerived}
+use Rattle.version_index.specs.Written.{pages_written}
 use Rattle.version_index.specs.declared.index.Index.TheInside.{Inside}
 
 -- what is noted of a slot that is used so
@@ -72,5 +73,7 @@ pub record AreIndexed (protocol : Protocol) (its : Config) (its_mentions : List 
   pub held : AreHeld k
   pub judged : AreDerived (numbered_of k) its.logical (derived_of (noted_by its its_mentions k))
 
-abbrev pub IndexInvariant : {R : Type 0} → Protocol → Inside R → Type 0
-IndexInvariant protocol d = AreIndexed protocol d.config d.mentions.items d.tables
+-- and the pages that are not blank are counted
+pub record IndexInvariant {R : Type 0} (protocol : Protocol) (d : Inside R) : Type 0 where
+  pub indexed : AreIndexed protocol d.config d.mentions.items d.tables
+  pub written : d.written ≡ pages_written d.tables

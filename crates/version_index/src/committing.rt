@@ -1,4 +1,4 @@
-ghost use Rattle.std.specs.Prelude.{◌≡◌, ◌<◌, ℕ, List, length, IfSome};
+ghost use Rattle.std.specs.Prelude.{◌≡◌, ◌<◌, ◌≤◌, ℕ, List, length, IfSome};
 ghost use Rattle.tx_types.specs.Config.{slots_of};
 ghost use Rattle.tx_types.specs.declared.config.Config.{Config};
 ghost use Rattle.tx_types.specs.declared.config.Protocol.{Protocol};
@@ -6,7 +6,9 @@ ghost use Rattle.slot_tables.specs.TablesState.{IsTablesState, number_at};
 ghost use Rattle.judged_records.specs.DerivedChanges.{completes};
 ghost use Rattle.version_index.specs.Committing.{LinksExist, newest_with_name, with_version, OnlyDerives, AreReleased, IsTaken, IsAnswered, MayComplete, CommitsRound, ResolvesRound, DerivesWhole, CommitsIfComplete};
 ghost use Rattle.version_index.specs.Tables.{discard_at, noted_by, version_at};
+ghost use Rattle.version_index.specs.Written.{pages_written};
 
+use crate::counting::set_current;
 use crate::losing::release;
 use slot_tables::Tables;
 use tx_types::{Link, Protocol, Rec};
@@ -98,32 +100,50 @@ fn completes(tables: &Tables, logical: u32, rec: Rec) -> bool
 
 /// Makes the records of a cycle current, where this record completes it.
 #[inline(always)]
-pub fn commit_if_complete(tables: &mut Tables, logical: u32, protocol: Protocol, rec: Rec)
+pub fn commit_if_complete(
+    tables: &mut Tables,
+    written: &mut u32,
+    logical: u32,
+    protocol: Protocol,
+    rec: Rec,
+)
     requires links { LinksExist tables.old }
     requires page { rec.page < length tables.old.pages }
     requires next { rec.next.page < length tables.old.pages }
+    requires few { length tables.old.pages ≤ 65536 }
+    requires written { written.old ≡ pages_written tables.old }
     ensures kept { IsTablesState tables.old }
     ensures judges { OnlyDerives tables.old tables.new }
     ensures settled { CommitsIfComplete protocol tables.old tables.new rec logical }
+    ensures written { written.new ≡ pages_written tables.new }
 {
     // For the proof: the sizes of the tables.
     let _ = tables.shape();
     if !completes(tables, logical, rec) {
         return;
     }
-    commit_cycle(tables, logical, protocol, rec.name());
+    commit_cycle(tables, written, logical, protocol, rec.name());
 }
 
 /// Makes the records of a whole cycle current. Under Back Pointer Cyclic Commit they then answer for the
 /// records that wait for their pages.
 #[inline(never)]
-fn commit_cycle(tables: &mut Tables, logical: u32, protocol: Protocol, start: Link)
+fn commit_cycle(
+    tables: &mut Tables,
+    written: &mut u32,
+    logical: u32,
+    protocol: Protocol,
+    start: Link,
+)
     requires links { LinksExist tables.old }
     requires page { start.page < length tables.old.pages }
+    requires few { length tables.old.pages ≤ 65536 }
+    requires written { written.old ≡ pages_written tables.old }
     ensures judges { OnlyDerives tables.old tables.new }
     ensures whole { DerivesWhole protocol tables.old tables.new start logical }
+    ensures written { written.new ≡ pages_written tables.new }
 {
-    make_all_current(tables, logical, start);
+    make_all_current(tables, written, logical, start);
     match protocol {
         Protocol::Scc => {}
         Protocol::Bpcc => resolve_all(tables, logical, start),
@@ -131,15 +151,18 @@ fn commit_cycle(tables: &mut Tables, logical: u32, protocol: Protocol, start: Li
 }
 
 /// Makes each record of the cycle of this one current.
-fn make_all_current(tables: &mut Tables, logical: u32, start: Link)
+fn make_all_current(tables: &mut Tables, written: &mut u32, logical: u32, start: Link)
     requires links { LinksExist tables.old }
     requires page { start.page < length tables.old.pages }
+    requires few { length tables.old.pages ≤ 65536 }
+    requires written { written.old ≡ pages_written tables.old }
     ensures judges { OnlyDerives tables.old tables.new }
     ensures takes { CommitsRound tables.old tables.new start logical }
+    ensures written { written.new ≡ pages_written tables.new }
 {
     let mut link = start;
     for _ in 0..logical {
-        make_newest_current(tables, link.page);
+        make_newest_current(tables, written, link.page);
         match newest_with_name(tables, link) {
             None => return,
             Some(rec) => {
@@ -157,6 +180,7 @@ fn resolve_all(tables: &mut Tables, logical: u32, start: Link)
     requires links { LinksExist tables.old }
     requires page { start.page < length tables.old.pages }
     ensures judges { OnlyDerives tables.old tables.new }
+    ensures current { tables.new.current ≡ tables.old.current }
     ensures answers { ResolvesRound tables.old tables.new start logical }
 {
     let mut link = start;
@@ -176,17 +200,20 @@ fn resolve_all(tables: &mut Tables, logical: u32, start: Link)
 
 /// Makes the newest record of a page current. The records above the one that was current wait no more,
 /// and none answers for them.
-fn make_newest_current(tables: &mut Tables, page: u32)
-    requires { page < length tables.old.pages }
+fn make_newest_current(tables: &mut Tables, written: &mut u32, page: u32)
+    requires page { page < length tables.old.pages }
+    requires few { length tables.old.pages ≤ 65536 }
+    requires written { written.old ≡ pages_written tables.old }
     ensures judges { OnlyDerives tables.old tables.new }
     ensures taken { IsTaken tables.old tables.new page }
+    ensures written { written.new ≡ pages_written tables.new }
 {
     // For the proof: the sizes of the tables.
     let _ = tables.shape();
     let current = current_version(tables, page);
     let newest = tables.newest(page);
     release_above(tables, page, current);
-    tables.set_current(page, newest);
+    set_current(tables, written, page, newest);
 }
 
 /// Releases the records of a page above a version: they wait no more, and none answers for them.

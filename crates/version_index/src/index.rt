@@ -10,6 +10,7 @@ ghost use Rattle.version_index.specs.Scanned.{AreScanned};
 mod changing;
 mod reading;
 
+use crate::counting::count_written;
 use crate::filling::{build_tables, current_versions_of};
 use crate::mentioning::first_mentions;
 use flash_model::Seen;
@@ -28,6 +29,8 @@ pub struct Index<R: CommitRule> {
     pub(crate) config: Config,
     pub(crate) tables: Tables,
     pub(crate) mentions: Vec<u64>,
+    /// How many pages are not blank.
+    pub(crate) written: u32,
     rule: PhantomData<R>,
 }
 
@@ -87,10 +90,12 @@ impl<R: CommitRule> Index<R> {
         let mentions = first_mentions(alloc, standing.sorted_records().records(), config.logical)?;
         let filling = build_tables(alloc, shape, config.logical, seen, standing)?;
         let tables = filling.finish(alloc)?;
+        let written = count_written(&tables, config.logical);
         Ok(Index {
             config,
             tables,
             mentions,
+            written,
             rule: PhantomData,
         })
     }

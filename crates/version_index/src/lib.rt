@@ -3,6 +3,7 @@
 
 mod clearing;
 mod committing;
+mod counting;
 mod deciding;
 mod filling;
 mod holding;

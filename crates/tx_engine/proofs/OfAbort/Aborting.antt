@@ -9,6 +9,7 @@ use Rattle.array_machine.specs.declared.answers.StepError.TheVariants as failed
 use Rattle.tx_engine.proofs.OfDevice.Kept.{from_stands}
 use Rattle.open_table.proofs.OfTransactions.OpenList.{first_position, first_of_own, entry_first, entry_none, without_first}
 use Rattle.tx_engine.proofs.OfDevice.ExitsThen.{NamedBefore}
+use Rattle.tx_engine.proofs.OfDevice.HeldRecords.{held_same}
 use Rattle.tx_engine.proofs.OfAbort.Removal.{current_pins}
 use Rattle.tx_engine.proofs.OfSubmit.Submitted.{repinned, array_aside}
 
@@ -99,6 +100,7 @@ module _ {F : Type 0} (state : F → FlashState) (S S' : StoreState F) (O O' : O
     };
     moves = FlashMoves-nothing (state S.flash) (state S.flash) false refl;
     carries = Carries-nothing (state S.flash);
+    held = held_same S.noted.config.protocol S.noted.config.logical (state S.flash).image (state S.flash).image refl;
   })
 
   pub closed_current : (page : ℕ) → current_of S'.noted page ≡ current_of S.noted page

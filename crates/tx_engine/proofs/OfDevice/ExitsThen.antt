@@ -1,7 +1,9 @@
 -- A call after another: what both say of the flash, the versions and the mentions.
-use Rattle.tx_engine.proofs.Common.{◌≡◌, ◌≢◌, ℕ, ◌<◌, ◌≤◌, Bool, false, List, ◌++◌, get_or, All, refl, sym, ap, ◌∙◌, subst, inl, inr, arith, Any, get_or_default, All-append, PageWrite, Config, Link, FlashState, Carries, FlashMoves, Carries-then, FlashMoves-then, current_of, mention_of, DeviceState, Naming, Exits, ExitsTables, VersionsRise, IsNamedAt}
+use Rattle.tx_engine.proofs.Common.{◌≡◌, ◌≢◌, ℕ, ◌<◌, ◌≤◌, Bool, false, List, ◌++◌, get_or, All, refl, sym, ap, ◌∙◌, subst, inl, inr, arith, Any, get_or_default, All-append, PageWrite, Config, Link, FlashState, Contents, records_in, Carries, FlashMoves, Carries-then, FlashMoves-then, current_of, mention_of, DeviceState, Naming, Exits, ExitsTables, VersionsRise, IsNamedAt}
 use Rattle.list_lemmas.proofs.Quantifiers.{all_left, all_right}
 use Rattle.tx_engine.specs.Exits.{VersionsTell}
+use Rattle.tx_engine.specs.Held.{AddsNoHeldIn}
+use Rattle.tx_engine.proofs.OfDevice.HeldRecords.{held_same, held_then}
 
 -- each of these was named before
 abbrev pub NamedBefore : List Naming → List Naming → Type 0
@@ -29,13 +31,21 @@ before_then a b c first second k d h =
     let was = first mid.0 mid.1 mid.2 in
     (was.0, was.1, was.2, was.3, was.4 ∙ ap (λ (x : Naming). x.names) mid.3 ∙ mid.4)
 
+-- one image after another
+pub images_then : (its then : Config) (a b c : List Contents) → then ≡ its →
+    AddsNoHeldIn its.protocol its.logical a b → AddsNoHeldIn then.protocol then.logical b c →
+    AddsNoHeldIn its.protocol its.logical a c
+images_then its then a b c same first second =
+    held_then its.protocol its.logical (records_in its.protocol a) (records_in its.protocol b) (records_in its.protocol c)
+    first (subst (λ (k : Config). AddsNoHeldIn k.protocol k.logical b c) same second)
+
 module _ {F : Type 0} (state : F → FlashState) where
   -- Where nothing changed
   pub exits_still : (s : DeviceState F) (new : F) (broken : Bool) (t : DeviceState F) → s.dropped ≡ false →
-      t ≡ record s { flash = new } →
+      t ≡ record s { flash = new } → (state new).image ≡ (state s.flash).image →
       FlashMoves (state s.flash) (state new) broken →
       Carries (state s.flash) (state new) broken → Exits state s t broken
-  exits_still s new broken t kept same moves carries = subst (λ t. Exits state s t broken) (sym same) (record {
+  exits_still s new broken t kept same image moves carries = subst (λ t. Exits state s t broken) (sym same) (record {
     tables = record {
       config = refl;
       versions = λ page within. inr (refl, refl);
@@ -45,6 +55,7 @@ module _ {F : Type 0} (state : F → FlashState) where
     };
     moves = moves;
     carries = carries;
+    held = held_same s.config.protocol s.config.logical (state s.flash).image (state new).image image;
   })
 
   -- one call after another
@@ -98,6 +109,8 @@ module _ {F : Type 0} (state : F → FlashState) where
     moves = FlashMoves-then (state a.flash) (state b.flash) (state c.flash) broken first.carries.shape
         first.moves second.moves;
     carries = Carries-then (state a.flash) (state b.flash) (state c.flash) broken first.carries second.carries;
+    held = images_then a.config b.config (state a.flash).image (state b.flash).image (state c.flash).image
+        first.tables.config first.held second.held;
   }
 
   -- versions that rose and did not fall again, and others that rose after them

@@ -9,6 +9,7 @@ use Rattle.tx_engine.specs.Settling.{IsSettled}
 use Rattle.tx_engine.proofs.OfDevice.Kept.{BlocksInvariant, IsTransaction, from_stands, to_stands}
 use Rattle.tx_engine.proofs.OfDevice.OpenOnes.{can_take}
 use Rattle.tx_engine.proofs.OfDevice.ExitsThen.{exits_still}
+use Rattle.tx_engine.proofs.OfDevice.HeldRecords.{held_same}
 use Rattle.list_lemmas.proofs.Positions.{position-all}
 use Rattle.tx_engine.proofs.OfSettle.SettledLists.{calm_at}
 use Rattle.tx_engine.proofs.OfSettle.Settlements.{IsSettledAs, IsFoundOwn, present_found, found_settled, doubt_settled, calm_settled, doubted_beside}
@@ -56,7 +57,7 @@ module _ {F : Type 0} (state : F → FlashState) (S S' : StoreState F) (O O' : O
       Exits state (device_in state S O) (device_in state S' O') broken
   failed_exits same opens moment broken carries =
       exits_still state (device_in state S O) S'.flash broken (device_in state S' O') refl
-      (failed_stays same opens moment)
+      (failed_stays same opens moment) (ap (λ (m : Moment). m.image) moment)
       (FlashMoves-nothing (state S.flash) (state S'.flash) broken moment) carries
 
   -- the whole of it
@@ -112,6 +113,8 @@ module _ {F : Type 0} (state : F → FlashState) (S S' : StoreState F) (O O' : O
       };
       moves = FlashMoves-nothing (state S.flash) (state S'.flash) false moment;
       carries = carries;
+      held = held_same S.noted.config.protocol S.noted.config.logical (state S.flash).image (state S'.flash).image
+          same_image;
     }
 
     -- the whole of it

@@ -64,7 +64,7 @@ module _ {F : Type 0} (state : F → FlashState) (p : Protocol) (S0 : StoreState
     each = [];
     counts = refl;
     finished = refl;
-    exits = exits_still state (device_in state S0 O0) S0.flash false (device_in state S0 O0) refl refl
+    exits = exits_still state (device_in state S0 O0) S0.flash false (device_in state S0 O0) refl refl refl
         (FlashMoves-nothing (state S0.flash) (state S0.flash) false refl)
         (Carries-nothing (state S0.flash));
     stays = refl;

@@ -2,13 +2,14 @@
 use Rattle.tx_engine.proofs.Common.{◌≡◌, ℕ, ◌+◌, ◌<◌, ◌==◌, ◌&&◌, ◌||◌, Bool, true, false, not, cond, List, [], ◌∷◌, map, get_or, Option, None, Some, is_some, count_by, refl, sym, ap, ap₂, ◌∙◌, inl, inr, arith, eq-eqb, ne_eqb, option_and_then, range_with_len, option_map, cases_Bool, cases_eq, cond-true, cond-false, Protocol, Link, Rec, FlashState, Contents, cur, is_present, value_at, value_of, array_in, written_in, records_in, found_in, IndexState, current_of, current_name_of, discarded_of, noted_present, BlocksState, Unsure, known_image, page_known, array_known, Matches}
 use Rattle.std.proofs.Common.{find}
 use Rattle.std.proofs.lemmas.Bool.{or_left}
-use Rattle.std.proofs.lemmas.List.FromFn.{sum_by-map-range_with_len_more}
 use Rattle.record_list.specs.Records.{has_name}
 use Rattle.record_list.specs.Verdict.{record_named}
 use Rattle.record_list.specs.Written.{Written, page_at, records_of, text_of}
 use Rattle.judged_records.specs.Notes.{notes_of}
 use Rattle.judged_records.proofs.OfNotes.NotedFacts.{noted_positive}
 use Rattle.judged_records.proofs.OfLaws.NotedImages.{found_in_notes}
+use Rattle.version_index.specs.Written.{written_of}
+use Rattle.version_index.proofs.OfWritten.CountedPages.{count_map, count_range}
 use Rattle.tx_engine.specs.Read.{is_written}
 use Rattle.tx_engine.proofs.OfDevice.Arrays.{at_page}
 use Rattle.tx_engine.proofs.OfDevice.OtherFlash.{known_at}
@@ -106,33 +107,10 @@ module _ (p : Protocol) (s : FlashState) (n : IndexState) (t : BlocksState) (u :
       and_never true = refl
       and_never false = refl
 
-  -- the count of the pages that are not blank goes on by one page
-  count_page : (page : ℕ) → page < n.config.logical →
-      count_by is_some (map (page_known n s.image) (range_with_len 0 (page + 1)))
-      ≡ count_by is_some (map (page_known n s.image) (range_with_len 0 page)) + cond (is_written n page) 1 0
-  count_page page within =
-      sum_by-map-range_with_len_more (λ (o : Option (List ℕ)). cond (is_some o) 1 0) (page_known n s.image) 0 page
-      page (omega arith)
-      ∙ ap (λ b. count_by is_some (map (page_known n s.image) (range_with_len 0 page)) + cond b 1 0)
-      (page_written page within)
-
-  pub count_some : (page : ℕ) → page < n.config.logical → is_written n page ≡ true →
-      count_by is_some (map (page_known n s.image) (range_with_len 0 (page + 1)))
-      ≡ count_by is_some (map (page_known n s.image) (range_with_len 0 page)) + 1
-  count_some page within some =
-      count_page page within ∙ ap (λ b. count_by is_some (map (page_known n s.image) (range_with_len 0 page))
-      + cond b 1 0) some
-
-  pub count_none : (page : ℕ) → page < n.config.logical → is_written n page ≡ false →
-      count_by is_some (map (page_known n s.image) (range_with_len 0 (page + 1)))
-      ≡ count_by is_some (map (page_known n s.image) (range_with_len 0 page)) + 0
-  count_none page within none =
-      count_page page within ∙ ap (λ b. count_by is_some (map (page_known n s.image) (range_with_len 0 page))
-      + cond b 1 0) none
-
--- and ends with all pages
-pub count_all : (n : IndexState) (image : List Contents) →
-    count_by is_some (array_known n image) ≡ count_by is_some
-    (map (page_known n image) (range_with_len 0 n.config.logical))
-unfolding array_known
-count_all n image = refl
+  -- as many pages are known as are not blank
+  pub written_known : count_by is_some (array_known n s.image) ≡ written_of n
+  unfolding array_known written_of
+  written_known =
+      count_map is_some (page_known n s.image) (range_with_len 0 n.config.logical)
+      ∙ count_range (λ page. is_some (page_known n s.image page)) (is_written n) 0 n.config.logical
+      (λ page low high. page_written page (omega arith))

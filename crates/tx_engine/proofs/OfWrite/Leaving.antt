@@ -1,5 +1,5 @@
 -- What making room leaves of a device, by what each such call of its store keeps.
-use Rattle.tx_engine.proofs.Common.{◌≡◌, ℕ, ◌<◌, Bool, false, List, Option, refl, sym, ap, ◌∙◌, subst, inl, inr, slice_index, Protocol, FlashState, KeepsArray, array_known, page_at, DeviceState, Stands, OpenTransactionsState, entries_of, namings_of, StoreState, store_in, device_in, ArrayStays}
+use Rattle.tx_engine.proofs.Common.{◌≡◌, ℕ, ◌<◌, Bool, false, List, Option, refl, sym, ap, ◌∙◌, subst, inl, inr, slice_index, Protocol, FlashState, KeepsArray, array_known, page_at, DeviceState, Stands, OpenTransactionsState, entries_of, namings_of, StoreState, store_in, device_in, ArrayStays, ImageIsSound, Matches}
 use Rattle.collector.specs.Calls.{Keeps}
 use Rattle.collector.specs.Retiring.{KeepsStore}
 use Rattle.collector.proofs.OfNotes.KeepsLemmas.{tables_of}
@@ -8,10 +8,11 @@ use Rattle.tx_engine.specs.Retire.{LeavesTables}
 use Rattle.tx_engine.specs.Settling.{IsLeft}
 use Rattle.tx_engine.proofs.OfDevice.Kept.{BlocksInvariant, IsNoOwn, from_stands, to_stands, kept_still, nothing_no_own}
 use Rattle.tx_engine.proofs.OfDevice.ExitsThen.{before_itself, exits_then}
+use Rattle.tx_engine.proofs.OfWrite.HeldImages.{held_left}
 use Rattle.collector.proofs.OfNotes.Keeping.{preserves_then}
 
 module _ {F : Type 0} (state : F → FlashState) (S S' : StoreState F) (O : OpenTransactionsState) (broken : Bool)
-    (p : Protocol) (law : ArrayStays p)
+    (p : Protocol) (law : ArrayStays p) (images : ImageIsSound p)
     (rule : S.noted.config.protocol ≡ p)
     (h : Stands state (device_in state S O)) (keep : KeepsStore p (store_in state S) (store_in state S') broken)
     (sure : S.unsure ≡ unsure.Nothing) where
@@ -48,21 +49,24 @@ module _ {F : Type 0} (state : F → FlashState) (S S' : StoreState F) (O : Open
     };
     versions = keep.preserves.current;
     kept = keep.preserves;
+    held = held_left (state S.flash) (state S'.flash) S.noted S.table (subst ImageIsSound (sym rule) images)
+        (subst (λ u. Matches (state S.flash) S.noted S.table u) sure kept.matches) S'.noted S'.table S'.unsure
+        keep.matches keep.others keep.preserves;
   }
 
 -- and what a call moves and carries over that replaces no block
 pub left_by : {F : Type 0} (state : F → FlashState) (S S' : StoreState F) (O : OpenTransactionsState) (broken : Bool)
-    (p : Protocol) → ArrayStays p →
+    (p : Protocol) → ArrayStays p → ImageIsSound p →
     S.noted.config.protocol ≡ p → Stands state (device_in state S O) →
     Keeps p (store_in state S) (store_in state S') broken → S.unsure ≡ unsure.Nothing →
     IsLeft state (device_in state S O) (device_in state S' O) broken
-left_by state S S' O broken p law rule h keep sure =
-    let left = tables_left state S S' O broken p law rule h
+left_by state S S' O broken p law images rule h keep sure =
+    let left = tables_left state S S' O broken p law images rule h
     (tables_of p (store_in state S) (store_in state S') broken keep) sure in
     record {
       stands = left.stands;
       machine = left.machine;
-      exits = record { tables = left.tables; moves = keep.moves; carries = keep.carries };
+      exits = record { tables = left.tables; moves = keep.moves; carries = keep.carries; held = left.held };
       versions = left.versions;
       kept = left.kept;
     }

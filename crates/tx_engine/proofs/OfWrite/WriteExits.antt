@@ -6,6 +6,8 @@ use Rattle.collector.proofs.OfNotes.Keeping.{preserves_same}
 use Rattle.tx_engine.specs.Settling.{WritesNext}
 use Rattle.tx_engine.specs.StoreState.{WriteBreaks}
 use Rattle.tx_engine.proofs.OfDevice.ExitsThen.{NamedBefore, before_itself}
+use Rattle.tx_engine.proofs.OfDevice.OpenOnes.{can_take}
+use Rattle.tx_engine.proofs.OfWrite.HeldImages.{held_torn, held_written}
 use Rattle.tx_engine.proofs.OfDevice.ImageMoves.{KeepsNoted, image_array, image_under, image_transaction}
 use Rattle.tx_engine.proofs.OfDevice.Kept.{BlocksInvariant, IsTransaction, HasSameParts, from_stands, to_stands, kept_with}
 use Rattle.tx_engine.proofs.OfSettle.NextNoted.{IsNextOf, next_kept, next_parts, names_before, next_array, last_array, next_stays, next_versions, writes_rise}
@@ -180,6 +182,8 @@ module _ {F : Type 0} (state : F → FlashState) (p : Protocol) (S S' : StoreSta
             };
             moves = moves;
             carries = carries;
+            held = held_written old new n S.table settles kept.matches notes at.0 rec is_next.noted is_next.next
+                is_next.within is_next.was S'.table matched;
           })
 
   -- Broken
@@ -352,4 +356,7 @@ module _ {F : Type 0} (state : F → FlashState) (p : Protocol) (S S' : StoreSta
         };
         moves = moves;
         carries = carries;
+        held = held_torn old new n S.table settles kept.matches notes S'.table at rec
+            (can_take state (device_in state stored_broken O') (to_stands state stored_broken O' broken_kept))
+            broken_matches;
       }

@@ -5,7 +5,6 @@ ghost use Rattle.judged_records.specs.IndexState.{current_of};
 ghost use Rattle.judged_records.specs.Notes.{found_in};
 ghost use Rattle.collector.specs.Known.{array_known};
 ghost use Rattle.collector.specs.Victim.{garbage_in};
-ghost use Rattle.tx_engine.specs.Read.{is_written};
 ghost use Rattle.tx_engine.specs.StoreState.{IsStoreState};
 
 use crate::store::Store;
@@ -63,14 +62,6 @@ impl<F: Flash, R: CommitRule> Store<F, R> {
         Ok(list)
     }
 
-    /// Whether a page is not blank.
-    fn is_written(&self, page: u32) -> bool
-        requires { page < self.now.noted.config.logical }
-        ensures { result ≡ is_written self.now.noted page }
-    {
-        self.version(page) != 0 && !self.index.discards(page)
-    }
-
     /// The number of pages that are not blank.
     pub(crate) fn count_written(&self) -> u32
         requires stored { IsStoreState F.state R.protocol self.now }
@@ -78,13 +69,6 @@ impl<F: Flash, R: CommitRule> Store<F, R> {
             ≡ count_by is_some (array_known self.now.noted (F.state self.now.flash).image) }
     {
         collector::theorems::known_image_is_sound::<R>();
-        let logical = self.config().logical;
-        let mut count = 0;
-        for page in 0..logical {
-            if self.is_written(page) {
-                count += 1;
-            }
-        }
-        count
+        self.index.count_written()
     }
 }

@@ -1,9 +1,8 @@
-ghost use Rattle.std.specs.Prelude.{◌≡◌, ◌<◌};
+ghost use Rattle.std.specs.Prelude.{◌≡◌};
 ghost use Rattle.flash_model.specs.Firing.{loads_in};
 ghost use Rattle.flash_model.specs.Operations.{CanDo, fire};
 ghost use Rattle.judged_records.specs.IndexState.{programmed};
 ghost use Rattle.die_alloc.specs.BlocksState.{with_slot};
-ghost use Rattle.die_alloc.specs.NextSlot.{next_slot_in};
 ghost use Rattle.tx_engine.specs.BatchCalls.{CanLoadJob, CanNoteJob, ClearsRegisters, FiresStored, LoadsJob};
 
 use crate::jobs::Job;
@@ -11,25 +10,8 @@ use crate::store::Store;
 use flash_model::{Broken, Wide};
 use page_record::write_spare;
 use record_list::CommitRule;
-use tx_types::Slot;
 
 impl<F: Wide, R: CommitRule> Store<F, R> {
-    /// The number of dies.
-    pub(crate) fn dies(&self) -> u32
-        ensures { result ≡ (F.state self.now.flash).shape.dies }
-    {
-        self.flash.shape().dies
-    }
-
-    /// The slot of a die that is programmed next, if the die has room.
-    pub(crate) fn slot_in(&mut self, die: u32) -> Option<Slot>
-        requires { die < self.old.table.shape.dies }
-        ensures slot { result ≡ next_slot_in self.old.table die }
-        ensures stays { self.new ≡ self.old }
-    {
-        self.blocks.next_slot_in(die)
-    }
-
     /// Empties all registers of the flash.
     pub(crate) fn clear_registers(&mut self)
         ensures { ClearsRegisters F.state F.registers self.old self.new }

@@ -1,5 +1,5 @@
 -- A block whose slots are used otherwise leaves tables that have what was noted.
-use Rattle.version_index.proofs.Common.{◌≡◌, ◌≢◌, ℕ, zero, suc, ◌+◌, ◌*◌, ◌<◌, ◌≤◌, ◌⊎◌, true, false, List, length, set, get_or, Option, Some, None, refl, sym, ap, ◌∙◌, subst, inl, inr, arith, slice_get, option_map_or, false≢true, cases_Bool, cases_eq, cases_lt, length-set, get_or-set_same, get_or-set_other, get_or_past, ext_get_or, All-contains, none-some, same_Some, Config, Protocol, Rec, shape_of, blocks_of, name_of, is_present, is_outside, found_named, present_in, SlotUse, TablesState, IsTablesState, use_at, holds, copies_of, number_in, Note, note_at, rec_of, found_in, IndexState, IsNoted, CanLose, current_of, answerer_of, derived_of, freed, used_so, used_from, rec_at, AreDerived, note_in, notes_in, noted_by, numbered_of, AreHeld, AreIndexed}
+use Rattle.version_index.proofs.Common.{◌≡◌, ◌≢◌, ℕ, zero, suc, ◌+◌, ◌*◌, ◌<◌, ◌≤◌, ◌⊎◌, true, false, List, length, set, get_or, Option, Some, None, refl, sym, ap, ◌∙◌, subst, inl, inr, arith, slice_get, option_map_or, false≢true, cases_Bool, cases_eq, cases_lt, length-set, get_or-set_same, get_or-set_other, get_or_past, ext_get_or, All-contains, none-some, same_Some, Config, Protocol, Rec, shape_of, blocks_of, name_of, is_present, is_outside, found_named, present_in, SlotUse, TablesState, IsTablesState, use_at, holds, copies_of, number_in, record_at, Note, note_at, rec_of, found_in, IndexState, IsNoted, CanLose, current_of, answerer_of, derived_of, freed, used_so, used_from, rec_at, AreDerived, note_in, notes_in, noted_by, numbered_of, AreHeld, AreIndexed}
 use Rattle.list_lemmas.proofs.Membership.{from_filter}
 use Rattle.flash_model.proofs.ImageLemmas.{block_within}
 use Rattle.record_list.specs.Changes.{LossLaw, left}
@@ -17,9 +17,12 @@ use Rattle.judged_records.proofs.OfChanges.Losses.{left_in, loss_moves_nothing, 
 use Rattle.judged_records.proofs.OfChanges.NotedChanges.{block_noted}
 use Rattle.judged_records.proofs.OfNotes.Numbered.{given_up_derived}
 use Rattle.version_index.specs.Losing.{bared_as, without}
+use Rattle.version_index.specs.Written.{pages_written}
 use Rattle.version_index.proofs.OfChanges.KeptChanges.{still_indexed}
 use Rattle.version_index.proofs.OfReadings.KeptHomes.{holds_use, use_holds}
+use Rattle.version_index.proofs.OfReadings.KeptReadings.{current_record}
 use Rattle.version_index.proofs.OfTables.KeptNotes.{note_by, kept_found, found_number, length-notes}
+use Rattle.version_index.proofs.OfWritten.CountedPages.{same_written}
 
 -- a slot that holds no number
 holds_none : (u : SlotUse) (x : ℕ) → HoldsNone u → u ≡ slot.Holds x → ⊥
@@ -54,6 +57,24 @@ no_copy k x at e here = elim (cases_lt at (length k.slots)) [
   | inr past ↦ (let other : slot.Blank ≡ slot.Holds x = sym (get_or_past k.slots at slot.Blank past)
       ∙ here in absurd cc)
 ]
+
+-- which record is current stays
+bared_current : (k : TablesState) (x : ℕ) (r : Option Rec) (at : Option ℕ) → (bared_as k x r at).current ≡ k.current
+bared_current k x None at = refl
+bared_current k x (Some r) (Some at) = refl
+bared_current k x (Some r) None = refl
+
+without_current : (k : TablesState) (o : Option ℕ) → (without k o).current ≡ k.current
+without_current k None = refl
+without_current k (Some x) = bared_current k x (record_at k.records x) (slice_get (copies_of k.slots x) 0)
+
+used_current : (k : TablesState) (first : ℕ) (to : SlotUse) (count : ℕ) → (used_from k first to count).current ≡ k.current
+unfolding used_from
+used_current k first to zero = refl
+used_current k first to (suc count) =
+    let t = used_from k first to count in
+    without_current (record t { slots = set t.slots (first + count) to }) (number_in (use_at t.slots (first + count)))
+    ∙ used_current k first to count
 
 module _ (protocol : Protocol) (its : Config) (m : List ℕ) (k : TablesState) (i : AreIndexed protocol its m k)
     (sizes : IsTablesState k)
@@ -365,3 +386,15 @@ module _ (protocol : Protocol) (its : Config) (m : List ℕ) (k : TablesState) (
       no_record exists lose))
       (subst (NothingMoves n) (sym lost_is) (loss_moves_nothing protocol n i.noted block its_note no_record
       exists lose loss))
+
+  -- and as many pages are not blank: no current record is given up
+  pub lost_written : pages_written whole ≡ pages_written k
+  lost_written =
+      let l = all_steps per (omega arith) in
+      let same = used_current k first to per in
+      same_written k whole same (λ page x within e. (
+      let size = sizes.current in
+      let pages = i.pages in
+      let c = current_record protocol its m whole lost_indexed page x (omega arith)
+      (ap (λ list. number_at list page) same ∙ e) in
+      c.is ∙ sym (l.records x c.rec c.is)))

@@ -29,6 +29,7 @@ impl<R: CommitRule> Index<R> {
         raise(&mut self.mentions, rec);
         commit_if_complete(
             &mut self.tables,
+            &mut self.written,
             self.config.logical,
             self.config.protocol,
             rec,

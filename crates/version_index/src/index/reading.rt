@@ -4,6 +4,7 @@ ghost use Rattle.std.specs.Option.{option_map};
 ghost use Rattle.tx_types.specs.Config.{shape_of, slots_of, blocks_of};
 ghost use Rattle.judged_records.specs.IndexState.{mention_of, current_of, current_name_of, discarded_of, place_of, IsBlank, slot_off, needed_of, block_to_go, garbage_of, shut_or_part, is_garbage_at, blanks_of, is_going, going_blocks, FindsMostGarbage, IsMostAmong, HoldsName};
 ghost use Rattle.judged_records.specs.Notes.{note_at, seen_as, rec_of};
+ghost use Rattle.version_index.specs.Written.{written_of};
 
 use crate::Index;
 use crate::clearing::{block_must_go, lowest_to_go, order_blocks, put_blocks_to_go};
@@ -60,6 +61,15 @@ impl<R: CommitRule> Index<R> {
         ensures { result ≡ discarded_of self.now page }
     {
         discards_now(&self.tables, page)
+    }
+
+    /// How many pages are not blank: each has a current record, which does not discard it. No page is looked at.
+    pub fn count_written(&self) -> u32
+        ensures { result ≡ written_of self.now }
+    {
+        // For the proof: the sizes of the tables.
+        let _ = self.tables.shape();
+        self.written
     }
 
     /// Where the current record of a page is read: its lowest slot outside the spare, or its lowest

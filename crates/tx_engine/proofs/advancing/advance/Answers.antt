@@ -1,5 +1,4 @@
 mod Advancing
-mod NextThere
 use Rattle.tx_engine.proofs.Common.{sym, ◌∙◌, by_err, AdvancesTo}
 use Rattle.tx_engine.proofs.OfStep.AdvanceExits.{not_due_ready}
 use Rattle.tx_engine.proofs.advancing.advance.Answers.Advancing.{must_program_at, counted_on, advance_breaks, counts_then, exists_then, ready_then, advanced}

@@ -11,8 +11,8 @@ returns-in_err-any g c =
     let state = g.F.Flash.state in let S = c.args.store.now in let S' = c.collect.new.self in
     let O = c.args.transactions.now in let h = c.in_err-any.ensures in
     by_err c.from_residual.result (CollectsSettled state S S' O) c.from_residual.ensures.0 (λ y. record {
-      left = left_by state S S' O true g.R.CommitRule.protocol c.array_stays.ensures c.requires.ready.rule
-          c.requires.ready.stands h.keeps
+      left = left_by state S S' O true g.R.CommitRule.protocol c.array_stays.ensures c.image_is_sound.ensures
+          c.requires.ready.rule c.requires.ready.stands h.keeps
           c.requires.ready.sure;
       tables = tt;
       stays = h.stays;
@@ -25,8 +25,8 @@ pub returns : goal.returns
 returns g c =
     let state = g.F.Flash.state in let S = c.args.store.now in let S' = c.collect.new.self in
     let O = c.args.transactions.now in let h = c.in_ok-any.ensures in
-    let left = left_by state S S' O false g.R.CommitRule.protocol c.array_stays.ensures c.requires.ready.rule
-    c.requires.ready.stands h.keeps
+    let left = left_by state S S' O false g.R.CommitRule.protocol c.array_stays.ensures c.image_is_sound.ensures
+    c.requires.ready.rule c.requires.ready.stands h.keeps
     c.requires.ready.sure in
     record {
       left = left;

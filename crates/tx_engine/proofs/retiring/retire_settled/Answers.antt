@@ -14,7 +14,7 @@ returns g c =
     let h = c.retire.ensures in
     record {
       left = tables_left g.F.Flash.state c.args.store.now c.retire.new.self c.args.transactions.now
-          _ g.R.CommitRule.protocol c.array_stays.ensures
+          _ g.R.CommitRule.protocol c.array_stays.ensures c.image_is_sound.ensures
           c.requires.ready.rule c.requires.ready.stands h.keeps.tables c.requires.ready.sure;
       retires = h;
     }

@@ -28,7 +28,7 @@ returns g c =
     c.done_count.ensures in
     record {
       left = left_by state c.args.store.now c.clear_superseded.new.self c.args.transactions.now
-          _ g.R.CommitRule.protocol c.array_stays.ensures
+          _ g.R.CommitRule.protocol c.array_stays.ensures c.image_is_sound.ensures
           c.requires.ready.rule c.requires.ready.stands c.clear_superseded.ensures.clears.keeps c.requires.ready.sure;
       clears = subst (λ (a : Link). ClearsSuperseded g.R.CommitRule.protocol (store_in state c.args.store.now)
           (store_in state c.clear_superseded.new.self) a.page a.version

@@ -18,7 +18,7 @@ returns g c =
     let name = name_due c.args.transactions.now c.args.at in
     record {
       left = left_by g.F.Flash.state c.args.store.now c.allocate_slot.new.self c.args.transactions.now
-          _ g.R.CommitRule.protocol c.array_stays.ensures
+          _ g.R.CommitRule.protocol c.array_stays.ensures c.image_is_sound.ensures
           c.requires.ready.rule c.requires.ready.stands c.allocate_slot.ensures.finds.keeps c.requires.ready.sure;
       finds = c.allocate_slot.ensures.finds;
       clear = c.allocate_slot.ensures.finds.still_clear name.page name.version c.requires.clear;

@@ -4,6 +4,7 @@ use Rattle.collector.specs.declared.unsure.Unsure.TheVariants as unsure
 use Rattle.array_machine.specs.declared.answers.Progress.TheVariants as progress
 use Rattle.tx_engine.proofs.OfDevice.Arrays.{as_many_names}
 use Rattle.tx_engine.proofs.OfDevice.Kept.{BlocksInvariant, IsTransaction, IsCalm, HasSameParts, kept_with, to_stands}
+use Rattle.tx_engine.proofs.OfDevice.HeldRecords.{held_same}
 use Rattle.tx_engine.proofs.OfSettle.NextNoted.{names_before}
 use Rattle.open_table.proofs.OfTransactions.OpenList.{first_of_own, with_first}
 use Rattle.tx_engine.proofs.OfSettle.SettledLists.{calm_all, calm_at}
@@ -97,4 +98,5 @@ module _ {F : Type 0} (state : F → FlashState) (S : StoreState F) (O O' : Open
     };
     moves = FlashMoves-nothing (state S.flash) (state S.flash) false refl;
     carries = Carries-nothing (state S.flash);
+    held = held_same S.noted.config.protocol S.noted.config.logical (state S.flash).image (state S.flash).image refl;
   })

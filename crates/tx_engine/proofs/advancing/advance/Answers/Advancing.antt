@@ -10,7 +10,7 @@ use Rattle.tx_engine.proofs.OfDevice.ExitsThen.{exits_then}
 use Rattle.tx_engine.proofs.OfDevice.Kept.{from_stands}
 use Rattle.tx_engine.proofs.OfSettle.NextNoted.{next_parts}
 use Rattle.tx_engine.proofs.OfSettle.NextSet.{transaction_set}
-use Rattle.tx_engine.proofs.advancing.advance.Answers.NextThere.{adds_pinned, due_not_there, not_due_there}
+use Rattle.tx_engine.proofs.OfStep.NextThere.{adds_pinned, due_not_there, not_due_there}
 use Rattle.open_table.proofs.OfTransactions.OpenList.{IsFirstTagged, first_of_own}
 use Rattle.tx_engine.proofs.OfWrite.RecordWrites.{writes_pinned}
 

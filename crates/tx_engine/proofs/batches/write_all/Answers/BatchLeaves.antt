@@ -4,12 +4,14 @@ use Rattle.tx_engine.proofs.Common.{◌≡◌, ◌≢◌, ℕ, ◌+◌, ◌<◌,
 use Rattle.flash_model.specs.declared.outcome.Outcome.TheVariants as outcome
 use Rattle.collector.specs.declared.unsure.Unsure.TheVariants as unsure
 use Rattle.array_machine.specs.Step.{IsAtLast}
+use Rattle.tx_engine.specs.Held.{AddsNoHeld, AddsNoHeldIn}
 use Rattle.tx_engine.proofs.OfDevice.ExitsThen.{before_itself, tables_then}
+use Rattle.tx_engine.proofs.OfDevice.HeldRecords.{held_between, held_itself, held_kept, held_then}
 use Rattle.tx_engine.proofs.OfDevice.Kept.{BlocksInvariant}
 use Rattle.tx_engine.proofs.OfStepAll.JobsBeside.{jobs_beside, loads_beside, pages_low, spoilt_off}
 use Rattle.tx_engine.proofs.OfStepAll.LoadLeft.{HasLaws, kept_same, spoilt_kept, spoilt_pages, spoilt_preserves, whole_kept}
 use Rattle.tx_engine.proofs.batches.write_all.Answers.Wholes.{entries_for, device_with, taken_next, whole_beside, whole_entries, whole_loads, whole_pages}
-use Rattle.tx_engine.proofs.batches.write_all.Answers.Wholes.{whole_tables}
+use Rattle.tx_engine.proofs.batches.write_all.Answers.Wholes.{whole_held, whole_tables}
 
 -- tables that match what was left: each transaction at its last page was taken or not
 pub record SomeLeft {F : Type 0} (f : F) (s s' : FlashState) (n : IndexState) (t : BlocksState)
@@ -20,6 +22,7 @@ pub record SomeLeft {F : Type 0} (f : F) (s s' : FlashState) (n : IndexState) (t
   pub kept : BlocksInvariant s' noted table unsure.Nothing opens
   pub tables : ExitsTables (device_with f s.image n t O) (device_with f s'.image noted table opens)
   pub taken : MayTakeEach (array_known n s.image) IsAtLast (entries_for O i jobs) (array_known noted s'.image)
+  pub held : AddsNoHeld n.config.protocol n.config.logical (found_in n.notes) (found_in noted.notes)
 
 -- the transaction's program is whole: it is taken where that was its last page
 took : (old mid new : Pages) (e : Entry) (es fs : List Entry) → mid ≡ put old (taken_writes e) → fs ≡ es →
@@ -53,6 +56,7 @@ some_left {F} f [] hows s s' n t O i laws k size due dies long shape image = rec
     kept = refl;
   };
   taken = ap (array_known n) image;
+  held = held_itself n.config.protocol n.config.logical (found_in n.notes);
 }
 some_left {F} f (job ∷ jobs) [] s s' n t O i laws k size due dies long shape image = absurd (omega arith)
 some_left {F} f (job ∷ jobs) (outcome.None ∷ hows) s s' n t O i laws k size due dies long shape image =
@@ -66,6 +70,7 @@ some_left {F} f (job ∷ jobs) (outcome.None ∷ hows) s s' n t O i laws k size 
       kept = rest.kept;
       tables = rest.tables;
       taken = inl rest.taken;
+      held = rest.held;
     }
 some_left {F} f (job ∷ jobs) (outcome.Bad ∷ hows) s s' n t O i laws k size due dies long shape image =
     let mid : FlashState = record s { image = load_left s.image (load_of n job (bytes_due O i)) outcome.Bad } in
@@ -102,6 +107,8 @@ some_left {F} f (job ∷ jobs) (outcome.Bad ∷ hows) s s' n t O i laws k size d
           first rest.tables;
       taken = inl (subst (λ ps. MayTakeEach ps IsAtLast (entries_for O (i + 1) jobs) (array_known rest.noted s'.image))
           pages rest.taken);
+      held = held_then n.config.protocol n.config.logical (found_in n.notes) (found_in n1.notes)
+          (found_in rest.noted.notes) (held_kept n n1 keeps) rest.held;
     }
 some_left {F} f (job ∷ jobs) (outcome.All ∷ hows) s s' n t O i laws k size due dies long shape image =
     let mid : FlashState = record s { image = load_left s.image (load_of n job (bytes_due O i)) outcome.All } in
@@ -132,6 +139,8 @@ some_left {F} f (job ∷ jobs) (outcome.All ∷ hows) s s' n t O i laws k size d
           (eq-eqb (o.entry.done + 1) (length o.entry.writes) last))
           (λ fewer. plain ∙ cond-false (is_at_last o.entry) o.entry.writes []
           (ne_eqb (o.entry.done + 1) (length o.entry.writes) fewer)) rest.taken;
+      held = held_then n.config.protocol n.config.logical (found_in n.notes) (found_in n1.notes)
+          (found_in rest.noted.notes) (whole_held f s n t O i job laws k size due.0 mid refl refl) rest.held;
     }
 
 -- transactions that were not chosen are not taken
@@ -158,16 +167,22 @@ module _ {F : Type 0} (f : F) (s s' : FlashState) (n : IndexState) (t : BlocksSt
       (sym (its_laws.images.array s' left.noted left.table unsure.Nothing left.kept.matches tt refl)
       ∙ ap (λ (c : Config). array_in c.protocol c.logical s'.image) left.tables.config) left.taken
 
+  left_records : records_in n.config.protocol s'.image ≡ found_in left.noted.notes
+  left_records = ap (λ (c : Config). records_in c.protocol s'.image) (sym left.tables.config)
+      ∙ its_laws.images.records s' left.noted left.table unsure.Nothing left.kept.matches tt refl
+
+  pub left_held : BlocksInvariant s n t unsure.Nothing O →
+      AddsNoHeldIn n.config.protocol n.config.logical s.image s'.image
+  left_held k = held_between n.config.protocol n.config.logical s.image s'.image (found_in n.notes)
+      (found_in left.noted.notes) (laws.images.records s n t unsure.Nothing k.matches tt refl) left_records left.held
+
   pub left_mentions : MentionsAtMost n (namings_of O) s'.image
   left_mentions page low =
       let there : page < left.noted.config.logical = subst (λ (c : Config). page < c.logical)
       (sym left.tables.config) low in
       let most = left.kept.matches.noted.mentioned page there in
-      let records : records_in n.config.protocol s'.image ≡ found_in left.noted.notes =
-      ap (λ (c : Config). records_in c.protocol s'.image) (sym left.tables.config)
-      ∙ its_laws.images.records s' left.noted left.table unsure.Nothing left.kept.matches tt refl in
       let count : mention (records_in n.config.protocol s'.image) page ≡ mention (found_in left.noted.notes) page =
-      ap (λ l. mention l page) records in
+      ap (λ l. mention l page) left_records in
       elim (left.tables.mentions page low) [
         | inl same ↦ inl (omega (arith, most, count, same))
         | inr rose ↦ inr (mention_of left.noted page, rose.1, omega (arith, most, count))

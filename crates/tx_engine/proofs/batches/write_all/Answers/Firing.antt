@@ -1,5 +1,5 @@
 -- The fire of several programs as a call: what it asks for, and what it leaves where it is done and where it is broken.
-use Rattle.tx_engine.proofs.Common.{◌≡◌, ◌≢◌, ℕ, suc, ◌+◌, ◌<◌, List, [], ◌∷◌, ◌++◌, length, drop, replicate, All, AllPairs, Option, Result, Ok, Err, refl, sym, ap, ap₂, ◌∙◌, subst, arith, flat_map, drop_more, get_or-map, length-map, All-nil, All-cons, All-head, All-tail, All-contains, all_from, pairs_cons, pairs_head, pairs_tail, slots_of, Protocol, Shape, Broken, FlashState, Does, CanDo, Load, die_of, fire, left_each, moment_of, PageWrite, array_in, IndexState, current_of, BlocksState, array_known, ArrayStays, ImageIsSound, NotingKeeps, MayTakeEach, Entry, Pages, AreJobsDue, CanNoteEach, CanWriteAll, DroppedAll, InOrderOfDies, IsJobDue, WrittenAll, loads_for, nexts_noted, noted_each, taken_writes, takes_each, used_each, OpenTransactionsState, TransactionState, entries_of, no_transaction, StoreState, Job}
+use Rattle.tx_engine.proofs.Common.{◌≡◌, ◌≢◌, ℕ, suc, ◌+◌, ◌<◌, List, [], ◌∷◌, ◌++◌, length, drop, replicate, All, AllPairs, Option, Result, Ok, Err, refl, sym, ap, ap₂, ◌∙◌, subst, arith, flat_map, drop_more, get_or-map, length-map, All-nil, All-cons, All-head, All-tail, All-contains, all_from, pairs_cons, pairs_head, pairs_tail, slots_of, Protocol, Shape, Broken, FlashState, Does, CanDo, Load, die_of, fire, left_each, moment_of, PageWrite, Config, array_in, found_in, IndexState, current_of, BlocksState, array_known, ArrayStays, ImageIsSound, NotingKeeps, MayTakeEach, Entry, Pages, AreJobsDue, CanNoteEach, CanWriteAll, DroppedAll, InOrderOfDies, IsJobDue, WrittenAll, loads_for, nexts_noted, noted_each, taken_writes, takes_each, used_each, OpenTransactionsState, TransactionState, entries_of, no_transaction, StoreState, Job}
 use Rattle.std.proofs.Common.{take}
 use Rattle.std.proofs.lemmas.List.{take-append-drop}
 use Rattle.flash_model.specs.declared.outcome.Outcome.TheVariants as outcome
@@ -13,8 +13,9 @@ use Rattle.collector.specs.declared.unsure.Unsure.TheVariants as unsure
 use Rattle.array_machine.specs.Step.{IsAtLast}
 use Rattle.tx_engine.specs.BatchCalls.{AreLoadable, CanLoadAll, FiresStored}
 use Rattle.tx_engine.specs.BatchCalls.{LoadsEach}
+use Rattle.tx_engine.proofs.OfDevice.HeldRecords.{held_between}
 use Rattle.tx_engine.proofs.OfDevice.Kept.{BlocksInvariant, from_stands, to_stands}
-use Rattle.tx_engine.proofs.batches.write_all.Answers.BatchLeaves.{SomeLeft, left_array, left_mentions, left_sound, some_left, take_fewer}
+use Rattle.tx_engine.proofs.batches.write_all.Answers.BatchLeaves.{SomeLeft, left_array, left_held, left_mentions, left_sound, some_left, take_fewer}
 use Rattle.tx_engine.proofs.OfStepAll.LoadLeft.{HasLaws, job_can, job_named, job_page, job_spelled}
 use Rattle.tx_engine.proofs.batches.write_all.Answers.Wholes.{AllWhole, all_whole, entries_for}
 
@@ -204,6 +205,11 @@ module _ {F : Type 0} (state : F → FlashState) (p : Protocol) (S S' : StoreSta
             moves = FlashMoves-fires (state S.flash) (state S'.flash) (loads_for S.noted O 0 jobs) x
                 (loads_some S.noted O jobs can.some) can_fire_all done;
             carries = done.carries;
+            held = held_between S.noted.config.protocol S.noted.config.logical (state S.flash).image
+                (state S'.flash).image (found_in S.noted.notes) (found_in then.noted.notes)
+                (its.images.records (state S.flash) S.noted S.table unsure.Nothing stands_now.matches tt refl)
+                (its.images.records (state S'.flash) then.noted then.table unsure.Nothing whole.kept.matches tt
+                (ap (λ (c : Config). c.protocol) whole.tables.config)) whole.held;
           };
           rises = record {
             rises = subst (λ es. All (λ w. current_of S.noted w.page < current_of (noted_each S.noted jobs) w.page)
@@ -239,6 +245,7 @@ module _ {F : Type 0} (state : F → FlashState) (p : Protocol) (S S' : StoreSta
             (subst (λ es. MayTakeEach pages IsAtLast es after_it) (entries_first O jobs 0 S.noted S.table can.due)
             (left_array S.flash (state S.flash) (state S'.flash) S.noted S.table O 0 jobs its left)));
         mentions = left_mentions S.flash (state S.flash) (state S'.flash) S.noted S.table O 0 jobs its left;
+        held = left_held S.flash (state S.flash) (state S'.flash) S.noted S.table O 0 jobs its left stands_now;
         can = can_fire_all;
         torn = torn.torn;
         carries = torn.carries;

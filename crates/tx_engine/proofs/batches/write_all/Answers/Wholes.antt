@@ -1,13 +1,15 @@
 -- Programs that were done together leave a device as one after another would: by induction over states in which no
 -- flash was.
-use Rattle.tx_engine.proofs.Common.{◌≡◌, ◌≢◌, ℕ, ◌+◌, ◌<◌, false, List, [], ◌∷◌, length, replicate, All, refl, sym, ap, ap₂, ◌∙◌, subst, inl, inr, arith, eq-eqb, ne_eqb, slice_set, if◌then◌else◌, flat_map, map-set_same, cases_eq, cond-true, cond-false, cond_both, length-set, All-nil, All-append, all_from, pairs_head, pairs_tail, PageWrite, FlashState, Contents, die_of, left_each, load_left, IndexState, current_of, programmed, BlocksState, with_slot, array_known, Plain, Entry, page_at, put, AreJobsDue, CanNoteEach, InOrderOfDies, IsJobDue, load_of, loads_for, nexts_noted, noted_each, taken_writes, takes_each, used_each, ExitsTables, VersionsRise, is_plain, OpenTransactionsState, TransactionState, bytes_due, entries_of, namings_of, no_transaction, transaction_at, with_transaction, is_at_last, next_writes, with_next, DeviceState, Job}
+use Rattle.tx_engine.proofs.Common.{◌≡◌, ◌≢◌, ℕ, ◌+◌, ◌<◌, false, List, [], ◌∷◌, length, replicate, All, refl, sym, ap, ap₂, ◌∙◌, subst, inl, inr, arith, eq-eqb, ne_eqb, slice_set, if◌then◌else◌, flat_map, map-set_same, cases_eq, cond-true, cond-false, cond_both, length-set, All-nil, All-append, all_from, pairs_head, pairs_tail, PageWrite, FlashState, Contents, die_of, left_each, load_left, IndexState, current_of, found_in, programmed, BlocksState, with_slot, array_known, Plain, Entry, page_at, put, AreJobsDue, CanNoteEach, InOrderOfDies, IsJobDue, load_of, loads_for, nexts_noted, noted_each, taken_writes, takes_each, used_each, ExitsTables, VersionsRise, is_plain, OpenTransactionsState, TransactionState, bytes_due, entries_of, namings_of, no_transaction, transaction_at, with_transaction, is_at_last, next_writes, with_next, DeviceState, Job}
 use Rattle.flash_model.specs.declared.outcome.Outcome.TheVariants as outcome
 use Rattle.collector.specs.declared.unsure.Unsure.TheVariants as unsure
 use Rattle.tx_engine.specs.BatchCalls.{CanNoteJob}
+use Rattle.tx_engine.specs.Held.{AddsNoHeld}
 use Rattle.tx_engine.proofs.OfCollect.Collecting.{own_writes_low}
 use Rattle.tx_engine.proofs.OfSettle.NextNoted.{IsNextOf, last_array, names_before, next_array, next_mentions, next_parts, next_stays, next_versions}
 use Rattle.tx_engine.proofs.OfSettle.NextNoted.{writes_rise, writes_stay}
 use Rattle.tx_engine.proofs.OfDevice.ExitsThen.{before_itself, rises_then, tables_then}
+use Rattle.tx_engine.proofs.OfDevice.HeldRecords.{held_itself, held_noted, held_then}
 use Rattle.tx_engine.proofs.OfDevice.ImageMoves.{KeepsNoted, image_array}
 use Rattle.tx_engine.proofs.OfDevice.Kept.{BlocksInvariant}
 use Rattle.tx_engine.proofs.OfStepAll.JobsBeside.{jobs_beside, loads_beside, pages_low, whole_off}
@@ -122,6 +124,9 @@ module _ {F : Type 0} (f : F) (s : FlashState) (n : IndexState) (t : BlocksState
             })
       ])
 
+  pub whole_held : AddsNoHeld n.config.protocol n.config.logical (found_in n.notes) (found_in n'.notes)
+  whole_held = held_noted n.config.protocol laws.notes n job.slot.0 job.rec next.noted next.next next.within next.was
+
   pub whole_note : CanNoteJob n t job
   whole_note = record { exists = next.within; was = next.was; asked = next.next; free = h.first.free }
 
@@ -166,6 +171,7 @@ pub record AllWhole {F : Type 0} (f : F) (s s' : FlashState) (n : IndexState) (t
       (device_with f s'.image (noted_each n jobs) (used_each t jobs) (nexts_noted i jobs O))
       (flat_map taken_writes (entries_for O i jobs))
   pub low : All (λ w. w.page < n.config.logical) (flat_map taken_writes (entries_for O i jobs))
+  pub held : AddsNoHeld n.config.protocol n.config.logical (found_in n.notes) (found_in (noted_each n jobs).notes)
 
 pub all_whole : {F : Type 0} (f : F) (jobs : List Job) (s s' : FlashState) (n : IndexState) (t : BlocksState)
     (O : OpenTransactionsState) (i : ℕ) → HasLaws n.config.protocol →
@@ -189,6 +195,7 @@ all_whole {F} f [] s s' n t O i laws k size due dies shape image = record {
     stays = λ page low others. refl;
   };
   low = All-nil (λ (w : PageWrite). w.page < n.config.logical);
+  held = held_itself n.config.protocol n.config.logical (found_in n.notes);
 }
 all_whole {F} f (job ∷ jobs) s s' n t O i laws k size due dies shape image =
     let mid : FlashState = record s { image = load_left s.image (load_of n job (bytes_due O i)) outcome.All } in
@@ -228,4 +235,6 @@ all_whole {F} f (job ∷ jobs) s s' n t O i laws k size due dies shape image =
           (subst (λ es. VersionsRise b c (flat_map taken_writes es)) entries rest.rises);
       low = All-append (λ (w : PageWrite). w.page < n.config.logical) (taken_writes o.entry)
           (flat_map taken_writes (entries_for O (i + 1) jobs)) low later;
+      held = held_then n.config.protocol n.config.logical (found_in n.notes) (found_in n1.notes)
+          (found_in (noted_each n1 jobs).notes) (whole_held f s n t O i job laws k size due.0 mid refl refl) rest.held;
     }

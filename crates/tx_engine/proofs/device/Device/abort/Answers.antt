@@ -24,7 +24,7 @@ returns-in_default g c =
           (let s = device_in state c.self.inside.store c.self.inside.transactions in
           abort_missing (is_there state s) s.machine c.args.tag
           (entry_missing c.args.tag c.self.inside.transactions (sym c.position.ensures ∙ c.in_default.is)));
-      exits = exits_still state now now.flash _ now c.requires.kept refl (FlashMoves-nothing flash flash _ refl)
+      exits = exits_still state now now.flash _ now c.requires.kept refl refl (FlashMoves-nothing flash flash _ refl)
           (Carries-nothing flash);
       moment = refl;
       rises = rises_unread now now refl;

@@ -9,7 +9,7 @@ use Rattle.tx_engine.specs.Retire.{AnswersRetire}
 use Rattle.tx_engine.specs.declared.device.retire.RetireError.{RetireError}
 use Rattle.tx_engine.specs.declared.device.retire.RetireError.TheVariants.{Fault}
 use Rattle.tx_engine.proofs.OfCollect.Collecting.{settled_low, rises_stay}
-use Rattle.tx_engine.proofs.OfDevice.ExitsThen.{tables_then}
+use Rattle.tx_engine.proofs.OfDevice.ExitsThen.{images_then, tables_then}
 use Rattle.tx_engine.proofs.device.Device.retire.Answers.Retirements.{broke_after, refused, retired_after, retired_blank, retired_known, retiring_broke}
 use Rattle.tx_engine.proofs.device.Device.retire.Answers.Retirements.{retiring_fails}
 use Rattle.tx_engine.proofs.OfSettle.SettleExits.{failed_machine, failed_stays, not_settled}
@@ -84,6 +84,7 @@ returns-in_default-settle g c =
         tables = its.exits.tables;
         ends = inl (its.exits.moves, its.exits.carries.extras);
         carries = CarriesRetiring-carries (state S.flash) (state new.flash) true its.exits.carries;
+        held = its.exits.held;
       };
       rises = not_settled (is_there state old) old new stays;
       sure = tt;
@@ -116,6 +117,8 @@ returns-in_default-retire_settled g c =
             (retiring_broke _ _ _ _ _ _ _ its.retires.broken);
         carries = CarriesRetiring-then (state old.flash) (state mid.flash) (state new.flash) true settles.exits.carries
             its.retires.keeps.carries;
+        held = images_then old.config mid.config (state old.flash).image (state mid.flash).image (state new.flash).image
+            settles.exits.tables.config settles.exits.held its.left.held;
       };
       rises = inr (
         ap (λ m. m.pages) (its.left.machine ∙ settles.settles.machine),
@@ -156,6 +159,8 @@ returns g c =
             c.settle.ensures.moment _ mid.noted _ mid.table settles.tables.0 settles.tables.1 done;
         carries = CarriesRetiring-then (state old.flash) (state mid.flash) (state new.flash) false settles.exits.carries
             its.retires.keeps.carries;
+        held = images_then old.config mid.config (state old.flash).image (state mid.flash).image (state new.flash).image
+            settles.exits.tables.config settles.exits.held its.left.held;
       };
       rises = rises_stay old mid new (settled_writes there old.machine) settles.exits.tables.config
           (settled_low state S O there stands)

@@ -8,13 +8,13 @@ pub put_blocks_to_go-requires-clause-room : goal.put_blocks_to_go-requires-claus
 put_blocks_to_go-requires-clause-room g c =
     let room = subst (λ n. slots_of (shape_of n.config) ≤ vec_capacity c.args.into.now) (sym c.self.view_is)
     c.requires.room in
-    subst (λ s. slots_of s ≤ vec_capacity c.clear.new.self) (sym c.self.invariant.shape)
+    subst (λ s. slots_of s ≤ vec_capacity c.clear.new.self) (sym c.self.invariant.indexed.shape)
     (rw c.clear.ensures.capacity room)
 
 pub returns-in-Scc-clause-blocks : goal.returns-in-Scc-clause-blocks
 returns-in-Scc-clause-blocks g c =
     let d = c.self.inside in
-    going_are _ d.config d.mentions.items d.tables c.self.invariant c.put_blocks_to_go.ensures.kept c.in-Scc.is
+    going_are _ d.config d.mentions.items d.tables c.self.invariant.indexed c.put_blocks_to_go.ensures.kept c.in-Scc.is
     c.args.page c.args.below
     c.order_blocks.new.blocks.items c.put_blocks_to_go.new.into.items c.put_blocks_to_go.ensures.gathered
     c.order_blocks.ensures.rising c.order_blocks.ensures.same

@@ -4,5 +4,5 @@ use Rattle.version_index.proofs.index.Index.commit.Goals as goal
 
 pub returns-clause-current : goal.returns-clause-current
 returns-clause-current g c =
-    cycle_current _ c.args.self.now (subst (IsNoted _) c.self.view_is c.self.invariant.noted) c.args.names.now
+    cycle_current _ c.args.self.now (subst (IsNoted _) c.self.view_is c.self.invariant.indexed.noted) c.args.names.now
     c.requires.complete

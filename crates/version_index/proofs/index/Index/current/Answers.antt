@@ -5,5 +5,5 @@ use Rattle.version_index.proofs.index.Index.current.Goals as goal
 pub returns : goal.returns
 returns g c =
     let below = subst (λ n. c.args.page < n.config.logical) (sym c.self.view_is) c.requires in
-    c.current_version.ensures ∙ read_current _ _ _ _ c.self.invariant c.args.page below
+    c.current_version.ensures ∙ read_current _ _ _ _ c.self.invariant.indexed c.args.page below
     ∙ ap (λ n. current_of n c.args.page) c.self.view_is

@@ -52,9 +52,13 @@ invariant_of-result g c =
           (c.records.ensures.records ∙
           c.sorted_records.ensures) (range_with_len 0 its.logical);
     }) in
-    subst (λ (k : TablesState). AreIndexed g.R.CommitRule.protocol its m k) (sym c.in_ok-tables.ensures)
-    (filled_indexed _ its m t c.args.standing.now.list noted
-    (subst (λ l. Sorts l c.args.standing.now.list) (sym found) c.requires.scan.1.sorts) filled)
+    record {
+      indexed =
+          subst (λ (k : TablesState). AreIndexed g.R.CommitRule.protocol its m k) (sym c.in_ok-tables.ensures)
+          (filled_indexed _ its m t c.args.standing.now.list noted
+          (subst (λ l. Sorts l c.args.standing.now.list) (sym found) c.requires.scan.1.sorts) filled);
+      written = c.count_written-written.ensures;
+    }
 
 pub returns : goal.returns
 returns g c own scan =

@@ -5,13 +5,13 @@ use Rattle.version_index.proofs.index.Index.is_going.Goals as goal
 
 pub block_must_go-requires-clause-block : goal.block_must_go-requires-clause-block
 block_must_go-requires-clause-block g c =
-    subst (λ s. c.args.block.0 < blocks_of s) (sym c.self.invariant.shape)
+    subst (λ s. c.args.block.0 < blocks_of s) (sym c.self.invariant.indexed.shape)
     (subst (λ n. c.args.block.0 < blocks_of (shape_of n.config)) (sym c.self.view_is) c.requires.block)
 
 pub returns-in-Scc : goal.returns-in-Scc
 returns-in-Scc g c =
     let d = c.self.inside in
-    read_going_block _ d.config d.mentions.items d.tables c.self.invariant c.block_must_go.ensures.kept c.in-Scc.is
+    read_going_block _ d.config d.mentions.items d.tables c.self.invariant.indexed c.block_must_go.ensures.kept c.in-Scc.is
     c.args.page c.args.below c.args.block.0
     c.block_must_go.result c.block_must_go.ensures.goes
     ∙ ap (λ n. is_going n c.args.page c.args.below c.args.block.0) c.self.view_is

@@ -17,10 +17,10 @@ returns g c =
     let n = c.args.self.now in
     let page = c.args.page in
     let held : discarded_of n page ≡ false = sym c.if-discards.ensures in
-    let home = c.locate.ensures ∙ read_home _ _ _ _ c.self.invariant page
+    let home = c.locate.ensures ∙ read_home _ _ _ _ c.self.invariant.indexed page
     (subst (λ n. page < n.config.logical) (sym c.self.view_is) c.requires)
     ∙ ap (λ n. home_of n (current_name_of n page)) c.self.view_is in
-    let noted = subst (IsNoted _) c.self.view_is c.self.invariant.noted in record {
+    let noted = subst (IsNoted _) c.self.view_is c.self.invariant.indexed.noted in record {
       home = home ∙ sym (cond-false (discarded_of n page) None (home_of n (current_name_of n page)) held);
       none = located_none _ n noted page c.locate.result held home;
       holds = located_holds _ n noted (current_name_of n page) c.locate.result home;

@@ -6,5 +6,5 @@ pub returns : goal.returns
 returns g c =
     let below = subst (λ n. 256 * c.args.group < blocks_of (shape_of n.config)) (sym c.self.view_is) c.requires in
     subst (λ n. IsMostAmong n 256 c.args.group c.most_garbage_among_256.result) c.self.view_is
-    (most_garbage_among _ _ _ _ c.self.invariant 256 c.args.group c.most_garbage_among_256.result (omega arith) below
+    (most_garbage_among _ _ _ _ c.self.invariant.indexed 256 c.args.group c.most_garbage_among_256.result (omega arith) below
     c.most_garbage_among_256.ensures)

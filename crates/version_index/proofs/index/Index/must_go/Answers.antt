@@ -7,7 +7,7 @@ pub returns-in-None : goal.returns-in-None
 returns-in-None g c =
     let d = c.self.inside in
     let going = c.in-None.ensures in
-    read_going _ d.config d.mentions.items d.tables c.self.invariant c.shape-shape.ensures.kept c.args.page c.args.below
+    read_going _ d.config d.mentions.items d.tables c.self.invariant.indexed c.shape-shape.ensures.kept c.args.page c.args.below
     None going.scc (λ e. refl)
     ∙ ap (λ n. block_to_go n c.args.page c.args.below) c.self.view_is
 
@@ -16,8 +16,8 @@ returns-in-Some g c =
     let d = c.self.inside in
     let going = c.in-Some.ensures in
     ap Some c.block_of.ensures
-    ∙ ap (λ (s : Shape). Some (c.in-Some.at.0 / s.pages_per_block)) (c.shape-shape.ensures.shape ∙ c.self.invariant.shape)
-    ∙ read_going _ d.config d.mentions.items d.tables c.self.invariant c.shape-shape.ensures.kept c.args.page
+    ∙ ap (λ (s : Shape). Some (c.in-Some.at.0 / s.pages_per_block)) (c.shape-shape.ensures.shape ∙ c.self.invariant.indexed.shape)
+    ∙ read_going _ d.config d.mentions.items d.tables c.self.invariant.indexed c.shape-shape.ensures.kept c.args.page
     c.args.below (Some c.in-Some.at.0)
     going.scc (λ e. ap (option_map (λ (at : Slot). at.0)) (going.bpcc e))
     ∙ ap (λ n. block_to_go n c.args.page c.args.below) c.self.view_is

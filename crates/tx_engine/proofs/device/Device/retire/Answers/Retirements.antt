@@ -17,6 +17,7 @@ use Rattle.tx_engine.specs.declared.device.retire.RetireError.{RetireError}
 use Rattle.tx_engine.specs.declared.device.retire.RetireError.TheVariants as failed
 use Rattle.tx_engine.proofs.OfWrite.Breaking.{broke_then}
 use Rattle.tx_engine.proofs.OfDevice.ExitsThen.{before_itself}
+use Rattle.tx_engine.proofs.OfDevice.HeldRecords.{held_same}
 use Rattle.tx_engine.proofs.OfSettle.SettleExits.{rises_unread}
 
 -- the flash was only read before
@@ -118,6 +119,7 @@ refused_exits state s shape extras block e kept is = record {
   ends = ends e is;
   carries = subst (CarriesRetiring (state s.flash) (state s.flash)) (sym (no_cause e is))
       (CarriesRetiring-carries (state s.flash) (state s.flash) false (Carries-nothing (state s.flash)));
+  held = held_same s.config.protocol s.config.logical (state s.flash).image (state s.flash).image refl;
 }
   where
     ends : (e : RetireError) → retire_refusal shape extras block ≡ Some e → RetireEnds state s s block (Err e)

@@ -9,7 +9,7 @@ use Rattle.tx_engine.proofs.OfSettle.SettleExits.{failed_machine}
 use Rattle.array_machine.specs.declared.answers.StepError.TheVariants as failed
 use Rattle.tx_engine.proofs.OfAbort.Aborting.{entry_settled}
 use Rattle.open_table.proofs.OfTransactions.OpenList.{entry_first, first_of_own}
-use Rattle.tx_engine.proofs.OfDevice.ExitsThen.{named_before}
+use Rattle.tx_engine.proofs.OfDevice.ExitsThen.{images_then, named_before}
 use Rattle.tx_engine.proofs.OfDevice.Kept.{from_stands}
 use Rattle.tx_engine.proofs.OfStep.StepExits.{step_settled}
 use Rattle.tx_engine.proofs.OfStepAll.Moving.{none_chosen}
@@ -77,6 +77,7 @@ drops_unsettled {F} state p S S1 O O1 b devices cuts rule st =
           (ap (λ (T : StoreState F). T.noted) st.failed.0)
           (subst (λ xs. MentionsAtMost S1.noted xs image) (ap namings_of st.failed.1)
           (devices.mentions mid st.stands rule1));
+      held = st.exits.held;
       moves = inl st.exits.moves;
       carries = st.exits.carries;
       torn = λ some. inl st.moment;
@@ -128,6 +129,8 @@ drops_fired {F} state S S1 S2 O O1 O2 u st size d =
         refl,
       );
       mentions = mentions_back old (device_in state S1 O1) image refl config st.exits.tables d.mentions;
+      held = images_then S.noted.config S1.noted.config (state S.flash).image (state S1.flash).image image config
+          st.exits.held d.held;
       moves = inr (
         refl,
         record {
@@ -199,6 +202,8 @@ drops_first {F} state p S S1 S2 O O1 O2 u b devices cuts rule stands st adv any 
       mentions = mentions_back old mid image refl st.exits.tables.config st.exits.tables
           (mentions_back mid new image refl adv.exits.tables.config adv.exits.tables
           (devices.mentions new adv.stands rule2));
+      held = images_then S.noted.config S1.noted.config (state S.flash).image (state S1.flash).image image
+          st.exits.tables.config st.exits.held adv.exits.held;
       moves = inl (FlashMoves-then (state S.flash) (state S1.flash) (state S2.flash) true st.exits.carries.shape
           st.exits.moves adv.exits.moves);
       carries = Carries-then (state S.flash) (state S1.flash) (state S2.flash) true st.exits.carries adv.exits.carries;

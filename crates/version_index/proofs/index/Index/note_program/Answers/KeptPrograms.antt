@@ -1,5 +1,7 @@
 -- A programmed record leaves tables that have what was noted.
-use Rattle.version_index.proofs.Common.{◌≡◌, ◌≢◌, ℕ, suc, ◌+◌, ◌<◌, ◌≤◌, true, false, List, ◌∷◌, length, map, set, get_or, Contains, Some, None, refl, sym, ap, ◌∙◌, subst, inl, inr, arith, option_map_or, get_or-map, cases_eq, cases_Bool, length-set, length-map, get_or-set_same, get_or-set_other, ext_get_or, All-contains, none-some, same_Some, cases_Option, Config, Protocol, Link, Rec, shape_of, slots_of, name_of, is_present, newest, PagesExist, same_name, present_in, found_named, SlotUse, TablesState, IsTablesState, use_at, record_at, numbers_at, number_in, HasFree, LinksExist, newest_at, OnlyDerives, IsRoundIn, link_of, derived_of, completes, note_at, found_in, IndexState, IsNoted, AreDerived, note_in, notes_in, noted_by, numbered_of, AreHeld, AreIndexed}
+use Rattle.version_index.proofs.Common.{◌≡◌, ◌≢◌, ℕ, suc, ◌+◌, ◌-◌, ◌*◌, ◌<◌, ◌≤◌, true, false, List, ◌∷◌, length, map, set, get_or, Contains, Some, None, refl, sym, ap, ◌∙◌, subst, inl, inr, arith, option_map_or, get_or-map, cases_eq, cases_Bool, length-set, length-map, get_or-set_same, get_or-set_other, ext_get_or, All-contains, none-some, same_Some, cases_Option, Config, Protocol, Link, Rec, shape_of, slots_of, blocks_of, name_of, is_present, newest, PagesExist, same_name, present_in, found_named, SlotUse, TablesState, IsTablesState, use_at, record_at, numbers_at, number_in, HasFree, LinksExist, newest_at, OnlyDerives, IsRoundIn, link_of, derived_of, completes, note_at, found_in, IndexState, IsNoted, AreDerived, note_in, notes_in, noted_by, numbered_of, AreHeld, AreIndexed}
+use Rattle.std.proofs.Math.Nat.{mul-le-mul_right, mul_comm}
+use Rattle.tx_types.specs.Config.{IsConfig}
 use Rattle.record_list.specs.Changes.{PartialWriteLaw, CompletingWriteLaw}
 use Rattle.record_list.specs.SoundList.{Pages}
 use Rattle.record_list.proofs.OfFacts.Names.{newest_bound}
@@ -18,10 +20,25 @@ use Rattle.judged_records.proofs.OfChanges.PartialWrites.{next_newest, next_newl
 use Rattle.judged_records.proofs.OfCommit.RoundSteps.{round_by_index}
 use Rattle.judged_records.proofs.OfChanges.WholeDerived.{derived_still}
 use Rattle.version_index.specs.Committing.{IsTop, Rests, MayComplete, DerivesWhole, CommitsIfComplete}
+use Rattle.version_index.specs.Written.{pages_written}
 use Rattle.version_index.proofs.OfProgram.FreeNumbers.{has_free}
 use Rattle.version_index.proofs.OfChanges.KeptChanges.{notes_set}
 use Rattle.version_index.proofs.OfTables.KeptNotes.{kept_found, kept_noted, found_number, blank_slot, length-notes}
 use Rattle.version_index.proofs.OfCommit.Newest.{newest_number, no_number}
+use Rattle.version_index.proofs.OfReadings.KeptReadings.{current_record}
+use Rattle.version_index.proofs.OfWritten.CountedPages.{same_written}
+
+-- there are few pages
+pub few_pages : (its : Config) → IsConfig its → its.logical ≤ 65536
+few_pages its bounds =
+    let blocks = blocks_of (shape_of its) in
+    let per = its.pages_per_block in
+    let less : blocks - 1 ≤ blocks = omega arith in
+    let most : (blocks - 1) * per ≤ blocks * per = mul-le-mul_right per less in
+    let turned : per * blocks ≡ blocks * per = mul_comm per blocks in
+    let space = bounds.space in
+    let slots = bounds.shape.slots_most in
+    omega arith
 
 module _ (protocol : Protocol) (its : Config) (m : List ℕ) (k : TablesState) (i : AreIndexed protocol its m k)
     (sizes : IsTablesState k)
@@ -96,6 +113,14 @@ module _ (protocol : Protocol) (its : Config) (m : List ℕ) (k : TablesState) (
         (notes_set (added k x rec) at (slot.Holds x)
         ∙ ap (λ notes. set notes at (note_in with_record.records (slot.Holds x))) same_notes
         ∙ ap (λ o. set (notes_in k) at (option_map_or note.Holds o note.Damaged)) its_own)
+
+    -- as many pages are not blank: the new record has the number of no current one
+    pub programmed_written : pages_written with_record ≡ pages_written k
+    programmed_written = same_written k with_record refl (λ page y inside e. (
+        let size = sizes.current in
+        let pages = i.pages in
+        let c = current_record protocol its m k i page y (omega arith) e in
+        others y (not_x y c.rec c.is)))
 
     programmed_held : AreHeld with_record
     programmed_held = record {

@@ -1,0 +1,63 @@
+ghost use Rattle.std.specs.Prelude.{◌≡◌, ◌+◌, ◌<◌, ◌≤◌, length, slice_set, IfSome, if◌then◌else◌};
+ghost use Rattle.tx_types.specs.Config.{slots_of};
+ghost use Rattle.version_index.specs.Written.{fills, pages_written};
+
+use slot_tables::Tables;
+
+/// Whether the record of a number fills its page: there is one, which does not discard it.
+fn fills(tables: &Tables, number: Option<u32>) -> bool
+    requires { IfSome number (λ x. x < slots_of tables.now.shape) }
+    ensures { result ≡ fills tables.now.records number }
+{
+    match number {
+        None => false,
+        Some(number) => match tables.record(number) {
+            None => false,
+            Some(rec) => !rec.discard,
+        },
+    }
+}
+
+/// The number of pages that their current records fill. It looks at each page, and is called once, when tables are
+/// made.
+pub fn count_written(tables: &Tables, logical: u32) -> u32
+    requires { length tables.now.pages ≡ logical }
+    ensures { result ≡ pages_written tables.now }
+{
+    // For the proof: the sizes of the tables.
+    let _ = tables.shape();
+    let mut count = 0;
+    for page in 0..logical {
+        if fills(tables, tables.current(page)) {
+            count += 1;
+        }
+    }
+    count
+}
+
+/// Sets which record of a page is current, and keeps the number of pages that their current records fill.
+pub fn set_current(tables: &mut Tables, written: &mut u32, page: u32, to: Option<u32>)
+    requires page { page < length tables.old.pages }
+    requires number { IfSome to (λ x. x < slots_of tables.old.shape) }
+    requires few { length tables.old.pages ≤ 65536 }
+    requires written { written.old ≡ pages_written tables.old }
+    ensures set { tables.new ≡ record tables.old { current = slice_set tables.old.current page to } }
+    ensures written { written.new ≡ pages_written tables.new }
+{
+    // For the proof: the sizes of the tables.
+    let _ = tables.shape();
+    let before = fills(tables, tables.current(page));
+    let after = fills(tables, to);
+    tables.set_current(page, to);
+    *written = recount(*written, before, after);
+}
+
+/// A count of what passes a test, once one thing passes or fails that passed or failed before.
+fn recount(count: u32, passed: bool, passes: bool) -> u32
+    requires counted { (if passed then 1 else 0) ≤ count }
+    requires few { count ≤ 65536 }
+    ensures { result + (if passed then 1 else 0) ≡ count + (if passes then 1 else 0) }
+{
+    let others = if passed { count - 1 } else { count };
+    if passes { others + 1 } else { others }
+}
