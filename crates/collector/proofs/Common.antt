@@ -29,11 +29,11 @@ pub use Rattle.die_alloc.specs.BlocksState.{BlocksState, IsFree, block_of_slot, 
 pub use Rattle.die_alloc.specs.declared.block_use.BlockUse.{BlockUse}
 pub use Rattle.flash_model.proofs.CallLemmas.{Carries-then}
 pub use Rattle.flash_model.proofs.ImageLemmas.{block_within}
-pub use Rattle.flash_model.proofs.MoveLemmas.{same_moments, FlashMoves-operates}
+pub use Rattle.flash_model.proofs.MoveLemmas.{same_moments, same_done, same_read, operation_started, FlashMoves-operates}
 pub use Rattle.flash_model.specs.Calls.{Erases, spare_area_of, Programs, Reads}
 pub use Rattle.flash_model.specs.Flash.{FlashState, Contents, blank, damaged, complete, slot_at, IsFlash, IsImage, counted_times}
 pub use Rattle.flash_model.specs.Moves.{Does}
-pub use Rattle.flash_model.specs.Operations.{moment_of, erase, CanDo, Moment, Torn, program, Operation, image_left}
+pub use Rattle.flash_model.specs.Operations.{moment_of, erase, CanDo, Moment, Torn, BreaksIn, program, Operation, image_left}
 pub use Rattle.flash_model.specs.Retiring.{Retires}
 pub use Rattle.flash_model.specs.declared.flash.Broken.{Broken}
 pub use Rattle.flash_model.specs.declared.flash.Seen.{Seen}

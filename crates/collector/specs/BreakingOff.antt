@@ -3,7 +3,7 @@ use Rattle.std.specs.Prelude.{◌≡◌, ◌⊎◌, ℕ, ◌+◌, ◌*◌, ◌<�
 use Rattle.tx_types.specs.declared.config.Slot.{Slot}
 use Rattle.flash_model.specs.Flash.{FlashState, counted, counted_times}
 use Rattle.flash_model.specs.Moves.{Does, FlashMoves}
-use Rattle.flash_model.specs.Operations.{Moment, Operation, Torn, erase, moment_of}
+use Rattle.flash_model.specs.Operations.{BreaksIn, Moment, Operation, Torn, erase, moment_of}
 use Rattle.judged_records.specs.IndexState.{IndexState, block_to_go}
 use Rattle.die_alloc.specs.BlocksState.{BlocksState}
 use Rattle.collector.specs.declared.unsure.Unsure.{Unsure}
@@ -46,23 +46,25 @@ pub record CopyBreaks (n : IndexState) (old new : FlashState) (before : List Ope
   pub between : Moment
   pub copied : CopiedFirst n old before spare block first (from ∷ later) between n'
   pub place : to ≡ start_of n spare + length first
-  pub torn : Torn old.shape between (copy_program n.config.page_bytes old.image to from)
+  pub torn : BreaksIn old.shape between (copy_program n.config.page_bytes old.image to from)
       (moment_of new)
   pub reads : new.reads ≡ counted_times (length first + 1) old.reads
 
--- all copies were done, and the erase of the block was broken
+-- all copies were done, and the erase of the block was broken, which is counted as started where power was on
 pub record EraseBreaks (n : IndexState) (old new : FlashState) (before : List Operation)
     (spare block : ℕ)
     (n' : IndexState) : Type 0 where
   pub between : Moment
   pub copied : CopiedFirst n old before spare block (needed_slots n block) [] between n'
   pub torn : Torn old.shape between (erase block) (moment_of new)
+  pub started : old.live ≡ true → new.started ≡ counted between.started
   pub reads : new.reads ≡ counted_times (length (needed_slots n block)) old.reads
 
 -- the spare was to be erased first, and that was broken
 pub record CleaningBreaks (n : IndexState) (old new : FlashState) (spare : ℕ) : Type 0 where
   pub first : cleaning n old.image spare ≡ erase spare ∷ []
   pub torn : Torn old.shape (moment_of old) (erase spare) (moment_of new)
+  pub started : old.live ≡ true → new.started ≡ counted old.started
   pub reads : new.reads ≡ old.reads
 
 -- a copy breaks off: the read of its source failed, or its source was read and the program was broken
@@ -71,7 +73,7 @@ CopyBreaksOff n old new from to u =
     ((u ≡ unsure.Nothing) × (moment_of new ≡ moment_of old)
     × (old.live ≡ true → new.reads ≡ counted old.reads))
     ⊎ ((u ≡ unsure.Copy from to)
-    × Torn old.shape (moment_of old) (copy_program n.config.page_bytes old.image to.0 from.0)
+    × BreaksIn old.shape (moment_of old) (copy_program n.config.page_bytes old.image to.0 from.0)
     (moment_of new)
     × (new.reads ≡ counted old.reads))
 

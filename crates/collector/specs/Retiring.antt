@@ -11,7 +11,7 @@ use Rattle.flash_model.specs.declared.flash.Broken.{Broken}
 use Rattle.flash_model.specs.Flash.{FlashState, Contents, counted_times}
 use Rattle.flash_model.specs.Moves.{FlashMoves}
 use Rattle.flash_model.specs.Operations.{Operation}
-use Rattle.flash_model.specs.Retiring.{CarriesRetiring, IsNotReplaced, IsReplaced, Retires, RetiresAfter, RetiresTorn}
+use Rattle.flash_model.specs.Retiring.{CarriesRetiring, IsNotReplaced, IsReplaced, Retires, RetiresAfter, RetiresTorn, StartsRetiring}
 use Rattle.judged_records.specs.IndexState.{IndexState, erased, with_spare}
 use Rattle.collector.specs.declared.unsure.Unsure.{Unsure}
 use Rattle.collector.specs.declared.unsure.Unsure.TheVariants as unsure
@@ -73,10 +73,11 @@ pub record RetiresVictim (p : Protocol) (a b : StoreParts) (block : Block) (used
 abbrev pub RetiresNone : FlashState → FlashState → Type 0
 RetiresNone old new = FlashMoves old new true × (new.extras ≡ old.extras)
 
--- the replacement of the spare was broken, and nothing came before it
+-- the replacement of the spare was broken, which is counted as started where power was on, and nothing came before it
 pub record SpareBreaks (n : IndexState) (old new : FlashState) (spare : ℕ) (n' : IndexState)
     (u : Unsure) : Type 0 where
   pub left : IsNotReplaced old new ⊎ IsReplaced old new spare
+  pub started : StartsRetiring old new
   pub reads : new.reads ≡ old.reads
   pub noted : n' ≡ n
   pub place : u ≡ unsure.SpareErase

@@ -1,9 +1,9 @@
 -- What calls of a device leave of its mentions, of the cache, and of what is told.
-use Rattle.cut_replay.proofs.Common.{◌≡◌, ℕ, ◌+◌, ◌<◌, ◌≤◌, Bool, true, false, cond, List, sym, ◌∙◌, subst, inl, inr, arith, count_by, Config, Protocol, Shape, shape_of, FlashState, Carries, moment_of, CachedPage, is_spent, DeviceState, limits_of, Command, Reply, DoesCommand, seen_after, is_break, Tells, is_fault, is_lost, IsSeen, HoldsAlways, point_at, IsCachedAs, IsCached, ServesHere}
+use Rattle.cut_replay.proofs.Common.{◌≡◌, ℕ, ◌+◌, ◌<◌, ◌≤◌, Bool, true, false, cond, List, sym, ◌∙◌, subst, inl, inr, arith, count_by, Config, Protocol, Shape, FlashState, Carries, moment_of, CachedPage, is_spent, DeviceState, limits_of, Command, Reply, DoesCommand, seen_after, is_break, Tells, is_fault, is_lost, IsSeen, HoldsAlways, point_at, IsCachedAs, IsCached, ServesHere}
 use Rattle.std.proofs.lemmas.List.Elements.{All-weaker}
-use Rattle.flash_model.specs.Moves.{Moves}
+use Rattle.flash_model.specs.Moves.{MovesTogether}
 use Rattle.flash_model.proofs.MoveLemmas.{together_of}
-use Rattle.tx_engine.specs.Exits.{Exits, VersionsTell}
+use Rattle.tx_engine.specs.Exits.{Exits, ExitsTables, VersionsTell}
 use Rattle.array_machine.specs.Submit.{is_of}
 use Rattle.tx_engine.proofs.OfDevice.Seen.{exits_seen}
 use Rattle.collector.specs.declared.unsure.Unsure.TheVariants as unsure
@@ -52,6 +52,41 @@ cached_stays old new entries same tell h = All-weaker (IsCachedAs old) (IsCached
     (cached_stays_so old new same tell) entries h
 
 -- what a command does that is one call which may settle, write and collect
+pub call_serves : {F : Type 0} (state : F → FlashState) (protocol : Protocol) (c : Command) (old new : DeviceState F)
+    (r : Reply) (broken : Bool) →
+    HoldsAlways state protocol old → HoldsAlways state protocol new → ExitsTables old new →
+    MovesTogether (is_together c) (state old.flash).shape (moment_of (state old.flash)) broken
+    (moment_of (state new.flash)) → Carries (state old.flash) (state new.flash) broken → is_break r ≡ broken →
+    is_fault r ≡ broken →
+    is_lost r ≡ false →
+    DoesCommand (limits_of old.config) (is_spent old.noted.mentions) c old.machine r new.machine →
+    (is_still c ≡ true → moment_of (state new.flash) ≡ moment_of (state old.flash)) →
+    ((faulted : Bool) → (faulted ≡ false → old.unsure ≡ unsure.Nothing) →
+    Tells old.config faulted (point_at state old) r (point_at state new)) →
+    (old.unsure ≡ unsure.Nothing → is_fault r ≡ false → new.unsure ≡ unsure.Nothing) →
+    (is_fault r ≡ true → MayHaveCut state c old new) →
+    ServesHere state c old new r
+call_serves state protocol c old new r broken was is tables ops carries breaks faults whole does still tells sure cut =
+    record {
+      config = tables.config;
+      does = does;
+      moves = record {
+        moves = subst (λ (x : Shape). MovesTogether (is_together c) x (moment_of (state old.flash)) (is_break r)
+            (moment_of (state new.flash))) was.shape
+            (subst (λ (b : Bool). MovesTogether (is_together c) (state old.flash).shape (moment_of (state old.flash)) b
+            (moment_of (state new.flash))) (sym breaks) ops);
+        still = still;
+      };
+      carries = subst (λ (b : Bool). Carries (state old.flash) (state new.flash) b) (sym faults) carries;
+      tells = tells;
+      sure = sure;
+      seen = λ seen h. seen_later seen c r new (exits_seen state protocol old new seen was is tables h);
+      versions = tables.versions;
+      cut = cut;
+      whole = whole;
+    }
+
+-- the same where no programs are started together
 pub exits_serve : {F : Type 0} (state : F → FlashState) (protocol : Protocol) (c : Command) (old new : DeviceState F)
     (r : Reply) (broken : Bool) →
     HoldsAlways state protocol old → HoldsAlways state protocol new → Exits state old new broken → is_break r ≡ broken →
@@ -64,23 +99,7 @@ pub exits_serve : {F : Type 0} (state : F → FlashState) (protocol : Protocol) 
     (old.unsure ≡ unsure.Nothing → is_fault r ≡ false → new.unsure ≡ unsure.Nothing) →
     (is_fault r ≡ true → MayHaveCut state c old new) →
     ServesHere state c old new r
-exits_serve state protocol c old new r broken was is exits breaks faults whole does still tells sure cut = record {
-  config = exits.tables.config;
-  does = does;
-  moves = record {
-    moves = together_of (is_together c) (shape_of old.config) (moment_of (state old.flash))
-        (moment_of (state new.flash)) (is_break r)
-        (subst (λ (x : Shape). Moves x (moment_of (state old.flash)) (is_break r) (moment_of (state new.flash)))
-        was.shape
-        (subst (λ (b : Bool). Moves (state old.flash).shape (moment_of (state old.flash)) b
-        (moment_of (state new.flash))) (sym breaks) exits.moves));
-    still = still;
-  };
-  carries = subst (λ (b : Bool). Carries (state old.flash) (state new.flash) b) (sym faults) exits.carries;
-  tells = tells;
-  sure = sure;
-  seen = λ seen h. seen_later seen c r new (exits_seen state protocol old new seen was is exits.tables h);
-  versions = exits.tables.versions;
-  cut = cut;
-  whole = whole;
-}
+exits_serve state protocol c old new r broken was is exits =
+    call_serves state protocol c old new r broken was is exits.tables
+    (together_of (is_together c) (state old.flash).shape (moment_of (state old.flash)) (moment_of (state new.flash))
+    broken exits.moves) exits.carries

@@ -18,4 +18,5 @@ pub mod ServerCalls
 pub mod Flushes
 pub mod Quiet
 pub mod Due
+pub mod Started
 pub mod Totals

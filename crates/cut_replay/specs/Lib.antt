@@ -6,6 +6,7 @@ pub mod MountedAgain
 pub mod Mounted
 pub mod EndsLost
 pub mod CutsDue
+pub mod Started
 pub mod Sessions
 pub mod UnmountedRun
 pub mod Beginning

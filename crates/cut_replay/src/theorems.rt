@@ -1,8 +1,8 @@
 //! What holds of all runs on a flash. The functions do nothing: each is there for what it ensures.
 ghost use Rattle.std.specs.Prelude.{◌≡◌, ◌+◌, ◌<◌, ◌≤◌, ◌^◌, ℕ, Bool, true, false, List, length, All, Some, IfSome};
 ghost use Rattle.tx_types.specs.declared.config.Config.{Config};
-ghost use Rattle.flash_model.specs.Flash.{FlashState, Told, IsSteady};
-ghost use Rattle.flash_model.specs.Operations.{Moment, moment_of};
+ghost use Rattle.flash_model.specs.Flash.{FlashState, Told, counted_times, IsSteady};
+ghost use Rattle.flash_model.specs.Operations.{Moment, moment_of, starts_in};
 ghost use Rattle.flash_model.specs.declared.outcome.Outcome.{Outcome};
 ghost use Rattle.tx_engine.specs.DeviceState.{limits_of};
 ghost use Rattle.host_protocol.specs.declared.command.Command.{Command};
@@ -15,7 +15,9 @@ ghost use Rattle.cut_replay.specs.Bounds.{SpendsTold, CountsBreaks, LastIsSet};
 ghost use Rattle.cut_replay.specs.CutsDue.{CutIsDue};
 ghost use Rattle.cut_replay.specs.MountedAgain.{CountsMounts};
 ghost use Rattle.cut_replay.specs.Served.{Watched, ServesRun, EndsThere};
-ghost use Rattle.cut_replay.specs.FlashRun.{Point, IsPoint, IsArmed, IsLost, IsNotDone, FlashRun, IsFlashRun, first_point, first_state, last_moment, last_point, last_state, mentions_in};
+ghost use Rattle.cut_replay.specs.FlashCalls.{MountsFlash};
+ghost use Rattle.cut_replay.specs.Started.{operations_in};
+ghost use Rattle.cut_replay.specs.FlashRun.{Point, IsPoint, IsArmed, IsLost, IsNotDone, MovesBy, FlashRun, IsFlashRun, first_point, first_state, last_moment, last_point, last_state, mentions_in};
 
 /// The state at which a run on a flash begins has an array of all logical pages, and nothing open.
 pub fn first_states()
@@ -56,6 +58,20 @@ pub fn cuts_come_due()
         (its : Config) (old : Point) (r : Reply) (new : Point) →
         IsNotDone its old r new → r ≡ reply.Cut → CutIsDue due what old.flash →
         new.flash.started ≡ due }
+{}
+
+/// The operations by which a command moves the flash, with the one that was broken, are those that the flash counts as
+/// started meanwhile; programs that are started together are one (`moves`). So a cut that is due comes at the last of
+/// them, by their number (`cut`).
+pub fn operations_are_started()
+    ensures moves { (its : Config) (c : Command) (r : Reply) (old new : Moment) → (by : MovesBy its c r old new) →
+        new.started ≡ counted_times (starts_in (operations_in its c r old new by)) old.started }
+    ensures cut { (due : ℕ) (what : Outcome) → due + 1 < 2 ^ 64 →
+        (its : Config) (c : Command) (old : Point) (r : Reply) (met : FlashState) (new : Point) →
+        IsPoint its old → (lost : IsLost its c old r met new) → MountsFlash its new.state.up met new.flash →
+        r ≡ reply.Cut → CutIsDue due what old.flash →
+        old.flash.started
+        + starts_in (operations_in its c r (moment_of old.flash) (moment_of new.flash) lost.moves) ≡ due }
 {}
 
 /// What is said of each command of a run adds up. No more cuts and faults are replied than were to come and were armed

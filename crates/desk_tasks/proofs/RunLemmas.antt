@@ -1,13 +1,14 @@
 -- What serving gives, as a run from an image on.
 use Rattle.desk_tasks.proofs.Common.{◌≡◌, ℕ, false, List, [], length, take, None, Some, refl, sym, ap, ◌∙◌, subst, Config, shape_of, Protocol, Contents, MemFlashState, loaded, state_of, IsSoundImage, records_in, Err, RefusesDevice}
-use Rattle.std.proofs.Common.{◌⊎◌, inl, inr, Bool, true, ◌++◌, ap₂, Option}
+use Rattle.std.proofs.Common.{◌⊎◌, inl, inr, Bool, true, ◌++◌, Option}
 use Rattle.std.specs.Prelude.{IsSomeAnd, MatchBool}
 use Rattle.list_lemmas.proofs.Lists.{take_whole}
 use Rattle.flash_model.proofs.CallLemmas.{steady_unbroken}
 use Rattle.flash_model.specs.Calls.{BothTell, Carries}
 use Rattle.flash_model.specs.Coming.{Waits, ReadWaits, ComesTo}
 use Rattle.flash_model.specs.Flash.{FlashState, IsSteady, Told}
-use Rattle.flash_model.specs.Operations.{Moment, moment_of}
+use Rattle.flash_model.specs.Operations.{moment_of}
+use Rattle.flash_model.proofs.MoveLemmas.{same_moments}
 use Rattle.mem_flash.specs.MemFlashState.{told_of}
 use Rattle.record_list.specs.declared.found.Found.{Found}
 use Rattle.verdict_report.specs.Report.{report}
@@ -39,8 +40,8 @@ is_steady its flash e = record {
 pub starts : (its : Config) (flash : MemFlashState) → flash ≡ loaded (shape_of its) flash.image flash.extras →
     moment_of (state_of flash) ≡ first_moment flash.image
 starts its flash e =
-    ap₂ (λ (a : ℕ) (b : ℕ). let m : Moment = record { image = flash.image; programs = a; erases = b } in m)
-    (ap (λ (s : MemFlashState). s.programs) e) (ap (λ (s : MemFlashState). s.erases) e)
+    same_moments (moment_of (state_of flash)) (first_moment flash.image) refl (ap (λ (s : MemFlashState). s.programs) e)
+    (ap (λ (s : MemFlashState). s.erases) e) (ap (λ (s : MemFlashState). s.started) e)
 
 -- it has no arm, and gets none where it is mounted
 abbrev HasNoArm : Told → Type 0

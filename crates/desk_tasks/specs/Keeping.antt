@@ -29,7 +29,7 @@ told_in kept = map (λ r. r.told) kept
 -- what stands for a reply where there is none
 abbrev pub no_entry : KeptReply
 no_entry = record {
-  told = record { text = []; moment = record { image = []; programs = 0; erases = 0 } };
+  told = record { text = []; moment = record { image = []; programs = 0; erases = 0; started = 0 } };
   page_bytes = 0;
 }
 

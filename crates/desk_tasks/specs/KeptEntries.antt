@@ -11,7 +11,7 @@ kept_by e = record {
         text =
             e.text.items;
         moment =
-            record { image = e.flash.image; programs = e.programs; erases = e.erases };
+            record { image = e.flash.image; programs = e.programs; erases = e.erases; started = e.started };
       };
   page_bytes = e.flash.shape.page_bytes;
 }

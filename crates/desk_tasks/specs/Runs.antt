@@ -32,7 +32,7 @@ blank_image its = replicate (slots_of (shape_of its)) blank
 
 -- the image of a device when it is served, with nothing counted
 abbrev pub first_moment : List Contents → Moment
-first_moment its_image = record { image = its_image; programs = 0; erases = 0 }
+first_moment its_image = record { image = its_image; programs = 0; erases = 0; started = 0 }
 
 -- the flash counted no fault, and tells that no arm is set
 pub record IsUnarmed (s : FlashState) : Type 0 where

@@ -25,6 +25,7 @@ struct Entry {
     flash: MemFlash,
     programs: u64,
     erases: u64,
+    started: u64,
 }
 
 /// The replies of a run, each with a copy of what the flash was when it was given. It is seen as
@@ -148,6 +149,7 @@ impl Watch<MemFlash> for Kept {
             flash: copy_flash(self.alloc, flash)?,
             programs: flash.programs(),
             erases: flash.erases(),
+            started: flash.started(),
         };
         self.entries.push(entry)?;
         Ok(())

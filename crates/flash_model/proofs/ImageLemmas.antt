@@ -12,7 +12,7 @@ use Rattle.flash_model.specs.declared.outcome.Outcome.TheVariants as outcome
 use Rattle.flash_model.specs.Flash.{Contents, blank, damaged, complete, slot_at, IsWhole, IsImage}
 use Rattle.flash_model.specs.Operations.{Operation, Load, program, erase, fire, program_of, Moment, CanDo, WorksIn, with_block, load_left, left_each}
 use Rattle.flash_model.specs.Operations.{image_after, image_left, after, MayLeave, Torn}
-use Rattle.flash_model.specs.Moves.{Does, Ends, Moves, FiresTorn, StayOff}
+use Rattle.flash_model.specs.Moves.{Does, Ends, Moves, Fires, StayOff}
 use Rattle.flash_model.proofs.FireLemmas.{slot_at-load, can_first, can_rest}
 
 -- a block's slots end within all slots
@@ -122,7 +122,7 @@ IsImage-ends : (shape : Shape) (a b : Moment) (broken : Bool) → IsImage shape 
     IsImage shape b.image
 IsImage-ends shape a b false h same = subst (λ (m : Moment). IsImage shape m.image) (sym same) h
 IsImage-ends shape a b true h (inl same) = subst (λ (m : Moment). IsImage shape m.image) (sym same) h
-IsImage-ends shape a b true h (inr torn) = IsImage-torn shape a b torn.0 h torn.2 torn.3
+IsImage-ends shape a b true h (inr torn) = IsImage-torn shape a b torn.0 h torn.2 torn.3.0
 
 -- and so do all operations of a call
 pub IsImage-moves : (shape : Shape) (a b : Moment) (broken : Bool) → IsImage shape a.image → Moves shape a broken b →
@@ -130,10 +130,15 @@ pub IsImage-moves : (shape : Shape) (a b : Moment) (broken : Bool) → IsImage s
 IsImage-moves shape a b broken h moves =
     IsImage-ends shape moves.between b broken (IsImage-does shape a moves.between moves.done h moves.does) moves.ends
 
-pub IsImage-fired : (shape : Shape) (a b : Moment) → IsImage shape a.image → FiresTorn shape a b → IsImage shape b.image
-IsImage-fired shape a b h fires =
+pub IsImage-fired : (shape : Shape) (a b : Moment) (broken : Bool) → IsImage shape a.image → Fires shape a broken b
+    → IsImage shape b.image
+IsImage-fired shape a b false h fires =
+    subst (λ (m : Moment). IsImage shape m.image) (sym fires.ends)
+    (IsImage-after shape fires.between.image (fire fires.loads)
+    (IsImage-moves shape a fires.between false h fires.moves) fires.can)
+IsImage-fired shape a b true h fires =
     IsImage-torn shape fires.between b (fire fires.loads) (IsImage-moves shape a fires.between false h fires.moves)
-    fires.can fires.torn
+    fires.can fires.ends.0
 
 -- a slot of another block lies before this block or behind it
 pub outside_block : (per block k : ℕ) → k / per ≢ block → (k < block * per) ⊎ (block * per + per ≤ k)

@@ -1,5 +1,5 @@
 -- The operations that change a flash: what each needs, does, and leaves where it is broken.
-use Rattle.std.specs.Prelude.{◌≡◌, ◌≢◌, ℕ, ◌+◌, ◌*◌, ◌/◌, ◌<◌, ◌≤◌, ◌==◌, Bool, true, not, List, [], ◌∷◌, ◌++◌, length, take, drop, replicate, slice_set, All, AllPairs, Any}
+use Rattle.std.specs.Prelude.{◌≡◌, ◌≢◌, ℕ, ◌+◌, ◌*◌, ◌/◌, ◌<◌, ◌≤◌, ◌==◌, Bool, true, not, List, [], ◌∷◌, ◌++◌, length, take, drop, replicate, slice_set, All, AllPairs, Any, if◌then◌else◌}
 use Rattle.tx_types.specs.Config.{slots_of, blocks_of}
 use Rattle.tx_types.specs.Limits.{spare_bytes}
 use Rattle.tx_types.specs.declared.config.Shape.{Shape}
@@ -23,20 +23,26 @@ pub data Operation : Type 0 where
 abbrev pub program_of : Load → Operation
 program_of load = program load.at load.bytes load.spare_area
 
--- what a flash holds, and how many programs and erases it has counted
+-- what a flash holds, how many programs and erases it has counted, and how much it counts as started
 pub record Moment : Type 0 where
   pub image : List Contents
   pub programs : ℕ
   pub erases : ℕ
+  pub started : ℕ
 
 abbrev pub moment_of : FlashState → Moment
-moment_of s = record { image = s.image; programs = s.programs; erases = s.erases }
+moment_of s = record { image = s.image; programs = s.programs; erases = s.erases; started = s.started }
 
 -- an operation has something to do: each has but a fire of nothing
 abbrev pub starts : Operation → Bool
 starts (program at bytes spare_area) = true
 starts (erase block) = true
 starts (fire loads) = not (length loads == 0)
+
+-- how many of these operations are counted as started
+abbrev pub starts_in : List Operation → ℕ
+starts_in [] = 0
+starts_in (o ∷ rest) = (if starts o then 1 else 0) + starts_in rest
 
 -- the first slot after the block that a slot lies in
 abbrev pub block_end : Shape → ℕ → ℕ
@@ -123,14 +129,19 @@ erases_after (program at bytes spare_area) count = count
 erases_after (erase block) count = counted count
 erases_after (fire loads) count = count
 
+-- the count of what was started, once the operation was: one more, if it has something to do
+abbrev pub started_after : Operation → ℕ → ℕ
+started_after o count = if starts o then counted count else count
+
 abbrev pub after : Shape → Moment → Operation → Moment
 after shape m o = record {
   image = image_after shape m.image o;
   programs = programs_after o m.programs;
   erases = erases_after o m.erases;
+  started = started_after o m.started;
 }
 
--- an operation that is done
+-- an operation that is done, but for the count of what was started, which is that of its call
 pub record Done (shape : Shape) (old : Moment) (o : Operation) (new : Moment) : Type 0 where
   pub image : new.image ≡ image_after shape old.image o
   pub programs : new.programs ≡ programs_after o old.programs
@@ -144,8 +155,12 @@ MayLeave shape old (erase block) new = (how : Outcome) × (new ≡ image_left sh
 MayLeave shape old (fire loads) new =
     (hows : List Outcome) × (length hows ≡ length loads) × (new ≡ left_each old loads hows)
 
--- an operation that is broken leaves what it may leave, and is not counted
+-- an operation that is broken leaves what it may leave, and is not counted as done
 pub record Torn (shape : Shape) (old : Moment) (o : Operation) (new : Moment) : Type 0 where
   pub left : MayLeave shape old.image o new.image
   pub programs : new.programs ≡ old.programs
   pub erases : new.erases ≡ old.erases
+
+-- an operation that is started and then broken: it is counted as started, as one that is done
+abbrev pub BreaksIn : Shape → Moment → Operation → Moment → Type 0
+BreaksIn shape old o new = Torn shape old o new × (new.started ≡ started_after o old.started)

@@ -34,8 +34,14 @@ pub record IsReplaced (old new : FlashState) (block : ℕ) : Type 0 where
 
 -- the slots, the counts and the number retired are as before
 pub record IsNotReplaced (old new : FlashState) : Type 0 where
-  pub moment : moment_of new ≡ moment_of old
+  pub image : new.image ≡ old.image
+  pub programs : new.programs ≡ old.programs
+  pub erases : new.erases ≡ old.erases
   pub extras : new.extras ≡ old.extras
+
+-- a retirement is counted as started where power is on
+abbrev pub StartsRetiring : FlashState → FlashState → Type 0
+StartsRetiring old new = new.started ≡ (if old.live then counted old.started else old.started)
 
 -- What a call keeps that may retire a block: all that each call keeps, but for what is told of retired blocks. That
 -- stays too where power is off.
@@ -51,14 +57,15 @@ pub record Retires (old new : FlashState) (block : ℕ) (result : Result (Unit {
   pub done : OnOk result (IsReplaced old new block)
   pub torn : OnErr result (IsNotReplaced old new ⊎ IsReplaced old new block)
   pub reads : new.reads ≡ old.reads
-  pub started : new.started ≡ (if old.live then counted old.started else old.started)
+  pub started : StartsRetiring old new
 
--- a call that does these operations, none of them broken, and then replaces the block
+-- a call that does these operations, none of them broken, and then replaces the block, which is started once
 pub record RetiresAfter (old new : FlashState) (first : List Operation) (block : ℕ) : Type 0 where
   pub between : FlashState
   pub does : Does old.shape (moment_of old) first (moment_of between)
   pub carries : Carries old between false
   pub replaced : IsReplaced between new block
+  pub started : new.started ≡ counted between.started
 
 -- a call that does operations, none of them broken, and then breaks in replacing the block
 pub record RetiresTorn (old new : FlashState) (block : ℕ) : Type 0 where
@@ -66,3 +73,4 @@ pub record RetiresTorn (old new : FlashState) (block : ℕ) : Type 0 where
   pub moves : FlashMoves old between false
   pub carries : Carries old between false
   pub left : IsNotReplaced between new ⊎ IsReplaced between new block
+  pub started : StartsRetiring between new

@@ -15,7 +15,7 @@ pub use flash::{Broken, Flash, SPARE_BYTES, Seen};
 pub use outcome::{Arm, Outcome};
 pub use retire::{MAX_ALLOWANCE, Retire};
 pub use theorems::{
-    calls_compose, fires_are_programs, images_stay, loads_come_in_order, operations_move,
-    retiring_composes, steady_stays,
+    calls_compose, fires_are_programs, images_stay, loads_come_in_order, operations_are_counted,
+    operations_move, retiring_composes, steady_stays,
 };
 pub use wide::Wide;

@@ -1,14 +1,14 @@
 //! What holds of the calls of each flash. The functions do nothing: each is there for what it ensures.
-ghost use Rattle.std.specs.Prelude.{◌≡◌, ◌≢◌, ◌<◌, ◌≤◌, ◌+◌, ◌-◌, ◌/◌, ◌^◌, ℕ, suc, Bool, true, false, List, [], ◌∷◌, ◌++◌, length, map, Option, Some, IsSomeAnd, Result, Ok};
+ghost use Rattle.std.specs.Prelude.{◌≡◌, ◌⊎◌, ◌<◌, ◌≤◌, ◌+◌, ◌-◌, ◌/◌, ◌^◌, ℕ, suc, Bool, true, false, List, [], ◌∷◌, ◌++◌, length, map, All, Option, Some, IsSomeAnd, Result};
 ghost use Rattle.std.specs.Result.{is_err};
 ghost use Rattle.tx_types.specs.Config.{IsShape, slots_of};
 ghost use Rattle.tx_types.specs.declared.config.Shape.{Shape};
 ghost use Rattle.flash_model.specs.declared.flash.Broken.{Broken};
 ghost use Rattle.flash_model.specs.declared.outcome.Arm.{Arm};
 ghost use Rattle.flash_model.specs.declared.outcome.Outcome.{Outcome};
-ghost use Rattle.flash_model.specs.Flash.{FlashState, Told, Contents, slot_at, IsImage, IsSteady};
-ghost use Rattle.flash_model.specs.Operations.{Operation, Load, fire, program_of, Moment, CanDo, WorksIn, die_of, image_left, left_each, after, Torn};
-ghost use Rattle.flash_model.specs.Moves.{Does, IsLone, Moves, FiresTorn, FlashMoves, StayOff};
+ghost use Rattle.flash_model.specs.Flash.{FlashState, Told, Contents, slot_at, counted_by, counted_times, IsImage, IsSteady};
+ghost use Rattle.flash_model.specs.Operations.{Operation, Load, fire, program_of, Moment, starts_in, CanDo, WorksIn, die_of, image_left, left_each, after, Torn};
+ghost use Rattle.flash_model.specs.Moves.{Does, IsLone, Moves, Fires, FlashMoves, FlashMovesTogether, StayOff};
 ghost use Rattle.flash_model.specs.Calls.{Carries, Operates};
 ghost use Rattle.flash_model.specs.Retiring.{CarriesRetiring};
 ghost use Rattle.flash_model.specs.Firing.{no_loads, loads_in, with_load, AreFreeFrom};
@@ -33,15 +33,25 @@ pub fn cuts_come_due()
         ≡ Some (record arm { count = arm.count - (new.started - old.started) })) }
 {}
 
-/// A program or an erase moves the flash by one operation, done or broken, and so does a fire that is done, by its
-/// programs.
+/// A program or an erase moves the flash by one operation, done or broken, and so does a fire, by all its programs.
 pub fn operations_move()
     ensures lone { (old new : FlashState) (o : Operation) (result : Result (Unit {0}) Broken) →
         IsLone o → CanDo old.shape old.image o → Operates old new o result →
         FlashMoves old new (is_err result) }
-    ensures fired { (old new : FlashState) (loads : List Load) → loads ≢ [] →
-        CanDo old.shape old.image (fire loads) → Operates old new (fire loads) (Ok tt) →
-        FlashMoves old new false }
+    ensures fired { (old new : FlashState) (loads : List Load) (result : Result (Unit {0}) Broken) →
+        CanDo old.shape old.image (fire loads) → Operates old new (fire loads) result →
+        FlashMovesTogether old new (is_err result) }
+{}
+
+/// What was done tells how much is counted as started: each program and each erase, the one that was broken too, and
+/// each fire with something loaded.
+pub fn operations_are_counted()
+    ensures done { (shape : Shape) (old new : Moment) (list : List Operation) → Does shape old list new →
+        new.started ≡ counted_times (starts_in list) old.started }
+    ensures lone { (list : List Operation) → All IsLone list → starts_in list ≡ length list }
+    ensures moves { (shape : Shape) (old new : Moment) (broken : Bool) → (moves : Moves shape old broken new) →
+        (new.started ≡ counted_times (length moves.done) old.started)
+        ⊎ ((broken ≡ true) × (new.started ≡ counted_times (length moves.done + 1) old.started)) }
 {}
 
 /// An image stays one, whatever is done and however it is broken, and operations that stay off a block leave
@@ -49,8 +59,8 @@ pub fn operations_move()
 pub fn images_stay()
     ensures whole { (shape : Shape) (old new : Moment) (broken : Bool) →
         IsImage shape old.image → Moves shape old broken new → IsImage shape new.image }
-    ensures fired { (shape : Shape) (old new : Moment) →
-        IsImage shape old.image → FiresTorn shape old new → IsImage shape new.image }
+    ensures fired { (shape : Shape) (old new : Moment) (broken : Bool) →
+        IsImage shape old.image → Fires shape old broken new → IsImage shape new.image }
     ensures elsewhere { (shape : Shape) (old new : Moment) (list : List Operation) (slot : ℕ) →
         IsImage shape old.image → Does shape old list new →
         StayOff shape (slot / shape.pages_per_block) list →
@@ -81,11 +91,14 @@ pub fn retiring_composes()
         IsSteady old → CarriesRetiring old new broken → (broken ≡ false) × IsSteady new }
 {}
 
-/// Programs that are started together leave what they leave one after another, each done or broken by itself.
+/// Programs that are started together leave what they leave one after another, each done or broken by itself. They are
+/// counted as started once, and one after another each by itself.
 pub fn fires_are_programs()
     ensures done { (shape : Shape) (old : Moment) (load : Load) (loads : List Load) →
         CanDo shape old.image (fire (load ∷ loads)) →
-        Does shape old (map program_of (load ∷ loads)) (after shape old (fire (load ∷ loads))) }
+        Does shape old (map program_of (load ∷ loads)) (record (after shape old (fire (load ∷ loads))) {
+          started = counted_by (length (load ∷ loads)) old.started;
+        }) }
     ensures first { (shape : Shape) (image : List Contents) (load : Load) (loads : List Load) →
         CanDo shape image (fire (load ∷ loads)) → CanDo shape image (program_of load) }
     ensures rest { (shape : Shape) (image : List Contents) (load : Load) (loads : List Load) (how : Outcome) →

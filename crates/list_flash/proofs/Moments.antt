@@ -6,11 +6,11 @@ use Rattle.std.proofs.lemmas.List.Elements.{All-replicate}
 use Rattle.std.proofs.lemmas.List.Sums.{fold-append}
 use Rattle.tx_types.specs.Config.{IsShape, slots_of}
 use Rattle.tx_types.specs.declared.config.Shape.{Shape}
-use Rattle.flash_model.specs.Flash.{blank, IsWhole, IsImage}
+use Rattle.flash_model.specs.Flash.{blank, counted_by, IsWhole, IsImage}
 use Rattle.flash_model.specs.Operations.{Operation, Load, fire, program_of, Moment, CanDo, after}
 use Rattle.flash_model.specs.Moves.{Does}
 use Rattle.flash_model.proofs.ImageLemmas.{IsImage-does}
-use Rattle.flash_model.proofs.MoveLemmas.{Does-append, Does-fire}
+use Rattle.flash_model.proofs.MoveLemmas.{Does-append, Does-fire, with_started}
 use Rattle.list_flash.specs.declared.entries.Entry.{Entry}
 use Rattle.list_flash.specs.Entries.{operation_of, operations_in, Grows}
 use Rattle.list_flash.specs.ListFlash.{IsDone}
@@ -58,7 +58,8 @@ IsImage-done shape operations programs erases done =
 
 -- the programs of a fire, one after another
 pub Does-loads : (shape : Shape) (m : Moment) (loads : List Load) → (length loads ≡ 0 → ⊥)
-    → CanDo shape m.image (fire loads) → Does shape m (map program_of loads) (after shape m (fire loads))
+    → CanDo shape m.image (fire loads) → Does shape m (map program_of loads)
+    (with_started (after shape m (fire loads)) (counted_by (length loads) m.started))
 Does-loads shape m [] some can = absurd (some refl)
 Does-loads shape m (load ∷ loads) some can = Does-fire shape m load loads can
 

@@ -11,6 +11,7 @@ use Rattle.flash_model.specs.Flash.{Contents, slot_at, counted}
 use Rattle.flash_model.specs.Operations.{Operation, Load, program, erase, fire, Moment, starts, after, left_each, MayLeave}
 use Rattle.flash_model.specs.Calls.{Shows, Reads, Operates}
 use Rattle.flash_model.specs.Moves.{Does}
+use Rattle.flash_model.proofs.MoveLemmas.{with_started}
 use Rattle.list_flash.specs.ListFlashState.{ListFlashState, moment_after, state_of, worked}
 use Rattle.list_flash.proofs.Moments.{moment_then}
 
@@ -64,10 +65,11 @@ module _ (s : ListFlashState) (registers : List (Option Load)) (o : Operation) (
   }
 
   -- and one that comes to what the operation does
-  operates_done : (done : List Operation)
-      → moment_after s.shape (s.operations ++ done) ≡ after s.shape (moment_after s.shape s.operations) o
+  operates_done : (done : List Operation) (count : ℕ)
+      → moment_after s.shape (s.operations ++ done)
+      ≡ with_started (after s.shape (moment_after s.shape s.operations) o) count
       → Operates (state_of s) (state_of (now (worked s done (Ok tt)))) o (Ok tt)
-  operates_done done is = record {
+  operates_done done count is = record {
     carries = record {
       shape = refl;
       later = omega arith;
@@ -105,18 +107,19 @@ operates_err s t operations registers o e some same next later =
     (operates_broken s registers o some e fits)
 
 -- and after one that did these operations
-pub operates_ok : (s : ListFlashState) (operations done : List Operation) (started : ℕ)
+pub operates_ok : (s : ListFlashState) (operations done : List Operation) (started count : ℕ)
     (registers : List (Option Load)) (o : Operation) → starts o ≡ true → operations ≡ s.operations ++ done
     → started ≡ counted s.started
-    → Does s.shape (moment_after s.shape s.operations) done (after s.shape (moment_after s.shape s.operations) o)
+    → Does s.shape (moment_after s.shape s.operations) done
+    (with_started (after s.shape (moment_after s.shape s.operations) o) count)
     → Operates (state_of s)
     (state_of (record s { operations = operations; started = started; registers = registers })) o (Ok tt)
-operates_ok s operations done started registers o some operations_are started_is does =
+operates_ok s operations done started count registers o some operations_are started_is does =
     let with_both : List Operation → ℕ → ListFlashState =
     λ list n. record s { operations = list; started = n; registers = registers } in
     subst (λ (u : ListFlashState). Operates (state_of s) (state_of u) o (Ok tt))
     (sym (ap₂ with_both operations_are started_is))
-    (operates_done s registers o some done (moment_then s.shape s.operations done _ does))
+    (operates_done s registers o some done count (moment_then s.shape s.operations done _ does))
 
 -- a read
 pub reads_ok : (s : ListFlashState) (reads at : ℕ) (how : Seen) (bytes spare_area : List ℕ) → reads ≡ counted s.reads

@@ -21,9 +21,10 @@ pub record ListFlashState : Type 0 where
 -- all slots are blank, and nothing is counted
 abbrev pub blank_moment : Shape → Moment
 blank_moment shape =
-    record { image = replicate (slots_of shape) blank; programs = 0; erases = 0 }
+    record { image = replicate (slots_of shape) blank; programs = 0; erases = 0; started = 0 }
 
--- what is left once operations were done from there on
+-- What is left once operations were done from there on. Each of them is started by itself there: the flash counts fewer
+-- as started where programs were started together.
 abbrev pub moment_after : Shape → List Operation → Moment
 moment_after shape operations = fold (after shape) (blank_moment shape) operations
 

@@ -1,5 +1,5 @@
 -- What the calls among themselves ask for and do by which several open transactions go on at once.
-use Rattle.std.specs.Prelude.{◌≡◌, ◌≢◌, ℕ, ◌+◌, ◌<◌, ◌≤◌, true, false, List, [], ◌∷◌, length, take, count_by, None, Ok, Err, Result, IfOk}
+use Rattle.std.specs.Prelude.{◌≡◌, ◌≢◌, ◌⊎◌, ℕ, ◌+◌, ◌<◌, ◌≤◌, true, false, List, [], ◌∷◌, length, take, count_by, None, Ok, Err, Result, IfOk}
 use Rattle.std.specs.Prelude.{OnOk, OnErr}
 use Rattle.std.specs.List.{flat_map}
 use Rattle.std.specs.Prelude.{All, AllPairs, Option, Bool, ◌&&◌, is_none}
@@ -11,8 +11,8 @@ use Rattle.flash_model.specs.declared.flash.Broken.{Broken}
 use Rattle.flash_model.specs.Calls.{Carries, Operates}
 use Rattle.flash_model.specs.Firing.{IsFreeAt, loads_in, no_loads, with_load}
 use Rattle.flash_model.specs.Flash.{FlashState}
-use Rattle.flash_model.specs.Moves.{Does}
-use Rattle.flash_model.specs.Operations.{CanDo, Load, Torn, die_of, fire, moment_of}
+use Rattle.flash_model.specs.Moves.{Does, FlashMovesTogether}
+use Rattle.flash_model.specs.Operations.{BreaksIn, CanDo, Load, die_of, fire, moment_of}
 use Rattle.page_record.specs.Spelling.{CanBeSpelled, spelling}
 use Rattle.judged_records.specs.declared.note.Note.TheVariants as note
 use Rattle.judged_records.specs.Images.{IsSoundImage, array_in}
@@ -28,7 +28,7 @@ use Rattle.array_machine.specs.declared.answers.Progress.TheVariants as progress
 use Rattle.array_machine.specs.ArrayState.{ArrayState, Entry}
 use Rattle.tx_engine.specs.Batches.{jobs_of, chosen_in, noted_each, record_due, taken_writes, takes_each, used_each}
 use Rattle.tx_engine.specs.Calls.{IsReady, AdvancesTo}
-use Rattle.tx_engine.specs.Exits.{Exits, MentionsAtMost, VersionsRise}
+use Rattle.tx_engine.specs.Exits.{Exits, ExitsTogether, MentionsAtMost, VersionsRise}
 use Rattle.tx_engine.specs.Held.{AddsNoHeldIn}
 use Rattle.open_table.specs.OpenTransactionsState.{OpenTransactionsState, TransactionState, HasLimitsOf, HasPlace, IsDueAt, bytes_due, entries_of, name_due, namings_of, transaction_at, with_transaction, name_at}
 use Rattle.tx_engine.specs.Settling.{Counts, CountsOn, must_program, with_next}
@@ -174,7 +174,7 @@ pub record WrittenAll {F : Type 0} (state : F → FlashState) (S S' : StoreState
   pub table : S'.table ≡ used_each S.table jobs
   pub sure : S'.unsure ≡ unsure.Nothing
   pub opens : O' ≡ nexts_noted 0 jobs O
-  pub exits : Exits state (device_in state S O) (device_in state S' O') false
+  pub exits : ExitsTogether state (device_in state S O) (device_in state S' O')
   pub rises : VersionsRise (device_in state S O) (device_in state S' O')
       (flat_map taken_writes (take (length jobs) (entries_of O)))
   pub pages : (device_in state S' O').machine.pages
@@ -185,8 +185,8 @@ pub record WrittenAll {F : Type 0} (state : F → FlashState) (S S' : StoreState
   pub low : All (λ w. w.page < S.noted.config.logical)
       (flat_map taken_writes (take (length jobs) (entries_of O)))
 
--- Their fire was broken. The image is sound, and of the transactions that wrote their last page each was taken or not
--- by itself.
+-- Their fire was broken, or was not started. The image is sound, and of the transactions that wrote their last page each
+-- was taken or not by itself.
 pub record DroppedAll {F : Type 0} (state : F → FlashState) (S S' : StoreState F) (O : OpenTransactionsState)
     (jobs : List Job) : Type 0 where
   pub sound : IsSoundImage S.noted.config.protocol S.noted.config.logical (state S'.flash).shape (state S'.flash).image
@@ -195,8 +195,10 @@ pub record DroppedAll {F : Type 0} (state : F → FlashState) (S S' : StoreState
   pub mentions : MentionsAtMost S.noted (namings_of O) (state S'.flash).image
   pub held : AddsNoHeldIn S.noted.config.protocol S.noted.config.logical (state S.flash).image (state S'.flash).image
   pub can : CanDo (state S.flash).shape (state S.flash).image (fire (loads_for S.noted O 0 jobs))
-  pub torn : Torn (state S.flash).shape (moment_of (state S.flash)) (fire (loads_for S.noted O 0 jobs))
+  pub torn : (moment_of (state S'.flash) ≡ moment_of (state S.flash))
+      ⊎ BreaksIn (state S.flash).shape (moment_of (state S.flash)) (fire (loads_for S.noted O 0 jobs))
       (moment_of (state S'.flash))
+  pub moves : FlashMovesTogether (state S.flash) (state S'.flash) true
   pub carries : Carries (state S.flash) (state S'.flash) true
   pub stays : S' ≡ record S { flash = S'.flash }
 

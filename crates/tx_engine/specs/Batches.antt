@@ -1,5 +1,5 @@
 -- Several programs at once: which open transactions go on with one each, in which slots, and what that leaves.
-use Rattle.std.specs.Prelude.{◌≡◌, ◌≢◌, ◌⊎◌, ℕ, ◌&&◌, Bool, true, false, List, [], ◌∷◌, ◌++◌, length, map, take, take_while, filter_map}
+use Rattle.std.specs.Prelude.{◌≡◌, ◌≢◌, ◌⊎◌, ℕ, ◌&&◌, Bool, true, List, [], ◌∷◌, ◌++◌, length, map, take, take_while, filter_map}
 use Rattle.std.specs.Prelude.{is_none, not, Result, Ok, IfOk, OnErr, if◌then◌else◌}
 use Rattle.std.specs.List.{zip, flat_map, range_with_len}
 use Rattle.tx_types.specs.Batch.{PageWrite, bytes_in}
@@ -7,8 +7,8 @@ use Rattle.tx_types.specs.declared.config.Slot.{Slot}
 use Rattle.tx_types.specs.declared.record.Rec.{Rec}
 use Rattle.flash_model.specs.Calls.{Carries}
 use Rattle.flash_model.specs.Flash.{FlashState, counted_times}
-use Rattle.flash_model.specs.Moves.{Does, MovesTogether}
-use Rattle.flash_model.specs.Operations.{Load, Torn, fire, moment_of}
+use Rattle.flash_model.specs.Moves.{Does, FlashMovesTogether}
+use Rattle.flash_model.specs.Operations.{BreaksIn, Load, fire, moment_of}
 use Rattle.page_record.specs.Spelling.{spelling}
 use Rattle.record_list.specs.Records.{is_present}
 use Rattle.record_list.specs.Transaction.{back_version}
@@ -25,7 +25,7 @@ use Rattle.array_machine.specs.declared.answers.Moved.{Moved}
 use Rattle.array_machine.specs.declared.answers.Progress.{Progress}
 use Rattle.array_machine.specs.ArrayState.{Entry, Pages, idle, put}
 use Rattle.tx_engine.specs.DeviceCalls.{StepsDevice}
-use Rattle.tx_engine.specs.Exits.{Exits, MentionsAtMost, VersionsRise, is_there, plain_writes, settled_writes}
+use Rattle.tx_engine.specs.Exits.{ExitsTogether, MentionsAtMost, VersionsRise, is_there, plain_writes, settled_writes}
 use Rattle.tx_engine.specs.Held.{AddsNoHeldIn}
 use Rattle.open_table.specs.OpenTransactionsState.{TransactionState, name_at, write_at}
 use Rattle.tx_engine.specs.Settling.{is_at_last, is_whole, link_place, with_settlement}
@@ -139,7 +139,7 @@ StepsFirst state old new answer (e ∷ es) =
 pub record MovesDevice {F : Type 0} (state : F → FlashState) (old new : DeviceState F)
     (answer : Moved) : Type 0 where
   pub steps : StepsAllAs (is_there state old) old.machine new.machine answer
-  pub exits : Exits state old new false
+  pub exits : ExitsTogether state old new
   pub sure : new.unsure ≡ unsure.Nothing
   pub rises : VersionsRise old new (settled_writes (is_there state old) old.machine
       ++ flat_map taken_writes (take answer.moved (settled (is_there state old) old.machine).entries))
@@ -160,12 +160,11 @@ pub record DropsDevice {F : Type 0} (state : F → FlashState) (old new : Device
       (idle (array_in old.config.protocol old.config.logical (state new.flash).image))
   pub mentions : MentionsAtMost old.noted old.namings (state new.flash).image
   pub held : AddsNoHeldIn old.config.protocol old.config.logical (state old.flash).image (state new.flash).image
-  pub moves : MovesTogether true (state old.flash).shape (moment_of (state old.flash)) true
-      (moment_of (state new.flash))
+  pub moves : FlashMovesTogether (state old.flash) (state new.flash) true
   pub carries : Carries (state old.flash) (state new.flash) true
   pub torn : chosen_of state old ≢ [] →
       (moment_of (state new.flash) ≡ moment_of (state old.flash))
-      ⊎ Torn (state old.flash).shape (moment_of (state old.flash))
+      ⊎ BreaksIn (state old.flash).shape (moment_of (state old.flash))
       (fire (loads_of (with_settlement state old).noted (chosen_of state old)))
       (moment_of (state new.flash))
 

@@ -6,7 +6,7 @@ use Rattle.tx_types.specs.Batch.{PageWrite}
 use Rattle.tx_types.specs.declared.record.Link.{Link}
 use Rattle.flash_model.specs.Flash.{FlashState, Contents}
 use Rattle.flash_model.specs.Calls.{Carries}
-use Rattle.flash_model.specs.Moves.{FlashMoves}
+use Rattle.flash_model.specs.Moves.{FlashMoves, FlashMovesTogether}
 use Rattle.record_list.specs.Records.{mention}
 use Rattle.judged_records.specs.Images.{records_in, current_in}
 use Rattle.judged_records.specs.IndexState.{IndexState, current_of, mention_of}
@@ -135,6 +135,13 @@ pub record Exits {F : Type 0} (state : F → FlashState) (old new : DeviceState 
   pub tables : ExitsTables old new
   pub moves : FlashMoves (state old.flash) (state new.flash) broken
   pub carries : Carries (state old.flash) (state new.flash) broken
+  pub held : AddsNoHeldIn old.config.protocol old.config.logical (state old.flash).image (state new.flash).image
+
+-- the same of a call that was answered and may have started the programs of several transactions together
+pub record ExitsTogether {F : Type 0} (state : F → FlashState) (old new : DeviceState F) : Type 0 where
+  pub tables : ExitsTables old new
+  pub moves : FlashMovesTogether (state old.flash) (state new.flash) false
+  pub carries : Carries (state old.flash) (state new.flash) false
   pub held : AddsNoHeldIn old.config.protocol old.config.logical (state old.flash).image (state new.flash).image
 
 -- a page is mentioned in the image at most as the tables have it, or as an open transaction names it

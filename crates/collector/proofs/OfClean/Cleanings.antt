@@ -1,5 +1,5 @@
 -- Making the spare blank: where it is blank already, and by an erase.
-use Rattle.collector.proofs.Common.{◌≡◌, ℕ, ◌+◌, ◌*◌, ◌<◌, ◌≤◌, true, false, [], ◌∷◌, length, Option, Some, None, Ok, Err, refl, sym, ap, ◌∙◌, subst, inl, inr, arith, option_map_or, cases_lt, cond-true, cond-false, ext_get_or, all_range, shape_of, slots_of, blocks_of, Protocol, Rec, Broken, FlashState, Contents, blank, damaged, complete, slot_at, Erases, moment_of, erase, CanDo, Does, same_moments, FlashMoves-operates, block_within, record_of, LossLaw, WrittenLossLaw, Blank, Damaged, Holds, note_at, note_of, with_block_noted, IndexState, erased, is_blank, block_noted, BlocksState, Unsure, Cleans, Matches, is_blank_slot, is_blank_block, is_noted_blank, cleaning, KeepsArray, KeepsStore, StoreParts, store_parts}
+use Rattle.collector.proofs.Common.{◌≡◌, ℕ, ◌+◌, ◌*◌, ◌<◌, ◌≤◌, true, false, [], ◌∷◌, length, Option, Some, None, Ok, Err, refl, sym, ap, ◌∙◌, subst, inl, inr, arith, option_map_or, cases_lt, cond-true, cond-false, ext_get_or, all_range, shape_of, slots_of, blocks_of, Protocol, Rec, Broken, FlashState, Contents, blank, damaged, complete, slot_at, Erases, moment_of, erase, CanDo, Does, same_done, operation_started, FlashMoves-operates, block_within, record_of, LossLaw, WrittenLossLaw, Blank, Damaged, Holds, note_at, note_of, with_block_noted, IndexState, erased, is_blank, block_noted, BlocksState, Unsure, Cleans, Matches, is_blank_slot, is_blank_block, is_noted_blank, cleaning, KeepsArray, KeepsStore, StoreParts, store_parts}
 use Rattle.list_lemmas.proofs.Ranges.{range_same}
 use Rattle.flash_model.specs.Operations.{after}
 use Rattle.collector.specs.declared.unsure.Unsure.TheVariants as unsure
@@ -157,8 +157,7 @@ module _ (p : Protocol) (loss : LossLaw p) (written_loss : WrittenLossLaw p) (a 
           (FlashMoves-operates a.flash s' (erase a.table.spare) (Ok x) tt can e) e.carries;
       done = subst (λ l. Does a.flash.shape (moment_of a.flash) l (moment_of s')) (sym its_cleaning) (
         can,
-        same_moments (moment_of s') (after a.flash.shape (moment_of a.flash) (erase a.table.spare)) e.done.image
-            e.done.programs e.done.erases,
+        same_done a.flash s' (erase a.table.spare) x e,
       );
       noted = refl;
       broken = tt;
@@ -177,7 +176,12 @@ module _ (p : Protocol) (loss : LossLaw p) (written_loss : WrittenLossLaw p) (a 
           (FlashMoves-operates a.flash s' (erase a.table.spare) (Err x) tt can e) e.carries;
       done = tt;
       noted = tt;
-      broken = record { first = its_cleaning; torn = e.torn; reads = e.reads };
+      broken = record {
+        first = its_cleaning;
+        torn = e.torn;
+        started = λ on. operation_started a.flash s' (erase a.table.spare) (Err x) on e;
+        reads = e.reads;
+      };
       torn = (refl, refl);
       blocks = refl;
       reads = e.reads;

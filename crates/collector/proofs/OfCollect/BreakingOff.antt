@@ -1,5 +1,5 @@
 -- Where a collection breaks off: from what its calls leave to what is said of the whole.
-use Rattle.collector.proofs.Common.{◌≡◌, ◌≢◌, ℕ, ◌+◌, ◌-◌, ◌*◌, ◌<◌, ◌≤◌, true, List, [], ◌∷◌, ◌++◌, length, refl, sym, ap, ◌∙◌, subst, inl, inr, arith, Contains, range_with_len, Contains-first, shape_of, blocks_of, Block, Protocol, Slot, spare_area_of, FlashState, Does, Moment, Torn, program, erase, moment_of, LossLaw, IndexState, needed_of, erased, BlocksState, Unsure, BreaksOff, cleaning, copies, copied_from, copy_program, needed_slots, CopiesDone, counted_times, Matches, StoreParts}
+use Rattle.collector.proofs.Common.{◌≡◌, ◌≢◌, ℕ, ◌+◌, ◌-◌, ◌*◌, ◌<◌, ◌≤◌, true, List, [], ◌∷◌, ◌++◌, length, refl, sym, ap, ◌∙◌, subst, inl, inr, arith, Contains, range_with_len, Contains-first, shape_of, blocks_of, Block, Protocol, Slot, spare_area_of, FlashState, Does, Moment, Torn, BreaksIn, program, erase, moment_of, LossLaw, IndexState, needed_of, erased, BlocksState, Unsure, BreaksOff, cleaning, copies, copied_from, copy_program, needed_slots, CopiesDone, counted_times, Matches, StoreParts}
 use Rattle.std.proofs.Common.{filter}
 use Rattle.std.proofs.lemmas.List.{append-nil}
 use Rattle.std.proofs.lemmas.List.Elements.{Contains-append_left, Contains-append_right}
@@ -69,14 +69,14 @@ module _ (p : Protocol) (a : StoreParts) (n : IndexState) (s : FlashState) (t : 
         copied = subst (λ k. CopiedFirst n0 s0 [] t.spare block before (k ∷ later) (moment_of s) n') (sym from_is)
             (copied_before (moment_of s) refl n' stays);
         place = to_is ∙ place ∙ ap (λ k. k + length before) spare_is;
-        torn = subst (λ o. Torn s0.shape (moment_of s) o (moment_of s'))
+        torn = subst (λ o. BreaksIn s0.shape (moment_of s) o (moment_of s'))
             (ap (λ k. copy_program n.config.page_bytes s.image k from.0) to_is
             ∙ ap (copy_program n.config.page_bytes s.image (start + used)) from_is
             ∙ its_program p a n s t u first start at used block h low block_is spare_is high apart below
             ∙ ap (λ k. copy_program n0.config.page_bytes s0.image k at) (sym (to_is ∙ place))
             ∙ ap (copy_program n0.config.page_bytes s0.image to.0) (sym from_is))
-            (subst (λ sh. Torn sh (moment_of s) (copy_program n.config.page_bytes s.image to.0 from.0) (moment_of s'))
-            h.keeps.carries.shape torn.1);
+            (subst (λ sh. BreaksIn sh (moment_of s) (copy_program n.config.page_bytes s.image to.0 from.0)
+            (moment_of s')) h.keeps.carries.shape torn.1);
         reads = torn.2 ∙ ap counted h.reads ∙ counted_times-then used 1 s0.reads
             ∙ ap (λ k. counted_times (k + 1) s0.reads) h.count;
       })
@@ -127,12 +127,12 @@ module _ (p : Protocol) (loss : LossLaw p) (s0 : FlashState) (n0 : IndexState) (
         copied = copied;
         place = subst (λ (k : BlocksState). to.0 ≡ k.spare * n0.config.pages_per_block + length b.first) table
             (subst (λ (k : IndexState). to.0 ≡ t1.spare * k.config.pages_per_block + length b.first) noted b.place);
-        torn = subst (λ sh. Torn sh b.between (copy_program n0.config.page_bytes s0.image to.0 from.0) (moment_of s2))
-            shape1
-            (subst (λ c. Torn s1.shape b.between (program to.0 (page_of n0.config.page_bytes c) (spare_area_of c))
+        torn = subst (λ sh. BreaksIn sh b.between (copy_program n0.config.page_bytes s0.image to.0 from.0)
+            (moment_of s2)) shape1
+            (subst (λ c. BreaksIn s1.shape b.between (program to.0 (page_of n0.config.page_bytes c) (spare_area_of c))
             (moment_of s2)) same
-            (subst (λ (k : IndexState). Torn s1.shape b.between (copy_program k.config.page_bytes s1.image to.0 from.0)
-            (moment_of s2)) noted b.torn));
+            (subst (λ (k : IndexState). BreaksIn s1.shape b.between
+            (copy_program k.config.page_bytes s1.image to.0 from.0) (moment_of s2)) noted b.torn));
         reads = b.reads ∙ ap (counted_times (length b.first + 1)) unread;
       }
   copies_broke lives s2 n2 (unsure.Own at rec) b = absurd b
@@ -143,10 +143,11 @@ module _ (p : Protocol) (loss : LossLaw p) (s0 : FlashState) (n0 : IndexState) (
   module _ (s2 s3 : FlashState) (n2 : IndexState) (used : ℕ) (shape2 : s2.shape ≡ s0.shape)
       (copied : CopiesDone n1 n2 s1 s2 t1.spare block used) (its : Block) (its_is : its.0 ≡ block) (n3 : IndexState)
       (u3 : Unsure) where
-    pub victim_broke : Torn s2.shape (moment_of s2) (erase block) (moment_of s3) → s3.reads ≡ s2.reads →
+    pub victim_broke : Torn s2.shape (moment_of s2) (erase block) (moment_of s3) →
+        (s0.live ≡ true → s3.started ≡ counted s2.started) → s3.reads ≡ s2.reads →
         u3 ≡ unsure.VictimErase its → n3 ≡ n2 →
         BreaksOff n0 s0 s3 t.spare block n3 u3
-    victim_broke torn unread_still place stays =
+    victim_broke torn started unread_still place stays =
         subst (BreaksOff n0 s0 s3 t.spare block n3) (sym place) (
           its_is,
           record {
@@ -163,6 +164,7 @@ module _ (p : Protocol) (loss : LossLaw p) (s0 : FlashState) (n0 : IndexState) (
                   (needed_slots k block)) noted copied.noted);
             };
             torn = subst (λ sh. Torn sh (moment_of s2) (erase block) (moment_of s3)) shape2 torn;
+            started = started;
             reads = unread_still ∙ copied.reads ∙ ap (counted_times used) unread
                 ∙ ap (λ k. counted_times k s0.reads) (copied.count
                 ∙ ap (λ (k : IndexState). length (needed_slots k block)) noted);

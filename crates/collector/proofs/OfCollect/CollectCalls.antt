@@ -1,5 +1,5 @@
 -- Collecting a block, as a call: the spare is made blank, and then the block is collected.
-use Rattle.collector.proofs.Common.{◌≡◌, ◌≢◌, ℕ, ◌*◌, ◌<◌, true, false, length, Ok, Err, Result, refl, sym, ap, ap₂, ◌∙◌, subst, arith, shape_of, blocks_of, Block, Protocol, Broken, LossLaw, IndexState, erased, with_spare, BlocksState, BreaksOff, Cleans, Collects, CopiesNeeded, ErasesVictim, collected, copied_from, swapped, needed_slots, HasUnneeded, counted_times, StoreParts}
+use Rattle.collector.proofs.Common.{◌≡◌, ◌≢◌, ℕ, ◌*◌, ◌<◌, true, false, length, Ok, Err, Result, refl, sym, ap, ap₂, ◌∙◌, subst, arith, shape_of, blocks_of, Block, Protocol, Broken, erase, operation_started, LossLaw, IndexState, erased, with_spare, BlocksState, BreaksOff, Cleans, Collects, CopiesNeeded, ErasesVictim, collected, copied_from, swapped, needed_slots, HasUnneeded, counted_times, StoreParts}
 use Rattle.collector.specs.Calls.{CollectsClean, stops_copying, comes_to_erase}
 use Rattle.collector.specs.Going.{CostsBroken}
 use Rattle.collector.specs.StoreParts.{IsSure}
@@ -102,7 +102,10 @@ module _ (p : Protocol) (loss : LossLaw p) (a m : StoreParts) (k : IsSure p a) (
           cleaned.noted cleaned.blocks apart
           cleaned.keeps.carries.shape cleaned.done cleaned.reads h.flash b.flash h.noted used shape2 c.copied block refl
           b.noted b.unsure
-          e.erases.torn e.erases.reads e.torn.0 e.torn.1;
+          e.erases.torn
+          (λ live. operation_started h.flash b.flash (erase block.0) (Err x)
+          (c.keeps.carries.lives ∙ cleaned.keeps.carries.lives ∙ live) e.erases)
+          e.erases.reads e.torn.0 e.torn.1;
       stays = e.torn.2 ∙ same ∙ cleaned.blocks;
       costs = erase_broken a.noted.config.pages_per_block a.flash h.flash b.flash block.0 (costs_so_far h (Ok used) c)
           (Err x) e.erases;

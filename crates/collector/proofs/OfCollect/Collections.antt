@@ -1,11 +1,11 @@
 -- Collecting a block: the spare is made blank, what is needed is copied, and the block is erased.
-use Rattle.collector.proofs.Common.{◌≡◌, ◌≢◌, ℕ, ◌+◌, ◌-◌, ◌*◌, ◌/◌, ◌<◌, false, List, [], ◌∷◌, ◌++◌, Ok, Err, Result, sym, ap, ◌∙◌, subst, inl, inr, arith, Contains, range_with_len, cases_Bool, both_ways, all_from, from_filter, Contains-nil, shape_of, blocks_of, Protocol, Shape, Broken, FlashState, slot_at, Erases, Moment, Operation, erase, moment_of, CanDo, Does, block_within, same_moments, LossLaw, Blank, IndexState, needed_of, erased, BlocksState, Unsure, Matches, IsNextOfSpare, is_blank_block, cleaning, copies, noted_cleaned, needed_slots, CopiesDone, HasUnneeded}
+use Rattle.collector.proofs.Common.{◌≡◌, ◌≢◌, ℕ, ◌+◌, ◌-◌, ◌*◌, ◌/◌, ◌<◌, false, List, [], ◌∷◌, ◌++◌, Ok, Err, Result, sym, ap, ◌∙◌, subst, inl, inr, arith, Contains, range_with_len, cases_Bool, both_ways, all_from, from_filter, Contains-nil, shape_of, blocks_of, Protocol, Shape, Broken, FlashState, slot_at, Erases, Moment, Operation, erase, moment_of, CanDo, Does, block_within, same_done, LossLaw, Blank, IndexState, needed_of, erased, BlocksState, Unsure, Matches, IsNextOfSpare, is_blank_block, cleaning, copies, noted_cleaned, needed_slots, CopiesDone, HasUnneeded}
 use Rattle.std.proofs.Common.{OnOk}
 use Rattle.std.proofs.lemmas.Bool.{cond_both}
 use Rattle.std.proofs.lemmas.Nat.{div-mul-add}
 use Rattle.list_lemmas.proofs.Membership.{Contains-one}
 use Rattle.list_lemmas.proofs.Ranges.{range_bounds}
-use Rattle.flash_model.specs.Operations.{WorksIn, after}
+use Rattle.flash_model.specs.Operations.{WorksIn}
 use Rattle.flash_model.specs.Moves.{StayOff}
 use Rattle.flash_model.proofs.ImageLemmas.{slot_at-does}
 use Rattle.flash_model.proofs.MoveLemmas.{Does-append}
@@ -134,6 +134,5 @@ module _ (p : Protocol) (loss : LossLaw p) (s0 : FlashState) (n0 : IndexState) (
               ++ programs slots) (erase block ∷ []) all_copied
               (subst (λ sh. Does sh (moment_of s2) (erase block ∷ []) (moment_of s3)) shape2 (
                 can,
-                same_moments (moment_of s3) (after s2.shape (moment_of s2) (erase block)) e.done.image
-                    e.done.programs e.done.erases,
+                same_done s2 s3 (erase block) x e,
               ))

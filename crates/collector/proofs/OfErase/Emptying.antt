@@ -1,7 +1,8 @@
 -- What is known of a flash after a call that was to make a block blank, whatever else the call did.
-use Rattle.collector.proofs.Common.{◌≡◌, ℕ, Result, Ok, Err, ap, inl, inr, Broken, Outcome, FlashState, blank, Erases, Moment, Torn, erase, moment_of, image_left, Retires}
-use Rattle.std.specs.Prelude.{OnOk, OnErr}
+use Rattle.collector.proofs.Common.{◌≡◌, ℕ, true, Result, Ok, Err, ap, ◌∙◌, inl, inr, Broken, Outcome, FlashState, blank, Erases, Torn, erase, moment_of, image_left, Retires}
+use Rattle.std.specs.Prelude.{OnOk, OnErr, if◌then◌else◌}
 use Rattle.flash_model.specs.declared.outcome.Outcome.TheVariants as outcome
+use Rattle.flash_model.specs.Flash.{counted}
 use Rattle.flash_model.specs.Operations.{with_block}
 
 -- the shape stays; the block is all blank, or where the call was broken what a broken erase leaves
@@ -26,7 +27,7 @@ retires_empties old new block (Err x) e = record {
   shape = e.carries.carries.shape;
   done = tt;
   torn = elim e.torn [
-    | inl still ↦ (outcome.None, ap (λ (m : Moment). m.image) still.moment)
+    | inl still ↦ (outcome.None, still.image)
     | inr replaced ↦ (outcome.All, replaced.image)
   ];
 }
@@ -36,9 +37,12 @@ pub retires_torn : (old new : FlashState) (block : ℕ) (x : Broken) → Retires
     → Torn old.shape (moment_of old) (erase block) (moment_of new)
 retires_torn old new block x e = record {
   left = (retires_empties old new block (Err x) e).torn;
-  programs = elim e.torn [
-    | inl still ↦ ap (λ (m : Moment). m.programs) still.moment
-    | inr replaced ↦ replaced.programs
-  ];
-  erases = elim e.torn [ inl still ↦ ap (λ (m : Moment). m.erases) still.moment | inr replaced ↦ replaced.erases ];
+  programs = elim e.torn [ inl still ↦ still.programs | inr replaced ↦ replaced.programs ];
+  erases = elim e.torn [ inl still ↦ still.erases | inr replaced ↦ replaced.erases ];
 }
+
+-- where power is on it is started
+pub retiring_started : (old new : FlashState) (block : ℕ) (result : Result (Unit {0}) Broken) → old.live ≡ true
+    → Retires old new block result → new.started ≡ counted old.started
+retiring_started old new block result on e =
+    e.started ∙ ap (λ b. if b then counted old.started else old.started) on

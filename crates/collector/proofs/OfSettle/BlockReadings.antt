@@ -1,5 +1,5 @@
 -- Reading the slots of a block, one after another.
-use Rattle.collector.proofs.Common.{◌≡◌, ℕ, ◌+◌, ◌-◌, ◌*◌, ◌<◌, ◌≤◌, Bool, true, false, ◌&&◌, if◌then◌else◌, List, Ok, Err, Result, refl, sym, ap, ap₂, ◌∙◌, subst, arith, range_with_len, list_all, FlashState, Contents, blank, damaged, complete, slot_at, Reads, Seen, Broken, Moment, moment_of, Carries-then, block_within, same_moments, shape_of, slots_of, blocks_of, Note, Blank, Damaged, Holds, note_at, IndexState, Looks, counted_times, reads_alike, holds_record, is_blank_slot}
+use Rattle.collector.proofs.Common.{◌≡◌, ℕ, ◌+◌, ◌-◌, ◌*◌, ◌<◌, ◌≤◌, Bool, true, false, ◌&&◌, if◌then◌else◌, List, Ok, Err, Result, refl, sym, ap, ap₂, ◌∙◌, subst, arith, range_with_len, list_all, FlashState, Contents, blank, damaged, complete, slot_at, Reads, Seen, Broken, Moment, Carries-then, block_within, same_read, shape_of, slots_of, blocks_of, Note, Blank, Damaged, Holds, note_at, IndexState, Looks, counted_times, reads_alike, holds_record, is_blank_slot}
 use Rattle.list_lemmas.proofs.Ranges.{range_push}
 use Rattle.flash_model.specs.Flash.{counted}
 use Rattle.flash_model.specs.Calls.{seen_of}
@@ -22,7 +22,7 @@ pub looks_once : (s s1 : FlashState) (at : ℕ) (bytes spare : List ℕ) (r : Re
 looks_once s s1 at bytes spare r how e ok =
     let done : Reads s s1 at bytes spare (Ok how) = subst (Reads s s1 at bytes spare) ok e in
     record {
-      moment = same_moments (moment_of s1) (moment_of s) done.image done.programs done.erases;
+      moment = same_read s s1 at bytes spare (Ok how) done;
       carries = done.carries;
       all = done.reads ∙ ap (λ b. if b then counted s.reads else s.reads) done.powered;
       some = tt;
@@ -39,7 +39,7 @@ pub looks_broken : (s s1 : FlashState) (at : ℕ) (bytes spare : List ℕ) (r : 
 looks_broken s s1 at bytes spare r x e err =
     let done : Reads s s1 at bytes spare (Err x) = subst (Reads s s1 at bytes spare) err e in
     record {
-      moment = same_moments (moment_of s1) (moment_of s) done.image done.programs done.erases;
+      moment = same_read s s1 at bytes spare (Err x) done;
       carries = done.carries;
       all = tt;
       some = one_or_none s.live s.reads s1.reads done.reads;

@@ -1,7 +1,10 @@
 -- A call after another: what both say of the flash, the versions and the mentions.
-use Rattle.tx_engine.proofs.Common.{◌≡◌, ◌≢◌, ℕ, ◌<◌, ◌≤◌, Bool, false, List, ◌++◌, get_or, All, refl, sym, ap, ◌∙◌, subst, inl, inr, arith, Any, get_or_default, All-append, PageWrite, Config, Link, FlashState, Contents, records_in, Carries, FlashMoves, Carries-then, FlashMoves-then, current_of, mention_of, DeviceState, Naming, Exits, ExitsTables, VersionsRise, IsNamedAt}
+use Rattle.tx_engine.proofs.Common.{◌≡◌, ◌≢◌, ℕ, ◌<◌, ◌≤◌, Bool, false, List, ◌++◌, get_or, true, All, refl, sym, ap, ◌∙◌, subst, inl, inr, arith, Any, get_or_default, All-append, PageWrite, Config, Link, FlashState, Contents, records_in, Carries, FlashMoves, Carries-then, FlashMoves-then, current_of, mention_of, DeviceState, Naming, Exits, ExitsTables, VersionsRise, IsNamedAt}
 use Rattle.list_lemmas.proofs.Quantifiers.{all_left, all_right}
-use Rattle.tx_engine.specs.Exits.{VersionsTell}
+use Rattle.flash_model.specs.Moves.{MovesTogether}
+use Rattle.flash_model.specs.Operations.{Moment, moment_of}
+use Rattle.flash_model.proofs.MoveLemmas.{FlashMovesTogether-then}
+use Rattle.tx_engine.specs.Exits.{ExitsTogether, VersionsTell}
 use Rattle.tx_engine.specs.Held.{AddsNoHeldIn}
 use Rattle.tx_engine.proofs.OfDevice.HeldRecords.{held_same, held_then}
 
@@ -109,6 +112,40 @@ module _ {F : Type 0} (state : F → FlashState) where
     moves = FlashMoves-then (state a.flash) (state b.flash) (state c.flash) broken first.carries.shape
         first.moves second.moves;
     carries = Carries-then (state a.flash) (state b.flash) (state c.flash) broken first.carries second.carries;
+    held = images_then a.config b.config (state a.flash).image (state b.flash).image (state c.flash).image
+        first.tables.config first.held second.held;
+  }
+
+  -- what may be started together need not be
+  pub together_exits : (a b : DeviceState F) → Exits state a b false → ExitsTogether state a b
+  together_exits a b exits = record {
+    tables = exits.tables;
+    moves = inl exits.moves;
+    carries = exits.carries;
+    held = exits.held;
+  }
+
+  -- a call, and then one that may start programs together
+  pub together_after : (a b c : DeviceState F) → a.config ≡ a.noted.config → b.config ≡ b.noted.config →
+      Exits state a b false → ExitsTogether state b c → ExitsTogether state a c
+  together_after a b c config config' first second = record {
+    tables = tables_then a b c config config' first.tables second.tables;
+    moves = FlashMovesTogether-then (state a.flash) (state b.flash) (state c.flash) false first.carries.shape
+        first.moves second.moves;
+    carries = Carries-then (state a.flash) (state b.flash) (state c.flash) false first.carries second.carries;
+    held = images_then a.config b.config (state a.flash).image (state b.flash).image (state c.flash).image
+        first.tables.config first.held second.held;
+  }
+
+  -- such a call, and then one that leaves the moment of the flash
+  pub together_still : (a b c : DeviceState F) → a.config ≡ a.noted.config → b.config ≡ b.noted.config →
+      ExitsTogether state a b → Exits state b c false → moment_of (state c.flash) ≡ moment_of (state b.flash) →
+      ExitsTogether state a c
+  together_still a b c config config' first second still = record {
+    tables = tables_then a b c config config' first.tables second.tables;
+    moves = subst (λ (m : Moment). MovesTogether true (state a.flash).shape (moment_of (state a.flash)) false m)
+        (sym still) first.moves;
+    carries = Carries-then (state a.flash) (state b.flash) (state c.flash) false first.carries second.carries;
     held = images_then a.config b.config (state a.flash).image (state b.flash).image (state c.flash).image
         first.tables.config first.held second.held;
   }

@@ -94,6 +94,6 @@ read_carries {F} state old new page before after (Ok false) h = (
       (Carries-nothing (state old.flash)),
 )
 read_carries state old new page before after (Ok true) h = let its = h.1.4 in
-    (rw (its.image, its.programs, its.erases) refl, its.carries)
+    (rw (its.image, its.programs, its.erases, its.started) refl, its.carries)
 read_carries state old new page before after (Err broken) h = let its = h.1.3 in
-    (rw (its.image, its.programs, its.erases) refl, its.carries)
+    (rw (its.image, its.programs, its.erases, its.started) refl, its.carries)

@@ -5,4 +5,4 @@ pub returns-clause-lone : goal.returns-clause-lone
 returns-clause-lone c = FlashMoves-operates
 
 pub returns-clause-fired : goal.returns-clause-fired
-returns-clause-fired c = λ old new loads. FlashMoves-fires old new loads tt
+returns-clause-fired c = FlashMoves-fires

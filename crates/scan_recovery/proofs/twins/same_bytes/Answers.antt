@@ -4,8 +4,8 @@ use Rattle.std.specs.Prelude.{if◌then◌else◌}
 use Rattle.flash_model.specs.declared.flash.Broken.{Broken}
 use Rattle.flash_model.specs.declared.flash.Seen.{Seen}
 use Rattle.flash_model.specs.Flash.{counted}
-use Rattle.flash_model.specs.Operations.{moment_of}
 use Rattle.flash_model.specs.Calls.{Reads}
+use Rattle.flash_model.proofs.MoveLemmas.{same_read}
 use Rattle.std.proofs.lemmas.Result.{err_from_is_err_and}
 use Rattle.scan_recovery.proofs.OfScan.ReadingSteps.{reads_all_then, reads_some_then}
 use Rattle.scan_recovery.proofs.twins.same_bytes.Goals as goal
@@ -15,29 +15,21 @@ one_read : (old new : FlashState) (at : ℕ) (bytes spare_area : List ℕ) (how 
     Reads old new at bytes spare_area (Ok how) → ReadsAll old new 1
 one_read old new at bytes spare_area how r = record {
   carries = r.carries;
-  moment = same_moment r.image r.programs r.erases;
+  moment = same_read old new at bytes spare_area (Ok how) r;
   reads = r.reads ∙ ap (λ (on : Bool). if on then counted old.reads else old.reads) r.powered;
   started = r.started;
 }
-  where
-    same_moment : new.image ≡ old.image → new.programs ≡ old.programs → new.erases ≡ old.erases →
-        moment_of new ≡ moment_of old
-    same_moment image programs erases = cc
 
 one_broken : (old new : FlashState) (at : ℕ) (bytes spare_area : List ℕ) (how : Broken) →
     Reads old new at bytes spare_area (Err how)
     → ReadsSome old new true 1
 one_broken old new at bytes spare_area how r = record {
   carries = r.carries;
-  moment = same_moment r.image r.programs r.erases;
+  moment = same_read old new at bytes spare_area (Err how) r;
   reads = by old.live r.reads;
   started = r.started;
 }
   where
-    same_moment : new.image ≡ old.image → new.programs ≡ old.programs → new.erases ≡ old.erases →
-        moment_of new ≡ moment_of old
-    same_moment image programs erases = cc
-
     by : (on : Bool) → new.reads ≡ (if on then counted old.reads else old.reads) → new.reads ≤ old.reads + 1
     by true is = omega arith
     by false is = omega arith

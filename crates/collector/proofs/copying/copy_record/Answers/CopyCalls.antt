@@ -1,5 +1,5 @@
 -- A copy as two calls: the read of its source, and its program.
-use Rattle.collector.proofs.Common.{◌≡◌, ◌≢◌, ℕ, ◌+◌, ◌*◌, ◌/◌, ◌<◌, true, false, if◌then◌else◌, set, List, [], ◌∷◌, Ok, Err, Result, refl, sym, ap, ◌∙◌, subst, inl, inr, arith, is_err, shape_of, slots_of, blocks_of, Protocol, Shape, Slot, Rec, Broken, Seen, FlashState, Contents, blank, damaged, complete, slot_at, Reads, Programs, spare_area_of, Torn, program, moment_of, CanDo, Does, Carries-then, same_moments, FlashMoves-operates, block_within, CopyLaw, Note, Blank, Damaged, Holds, note_at, note_of, rec_of, IndexState, IsNoted, copied, inside_block, BlocksState, CopiesRecord, Matches, IsNextOfSpare, KeepsArray, copy_program, StoreParts, store_parts}
+use Rattle.collector.proofs.Common.{◌≡◌, ◌≢◌, ℕ, ◌+◌, ◌*◌, ◌/◌, ◌<◌, true, false, if◌then◌else◌, set, List, [], ◌∷◌, Ok, Err, Result, refl, sym, ap, ◌∙◌, subst, inl, inr, arith, is_err, shape_of, slots_of, blocks_of, Protocol, Shape, Slot, Rec, Broken, Seen, FlashState, Contents, blank, damaged, complete, slot_at, Reads, Programs, spare_area_of, BreaksIn, program, moment_of, CanDo, Does, Carries-then, same_moments, same_read, operation_started, FlashMoves-operates, block_within, CopyLaw, Note, Blank, Damaged, Holds, note_at, note_of, rec_of, IndexState, IsNoted, copied, inside_block, BlocksState, CopiesRecord, Matches, IsNextOfSpare, KeepsArray, copy_program, StoreParts, store_parts}
 use Rattle.std.specs.Prelude.{IsSome}
 use Rattle.flash_model.specs.Flash.{IsWhole, counted}
 use Rattle.flash_model.specs.Calls.{Shows, page_of}
@@ -165,7 +165,8 @@ module _ (p : Protocol) (copy : CopyLaw p) (written_copy : WrittenCopyLaw p) (a 
       let now : moment_of s2 ≡ after s.shape (moment_of s) o =
       same_moments (moment_of s2) (after s.shape (moment_of s) o)
       (e.done.image ∙ ap (λ i. set i to.0 (complete bytes spare)) done.image)
-      (e.done.programs ∙ ap counted done.programs) (e.done.erases ∙ done.erases) in
+      (e.done.programs ∙ ap counted done.programs) (e.done.erases ∙ done.erases)
+      (operation_started s1 s2 o (Ok x) e.powered e ∙ ap counted done.started) in
       record {
         keeps = record {
           matches = subst (Matches s2 (copied n from.0 to.0) t) (sym k.nothing)
@@ -217,11 +218,13 @@ module _ (p : Protocol) (copy : CopyLaw p) (written_copy : WrittenCopyLaw p) (a 
     stays = refl;
     broken = inr (
       refl,
-      subst (λ o. Torn s.shape (moment_of s) o (moment_of s2)) (sym asks)
-          (subst (λ sh. Torn sh (moment_of s) (program to.0 bytes spare) (moment_of s2)) shape_same
-          (subst (λ q. Torn s1.shape q (program to.0 bytes spare) (moment_of s2))
-          (same_moments (moment_of s1) (moment_of s) done.image done.programs
-          done.erases) e.torn)),
+      subst (λ o. BreaksIn s.shape (moment_of s) o (moment_of s2)) (sym asks)
+          (subst (λ sh. BreaksIn sh (moment_of s) (program to.0 bytes spare) (moment_of s2)) shape_same
+          (subst (λ q. BreaksIn s1.shape q (program to.0 bytes spare) (moment_of s2))
+          (same_read s s1 from.0 bytes spare (Ok how) done) (
+            e.torn,
+            operation_started s1 s2 (program to.0 bytes spare) (Err x) (done.carries.lives ∙ done.powered) e,
+          ))),
       reads_once s2 e.reads,
     );
     counts = (e.torn.programs ∙ done.programs, e.torn.erases ∙ done.erases);
@@ -233,7 +236,7 @@ pub copy_unread : (p : Protocol) (a : StoreParts) → IsSure p a → (from to : 
     Reads a.flash s1 from.0 bytes spare (Err x) → CopiesRecord p a (store_parts s1 a.noted a.table a.unsure)
     from to (Err y)
 copy_unread p a k from to s1 bytes spare x y e =
-    let still = same_moments (moment_of s1) (moment_of a.flash) e.image e.programs e.erases in
+    let still = same_read a.flash s1 from.0 bytes spare (Err x) e in
     record {
       keeps = record {
         matches = matches_still a.flash s1 a.noted a.table a.unsure e.carries.shape e.image k.matches;

@@ -12,7 +12,7 @@ use Rattle.collector.specs.StoreParts.{IsSure}
 use Rattle.collector.proofs.OfCollect.BreakingOff.{copies_broke, victim_broke}
 use Rattle.collector.proofs.OfCollect.CollectCalls.{noted_so, table_so, reads_so}
 use Rattle.collector.proofs.OfCollect.Collections.{all_copied}
-use Rattle.collector.proofs.OfErase.Emptying.{retires_torn}
+use Rattle.collector.proofs.OfErase.Emptying.{retires_torn, retiring_started}
 use Rattle.collector.proofs.OfNotes.KeepsLemmas.{keeps_then, keeps_retiring, tables_of, tables_then}
 
 -- nothing was replaced by a call that broke off before
@@ -44,6 +44,7 @@ is_spare p a b (Ok x) e = record {
         (sym (cond-true (a.table.spare == a.table.spare) [] _ (same_number a.table.spare))) refl;
     carries = Carries-nothing a.flash;
     replaced = e.retires.done;
+    started = retiring_started a.flash b.flash a.table.spare (Ok x) e.retires.powered e.retires;
   };
   noted = (λ spare. (e.noted, e.blocks), λ other. absurd (other refl));
   reads = e.retires.reads
@@ -58,7 +59,13 @@ is_spare p a b (Err x) e = record {
   noted = tt;
   reads = tt;
   broken = (
-    λ spare. record { left = e.retires.torn; reads = e.retires.reads; noted = e.torn.1; place = e.torn.0 },
+    λ spare. record {
+      left = e.retires.torn;
+      started = e.retires.started;
+      reads = e.retires.reads;
+      noted = e.torn.1;
+      place = e.torn.0;
+    },
     λ other. absurd (other refl),
   );
   stays = e.blocks;
@@ -124,6 +131,7 @@ module _ (p : Protocol) (loss : LossLaw p) (a m : StoreParts) (k : IsSure p a) (
             cleaned.keeps.carries.shape cleaned.done h.flash h.noted used c.copied);
         carries = before.carries;
         replaced = e.retires.done;
+        started = retiring_started h.flash b.flash block.0 (Ok x) e.retires.powered e.retires;
       };
       noted = (
         λ spare. absurd (apart spare),
@@ -153,9 +161,17 @@ module _ (p : Protocol) (loss : LossLaw p) (a m : StoreParts) (k : IsSure p a) (
               cleaned.noted cleaned.blocks apart
               cleaned.keeps.carries.shape cleaned.done cleaned.reads h.flash b.flash h.noted used before.carries.shape
               c.copied block refl b.noted b.unsure
-              (retires_torn h.flash b.flash block.0 x e.retires) e.retires.reads e.torn.0 e.torn.1,
+              (retires_torn h.flash b.flash block.0 x e.retires)
+              (λ live. retiring_started h.flash b.flash block.0 (Err x) (before.carries.lives ∙ live) e.retires)
+              e.retires.reads e.torn.0 e.torn.1,
           subst (EndsRetiring a.flash b.flash block.0) (sym e.torn.0)
-              (record { between = h.flash; moves = before.moves; carries = before.carries; left = e.retires.torn }),
+              (record {
+                between = h.flash;
+                moves = before.moves;
+                carries = before.carries;
+                left = e.retires.torn;
+                started = e.retires.started;
+              }),
         ),
       );
       stays = e.torn.2 ∙ same ∙ cleaned.blocks;

@@ -8,7 +8,7 @@ use Rattle.host_protocol.specs.declared.command.Command.TheVariants as command
 use Rattle.array_runs.specs.Run.{moved_reply}
 use Rattle.cut_replay.specs.Sessions.{lost_reply, left, FitsMounted, FollowsLoss, Follows}
 use Rattle.mounted_session.specs.declared.session.Session.TheVariants as session
-use Rattle.cut_replay.proofs.Devices.{cached_stays, exits_serve}
+use Rattle.cut_replay.proofs.Devices.{cached_stays, call_serves}
 use Rattle.cut_replay.proofs.Followed.{mounted_serves, was_done, left_ok, left_on, left_err}
 use Rattle.cut_replay.proofs.Losing.{FitsAfter, WasLost, again_serves, again_ends, again_fits, again_caches}
 
@@ -18,7 +18,8 @@ moved_serve : {F : Type 0} (state : F → FlashState) (protocol : Protocol) (old
     HoldsAlways state protocol old → HoldsAlways state protocol new → MovesDevice state old new answer →
     ServesHere state command.StepAll old new (moved_reply answer)
 moved_serve state protocol old new answer was is moves =
-    exits_serve state protocol command.StepAll old new (moved_reply answer) false was is moves.exits refl refl refl
+    call_serves state protocol command.StepAll old new (moved_reply answer) false was is moves.exits.tables
+    moves.exits.moves moves.exits.carries refl refl refl
     (answer, (is_there state old, moves.steps), refl) (λ still. cc) (λ faulted h. tt)
     (λ sure whole. moves.sure) (λ fault. cc)
 

@@ -11,6 +11,7 @@ use Rattle.list_flash.specs.ListFlashState.{moment_after}
 use Rattle.list_flash.specs.Registers.{load_in, loads_of, AreRegisters}
 use Rattle.list_flash.specs.declared.registers.Register.{Register}
 use Rattle.list_flash.proofs.Loaded.{none_in}
+use Rattle.flash_model.proofs.MoveLemmas.{with_started}
 use Rattle.list_flash.proofs.Moments.{Does-loads, operations_grown, IsDone-grown, IsDone-still}
 use Rattle.list_flash.proofs.Operating.{operates_err, operates_ok}
 use Rattle.list_flash.proofs.firing.ListFlashWide.fire.Goals as goal
@@ -76,7 +77,9 @@ invariant_of-self-2 c =
     let items = with_items_is f.registers c.clear.new.registers (omega arith) in
     record {
       done =
-          IsDone-grown f.shape old new (map program_of loads) (after f.shape moment (fire loads)) f.programs f.erases
+          IsDone-grown f.shape old new (map program_of loads)
+          (with_started (after f.shape moment (fire loads)) (counted_by (length loads) moment.started)) f.programs
+          f.erases
           c.saturating_add-self-inside-2.result f.erases h.done grows
           (Does-loads f.shape moment loads (λ none. c.if-count-eq0.false (count ∙ none)) can)
           (c.saturating_add-self-inside-2.ensures ∙ ap₂ counted_by count h.done.programs) h.done.erases;
@@ -101,6 +104,7 @@ returns-clause-fires c =
     c.if-not-is_done.ensures.grows in
     rw (← c.self.view_is)
     (operates_ok (list_flash_of f) (operations_in new) (map program_of loads) c.saturating_add-self-inside.result
+    (counted_by (length loads) moment.started)
     (map load_in (with_items f.registers c.clear.new.registers).items) (fire loads)
     (some_loaded loads (λ none. c.if-count-eq0.false (count ∙ none)))
     (operations_grown old (map program_of loads) new grows) c.saturating_add-self-inside.ensures

@@ -45,6 +45,7 @@ returns-clause-erases c =
     let can = rw (← c.self.view_is) at c.requires in
     rw (← c.self.view_is)
     (operates_ok (list_flash_of f) (operations_in c.append.new.list.items) (o ∷ [])
-    c.saturating_add-self-inside.result (map load_in f.registers.items) o refl
+    c.saturating_add-self-inside.result (counted (moment_after f.shape (operations_in f.list.items)).started)
+    (map load_in f.registers.items) o refl
     (operations_grown f.list.items (o ∷ []) c.append.new.list.items c.if-not-append.ensures.grows)
     c.saturating_add-self-inside.ensures (can, refl))

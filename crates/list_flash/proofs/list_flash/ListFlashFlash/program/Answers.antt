@@ -48,6 +48,7 @@ returns-clause-programs c =
     let page = rw (← c.self.view_is) at c.requires.page in
     rw (← c.self.view_is)
     (operates_ok (list_flash_of f) (operations_in c.append_program.new.list.items) (o ∷ [])
-    c.saturating_add-self-inside.result (map load_in f.registers.items) o refl
+    c.saturating_add-self-inside.result (counted (moment_after f.shape (operations_in f.list.items)).started)
+    (map load_in f.registers.items) o refl
     (operations_grown f.list.items (o ∷ []) c.append_program.new.list.items c.if-not-append_program.ensures.grows)
     c.saturating_add-self-inside.ensures ((blank, page, omega arith), refl))

@@ -4,9 +4,9 @@ use Rattle.std.proofs.Common.{take}
 use Rattle.std.proofs.lemmas.List.{take-append-drop}
 use Rattle.flash_model.specs.declared.outcome.Outcome.TheVariants as outcome
 use Rattle.flash_model.specs.Calls.{Operates}
-use Rattle.flash_model.specs.Operations.{CanLoad, after}
+use Rattle.flash_model.specs.Operations.{CanLoad}
 use Rattle.flash_model.proofs.FireLemmas.{die_within}
-use Rattle.flash_model.proofs.MoveLemmas.{FlashMoves-fires, same_moments}
+use Rattle.flash_model.proofs.MoveLemmas.{FlashMoves-fires, same_done, same_or_broken}
 use Rattle.record_list.specs.WrittenChanges.{WrittenPartialWriteLaw, WrittenCompletingWriteLaw}
 use Rattle.judged_records.proofs.OfLaws.ImageLaws.{image_completing_law, image_partial_law}
 use Rattle.collector.specs.declared.unsure.Unsure.TheVariants as unsure
@@ -104,13 +104,8 @@ module _ (s : FlashState) (n : IndexState) (t : BlocksState) (O : OpenTransactio
         Does s.shape (moment_of s) (fire (loads_for n O 0 jobs) ∷ []) (moment_of s')
     fire_does x done = (
       can_fire jobs due dies,
-      same_moments (moment_of s') (after s.shape (moment_of s) (fire (loads_for n O 0 jobs))) done.done.image
-          done.done.programs done.done.erases,
+      same_done s s' (fire (loads_for n O 0 jobs)) x done,
     )
-
-loads_some : (n : IndexState) (O : OpenTransactionsState) (jobs : List Job) → jobs ≢ [] → loads_for n O 0 jobs ≢ []
-loads_some n O [] some none = some refl
-loads_some n O (job ∷ jobs) some none = (let long = ap length none in absurd (omega arith))
 
 -- what holds under the rule of a protocol
 pub laws_of : (p : Protocol) → ImageIsSound p → NotingKeeps p → ArrayStays p → WrittenPartialWriteLaw p →
@@ -202,8 +197,8 @@ module _ {F : Type 0} (state : F → FlashState) (p : Protocol) (S S' : StoreSta
               names = whole.tables.names;
               kept = refl;
             };
-            moves = FlashMoves-fires (state S.flash) (state S'.flash) (loads_for S.noted O 0 jobs) x
-                (loads_some S.noted O jobs can.some) can_fire_all done;
+            moves = FlashMoves-fires (state S.flash) (state S'.flash) (loads_for S.noted O 0 jobs) (Ok x) can_fire_all
+                done;
             carries = done.carries;
             held = held_between S.noted.config.protocol S.noted.config.logical (state S.flash).image
                 (state S'.flash).image (found_in S.noted.notes) (found_in then.noted.notes)
@@ -247,7 +242,9 @@ module _ {F : Type 0} (state : F → FlashState) (p : Protocol) (S S' : StoreSta
         mentions = left_mentions S.flash (state S.flash) (state S'.flash) S.noted S.table O 0 jobs its left;
         held = left_held S.flash (state S.flash) (state S'.flash) S.noted S.table O 0 jobs its left stands_now;
         can = can_fire_all;
-        torn = torn.torn;
+        torn = same_or_broken (state S.flash) (state S'.flash) (fire (loads_for S.noted O 0 jobs)) b torn;
+        moves = FlashMoves-fires (state S.flash) (state S'.flash) (loads_for S.noted O 0 jobs) (Err b) can_fire_all
+            torn;
         carries = torn.carries;
         stays = same;
       }

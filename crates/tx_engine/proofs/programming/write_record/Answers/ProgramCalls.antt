@@ -2,9 +2,8 @@
 use Rattle.tx_engine.proofs.Common.{◌≡◌, ℕ, eqb-true, List, [], ◌∷◌, length, Ok, Err, refl, sym, ap, ◌∙◌, subst, arith, get_or-set_same, slots_of, Protocol, Shape, Slot, Rec, Broken, FlashState, IsImage, blank, complete, slot_at, Does, CanDo, moment_of, program, image_left, CanBeSpelled, spelling, TextsStay, ImagePartialLaw, ImageCompletingLaw, IndexState, programmed, BlocksState, IsBlocksState, IsFree, with_slot, Matches, CanTakeOwn, StoreParts, CanWrite, WritesOwn}
 use Rattle.flash_model.specs.declared.outcome.Outcome.TheVariants as outcome
 use Rattle.flash_model.specs.Calls.{Programs}
-use Rattle.flash_model.specs.Operations.{after}
 use Rattle.flash_model.proofs.ImageLemmas.{IsImage-left}
-use Rattle.flash_model.proofs.MoveLemmas.{FlashMoves-operates, same_moments}
+use Rattle.flash_model.proofs.MoveLemmas.{FlashMoves-operates, same_done}
 use Rattle.page_record.proofs.Spellings.{length-spelling}
 use Rattle.record_list.specs.Changes.{PartialWriteLaw, CompletingWriteLaw}
 use Rattle.record_list.specs.WrittenChanges.{WrittenPartialWriteLaw, WrittenCompletingWriteLaw}
@@ -95,8 +94,7 @@ module _ (q : Protocol) (partial : PartialWriteLaw q) (completing : CompletingWr
     done_does =
         subst (λ sp. Does s.shape (moment_of s) (program at.0 bytes sp ∷ []) (moment_of s')) spells (
           can,
-          same_moments (moment_of s') (after s.shape (moment_of s) (program at.0 bytes spare)) done.done.image
-              done.done.programs done.done.erases,
+          same_done s s' (program at.0 bytes spare) x done,
         )
 
     done_stay : TextsStay n.config.protocol s.image s'.image

@@ -36,6 +36,7 @@ module _ (a b c : FlashState) (carries : Carries a b false) (moves : FlashMoves 
         carries.shape r.does)));
     carries = Carries-then a b r.between false carries r.carries;
     replaced = r.replaced;
+    started = r.started;
   }
 
   -- or worked on by operations that were not broken
@@ -46,6 +47,7 @@ module _ (a b c : FlashState) (carries : Carries a b false) (moves : FlashMoves 
     moves = FlashMoves-then a b torn.between false carries.shape moves torn.moves;
     carries = Carries-then a b torn.between false carries torn.carries;
     left = torn.left;
+    started = torn.started;
   })
 
 -- how retiring a block breaks off, as it is told of the flash
@@ -58,6 +60,7 @@ retiring_broke n old new spare block n' u breaks = elim (cases_eq block spare) [
     moves = FlashMoves-nothing old old false refl;
     carries = Carries-nothing old;
     left = subst (λ b. IsNotReplaced old new ⊎ IsReplaced old new b) (sym same) (breaks.0 same).left;
+    started = (breaks.0 same).started;
   })
   | inr other ↦ ends u (breaks.1 other).1
 ]

@@ -1,11 +1,12 @@
 -- What several open transactions that went on together make of the array machine, the versions and the flash.
-use Rattle.tx_engine.proofs.Common.{◌≡◌, ◌≢◌, ℕ, ◌<◌, ◌≤◌, Bool, false, List, [], ◌++◌, length, map, drop, get_or, All, Ok, refl, sym, ap, ap₂, ◌∙◌, subst, arith, flat_map, get_or-map, length-map, All-nil, PageWrite, FlashState, current_of, GoInTurn, Moved, Progress, Plain, ArrayState, Entry, Pages, CountInTurn, CountsAll, WrittenAll, taken_writes, takes_each, SettlesDevice, Exits, VersionsRise, is_there, settled_writes, OpenTransactionsState, TransactionState, entries_of, no_transaction, transaction_at, DeviceState, Stands, settled, settled_entry, StoreState, device_in, Job}
+use Rattle.tx_engine.proofs.Common.{◌≡◌, ◌≢◌, ℕ, ◌<◌, ◌≤◌, Bool, List, [], ◌++◌, length, map, drop, get_or, All, Ok, refl, sym, ap, ap₂, ◌∙◌, subst, arith, flat_map, get_or-map, length-map, All-nil, PageWrite, FlashState, moment_of, current_of, GoInTurn, Moved, Progress, Plain, ArrayState, Entry, Pages, CountInTurn, CountsAll, WrittenAll, taken_writes, takes_each, SettlesDevice, VersionsRise, is_there, settled_writes, OpenTransactionsState, TransactionState, entries_of, no_transaction, transaction_at, DeviceState, Stands, settled, settled_entry, StoreState, device_in, Job}
 use Rattle.std.proofs.Common.{take}
 use Rattle.std.specs.Prelude.{count_by}
 use Rattle.std.proofs.lemmas.List.{get_or-take, length-take-le, take-append-le, take_all, take-append-drop}
 use Rattle.array_machine.specs.Batches.{StepsAllAs, is_done}
 use Rattle.tx_engine.proofs.OfCollect.Collecting.{settled_low}
-use Rattle.tx_engine.proofs.OfDevice.ExitsThen.{exits_then, rises_then}
+use Rattle.tx_engine.specs.Exits.{ExitsTogether}
+use Rattle.tx_engine.proofs.OfDevice.ExitsThen.{together_after, together_still, rises_then}
 use Rattle.tx_engine.proofs.OfStepAll.BatchSteps.{go_in_turn, marked, state_in}
 use Rattle.tx_engine.proofs.OfStepAll.Nexts.{AreDue, nexts_entries}
 
@@ -70,8 +71,9 @@ module _ {F : Type 0} (state : F → FlashState) (S1 W S2 : StoreState F) (O1 OW
       λ same. apart (ap (λ (e : Entry). e.tag) (sym first) ∙ same ∙ ap (λ (e : Entry). e.tag) second))
       refl its_counts)
 
-  pub chosen_exits : Exits state mid new false
-  chosen_exits = exits_then state mid (device_in state W OW) new false refl refl w.exits k.exits
+  pub chosen_exits : ExitsTogether state mid new
+  chosen_exits = together_still state mid (device_in state W OW) new refl refl w.exits k.exits
+      (ap (λ (T : StoreState F). moment_of (state T.flash)) k.stays)
 
   pub chosen_rises : VersionsRise mid new (flat_map taken_writes (take m es))
   unfolding current_of
@@ -98,12 +100,12 @@ module _ {F : Type 0} (state : F → FlashState) (S S1 S2 : StoreState F) (O O1 
   abbrev known : ArrayState
   known = settled there old.machine
 
-  pub then_exits : Exits state (device_in state S1 O1) (device_in state S2 O2) false →
-      Exits state old (device_in state S2 O2) false
-  then_exits later = exits_then state old (device_in state S1 O1) (device_in state S2 O2) false refl refl st.exits later
+  pub then_exits : ExitsTogether state (device_in state S1 O1) (device_in state S2 O2) →
+      ExitsTogether state old (device_in state S2 O2)
+  then_exits later = together_after state old (device_in state S1 O1) (device_in state S2 O2) refl refl st.exits later
 
   pub then_rises : (ws : List PageWrite) → All (λ w. w.page < S.noted.config.logical) ws →
-      Exits state (device_in state S1 O1) (device_in state S2 O2) false →
+      ExitsTogether state (device_in state S1 O1) (device_in state S2 O2) →
       VersionsRise (device_in state S1 O1) (device_in state S2 O2) ws →
       VersionsRise old (device_in state S2 O2) (settled_writes there old.machine ++ ws)
   then_rises ws low later rises =

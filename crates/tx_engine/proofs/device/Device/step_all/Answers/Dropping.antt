@@ -1,6 +1,7 @@
 -- A device that met a fault where several transactions went on: what its flash is left with.
-use Rattle.tx_engine.proofs.Common.{◌≡◌, ℕ, ◌<◌, true, false, List, [], length, map, Ok, Err, refl, sym, ap, ap₂, ◌∙◌, subst, inl, inr, arith, range_with_len, Config, Protocol, Shape, Broken, Contents, FlashState, CanDo, Load, Moment, fire, moment_of, Carries-then, FlashMoves-then, mention, IsSoundImage, array_in, records_in, IndexState, mention_of, BlocksState, MayTakeEach, ArrayState, Entry, idle, DroppedAll, chosen_now, loads_for, DropsDevice, chosen_from, chosen_of, jobs_of, AdvancesTo, SettlesDevice, ExitsTables, MentionsAtMost, is_there, OpenTransactionsState, TransactionState, entries_of, namings_of, transaction_at, settlement_of, with_settlement, DeviceState, Stands, StepsAs, settled, settled_entry, StoreState, device_in, length-map}
-use Rattle.flash_model.specs.Operations.{Torn}
+use Rattle.tx_engine.proofs.Common.{◌≡◌, ℕ, ◌<◌, true, false, List, [], length, map, Ok, Err, refl, sym, ap, ap₂, ◌∙◌, subst, inl, inr, arith, range_with_len, Config, Protocol, Shape, Broken, Contents, FlashState, Load, Moment, fire, moment_of, Carries-then, FlashMoves-then, mention, IsSoundImage, array_in, records_in, IndexState, mention_of, BlocksState, MayTakeEach, ArrayState, Entry, idle, DroppedAll, chosen_now, loads_for, DropsDevice, chosen_from, chosen_of, jobs_of, AdvancesTo, SettlesDevice, ExitsTables, MentionsAtMost, is_there, OpenTransactionsState, TransactionState, entries_of, namings_of, transaction_at, settlement_of, with_settlement, DeviceState, Stands, StepsAs, settled, settled_entry, StoreState, device_in, length-map}
+use Rattle.flash_model.specs.Operations.{BreaksIn}
+use Rattle.flash_model.proofs.MoveLemmas.{FlashMovesTogether-then}
 use Rattle.array_machine.specs.Batches.{CutLeavesEach}
 use Rattle.array_machine.specs.Step.{IsAtLast}
 use Rattle.tx_engine.specs.Always.{CutsLeave, DevicesStand}
@@ -131,31 +132,22 @@ drops_fired {F} state S S1 S2 O O1 O2 u st size d =
       mentions = mentions_back old (device_in state S1 O1) image refl config st.exits.tables d.mentions;
       held = images_then S.noted.config S1.noted.config (state S.flash).image (state S1.flash).image image config
           st.exits.held d.held;
-      moves = inr (
-        refl,
-        record {
-          between = moment_of (state S1.flash);
-          moves = st.exits.moves;
-          loads = loads_for S1.noted O1 0 (jobs_of S1.noted (chosen_now S1 O1));
-          can = subst (λ (sh : Shape). CanDo sh (state S1.flash).image
-              (fire (loads_for S1.noted O1 0 (jobs_of S1.noted (chosen_now S1 O1)))))
-              st.exits.carries.shape d.can;
-          torn = subst (λ (sh : Shape). Torn sh (moment_of (state S1.flash))
-              (fire (loads_for S1.noted O1 0 (jobs_of S1.noted (chosen_now S1 O1))))
-              (moment_of (state S2.flash))) st.exits.carries.shape d.torn;
-        },
-      );
+      moves = FlashMovesTogether-then (state S.flash) (state S1.flash) (state S2.flash) true st.exits.carries.shape
+          st.exits.moves d.moves;
       carries = Carries-then (state S.flash) (state S1.flash) (state S2.flash) true st.exits.carries d.carries;
-      torn = λ some. inr (
-          subst (λ (loads : List Load). Torn (state S.flash).shape (moment_of (state S.flash)) (fire loads)
-          (moment_of (state S2.flash)))
-          (sym (known_loads state S S1 O O1 u st size))
-          (subst (λ (sh : Shape). Torn sh (moment_of (state S.flash))
-          (fire (loads_for S1.noted O1 0 (jobs_of S1.noted (chosen_now S1 O1))))
-          (moment_of (state S2.flash))) st.exits.carries.shape
-          (subst (λ (m : Moment). Torn (state S1.flash).shape m
-          (fire (loads_for S1.noted O1 0 (jobs_of S1.noted (chosen_now S1 O1))))
-          (moment_of (state S2.flash))) st.moment d.torn)));
+      torn = λ some. elim d.torn [
+        | inl same ↦ inl (same ∙ st.moment)
+        | inr breaks ↦ inr (
+            subst (λ (loads : List Load). BreaksIn (state S.flash).shape (moment_of (state S.flash)) (fire loads)
+            (moment_of (state S2.flash)))
+            (sym (known_loads state S S1 O O1 u st size))
+            (subst (λ (sh : Shape). BreaksIn sh (moment_of (state S.flash))
+            (fire (loads_for S1.noted O1 0 (jobs_of S1.noted (chosen_now S1 O1))))
+            (moment_of (state S2.flash))) st.exits.carries.shape
+            (subst (λ (m : Moment). BreaksIn (state S1.flash).shape m
+            (fire (loads_for S1.noted O1 0 (jobs_of S1.noted (chosen_now S1 O1))))
+            (moment_of (state S2.flash))) st.moment breaks)))
+      ];
     }
 
 -- The step of the first transaction met a fault

@@ -6,6 +6,7 @@ use Rattle.tx_engine.specs.BatchCalls.{first_moved, no_moves}
 use Rattle.tx_engine.specs.Batches.{StepsFirst}
 use Rattle.tx_engine.proofs.OfCollect.Collecting.{own_writes_low}
 use Rattle.open_table.proofs.OfTransactions.OpenList.{entry_first, first_of_own}
+use Rattle.tx_engine.proofs.OfDevice.ExitsThen.{together_exits}
 use Rattle.tx_engine.proofs.OfDevice.Kept.{from_stands}
 use Rattle.tx_engine.proofs.OfStep.StepExits.{done_low}
 use Rattle.tx_engine.proofs.device.Device.step_all.Answers.AllMoved.{then_exits, then_rises, then_steps}
@@ -68,7 +69,7 @@ module _ {F : Type 0} (state : F → FlashState) (S S1 S2 : StoreState F) (O O1 
         steps = then_steps state S S1 S2 O O1 O2 u (first_moved p) stands st 1 (p ∷ []) refl
             (omega (arith, mapped, any)) (omega arith) turns
             (sym (one_finished p));
-        exits = then_exits state S S1 S2 O O1 O2 u (first_moved p) stands st adv.exits;
+        exits = then_exits state S S1 S2 O O1 O2 u (first_moved p) stands st (together_exits state mid new adv.exits);
         sure = adv.sure;
         rises = subst (λ es. VersionsRise old new (settled_writes there old.machine ++ flat_map taken_writes es))
             (ap (take 1) (sym entries))
@@ -79,7 +80,7 @@ module _ {F : Type 0} (state : F → FlashState) (S S1 S2 : StoreState F) (O O1 
             st.exits.tables.config
             (done_low S1.noted.config.logical e p (own_writes_low (state S1.flash) S1.noted O1 S1.table S1.unsure
             kept 0 any))))
-            adv.exits (subst (VersionsRise mid new) (sym taken) adv.rises));
+            (together_exits state mid new adv.exits) (subst (VersionsRise mid new) (sym taken) adv.rises));
         together = λ some. absurd (some (none_of none));
         alone = λ is. first_steps state old new (first_moved p) p O.all refl
             (stepped state S S1 S2 O O1 O2 u p stands st adv within);
@@ -101,7 +102,7 @@ module _ {F : Type 0} (state : F → FlashState) (S S1 S2 : StoreState F) (O O1 
           finished = refl;
           none = (λ is. gone, λ is. refl);
         };
-        exits = st.exits;
+        exits = together_exits state old (device_in state S1 O1) st.exits;
         sure = st.settles.sure;
         rises = subst (VersionsRise old (device_in state S1 O1)) (sym (append-nil (settled_writes there old.machine)))
             st.settles.rises;
