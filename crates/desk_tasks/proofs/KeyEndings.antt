@@ -3,6 +3,7 @@ use Rattle.desk_tasks.proofs.Common.{◌≡◌, inl, inr, ℕ, List, [], length,
 use Rattle.std.specs.Prelude.{Result, IfErr}
 use Rattle.std.specs.Result.{IsErrAnd}
 use Rattle.tx_types.specs.declared.config.Slot.{Slot}
+use Rattle.flash_model.specs.Flash.{FlashState}
 use Rattle.flash_model.specs.Operations.{Moment, moment_of}
 use Rattle.mem_flash.specs.MemFlashState.{told_of}
 use Rattle.page_keys.proofs.OfServe.KeyRunLemmas.{as_many}
@@ -76,7 +77,7 @@ is_keys_run its flash left cs before after e none served =
       replies = served.replies;
       points = served.points;
       run = served.run;
-      last = ap (λ (m : Moment). m.image) served.last;
+      last = ap (λ (s : FlashState). s.image) served.last;
       said = served.text ∙ rw (none, whole) refl;
       few = subst (λ armed. AreFewBreaks (told_of armed).cuts (told_of armed).breaks cs served.replies)
           (ap (λ (s : MemFlashState). s.armed) e) served.few;

@@ -4,3 +4,4 @@ pub mod PageLists
 pub mod PlacedChanges
 pub mod PutGiven
 pub mod PutWrites
+pub mod NoneWritten

@@ -1,3 +1,4 @@
 pub mod StoreReads
 pub mod Mentions
 pub mod Turns
+pub mod BrokenTurns

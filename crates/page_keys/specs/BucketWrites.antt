@@ -1,5 +1,5 @@
 -- How the buckets of a put are written.
-use Rattle.std.specs.Prelude.{◌≡◌, ◌<◌, false, List, [], ◌∷◌, map, All, Any}
+use Rattle.std.specs.Prelude.{◌≡◌, ℕ, ◌+◌, ◌<◌, true, false, List, [], ◌∷◌, map, take, drop, All, Any}
 use Rattle.std.specs.List.{zip}
 use Rattle.tx_types.specs.Config.{shape_of}
 use Rattle.tx_types.specs.declared.config.Config.{Config}
@@ -34,6 +34,20 @@ WritesInTurn its old (pair ∷ pairs) new =
     × (mid : Moment) × Moves (shape_of its) old false mid
     × HasLinked (records_in its.protocol mid.image) pair × WritesInTurn its mid pairs new
 
+-- none of these names has a record
+abbrev pub AreAbsent : Config → Moment → List Link → Type 0
+AreAbsent its m names = All (λ name. is_present (records_in its.protocol m.image) name ≡ false) names
+
+-- The first of these records are written so, this many, and those of the other names are not there. In what comes
+-- after, of which the last may be broken, at most the next one is written.
+pub record WritesFirst (its : Config) (names : List Link) (old new : Moment) : Type 0 where
+  pub written : ℕ
+  pub mid : Moment
+  pub turns : WritesInTurn its old (take written (linked names)) mid
+  pub due : AreAbsent its mid (drop written names)
+  pub moves : Moves (shape_of its) mid true new
+  pub later : AreAbsent its new (drop (written + 1) names)
+
 -- Each bucket that a key falls in is written, also where none of its bytes changes, in ascending order of the pages, in
 -- one transaction: the record of each links to that of the next one, and the last to the first. Its version is above
 -- all that the image mentioned of the page.
@@ -42,3 +56,10 @@ pub record WritesBuckets (its : Config) (cs : List Change) (old new : Moment) : 
   pub pages : map (λ name. name.page) names ≡ pages_of its.logical cs
   pub above : All (λ name. mention (records_in its.protocol old.image) name.page < name.version) names
   pub turns : WritesInTurn its old (linked names) new
+
+-- Of such writing that breaks off: the first of these buckets are written, the lowest pages, and perhaps the next one.
+pub record BreaksBuckets (its : Config) (cs : List Change) (old new : Moment) : Type 0 where
+  pub names : List Link
+  pub pages : map (λ name. name.page) names ≡ pages_of its.logical cs
+  pub above : All (λ name. mention (records_in its.protocol old.image) name.page < name.version) names
+  pub first : WritesFirst its names old new

@@ -1,6 +1,6 @@
 -- The map machine on a flash: what a list of commands does to a map that a flash keeps, and the replies that it may
 -- give.
-use Rattle.std.specs.Prelude.{◌≡◌, ◌⊎◌, ℕ, ◌+◌, ◌≤◌, Bool, true, false, not, List, [], ◌∷◌, length, take, count_by, slice_index_or, None, Some, MatchBool}
+use Rattle.std.specs.Prelude.{◌≡◌, ◌⊎◌, ℕ, ◌+◌, ◌<◌, ◌≤◌, Bool, true, false, not, List, [], ◌∷◌, length, take, count_by, slice_index_or, None, Some, MatchBool}
 use Rattle.std.specs.Prelude.{if◌then◌else◌}
 use Rattle.std.specs.FinMap.{get}
 use Rattle.tx_types.specs.Config.{shape_of}
@@ -13,14 +13,15 @@ use Rattle.flash_model.specs.Operations.{Moment, moment_of}
 use Rattle.flash_model.specs.declared.outcome.Outcome.{Outcome}
 use Rattle.record_list.specs.Records.{mention}
 use Rattle.judged_records.specs.Images.{IsSoundImage, array_in, records_in}
+use Rattle.array_machine.specs.ArrayState.{Pages, put}
 use Rattle.array_runs.specs.Run.{MayBeSpent}
 use Rattle.tx_engine.specs.Opens.{mount_reads}
 use Rattle.mounted_session.specs.Mounting.{powered}
 use Rattle.mounted_session.specs.Spending.{IsSpent}
-use Rattle.page_keys.specs.BucketWrites.{WritesBuckets}
+use Rattle.page_keys.specs.BucketWrites.{BreaksBuckets, WritesBuckets}
 use Rattle.page_keys.specs.Buckets.{EncodesMap}
 use Rattle.page_keys.specs.KeyMaps.{KeyMap, apply, seen_by}
-use Rattle.page_keys.specs.Puts.{early_refusal, put_refusal}
+use Rattle.page_keys.specs.Puts.{early_refusal, put_refusal, put_writes}
 use Rattle.page_keys.specs.declared.answers.PutError.{PutError}
 use Rattle.page_keys.specs.declared.answers.PutError.TheVariants as refused
 use Rattle.page_keys.specs.declared.changes.Change.{Change}
@@ -35,10 +36,14 @@ pub record KeyPoint : Type 0 where
   pub up : Bool
   pub flash : FlashState
 
+-- the array of pages that the image of a point stands for
+abbrev pub array_at : Config → KeyPoint → Pages
+array_at its p = array_in its.protocol its.logical p.flash.image
+
 -- the image is sound, and its array shows the map; while the store is open power is on
 pub record IsKeyPoint (its : Config) (p : KeyPoint) : Type 0 where
   pub sound : IsSoundImage its.protocol its.logical (shape_of its) p.flash.image
-  pub shows : EncodesMap its (array_in its.protocol its.logical p.flash.image) p.keys
+  pub shows : EncodesMap its (array_at its p) p.keys
   pub live : p.up ≡ true → p.flash.live ≡ true
 
 -- the map, the image and what was counted of programs and erases are as before
@@ -64,18 +69,20 @@ key_at cs i = (slice_index_or cs i no_change).key
 abbrev pub RefusesPut : Config → (ℕ → Bool) → List Change → PutError → KeyPoint → KeyPoint → Type 0
 RefusesPut its spent cs e old new = (put_refusal its spent old.keys cs ≡ Some e) × Stays old new
 
--- it is not refused, and all its changes are made
+-- It is not refused, and all its changes are made: the array has what it writes, and every other page is as it was.
 pub record TakesPut (its : Config) (spent : ℕ → Bool) (cs : List Change) (old new : KeyPoint) :
     Type 0 where
   pub allowed : put_refusal its spent old.keys cs ≡ None
   pub keys : new.keys ≡ apply old.keys cs
+  pub array : array_at its new ≡ put (array_at its old) (put_writes its old.keys cs)
 
--- Power was cut in it, or it met a fault: all its changes are made or none is. It is not one that its changes alone
--- refuse: such a put does nothing on the flash.
+-- Power was cut in it, or it met a fault: all its changes are made or none is, and its buckets were written from the
+-- first one on. It is not one that its changes alone refuse: such a put does nothing on the flash.
 pub record BreaksPut (its : Config) (spent : ℕ → Bool) (cs : List Change) (old new : KeyPoint) :
     Type 0 where
   pub tried : early_refusal its cs ≡ None
-  pub whole : (new.keys ≡ old.keys) ⊎ TakesPut its spent cs old new
+  pub whole : ((new.keys ≡ old.keys) × (array_at its new ≡ array_at its old)) ⊎ TakesPut its spent cs old new
+  pub first : BreaksBuckets its cs (moment_of old.flash) (moment_of new.flash)
   pub moves : MovesTo its old true new
 
 -- A put, where these pages are spent, by its reply. One that is stored has written each bucket that a key falls in.
@@ -230,24 +237,34 @@ abbrev pub seen_after : Config → (ℕ → ℕ) → KeyCommand → KeyReply →
 seen_after its seen c r page =
     if is_tried r then seen_by its.logical (changes_in c) seen page else seen page
 
+-- the greatest mention of each page in an image
+abbrev pub mentions_in : Config → Moment → ℕ → ℕ
+mentions_in its m page = mention (records_in its.protocol m.image) page
+
+-- the image of a point mentions each page so often at most
+abbrev pub MentionsUpTo : Config → (ℕ → ℕ) → KeyPoint → Type 0
+MentionsUpTo its seen p = (page : ℕ) → page < its.logical → mentions_in its (moment_of p.flash) page ≤ seen page
+
+-- what is known to be mentioned then: a store that is closed knows nothing, and the next one knows what its image has
+abbrev pub seen_next : Config → (ℕ → ℕ) → KeyCommand → KeyReply → KeyPoint → ℕ → ℕ
+seen_next its seen c r p page =
+    if p.up then seen_after its seen c r page else mentions_in its (moment_of p.flash) page
+
 -- A run over a list of commands: one reply and one point for each. `seen` is at least the greatest mention of each page
--- on the flash.
+-- on the flash. A command mentions each page that a key of its put falls in once more at most, and no other page.
 abbrev pub KeyRun : Config → (ℕ → ℕ) → KeyPoint → List KeyCommand → List KeyReply → List KeyPoint →
     Type 0
 KeyRun its seen old [] [] [] = Unit {0}
 KeyRun its seen old (c ∷ cs) (r ∷ rs) (p ∷ ps) =
     ((spent : ℕ → Bool) × MayBeSpent seen spent × ServesKeys its spent c old r p)
-    × IsKeyPoint its p × KeyRun its (seen_after its seen c r) p cs rs ps
+    × (IsKeyPoint its p × MentionsUpTo its (seen_after its seen c r) p)
+    × KeyRun its (seen_next its seen c r p) p cs rs ps
 KeyRun its seen old _ _ _ = ⊥
 
 -- the point where a run ends
 abbrev pub last_point : KeyPoint → List KeyPoint → KeyPoint
 last_point old [] = old
 last_point old (p ∷ ps) = last_point p ps
-
--- the greatest mention of each page in an image
-abbrev pub mentions_in : Config → Moment → ℕ → ℕ
-mentions_in its m page = mention (records_in its.protocol m.image) page
 
 -- a run from this point on, whose image is sound and shows its map
 pub record IsKeyRun (its : Config) (first : KeyPoint) (cs : List KeyCommand) (rs : List KeyReply)

@@ -1,5 +1,5 @@
 -- What serving a key script comes to.
-use Rattle.std.specs.Prelude.{◌≡◌, ◌⊎◌, ◌+◌, ◌≤◌, ℕ, Bool, true, false, List, ◌++◌, length, take, IfSome, MatchBool, Result, Ok, Err}
+use Rattle.std.specs.Prelude.{◌≡◌, ◌⊎◌, ◌+◌, ◌<◌, ℕ, Bool, true, false, List, ◌++◌, length, take, IfSome, MatchBool, Result, Ok, Err}
 use Rattle.tx_types.specs.declared.config.Config.{Config}
 use Rattle.flash_model.specs.Calls.{BothTell, NoMoreToCome}
 use Rattle.flash_model.specs.Flash.{FlashState, IsSteady}
@@ -36,9 +36,9 @@ pub record BeginsKeys {F : Type 0} (state : F → FlashState) (its : Config) (in
   pub keys : KeyMap
   pub stands : StandsAt state its (mentions_in its (moment_of init)) keys s
 
--- There is one run over these commands, before which a flash with power was opened. Its last point is where the flash
--- is that comes back. Of its replies the first `told` were told.
-pub record ServesKeyRun (its : Config) (cs : List KeyCommand) (told : ℕ) (old new : FlashState)
+-- There is one run over these commands, before which a flash with power was opened. It leaves this flash, that of its
+-- last point. Of its replies the first `told` were told.
+pub record ServesKeyRun (its : Config) (cs : List KeyCommand) (told : ℕ) (old left : FlashState)
     (before after : List ℕ) : Type 0 where
   pub first : KeyPoint
   pub begins : IsFirstFlash old first.flash
@@ -46,7 +46,7 @@ pub record ServesKeyRun (its : Config) (cs : List KeyCommand) (told : ℕ) (old 
   pub replies : List KeyReply
   pub points : List KeyPoint
   pub run : IsKeyRun its first cs replies points
-  pub last : moment_of new ≡ moment_of (last_point first points).flash
+  pub last : left ≡ (last_point first points).flash
   pub text : after ≡ before ++ key_texts (take told replies)
   pub few : IfSome old.told (λ t. AreFewBreaks t.cuts t.breaks cs replies)
 
@@ -56,40 +56,40 @@ pub record ServesNone (old new : FlashState) (before after : List ℕ) : Type 0 
   pub still : StaysQuiet old new
   pub text : after ≡ before
 
--- what serving comes to where the image handed in is sound and its pages are buckets
+-- What serving comes to where the image handed in is sound and its pages are buckets: the flash comes back as the run
+-- leaves it, and where no memory was left it was read at most after that.
 abbrev pub ServesScript : Config → List KeyCommand → FlashState → FlashState → List ℕ → List ℕ →
     Result (Unit {0}) KeyServeError → Type 0
 ServesScript its cs old new before after (Ok u) =
     ServesKeyRun its cs (length cs) old new before after
 ServesScript its cs old new before after (Err failed.Memory) =
     ServesNone old new before after
-    ⊎ ((told : ℕ) × (told ≤ length cs)
-    × (ServesKeyRun its (take told cs) told old new before after
-    ⊎ ServesKeyRun its (take (told + 1) cs) told old new before after))
+    ⊎ ((told : ℕ) × (told < length cs) × (left : FlashState) × StaysQuiet left new
+    × (ServesKeyRun its (take told cs) told old left before after
+    ⊎ ServesKeyRun its (take (told + 1) cs) told old left before after))
 ServesScript its cs old new before after (Err _) = ⊥
 
--- There is one run over these commands in which the store was never open, nor was it opened before them. After it the
--- flash that comes back was read at most. Of its replies the first `told` were told.
-pub record ServesUnopenedRun (its : Config) (cs : List KeyCommand) (told : ℕ) (old new : FlashState)
+-- There is one run over these commands in which the store was never open, nor was it opened before them. It leaves this
+-- flash. Of its replies the first `told` were told.
+pub record ServesUnopenedRun (its : Config) (cs : List KeyCommand) (told : ℕ) (old left : FlashState)
     (before after : List ℕ) : Type 0 where
   pub first : FlashState
   pub opened : BeginsFlash its old false first
   pub replies : List KeyReply
-  pub last : FlashState
-  pub run : UnopenedRun its first cs replies last
-  pub still : StaysQuiet last new
+  pub run : UnopenedRun its first cs replies left
   pub text : after ≡ before ++ key_texts (take told replies)
 
--- What serving comes to where it is another one: the store is never open.
+-- What serving comes to where it is another one: the store is never open. The flash comes back as the run leaves it,
+-- and where the run ends early it was read at most after that.
 abbrev pub ServesUnopened : Config → List KeyCommand → FlashState → FlashState → List ℕ → List ℕ →
     Result (Unit {0}) KeyServeError → Type 0
 ServesUnopened its cs old new before after (Ok u) =
     ServesUnopenedRun its cs (length cs) old new before after
 ServesUnopened its cs old new before after (Err why) =
     ServesNone old new before after
-    ⊎ ((told : ℕ) × (told ≤ length cs)
-    × (ServesUnopenedRun its (take told cs) told old new before after
-    ⊎ ((why ≡ failed.Memory) × ServesUnopenedRun its (take (told + 1) cs) told old new before after)))
+    ⊎ ((told : ℕ) × (told < length cs) × (left : FlashState) × StaysQuiet left new
+    × (ServesUnopenedRun its (take told cs) told old left before after
+    ⊎ ((why ≡ failed.Memory) × ServesUnopenedRun its (take (told + 1) cs) told old left before after)))
 
 -- and why it ends where it is another one
 abbrev pub RefusesKeys : Config → FlashState → Result (Unit {0}) KeyServeError → Type 0

@@ -5,14 +5,15 @@ use Rattle.flash_model.specs.Calls.{Carries}
 use Rattle.flash_model.specs.Moves.{FlashMoves}
 use Rattle.flash_model.specs.Operations.{moment_of}
 use Rattle.judged_records.specs.Images.{array_in}
+use Rattle.array_machine.specs.ArrayState.{put}
 use Rattle.judged_records.specs.IndexState.{mention_of}
 use Rattle.tx_engine.specs.Always.{IsSeen}
 use Rattle.tx_engine.specs.Naming.{is_spent}
-use Rattle.page_keys.specs.BucketWrites.{WritesBuckets}
+use Rattle.page_keys.specs.BucketWrites.{BreaksBuckets, WritesBuckets}
 use Rattle.page_keys.specs.Buckets.{EncodesMap}
 use Rattle.page_keys.specs.KeyMaps.{KeyMap, apply, pages_of, seen_by}
 use Rattle.page_keys.specs.Putting.{is_failed, is_put_fault}
-use Rattle.page_keys.specs.Puts.{early_refusal, put_refusal}
+use Rattle.page_keys.specs.Puts.{early_refusal, put_refusal, put_writes}
 use Rattle.page_keys.specs.Stores.{KeyStoreState}
 use Rattle.page_keys.specs.Writing.{Moved}
 use Rattle.page_keys.specs.declared.answers.PutError.{PutError}
@@ -29,12 +30,15 @@ pub record StaysPut {F : Type 0} (state : F → FlashState) (old new : KeyStoreS
   pub seen : (seen : ℕ → ℕ) → IsSeen seen old.device → IsSeen seen new.device
   pub usable : new.broken ≡ false
 
--- All changes are made. Each page that a key falls in is mentioned once more, and no other page: its bucket was
--- written, also where none of its bytes changed.
+-- All changes are made: the array of the image has what the put writes, and is as before at every other page. Each page
+-- that a key falls in is mentioned once more, and no other page: its bucket was written, also where none of its bytes
+-- changed.
 pub record MakesAll {F : Type 0} (state : F → FlashState) (old new : KeyStoreState F) (m : KeyMap)
     (cs : List Change) : Type 0 where
   pub taken : put_refusal old.device.config (is_spent old.device.noted.mentions) m cs ≡ None
   pub shows : EncodesMap new.device.config new.device.machine.pages (apply m cs)
+  pub array : array_in old.device.config.protocol old.device.config.logical (state new.device.flash).image
+      ≡ put old.device.machine.pages (put_writes old.device.config m cs)
   pub moved : Moved state old.device new.device false
   pub seen : (seen : ℕ → ℕ) → IsSeen seen old.device →
       IsSeen (seen_by old.device.config.logical cs seen) new.device
@@ -44,15 +48,19 @@ pub record MakesAll {F : Type 0} (state : F → FlashState) (old new : KeyStoreS
       (moment_of (state new.device.flash))
   pub usable : new.broken ≡ false
 
--- the image shows the map as it was, or with all changes, which were not refused
+-- The image has the array as it was, or that with what the put writes, which is then not refused. Its buckets were
+-- written from the first one on.
 pub record MakesAllOrNone {F : Type 0} (state : F → FlashState) (old new : KeyStoreState F) (m : KeyMap)
     (cs : List Change) : Type 0 where
   pub tried : early_refusal old.device.config cs ≡ None
   pub left : let array = array_in new.device.config.protocol new.device.config.logical
       (state new.device.flash).image in
-      EncodesMap new.device.config array m
+      ((array ≡ old.device.machine.pages) × EncodesMap new.device.config array m)
       ⊎ ((put_refusal old.device.config (is_spent old.device.noted.mentions) m cs ≡ None)
+      × (array ≡ put old.device.machine.pages (put_writes old.device.config m cs))
       × EncodesMap new.device.config array (apply m cs))
+  pub first : BreaksBuckets old.device.config cs (moment_of (state old.device.flash))
+      (moment_of (state new.device.flash))
   pub moved : Moved state old.device new.device true
   pub seen : (seen : ℕ → ℕ) → IsSeen seen old.device →
       IsSeen (seen_by old.device.config.logical cs seen) new.device

@@ -17,7 +17,7 @@ use Rattle.tx_engine.specs.Naming.{is_spent}
 use Rattle.tx_engine.specs.DeviceState.{DeviceState}
 use Rattle.array_machine.specs.declared.mark.Mark.TheVariants.{Plain}
 use Rattle.array_machine.specs.declared.answers.SubmitError.TheVariants as submit
-use Rattle.page_keys.specs.BucketWrites.{WritesInTurn, linked}
+use Rattle.page_keys.specs.BucketWrites.{WritesFirst, WritesInTurn, linked}
 use Rattle.page_keys.specs.declared.answers.PutError.{PutError}
 use Rattle.page_keys.specs.declared.answers.PutError.TheVariants as refused
 
@@ -40,6 +40,7 @@ pub record Writes {F : Type 0} (state : F → FlashState) (old new : DeviceState
     (writes : List PageWrite) : Type 0 where
   pub unspent : spent_page (is_spent old.noted.mentions) writes ≡ None
   pub machine : new.machine ≡ idle (put old.machine.pages writes)
+  pub array : array_in old.config.protocol old.config.logical (state new.flash).image ≡ put old.machine.pages writes
   pub moved : Moved state old new false
   pub seen : (seen : ℕ → ℕ) → IsSeen seen old → IsSeen (seen_more seen writes) new
   pub mentions : (page : ℕ) → page < old.config.logical →
@@ -57,7 +58,7 @@ pub record Refuses {F : Type 0} (old new : DeviceState F) : Type 0 where
   pub mentions : new.noted.mentions ≡ old.noted.mentions
   pub namings : new.namings ≡ old.namings
 
--- the image has the array, or that with all the writes
+-- The image has the array, or that with all the writes. The first of the records were written, as where all are.
 pub record Breaks {F : Type 0} (state : F → FlashState) (old new : DeviceState F)
     (writes : List PageWrite) : Type 0 where
   pub unspent : spent_page (is_spent old.noted.mentions) writes ≡ None
@@ -65,6 +66,10 @@ pub record Breaks {F : Type 0} (state : F → FlashState) (old new : DeviceState
   pub seen : (seen : ℕ → ℕ) → IsSeen seen old → IsSeen (seen_more seen writes) new
   pub left : let array = array_in new.config.protocol new.config.logical (state new.flash).image in
       (array ≡ old.machine.pages) ⊎ (array ≡ put old.machine.pages writes)
+  pub above : All (λ name. mention (records_in old.config.protocol (state old.flash).image) name.page < name.version)
+      (map (next_name old.noted) writes)
+  pub first : WritesFirst old.config (map (next_name old.noted) writes) (moment_of (state old.flash))
+      (moment_of (state new.flash))
 
 abbrev pub WritesNot : {F : Type 0} → (F → FlashState) → DeviceState F → DeviceState F →
     List PageWrite → PutError → Type 0

@@ -5,7 +5,7 @@ ghost use Rattle.array_machine.specs.Submit.{first_refusals};
 ghost use Rattle.page_keys.specs.Writing.{Writes, WritesNot};
 
 use crate::answers::PutError;
-use collector::theorems::image_is_sound;
+use collector::theorems::{image_is_sound, noting_keeps};
 use flash_model::Flash;
 use record_list::CommitRule;
 use tx_engine::{Device, Progress, SubmitError, device_facts};
@@ -26,6 +26,7 @@ pub(crate) fn write<F: Flash, R: CommitRule>(
     ensures kept { device.new.dropped ≡ false }
 {
     image_is_sound::<R>();
+    noting_keeps::<R>();
     standing_facts(device);
     if let Err(refusal) = device.submit(0, batch) {
         return Err(spent_refusal(refusal));
@@ -41,7 +42,7 @@ pub(crate) fn write<F: Flash, R: CommitRule>(
                 return Ok(());
             }
             Err(_) => {
-                device_facts(device);
+                standing_facts(device);
                 return Err(PutError::Fault);
             }
         }

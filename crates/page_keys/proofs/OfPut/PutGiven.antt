@@ -10,7 +10,8 @@ use Rattle.judged_records.specs.Images.{records_in}
 use Rattle.judged_records.specs.IndexState.{mention_of}
 use Rattle.open_table.specs.OpenTransactionsState.{next_name}
 use Rattle.array_machine.specs.Submit.{is_of}
-use Rattle.page_keys.specs.BucketWrites.{WritesBuckets, WritesInTurn, linked}
+use Rattle.page_keys.specs.BucketWrites.{BreaksBuckets, WritesBuckets, WritesFirst, WritesInTurn, linked}
+use Rattle.page_keys.proofs.OfPut.NoneWritten.{none_written}
 use Rattle.page_keys.specs.KeyMaps.{seen_by}
 use Rattle.page_keys.specs.PutAnswers.{StaysPut, MakesAll, MakesAllOrNone, ReadsFirst}
 use Rattle.page_keys.specs.Puts as puts
@@ -182,9 +183,14 @@ module _ {F : Type 0} (state : F → FlashState) (old : KeyStoreState F) (t : De
       ∙ stands_idle old.device.machine _ closed stands in
       record {
         tried = early;
-        left = inl (subst (λ (c : Config). EncodesMap c
-            (array_in c.protocol c.logical (state t.flash).image) m) (sym config)
-            (subst (λ (p : Pages). EncodesMap old.device.config p m) (sym arr) shows));
+        left = inl (
+          subst (λ (c : Config). array_in c.protocol c.logical (state t.flash).image ≡ old.device.machine.pages)
+              (sym config) arr,
+          subst (λ (c : Config). EncodesMap c (array_in c.protocol c.logical (state t.flash).image) m) (sym config)
+              (subst (λ (p : Pages). EncodesMap old.device.config p m) (sym arr) shows),
+        );
+        first = none_written old.device.config cs (moment_of (state old.device.flash)) (moment_of (state t.flash))
+            reads.moment;
         moved = record {
           config = config;
           moves = FlashMoves-nothing (state old.device.flash) (state t.flash) true reads.moment;
@@ -291,6 +297,18 @@ module _ {F : Type 0} (state : F → FlashState) (old new : KeyStoreState F) (t 
       ap (λ (l : List PageWrite). map (λ (name : Link). name.page) (map (next_name t.noted) l)) are
       ∙ named_pages old.device.config (apply m cs) t.noted (pages_of old.device.config.logical cs)
 
+  above_all : All (λ (name : Link).
+      mention (records_in t.config.protocol (state t.flash).image) name.page < name.version)
+      (map (next_name t.noted) ws) →
+      All (λ (name : Link). mention (records_in old.device.config.protocol (state old.device.flash).image) name.page
+      < name.version) (map (next_name t.noted) ws)
+  above_all above =
+      let names = map (next_name t.noted) ws in
+      subst (λ (x : Moment). All (λ (name : Link).
+      mention (records_in old.device.config.protocol x.image) name.page < name.version) names) reads.moment
+      (subst (λ (c : Config). All (λ (name : Link).
+      mention (records_in c.protocol (state t.flash).image) name.page < name.version) names) its_config above)
+
   -- each bucket that a key falls in was written
   written_each : Writes state t new.device ws → WritesBuckets old.device.config cs
       (moment_of (state old.device.flash)) (moment_of (state new.device.flash))
@@ -299,15 +317,26 @@ module _ {F : Type 0} (state : F → FlashState) (old new : KeyStoreState F) (t 
       record {
         names = names;
         pages = names_are;
-        above = subst (λ (x : Moment). All (λ (name : Link).
-            mention (records_in old.device.config.protocol x.image) name.page < name.version) names) reads.moment
-            (subst (λ (c : Config). All (λ (name : Link).
-            mention (records_in c.protocol (state t.flash).image) name.page < name.version) names) its_config
-            writes.above);
+        above = above_all writes.above;
         turns = subst (λ (x : Moment). WritesInTurn old.device.config x (linked names)
             (moment_of (state new.device.flash))) reads.moment
             (subst (λ (c : Config). WritesInTurn c (moment_of (state t.flash)) (linked names)
             (moment_of (state new.device.flash))) its_config writes.turns);
+      }
+
+  -- the first of them were, where it broke off
+  written_first : Breaks state t new.device ws → BreaksBuckets old.device.config cs
+      (moment_of (state old.device.flash)) (moment_of (state new.device.flash))
+  written_first breaks =
+      let names = map (next_name t.noted) ws in
+      record {
+        names = names;
+        pages = names_are;
+        above = above_all breaks.above;
+        first = subst (λ (x : Moment). WritesFirst old.device.config names x (moment_of (state new.device.flash)))
+            reads.moment
+            (subst (λ (c : Config). WritesFirst c names (moment_of (state t.flash))
+            (moment_of (state new.device.flash))) its_config breaks.first);
       }
 
   mentioned_more : Writes state t new.device ws → (page : ℕ) → page < old.device.config.logical →
@@ -325,6 +354,9 @@ module _ {F : Type 0} (state : F → FlashState) (old new : KeyStoreState F) (t 
     shows = shown_now new.device.machine.pages (apply m cs) writes.moved.config
         (subst (λ (s : ArrayState). EncodesMap old.device.config s.pages (apply m cs))
         (sym (writes.machine ∙ ap (λ (s : ArrayState). idle (put s.pages ws)) its_machine)) made);
+    array = subst (λ (c : Config). array_in c.protocol c.logical (state new.device.flash).image
+        ≡ put old.device.machine.pages (put_writes old.device.config m cs)) its_config
+        (writes.array ∙ ap (λ (s : ArrayState). put s.pages ws) its_machine ∙ ap (put old.device.machine.pages) are);
     moved = moved_on false writes.moved;
     seen = written_seen writes.seen;
     mentions = mentioned_more writes;
@@ -342,15 +374,20 @@ module _ {F : Type 0} (state : F → FlashState) (old new : KeyStoreState F) (t 
       record {
         tried = early;
         left = elim breaks.left [
-          | inl h ↦ inl (shown_now array m breaks.moved.config
-              (subst (λ (p : Pages). EncodesMap old.device.config p m) (sym (h ∙ before)) shows))
+          | inl h ↦ inl (
+            h ∙ before,
+            shown_now array m breaks.moved.config
+                (subst (λ (p : Pages). EncodesMap old.device.config p m) (sym (h ∙ before)) shows),
+          )
           | inr h ↦ inr (
             none_spent breaks.unspent,
+            h ∙ ap (λ (p : Pages). put p ws) before ∙ ap (put old.device.machine.pages) are,
             shown_now array (apply m cs) breaks.moved.config
                 (subst (λ (p : Pages). EncodesMap old.device.config p (apply m cs))
                 (sym (h ∙ ap (λ (p : Pages). put p ws) before)) made),
           )
         ];
+        first = written_first breaks;
         moved = moved_on true breaks.moved;
         seen = written_seen breaks.seen;
         broken = broken;

@@ -7,7 +7,10 @@ use Rattle.std.proofs.lemmas.Grind.{flat_map-append}
 use Rattle.judged_records.specs.Images.{IsLeastImageBreach}
 use Rattle.judged_records.proofs.OfNotes.OneBreach.{sound_unbroken}
 use Rattle.page_keys.specs.KeyReplies.{key_text, key_texts}
-use Rattle.page_keys.specs.KeyRuns.{IsKeyRun, last_point}
+use Rattle.page_keys.specs.KeyRuns.{IsKeyRun, MentionsUpTo, last_point, seen_after, seen_next}
+use Rattle.mounted_session.specs.Mounting.{StaysQuiet}
+use Rattle.mounted_session.proofs.Mounting.{nothing_done}
+use Rattle.tx_engine.proofs.OfDevice.Seen.{image_seen}
 use Rattle.page_keys.specs.KeyServed.{BeginsFlash, IsFirstFlash, RefusesKeys, ServesKeyRun, ServesScript}
 use Rattle.page_keys.specs.KeySessions.{IsWhy, StandsAt, point_of}
 use Rattle.page_keys.specs.Stores.{IsFirstBad}
@@ -73,6 +76,26 @@ module _ {F : Type 0} (state : F → FlashState) (its : Config) where
             (array_in its.protocol its.logical (state (flash_in s)).image) m point.shows;
       }
 
+  -- what its image mentions
+  mentions_are : (s : KeySession F) (seen : ℕ → ℕ) (m : KeyMap) → Fits state its s →
+      StandsAt state its seen m s → MentionsUpTo its seen (point_of state m s)
+  mentions_are (session.Mounted k) seen m fits stands page lt =
+      subst (λ (c : Config). mentions_in c (moment_of (state k.device.flash)) page ≤ seen page) fits.config
+      (image_seen state its.protocol seen k.device page fits.always stands.mentions
+      (subst (λ (c : Config). page < c.logical) (sym fits.config) lt))
+  mentions_are (session.Unmounted flash) seen m fits stands page lt = stands.mentions page lt
+
+  -- and what is known of it then
+  stands_next : (s : KeySession F) (seen : ℕ → ℕ) (c : KeyCommand) (r : KeyReply) (m : KeyMap) →
+      StandsAt state its (seen_after its seen c r) m s →
+      StandsAt state its (seen_next its seen c r (point_of state m s)) m s
+  stands_next (session.Mounted k) seen c r m stands = stands
+  stands_next (session.Unmounted flash) seen c r m stands = record {
+    sound = stands.sound;
+    shows = stands.shows;
+    mentions = λ page lt. omega arith;
+  }
+
   pub shape_is : (s : KeySession F) → Fits state its s →
       checked its ≡ Ok (state (flash_in s)).shape
   shape_is (session.Mounted k) fits = fits.check
@@ -89,7 +112,7 @@ module _ {F : Type 0} (state : F → FlashState) (its : Config) where
     pub run : IsKeyRun its first cs replies points
     pub left : KeyMap
     pub stands : StandsAt state its
-        (seen_over its (mentions_in its (moment_of first.flash)) cs replies) left s
+        (seen_over its (mentions_in its (moment_of first.flash)) cs replies points) left s
     pub last : last_point first points ≡ point_of state left s
     pub text : after ≡ before ++ key_texts replies
 
@@ -120,8 +143,10 @@ module _ {F : Type 0} (state : F → FlashState) (its : Config) where
         HasServed init (cs ++ c ∷ []) t before after
     served_more after told =
         let seen = mentions_in its (moment_of served.first.flash) in
-        let inside = one.in_run (seen_over its seen cs served.replies) served.left served.stands in
+        let over = seen_over its seen cs served.replies served.points in
+        let inside = one.in_run over served.left served.stands in
         let point = point_is t _ inside.left one.fits inside.stands in
+        let mentions = mentions_are t _ inside.left one.fits inside.stands in
         record {
           first = served.first;
           begins = served.begins;
@@ -133,20 +158,19 @@ module _ {F : Type 0} (state : F → FlashState) (its : Config) where
             runs = run_more its c r (point_of state inside.left t) inside.spent seen served.first cs
                 served.replies served.points served.run.runs inside.may
                 (subst (λ (p : KeyPoint). ServesKeys its inside.spent c p r
-                (point_of state inside.left t)) (sym served.last) inside.serves) point;
+                (point_of state inside.left t)) (sym served.last) inside.serves) (point, mentions);
           };
           left = inside.left;
           stands = subst (λ (x : ℕ → ℕ). StandsAt state its x inside.left t)
               (sym (seen_more_over its c r (point_of state inside.left t) seen served.first cs
-              served.replies served.points served.run.runs)) inside.stands;
+              served.replies served.points served.run.runs)) (stands_next t over c r inside.left inside.stands);
           last = last_more its c r (point_of state inside.left t) served.first served.points;
           text = text_more served.replies r before between after served.text told;
         }
 
   -- what was served is a run, of whose replies all or all but the last were told
   module _ (init : FlashState) (cs : List KeyCommand) (s : KeySession F) (before after : List ℕ)
-      (served : HasServed init cs s before after) (new : FlashState)
-      (still : moment_of new ≡ moment_of (state (flash_in s))) where
+      (served : HasServed init cs s before after) (new : FlashState) (still : new ≡ state (flash_in s)) where
     pub run_of : (told : ℕ) (now : List ℕ) → now ≡ before ++ key_texts (take told served.replies) →
         ServesKeyRun its cs told init new before now
     run_of told now text = record {
@@ -156,7 +180,7 @@ module _ {F : Type 0} (state : F → FlashState) (its : Config) where
       replies = served.replies;
       points = served.points;
       run = served.run;
-      last = still ∙ ap (λ (p : KeyPoint). moment_of p.flash) (sym served.last);
+      last = still ∙ ap (λ (p : KeyPoint). p.flash) (sym served.last);
       text = text;
       few = few_first its (mentions_in its (moment_of served.first.flash)) served.first cs
           served.replies served.points init.told served.begins.told served.run.runs;
@@ -176,7 +200,7 @@ module _ {F : Type 0} (state : F → FlashState) (its : Config) where
   pub untold : (init : FlashState) (cs : List KeyCommand) (c : KeyCommand) (r : KeyReply)
       (s t : KeySession F) (before between : List ℕ) (new : FlashState) →
       HasServed init cs s before between → ServesOne state its c s r t →
-      moment_of new ≡ moment_of (state (flash_in t)) →
+      new ≡ state (flash_in t) →
       ServesKeyRun its (cs ++ c ∷ []) (length cs) init new before between
   unfolding served_more
   untold init cs c r s t before between new served one still =
@@ -210,10 +234,12 @@ module _ {F : Type 0} (state : F → FlashState) (its : Config) where
       ServesScript its list init (state new) before after (Err failed.Memory)
   ended_untold init list at c r s t new before between after lt read served one is same =
       let run = untold init (take at list) c r s t before between (state new) served one
-      (ap (λ (f : F). moment_of (state f)) is) in
+      (ap state is) in
       inr (
         at,
-        omega arith,
+        lt,
+        state new,
+        nothing_done (state new),
         inr (subst (λ (x : List ℕ). ServesKeyRun its (take (at + 1) list) at init (state new) before x)
             (sym same)
             (subst (λ (cs : List KeyCommand).
@@ -232,13 +258,14 @@ module _ {F : Type 0} (state : F → FlashState) (its : Config) where
   ended_in init list at s t new why before after lt fits served ends is =
       let image = image_is s _ served.left fits served.stands in
       let memory = never_for its (state (flash_in s)) why image ends.cause in
-      let still = ap (λ (f : F). moment_of (state f)) is ∙ ends.still.still.moment in
-      let run = run_told init (take at list) s before after served (state new) still in
+      let run = run_told init (take at list) s before after served (state (flash_in s)) refl in
       subst (λ (w : KeyServeError). ServesScript its list init (state new) before after (Err w))
       (sym memory) (inr (
         at,
-        omega arith,
-        inl (subst (λ n. ServesKeyRun its (take at list) n init (state new) before after)
+        lt,
+        state (flash_in s),
+        subst (λ (f : F). StaysQuiet (state (flash_in s)) (state f)) (sym is) ends.still,
+        inl (subst (λ n. ServesKeyRun its (take at list) n init (state (flash_in s)) before after)
             (taken list at lt) run),
       ))
 
@@ -250,7 +277,7 @@ module _ {F : Type 0} (state : F → FlashState) (its : Config) where
   served_all init list at s new before after most served is =
       run_told init list s before after
       (subst (λ (cs : List KeyCommand). HasServed init cs s before after) (take_all at list most) served)
-      (state new) (ap (λ (f : F). moment_of (state f)) is)
+      (state new) (ap state is)
 
   -- where the image is another one
   pub refuses : (init : FlashState) (s : KeySession F) (new : FlashState) (why : KeyServeError) →
@@ -290,13 +317,14 @@ is_not_ok P (Err e) whole h = h
 
 -- ---- the image that is left
 
-run_keeps : (its : Config) (cs : List KeyCommand) (told : ℕ) (old new : FlashState)
-    (before after : List ℕ) → ServesKeyRun its cs told old new before after → IsKeyImage its new
-run_keeps its cs told old new before after serves =
+run_keeps : (its : Config) (cs : List KeyCommand) (told : ℕ) (old left new : FlashState)
+    (before after : List ℕ) → moment_of new ≡ moment_of left → ServesKeyRun its cs told old left before after →
+    IsKeyImage its new
+run_keeps its cs told old left new before after still serves =
     let p = last_is_point its (mentions_in its (moment_of serves.first.flash)) serves.first cs
     serves.replies serves.points serves.run.begins serves.run.runs in
     let same : (last_point serves.first serves.points).flash.image ≡ new.image =
-    sym (ap (λ (m : Moment). m.image) serves.last) in
+    sym (ap (λ (m : Moment). m.image) still ∙ ap (λ (s : FlashState). s.image) serves.last) in
     record {
       sound = subst (IsSoundImage its.protocol its.logical (shape_of its)) same p.sound;
       buckets = shown_buckets its (array_in its.protocol its.logical new.image)
@@ -310,7 +338,7 @@ pub script_keeps : (its : Config) (cs : List KeyCommand) (old new : FlashState)
     (before after : List ℕ) (r : Result (Unit {0}) KeyServeError) →
     IsKeyImage its old → ServesScript its cs old new before after r → IsKeyImage its new
 script_keeps its cs old new before after (Ok u) image serves =
-    run_keeps its cs (length cs) old new before after serves
+    run_keeps its cs (length cs) old new new before after refl serves
 script_keeps its cs old new before after (Err failed.Memory) image (inl none) = record {
   sound = subst (λ (x : Moment). IsSoundImage its.protocol its.logical (shape_of its) x.image)
       (sym none.still.still.moment) image.sound;
@@ -319,9 +347,10 @@ script_keeps its cs old new before after (Err failed.Memory) image (inl none) = 
 }
 script_keeps its cs old new before after (Err failed.Memory) image (inr some) =
     let told = some.0 in
-    elim some.2 [
-      | inl run ↦ run_keeps its (take told cs) told old new before after run
-      | inr run ↦ run_keeps its (take (told + 1) cs) told old new before after run
+    let moment = some.3.still.moment in
+    elim some.4 [
+      | inl run ↦ run_keeps its (take told cs) told old some.2 new before after moment run
+      | inr run ↦ run_keeps its (take (told + 1) cs) told old some.2 new before after moment run
     ]
 script_keeps its cs old new before after (Err (failed.Unsound law slot)) image serves = absurd serves
 script_keeps its cs old new before after (Err (failed.Bucket page)) image serves = absurd serves

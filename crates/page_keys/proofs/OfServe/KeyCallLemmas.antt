@@ -1,5 +1,5 @@
 -- What a put and a get of a store do, by their answers.
-use Rattle.page_keys.proofs.Common.{◌≡◌, ℕ, Bool, true, false, cond, ◌+◌, List, ◌++◌, length, take, drop, Option, Some, None, Err, refl, sym, ap, subst, ◌∙◌, inl, inr, shape_of, Config, Protocol, Shape, Carries, FlashState, Moment, moment_of, array_in, seen_flash, HoldsAlways, IsSeen, ArrayState, Pages, is_spent, take-append_seam, DeviceState, EncodesMap, KeyMap, apply, is_key_cut, is_key_fault, seen_after, DoesHere, PutGives, HasKeys, KeyStoreState, OnlyReads, PutError, Change, KeyReply}
+use Rattle.page_keys.proofs.Common.{◌≡◌, ℕ, Bool, true, false, cond, ◌+◌, List, ◌++◌, length, take, drop, Option, Some, None, Err, refl, sym, ap, subst, ◌∙◌, inl, inr, shape_of, Config, Protocol, Shape, Carries, FlashState, Moment, moment_of, array_in, seen_flash, HoldsAlways, IsSeen, ArrayState, Pages, is_spent, take-append_seam, DeviceState, EncodesMap, KeyMap, apply, put, put_writes, is_key_cut, is_key_fault, seen_after, DoesHere, PutGives, HasKeys, KeyStoreState, OnlyReads, PutError, Change, KeyReply}
 use Rattle.std.specs.FinMap.{get}
 use Rattle.flash_model.specs.Moves.{Moves}
 use Rattle.page_keys.specs.Entries.{GivesValue}
@@ -25,7 +25,7 @@ seen_get its key seen s r h = by (is_tried r)
     by false = record { mentions = h.mentions; names = h.names }
 
 module _ {F : Type 0} (state : F → FlashState) (protocol : Protocol) (old new : KeyStoreState F)
-    (always : HoldsAlways state protocol old.device) (cs : List Change) (m : KeyMap)
+    (always : HoldsAlways state protocol old.device) (closed : HasKeys old.device) (cs : List Change) (m : KeyMap)
     (shows : EncodesMap old.device.config old.device.machine.pages m) where
   moves_by : (broken : Bool) →
       Moves (state old.device.flash).shape (moment_of (state old.device.flash)) broken
@@ -36,13 +36,24 @@ module _ {F : Type 0} (state : F → FlashState) (protocol : Protocol) (old new 
       subst (λ (x : Shape). Moves x (moment_of (state old.device.flash)) broken
       (moment_of (state new.device.flash))) always.shape moves
 
+  -- nothing is open: the image has the array of the store
+  array_is : array_in old.device.config.protocol old.device.config.logical (state old.device.flash).image
+      ≡ old.device.machine.pages
+  array_is = stands_idle old.device.machine _ closed.closed always.array
+
+  -- the array after all changes
+  array_made : (array : Pages) → array ≡ put old.device.machine.pages (put_writes old.device.config m cs) →
+      array ≡ put (array_in old.device.config.protocol old.device.config.logical (state old.device.flash).image)
+      (put_writes old.device.config m cs)
+  array_made array is = is ∙ ap (λ (p : Pages). put p (put_writes old.device.config m cs)) (sym array_is)
+
   -- a put that was done
   pub stored_here : (n : ℕ) → n ≡ length cs → MakesAll state old new m cs →
       DoesHere state (command.Put cs) m old new (reply.Stored n)
   stored_here n count all = record {
     left = apply m cs;
     does = λ up. (
-      record { allowed = all.taken; keys = refl },
+      record { allowed = all.taken; keys = refl; array = array_made _ all.array },
       count,
       moves_by false all.moved.moves,
       all.written,
@@ -62,9 +73,18 @@ module _ {F : Type 0} (state : F → FlashState) (protocol : Protocol) (old new 
   broken_here any = elim any.left [
     | inl none ↦ record {
       left = m;
-      does = λ up. record { tried = any.tried; whole = inl refl; moves = moves_by true any.moved.moves };
+      does = λ up. record {
+        tried = any.tried;
+        whole = inl (
+          refl,
+          subst (λ (c : Config). array_in c.protocol c.logical (state new.device.flash).image
+              ≡ old.device.machine.pages) any.moved.config none.0 ∙ sym array_is,
+        );
+        first = any.first;
+        moves = moves_by true any.moved.moves;
+      };
       shows = λ h. cc;
-      image = λ h. none;
+      image = λ h. none.1;
       config = any.moved.config;
       carries = any.moved.carries;
       usable = λ h. cc;
@@ -75,11 +95,18 @@ module _ {F : Type 0} (state : F → FlashState) (protocol : Protocol) (old new 
       left = apply m cs;
       does = λ up. record {
         tried = any.tried;
-        whole = inr (record { allowed = all.0; keys = refl });
+        whole = inr (record {
+          allowed = all.0;
+          keys = refl;
+          array = array_made _
+              (subst (λ (c : Config). array_in c.protocol c.logical (state new.device.flash).image
+              ≡ put old.device.machine.pages (put_writes old.device.config m cs)) any.moved.config all.1);
+        });
+        first = any.first;
         moves = moves_by true any.moved.moves;
       };
       shows = λ h. cc;
-      image = λ h. all.1;
+      image = λ h. all.2;
       config = any.moved.config;
       carries = any.moved.carries;
       usable = λ h. cc;

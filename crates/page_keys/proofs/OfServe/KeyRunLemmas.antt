@@ -4,39 +4,43 @@ use Rattle.std.proofs.lemmas.List.Sums.{sum_by-cons}
 use Rattle.std.specs.Prelude.{MatchBool}
 use Rattle.array_runs.specs.Run.{MayBeSpent}
 use Rattle.page_keys.specs.KeyRuns.{KeyRun, DoesKeys, DoesCommand, IsDone, OpensFirst, IsKeySpent, AreFewBreaks, ChangesAtOnce, arms_key_cut, changes_in}
-use Rattle.page_keys.specs.KeyRuns.{is_key_break, is_stored, last_point}
+use Rattle.page_keys.specs.KeyRuns.{MentionsUpTo, is_key_break, is_stored, last_point, seen_next}
 use Rattle.page_keys.specs.declared.command.KeyCommand.TheVariants as command
 use Rattle.page_keys.specs.declared.key_reply.KeyReply.TheVariants as reply
 
 -- what may be mentioned after these commands
-abbrev pub seen_over : Config → (ℕ → ℕ) → List KeyCommand → List KeyReply → ℕ → ℕ
-seen_over its seen [] rs = seen
-seen_over its seen (c ∷ cs) [] = seen
-seen_over its seen (c ∷ cs) (r ∷ rs) = seen_over its (seen_after its seen c r) cs rs
+abbrev pub seen_over : Config → (ℕ → ℕ) → List KeyCommand → List KeyReply → List KeyPoint → ℕ → ℕ
+seen_over its seen [] rs ps = seen
+seen_over its seen (c ∷ cs) [] ps = seen
+seen_over its seen (c ∷ cs) (r ∷ rs) [] = seen
+seen_over its seen (c ∷ cs) (r ∷ rs) (p ∷ ps) = seen_over its (seen_next its seen c r p) cs rs ps
 
 module _ (its : Config) (c : KeyCommand) (r : KeyReply) (p : KeyPoint) where
   -- one command more
   pub run_more : (spent : ℕ → Bool) (seen : ℕ → ℕ) (old : KeyPoint) (cs : List KeyCommand)
       (rs : List KeyReply) (ps : List KeyPoint) → KeyRun its seen old cs rs ps →
-      MayBeSpent (seen_over its seen cs rs) spent → ServesKeys its spent c (last_point old ps) r p →
-      IsKeyPoint its p → KeyRun its seen old (cs ++ c ∷ []) (rs ++ r ∷ []) (ps ++ p ∷ [])
+      MayBeSpent (seen_over its seen cs rs ps) spent → ServesKeys its spent c (last_point old ps) r p →
+      IsKeyPoint its p × MentionsUpTo its (seen_after its (seen_over its seen cs rs ps) c r) p →
+      KeyRun its seen old (cs ++ c ∷ []) (rs ++ r ∷ []) (ps ++ p ∷ [])
   run_more spent seen old [] [] [] run may serves is = ((spent, may, serves), is, tt)
   run_more spent seen old [] [] (q ∷ ps) run may serves is = absurd run
   run_more spent seen old [] (s ∷ rs) ps run may serves is = absurd run
   run_more spent seen old (d ∷ cs) [] ps run may serves is = absurd run
   run_more spent seen old (d ∷ cs) (s ∷ rs) [] run may serves is = absurd run
   run_more spent seen old (d ∷ cs) (s ∷ rs) (q ∷ ps) run may serves is =
-      (run.0, run.1, run_more spent (seen_after its seen d s) q cs rs ps run.2 may serves is)
+      (run.0, run.1, run_more spent (seen_next its seen d s q) q cs rs ps run.2 may serves is)
 
   pub seen_more_over : (seen : ℕ → ℕ) (old : KeyPoint) (cs : List KeyCommand) (rs : List KeyReply)
       (ps : List KeyPoint) → KeyRun its seen old cs rs ps →
-      seen_over its seen (cs ++ c ∷ []) (rs ++ r ∷ []) ≡ seen_after its (seen_over its seen cs rs) c r
-  seen_more_over seen old [] [] ps run = refl
+      seen_over its seen (cs ++ c ∷ []) (rs ++ r ∷ []) (ps ++ p ∷ [])
+      ≡ seen_next its (seen_over its seen cs rs ps) c r p
+  seen_more_over seen old [] [] [] run = refl
+  seen_more_over seen old [] [] (q ∷ ps) run = absurd run
   seen_more_over seen old [] (s ∷ rs) ps run = absurd run
   seen_more_over seen old (d ∷ cs) [] ps run = absurd run
   seen_more_over seen old (d ∷ cs) (s ∷ rs) [] run = absurd run
   seen_more_over seen old (d ∷ cs) (s ∷ rs) (q ∷ ps) run =
-      seen_more_over (seen_after its seen d s) q cs rs ps run.2
+      seen_more_over (seen_next its seen d s q) q cs rs ps run.2
 
   pub last_more : (old : KeyPoint) (ps : List KeyPoint) → last_point old (ps ++ p ∷ []) ≡ p
   last_more old [] = refl
@@ -51,7 +55,7 @@ as_many its seen old [] (s ∷ rs) ps run = absurd run
 as_many its seen old (d ∷ cs) [] ps run = absurd run
 as_many its seen old (d ∷ cs) (s ∷ rs) [] run = absurd run
 as_many its seen old (d ∷ cs) (s ∷ rs) (q ∷ ps) run =
-    ap suc (as_many its (seen_after its seen d s) q cs rs ps run.2)
+    ap suc (as_many its (seen_next its seen d s q) q cs rs ps run.2)
 
 -- what a flash tells after a call, where it told this before
 pub told_after : (P : Told → Told → Type 0) (a b : Option Told) (t : Told) → a ≡ Some t →
@@ -91,7 +95,7 @@ few_breaks its seen old (d ∷ cs) (s ∷ rs) (q ∷ ps) t told run zero = (omeg
 few_breaks its seen old (d ∷ cs) (s ∷ rs) (q ∷ ps) t told run (suc j) =
     let apply = told_after (IsKeySpent d s) old.flash.told q.flash.told t told run.0.2.spends in
     few_step d s cs rs t apply.0 j apply.2
-    (few_breaks its (seen_after its seen d s) q cs rs ps apply.0 apply.1 run.2 j)
+    (few_breaks its (seen_next its seen d s q) q cs rs ps apply.0 apply.1 run.2 j)
 
 -- and so than were to come before the first point
 pub few_first : (its : Config) (seen : ℕ → ℕ) (first : KeyPoint) (cs : List KeyCommand)
@@ -118,9 +122,9 @@ taken its spent (command.Put cs) old new (reply.RefusedWide n) h = (inl h.1.keys
 taken its spent (command.Put cs) old new (reply.RefusedBucket p) h = (inl h.1.keys, λ s. cc)
 taken its spent (command.Put cs) old new (reply.RefusedSpent p) h = (inl h.1.keys, λ s. cc)
 taken its spent (command.Put cs) old new reply.Cut h =
-    (elim h.whole [ inl none ↦ inl none | inr all ↦ inr all.keys ], λ s. cc)
+    (elim h.whole [ inl none ↦ inl none.0 | inr all ↦ inr all.keys ], λ s. cc)
 taken its spent (command.Put cs) old new reply.Fault h =
-    (elim h.whole [ inl none ↦ inl none | inr all ↦ inr all.keys ], λ s. cc)
+    (elim h.whole [ inl none ↦ inl none.0 | inr all ↦ inr all.keys ], λ s. cc)
 taken its spent (command.Put cs) old new (reply.Value k v) h = absurd h
 taken its spent (command.Put cs) old new (reply.Absent k) h = absurd h
 taken its spent (command.Put cs) old new reply.Armed h = absurd h
@@ -187,7 +191,7 @@ at_once its seen old (d ∷ cs) [] ps run = absurd run
 at_once its seen old (d ∷ cs) (s ∷ rs) [] run = absurd run
 at_once its seen old (d ∷ cs) (s ∷ rs) (q ∷ ps) run =
     let one = taken_first its run.0.0 d old q s run.0.2.does in
-    (one.0, one.1, at_once its (seen_after its seen d s) q cs rs ps run.2)
+    (one.0, one.1, at_once its (seen_next its seen d s q) q cs rs ps run.2)
 
 -- a run ends at a point whose image is sound and shows its map
 pub last_is_point : (its : Config) (seen : ℕ → ℕ) (old : KeyPoint) (cs : List KeyCommand)
@@ -199,4 +203,4 @@ last_is_point its seen old [] (s ∷ rs) ps is run = absurd run
 last_is_point its seen old (d ∷ cs) [] ps is run = absurd run
 last_is_point its seen old (d ∷ cs) (s ∷ rs) [] is run = absurd run
 last_is_point its seen old (d ∷ cs) (s ∷ rs) (q ∷ ps) is run =
-    last_is_point its (seen_after its seen d s) q cs rs ps run.1 run.2
+    last_is_point its (seen_next its seen d s q) q cs rs ps run.1.0 run.2

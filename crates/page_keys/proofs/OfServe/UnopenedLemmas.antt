@@ -79,27 +79,23 @@ module _ {F : Type 0} (state : F → FlashState) (its : Config) where
           first = served.first;
           opened = served.opened;
           replies = served.replies ++ r ∷ [];
-          last = state (flash_in t);
           run = run_more;
-          still = nothing_done (state (flash_in t));
           text = served.text ∙ ap (λ (l : List KeyReply). before ++ key_texts l)
               (sym (ap (λ n. take n (served.replies ++ r ∷ [])) (sym count)
               ∙ take-append_seam served.replies (r ∷ [])));
         }
 
   -- all replies were told
-  all_told : (init : FlashState) (cs : List KeyCommand) (s : KeySession F) (before after : List ℕ)
-      (new : FlashState) → HasUnopened init cs s before after → StaysQuiet (state (flash_in s)) new →
-      ServesUnopenedRun its cs (length cs) init new before after
-  all_told init cs s before after new served still =
+  all_told : (init : FlashState) (cs : List KeyCommand) (s : KeySession F) (before after : List ℕ) →
+      HasUnopened init cs s before after →
+      ServesUnopenedRun its cs (length cs) init (state (flash_in s)) before after
+  all_told init cs s before after served =
       let count = unopened_many its served.first (state (flash_in s)) cs served.replies served.run in
       record {
         first = served.first;
         opened = served.opened;
         replies = served.replies;
-        last = state (flash_in s);
         run = served.run;
-        still = still;
         text = served.text ∙ ap (λ (l : List KeyReply). before ++ key_texts l)
             (sym (ap (λ n. take n served.replies) (sym count) ∙ take-length served.replies));
       }
@@ -127,11 +123,12 @@ module _ {F : Type 0} (state : F → FlashState) (its : Config) where
       let run = more_untold init (take at list) c r s t before between served one in
       inr (
         at,
-        omega arith,
+        lt,
+        state (flash_in t),
+        subst (λ (f : F). StaysQuiet (state (flash_in t)) (state f)) (sym is) (nothing_done (state (flash_in t))),
         inr (
           refl,
-          subst (λ (f : F). ServesUnopenedRun its (take (at + 1) list) at init (state f) before after) (sym is)
-              (subst (λ (x : List ℕ). ServesUnopenedRun its (take (at + 1) list) at init (state (flash_in t)) before x)
+          (subst (λ (x : List ℕ). ServesUnopenedRun its (take (at + 1) list) at init (state (flash_in t)) before x)
               (sym same)
               (subst (λ (cs : List KeyCommand).
               ServesUnopenedRun its cs at init (state (flash_in t)) before between)
@@ -148,12 +145,13 @@ module _ {F : Type 0} (state : F → FlashState) (its : Config) where
       StaysQuiet (state (flash_in s)) (state (flash_in t)) → new ≡ flash_in t →
       ServesUnopened its list init (state new) before after (Err why)
   unopened_in init list at s t new why before after lt served still is =
-      let run = all_told init (take at list) s before after (state new) served
-      (subst (λ (f : F). StaysQuiet (state (flash_in s)) (state f)) (sym is) still) in
+      let run = all_told init (take at list) s before after served in
       inr (
         at,
-        omega arith,
-        inl (subst (λ n. ServesUnopenedRun its (take at list) n init (state new) before after)
+        lt,
+        state (flash_in s),
+        subst (λ (f : F). StaysQuiet (state (flash_in s)) (state f)) (sym is) still,
+        inl (subst (λ n. ServesUnopenedRun its (take at list) n init (state (flash_in s)) before after)
             (taken list at lt) run),
       )
 
@@ -163,6 +161,6 @@ module _ {F : Type 0} (state : F → FlashState) (its : Config) where
       HasUnopened init (take at list) s before after → new ≡ flash_in s →
       ServesUnopened its list init (state new) before after (Ok tt)
   unopened_all init list at s new before after most served is =
-      all_told init list s before after (state new)
-      (subst (λ (cs : List KeyCommand). HasUnopened init cs s before after) (take_all at list most) served)
-      (subst (λ (f : F). StaysQuiet (state (flash_in s)) (state f)) (sym is) (nothing_done (state (flash_in s))))
+      subst (λ (f : F). ServesUnopenedRun its list (length list) init (state f) before after) (sym is)
+      (all_told init list s before after
+      (subst (λ (cs : List KeyCommand). HasUnopened init cs s before after) (take_all at list most) served))

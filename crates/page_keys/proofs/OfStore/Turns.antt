@@ -143,7 +143,7 @@ written_linked state known new asked writes stands =
 
 -- ---- the one transaction that is open
 
-abbrev entry_at : List PageWrite → ℕ → Entry
+abbrev pub entry_at : List PageWrite → ℕ → Entry
 entry_at ws k = record { tag = 0; writes = ws; done = k; mark = Plain }
 
 module _ {F : Type 0} (state : F → FlashState) (s : DeviceState F) (stands : Stands state s) where
@@ -156,7 +156,7 @@ module _ {F : Type 0} (state : F → FlashState) (s : DeviceState F) (stands : S
       by [] h = refl
       by (x ∷ xs) h = absurd h
 
-  one_named : (e : Entry) → s.machine.entries ≡ e ∷ [] → (x : Naming) × (s.namings ≡ x ∷ [])
+  pub one_named : (e : Entry) → s.machine.entries ≡ e ∷ [] → (x : Naming) × (s.namings ≡ x ∷ [])
   one_named e one =
       by s.namings (subst (λ (es : List Entry). AllZip (IsOpenAs (state s.flash).image s.noted) es s.namings)
       one stands.each)
@@ -167,7 +167,7 @@ module _ {F : Type 0} (state : F → FlashState) (s : DeviceState F) (stands : S
       by (x ∷ []) h = (x, refl)
       by (x ∷ y ∷ ys) h = absurd h.1
 
-  opened_as : (e : Entry) (x : Naming) → s.machine.entries ≡ e ∷ [] → s.namings ≡ x ∷ [] →
+  pub opened_as : (e : Entry) (x : Naming) → s.machine.entries ≡ e ∷ [] → s.namings ≡ x ∷ [] →
       IsOpenAs (state s.flash).image s.noted e x
   opened_as e x one named =
       (subst (λ (xs : List Naming). AllZip (IsOpenAs (state s.flash).image s.noted) (e ∷ []) xs) named
@@ -175,7 +175,7 @@ module _ {F : Type 0} (state : F → FlashState) (s : DeviceState F) (stands : S
       stands.each)).0
 
 -- its names stay
-same_names : (before after : Naming) (olds news : List Naming) → olds ≡ before ∷ [] → news ≡ after ∷ [] →
+pub same_names : (before after : Naming) (olds news : List Naming) → olds ≡ before ∷ [] → news ≡ after ∷ [] →
     All (λ (x : Naming). Any (λ (b : Naming). b.names ≡ x.names) olds) news → after.names ≡ before.names
 same_names before after olds news was is names =
     let some = All-head (λ (x : Naming). Any (λ (b : Naming). b.names ≡ x.names) olds) after []

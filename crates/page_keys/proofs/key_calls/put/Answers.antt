@@ -7,13 +7,15 @@ use Rattle.page_keys.proofs.key_calls.put.Goals as goal
 pub returns-in-Ok-clause-ok : goal.returns-in-Ok-clause-ok
 returns-in-Ok-clause-ok g c m shows =
     stored_here g.F.Flash.state g.R.CommitRule.protocol c.args.store.now c.put.new.self
-    c.config.ensures.always c.args.changes.now m shows _
+    c.config.ensures.always (c.config.ensures.keys c.requires.usable)
+    c.args.changes.now m shows _
     (ap length c.as_slice.ensures) (c.in-Ok.ensures.gives m shows)
 
 pub returns-in-Some-clause-ok : goal.returns-in-Some-clause-ok
 returns-in-Some-clause-ok g c m shows =
     put_here g.F.Flash.state g.R.CommitRule.protocol c.args.store.now c.put.new.self
-    c.config.ensures.always c.args.changes.now m shows c.in-Err.refusal c.in-Some.reply
+    c.config.ensures.always (c.config.ensures.keys c.requires.usable)
+    c.args.changes.now m shows c.in-Err.refusal c.in-Some.reply
     (c.in-Err.ensures.gives m shows)
     (ap (λ (cs : List Change). reply_of cs c.in-Err.refusal) (sym c.as_slice-in-Err.ensures)
     ∙ sym c.put_reply.ensures ∙ c.in-Some.is)
@@ -24,7 +26,8 @@ returns-in-None-clause-err g c =
     let pages = c.args.store.now.device.machine.pages in
     let shown = shows_some its pages (c.config.ensures.keys c.requires.usable).buckets in
     memory_here g.F.Flash.state g.R.CommitRule.protocol c.args.store.now c.put.new.self
-    c.config.ensures.always c.args.changes.now shown.0 shown.1 c.in-Err.refusal
+    c.config.ensures.always (c.config.ensures.keys c.requires.usable)
+    c.args.changes.now shown.0 shown.1 c.in-Err.refusal
     (c.in-Err.ensures.gives shown.0 shown.1)
     (ap (λ (cs : List Change). reply_of cs c.in-Err.refusal) (sym c.as_slice-in-Err.ensures)
     ∙ sym c.put_reply.ensures ∙ c.in-None.is)

@@ -8,9 +8,10 @@ use Rattle.judged_records.specs.Images.{records_in}
 use Rattle.judged_records.specs.IndexState.{mention_of}
 use Rattle.page_keys.specs.Writing.{seen_more}
 use Rattle.page_keys.proofs.OfStore.Mentions.{submitted_seen}
+use Rattle.page_keys.proofs.OfStore.BrokenTurns.{writes_first}
 use Rattle.page_keys.proofs.OfStore.Turns.{all_above, last_there, mentioned, seen_closed, turned, turning_first, turning_more}
 use Rattle.page_keys.proofs.writing.write.Answers.Steps.{wrote, done_writing, last_page}
-use Rattle.page_keys.proofs.writing.write.Answers.WriteSteps.{accepted, moved_nothing, moved_then, breaks_off, named_spent, some_write}
+use Rattle.page_keys.proofs.writing.write.Answers.WriteSteps.{accepted, array_done, moved_nothing, moved_then, breaks_off, named_spent, some_write}
 use Rattle.page_keys.proofs.writing.write.Goals as goal
 
 pub steps-preserved : goal.steps-preserved
@@ -61,6 +62,8 @@ returns-in-Ok-Done-clause-written g c =
     let always = c.standing_facts-in-Ok-Done.ensures.always in
     let stands = c.standing_facts-in-Ok-Done.ensures.stands in
     let sure = c.in-Ok-Done.ensures.sure in
+    let machine = done_writing old.machine.pages ws k new.machine _ steps in
+    let moved = moved_then state old prev new false i.moved exits in
     let last = last_page old.machine.pages ws k new.machine _ steps in
     let there = last_there state protocol old prev new ws k i.turning i.always always i.moved.config i.machine
     stands exits.tables exits.moves sure last c.in-Ok-Done.ensures.found c.in-Ok-Done.ensures.brings in
@@ -68,8 +71,9 @@ returns-in-Ok-Done-clause-written g c =
     exits_seen state protocol prev new (seen_more seen ws) i.always always exits.tables (i.seen seen h) in
     record {
       unspent = i.unspent;
-      machine = done_writing old.machine.pages ws k new.machine _ steps;
-      moved = moved_then state old prev new false i.moved exits;
+      machine = machine;
+      array = array_done state protocol old new ws always machine moved.config;
+      moved = moved;
       seen = seen;
       mentions = mentioned state protocol old prev new ws k i.turning i.always always i.moved.config i.machine
           stands exits.tables exits.moves sure i.less there last
@@ -84,13 +88,25 @@ returns-in-Err-step-clause-not_written g c =
     let i = c.steps.invariant.1 in
     let exits = c.in-Err-step.ensures.exits in
     let steps = c.in-Err-step.ensures.steps in
+    let state = g.F.Flash.state in
+    let protocol = g.R.CommitRule.protocol in
+    let old = c.args.device.now in
+    let prev = c.steps.device in
+    let new = c.step.new.self in
+    let ws = c.args.batch.now.entries in
+    let k = c.steps.invariant.0 in
+    let always = c.standing_facts-in-Err-step.ensures.always in
     breaks_off g.F.Flash.state c.args.device.now c.steps.device c.step.new.self
     c.args.batch.now.entries c.steps.invariant.0 (is_there g.F.Flash.state c.steps.device)
     c.in-Err-step.field-0
     (λ seen h. exits_seen g.F.Flash.state g.R.CommitRule.protocol c.steps.device
     c.step.new.self (seen_more seen c.args.batch.now.entries) i.always
-    c.device_facts.ensures.always exits.tables (i.seen seen h)) i.machine i.unspent i.moved
-    steps exits c.device_facts.ensures.always.array
+    always exits.tables (i.seen seen h)) i.machine i.unspent i.moved
+    steps exits always.array (all_above old.noted ws (records_in old.config.protocol (state old.flash).image)
+    i.turning.above)
+    (λ mark after fault. writes_first state protocol old prev new ws k i.turning i.less i.always always i.moved.config
+    i.machine c.standing_facts-in-Err-step.ensures.stands c.image_is_sound.ensures c.noting_keeps.ensures
+    c.in-Err-step.ensures.fresh fault mark after)
 
 pub spent_refusal-requires : goal.spent_refusal-requires
 spent_refusal-requires g c =

@@ -42,6 +42,22 @@ module _ (array : Pages) (writes : List PageWrite) (done : ℕ) (new : ArrayStat
   not_unknown true steps = steps
   not_unknown false steps = steps
 
+module _ (array : Pages) (writes : List PageWrite) (done : ℕ) (new : ArrayState) where
+  -- the transaction is open still
+  pub fault_marks : (there : Bool) → StepsAs there (writing array writes done) new 0 (Err failed.Fault) →
+      (mark : Mark)
+      × (new.entries ≡ record { tag = 0; writes = writes; done = done; mark = mark } ∷ [])
+  fault_marks true (inl h) = (Plain, ap (λ (s : ArrayState). s.entries) h)
+  fault_marks true (inr h) = elim h.1 [
+    | inl p ↦ (Plain, ap (λ (s : ArrayState). s.entries) p)
+    | inr p ↦ (Doubt, ap (λ (s : ArrayState). s.entries) p.1)
+  ]
+  fault_marks false (inl h) = (Plain, ap (λ (s : ArrayState). s.entries) h)
+  fault_marks false (inr h) = elim h.1 [
+    | inl p ↦ (Plain, ap (λ (s : ArrayState). s.entries) p)
+    | inr p ↦ (Doubt, ap (λ (s : ArrayState). s.entries) p.1)
+  ]
+
 -- what the image may have where one transaction is open
 only_one : (e x : Entry) (k : ℕ) → k < 1 → get_or (e ∷ []) k x ≡ x → e ≡ x
 only_one e x zero within is = is

@@ -1,5 +1,5 @@
 -- What the steps of a put keep of a device.
-use Rattle.page_keys.proofs.Common.{◌≡◌, ℕ, ◌<◌, length, arith, Bool, true, false, List, [], ◌∷◌, ◌++◌, if◌then◌else◌, Option, Some, None, Ok, Err, refl, sym, ap, subst, ◌∙◌, PageWrite, FlashState, Carries, moment_of, Carries-nothing, Carries-then, ArrayState, IsSeen, DeviceState, first_refusals, spent_page, SubmitError, array_in, Represents, is_spent, StepsAs, Moved, writing}
+use Rattle.page_keys.proofs.Common.{◌≡◌, ℕ, ◌<◌, length, arith, Config, Protocol, HoldsAlways, put, idle, Bool, true, false, List, [], ◌∷◌, ◌++◌, if◌then◌else◌, Option, Some, None, Ok, Err, refl, sym, ap, subst, ◌∙◌, PageWrite, FlashState, Carries, moment_of, Carries-nothing, Carries-then, ArrayState, IsSeen, DeviceState, first_refusals, spent_page, SubmitError, array_in, Represents, is_spent, StepsAs, Moved, writing}
 use Rattle.flash_model.proofs.MoveLemmas.{FlashMoves-nothing, FlashMoves-then}
 use Rattle.array_machine.specs.ArrayState.{Entry, new_entry}
 use Rattle.tx_engine.specs.Exits.{Exits}
@@ -8,8 +8,16 @@ use Rattle.array_machine.specs.declared.answers.SubmitError.TheVariants as submi
 use Rattle.tx_engine.specs.Exits.{is_step_fault}
 use Rattle.array_machine.specs.declared.answers.StepError.{StepError}
 use Rattle.array_machine.specs.declared.answers.StepError.TheVariants as failed
+use Rattle.std.specs.Prelude.{All, map}
+use Rattle.tx_types.specs.declared.record.Link.{Link}
+use Rattle.record_list.specs.Records.{mention}
+use Rattle.judged_records.specs.Images.{records_in}
+use Rattle.open_table.specs.OpenTransactionsState.{next_name}
+use Rattle.array_machine.specs.declared.mark.Mark.{Mark}
+use Rattle.page_keys.specs.BucketWrites.{WritesFirst}
 use Rattle.page_keys.specs.Writing.{Breaks, seen_more}
-use Rattle.page_keys.proofs.writing.write.Answers.Steps.{not_unknown, fault_leaves}
+use Rattle.page_keys.proofs.OfPut.PutGiven.{stands_idle}
+use Rattle.page_keys.proofs.writing.write.Answers.Steps.{not_unknown, fault_leaves, fault_marks}
 
 module _ {F : Type 0} (state : F → FlashState) where
   pub moved_nothing : (s t : DeviceState F) → t.config ≡ s.config → t.flash ≡ s.flash →
@@ -30,6 +38,16 @@ module _ {F : Type 0} (state : F → FlashState) where
     carries = Carries-then (state a.flash) (state b.flash) (state c.flash) broken first.carries second.carries;
   }
 
+-- at the end the image has the array with all writes
+pub array_done : {F : Type 0} (state : F → FlashState) (protocol : Protocol) (old new : DeviceState F)
+    (ws : List PageWrite) → HoldsAlways state protocol new → new.machine ≡ idle (put old.machine.pages ws) →
+    new.config ≡ old.config →
+    array_in old.config.protocol old.config.logical (state new.flash).image ≡ put old.machine.pages ws
+array_done state protocol old new ws always machine config =
+    let here = stands_idle new.machine _ (ap (λ (m : ArrayState). m.entries) machine) always.array in
+    subst (λ (c : Config). array_in c.protocol c.logical (state new.flash).image ≡ put old.machine.pages ws) config
+    (here ∙ ap (λ (m : ArrayState). m.pages) machine)
+
 -- a fault in a step leaves the array of the image, or that with all writes
 pub breaks_off : {F : Type 0} (state : F → FlashState) (old mid new : DeviceState F)
     (ws : List PageWrite) (k : ℕ) (there : Bool) (e : StepError) →
@@ -40,18 +58,26 @@ pub breaks_off : {F : Type 0} (state : F → FlashState) (old mid new : DeviceSt
     Exits state mid new (is_step_fault (Err e)) →
     Represents new.machine
     (array_in new.config.protocol new.config.logical (state new.flash).image) →
+    All (λ (name : Link). mention (records_in old.config.protocol (state old.flash).image) name.page < name.version)
+    (map (next_name old.noted) ws) →
+    ((mark : Mark) → new.machine.entries ≡ record { tag = 0; writes = ws; done = k; mark = mark } ∷ [] →
+    Exits state mid new true →
+    WritesFirst old.config (map (next_name old.noted) ws) (moment_of (state old.flash))
+    (moment_of (state new.flash))) →
     Breaks state old new ws
-breaks_off state old mid new ws k there failed.Unknown seen machine unspent moved steps exits stands =
+breaks_off state old mid new ws k there failed.Unknown seen machine unspent moved steps exits stands above first =
     absurd (not_unknown old.machine.pages ws k new.machine there
     (subst (λ (m : ArrayState). StepsAs there m new.machine 0 (Err failed.Unknown)) machine steps))
-breaks_off state old mid new ws k there failed.Fault seen machine unspent moved steps exits stands =
+breaks_off state old mid new ws k there failed.Fault seen machine unspent moved steps exits stands above first =
+    let fault = subst (λ (m : ArrayState). StepsAs there m new.machine 0 (Err failed.Fault)) machine steps in
+    let marks = fault_marks old.machine.pages ws k new.machine there fault in
     record {
       unspent = unspent;
       moved = moved_then state old mid new true moved exits;
       seen = seen;
-      left = fault_leaves old.machine.pages ws k new.machine _ stands there
-          (subst (λ (m : ArrayState). StepsAs there m new.machine 0 (Err failed.Fault)) machine
-          steps);
+      left = fault_leaves old.machine.pages ws k new.machine _ stands there fault;
+      above = above;
+      first = first marks.0 marks.1 exits;
     }
 
 -- only a spent page is named
