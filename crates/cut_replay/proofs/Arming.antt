@@ -1,5 +1,5 @@
 -- Commands that set an arm.
-use Rattle.cut_replay.proofs.Common.{◌≡◌, ℕ, ◌≤◌, Bool, true, false, ◌||◌, List, Ok, refl, sym, ap, ◌∙◌, subst, inr, arith, inl, MatchBool, Config, Protocol, shape_of, FlashState, Told, Moment, moment_of, mention, IsSoundImage, records_in, CachedPage, PageCacheState, DeviceState, Command, is_arm, seen_after, Point, IsPoint, IsArmed, ArmsFlash, DoesFlash, ServesFlash, RunState, first_state, IsSet, HoldsAlways, point_at, IsCachedAs, IsCached, flash_in, point_of, Fits, StandsAt, StandsMounted, IsSpentBy, ServesSession, CachesSession, Serves, DeviceSession}
+use Rattle.cut_replay.proofs.Common.{◌≡◌, ℕ, ◌≤◌, Bool, true, false, ◌||◌, List, Ok, refl, sym, ap, ◌∙◌, subst, inr, arith, inl, MatchBool, Config, Protocol, shape_of, FlashState, Told, Moment, moment_of, mention, IsSoundImage, records_in, CachedPage, PageCacheState, DeviceState, Command, Reply, is_arm, seen_after, Point, IsPoint, IsArmed, ArmsFlash, DoesFlash, ServesFlash, RunState, first_state, IsSet, HoldsAlways, point_at, IsCachedAs, IsCached, flash_in, point_of, Fits, StandsAt, StandsMounted, IsSpentBy, ServesSession, CachesSession, Serves, DeviceSession}
 use Rattle.std.proofs.lemmas.List.Elements.{All-weaker}
 use Rattle.std.proofs.lemmas.Bool.{or_parts}
 use Rattle.flash_model.specs.declared.outcome.Outcome.{Outcome}
@@ -9,7 +9,8 @@ use Rattle.host_protocol.specs.declared.reply.Reply.TheVariants as reply
 use Rattle.tx_engine.proofs.OfDevice.Seen.{seen_flash}
 use Rattle.mounted_session.proofs.Beginning.{sets_flash}
 use Rattle.cut_replay.specs.UnmountedRun.{FailsUnmounted, ServesUnmounted}
-use Rattle.cut_replay.specs.Sessions.{IsNotDropped, SetsArm, SetsArmHere, CachesFrom}
+use Rattle.cut_replay.specs.Sessions.{IsNotDropped, SetsArm, SetsArmHere, CachesFrom, CallsSession}
+use Rattle.cut_replay.specs.Mounted.{CallsDevice}
 use Rattle.mounted_session.specs.declared.session.Session.TheVariants as session
 use Rattle.cut_replay.proofs.Mountings.{point_flash}
 use Rattle.cut_replay.proofs.Followed.{always_point}
@@ -142,6 +143,20 @@ armed_unmounted its c old new arm h =
     subst (λ b. MatchBool b ((reply.Armed ≡ reply.Armed) × ArmsFlash c old new)
     (FailsUnmounted its old reply.Armed new)) (sym arm) (refl, h)
 
+-- an arm is none of these calls of a device
+arms_alone : {F : Type 0} (state : F → FlashState) (c : Command) (s t : DeviceState F) (r : Reply) → is_arm c ≡ true →
+    CallsDevice state c s t r
+arms_alone state (command.Step tag) s t r arm = (let no : false ≡ true = arm in absurd cc)
+arms_alone state command.StepAll s t r arm = (let no : false ≡ true = arm in absurd cc)
+arms_alone state command.Collect s t r arm = (let no : false ≡ true = arm in absurd cc)
+arms_alone state _ s t r arm = tt
+
+armed_calls : {F : Type 0} (state : F → FlashState) (c : Command) (old new : DeviceSession F) → is_arm c ≡ true →
+    CallsSession state c old reply.Armed new
+armed_calls state c (session.Mounted s) (session.Mounted t) arm = arms_alone state c s t reply.Armed arm
+armed_calls state c (session.Mounted s) (session.Unmounted flash) arm = tt
+armed_calls state c (session.Unmounted flash) new arm = tt
+
 armed_serves : {F : Type 0} (state : F → FlashState) (its : Config) (protocol : Protocol) (sets : Told → Told →
     Type 0) (entries : List CachedPage) (c : Command) (old new : DeviceSession F) →
     IsArming c sets → Fits state its entries old → SetsArm state protocol sets old new →
@@ -162,6 +177,7 @@ armed_serves state its protocol sets entries c old new arming fits h =
         point = armed_point state its protocol sets entries seen faulted old new h fits stands;
         stands = armed_stands state its protocol sets c seen faulted old new h stands;
       };
+      device = armed_calls state c old new arming.arm;
       kept = inr (still_armed sets (state (flash_in old)) (state (flash_in new)) flash);
       unsound = λ unsound. armed_unmounted its c (state (flash_in old)) (state (flash_in new)) arming.arm
           (arming.arms (state (flash_in old)) (state (flash_in new)) flash);

@@ -8,8 +8,9 @@ use Rattle.array_machine.specs.Submit.{is_of}
 use Rattle.tx_engine.proofs.OfDevice.Seen.{exits_seen}
 use Rattle.collector.specs.declared.unsure.Unsure.TheVariants as unsure
 use Rattle.array_runs.specs.Run.{is_opened, writes_in}
+use Rattle.cut_replay.specs.Costs.{CostsCommand, CostsStep}
 use Rattle.cut_replay.specs.FlashRun.{is_still, is_together}
-use Rattle.cut_replay.specs.Mounted.{MayHaveCut}
+use Rattle.cut_replay.specs.Mounted.{CallsDevice, MayHaveCut}
 
 -- what is seen at least is not less after a command
 seen_least : (b : Bool) (n k : ℕ) → n ≤ cond b (n + k) n
@@ -65,11 +66,16 @@ pub call_serves : {F : Type 0} (state : F → FlashState) (protocol : Protocol) 
     Tells old.config faulted (point_at state old) r (point_at state new)) →
     (old.unsure ≡ unsure.Nothing → is_fault r ≡ false → new.unsure ≡ unsure.Nothing) →
     (is_fault r ≡ true → MayHaveCut state c old new) →
-    ServesHere state c old new r
-call_serves state protocol c old new r broken was is tables ops carries breaks faults whole does still tells sure cut =
-    record {
+    CostsCommand old.config c old.machine r (moment_of (state old.flash)) (moment_of (state new.flash)) →
+    (old.unsure ≡ unsure.Nothing →
+    CostsStep old.config c old.machine (moment_of (state old.flash)) (moment_of (state new.flash))) →
+    CallsDevice state c old new r → ServesHere state c old new r
+call_serves state protocol c old new r broken was is tables ops carries breaks faults whole does still tells sure cut
+    costs direct device = record {
       config = tables.config;
       does = does;
+      costs = costs;
+      direct = direct;
       moves = record {
         moves = subst (λ (x : Shape). MovesTogether (is_together c) x (moment_of (state old.flash)) (is_break r)
             (moment_of (state new.flash))) was.shape
@@ -83,6 +89,7 @@ call_serves state protocol c old new r broken was is tables ops carries breaks f
       seen = λ seen h. seen_later seen c r new (exits_seen state protocol old new seen was is tables h);
       versions = tables.versions;
       cut = cut;
+      device = device;
       whole = whole;
     }
 
@@ -98,7 +105,10 @@ pub exits_serve : {F : Type 0} (state : F → FlashState) (protocol : Protocol) 
     Tells old.config faulted (point_at state old) r (point_at state new)) →
     (old.unsure ≡ unsure.Nothing → is_fault r ≡ false → new.unsure ≡ unsure.Nothing) →
     (is_fault r ≡ true → MayHaveCut state c old new) →
-    ServesHere state c old new r
+    CostsCommand old.config c old.machine r (moment_of (state old.flash)) (moment_of (state new.flash)) →
+    (old.unsure ≡ unsure.Nothing →
+    CostsStep old.config c old.machine (moment_of (state old.flash)) (moment_of (state new.flash))) →
+    CallsDevice state c old new r → ServesHere state c old new r
 exits_serve state protocol c old new r broken was is exits =
     call_serves state protocol c old new r broken was is exits.tables
     (together_of (is_together c) (state old.flash).shape (moment_of (state old.flash)) (moment_of (state new.flash))

@@ -1,7 +1,7 @@
 -- When a cut that was armed comes in a run.
-use Rattle.cut_replay.proofs.Common.{◌≡◌, inl, inr, ℕ, ◌+◌, ◌<◌, ◌≤◌, Bool, true, false, not, ◌||◌, List, [], ◌∷◌, Option, None, Some, refl, sym, ap, ◌∙◌, subst, arith, cases_Bool, MatchBool, Config, FlashState, Told, BothTell, Carries, Command, Reply, is_arm, is_break, is_cut, is_fault, seen_after, powered, ArmsFlash, ComesUp, Point, IsPoint, IsArmed, IsNotDone, IsLost, DoesFlash, ServesFlash, FlashRun, last_point}
+use Rattle.cut_replay.proofs.Common.{◌≡◌, NoMoreToCome, MountsFlash, Moment, moment_of, inl, inr, ℕ, ◌+◌, ◌<◌, ◌≤◌, Bool, true, false, not, ◌||◌, List, [], ◌∷◌, Option, None, Some, refl, sym, ap, ◌∙◌, subst, arith, cases_Bool, MatchBool, Config, FlashState, Told, BothTell, Carries, Command, Reply, is_arm, is_break, is_cut, is_fault, seen_after, powered, ArmsFlash, ComesUp, Point, IsPoint, IsArmed, IsNotDone, IsLost, DoesFlash, ServesFlash, FlashRun, last_point}
 use Rattle.std.proofs.Common.{zero, suc, ◌-◌, ◌^◌}
-use Rattle.std.specs.Prelude.{All, IsSomeAnd}
+use Rattle.std.specs.Prelude.{All, IsSome, IsSomeAnd}
 use Rattle.std.proofs.lemmas.List.Elements.{All-head, All-tail}
 use Rattle.flash_model.specs.declared.outcome.Arm.{Arm}
 use Rattle.flash_model.specs.declared.outcome.Outcome.{Outcome}
@@ -12,6 +12,7 @@ use Rattle.array_runs.specs.Breaks.{arms_cut}
 use Rattle.host_protocol.specs.declared.command.Command.TheVariants as command
 use Rattle.host_protocol.specs.declared.reply.Reply.TheVariants as reply
 use Rattle.cut_replay.specs.CutsDue.{CutIsDue}
+use Rattle.cut_replay.specs.FlashRun.{is_still}
 
 times_within : (n count : ℕ) → count + n < 2 ^ 64 → counted_times n count ≡ count + n
 times_within zero count within = omega arith
@@ -47,6 +48,10 @@ told_other : (sets : Told → Told → Type 0) → ((x y : Told) → sets x y �
 told_other sets keeps arm None b both is = absurd is
 told_other sets keeps arm (Some x) None both is = absurd both
 told_other sets keeps arm (Some x) (Some y) both is = keeps x y both ∙ is
+
+is_off : (r : Reply) (live : Bool) → is_cut r ≡ not live → r ≡ reply.Cut → live ≡ false
+is_off r true cut is = (let no : true ≡ false = ap is_cut (sym is) ∙ cut in absurd cc)
+is_off r false cut is = refl
 
 module _ (due : ℕ) (what : Outcome) (small : due < 2 ^ 64) where
   set_other : (sets : Told → Told → Type 0) → ((x y : Told) → sets x y → y.cut ≡ x.cut) → (old new : FlashState) →
@@ -147,55 +152,63 @@ module _ (due : ℕ) (what : Outcome) (small : due < 2 ^ 64) where
   by_reply r true cut uncut = refl
   by_reply r false cut uncut = (let no : false ≡ true = sym uncut ∙ cut in absurd cc)
 
-  cut_off : (r : Reply) (live : Bool) → is_cut r ≡ not live → r ≡ reply.Cut → live ≡ false
-  cut_off r true cut is = (let no : true ≡ false = ap is_cut (sym is) ∙ cut in absurd cc)
-  cut_off r false cut is = refl
+  -- a mount starts nothing, so power stays on in it
+  mount_live : (up : Bool) (met new : FlashState) → Carries (powered met) new (not up) →
+      new.started ≡ met.started → CutIsDue due what met → new.live ≡ true
+  mount_live true met new carries same is = carries.lives
+  mount_live false met new carries same is = elim (cases_Bool new.live) [
+    | inl on ↦ on
+    | inr off ↦ (
+        let at = goes_off (powered met) new carries refl off (powered_due met is) in
+        let later = is.later in
+        absurd (omega (arith, at, same, later)))
+  ]
 
   does_due : (its : Config) (spent : ℕ → Bool) (faulted : Bool) (c : Command) (old : Point) (r : Reply) (new : Point) →
-      IsPoint its old → DoesFlash its spent faulted c old r new → is_cut r ≡ false → new.flash.live ≡ true →
+      IsPoint its old → DoesFlash its spent faulted c old r new → is_cut r ≡ false →
       CutIsDue due what old.flash → CutIsDue due what new.flash
-  does_due its spent faulted c old r new point (inl h) uncut on is =
-      stays_due true (powered old.flash) new.flash h.mounts.carries refl on (powered_due old.flash is)
-  does_due its spent faulted c old r new point (inr (inl h)) uncut on is =
+  does_due its spent faulted c old r new point (inl h) uncut is =
+      stays_due true (powered old.flash) new.flash h.mounts.carries refl (by_reply r new.flash.live h.cut uncut)
+      (powered_due old.flash is)
+  does_due its spent faulted c old r new point (inr (inl h)) uncut is =
       let first = comes_up its old.state.up old.flash h.first h.mounts point.live is in
-      stays_due (is_break r) h.first new.flash h.calls first.0 on first.1
-  does_due its spent faulted c old r new point (inr (inr h)) uncut on is =
+      stays_due (is_break r) h.first new.flash h.calls first.0 h.live first.1
+  does_due its spent faulted c old r new point (inr (inr h)) uncut is =
       let lost = h.1 in
       let first = comes_up its old.state.up old.flash lost.first lost.mounts point.live is in
       let met = stays_due true lost.first h.0 lost.calls first.0 (by_reply r (h.0).live lost.cut uncut) first.1 in
-      stays_due (not new.state.up) (powered h.0) new.flash h.2.carries refl on (powered_due h.0 met)
+      stays_due (not new.state.up) (powered h.0) new.flash h.2.carries refl
+      (mount_live new.state.up h.0 new.flash h.2.carries h.2.started met) (powered_due h.0 met)
 
   serves_due : (its : Config) (spent : ℕ → Bool) (faulted : Bool) (c : Command) (old : Point) (r : Reply)
       (new : Point) → IsPoint its old → ServesFlash its spent faulted c old r new → arms_cut c ≡ false →
-      is_cut r ≡ false → new.flash.live ≡ true → CutIsDue due what old.flash → CutIsDue due what new.flash
-  serves_due its spent faulted c old r new point h other uncut on is = elim (cases_Bool (is_arm c)) [
+      is_cut r ≡ false → CutIsDue due what old.flash → CutIsDue due what new.flash
+  serves_due its spent faulted c old r new point h other uncut is = elim (cases_Bool (is_arm c)) [
     | inl arm ↦ (
         let set : IsArmed c old r new =
         subst (λ b. MatchBool b (IsArmed c old r new) (DoesFlash its spent faulted c old r new)) arm h in
         other_arms c old.flash new.flash set.arms other is)
     | inr none ↦ does_due its spent faulted c old r new point
         (subst (λ b. MatchBool b (IsArmed c old r new) (DoesFlash its spent faulted c old r new)) none h)
-        uncut on is
+        uncut is
   ]
 
   -- ---- a run
 
   pub waits_in_run : (its : Config) (seen : ℕ → ℕ) (faulted : Bool) (old : Point) (cs : List Command)
       (rs : List Reply) (ps : List Point) → IsPoint its old → FlashRun its seen faulted old cs rs ps →
-      All (λ c. arms_cut c ≡ false) cs → All (λ r. is_cut r ≡ false) rs → All (λ p. p.flash.live ≡ true) ps →
+      All (λ c. arms_cut c ≡ false) cs → All (λ r. is_cut r ≡ false) rs →
       CutIsDue due what old.flash → CutIsDue due what (last_point old ps).flash
-  waits_in_run its seen faulted old [] [] [] point run others uncut on is = is
-  waits_in_run its seen faulted old [] [] (q ∷ ps) point run others uncut on is = absurd run
-  waits_in_run its seen faulted old [] (s ∷ rs) ps point run others uncut on is = absurd run
-  waits_in_run its seen faulted old (d ∷ cs) [] ps point run others uncut on is = absurd run
-  waits_in_run its seen faulted old (d ∷ cs) (s ∷ rs) [] point run others uncut on is = absurd run
-  waits_in_run its seen faulted old (d ∷ cs) (s ∷ rs) (q ∷ ps) point run others uncut on is =
+  waits_in_run its seen faulted old [] [] [] point run others uncut is = is
+  waits_in_run its seen faulted old [] [] (q ∷ ps) point run others uncut is = absurd run
+  waits_in_run its seen faulted old [] (s ∷ rs) ps point run others uncut is = absurd run
+  waits_in_run its seen faulted old (d ∷ cs) [] ps point run others uncut is = absurd run
+  waits_in_run its seen faulted old (d ∷ cs) (s ∷ rs) [] point run others uncut is = absurd run
+  waits_in_run its seen faulted old (d ∷ cs) (s ∷ rs) (q ∷ ps) point run others uncut is =
       let next = serves_due its run.0.0 faulted d old s q point run.0.2
-      (All-head (λ c. arms_cut c ≡ false) d cs others) (All-head (λ r. is_cut r ≡ false) s rs uncut)
-      (All-head (λ (p : Point). p.flash.live ≡ true) q ps on) is in
-      waits_in_run its (seen_after seen d s) (faulted || is_fault s) q cs rs ps run.1 run.2
-      (All-tail (λ c. arms_cut c ≡ false) d cs others) (All-tail (λ r. is_cut r ≡ false) s rs uncut)
-      (All-tail (λ (p : Point). p.flash.live ≡ true) q ps on) next
+      (All-head (λ c. arms_cut c ≡ false) d cs others) (All-head (λ r. is_cut r ≡ false) s rs uncut) is in
+      waits_in_run its (seen_after seen d s) (faulted || is_fault s) q cs rs ps run.1.0 run.2
+      (All-tail (λ c. arms_cut c ≡ false) d cs others) (All-tail (λ r. is_cut r ≡ false) s rs uncut) next
 
   -- ---- the command in which it comes
 
@@ -203,10 +216,70 @@ module _ (due : ℕ) (what : Outcome) (small : due < 2 ^ 64) where
       IsPoint its old → IsLost its c old r met new → r ≡ reply.Cut → CutIsDue due what old.flash → met.started ≡ due
   comes_in_calls its c old r met new point lost cut is =
       let first = comes_up its old.state.up old.flash lost.first lost.mounts point.live is in
-      goes_off lost.first met lost.calls first.0 (cut_off r met.live lost.cut cut) first.1
+      goes_off lost.first met lost.calls first.0 (is_off r met.live lost.cut cut) first.1
 
-  pub comes_in_mount : (its : Config) (old : Point) (r : Reply) (new : Point) →
-      IsNotDone its old r new → r ≡ reply.Cut → CutIsDue due what old.flash → new.flash.started ≡ due
-  comes_in_mount its old r new h cut is =
-      goes_off (powered old.flash) new.flash h.mounts.carries refl (cut_off r new.flash.live h.cut cut)
-      (powered_due old.flash is)
+-- ---- where nothing is started no cut comes, whatever is armed
+
+no_start : (n a b : ℕ) → b ≡ counted_times n a → b ≡ a → a + 1 < 2 ^ 64 → n ≡ 0
+no_start zero a b is same small = refl
+no_start (suc n) a b is same small = absurd (omega (arith, is, same, small))
+
+none_comes : (n : ℕ) (old new : Option Arm) → n ≡ 0 → Comes n old new → ⊥
+none_comes n None new none comes = comes
+none_comes n (Some arm) new none comes =
+    let at : n ≡ number arm.count = comes.0 in
+    absurd (omega (arith, at, none))
+
+no_cut : (n m : ℕ) (a b : Option Told) → IsSome a → n ≡ 0 → BothTell (ComesTo true false n m) a b → ⊥
+no_cut n m None b tells none both = (let no : false ≡ true = tells in cc)
+no_cut n m (Some x) None tells none both = both
+no_cut n m (Some x) (Some y) tells none both = none_comes n x.cut y.cut none both.0
+
+stays_on : (old new : FlashState) → Carries old new true → old.live ≡ true → new.live ≡ false → IsSome old.told →
+    new.started ≡ old.started → old.started + 1 < 2 ^ 64 → ⊥
+stays_on old new carries on off tells same small =
+    let starts = carries.starts on in
+    no_cut starts.0 starts.1 old.told new.told tells (no_start starts.0 old.started new.started starts.2 same small)
+    (subst (λ l. BothTell (ComesTo true l starts.0 starts.1) old.told new.told) off starts.4)
+
+-- so a mount does not end in a cut
+pub mounts_uncut : (its : Config) (old : Point) (r : Reply) (new : Point) → IsNotDone its old r new →
+    IsSome old.flash.told → old.flash.started + 1 < 2 ^ 64 → r ≡ reply.Cut → ⊥
+mounts_uncut its old r new h tells small cut =
+    stays_on (powered old.flash) new.flash h.mounts.carries refl (is_off r new.flash.live h.cut cut) tells
+    h.mounts.started small
+
+-- the flash on which the calls of a command begin
+record IsBegun (old first : FlashState) : Type 0 where
+  live : first.live ≡ true
+  tells : IsSome old.told → IsSome first.told
+  started : first.started ≡ old.started
+
+still_tells : (P : Told → Told → Type 0) (a b : Option Told) → BothTell P a b → IsSome a → IsSome b
+still_tells P None b both tells = (let no : false ≡ true = tells in absurd cc)
+still_tells P (Some x) None both tells = absurd both
+still_tells P (Some x) (Some y) both tells = refl
+
+begun_on : (its : Config) (up : Bool) (old first : FlashState) → ComesUp its up old first →
+    (up ≡ true → old.live ≡ true) → IsBegun old first
+begun_on its true old first h on = record {
+  live = ap (λ (s : FlashState). s.live) h ∙ on refl;
+  tells = λ tells. subst (λ (s : FlashState). IsSome s.told) (sym h) tells;
+  started = ap (λ (s : FlashState). s.started) h;
+}
+begun_on its false old first h on = record {
+  live = h.carries.lives;
+  tells = still_tells NoMoreToCome old.told first.told h.carries.no_more;
+  started = h.started;
+}
+
+-- nor does a command that asks for no program and no erase
+pub still_uncut : (its : Config) (c : Command) (old : Point) (r : Reply) (met : FlashState) (new : Point) →
+    IsPoint its old → IsLost its c old r met new → MountsFlash its new.state.up met new.flash → is_still c ≡ true →
+    IsSome old.flash.told → old.flash.started + 1 < 2 ^ 64 → r ≡ reply.Cut → ⊥
+still_uncut its c old r met new point lost mounts still tells small cut =
+    let first = begun_on its old.state.up old.flash lost.first lost.mounts point.live in
+    let moment : moment_of met ≡ moment_of old.flash = sym mounts.moment ∙ lost.moves.still still in
+    let none : met.started ≡ (lost.first).started = ap (λ (m : Moment). m.started) moment ∙ sym first.started in
+    stays_on lost.first met lost.calls first.live (is_off r met.live lost.cut cut) (first.tells tells) none
+    (subst (λ n. n + 1 < 2 ^ 64) (sym first.started) small)

@@ -7,10 +7,11 @@ use Rattle.judged_records.specs.IndexState.{mention_of}
 use Rattle.tx_engine.proofs.OfDevice.Seen.{image_seen}
 use Rattle.host_protocol.specs.declared.reply.Reply.TheVariants as reply
 use Rattle.array_runs.specs.Run.{MayBeSpent}
-use Rattle.cut_replay.specs.Mounted.{CachesCommand}
+use Rattle.cut_replay.specs.Mounted.{CachesCommand, CallsDevice}
 use Rattle.cut_replay.specs.Sessions.{FitsMounted}
 use Rattle.cut_replay.specs.Sessions.{Follows, left}
 use Rattle.mounted_session.specs.declared.session.Session.TheVariants as session
+use Rattle.cut_replay.proofs.CommandCosts.{cut_costs}
 use Rattle.cut_replay.proofs.Losing.{Sessions, FitsAfter, ServesAfter, EndsAfter, CachesAfter, WasLost, served_no_arm, again_serves, again_ends, again_fits}
 use Rattle.cut_replay.proofs.Losing.{again_caches, no_arm_caches}
 use Rattle.cut_replay.proofs.Spending.{is_its_fault}
@@ -50,6 +51,8 @@ done_in state protocol c s t r seen faulted no_arm on h always stands = record {
         does = h.does;
         up = refl;
         moves = h.moves;
+        costs = h.costs;
+        direct = λ whole. h.direct (stands.sure whole);
         tells = h.tells faulted stands.sure;
         first = state s.flash;
         mounts = refl;
@@ -137,6 +140,7 @@ went_serves : {F : Type 0} (state : F → FlashState) (c : Command) (s t : Devic
 went_serves state c s t r entries w on = record {
   in_run = λ seen faulted stands. done_in state s.config.protocol c s t r seen faulted w.no_arm on w.here
       w.always stands;
+  device = subst (λ b. MatchBool b (Unit {0}) (CallsDevice state c s t r)) (sym w.here.whole) w.here.device;
   kept = inl (w.sound, sound_here state c s t r entries w);
   unsound = λ unsound. absurd (unsound w.sound);
   faults = live_counts r (state s.flash) (state t.flash) w.here.whole w.here.carries;
@@ -180,6 +184,7 @@ cut_lost state c s t r entries w off =
           (image_seen state its.protocol seen t page w.always (here.seen seen is)
           (subst (λ (x : Config). page < x.logical) (sym here.config) lt));
       moves = cut_moves its c (moment_of (state s.flash)) (moment_of (state t.flash)) here.moves;
+      costs = cut_costs its c s.machine (moment_of (state s.flash)) (moment_of (state t.flash)) here.costs;
       carries = here.carries;
       cut = ap not (sym off);
     }

@@ -1,4 +1,8 @@
 mod Common
+pub mod Counting
+pub mod CollectionCosts
+pub mod StepBlocks
+pub mod CommandCosts
 pub mod Devices
 pub mod Single
 pub mod Telling

@@ -1,6 +1,7 @@
 -- A command that mounts the device first.
 use Rattle.cut_replay.proofs.Common.{◌≡◌, ◌⊎◌, ℕ, ◌≤◌, Bool, true, false, not, [], Result, Ok, Err, refl, sym, ap, ◌∙◌, subst, inl, inr, arith, MatchBool, Config, Shape, checked, shape_of, FlashState, Rose, Moment, moment_of, mention, IsSoundImage, records_in, ArrayState, DeviceState, limits_of, Command, Reply, DoesCommand, MayLose, CutLeavesOf, is_arm, seen_after, Point, IsArmed, IsDone, IsLost, DoesFlash, ArmsFlash, ComesUp, MountsFlash, MovesBy, ServesFlash, Tells, first_point, first_state, is_cut, CountsBreak, point_at, MomentStays, PageCacheState, flash_in, point_of, StandsMounted, ServesIn, ServesSession, IsSoundOrSame, EndsServing, MountsIn, Mounted, Unmounted, CachesSession, Fits, Serves, ServeError, DeviceSession}
 use Rattle.host_protocol.specs.declared.reply.Reply.TheVariants as reply
+use Rattle.cut_replay.specs.Costs.{CostsCommand, CostsStep}
 use Rattle.cut_replay.specs.FlashRun.{HasErased}
 use Rattle.mounted_session.specs.Sessions.{is_mounted}
 use Rattle.cut_replay.specs.Sessions.{MeetsOne, StandsUnmounted}
@@ -22,6 +23,18 @@ tells_from its faulted a b _ new same h = h
 moves_from : (its : Config) (c : Command) (r : Reply) (a b new : Moment) → b ≡ a → MovesBy its c r a new →
     MovesBy its c r b new
 moves_from its c r a b new same h = subst (λ (m : Moment). MovesBy its c r m new) (sym same) h
+
+costs_from : (its : Config) (c : Command) (r : Reply) (s t : ArrayState) (a b new : Moment) → t ≡ s → b ≡ a →
+    CostsCommand its c s r a new → CostsCommand its c t r b new
+costs_from its c r s t a b new machine moment h =
+    subst (λ (x : ArrayState). CostsCommand its c x r b new) (sym machine)
+    (subst (λ (m : Moment). CostsCommand its c s r m new) (sym moment) h)
+
+step_from : (its : Config) (c : Command) (s t : ArrayState) (a b new : Moment) → t ≡ s → b ≡ a →
+    CostsStep its c s a new → CostsStep its c t b new
+step_from its c s t a b new machine moment h =
+    subst (λ (x : ArrayState). CostsStep its c x b new) (sym machine)
+    (subst (λ (m : Moment). CostsStep its c s m new) (sym moment) h)
 
 -- the device of the first point was mounted on the flash of the other one
 record IsMountedFrom (its : Config) (a b : Point) : Type 0 where
@@ -45,6 +58,10 @@ done_from its spent faulted c a b r new from h = record {
   up = h.up;
   moves = moves_from its c r (moment_of a.flash) (moment_of b.flash) (moment_of new.flash) (sym from.mounts.moment)
       h.moves;
+  costs = costs_from its c r a.state.machine b.state.machine (moment_of a.flash) (moment_of b.flash)
+      (moment_of new.flash) from.machine (sym from.mounts.moment) h.costs;
+  direct = λ whole. step_from its c a.state.machine b.state.machine (moment_of a.flash) (moment_of b.flash)
+      (moment_of new.flash) from.machine (sym from.mounts.moment) (h.direct whole);
   tells = tells_from its faulted a b r new (sym from.mounts.moment) h.tells;
   first = h.first;
   mounts = comes_from its a b h.first from h.mounts;
@@ -62,6 +79,8 @@ lost_from its c a b r met new from h = record {
   );
   moves = moves_from its c r (moment_of a.flash) (moment_of b.flash) (moment_of new.flash) (sym from.mounts.moment)
       h.moves;
+  costs = costs_from its c r a.state.machine b.state.machine (moment_of a.flash) (moment_of b.flash)
+      (moment_of new.flash) from.machine (sym from.mounts.moment) h.costs;
   first = h.first;
   mounts = comes_from its a b h.first from h.mounts;
   calls = h.calls;
@@ -133,6 +152,7 @@ lifted_serves : {F : Type 0} (state : F → FlashState) (its : Config) (flash : 
     ServesSession state its c (session.Unmounted flash) r new
 lifted_serves state its flash t c r new no_arm mounts h = record {
   in_run = lifted_run state its flash t c r new no_arm mounts h.in_run;
+  device = tt;
   kept = sound_or_same_from its (state flash) (state t.flash) (state (flash_in new)) mounts.still.moment h.kept;
   unsound = λ unsound. absurd (unsound (subst
       (λ (m : Moment). IsSoundImage its.protocol its.logical (shape_of its) m.image) mounts.still.moment
@@ -253,6 +273,7 @@ not_done_serves {F = F} state its c flash new r no_arm h is =
               (stands.mentions page lt));
         };
       };
+      device = tt;
       kept = inr h.still.moment;
       unsound = λ unsound. subst (λ b. MatchBool b ((r ≡ reply.Armed) × ArmsFlash c (state flash) (state new))
           (FailsUnmounted its (state flash) r (state new))) (sym no_arm) (record {

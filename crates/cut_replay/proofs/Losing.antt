@@ -2,7 +2,9 @@
 use Rattle.cut_replay.proofs.Common.{◌≡◌, ℕ, ◌<◌, ◌≤◌, Bool, true, false, not, ◌||◌, List, [], Result, Ok, Err, refl, sym, ap, ◌∙◌, subst, inl, inr, arith, MatchBool, IfOk, Config, Shape, checked, shape_of, FlashState, Rose, Carries, Moment, moment_of, mention, IsSoundImage, array_in, records_in, PageCacheState, CachedPage, ArrayState, idle, DeviceState, Command, Reply, CutLeavesOf, MayLose, is_arm, is_break, seen_after, Point, IsArmed, IsLost, DoesFlash, MovesBy, ServesFlash, is_cut, is_fault, is_lost, CountsBreak, IsSeen, point_at, flash_in, point_of, IsSoundFlash, Fits, StandsMounted, IsSoundOrSame, ServesIn, ServesSession, EndsServing, Mounted, Unmounted, CachesSession, ServeError, DeviceSession, sound_unbroken}
 use Rattle.std.specs.Prelude.{IfErr}
 use Rattle.host_protocol.specs.declared.reply.Reply.TheVariants as reply
-use Rattle.cut_replay.specs.Sessions.{MountsAgain, CachesServed}
+use Rattle.cut_replay.specs.Costs.{CostsCommand}
+use Rattle.cut_replay.specs.Sessions.{MountsAgain, CachesServed, CallsSession}
+use Rattle.cut_replay.specs.Mounted.{CallsDevice}
 use Rattle.cut_replay.specs.declared.serving.ServeError.TheVariants as failed
 use Rattle.mounted_session.specs.declared.session.Session.TheVariants as session
 use Rattle.cut_replay.proofs.Devices.{seen_at}
@@ -50,6 +52,7 @@ pub record WasLost {F : Type 0} (state : F → FlashState) (its : Config) (c : C
   pub most : (seen : ℕ → ℕ) → IsSeen seen s → (page : ℕ) → page < its.logical →
       mention (records_in its.protocol (state flash).image) page ≤ seen page
   pub moves : MovesBy its c r (moment_of (state s.flash)) (moment_of (state flash))
+  pub costs : CostsCommand its c s.machine r (moment_of (state s.flash)) (moment_of (state flash))
   pub carries : Carries (state s.flash) (state flash) true
   pub cut : is_cut r ≡ not (state flash).live
 
@@ -74,6 +77,8 @@ lost_at state its c s flash r after w leaves = record {
   );
   moves = subst (λ (m : Moment). MovesBy its c r (moment_of (state s.flash)) m)
       (sym (mounted_moment state its flash after leaves)) w.moves;
+  costs = subst (λ (m : Moment). CostsCommand its c s.machine r (moment_of (state s.flash)) m)
+      (sym (mounted_moment state its flash after leaves)) w.costs;
   first = state s.flash;
   mounts = refl;
   calls = w.carries;
@@ -129,6 +134,13 @@ lost_by state its c s flash r after w leaves =
       extras = still.extras ∙ w.carries.extras;
     }
 
+-- nothing is said of its call then
+lost_calls : {F : Type 0} (state : F → FlashState) (c : Command) (s : DeviceState F) (r : Reply)
+    (after : DeviceSession F) → is_lost r ≡ true → CallsSession state c (session.Mounted s) r after
+lost_calls state c s r (session.Mounted t) lost =
+    subst (λ b. MatchBool b (Unit {0}) (CallsDevice state c s t r)) (sym lost) tt
+lost_calls state c s r (session.Unmounted flash) lost = tt
+
 lost_serves : {F : Type 0} (state : F → FlashState) (its : Config) (c : Command) (s : DeviceState F) (flash : F)
     (r : Reply) (after : DeviceSession F) →
     WasLost state its c s flash r → Mounted state its flash after →
@@ -137,6 +149,7 @@ lost_serves state its c s flash r after w mounted =
     let by = lost_by state its c s flash r after w (mounted_leaves state its flash after mounted) in
     record {
       in_run = λ seen faulted stands. lost_in state its c s flash r after seen faulted w stands mounted;
+      device = lost_calls state c s r after w.lost;
       kept = by.kept;
       unsound = λ unsound. absurd (unsound w.before);
       faults = lost_counts r (state s.flash).faults (state (flash_in after)).faults w.lost by.faults;

@@ -10,7 +10,7 @@ use Rattle.std.proofs.lemmas.List.{take_all, take-append-le}
 use Rattle.std.proofs.lemmas.List.Sums.{sum_by_push}
 use Rattle.list_lemmas.proofs.Quantifiers.{all_left, all_right}
 use Rattle.array_runs.specs.Run.{MayBeSpent}
-use Rattle.cut_replay.specs.FlashRun.{last_moment}
+use Rattle.cut_replay.specs.FlashRun.{MentionsUpTo, last_moment}
 use Rattle.cut_replay.specs.ServerRuns.{seen_through, faulted_through}
 use Rattle.cut_replay.specs.Watching.{text_of_all, replies_told}
 use Rattle.cut_replay.specs.Bounds.{AreSpent, SpendsTold, LastIsSet}
@@ -20,7 +20,7 @@ use Rattle.mounted_session.proofs.Telling.{both_tell, weaker_told}
 -- one command more
 abbrev pub GoesOn : Config → (ℕ → ℕ) → Bool → Command → Point → Reply → Point → Type 0
 GoesOn its seen faulted c old r new = ((spent : ℕ → Bool) × MayBeSpent seen spent
-    × ServesFlash its spent faulted c old r new) × IsPoint its new
+    × ServesFlash its spent faulted c old r new) × (IsPoint its new × MentionsUpTo its (seen_after seen c r) new)
 
 pub run_more : (its : Config) (seen : ℕ → ℕ) (faulted : Bool) (old : Point) (cs : List Command) (rs : List Reply)
     (ps : List Point) (c : Command) (r : Reply)

@@ -30,7 +30,7 @@ pub serves_next : {F : Type 0} (state : F → FlashState) (its : Config) (c : Co
 serves_next state its c r old new same h = record {
   config = same;
   serves = h.serves;
-  served = runs_on state its c r old.session new.session h.serves.in_run;
+  served = runs_on state its c r new.cache.entries old.session new.session h.fits h.serves.in_run;
   caches = h.caches;
   ends = tt;
   alone = tt;

@@ -1,5 +1,8 @@
 -- A session that has served commands goes on by one.
-use Rattle.cut_replay.proofs.Common.{◌≡◌, ℕ, Bool, false, List, [], ◌∷◌, ◌++◌, length, refl, sym, subst, inl, Config, shape_of, FlashState, Moment, moment_of, IsSoundImage, Command, Reply, seen_after, Point, ServesFlash, first_point, mentions_in, flash_in, point_of, StandsAt, ServesIn, Begins, DeviceSession}
+use Rattle.cut_replay.proofs.Common.{◌≡◌, ℕ, Bool, false, ◌||◌, is_fault, ◌<◌, ◌≤◌, List, [], ◌∷◌, ◌++◌, length, refl, sym, subst, inl, Config, shape_of, CachedPage, FlashState, Moment, moment_of, IsSoundImage, Command, Reply, seen_after, Point, ServesFlash, first_point, mentions_in, flash_in, point_of, Fits, StandsAt, ServesIn, Begins, DeviceSession}
+use Rattle.mounted_session.specs.declared.session.Session.TheVariants as session
+use Rattle.tx_engine.proofs.OfDevice.Seen.{image_seen}
+use Rattle.cut_replay.specs.FlashRun.{MentionsUpTo}
 use Rattle.cut_replay.specs.ServerRuns.{IsServed, RunsOn, seen_through, faulted_through}
 use Rattle.cut_replay.proofs.Runs.{run_more, last_more, seen_more, faulted_more, run_lengths}
 
@@ -31,13 +34,24 @@ begins_served state its init s h = record {
   stands = h.stands;
 }
 
+-- what the image of a session mentions
+mentions_are : {F : Type 0} (state : F → FlashState) (its : Config) (entries : List CachedPage) (seen : ℕ → ℕ)
+    (faulted : Bool) (s : DeviceSession F) → Fits state its entries s → StandsAt state its seen faulted s →
+    MentionsUpTo its seen (point_of state its s)
+mentions_are state its entries seen faulted (session.Mounted s) fits stands page lt =
+    subst (λ (c : Config). mentions_in c (moment_of (state s.flash)) page ≤ seen page) fits.config
+    (image_seen state its.protocol seen s page fits.always stands.mentions
+    (subst (λ (c : Config). page < c.logical) (sym fits.config) lt))
+mentions_are state its entries seen faulted (session.Unmounted flash) fits stands page lt = stands.mentions page lt
+
 -- one command more
 served_on : {F : Type 0} (state : F → FlashState) (its : Config) (init : FlashState) (cs : List Command)
-    (rs : List Reply) (ps : List Point) (c : Command) (r : Reply) (s t : DeviceSession F) →
+    (rs : List Reply) (ps : List Point) (c : Command) (r : Reply) (entries : List CachedPage) (s t : DeviceSession F) →
+    Fits state its entries t →
     ((seen : ℕ → ℕ) → (faulted : Bool) → StandsAt state its seen faulted s → ServesIn state its seen faulted c s r t) →
     IsServed state its init cs rs ps s →
     IsServed state its init (cs ++ c ∷ []) (rs ++ r ∷ []) (ps ++ point_of state its t ∷ []) t
-served_on state its init cs rs ps c r s t served h =
+served_on state its init cs rs ps c r entries s t fits served h =
     let seen = mentions_in its (moment_of init) in
     let old = first_point its h.run.up h.run.flash in
     let p = point_of state its t in
@@ -56,7 +70,11 @@ served_on state its init cs rs ps c r s t served h =
             subst (λ (q : Point). ServesFlash its one.spent (faulted_through false rs) c q r p)
                 h.last one.serves,
           ),
-          one.point,
+          (
+            one.point,
+            mentions_are state its entries (seen_after (seen_through seen cs rs) c r)
+                (faulted_through false rs || is_fault r) t fits one.stands,
+          ),
         );
       };
       begins = h.begins;
@@ -67,7 +85,9 @@ served_on state its init cs rs ps c r s t served h =
           (sym (faulted_more false rs r)) one.stands);
     }
 
-pub runs_on : {F : Type 0} (state : F → FlashState) (its : Config) (c : Command) (r : Reply) (s t : DeviceSession F) →
+pub runs_on : {F : Type 0} (state : F → FlashState) (its : Config) (c : Command) (r : Reply) (entries : List CachedPage)
+    (s t : DeviceSession F) → Fits state its entries t →
     ((seen : ℕ → ℕ) → (faulted : Bool) → StandsAt state its seen faulted s → ServesIn state its seen faulted c s r t) →
     RunsOn state its c s r t
-runs_on state its c r s t served = λ init cs rs ps h. served_on state its init cs rs ps c r s t served h
+runs_on state its c r entries s t fits served =
+    λ init cs rs ps h. served_on state its init cs rs ps c r entries s t fits served h

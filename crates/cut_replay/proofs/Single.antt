@@ -1,6 +1,6 @@
 -- Commands that are one call of a device.
 use Rattle.cut_replay.proofs.Common.{◌≡◌, ℕ, Bool, true, false, List, [], ◌∷◌, ◌++◌, Option, Some, None, Result, Ok, Err, refl, sym, ap, ◌∙◌, subst, inl, inr, OnOk, IfOk, Config, Protocol, Shape, shape_of, FlashState, Moment, moment_of, array_in, IndexState, ArrayState, idle, DeviceState, Reply, is_break, Point, Tells, is_fault, is_lost, HoldsAlways, point_at, ServesHere}
-use Rattle.std.specs.Prelude.{MatchOption}
+use Rattle.std.specs.Prelude.{MatchOption, min}
 use Rattle.std.proofs.lemmas.List.Quantifiers.{Any-push}
 use Rattle.std.specs.Result.{is_err}
 use Rattle.flash_model.specs.Moves.{Does}
@@ -11,6 +11,7 @@ use Rattle.collector.specs.declared.unsure.Unsure.TheVariants as unsure
 use Rattle.array_machine.specs.ArrayState.{Entry, entry_of}
 use Rattle.tx_engine.specs.Exits.{Exits, is_step_fault, is_abort_fault}
 use Rattle.array_machine.specs.Collect.{CollectsAs}
+use Rattle.tx_engine.specs.DeviceCalls.{CollectsDevice, StepsDevice}
 use Rattle.tx_engine.specs.Collections.{CollectsTables, HasNothingToCollect}
 use Rattle.array_machine.specs.declared.answers.Collected.{Collected}
 use Rattle.array_machine.specs.declared.answers.Collected.TheVariants as collected
@@ -23,7 +24,8 @@ use Rattle.array_machine.specs.declared.answers.StepError.TheVariants as failed
 use Rattle.array_machine.specs.declared.answers.Aborted.{Aborted}
 use Rattle.array_machine.specs.declared.answers.Aborted.TheVariants as aborted
 use Rattle.host_protocol.specs.declared.command.Command.TheVariants as command
-use Rattle.array_runs.specs.Run.{step_reply, abort_reply, collect_reply}
+use Rattle.array_runs.specs.Run.{step_reply, abort_reply, collect_reply, pages_left}
+use Rattle.cut_replay.specs.Costs.{CostsCollection, CostsPages, CostsStep}
 use Rattle.cut_replay.specs.FlashRun.{HasErased, IsErase}
 use Rattle.cut_replay.specs.Mounted.{MayHaveCut}
 use Rattle.cut_replay.proofs.Devices.{exits_serve}
@@ -69,9 +71,13 @@ pub step_serves : {F : Type 0} (state : F → FlashState) (protocol : Protocol) 
     (result : Result Progress StepError) (r : Reply) →
     HoldsAlways state protocol old → HoldsAlways state protocol new → StepsAs there old.machine new.machine tag result →
     Exits state old new (is_step_fault result) →
-    OnOk result (new.unsure ≡ unsure.Nothing) → (result ≡ Err failed.Unknown → new ≡ old) → r ≡ step_reply tag result →
+    OnOk result (new.unsure ≡ unsure.Nothing) → (result ≡ Err failed.Unknown → new ≡ old) →
+    CostsPages old.config (min 1 (pages_left tag old.machine)) (moment_of (state old.flash))
+    (moment_of (state new.flash)) →
+    (old.unsure ≡ unsure.Nothing → CostsStep old.config (command.Step tag) old.machine (moment_of (state old.flash))
+    (moment_of (state new.flash))) → StepsDevice state old new tag result → r ≡ step_reply tag result →
     ServesHere state (command.Step tag) old new r
-step_serves state protocol old new there tag result r was is steps exits sure unknown told =
+step_serves state protocol old new there tag result r was is steps exits sure unknown costs direct device told =
     let breaks = step_breaks tag result in
     subst (λ (q : Reply). ServesHere state (command.Step tag) old new q) (sym told)
     (exits_serve state protocol (command.Step tag) old new (step_reply tag result) (is_step_fault result) was is exits
@@ -79,7 +85,7 @@ step_serves state protocol old new there tag result r was is steps exits sure un
     (result, (there, steps), refl) (λ still. cc) (λ faulted h. step_tells old.config faulted (point_at state old)
     (point_at state new) tag result)
     (step_sure old new tag result sure unknown)
-    (step_cuts state protocol old new there tag result is steps))
+    (step_cuts state protocol old new there tag result is steps) costs direct (result, device, refl))
 
 -- An abort
 abort_breaks : (tag : ℕ) (result : Result Aborted StepError) →
@@ -148,7 +154,8 @@ abort_serves state protocol old new there tag result r was is aborts exits still
     exits breaks.0 breaks.1 breaks.2
     (result, (there, aborts), refl) (λ h. still) (λ faulted h. abort_tells old.config faulted (point_at state old)
     (point_at state new) tag result)
-    (abort_sure old new tag result sure unknown) (abort_cuts state protocol old new there tag result is aborts))
+    (abort_sure old new tag result sure unknown) (abort_cuts state protocol old new there tag result is aborts) tt
+    (λ sure. tt) tt)
 
 -- A collection
 collect_breaks : (result : Result Collected Fault) → (is_break (collect_reply result) ≡ is_err result)
@@ -215,12 +222,14 @@ pub collect_serves : {F : Type 0} (state : F → FlashState) (protocol : Protoco
     IfOk result (Collections state old new n t) →
     (result ≡ Ok collected.Nothing → HasNothingToCollect old.config.protocol old.config.logical (state new.flash).image
     new.machine.entries) →
-    r ≡ collect_reply result → ServesHere state command.Collect old new r
-collect_serves state protocol old new there n t result r was is collects exits sure tables nothing told =
+    CostsCollection old.config (collect_reply result) (moment_of (state old.flash)) (moment_of (state new.flash)) →
+    CollectsDevice state old new result → r ≡ collect_reply result → ServesHere state command.Collect old new r
+collect_serves state protocol old new there n t result r was is collects exits sure tables nothing costs device told =
     let breaks = collect_breaks result in
     subst (λ (q : Reply). ServesHere state command.Collect old new q) (sym told)
     (exits_serve state protocol command.Collect old new (collect_reply result) (is_err result) was is exits breaks.0
     breaks.1 breaks.2
     (result, (there, collects), refl) (λ still. cc) (λ faulted h. collect_tells state old new n t faulted result
     was.shape tables nothing)
-    (λ h. collect_sure new result sure) (collect_cuts state protocol old new there result is collects))
+    (λ h. collect_sure new result sure) (collect_cuts state protocol old new there result is collects) costs
+    (λ sure. tt) (result, device, refl))

@@ -31,6 +31,8 @@ use Rattle.array_machine.specs.declared.answers.SubmitError.TheVariants as refus
 use Rattle.host_protocol.specs.declared.command.Command.TheVariants as command
 use Rattle.host_protocol.specs.declared.reply.Reply.TheVariants as reply
 use Rattle.array_runs.specs.Run.{read_reply, submit_reply}
+use Rattle.cut_replay.specs.Costs.{CostsCommand, CostsStep}
+use Rattle.cut_replay.specs.Mounted.{CallsDevice}
 use Rattle.cut_replay.specs.FlashRun.{is_together}
 use Rattle.cut_replay.proofs.Devices.{seen_at, seen_later}
 
@@ -51,10 +53,14 @@ pub same_serves : {F : Type 0} (state : F → FlashState) (c : Command) (s : Dev
     DoesCommand (limits_of s.config) (is_spent s.noted.mentions) c s.machine r s.machine →
     ((faulted : Bool) → (faulted ≡ false → s.unsure ≡ unsure.Nothing) →
     Tells s.config faulted (point_at state s) r (point_at state s)) →
-    ServesHere state c s s r
-same_serves state c s r unbroken whole uncut does tells = record {
+    CostsCommand s.config c s.machine r (moment_of (state s.flash)) (moment_of (state s.flash)) →
+    CostsStep s.config c s.machine (moment_of (state s.flash)) (moment_of (state s.flash)) →
+    CallsDevice state c s s r → ServesHere state c s s r
+same_serves state c s r unbroken whole uncut does tells costs direct device = record {
   config = refl;
   does = does;
+  costs = costs;
+  direct = λ sure. direct;
   moves = stays_moved s.config c r (state s.flash) (state s.flash) refl;
   carries = subst (λ (b : Bool). Carries (state s.flash) (state s.flash) b) (sym whole)
       (Carries-nothing (state s.flash));
@@ -63,6 +69,7 @@ same_serves state c s r unbroken whole uncut does tells = record {
   seen = λ seen h. seen_later seen c r s h;
   versions = λ page lt. inr (refl, refl);
   cut = λ fault. cc;
+  device = device;
   whole = uncut;
 }
 
@@ -76,7 +83,7 @@ stats_serves state s told machine programs erases =
       machine,
       refl,
       refl,
-    ) (λ faulted h. (programs, erases))
+    ) (λ faulted h. (programs, erases)) tt tt tt
 
 -- A read
 read_breaks : (page : ℕ) (bytes : List ℕ) (result : Result ReadAnswer ReadError) →
@@ -119,6 +126,8 @@ flash_serves state protocol old flash page bytes result is reads still carries =
     record {
       config = refl;
       does = (bytes, result, reads, refl, refl);
+      costs = tt;
+      direct = λ sure. tt;
       moves = stays_moved old.config (command.Read page) (read_reply page bytes result) (state old.flash)
           (state flash) still;
       carries = subst (λ (b : Bool). Carries (state old.flash) (state flash) b) (sym breaks.1) carries;
@@ -135,6 +144,7 @@ flash_serves state protocol old flash page bytes result is reads still carries =
         may = read_may old.config.logical old.machine.pages page bytes result reads fault;
         leaves = is.same_cut;
       };
+      device = tt;
       whole = breaks.2;
     }
 
@@ -258,6 +268,8 @@ write_serves {F = F} state old new tag batch result r submits names keeps told =
     subst (λ (q : Reply). ServesHere state (command.Write tag batch) old new q) (sym told) (record {
       config = keeps.config;
       does = (result, submits, refl);
+      costs = tt;
+      direct = λ sure. tt;
       moves = stays_moved old.config (command.Write tag batch) reply (state old.flash) (state new.flash)
           (ap moment_of flash);
       carries = subst (λ (b : Bool). Carries (state old.flash) (state new.flash) b) (sym breaks.1)
@@ -279,6 +291,7 @@ write_serves {F = F} state old new tag batch result r submits names keeps told =
             batch.entries) tag batch.entries old.machine),
       );
       cut = λ fault. (let not = breaks.1 in cc);
+      device = tt;
       whole = breaks.2;
     })
 

@@ -256,7 +256,7 @@ module _ (its : Config) (from : FlashState) (first : Point) where
   adds_up seen faulted (d ∷ cs) (s ∷ rs) (q ∷ ps) cs0 rs0 ps0 point run h =
       let last : last_point first (ps0 ++ q ∷ []) ≡ q = last_more first ps0 q in
       let rest = adds_up (seen_after seen d s) (faulted || is_fault s) cs rs ps (cs0 ++ d ∷ []) (rs0 ++ s ∷ [])
-      (ps0 ++ q ∷ []) (subst (λ (x : Point). IsPoint its x) (sym last) run.1)
+      (ps0 ++ q ∷ []) (subst (λ (x : Point). IsPoint its x) (sym last) run.1.0)
       (subst (λ (x : Point). FlashRun its (seen_after seen d s) (faulted || is_fault s) x cs rs ps) (sym last) run.2)
       (one_more run.0.0 faulted d s q cs0 rs0 ps0 point run.0.2 h) in
       subst (λ (x : List Command). AddsUp x (rs0 ++ s ∷ rs) (ps0 ++ q ∷ ps)) (rejoin cs0 d cs)
@@ -272,7 +272,7 @@ last_stands its seen faulted old [] (r ∷ rs) ps point run = absurd run
 last_stands its seen faulted old (c ∷ cs) [] ps point run = absurd run
 last_stands its seen faulted old (c ∷ cs) (r ∷ rs) [] point run = absurd run
 last_stands its seen faulted old (c ∷ cs) (r ∷ rs) (p ∷ ps) point run =
-    last_stands its (seen_after seen c r) (faulted || is_fault r) p cs rs ps run.1 run.2
+    last_stands its (seen_after seen c r) (faulted || is_fault r) p cs rs ps run.1.0 run.2
 
 -- the last command of it, where that is an arm
 set_as : (P Q : Told → Type 0) → ((t : Told) → P t → Q t) → (o : Option Told) → IfSome o P → IfSome o Q
@@ -294,7 +294,7 @@ run_sets its seen faulted old (d ∷ []) (s ∷ []) (q ∷ p ∷ ps) point run =
 run_sets its seen faulted old (d ∷ []) (s ∷ r ∷ rs) (q ∷ ps) point run = absurd run.2
 run_sets its seen faulted old (d ∷ e ∷ cs) (s ∷ rs) (q ∷ ps) point run =
     set_as (LastIsSet (e ∷ cs)) (LastIsSet (d ∷ e ∷ cs)) (λ t h. h) (last_point q ps).flash.told
-    (run_sets its (seen_after seen d s) (faulted || is_fault s) q (e ∷ cs) rs ps run.1 run.2)
+    (run_sets its (seen_after seen d s) (faulted || is_fault s) q (e ∷ cs) rs ps run.1.0 run.2)
 
 -- ---- from the flash that was handed in
 

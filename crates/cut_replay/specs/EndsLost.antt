@@ -7,7 +7,7 @@ use Rattle.host_protocol.specs.declared.command.Command.{Command}
 use Rattle.host_protocol.specs.declared.reply.Reply.{Reply}
 use Rattle.cut_replay.specs.FlashRun.{Point, IsPoint, IsLost, first_point}
 
--- The reply would have been `cut` or `dropped`. The flash was only read from since, and no read met a fault.
+-- The reply would have been `cut` or `dropped`. Nothing was started on the flash since, and no fault was met.
 pub record EndsLost (its : Config) (c : Command) (old : Point) (new : FlashState) : Type 0 where
   pub reply : Reply
   pub met : FlashState

@@ -1,6 +1,6 @@
 -- A run on a flash: a run of the array machine in which each state has the whole flash, as it was when the reply was
 -- given.
-use Rattle.std.specs.Prelude.{◌≡◌, ◌⊎◌, ℕ, ◌||◌, Bool, true, false, not, List, [], ◌∷◌, Any, MatchBool}
+use Rattle.std.specs.Prelude.{◌≡◌, ◌⊎◌, ℕ, ◌<◌, ◌≤◌, ◌||◌, Bool, true, false, not, List, [], ◌∷◌, Any, MatchBool}
 use Rattle.tx_types.specs.declared.config.Config.{Config}
 use Rattle.tx_types.specs.Config.{shape_of}
 use Rattle.flash_model.specs.Calls.{Carries}
@@ -20,6 +20,7 @@ use Rattle.tx_engine.specs.Collections.{HasNothingToCollect}
 use Rattle.tx_engine.specs.DeviceState.{limits_of}
 use Rattle.array_runs.specs.Breaks.{is_cut, is_fault, is_lost}
 use Rattle.array_runs.specs.Run.{RunState, DoesCommand, NotDone, LosesOpen, MayBeSpent, is_arm, is_break, seen_after}
+use Rattle.cut_replay.specs.Costs.{CostsCommand, CostsStep}
 use Rattle.cut_replay.specs.FlashCalls.{ArmsFlash, ComesUp, MountsFlash}
 
 -- where a run stands: its state, and what the flash is
@@ -33,6 +34,14 @@ pub record IsPoint (its : Config) (p : Point) : Type 0 where
   pub sound : IsSoundImage its.protocol its.logical (shape_of its) p.flash.image
   pub array : Represents p.state.machine (array_in its.protocol its.logical p.flash.image)
   pub live : p.state.up ≡ true → p.flash.live ≡ true
+
+-- the greatest mention of each page in an image
+abbrev pub mentions_in : Config → Moment → ℕ → ℕ
+mentions_in its m page = mention (records_in its.protocol m.image) page
+
+-- The image mentions each page at these versions at most.
+abbrev pub MentionsUpTo : Config → (ℕ → ℕ) → Point → Type 0
+MentionsUpTo its seen p = (page : ℕ) → page < its.logical → mentions_in its (moment_of p.flash) page ≤ seen page
 
 -- a command that asks for no program and no erase
 abbrev pub is_still : Command → Bool
@@ -112,12 +121,14 @@ pub record IsNotDone (its : Config) (old : Point) (r : Reply) (new : Point) : Ty
   pub cut : is_cut r ≡ not new.flash.live
 
 -- The command was done, and power stayed on. Its calls met a fault exactly where the reply is `fault`, and nothing that
--- was open is lost.
+-- was open is lost. While no fault was met before it, the image tells how many blocks a step collects at most.
 pub record IsDone (its : Config) (spent : ℕ → Bool) (faulted : Bool) (c : Command) (old : Point)
     (r : Reply) (new : Point) : Type 0 where
   pub does : DoesCommand (limits_of its) spent c old.state.machine r new.state.machine
   pub up : new.state.up ≡ true
   pub moves : MovesBy its c r (moment_of old.flash) (moment_of new.flash)
+  pub costs : CostsCommand its c old.state.machine r (moment_of old.flash) (moment_of new.flash)
+  pub direct : faulted ≡ false → CostsStep its c old.state.machine (moment_of old.flash) (moment_of new.flash)
   pub tells : Tells its faulted old r new
   pub first : FlashState
   pub mounts : ComesUp its old.state.up old.flash first
@@ -131,6 +142,7 @@ pub record IsLost (its : Config) (c : Command) (old : Point) (r : Reply) (met : 
     Type 0 where
   pub loses : LosesOpen c old.state r new.state
   pub moves : MovesBy its c r (moment_of old.flash) (moment_of new.flash)
+  pub costs : CostsCommand its c old.state.machine r (moment_of old.flash) (moment_of new.flash)
   pub first : FlashState
   pub mounts : ComesUp its old.state.up old.flash first
   pub calls : Carries first met true
@@ -152,13 +164,14 @@ ServesFlash its spent faulted c old r new =
     MatchBool (is_arm c) (IsArmed c old r new) (DoesFlash its spent faulted c old r new)
 
 -- A run over a list of commands: one reply and one point for each. `seen` is at least the greatest
--- mention of each page on the flash, and `faulted` says whether a fault was met before.
+-- mention of each page on the flash, and rises by one for each write of the page that is opened: so no command mentions
+-- a page once more that is not to be written. `faulted` says whether a fault was met before.
 abbrev pub FlashRun : Config → (ℕ → ℕ) → Bool → Point → List Command → List Reply → List Point →
     Type 0
 FlashRun its seen faulted old [] [] [] = Unit {0}
 FlashRun its seen faulted old (c ∷ cs) (r ∷ rs) (p ∷ ps) =
     ((spent : ℕ → Bool) × MayBeSpent seen spent × ServesFlash its spent faulted c old r p)
-    × IsPoint its p
+    × (IsPoint its p × MentionsUpTo its (seen_after seen c r) p)
     × FlashRun its (seen_after seen c r) (faulted || is_fault r) p cs rs ps
 FlashRun its seen faulted old _ _ _ = ⊥
 
@@ -171,10 +184,6 @@ first_state its its_up from =
 abbrev pub first_point : Config → Bool → FlashState → Point
 first_point its its_up its_flash =
     record { state = first_state its its_up (moment_of its_flash); flash = its_flash }
-
--- the greatest mention of each page in an image
-abbrev pub mentions_in : Config → Moment → ℕ → ℕ
-mentions_in its m page = mention (records_in its.protocol m.image) page
 
 -- a run on a flash from this moment on, whose image is sound
 pub record IsFlashRun (its : Config) (from : Moment) (cs : List Command) (rs : List Reply)

@@ -1,4 +1,5 @@
 pub mod FlashCalls
+pub mod Costs
 pub mod FlashRun
 pub mod Watching
 pub mod Bounds

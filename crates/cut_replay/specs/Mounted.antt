@@ -15,13 +15,21 @@ use Rattle.tx_engine.specs.Exits.{VersionsTell}
 use Rattle.tx_engine.specs.Naming.{is_spent}
 use Rattle.tx_engine.specs.Read.{ReadsFlash, read_place}
 use Rattle.tx_engine.specs.DeviceState.{DeviceState, limits_of}
+use Rattle.tx_engine.specs.Batches.{MovesDevice}
+use Rattle.tx_engine.specs.DeviceCalls.{CollectsDevice, StepsDevice}
+use Rattle.array_machine.specs.declared.answers.Collected.{Collected}
+use Rattle.array_machine.specs.declared.answers.Fault.{Fault}
+use Rattle.array_machine.specs.declared.answers.Moved.{Moved}
+use Rattle.array_machine.specs.declared.answers.Progress.{Progress}
+use Rattle.array_machine.specs.declared.answers.StepError.{StepError}
 use Rattle.array_machine.specs.declared.answers.ReadAnswer.{ReadAnswer}
 use Rattle.array_machine.specs.declared.answers.ReadAnswer.TheVariants as answer
 use Rattle.array_machine.specs.declared.answers.ReadError.{ReadError}
 use Rattle.host_protocol.specs.declared.command.Command.{Command}
 use Rattle.host_protocol.specs.declared.command.Command.TheVariants as command
 use Rattle.host_protocol.specs.declared.reply.Reply.{Reply}
-use Rattle.array_runs.specs.Run.{DoesCommand, MayBeCut, CutLeavesOf, seen_after}
+use Rattle.array_runs.specs.Run.{DoesCommand, MayBeCut, CutLeavesOf, seen_after, step_reply, moved_reply, collect_reply}
+use Rattle.cut_replay.specs.Costs.{CostsCommand, CostsStep}
 use Rattle.cut_replay.specs.FlashRun.{Point, MovesBy, Tells}
 use Rattle.array_runs.specs.Breaks.{is_fault, is_lost}
 
@@ -53,6 +61,17 @@ pub record MayHaveCut {F : Type 0} (state : F → FlashState) (c : Command)
   pub leaves : CutLeavesOf c old.machine
       (idle (array_in new.config.protocol new.config.logical (state new.flash).image))
 
+-- A step, a `stepall` and a collection are one call of the device each: what that call says of it, and the reply of its
+-- answer.
+abbrev pub CallsDevice : {F : Type 0} → (F → FlashState) → Command → DeviceState F → DeviceState F → Reply → Type 0
+CallsDevice state (command.Step tag) old new r =
+    (answer : Result Progress StepError) × StepsDevice state old new tag answer × (r ≡ step_reply tag answer)
+CallsDevice state command.StepAll old new r =
+    (answer : Moved) × MovesDevice state old new answer × (r ≡ moved_reply answer)
+CallsDevice state command.Collect old new r =
+    (answer : Result Collected Fault) × CollectsDevice state old new answer × (r ≡ collect_reply answer)
+CallsDevice state _ old new r = Unit {0}
+
 -- A command was done on a device, with this reply unless power was cut.
 pub record ServesHere {F : Type 0}
     (state : F → FlashState) (c : Command) (old new : DeviceState F) (r : Reply) : Type 0 where
@@ -60,6 +79,9 @@ pub record ServesHere {F : Type 0}
   pub does : DoesCommand (limits_of old.config)
       (is_spent old.noted.mentions) c old.machine r new.machine
   pub moves : MovesBy old.config c r (moment_of (state old.flash)) (moment_of (state new.flash))
+  pub costs : CostsCommand old.config c old.machine r (moment_of (state old.flash)) (moment_of (state new.flash))
+  pub direct : old.unsure ≡ unsure.Nothing →
+      CostsStep old.config c old.machine (moment_of (state old.flash)) (moment_of (state new.flash))
   pub carries : Carries (state old.flash) (state new.flash) (is_fault r)
   pub tells : (faulted : Bool) → (faulted ≡ false → old.unsure ≡ unsure.Nothing) →
       Tells old.config faulted (point_at state old) r (point_at state new)
@@ -67,6 +89,7 @@ pub record ServesHere {F : Type 0}
   pub seen : (seen : ℕ → ℕ) → IsSeen seen old → IsSeen (seen_after seen c r) new
   pub versions : VersionsTell old new
   pub cut : is_fault r ≡ true → MayHaveCut state c old new
+  pub device : CallsDevice state c old new r
   pub whole : is_lost r ≡ false
 
 -- whether a page is held in the cache at its current version

@@ -1,5 +1,5 @@
 -- What serving a list of commands comes to.
-use Rattle.std.specs.Prelude.{◌≡◌, ◌⊎◌, ℕ, ◌+◌, ◌≤◌, List, [], ◌∷◌, ◌++◌, length, take, map, Option, OnOk, Result, Ok, Err}
+use Rattle.std.specs.Prelude.{◌≡◌, ◌⊎◌, ℕ, ◌+◌, ◌<◌, List, [], ◌∷◌, ◌++◌, length, take, map, Option, OnOk, Result, Ok, Err}
 use Rattle.tx_types.specs.declared.config.Config.{Config}
 use Rattle.tx_types.specs.Config.{shape_of}
 use Rattle.flash_model.specs.Flash.{FlashState}
@@ -27,8 +27,8 @@ pub record Watched : Type 0 where
   pub flashes : Option (List FlashState)
 
 -- There is one run on the flash over these commands, and in each point of it the whole flash. A flash with power is
--- mounted first. The flash that comes back is that of the last point, but for reads that met no fault. Of the replies
--- the first `told` were told, each with the flash of its point.
+-- mounted first. The flash that comes back has the moment, the shape and the count of faults of the last point. Of the
+-- replies the first `told` were told, each with the flash of its point.
 pub record ServesRun
     (its : Config) (cs : List Command) (told : ℕ) (old new : FlashState)
     (before after : Watched) : Type 0 where
@@ -56,7 +56,7 @@ pub record EndsInMount (its : Config) (cs : List Command) (told : ℕ) (old new 
   pub serves : ServesRun its (take told cs) told old between before after
   pub lost : EndsLost its next (last_point (first_point its serves.run.up serves.run.flash) serves.points) new
 
--- there was no memory before the first command: nothing was told, and the flash was at most read from
+-- there was no memory before the first command: nothing was told, nothing was started, and no fault was met
 pub record EndsBefore (old new : FlashState) (before after : Watched) : Type 0 where
   pub still : StaysQuiet old new
   pub untold : after ≡ before
@@ -69,7 +69,7 @@ ServesSound its cs old new before after (Ok u) =
     × EndsThere its cs (length cs) old new before after serves
 ServesSound its cs old new before after (Err failed.Memory) =
     EndsBefore old new before after
-    ⊎ ((told : ℕ) × (told ≤ length cs)
+    ⊎ ((told : ℕ) × (told < length cs)
     × (ServesRun its (take told cs) told old new before after
     ⊎ (ServesRun its (take (told + 1) cs) told old new before after
     ⊎ EndsInMount its cs told old new before after)))

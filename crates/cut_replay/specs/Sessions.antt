@@ -31,7 +31,7 @@ use Rattle.cut_replay.specs.EndsLost.{EndsLost}
 use Rattle.array_runs.specs.Breaks.{is_fault, is_lost}
 use Rattle.cut_replay.specs.Bounds.{CountsBreak}
 use Rattle.tx_engine.specs.Always.{IsSeen, HoldsAlways}
-use Rattle.cut_replay.specs.Mounted.{point_at, IsCached, CachesCommand}
+use Rattle.cut_replay.specs.Mounted.{point_at, IsCached, CachesCommand, CallsDevice}
 use Rattle.cut_replay.specs.UnmountedRun.{ServesUnmounted}
 use Rattle.cut_replay.specs.declared.serving.ServeError.{ServeError}
 use Rattle.cut_replay.specs.declared.serving.ServeError.TheVariants as failed
@@ -104,12 +104,21 @@ abbrev pub IsSoundOrSame : Config → FlashState → FlashState → Type 0
 IsSoundOrSame its old new =
     (IsSoundFlash its old × IsSoundFlash its new) ⊎ (moment_of new ≡ moment_of old)
 
+-- Where a device is mounted before and after, and nothing that was open was lost, the command did there what the
+-- device's own call says.
+abbrev pub CallsSession : {F : Type 0} → (F → FlashState) → Command → DeviceSession F → Reply → DeviceSession F → Type 0
+CallsSession state c (session.Mounted s) r (session.Mounted t) =
+    MatchBool (is_lost r) (Unit {0}) (CallsDevice state c s t r)
+CallsSession state c (session.Mounted s) r (session.Unmounted flash) = Unit {0}
+CallsSession state c (session.Unmounted flash) r new = Unit {0}
+
 -- What serving a command comes to, whatever the image is.
 pub record ServesSession {F : Type 0}
     (state : F → FlashState) (its : Config)
     (c : Command) (old : DeviceSession F) (r : Reply) (new : DeviceSession F) : Type 0 where
   pub in_run : (seen : ℕ → ℕ) → (faulted : Bool) → StandsAt state its seen faulted old →
       ServesIn state its seen faulted c old r new
+  pub device : CallsSession state c old r new
   pub kept : IsSoundOrSame its (state (flash_in old)) (state (flash_in new))
   pub unsound : (IsSoundFlash its (state (flash_in old)) → ⊥) →
       ServesUnmounted its c (state (flash_in old)) r (state (flash_in new))

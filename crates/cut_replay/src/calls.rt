@@ -49,6 +49,7 @@ pub fn step<F: Flash, R: CommitRule>(device: &mut Device<F, R>, tag: u32) -> Rep
     ensures serves { ServesHere F.state (Command.Step tag) device.old device.new result }
     ensures always { HoldsAlways F.state R.protocol device.new }
 {
+    device.config();
     let answer = device.step(tag);
     device_facts(device);
     step_reply(tag, answer)

@@ -140,7 +140,7 @@ impl<F: Power + Arms + Wide + Cached, R: CommitRule> Server<F, R> {
 
     /// Makes durable all that was done, and opens a reply: it may be said then. The run is as before, and the flash
     /// shows what it showed, also where this fails. Then no reply may be said any more, and nothing more is to be
-    /// served: what keeps the flash has failed, so each later flush fails too.
+    /// served: what keeps the flash has failed. Of a `FileFlash` each later flush fails too.
     pub fn flush(&mut self, unflushed: Unflushed) -> Result<Reply, NotDurable>
         ensures opens { IfOk result (λ reply. reply ≡ unflushed) }
         ensures stays { FlushesServer F.state self.old.config self.old self.new }

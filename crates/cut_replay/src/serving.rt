@@ -62,6 +62,7 @@ fn serve_step_all<F: Power + Wide, R: CommitRule>(
     let Session::Mounted(device) = session else {
         unreachable!();
     };
+    device.config();
     match device.step_all() {
         Ok(Moved { moved, finished }) => {
             device_facts(device);
@@ -229,6 +230,8 @@ fn serve_all<F: Power + Arms + Wide, R: CommitRule, W: Watch<F>>(
 ///   `Fault` and `Cut`.
 /// - `Memory` ends the run before a command, in it, or where its reply is to be told. The replies
 ///   before it were told.
+/// - Flushes: there are none. Where programs wait (`Cached`), a reply is told before they are durable:
+///   such a flash is served by a `Server`.
 pub fn serve<F: Power + Arms + Wide, R: CommitRule, W: Watch<F>>(
     alloc: Global,
     flash: F,

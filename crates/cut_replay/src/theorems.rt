@@ -1,5 +1,5 @@
 //! What holds of all runs on a flash. The functions do nothing: each is there for what it ensures.
-ghost use Rattle.std.specs.Prelude.{◌≡◌, ◌+◌, ◌<◌, ◌≤◌, ◌^◌, ℕ, Bool, true, false, List, length, All, Some, IfSome};
+ghost use Rattle.std.specs.Prelude.{◌≡◌, ◌+◌, ◌-◌, ◌*◌, ◌<◌, ◌≤◌, ◌^◌, ℕ, Bool, true, false, List, length, All, Some, IfSome, IsSome, if◌then◌else◌};
 ghost use Rattle.tx_types.specs.declared.config.Config.{Config};
 ghost use Rattle.flash_model.specs.Flash.{FlashState, Told, counted_times, IsSteady};
 ghost use Rattle.flash_model.specs.Operations.{Moment, moment_of, starts_in};
@@ -10,14 +10,15 @@ ghost use Rattle.host_protocol.specs.declared.reply.Reply.{Reply};
 ghost use Rattle.host_protocol.specs.declared.command.Command.TheVariants as command;
 ghost use Rattle.host_protocol.specs.declared.reply.Reply.TheVariants as reply;
 ghost use Rattle.array_runs.specs.Breaks.{arms_cut, is_cut};
-ghost use Rattle.array_runs.specs.Run.{Run, IsClosedUnmounted};
+ghost use Rattle.array_runs.specs.Run.{Run, IsClosedUnmounted, is_break};
 ghost use Rattle.cut_replay.specs.Bounds.{SpendsTold, CountsBreaks, LastIsSet};
+ghost use Rattle.cut_replay.specs.Costs.{CostsAtMost, CostsCollection};
 ghost use Rattle.cut_replay.specs.CutsDue.{CutIsDue};
 ghost use Rattle.cut_replay.specs.MountedAgain.{CountsMounts};
 ghost use Rattle.cut_replay.specs.Served.{Watched, ServesRun, EndsThere};
 ghost use Rattle.cut_replay.specs.FlashCalls.{MountsFlash};
 ghost use Rattle.cut_replay.specs.Started.{operations_in};
-ghost use Rattle.cut_replay.specs.FlashRun.{Point, IsPoint, IsArmed, IsLost, IsNotDone, MovesBy, FlashRun, IsFlashRun, first_point, first_state, last_moment, last_point, last_state, mentions_in};
+ghost use Rattle.cut_replay.specs.FlashRun.{Point, IsPoint, IsArmed, IsLost, IsNotDone, MovesBy, is_still, FlashRun, IsFlashRun, first_point, first_state, last_moment, last_point, last_state, mentions_in};
 
 /// The state at which a run on a flash begins has an array of all logical pages, and nothing open.
 pub fn first_states()
@@ -37,8 +38,10 @@ pub fn flash_runs_are_runs()
 {}
 
 /// Where a flash tells its arms, a cut that is armed comes at the operation of its number, counted from the arm on,
-/// over all commands, mounts and collections, unless another cut is armed before. While no reply is `cut` and power
-/// is on after each command, fewer are started. Where the reply is `cut`, power went off with just so many started.
+/// over all commands, mounts and collections, unless another cut is armed before. While no reply is `cut`, fewer are
+/// started. Where the reply is `cut`, power went off with just so many started (`calls`). A mount starts nothing, so none
+/// ends in `cut` there (`mount`), and no command ends in it that asks for no program and no erase (`still`), unless the
+/// count of what was started stands at its end.
 pub fn cuts_come_due()
     ensures armed { (count : ℕ) (what : Outcome) (old : Point) (r : Reply) (new : Point) (told : Told) →
         1 ≤ count → IsArmed (command.Cut count what) old r new → new.flash.told ≡ Some told →
@@ -47,25 +50,39 @@ pub fn cuts_come_due()
         (its : Config) (seen : ℕ → ℕ) (faulted : Bool) (old : Point)
         (cs : List Command) (rs : List Reply) (ps : List Point) → IsPoint its old →
         FlashRun its seen faulted old cs rs ps →
-        All (λ c. arms_cut c ≡ false) cs → All (λ r. is_cut r ≡ false) rs →
-        All (λ p. p.flash.live ≡ true) ps → CutIsDue due what old.flash →
+        All (λ c. arms_cut c ≡ false) cs → All (λ r. is_cut r ≡ false) rs → CutIsDue due what old.flash →
         CutIsDue due what (last_point old ps).flash }
     ensures calls { (due : ℕ) (what : Outcome) → due < 2 ^ 64 →
         (its : Config) (c : Command) (old : Point) (r : Reply) (met : FlashState) (new : Point) →
         IsPoint its old → IsLost its c old r met new → r ≡ reply.Cut → CutIsDue due what old.flash →
         met.started ≡ due }
-    ensures mount { (due : ℕ) (what : Outcome) → due < 2 ^ 64 →
-        (its : Config) (old : Point) (r : Reply) (new : Point) →
-        IsNotDone its old r new → r ≡ reply.Cut → CutIsDue due what old.flash →
-        new.flash.started ≡ due }
+    ensures mount { (its : Config) (old : Point) (r : Reply) (new : Point) → IsNotDone its old r new →
+        IsSome old.flash.told → old.flash.started + 1 < 2 ^ 64 → r ≡ reply.Cut → ⊥ }
+    ensures still { (its : Config) (c : Command) (old : Point) (r : Reply) (met : FlashState) (new : Point) →
+        IsPoint its old → IsLost its c old r met new → MountsFlash its new.state.up met new.flash →
+        is_still c ≡ true → IsSome old.flash.told → old.flash.started + 1 < 2 ^ 64 → r ≡ reply.Cut → ⊥ }
 {}
 
 /// The operations by which a command moves the flash, with the one that was broken, are those that the flash counts as
-/// started meanwhile; programs that are started together are one (`moves`). So a cut that is due comes at the last of
-/// them, by their number (`cut`).
+/// started meanwhile; programs that are started together are one (`moves`). They are no more than the programs and
+/// erases that the flash counts, and one that was broken (`few`). So what a command takes at most bounds their number
+/// (`most`). A collection that breaks off has no more of them than a whole one (`collection`). A cut that is due comes
+/// with so many started (`cut`).
 pub fn operations_are_started()
     ensures moves { (its : Config) (c : Command) (r : Reply) (old new : Moment) → (by : MovesBy its c r old new) →
         new.started ≡ counted_times (starts_in (operations_in its c r old new by)) old.started }
+    ensures few { (its : Config) (c : Command) (r : Reply) (old new : Moment) → (by : MovesBy its c r old new) →
+        new.programs + 1 < 2 ^ 64 → new.erases + 1 < 2 ^ 64 →
+        old.programs + old.erases + starts_in (operations_in its c r old new by)
+        ≤ new.programs + new.erases + (if is_break r then 1 else 0) }
+    ensures most { (its : Config) (c : Command) (r : Reply) (old new : Moment) → (by : MovesBy its c r old new) →
+        new.programs + 1 < 2 ^ 64 → new.erases + 1 < 2 ^ 64 →
+        (pages collections : ℕ) → CostsAtMost its pages collections old new →
+        starts_in (operations_in its c r old new by)
+        ≤ pages + collections * (its.pages_per_block - 1) + collections * 2 + (if is_break r then 1 else 0) }
+    ensures collection { (its : Config) (c : Command) (r : Reply) (old new : Moment) → (by : MovesBy its c r old new) →
+        new.programs + 1 < 2 ^ 64 → new.erases + 1 < 2 ^ 64 → CostsCollection its r old new →
+        starts_in (operations_in its c r old new by) ≤ its.pages_per_block - 1 + 2 }
     ensures cut { (due : ℕ) (what : Outcome) → due + 1 < 2 ^ 64 →
         (its : Config) (c : Command) (old : Point) (r : Reply) (met : FlashState) (new : Point) →
         IsPoint its old → (lost : IsLost its c old r met new) → MountsFlash its new.state.up met new.flash →

@@ -18,7 +18,7 @@ returns-in-Ok g c =
     (session.Mounted c.step_all.new.self) cache cache)
     (sym c.in-Mounted.is)
     (moved_session state its g.R.CommitRule.protocol c.in-Mounted.device c.step_all.new.self answer cache
-    c.requires.rule fits
+    c.requires.rule fits c.config.ensures.stands
     c.device_facts.ensures.always c.in-Ok.ensures.moves)
 
 pub returns-in-Err : goal.returns-in-Err

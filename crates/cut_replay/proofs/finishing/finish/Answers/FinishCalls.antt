@@ -12,7 +12,10 @@ use Rattle.array_machine.specs.declared.answers.StepError.{StepError}
 use Rattle.array_machine.proofs.UnbrokenCalls.{again}
 use Rattle.host_protocol.specs.declared.command.Command.TheVariants as command
 use Rattle.host_protocol.specs.declared.reply.Reply.TheVariants as reply
+use Rattle.std.specs.Prelude.{min}
 use Rattle.array_runs.specs.Run.{pages_left, step_reply, is_break}
+use Rattle.cut_replay.specs.Costs.{CostsPages}
+use Rattle.cut_replay.proofs.CommandCosts.{pages_more, pages_then}
 use Rattle.cut_replay.proofs.Single.{step_tells}
 use Rattle.array_runs.proofs.Finishes.{told_wrote, step_writes, fewer_left, cut_before, at_last, ends}
 
@@ -23,6 +26,9 @@ last_serves state old new tag r last h = record {
   config = h.config;
   does = ([], h.does.0, ends old.machine new.machine tag r h.does.0 last h.does.2 h.does.1, h.does.2);
   moves = record { moves = h.moves.moves; still = λ still. cc };
+  costs = pages_more old.config (min 1 (pages_left tag old.machine)) (pages_left tag old.machine)
+      (moment_of (state old.flash)) (moment_of (state new.flash)) (omega arith) h.costs;
+  direct = λ sure. tt;
   carries = h.carries;
   tells = h.tells;
   sure = h.sure;
@@ -33,6 +39,7 @@ last_serves state old new tag r last h = record {
     leaves = at_last tag old.machine (idle (array_in new.config.protocol new.config.logical (state new.flash).image))
         (h.cut fault).leaves;
   };
+  device = tt;
   whole = h.whole;
 }
 
@@ -49,6 +56,14 @@ versions_then old mid new same first second page lt = elim (first page lt) [
     | inr again ↦ inr (again.0 ∙ stays.0, again.1 ∙ stays.1)
   ]
 ]
+
+-- a step has a page less to write
+pub step_fewer : {F : Type 0} (state : F → FlashState) (old new : DeviceState F) (own tag done all : ℕ) →
+    ServesHere state (command.Step tag) old new (reply.Wrote own done all) →
+    pages_left tag new.machine < pages_left tag old.machine
+step_fewer state old new own tag done all h =
+    let w = step_writes old.machine new.machine own tag done all h.does.0 h.does.1 h.does.2 in
+    (fewer_left old.machine new.machine w.0 tag w.1 w.2).0
 
 finish_tells : (its : Config) (faulted : Bool) (old new : Point) (tag : ℕ) (r : Reply)
     (result : Result Progress StepError) → r ≡ step_reply tag result →
@@ -86,6 +101,14 @@ wrote_serves state old mid new own tag done all r first rest =
             (moment_of (state new.flash))) first.config rest.moves.moves);
         still = λ still. cc;
       };
+      costs = (
+          let fewer = step_fewer state old mid own tag done all first in
+          pages_then old.config (min 1 (pages_left tag old.machine)) (pages_left tag mid.machine)
+          (pages_left tag old.machine) (moment_of (state old.flash)) (moment_of (state mid.flash))
+          (moment_of (state new.flash)) (omega (arith, fewer)) first.costs
+          (subst (λ (c : Config). CostsPages c (pages_left tag mid.machine) (moment_of (state mid.flash))
+          (moment_of (state new.flash))) first.config rest.costs));
+      direct = λ sure. tt;
       carries = Carries-then (state old.flash) (state mid.flash) (state new.flash) (is_fault r)
           first.carries rest.carries;
       tells = λ faulted h. finish_tells old.config faulted (point_at state old) (point_at state new) tag r
@@ -99,13 +122,6 @@ wrote_serves state old mid new own tag done all r first rest =
             (idle (array_in new.config.protocol new.config.logical (state new.flash).image)) tag w.1 w.2
             (rest.cut fault).leaves;
       };
+      device = tt;
       whole = rest.whole;
     }
-
--- and a step of it has a page less to write
-pub step_fewer : {F : Type 0} (state : F → FlashState) (old new : DeviceState F) (own tag done all : ℕ) →
-    ServesHere state (command.Step tag) old new (reply.Wrote own done all) →
-    pages_left tag new.machine < pages_left tag old.machine
-step_fewer state old new own tag done all h =
-    let w = step_writes old.machine new.machine own tag done all h.does.0 h.does.1 h.does.2 in
-    (fewer_left old.machine new.machine w.0 tag w.1 w.2).0

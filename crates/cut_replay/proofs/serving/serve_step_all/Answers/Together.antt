@@ -8,6 +8,9 @@ use Rattle.host_protocol.specs.declared.command.Command.TheVariants as command
 use Rattle.array_runs.specs.Run.{moved_reply}
 use Rattle.cut_replay.specs.Sessions.{lost_reply, left, FitsMounted, FollowsLoss, Follows}
 use Rattle.mounted_session.specs.declared.session.Session.TheVariants as session
+use Rattle.tx_engine.specs.DeviceState.{Stands}
+use Rattle.cut_replay.specs.Costs.{CostsCommand}
+use Rattle.cut_replay.proofs.CommandCosts.{moves_cost}
 use Rattle.cut_replay.proofs.Devices.{cached_stays, call_serves}
 use Rattle.cut_replay.proofs.Followed.{mounted_serves, was_done, left_ok, left_on, left_err}
 use Rattle.cut_replay.proofs.Losing.{FitsAfter, WasLost, again_serves, again_ends, again_fits, again_caches}
@@ -15,24 +18,25 @@ use Rattle.cut_replay.proofs.Losing.{FitsAfter, WasLost, again_serves, again_end
 -- ---- they went on
 
 moved_serve : {F : Type 0} (state : F → FlashState) (protocol : Protocol) (old new : DeviceState F) (answer : Moved) →
-    HoldsAlways state protocol old → HoldsAlways state protocol new → MovesDevice state old new answer →
-    ServesHere state command.StepAll old new (moved_reply answer)
-moved_serve state protocol old new answer was is moves =
+    HoldsAlways state protocol old → Stands state old → HoldsAlways state protocol new →
+    MovesDevice state old new answer → ServesHere state command.StepAll old new (moved_reply answer)
+moved_serve state protocol old new answer was stands is moves =
     call_serves state protocol command.StepAll old new (moved_reply answer) false was is moves.exits.tables
     moves.exits.moves moves.exits.carries refl refl refl
     (answer, (is_there state old, moves.steps), refl) (λ still. cc) (λ faulted h. tt)
-    (λ sure whole. moves.sure) (λ fault. cc)
+    (λ sure whole. moves.sure) (λ fault. cc) (moves_cost state protocol old new was answer stands moves)
+    (λ sure. tt) (answer, moves, refl)
 
 -- a device on which a call met no fault is live still
 pub moved_session : {F : Type 0} (state : F → FlashState) (its : Config) (protocol : Protocol) (s t : DeviceState F)
     (answer : Moved) (cache : PageCacheState) →
-    its.protocol ≡ protocol → FitsMounted state its cache.entries s → HoldsAlways state protocol t →
+    its.protocol ≡ protocol → FitsMounted state its cache.entries s → Stands state s → HoldsAlways state protocol t →
     MovesDevice state s t answer →
     Serves state its command.StepAll (session.Mounted s) (Ok (moved_reply answer))
     (session.Mounted t) cache cache
-moved_session {F = F} state its protocol s t answer cache rule fits is moves =
+moved_session {F = F} state its protocol s t answer cache rule fits stands is moves =
     let was : HoldsAlways state protocol s = subst (λ (p : Protocol). HoldsAlways state p s) rule fits.always in
-    let here = moved_serve state protocol s t answer was is moves in
+    let here = moved_serve state protocol s t answer was stands is moves in
     let cached : IsCached t cache.entries = cached_stays s t cache.entries here.config here.versions fits.cached in
     let live : (state t.flash).live ≡ true = here.carries.lives ∙ fits.live in
     let new : DeviceSession F = session.Mounted t in
@@ -83,6 +87,7 @@ dropped_lost state s t entries b is fits drops =
             (moment_of (state t.flash))) always.shape (by_moves b);
         still = λ still. cc;
       };
+      costs = by_costs b;
       carries = drops.carries;
       cut = by_cut b ∙ ap not (sym is);
     }
@@ -98,6 +103,11 @@ dropped_lost state s t entries b is fits drops =
     by_may : (b : Bool) → MayLose command.StepAll s.machine.pages (lost_reply b)
     by_may true = inr (refl, refl)
     by_may false = inl (refl, tt)
+
+    by_costs : (b : Bool) → CostsCommand s.config command.StepAll s.machine (lost_reply b) (moment_of (state s.flash))
+        (moment_of (state t.flash))
+    by_costs true = tt
+    by_costs false = tt
 
     by_moves : (b : Bool) → MovesTogether true (state s.flash).shape (moment_of (state s.flash))
         (is_break (lost_reply b)) (moment_of (state t.flash))
