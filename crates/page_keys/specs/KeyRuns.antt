@@ -21,6 +21,7 @@ use Rattle.mounted_session.specs.Spending.{IsSpent}
 use Rattle.page_keys.specs.BucketWrites.{BreaksBuckets, WritesBuckets}
 use Rattle.page_keys.specs.Buckets.{EncodesMap}
 use Rattle.page_keys.specs.KeyMaps.{KeyMap, apply, seen_by}
+use Rattle.page_keys.specs.PutCosts.{CostsPut}
 use Rattle.page_keys.specs.Puts.{early_refusal, put_refusal, put_writes}
 use Rattle.page_keys.specs.declared.answers.PutError.{PutError}
 use Rattle.page_keys.specs.declared.answers.PutError.TheVariants as refused
@@ -77,12 +78,13 @@ pub record TakesPut (its : Config) (spent : ℕ → Bool) (cs : List Change) (ol
   pub array : array_at its new ≡ put (array_at its old) (put_writes its old.keys cs)
 
 -- Power was cut in it, or it met a fault: all its changes are made or none is, and its buckets were written from the
--- first one on. It is not one that its changes alone refuse: such a put does nothing on the flash.
+-- first one on, perhaps none. It is not one that its changes alone refuse: such a put does nothing on the flash.
 pub record BreaksPut (its : Config) (spent : ℕ → Bool) (cs : List Change) (old new : KeyPoint) :
     Type 0 where
   pub tried : early_refusal its cs ≡ None
   pub whole : ((new.keys ≡ old.keys) × (array_at its new ≡ array_at its old)) ⊎ TakesPut its spent cs old new
   pub first : BreaksBuckets its cs (moment_of old.flash) (moment_of new.flash)
+  pub costs : CostsPut its cs (moment_of old.flash) (moment_of new.flash)
   pub moves : MovesTo its old true new
 
 -- A put, where these pages are spent, by its reply. One that is stored has written each bucket that a key falls in.
@@ -90,6 +92,7 @@ abbrev pub DoesPut : Config → (ℕ → Bool) → List Change → KeyPoint → 
 DoesPut its spent cs old (reply.Stored changes) new =
     TakesPut its spent cs old new × (changes ≡ length cs) × MovesTo its old false new
     × WritesBuckets its cs (moment_of old.flash) (moment_of new.flash)
+    × CostsPut its cs (moment_of old.flash) (moment_of new.flash)
 DoesPut its spent cs old reply.RefusedEmpty new = RefusesPut its spent cs refused.Empty old new
 DoesPut its spent cs old (reply.RefusedRepeated key) new =
     (i : ℕ) × RefusesPut its spent cs (refused.Repeated i) old new × (key ≡ key_at cs i)
@@ -251,7 +254,8 @@ seen_next its seen c r p page =
     if p.up then seen_after its seen c r page else mentions_in its (moment_of p.flash) page
 
 -- A run over a list of commands: one reply and one point for each. `seen` is at least the greatest mention of each page
--- on the flash. A command mentions each page that a key of its put falls in once more at most, and no other page.
+-- on the flash. After a command the image mentions no page above that, and each page that a key of its put falls in at
+-- most once more.
 abbrev pub KeyRun : Config → (ℕ → ℕ) → KeyPoint → List KeyCommand → List KeyReply → List KeyPoint →
     Type 0
 KeyRun its seen old [] [] [] = Unit {0}

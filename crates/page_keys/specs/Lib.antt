@@ -9,6 +9,7 @@ pub mod KeyServed
 pub mod KeySessions
 pub mod Pages
 pub mod PutAnswers
+pub mod PutCosts
 pub mod Puts
 pub mod Putting
 pub mod ScriptReading

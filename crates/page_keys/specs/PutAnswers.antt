@@ -12,6 +12,7 @@ use Rattle.tx_engine.specs.Naming.{is_spent}
 use Rattle.page_keys.specs.BucketWrites.{BreaksBuckets, WritesBuckets}
 use Rattle.page_keys.specs.Buckets.{EncodesMap}
 use Rattle.page_keys.specs.KeyMaps.{KeyMap, apply, pages_of, seen_by}
+use Rattle.page_keys.specs.PutCosts.{CostsPut}
 use Rattle.page_keys.specs.Putting.{is_failed, is_put_fault}
 use Rattle.page_keys.specs.Puts.{early_refusal, put_refusal, put_writes}
 use Rattle.page_keys.specs.Stores.{KeyStoreState}
@@ -32,7 +33,7 @@ pub record StaysPut {F : Type 0} (state : F → FlashState) (old new : KeyStoreS
 
 -- All changes are made: the array of the image has what the put writes, and is as before at every other page. Each page
 -- that a key falls in is mentioned once more, and no other page: its bucket was written, also where none of its bytes
--- changed.
+-- changed. No more was programmed and erased than these pages may take.
 pub record MakesAll {F : Type 0} (state : F → FlashState) (old new : KeyStoreState F) (m : KeyMap)
     (cs : List Change) : Type 0 where
   pub taken : put_refusal old.device.config (is_spent old.device.noted.mentions) m cs ≡ None
@@ -46,10 +47,11 @@ pub record MakesAll {F : Type 0} (state : F → FlashState) (old new : KeyStoreS
       ≡ seen_by old.device.config.logical cs (mention_of old.device.noted) page
   pub written : WritesBuckets old.device.config cs (moment_of (state old.device.flash))
       (moment_of (state new.device.flash))
+  pub costs : CostsPut old.device.config cs (moment_of (state old.device.flash)) (moment_of (state new.device.flash))
   pub usable : new.broken ≡ false
 
 -- The image has the array as it was, or that with what the put writes, which is then not refused. Its buckets were
--- written from the first one on.
+-- written from the first one on, perhaps none.
 pub record MakesAllOrNone {F : Type 0} (state : F → FlashState) (old new : KeyStoreState F) (m : KeyMap)
     (cs : List Change) : Type 0 where
   pub tried : early_refusal old.device.config cs ≡ None
@@ -61,6 +63,7 @@ pub record MakesAllOrNone {F : Type 0} (state : F → FlashState) (old new : Key
       × EncodesMap new.device.config array (apply m cs))
   pub first : BreaksBuckets old.device.config cs (moment_of (state old.device.flash))
       (moment_of (state new.device.flash))
+  pub costs : CostsPut old.device.config cs (moment_of (state old.device.flash)) (moment_of (state new.device.flash))
   pub moved : Moved state old.device new.device true
   pub seen : (seen : ℕ → ℕ) → IsSeen seen old.device →
       IsSeen (seen_by old.device.config.logical cs seen) new.device

@@ -1,5 +1,5 @@
 -- Writing the pages of a put as one transaction.
-use Rattle.std.specs.Prelude.{◌≡◌, ◌⊎◌, ℕ, ◌+◌, ◌<◌, Bool, true, false, List, [], ◌∷◌, map, All, None, Some, if◌then◌else◌}
+use Rattle.std.specs.Prelude.{◌≡◌, ◌⊎◌, ℕ, ◌+◌, ◌<◌, Bool, true, false, List, [], ◌∷◌, length, map, All, None, Some, if◌then◌else◌}
 use Rattle.std.specs.List.{list_any}
 use Rattle.tx_types.specs.Batch.{PageWrite}
 use Rattle.flash_model.specs.Flash.{FlashState}
@@ -18,6 +18,7 @@ use Rattle.tx_engine.specs.DeviceState.{DeviceState}
 use Rattle.array_machine.specs.declared.mark.Mark.TheVariants.{Plain}
 use Rattle.array_machine.specs.declared.answers.SubmitError.TheVariants as submit
 use Rattle.page_keys.specs.BucketWrites.{WritesFirst, WritesInTurn, linked}
+use Rattle.page_keys.specs.PutCosts.{CostsPages}
 use Rattle.page_keys.specs.declared.answers.PutError.{PutError}
 use Rattle.page_keys.specs.declared.answers.PutError.TheVariants as refused
 
@@ -49,6 +50,7 @@ pub record Writes {F : Type 0} (state : F → FlashState) (old new : DeviceState
       (map (next_name old.noted) writes)
   pub turns : WritesInTurn old.config (moment_of (state old.flash)) (linked (map (next_name old.noted) writes))
       (moment_of (state new.flash))
+  pub costs : CostsPages old.config (length writes) (moment_of (state old.flash)) (moment_of (state new.flash))
 
 -- nothing changed but what is pinned
 pub record Refuses {F : Type 0} (old new : DeviceState F) : Type 0 where
@@ -70,6 +72,7 @@ pub record Breaks {F : Type 0} (state : F → FlashState) (old new : DeviceState
       (map (next_name old.noted) writes)
   pub first : WritesFirst old.config (map (next_name old.noted) writes) (moment_of (state old.flash))
       (moment_of (state new.flash))
+  pub costs : CostsPages old.config (length writes) (moment_of (state old.flash)) (moment_of (state new.flash))
 
 abbrev pub WritesNot : {F : Type 0} → (F → FlashState) → DeviceState F → DeviceState F →
     List PageWrite → PutError → Type 0

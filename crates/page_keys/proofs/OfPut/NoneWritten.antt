@@ -1,5 +1,5 @@
 -- A put that breaks off before it writes.
-use Rattle.page_keys.proofs.Common.{◌≡◌, ℕ, ◌+◌, ◌<◌, true, false, List, [], ◌∷◌, length, map, drop, get_or, refl, sym, ap, subst, ◌∙◌, arith, inl, Config, Moment, pages_of, Change}
+use Rattle.page_keys.proofs.Common.{◌≡◌, ℕ, ◌+◌, ◌<◌, true, false, List, [], ◌∷◌, length, map, drop, get_or, refl, sym, ap, subst, arith, inl, Config, Moment, pages_of, Change}
 use Rattle.std.proofs.Common.{All}
 use Rattle.std.proofs.lemmas.List.{get_or-map, length-map}
 use Rattle.std.proofs.lemmas.List.Elements.{All-drop, All-from_get_or, All-nil}
@@ -11,6 +11,7 @@ use Rattle.judged_records.specs.Images.{records_in}
 use Rattle.open_table.specs.OpenTransactionsState.{no_name}
 use Rattle.tx_engine.proofs.OfSubmit.Submitted.{above_mention}
 use Rattle.page_keys.specs.BucketWrites.{AreAbsent, BreaksBuckets}
+use Rattle.page_keys.specs.PutCosts.{CostsPut}
 
 -- the name of a page one version above its mention
 abbrev above_of : List Found → ℕ → Link
@@ -35,6 +36,13 @@ module _ (l : List Found) (ps : List ℕ) where
   all_absent = All-from_get_or (λ (name : Link). is_present l name ≡ false) (map (above_of l) ps) no_name
       (λ k lt. above_mention l (get_or (map (above_of l) ps) k no_name) (above k lt))
 
+-- nothing was programmed or erased
+pub none_cost : (its : Config) (cs : List Change) (old new : Moment) → new ≡ old → CostsPut its cs old new
+none_cost its cs old new same = record {
+  programs = (let e = ap (λ (m : Moment). m.programs) same in omega (arith, e));
+  erases = (let e = ap (λ (m : Moment). m.erases) same in omega (arith, e));
+}
+
 pub none_written : (its : Config) (cs : List Change) (old new : Moment) → new ≡ old → BreaksBuckets its cs old new
 none_written its cs old new same =
     let l = records_in its.protocol old.image in
@@ -51,6 +59,8 @@ none_written its cs old new same =
         turns = refl;
         due = absent 0;
         moves = record { done = []; lone = All-nil IsLone; between = old; does = refl; ends = inl same };
+        next = λ name here. inl (subst (λ (m : Moment). is_present (records_in its.protocol m.image) name ≡ true) same
+            here);
         later = subst (λ (m : Moment). AreAbsent its m (drop 1 (map (above_of l) ps))) (sym same) (absent 1);
       };
     }

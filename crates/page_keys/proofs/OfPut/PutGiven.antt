@@ -4,6 +4,7 @@ use Rattle.std.specs.Option.{option_or}
 use Rattle.flash_model.proofs.MoveLemmas.{FlashMoves-nothing, FlashMoves-then}
 use Rattle.std.proofs.lemmas.List.FromFn.{length-map-range_with_len}
 use Rattle.std.specs.Prelude.{All}
+use Rattle.std.proofs.lemmas.List.{length-map}
 use Rattle.tx_types.specs.declared.record.Link.{Link}
 use Rattle.record_list.specs.Records.{mention}
 use Rattle.judged_records.specs.Images.{records_in}
@@ -11,9 +12,10 @@ use Rattle.judged_records.specs.IndexState.{mention_of}
 use Rattle.open_table.specs.OpenTransactionsState.{next_name}
 use Rattle.array_machine.specs.Submit.{is_of}
 use Rattle.page_keys.specs.BucketWrites.{BreaksBuckets, WritesBuckets, WritesFirst, WritesInTurn, linked}
-use Rattle.page_keys.proofs.OfPut.NoneWritten.{none_written}
+use Rattle.page_keys.proofs.OfPut.NoneWritten.{none_cost, none_written}
 use Rattle.page_keys.specs.KeyMaps.{seen_by}
 use Rattle.page_keys.specs.PutAnswers.{StaysPut, MakesAll, MakesAllOrNone, ReadsFirst}
+use Rattle.page_keys.specs.PutCosts.{CostsPages, CostsPut}
 use Rattle.page_keys.specs.Puts as puts
 use Rattle.page_keys.specs.Puts.{put_refusal, spent_among, wide}
 use Rattle.std.specs.Prelude.{IfErr, IsSome}
@@ -191,6 +193,8 @@ module _ {F : Type 0} (state : F → FlashState) (old : KeyStoreState F) (t : De
         );
         first = none_written old.device.config cs (moment_of (state old.device.flash)) (moment_of (state t.flash))
             reads.moment;
+        costs = none_cost old.device.config cs (moment_of (state old.device.flash)) (moment_of (state t.flash))
+            reads.moment;
         moved = record {
           config = config;
           moves = FlashMoves-nothing (state old.device.flash) (state t.flash) true reads.moment;
@@ -339,6 +343,18 @@ module _ {F : Type 0} (state : F → FlashState) (old new : KeyStoreState F) (t 
             (moment_of (state new.device.flash))) its_config breaks.first);
       }
 
+  -- at most what its pages take
+  costs_all : CostsPages t.config (length ws) (moment_of (state t.flash)) (moment_of (state new.device.flash)) →
+      CostsPut old.device.config cs (moment_of (state old.device.flash)) (moment_of (state new.device.flash))
+  costs_all h =
+      let after = moment_of (state new.device.flash) in
+      let long : length ws ≡ length (pages_of old.device.config.logical cs) =
+      ap (length {A = PageWrite}) are
+      ∙ length-map (pages_of old.device.config.logical cs) (write_of old.device.config (apply m cs)) in
+      subst (λ (n : ℕ). CostsPages old.device.config n (moment_of (state old.device.flash)) after) long
+      (subst (λ (x : Moment). CostsPages old.device.config (length ws) x after) reads.moment
+      (subst (λ (c : Config). CostsPages c (length ws) (moment_of (state t.flash)) after) its_config h))
+
   mentioned_more : Writes state t new.device ws → (page : ℕ) → page < old.device.config.logical →
       mention_of new.device.noted page
       ≡ seen_by old.device.config.logical cs (mention_of old.device.noted) page
@@ -361,6 +377,7 @@ module _ {F : Type 0} (state : F → FlashState) (old new : KeyStoreState F) (t 
     seen = written_seen writes.seen;
     mentions = mentioned_more writes;
     written = written_each writes;
+    costs = costs_all writes.costs;
     usable = usable;
   }
 
@@ -388,6 +405,7 @@ module _ {F : Type 0} (state : F → FlashState) (old new : KeyStoreState F) (t 
           )
         ];
         first = written_first breaks;
+        costs = costs_all breaks.costs;
         moved = moved_on true breaks.moved;
         seen = written_seen breaks.seen;
         broken = broken;

@@ -57,6 +57,7 @@ module _ {F : Type 0} (state : F → FlashState) (protocol : Protocol) (old new 
       count,
       moves_by false all.moved.moves,
       all.written,
+      all.costs,
     );
     shows = λ h. all.shows;
     image = λ h. cc;
@@ -81,6 +82,7 @@ module _ {F : Type 0} (state : F → FlashState) (protocol : Protocol) (old new 
               ≡ old.device.machine.pages) any.moved.config none.0 ∙ sym array_is,
         );
         first = any.first;
+        costs = any.costs;
         moves = moves_by true any.moved.moves;
       };
       shows = λ h. cc;
@@ -103,6 +105,7 @@ module _ {F : Type 0} (state : F → FlashState) (protocol : Protocol) (old new 
               ≡ put old.device.machine.pages (put_writes old.device.config m cs)) any.moved.config all.1);
         });
         first = any.first;
+        costs = any.costs;
         moves = moves_by true any.moved.moves;
       };
       shows = λ h. cc;

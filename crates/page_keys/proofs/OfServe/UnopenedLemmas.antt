@@ -1,5 +1,5 @@
 -- How serving a key script goes on over an image whose store cannot be opened.
-use Rattle.page_keys.proofs.Common.{◌≡◌, ℕ, ◌+◌, ◌<◌, ◌≤◌, false, List, [], ◌∷◌, ◌++◌, length, take, Ok, Err, refl, sym, ap, subst, ◌∙◌, inl, inr, arith, append-nil, get_or, suc, take-append_seam, take-length, Config, FlashState, moment_of, IsKeyImage, ServesOne, flash_in, KeyCommand, KeyServeError, KeyReply, KeySession}
+use Rattle.page_keys.proofs.Common.{◌≡◌, ℕ, ◌+◌, ◌<◌, ◌≤◌, false, List, [], ◌∷◌, ◌++◌, length, take, Ok, Err, refl, sym, ap, subst, ◌∙◌, inl, inr, append-nil, get_or, suc, take-append_seam, take-length, Config, FlashState, moment_of, IsKeyImage, ServesOne, flash_in, KeyCommand, KeyServeError, KeyReply, KeySession}
 use Rattle.std.proofs.lemmas.List.{take_all}
 use Rattle.mounted_session.specs.Mounting.{StaysQuiet}
 use Rattle.mounted_session.proofs.Mounting.{nothing_done}

@@ -1,10 +1,11 @@
 -- How the buckets of a put are written where a step breaks off.
-use Rattle.page_keys.proofs.Common.{◌≡◌, ◌⊎◌, ℕ, ◌+◌, ◌<◌, ◌≤◌, true, false, List, [], ◌∷◌, length, map, drop, get_or, Some, refl, sym, ap, subst, ◌∙◌, inl, inr, arith, zero, suc, PageWrite, Config, Protocol, Shape, shape_of, FlashState, Contents, Moment, moment_of, IndexState, HoldsAlways, ArrayState, DeviceState, writing}
+use Rattle.page_keys.proofs.Common.{◌≡◌, ◌⊎◌, ℕ, ◌+◌, ◌<◌, ◌≤◌, true, false, List, [], ◌∷◌, length, map, take, drop, get_or, Some, refl, sym, ap, subst, ◌∙◌, inl, inr, arith, zero, suc, PageWrite, Config, Protocol, Shape, shape_of, FlashState, Contents, Moment, moment_of, IndexState, HoldsAlways, ArrayState, DeviceState, writing}
 use Rattle.std.proofs.Common.{All, length-drop}
 use Rattle.std.specs.Prelude.{◌≢◌, AllPairs, slice_get}
 use Rattle.std.proofs.lemmas.Bool.{cases_Bool, false≢true}
 use Rattle.std.proofs.lemmas.List.{get_or-drop, length-map}
 use Rattle.std.proofs.lemmas.List.Elements.{All-from_get_or}
+use Rattle.list_lemmas.proofs.Membership.{Contains-here, Contains-one}
 use Rattle.tx_types.specs.Config.{slots_of}
 use Rattle.tx_types.specs.declared.config.Slot.{Slot}
 use Rattle.tx_types.specs.declared.record.Link.{Link}
@@ -26,12 +27,12 @@ use Rattle.collector.specs.declared.unsure.Unsure.TheVariants as unsure
 use Rattle.array_machine.specs.ArrayState.{Entry}
 use Rattle.array_machine.specs.declared.mark.Mark.{Mark}
 use Rattle.open_table.specs.OpenTransactionsState.{Naming, name_at, next_name, no_name}
-use Rattle.tx_engine.specs.DeviceState.{DoubtsAs, IsOpenAs, IsOwn, Stands}
+use Rattle.tx_engine.specs.DeviceState.{DoubtsAs, IsOwn, Stands}
 use Rattle.tx_engine.specs.Exits.{Exits}
 use Rattle.tx_engine.specs.Settling.{StaysUnread, settlement_of}
 use Rattle.tx_engine.proofs.OfDevice.OpenOnes.{can_take}
 use Rattle.tx_engine.proofs.OfLaws.DevicesStand.{no_record, spare_other}
-use Rattle.page_keys.specs.BucketWrites.{WritesFirst}
+use Rattle.page_keys.specs.BucketWrites.{AddsNames, WritesFirst}
 use Rattle.page_keys.proofs.OfStore.Turns.{Turning, entry_at, one_named, opened_as, same_names}
 
 -- the record whose program was broken has this name
@@ -95,6 +96,12 @@ dropped P names k n long each =
     All-from_get_or P (drop k names) no_name (λ i lt.
     let size = length-drop k names in
     subst P (sym (get_or-drop k names i no_name)) (each (k + i) (omega arith) (omega (arith, long, size, lt))))
+
+-- the one name at this place
+one_at : (names : List Link) (k : ℕ) → k < length names → take 1 (drop k names) ≡ get_or names k no_name ∷ []
+one_at [] k lt = absurd (omega (arith, lt))
+one_at (name ∷ names) zero lt = refl
+one_at (name ∷ names) (suc k) lt = one_at names k (omega (arith, lt))
 
 only_entry : (e f : Entry) (place : ℕ) → slice_get (e ∷ []) place ≡ Some f → e ≡ f
 only_entry e f zero is = cc
@@ -165,26 +172,33 @@ module _ {F : Type 0} (state : F → FlashState) (protocol : Protocol) (old prev
       its.named.transaction.distinct in
       apart k j no_name low (omega (arith, long, lt)) (sym (ap (λ (a : Link). a.page) same))
 
+  -- no other name is added
+  adds_next : AddsNames old.config (moment_of (state prev.flash)) (get_or names k no_name ∷ [])
+      (moment_of (state new.flash))
+  adds_next name here = elim fresh [
+    | inl unread ↦ inl (subst (λ (m : Moment). is_present (records_in old.config.protocol m.image) name ≡ true)
+        unread.moment here)
+    | inr kept ↦ elim (in_image state protocol laws notings new
+        (ap (λ (c : Config). c.protocol) is.its ∙ is.rule) name new.unsure stands.matches
+        (can_take state new stands)
+        (subst (λ (q : Protocol). is_present (records_in q (state new.flash).image) name ≡ true) rule here)) [
+          | inl there ↦ inl (ap (λ (l : List Found). is_present l name) before ∙ kept.fewer name there)
+          | inr own ↦ inr (Contains-here (get_or names k no_name) [] name
+              (sym (own_name new.unsure stands.doubt name own)))
+        ]
+  ]
+
   -- the records of the pages that follow it are not there
   absent_after : (j : ℕ) → k + 1 ≤ j → j < length ws →
       is_present (records_in old.config.protocol (state new.flash).image) (get_or names j no_name) ≡ false
   absent_after j low lt =
       let name = get_or names j no_name in
-      let none = so_far.absent j (omega (arith, low)) lt in
-      elim fresh [
-        | inl unread ↦ subst (λ (m : Moment). is_present (records_in old.config.protocol m.image) name ≡ false)
-            (sym unread.moment) none
-        | inr kept ↦ elim (cases_Bool (is_present (records_in old.config.protocol (state new.flash).image) name)) [
-          | inr gone ↦ gone
-          | inl here ↦ elim (in_image state protocol laws notings new
-              (ap (λ (c : Config). c.protocol) is.its ∙ is.rule) name new.unsure stands.matches
-              (can_take state new stands)
-              (subst (λ (q : Protocol). is_present (records_in q (state new.flash).image) name ≡ true) rule here)) [
-                | inl there ↦ absurd (false≢true (sym none ∙ ap (λ (l : List Found). is_present l name) before
-                    ∙ kept.fewer name there))
-                | inr own ↦ absurd (distinct j (omega (arith, low)) lt
-                    (own_name new.unsure stands.doubt name own))
-              ]
+      elim (cases_Bool (is_present (records_in old.config.protocol (state new.flash).image) name)) [
+        | inr gone ↦ gone
+        | inl here ↦ elim (adds_next name here) [
+          | inl there ↦ absurd (false≢true (sym (so_far.absent j (omega (arith, low)) lt) ∙ there))
+          | inr own ↦ absurd (distinct j (omega (arith, low)) lt
+              (sym (Contains-one (get_or names k no_name) name own)))
         ]
       ]
 
@@ -198,6 +212,9 @@ module _ {F : Type 0} (state : F → FlashState) (protocol : Protocol) (old prev
         (length ws) long so_far.absent;
     moves = subst (λ (x : Shape). Moves x (moment_of (state prev.flash)) true (moment_of (state new.flash)))
         (was.shape ∙ ap shape_of config) exits.moves;
+    next = subst
+        (λ (l : List Link). AddsNames old.config (moment_of (state prev.flash)) l (moment_of (state new.flash)))
+        (sym (one_at names k (omega (arith, long, within)))) adds_next;
     later = dropped
         (λ name. is_present (records_in old.config.protocol (state new.flash).image) name ≡ false) names (k + 1)
         (length ws) long absent_after;

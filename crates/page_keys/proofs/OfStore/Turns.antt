@@ -7,7 +7,7 @@ use Rattle.std.proofs.lemmas.Bool.{cases_Bool, cond-true, lt-ltb, false≢true}
 use Rattle.std.proofs.lemmas.List.{get_or_past, get_or-map, get_or-set_same, length-map, length-set, take_all}
 use Rattle.std.proofs.lemmas.List.Elements.{All-contains, All-from_get_or, All-head}
 use Rattle.std.proofs.lemmas.Slice.Zip.{get_or-zip, length-zip}
-use Rattle.list_lemmas.proofs.Membership.{Contains-one, any_in, in_any}
+use Rattle.list_lemmas.proofs.Membership.{Contains-here, Contains-one, any_in, in_any}
 use Rattle.list_lemmas.proofs.Tests.{any_of}
 use Rattle.tx_types.specs.Batch.{no_write}
 use Rattle.tx_types.specs.Config.{slots_of}
@@ -40,7 +40,7 @@ use Rattle.tx_engine.specs.Settling.{AddsOnly, link_place, settlement_of, with_s
 use Rattle.tx_engine.specs.Writing.{BringsPage, DueRecord, WritesRecord, due_record, next_of, open_of}
 use Rattle.tx_engine.proofs.OfDevice.OpenOnes.{can_take}
 use Rattle.tx_engine.proofs.OfSubmit.Submitted.{above_mention}
-use Rattle.page_keys.specs.BucketWrites.{HasLinked, Linked, WritesInTurn, linked}
+use Rattle.page_keys.specs.BucketWrites.{AddsNames, HasLinked, Linked, WritesInTurn, linked}
 use Rattle.page_keys.specs.Writing.{seen_more}
 
 -- ---- names with their links
@@ -68,16 +68,24 @@ pair_at names k within =
 turn_more : (its : Config) (pairs : List Linked) (pair : Linked) (old mid new : Moment) →
     WritesInTurn its old pairs mid → is_present (records_in its.protocol mid.image) pair.0 ≡ false →
     Moves (shape_of its) mid false new →
-    HasLinked (records_in its.protocol new.image) pair → WritesInTurn its old (pairs ++ pair ∷ []) new
-turn_more its [] pair old mid new turns absent moves there = (
+    HasLinked (records_in its.protocol new.image) pair → AddsNames its mid (pair.0 ∷ []) new →
+    WritesInTurn its old (pairs ++ pair ∷ []) new
+turn_more its [] pair old mid new turns absent moves there adds = (
   subst (λ (m : Moment). is_present (records_in its.protocol m.image) pair.0 ≡ false) turns absent,
   new,
   subst (λ (m : Moment). Moves (shape_of its) m false new) turns moves,
   there,
+  subst (λ (m : Moment). AddsNames its m (pair.0 ∷ []) new) turns adds,
   refl,
 )
-turn_more its (p ∷ pairs) pair old mid new turns absent moves there =
-    (turns.0, turns.1, turns.2, turns.3, turn_more its pairs pair turns.1 mid new turns.4 absent moves there)
+turn_more its (p ∷ pairs) pair old mid new turns absent moves there adds = (
+  turns.0,
+  turns.1,
+  turns.2,
+  turns.3,
+  turns.4,
+  turn_more its pairs pair turns.1 mid new turns.5 absent moves there adds,
+)
 
 -- the records of a list mention the names that they have
 linked_mention : (l : List Found) (pair : Linked) → HasLinked l pair →
@@ -331,11 +339,35 @@ module _ {F : Type 0} (state : F → FlashState) (protocol : Protocol) (old prev
         | inr rose ↦ (let less = rose.0 in omega (arith, less))
       ]
 
+  -- the step that is made adds the name of the next page alone
+  abbrev pub AddsNext : Type 0
+  AddsNext =
+      AddsNames old.config (moment_of (state prev.flash)) (get_or names k no_name ∷ []) (moment_of (state new.flash))
+
+  pub adds_next : ImageIsSound protocol →
+      IfSome (next_of prev 0) (λ name. AddsOnly name (settlement_of state prev).noted new.noted) → AddsNext
+  adds_next laws notes name here =
+      let adds = subst (λ (o : Option Link). IfSome o
+      (λ a. AddsOnly a (settlement_of state prev).noted new.noted)) next_now notes in
+      let before : records_in old.config.protocol (state prev.flash).image
+      ≡ found_in (settlement_of state prev).noted.notes =
+      subst (λ (p : Protocol). records_in p (state prev.flash).image ≡ found_in (settlement_of state prev).noted.notes)
+      (sym was.rule ∙ ap (λ (c : Config). c.protocol) config)
+      (laws.records (state prev.flash) prev.noted prev.table prev.unsure so_far.stands.matches
+      (can_take state prev so_far.stands) (ap (λ (c : Config). c.protocol) was.its ∙ was.rule)) in
+      let after : records_in old.config.protocol (state new.flash).image ≡ found_in new.noted.notes =
+      subst (λ (c : Config). records_in c.protocol (state new.flash).image ≡ found_in new.noted.notes) config_now
+      (is.records sure) in
+      elim (adds name (ap (λ (l : List Found). is_present l name) (sym after) ∙ here)) [
+        | inl there ↦ inl (ap (λ (l : List Found). is_present l name) before ∙ there)
+        | inr same ↦ inr (Contains-here (get_or names k no_name) [] name (sym same))
+      ]
+
   -- with the record of the next page there
   module _ (within : k < length ws) (there : HasLinked (found_in new.noted.notes) pair) where
-    turns_on : WritesInTurn old.config (moment_of (state old.flash)) (take (k + 1) (linked names))
+    turns_on : AddsNext → WritesInTurn old.config (moment_of (state old.flash)) (take (k + 1) (linked names))
         (moment_of (state new.flash))
-    turns_on =
+    turns_on adds =
         let long = pairs_long names in
         let inside : k < length (linked names) = omega (arith, long, as_long, within) in
         let first : pair.0 ≡ get_or names k no_name =
@@ -350,7 +382,9 @@ module _ {F : Type 0} (state : F → FlashState) (protocol : Protocol) (old prev
         (turn_more old.config (take k (linked names)) pair (moment_of (state old.flash))
         (moment_of (state prev.flash)) (moment_of (state new.flash)) so_far.turns
         (subst (λ (a : Link). is_present (records_in old.config.protocol (state prev.flash).image) a ≡ false)
-        (sym first) (so_far.absent k (omega arith) within)) on here)
+        (sym first) (so_far.absent k (omega arith) within)) on here
+        (subst (λ (a : Link). AddsNames old.config (moment_of (state prev.flash)) (a ∷ []) (moment_of (state new.flash)))
+        (sym first) adds))
 
     least_here : (get_or names k no_name).version ≤ mention_of new.noted (get_or names k no_name).page
     least_here =
@@ -382,13 +416,13 @@ module _ {F : Type 0} (state : F → FlashState) (protocol : Protocol) (old prev
 
     -- all were written
     module _ (last : k + 1 ≡ length ws) where
-      pub turned : WritesInTurn old.config (moment_of (state old.flash)) (linked names)
+      pub turned : AddsNext → WritesInTurn old.config (moment_of (state old.flash)) (linked names)
           (moment_of (state new.flash))
-      turned =
+      turned adds =
           let long = pairs_long names in
           subst (λ (l : List Linked). WritesInTurn old.config (moment_of (state old.flash)) l
           (moment_of (state new.flash)))
-          (take_all (k + 1) (linked names) (omega (arith, long, as_long, last))) turns_on
+          (take_all (k + 1) (linked names) (omega (arith, long, as_long, last))) (turns_on adds)
 
       pub mentioned : IsSeen (seen_more (mention_of old.noted) ws) new → (page : ℕ) → page < old.config.logical →
           mention_of new.noted page ≡ seen_more (mention_of old.noted) ws page
@@ -407,27 +441,16 @@ module _ {F : Type 0} (state : F → FlashState) (protocol : Protocol) (old prev
           subst (λ p. mention_of old.noted p + 1 ≤ mention_of new.noted p) same here)
 
   -- the records of the pages that follow are not there: neither before the step, nor is one of them written in it
-  absent_on : ImageIsSound protocol →
-      AddsOnly (get_or names k no_name) (settlement_of state prev).noted new.noted → (j : ℕ) → k + 1 ≤ j →
-      j < length ws →
+  absent_on : AddsNext → (j : ℕ) → k + 1 ≤ j → j < length ws →
       is_present (records_in old.config.protocol (state new.flash).image) (get_or names j no_name) ≡ false
-  absent_on laws adds j low lt =
+  absent_on adds j low lt =
       let name = get_or names j no_name in
-      let before : records_in old.config.protocol (state prev.flash).image
-      ≡ found_in (settlement_of state prev).noted.notes =
-      subst (λ (p : Protocol). records_in p (state prev.flash).image ≡ found_in (settlement_of state prev).noted.notes)
-      (sym was.rule ∙ ap (λ (c : Config). c.protocol) config)
-      (laws.records (state prev.flash) prev.noted prev.table prev.unsure so_far.stands.matches
-      (can_take state prev so_far.stands) (ap (λ (c : Config). c.protocol) was.its ∙ was.rule)) in
-      let after : records_in old.config.protocol (state new.flash).image ≡ found_in new.noted.notes =
-      subst (λ (c : Config). records_in c.protocol (state new.flash).image ≡ found_in new.noted.notes) config_now
-      (is.records sure) in
-      elim (cases_Bool (is_present (found_in new.noted.notes) name)) [
-        | inr gone ↦ ap (λ (l : List Found). is_present l name) after ∙ gone
+      elim (cases_Bool (is_present (records_in old.config.protocol (state new.flash).image) name)) [
+        | inr gone ↦ gone
         | inl here ↦ elim (adds name here) [
-          | inl there ↦ absurd (false≢true (sym (so_far.absent j (omega (arith, low)) lt)
-              ∙ ap (λ (l : List Found). is_present l name) before ∙ there))
-          | inr same ↦ (
+          | inl there ↦ absurd (false≢true (sym (so_far.absent j (omega (arith, low)) lt) ∙ there))
+          | inr own ↦ (
+              let same = sym (Contains-one (get_or names k no_name) name own) in
               let distinct = subst (λ (l : List Link). AllPairs (λ a b. a.page ≢ b.page) l) so_far.names
               its.named.transaction.distinct in
               absurd (distinct k j no_name (omega (arith, low)) (omega (arith, as_long, lt))
@@ -440,8 +463,7 @@ module _ {F : Type 0} (state : F → FlashState) (protocol : Protocol) (old prev
       IfSome (next_of prev 0) (λ name. AddsOnly name (settlement_of state prev).noted new.noted) →
       new.machine ≡ writing old.machine.pages ws (k + 1) → k + 1 < length ws → Turning state old new ws (k + 1)
   turning_more laws notes after more =
-      let adds = subst (λ (o : Option Link). IfSome o
-      (λ a. AddsOnly a (settlement_of state prev).noted new.noted)) next_now notes in
+      let adds = adds_next laws notes in
       let entries = ap (λ (m : ArrayState). m.entries) after in
       let x = one_named state new stands (entry_at ws (k + 1)) entries in
       let now = opened_as state new stands (entry_at ws (k + 1)) x.0 entries x.1 in
@@ -457,10 +479,10 @@ module _ {F : Type 0} (state : F → FlashState) (protocol : Protocol) (old prev
         namings = x.1;
         names = same;
         stands = stands;
-        absent = absent_on laws adds;
+        absent = absent_on adds;
         range = so_far.range;
         above = so_far.above;
-        turns = turns_on within there;
+        turns = turns_on within there adds;
         least = least_on within there;
         later = later_on within there;
       }

@@ -1,15 +1,18 @@
 mod WriteSteps
 mod Steps
-use Rattle.page_keys.proofs.Common.{ℕ, ◌+◌, Ok, Some, false, ap, subst, ◌∙◌, IndexState, IsSeen, is_spent, limits_of, SubmitError, ArrayState, StepsAs}
+use Rattle.page_keys.proofs.Common.{ℕ, ◌+◌, length, arith, Ok, Some, false, ap, subst, ◌∙◌, IndexState, IsSeen, is_spent, limits_of, SubmitError, ArrayState, StepsAs}
 use Rattle.array_machine.specs.declared.answers.Progress.TheVariants as progress
 use Rattle.tx_engine.specs.Exits.{is_there}
 use Rattle.tx_engine.proofs.OfDevice.Seen.{exits_seen}
+use Rattle.flash_model.specs.Operations.{moment_of}
 use Rattle.judged_records.specs.Images.{records_in}
 use Rattle.judged_records.specs.IndexState.{mention_of}
 use Rattle.page_keys.specs.Writing.{seen_more}
 use Rattle.page_keys.proofs.OfStore.Mentions.{submitted_seen}
+use Rattle.page_keys.specs.PutCosts.{CostsPages}
 use Rattle.page_keys.proofs.OfStore.BrokenTurns.{writes_first}
-use Rattle.page_keys.proofs.OfStore.Turns.{all_above, last_there, mentioned, seen_closed, turned, turning_first, turning_more}
+use Rattle.page_keys.proofs.OfStore.PutSteps.{costs_more, costs_none, step_costs}
+use Rattle.page_keys.proofs.OfStore.Turns.{adds_next, all_above, last_there, mentioned, seen_closed, turned, turning_first, turning_more}
 use Rattle.page_keys.proofs.writing.write.Answers.Steps.{wrote, done_writing, last_page}
 use Rattle.page_keys.proofs.writing.write.Answers.WriteSteps.{accepted, array_done, moved_nothing, moved_then, breaks_off, named_spent, some_write}
 use Rattle.page_keys.proofs.writing.write.Goals as goal
@@ -36,6 +39,9 @@ steps-preserved g c =
             c.step.new.self (seen_more seen c.args.batch.now.entries) i.always
             c.standing_facts-in-Ok-Wrote.ensures.always exits.tables (i.seen seen h);
         always = c.standing_facts-in-Ok-Wrote.ensures.always;
+        costs = step_costs g.F.Flash.state g.R.CommitRule.protocol c.args.device.now c.steps.device
+            c.step.new.self c.args.batch.now.entries k i.turning i.always i.moved.config i.machine i.costs
+            c.in-Ok-Wrote.ensures.costs;
         turning = turning_more g.F.Flash.state g.R.CommitRule.protocol c.args.device.now c.steps.device
             c.step.new.self c.args.batch.now.entries k i.turning i.always
             c.standing_facts-in-Ok-Wrote.ensures.always i.moved.config i.machine
@@ -80,7 +86,13 @@ returns-in-Ok-Done-clause-written g c =
           (seen (mention_of old.noted) (seen_closed state old c.standing_facts.ensures.stands c.requires.closed));
       above = all_above old.noted ws (records_in old.config.protocol (state old.flash).image) i.turning.above;
       turns = turned state protocol old prev new ws k i.turning i.always always i.moved.config i.machine
-          stands exits.tables exits.moves sure i.less there last;
+          stands exits.tables exits.moves sure i.less there last
+          (adds_next state protocol old prev new ws k i.turning i.always always i.moved.config i.machine stands
+          exits.tables exits.moves sure c.image_is_sound.ensures c.in-Ok-Done.ensures.fresh);
+      costs = subst (λ (n : ℕ). CostsPages old.config n (moment_of (state old.flash)) (moment_of (state new.flash)))
+          last
+          (step_costs state protocol old prev new ws k i.turning i.always i.moved.config i.machine i.costs
+          c.in-Ok-Done.ensures.costs);
     }
 
 pub returns-in-Err-step-clause-not_written : goal.returns-in-Err-step-clause-not_written
@@ -104,6 +116,11 @@ returns-in-Err-step-clause-not_written g c =
     always exits.tables (i.seen seen h)) i.machine i.unspent i.moved
     steps exits always.array (all_above old.noted ws (records_in old.config.protocol (state old.flash).image)
     i.turning.above)
+    (let less = i.less in
+    costs_more old.config (k + 1) (length ws) (moment_of (state old.flash)) (moment_of (state new.flash))
+    (omega (arith, less))
+    (step_costs state protocol old prev new ws k i.turning i.always i.moved.config i.machine i.costs
+    c.in-Err-step.ensures.costs))
     (λ mark after fault. writes_first state protocol old prev new ws k i.turning i.less i.always always i.moved.config
     i.machine c.standing_facts-in-Err-step.ensures.stands c.image_is_sound.ensures c.noting_keeps.ensures
     c.in-Err-step.ensures.fresh fault mark after)
@@ -150,6 +167,8 @@ steps-init g c =
         seen = λ seen h. submitted_seen c.args.device.now c.submit.new.self seen ws
             c.in_default.field-0 c.in_default.ensures.named keeps h;
         always = c.standing_facts-2.ensures.always;
+        costs = costs_none g.F.Flash.state c.args.device.now.config c.args.device.now.flash c.submit.new.self.flash
+            keeps.flash;
         turning = turning_first g.F.Flash.state g.R.CommitRule.protocol c.args.device.now c.submit.new.self ws
             c.in_default.field-0 c.standing_facts.ensures.always c.standing_facts.ensures.stands c.requires.closed
             c.standing_facts-2.ensures.stands (ap (λ (m : ArrayState). m.entries) opened.1)

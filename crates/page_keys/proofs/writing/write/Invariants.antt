@@ -1,5 +1,7 @@
 use Rattle.page_keys.proofs.Common.{◌≡◌, ◌<◌, ℕ, None, false, length, spent_page, IsSeen, HoldsAlways, is_spent, writing, Moved}
 use Rattle.array_runs.specs.Run.{pages_left}
+use Rattle.flash_model.specs.Operations.{moment_of}
+use Rattle.page_keys.specs.PutCosts.{CostsPages}
 use Rattle.page_keys.specs.Writing.{seen_more}
 use Rattle.page_keys.proofs.OfStore.Turns.{Turning}
 use Rattle.page_keys.proofs.writing.write.Given as goal
@@ -17,5 +19,7 @@ invariant-steps g l =
       seen : (seen : ℕ → ℕ) → IsSeen seen l.fn.device →
           IsSeen (seen_more seen l.batch.entries) l.device;
       always : HoldsAlways g.F.Flash.state g.R.CommitRule.protocol l.device;
+      costs : CostsPages l.fn.device.config done (moment_of (g.F.Flash.state l.fn.device.flash))
+          (moment_of (g.F.Flash.state l.device.flash));
       turning : Turning g.F.Flash.state l.fn.device l.device l.batch.entries done;
     }

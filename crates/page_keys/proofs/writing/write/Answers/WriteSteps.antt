@@ -15,6 +15,7 @@ use Rattle.judged_records.specs.Images.{records_in}
 use Rattle.open_table.specs.OpenTransactionsState.{next_name}
 use Rattle.array_machine.specs.declared.mark.Mark.{Mark}
 use Rattle.page_keys.specs.BucketWrites.{WritesFirst}
+use Rattle.page_keys.specs.PutCosts.{CostsPages}
 use Rattle.page_keys.specs.Writing.{Breaks, seen_more}
 use Rattle.page_keys.proofs.OfPut.PutGiven.{stands_idle}
 use Rattle.page_keys.proofs.writing.write.Answers.Steps.{not_unknown, fault_leaves, fault_marks}
@@ -60,15 +61,17 @@ pub breaks_off : {F : Type 0} (state : F → FlashState) (old mid new : DeviceSt
     (array_in new.config.protocol new.config.logical (state new.flash).image) →
     All (λ (name : Link). mention (records_in old.config.protocol (state old.flash).image) name.page < name.version)
     (map (next_name old.noted) ws) →
+    CostsPages old.config (length ws) (moment_of (state old.flash)) (moment_of (state new.flash)) →
     ((mark : Mark) → new.machine.entries ≡ record { tag = 0; writes = ws; done = k; mark = mark } ∷ [] →
     Exits state mid new true →
     WritesFirst old.config (map (next_name old.noted) ws) (moment_of (state old.flash))
     (moment_of (state new.flash))) →
     Breaks state old new ws
-breaks_off state old mid new ws k there failed.Unknown seen machine unspent moved steps exits stands above first =
+breaks_off state old mid new ws k there failed.Unknown seen machine unspent moved steps exits stands above costs
+    first =
     absurd (not_unknown old.machine.pages ws k new.machine there
     (subst (λ (m : ArrayState). StepsAs there m new.machine 0 (Err failed.Unknown)) machine steps))
-breaks_off state old mid new ws k there failed.Fault seen machine unspent moved steps exits stands above first =
+breaks_off state old mid new ws k there failed.Fault seen machine unspent moved steps exits stands above costs first =
     let fault = subst (λ (m : ArrayState). StepsAs there m new.machine 0 (Err failed.Fault)) machine steps in
     let marks = fault_marks old.machine.pages ws k new.machine there fault in
     record {
@@ -78,6 +81,7 @@ breaks_off state old mid new ws k there failed.Fault seen machine unspent moved 
       left = fault_leaves old.machine.pages ws k new.machine _ stands there fault;
       above = above;
       first = first marks.0 marks.1 exits;
+      costs = costs;
     }
 
 -- only a spent page is named
