@@ -5,7 +5,8 @@ it prints each miss with its file and line, and then the status is 1. These are 
 - the files and folders that stand in code type or in a link, and the heading that a link or a quotation names
 - the scripts, words and options of commands, and the words behind `rt`, if there is a toolchain
 - names of the code: a crate, a function, a label of a clause, a type or a definition. In the README of a crate it is
-  one of this crate or of those below it, and in `X of Y` one of a crate that has Y
+  one of this crate or of those below it, and in `X of Y` one of a crate that has Y. The words of Python and C sources
+  count in the folder in which these lie
 - a line of a block of Rattle that no source has
 - a crate without a README or a row in crates/README.md, a row with other cells than its table, and a line of more than
   120 columns that is no row.
@@ -208,8 +209,9 @@ def options_of(tree: Tree, script: str) -> str:
     return "\n".join(read(tree.top, it) for it in tree.files if os.path.dirname(it) == folder and it.endswith(".py"))
 
 
-def called(tree: Tree, _: str, text: str) -> Iterator[Miss]:
-    """The commands that cannot be given: without their script, or with a word or an option that it does not know."""
+def called(tree: Tree, document: str, text: str) -> Iterator[Miss]:
+    """The commands that cannot be given: without their script, or with a word or an option that it does not know. A
+    script is named from the top, or from the folder of the document."""
     for number, command in commands(text):
         words = command.split()
         if words[0] == "rt":
@@ -218,7 +220,8 @@ def called(tree: Tree, _: str, text: str) -> Iterator[Miss]:
             continue
         script = words[1] if words[0] == "python3" else words[0]
         script = script[2:] if script.startswith("./") else script
-        near = [it for it in tree.files if it == script or it.endswith(f"/{script}")]
+        there = os.path.normpath(os.path.join(os.path.dirname(document), script))
+        near = [it for it in tree.files if it in (script, there) or it.endswith(f"/{script}")]
         if script != "-m" and not near and not script.endswith(".img"):
             yield Miss(number, f"no script {script}")
         behind = [it for it in words[1:] if not it.startswith("-")]
@@ -243,6 +246,13 @@ def scope(tree: Tree, document: str) -> Set[str]:
     return set().union(*(tree.names[it] for it in tree.below.get(crate, tree.names)))
 
 
+def beside(tree: Tree, document: str) -> Set[str]:
+    """The words of the Python and C sources in the folder of a document."""
+    folder = os.path.dirname(document)
+    near = [it for it in tree.files if os.path.dirname(it) == folder != "" and it.endswith((".py", ".c"))]
+    return {word for it in near for word in re.findall(r"[A-Za-z_]\w*", read(tree.top, it))}
+
+
 def is_known(tree: Tree, name: str, known: Set[str]) -> bool:
     """Whether a name is one of these. The last two parts of a path stand in one crate."""
     parts = name.split("::")
@@ -255,7 +265,7 @@ def is_known(tree: Tree, name: str, known: Set[str]) -> bool:
 
 def code_names(tree: Tree, document: str, text: str) -> Iterator[Miss]:
     """The names in code type that no source has, and that are no words of the programs or of the document's blocks."""
-    known, said = scope(tree, document), said_words(tree.top)
+    known, said = scope(tree, document), said_words(tree.top) | beside(tree, document)
     in_text = set(re.findall(r"[A-Za-z_]\w*", "\n".join(set(text.split("\n")) - set(prose(text).split("\n")))))
     stems = {os.path.basename(it).rsplit(".", 1)[0] for it in tree.files} | {it for name in tree.files
                                                                              for it in name.split("/")[:-1]}

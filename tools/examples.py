@@ -14,6 +14,7 @@ TOP = os.path.dirname(os.path.dirname(os.path.abspath(__file__)))
 CASES = "crates/cases/data/cases.txt"
 MANUAL = "docs/manual.md"
 SCRIPTS = "examples/scripts"
+SESSION = "crates/flash_serve"
 
 
 def read_lines(name):
@@ -69,10 +70,10 @@ def blocks(lines):
 
 def asked_in(text):
     """The last call that a text or a command asks for, if there is one."""
-    found = re.findall(r"\./(txflash|flash_view) ([^`>\n]+)", text)
+    found = re.findall(r"\./(txflash|flash_view|flash_serve) ([^`<>\n]+)", text)
     if found:
         program, words = found[-1]
-        return ("call" if program == "txflash" else "view"), words.strip()
+        return {"txflash": "call", "flash_view": "view", "flash_serve": "live"}[program], words.strip()
     found = re.findall(rf"Example, `({SCRIPTS}/[\w-]+\.txt)`", text)
     return ("call", f"try {found[-1]}") if found else None
 
@@ -115,15 +116,26 @@ def is_beside(block):
 
 
 def differs_in_answer(answer, asked, calls):
-    """What is not so of an answer to a call, if anything."""
+    """What is not so of an answer to a call, if anything. No case has a live device."""
+    if asked and asked[0] == "live":
+        return None
     asked = in_cases(asked)
     if asked not in calls:
         return f"no case calls {' '.join(asked or ['it'])}"
     return None if answer in calls[asked] else f"no case says this after {' '.join(asked)}"
 
 
+def differs_in_session(block):
+    """What is not so of a session with a live device, if anything: the crate of the program has one that begins so."""
+    lines, replies = sides(block)
+    wanted = read_lines(f"{SESSION}/stdin")[1:len(lines)], read_lines(f"{SESSION}/stdout")[1:len(replies) + 1]
+    return None if wanted == (lines[1:], replies) else f"the session of {SESSION} begins otherwise"
+
+
 def differs_beside(block, asked, calls):
     """What is not so of a file of the examples with replies beside its commands, if anything."""
+    if asked and asked[0] == "live":
+        return differs_in_session(block)
     name = asked[1].split()[-1] if asked else ""
     if not os.path.isfile(f"{TOP}/{name}"):
         return "no call that serves these commands stands before"

@@ -1,10 +1,11 @@
 #!/usr/bin/env python3
-"""transcripts.py [EXE [FLASH_VIEW]]: gives all calls of docs/manual.md, in the order in which they stand and from an
-empty folder, to the built programs, and compares what they print with the manual. It prints a line for each thing that
-differs, and then the status is 1. Where there is no FLASH_VIEW, its calls are left out. `examples.py` compares the
-manual with the cases, without a program."""
+"""transcripts.py [EXE [FLASH_VIEW [FLASH_SERVE]]]: gives all calls of docs/manual.md, in the order in which they stand
+and from an empty folder, to the built programs, and compares what they print with the manual. It prints a line for each
+thing that differs, and then the status is 1. Where there is no FLASH_VIEW or FLASH_SERVE, its calls are left out.
+`examples.py` compares the manual with the cases, without a program."""
 import os
 import re
+import shlex
 import subprocess
 import sys
 import tempfile
@@ -20,15 +21,15 @@ class Reader:
     def __init__(self, folder: str, programs: Dict[str, str]) -> None:
         self.folder = folder
         self.environment = {**os.environ, **programs}
-        self.sees = "FLASH_VIEW_PROGRAM" in programs
+        self.missing = [it for it in ("flash_view", "flash_serve") if f"{it.upper()}_PROGRAM" not in programs]
         self.answer: Optional[List[str]] = None
         self.compared = self.left = 0
-        for name in ("txflash", "flash_view", "examples"):
+        for name in ("txflash", "flash_view", "flash_serve", "examples"):
             os.symlink(f"{TOP}/{name}", f"{folder}/{name}")
 
     def give(self, command: str) -> None:
         """Gives a command to a shell, and keeps what it says."""
-        if re.search(r"\./flash_view|story\.py", command) and not self.sees:
+        if any(f"./{it}" in command or it == "flash_view" and "story.py" in command for it in self.missing):
             self.answer, self.left = None, self.left + 1
             return
         done = subprocess.run(["sh", "-c", command], cwd=self.folder, env=self.environment, stdin=subprocess.DEVNULL,
@@ -58,6 +59,10 @@ class Reader:
                 after_command = bool(given)
                 continue
             beside = is_beside(block)
+            if beside and asked[0] == "live":
+                self.give(session(sides(block)[0], asked[1]))
+                yield from self.differs(number, ["serving", *sides(block)[1]])
+                continue
             block = sides(block)[1] if beside else block
             is_file = not beside and block[0].startswith("#") and re.search(rf"`({SCRIPTS}/)?[\w-]+\.txt`", before)
             if not is_file and (inline or before == "It says"):
@@ -68,12 +73,17 @@ class Reader:
             after_command = False
 
 
+def session(lines: List[str], image: str) -> str:
+    """The command that gives these lines to a live device."""
+    return f"printf '%s\\n' {' '.join(map(shlex.quote, lines))} | ./flash_serve {image}"
+
+
 def main() -> int:
-    named = [os.path.abspath(it) for it in sys.argv[1:3]]
-    view = path_of("flash_view")
+    named = [os.path.abspath(it) for it in sys.argv[1:4]]
     programs = {"TXFLASH_PROGRAM": named[0] if named else path_of("txflash")}
-    if len(named) > 1 or os.path.exists(view):
-        programs["FLASH_VIEW_PROGRAM"] = named[1] if len(named) > 1 else view
+    for place, name in enumerate(("flash_view", "flash_serve"), 1):
+        if len(named) > place or os.path.exists(path_of(name)):
+            programs[f"{name.upper()}_PROGRAM"] = named[place] if len(named) > place else path_of(name)
     if not os.access(programs["TXFLASH_PROGRAM"], os.X_OK):
         print(f"There is no program {programs['TXFLASH_PROGRAM']}: ./txflash builds it, or name another one.")
         return 1

@@ -1,4 +1,4 @@
-"""The scripts ./txflash and ./flash_view, each with a small program in the place of the proved one."""
+"""The scripts ./txflash, ./flash_view and ./flash_serve, each with a small program in the place of the proved one."""
 import os
 import subprocess
 import tempfile
@@ -38,7 +38,7 @@ class Calls(unittest.TestCase):
     def call(self, *words, script="txflash"):
         """The status, what was said and what was told beside it."""
         program = f"{self.room}/program"
-        names = {"TXFLASH_PROGRAM": program, "FLASH_VIEW_PROGRAM": program}
+        names = {it: program for it in ("TXFLASH_PROGRAM", "FLASH_VIEW_PROGRAM", "FLASH_SERVE_PROGRAM")}
         done = subprocess.run([f"{TOP}/{script}", *words], cwd=self.room, env={**os.environ, **names},
                               stdin=subprocess.DEVNULL, capture_output=True, check=False)
         return done.returncode, done.stdout.decode(), done.stderr.decode()
@@ -89,6 +89,13 @@ class Calls(unittest.TestCase):
         self.assertEqual(self.call(script="flash_view")[0], 1)
         self.assertEqual(self.call("--svg", script="flash_view")[:2], (1, ""))
         self.assertEqual(self.call("--help", script="flash_view")[0], 0)
+
+    def test_a_live_device_is_given_one_image(self):
+        self.assertEqual(self.call(script="flash_serve")[:2], (1, ""))
+        self.assertEqual(self.call("d.img", "e.img", script="flash_serve")[:2], (1, ""))
+        self.assertEqual(self.call("--unproved", "d.img", script="flash_serve")[:2], (125, ""))
+        self.assertEqual(self.call("--help", script="flash_serve")[0], 0)
+        self.assertEqual(self.call("drive", script="flash_serve")[0], -15)
 
 
 class Pictures(unittest.TestCase):

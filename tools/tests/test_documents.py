@@ -70,6 +70,11 @@ class Documents(unittest.TestCase):
         self.assertEqual(self.misses("of high_two\n"), [(1, "no crate high_two")])
         self.assertEqual(self.misses("`read` and `cut` are words\n"), [])
 
+    def test_names_and_scripts_of_a_folder(self):
+        self.assertEqual(self.misses("`add_argument`\n\n    python3 ../tools/draw.py --large\n", "tools/README.md"), [])
+        self.assertEqual(self.misses("`add_argument`\n"), [(1, "no name add_argument")])
+        self.assertEqual(self.misses("    python3 ../docs/draw.py\n"), [(1, "no script ../docs/draw.py")])
+
     def test_a_crate_names_what_is_below_it(self):
         self.assertEqual(self.misses("`Ending`\n", "crates/low/README.md"), [(1, "no name Ending")])
         self.assertEqual(self.misses("`count`\n", "crates/high_one/README.md"), [])

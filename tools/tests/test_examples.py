@@ -38,6 +38,12 @@ class Answers(unittest.TestCase):
         self.assertIn("no call", examples.differs_beside(BESIDE, ("call", "try"), CALLS))
         self.assertIn("no call", examples.differs_beside(BESIDE, None, CALLS))
 
+    def test_a_session_is_that_of_the_crate(self):
+        block = ["# A session.", "write 1 0=0a 1=0b 2=0c    open 1 3", "finish 1    done 1"]
+        self.assertEqual(examples.asked_in("./flash_serve live.img </dev/null"), ("live", "live.img"))
+        self.assertIsNone(examples.differs_beside(block, ("live", "live.img"), CALLS))
+        self.assertIn("begins otherwise", examples.differs_in_session([*block[:2], "finish 1    done 2"]))
+
     def test_answers_are_compared(self):
         self.assertIsNone(examples.differs_in_answer(["retired 0"], ("call", "retire worn.img 0"), CALLS))
         self.assertIn("no case says", examples.differs_in_answer(["x"], ("call", "retire worn.img 0"), CALLS))

@@ -1,4 +1,5 @@
-//! Tests of a flash that is an image file: after each call, and where each call of the file fails, every loss of power.
+//! Tests of a flash that is an image file, and of devices that are served on one: after each call, and where each call
+//! of the file fails, every loss of power.
 #![tactic(auto)]
 
 #[cfg(test)]
@@ -13,6 +14,8 @@ mod pictures;
 mod running;
 #[cfg(test)]
 mod scripts;
+#[cfg(test)]
+mod sessions;
 #[cfg(test)]
 mod steps;
 #[cfg(test)]

@@ -17,6 +17,25 @@ pub struct Tally {
     pub losses: u64,
     /// How many of the writes that are not durable were cut.
     pub cut: usize,
+    /// How many losses left what the command in hand was to write.
+    pub whole: u64,
+}
+
+impl Tally {
+    /// Nothing was tried.
+    pub fn new() -> Tally {
+        Tally {
+            losses: 0,
+            cut: 0,
+            whole: 0,
+        }
+    }
+}
+
+/// What a loss of power may leave of a file.
+pub trait Judge {
+    /// Whether a loss may leave a file with these bytes.
+    fn is_left_right(&self, alloc: Global, left: Vec<u8>, tally: &mut Tally) -> bool;
 }
 
 /// A cut of a write at one of its bytes: this byte alone is kept of all writes, or it alone is lost.
@@ -76,44 +95,58 @@ fn may_be_left(alloc: Global, course: &Course, flash: &mut FileFlash<LossyStore>
     }
 }
 
-/// Whether a file with these bytes is opened, and the flash may be left so.
-fn is_left_right(alloc: Global, course: &Course, left: Vec<u8>) -> bool {
-    match FileFlash::open(alloc, LossyStore::new(alloc, left, None)) {
-        Ok(mut flash) => {
-            let is_right = may_be_left(alloc, course, &mut flash);
-            drop(flash);
-            is_right
+/// A file with these bytes is opened, and its flash may be left so.
+impl Judge for Course {
+    fn is_left_right(&self, alloc: Global, left: Vec<u8>, _: &mut Tally) -> bool {
+        match FileFlash::open(alloc, LossyStore::new(alloc, left, None)) {
+            Ok(mut flash) => {
+                let is_right = may_be_left(alloc, self, &mut flash);
+                drop(flash);
+                is_right
+            }
+            Err(_) => false,
         }
-        Err(_) => false,
     }
 }
 
 /// Whether a loss is right that keeps some of the writes.
-fn is_loss_right(alloc: Global, course: &Course, store: &LossyStore, kept: u32) -> bool {
+fn is_loss_right<J: Judge>(
+    alloc: Global,
+    judge: &J,
+    store: &LossyStore,
+    kept: u32,
+    tally: &mut Tally,
+) -> bool {
     match Vec::from_slice(alloc, store.durable()) {
         Ok(mut left) => {
             keep_some(store, &mut left, kept);
-            is_left_right(alloc, course, left)
+            judge.is_left_right(alloc, left, tally)
         }
         Err(_) => false,
     }
 }
 
 /// Whether a cut is right.
-fn is_cut_right(alloc: Global, course: &Course, store: &LossyStore, cut: Cut) -> bool {
+fn is_cut_right(
+    alloc: Global,
+    course: &Course,
+    store: &LossyStore,
+    cut: Cut,
+    tally: &mut Tally,
+) -> bool {
     match Vec::from_slice(alloc, store.durable()) {
         Ok(mut left) => {
             keep_cut(store, &mut left, cut);
-            is_left_right(alloc, course, left)
+            course.is_left_right(alloc, left, tally)
         }
         Err(_) => false,
     }
 }
 
 /// Whether each loss of whole writes is right. They are counted.
-pub fn are_losses_right(
+pub fn are_losses_right<J: Judge>(
     alloc: Global,
-    course: &Course,
+    judge: &J,
     store: &LossyStore,
     tally: &mut Tally,
 ) -> bool {
@@ -122,7 +155,7 @@ pub fn are_losses_right(
         return false;
     }
     for kept in 0..1u32 << count {
-        if !is_loss_right(alloc, course, store, kept) {
+        if !is_loss_right(alloc, judge, store, kept, tally) {
             return false;
         }
         tally.losses = tally.losses.saturating_add(1);
@@ -137,6 +170,7 @@ fn is_byte_right(
     store: &LossyStore,
     number: usize,
     at: usize,
+    tally: &mut Tally,
 ) -> bool {
     for is_alone in [true, false] {
         let cut = Cut {
@@ -144,7 +178,7 @@ fn is_byte_right(
             at,
             is_alone,
         };
-        if !is_cut_right(alloc, course, store, cut) {
+        if !is_cut_right(alloc, course, store, cut, tally) {
             return false;
         }
     }
@@ -160,7 +194,7 @@ fn is_write_right(
     tally: &mut Tally,
 ) -> bool {
     for at in 0..store.write_bytes(number) {
-        if !is_byte_right(alloc, course, store, number, at) {
+        if !is_byte_right(alloc, course, store, number, at, tally) {
             return false;
         }
         tally.losses = tally.losses.saturating_add(2);

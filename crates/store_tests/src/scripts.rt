@@ -14,7 +14,7 @@ impl LineTest for Tried {
     fn is_right(alloc: Global, line: &str) -> bool {
         let (text, count) = sides(line);
         let steps = text.split("; ").count();
-        let mut tally = Tally { losses: 0, cut: 0 };
+        let mut tally = Tally::new();
         are_runs_right(alloc, Script { text, steps }, &mut tally) && is_count(count, tally.losses)
     }
 }

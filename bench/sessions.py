@@ -1,0 +1,217 @@
+#!/usr/bin/env python3
+"""How long flash_serve takes to answer a line, and to open an image, as two tables.
+
+    sessions.py EXE [--rounds N] [--openings N] [--folder FOLDER]..
+
+EXE is `crates/flash_serve/out/flash_serve`, which `./flash_serve` makes. Files are made in each FOLDER: by default in
+/dev/shm, where a sync costs nothing, and in the folder of temporary files.
+
+A line is given through a pipe, and its reply is taken from another one. A time is the median of N rounds, and the one
+that 99 of 100 stay below, in microseconds by the clock. It has what this script and two changes of process take, which
+the row of `cat` has alone. The last column is the median of the processor time that the program took for a line, its
+calls of the system with it, by the system's count (`/proc/PID/schedstat`). The row of the calls alone has what a
+`finish` of one page asks of the file, twice a write and a sync, made by this script on a file beside it, in turn with
+the lines. `taskset` and `chrt` before all this keep other work away.
+
+An opening is from the start of the program to `serving`, of images of 128 MB. Beside it is how long this script takes
+to read the file, and to write it back and sync. Each is the least of N, in seconds, with the file in memory.
+"""
+from __future__ import annotations
+
+import argparse
+import os
+import struct
+import subprocess
+import tempfile
+import time
+from typing import Callable, Dict, List, NamedTuple, Tuple
+
+SPARE = 64
+Numbers = Tuple[int, int, int, int, int, int]
+# Bytes of a page, slots of a block, blocks of a die, dies, logical pages, and pages that may be pending.
+SMALL: Numbers = (16, 4, 4, 2, 20, 7)
+MANY: Numbers = (16, 4, 4096, 4, 32768, 256)
+LARGE: Numbers = (2048, 64, 248, 4, 60000, 256)
+PROTOCOLS = {"scc": 1, "bpcc": 2}
+
+
+def blank(protocol: str, numbers: Numbers) -> bytes:
+    """The image file of a blank device."""
+    page, pages, blocks, dies = numbers[:4]
+    slots = pages * blocks * dies
+    header = struct.pack("<8s7I28s", b"TXFLASH1", PROTOCOLS[protocol], *numbers, bytes(28))
+    return header + bytes(slots) + b"\xff" * (slots * (page + SPARE))
+
+
+class Taken(NamedTuple):
+    """What a line took until it was answered, in microseconds by the clock and of the program's own."""
+    clock: float
+    own: float
+
+
+class Served:
+    """A program that takes lines from a pipe and answers each."""
+
+    def __init__(self, words: List[str]) -> None:
+        self.process = subprocess.Popen(words, stdin=subprocess.PIPE, stdout=subprocess.PIPE, bufsize=0)
+        assert self.process.stdin and self.process.stdout
+        self.input, self.output = self.process.stdin.fileno(), self.process.stdout.fileno()
+
+    def hear(self) -> bytes:
+        said = b""
+        while not said.endswith(b"\n"):
+            part = os.read(self.output, 1 << 16)
+            if not part:
+                raise SystemExit(f"sessions: the program ended after {said[:80]!r}")
+            said += part
+        return said
+
+    def own(self) -> int:
+        """How many nanoseconds of a processor the program has had."""
+        with open(f"/proc/{self.process.pid}/schedstat", encoding="ascii") as file:
+            return int(file.read().split()[0])
+
+    def ask(self, line: bytes) -> Taken:
+        before, begun = self.own(), time.perf_counter_ns()
+        os.write(self.input, line)
+        self.hear()
+        ended = time.perf_counter_ns()
+        return Taken((ended - begun) / 1000, (self.own() - before) / 1000)
+
+    def end(self) -> None:
+        self.process.communicate()
+
+
+def at(times: List[float], part: float) -> float:
+    return sorted(times)[min(int(part * len(times)), len(times) - 1)]
+
+
+def print_row(name: str, where: str, taken: List[Taken]) -> None:
+    clock, own = [it.clock for it in taken], [it.own for it in taken]
+    print("| %s | %s | %.1f | %.1f | %.1f |" % (name, where, at(clock, 0.5), at(clock, 0.99), at(own, 0.5)), flush=True)
+
+
+def replies(exe: str, where: str, folder: str, name: str, image: bytes, rounds: int) -> None:
+    """The times of each command on a device."""
+    path, beside = os.path.join(folder, "device.img"), os.path.join(folder, "beside.img")
+    for it in (path, beside):
+        with open(it, "wb") as file:
+            file.write(image)
+    served, bare = Served([exe, path]), os.open(beside, os.O_RDWR)
+    times: Dict[str, List[Taken]] = {}
+    served.hear()
+    for number in range(rounds):
+        page = number % 16
+        write = "write 1 %d=%04x" % (page, number % 65536)
+        for line in (write, "finish 1", "read %d" % page, "write 2 0=01", "abort 2"):
+            times.setdefault("`%s`" % line.split(" ")[0], []).append(served.ask(line.encode() + b"\n"))
+        times.setdefault("the calls alone", []).append(bare_calls(bare, number, len(image)))
+    for what, found in times.items():
+        print_row("%s, %s" % (what, name), where, found)
+    served.end()
+    os.close(bare)
+
+
+def bare_calls(file: int, number: int, size: int) -> Taken:
+    """What a `finish` of a page of 16 bytes asks of a file of this size: own bytes and a state byte, each synced."""
+    slots = (size - 64) // 81
+    before, begun = time.thread_time_ns(), time.perf_counter_ns()
+    for place, data in ((64 + slots + 80 * (number % slots), bytes([number % 256]) * 80), (64 + number % slots, b"\1")):
+        os.pwrite(file, data, place)
+        os.fdatasync(file)
+    return Taken((time.perf_counter_ns() - begun) / 1000, (time.thread_time_ns() - before) / 1000)
+
+
+def echoes(where: str, rounds: int) -> None:
+    served = Served(["cat"])
+    print_row("`cat`", where, [served.ask(b"read 0\n") for _ in range(rounds)])
+    served.end()
+
+
+def fill(exe: str, path: str, logical: int) -> None:
+    """Writes each page of a device."""
+    served = Served([exe, path])
+    served.hear()
+    for first in range(0, logical, 256):
+        pages = range(first, min(first + 256, logical))
+        served.ask(("write 1 " + " ".join("%d=%08x" % (page, page) for page in pages) + "\n").encode())
+        served.ask(b"finish 1\n")
+    served.end()
+
+
+def least(work: Callable[[], float], count: int) -> float:
+    return min(work() for _ in range(count))
+
+
+def opening(exe: str, path: str) -> float:
+    begun = time.perf_counter()
+    served = Served([exe, path])
+    served.hear()
+    taken = time.perf_counter() - begun
+    served.end()
+    return taken
+
+
+def reading(path: str) -> float:
+    begun = time.perf_counter()
+    with open(path, "rb", buffering=0) as file:
+        room = bytearray(os.path.getsize(path))
+        file.readinto(room)
+    return time.perf_counter() - begun
+
+
+def writing_back(path: str) -> float:
+    with open(path, "rb") as file:
+        data = file.read()
+    begun = time.perf_counter()
+    out = os.open(path, os.O_RDWR)
+    os.pwrite(out, data, 0)
+    os.fdatasync(out)
+    os.close(out)
+    return time.perf_counter() - begun
+
+
+def openings(exe: str, where: str, folder: str, count: int) -> None:
+    for protocol in PROTOCOLS:
+        for how in ("blank", "full"):
+            path = os.path.join(folder, "large.img")
+            with open(path, "wb") as file:
+                file.write(blank(protocol, LARGE))
+            if how == "full":
+                fill(exe, path, LARGE[4])
+            took, read = least(lambda: opening(exe, path), count), least(lambda: reading(path), count)
+            wrote = least(lambda: writing_back(path), count)
+            told = protocol, how, where, took, read, wrote, took - read - wrote
+            print("| %s, %s | %s | %.3f | %.3f | %.3f | %.3f |" % told, flush=True)
+            os.remove(path)
+
+
+def main() -> None:
+    words = argparse.ArgumentParser(description=__doc__, formatter_class=argparse.RawDescriptionHelpFormatter)
+    words.add_argument("exe")
+    words.add_argument("--rounds", type=int, default=4000)
+    words.add_argument("--openings", type=int, default=5)
+    words.add_argument("--folder", action="append")
+    said = words.parse_args()
+    exe = os.path.abspath(said.exe)
+    folders = said.folder or ["/dev/shm", tempfile.gettempdir()]
+    rooms = [(it, tempfile.mkdtemp(prefix="live-", dir=it)) for it in folders]
+    try:
+        print("| Line | Folder | median | 99 of 100 | of its own |\n|---|---|---|---|---|")
+        echoes("", said.rounds)
+        for where, room in rooms:
+            for name, numbers in (("32 slots", SMALL), ("65536 slots", MANY)):
+                replies(exe, where, room, name, blank("scc", numbers), said.rounds)
+        print("\n| Image | Folder | to `serving` | to read it | to write it back | the rest |")
+        print("|---|---|---|---|---|---|")
+        for where, room in rooms:
+            openings(exe, where, room, said.openings)
+    finally:
+        for _, room in rooms:
+            for name in os.listdir(room):
+                os.remove(os.path.join(room, name))
+            os.rmdir(room)
+
+
+if __name__ == "__main__":
+    main()

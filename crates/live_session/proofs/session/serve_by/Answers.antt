@@ -1,0 +1,22 @@
+use Rattle.live_session.specs.Endings.{ending_of}
+use Rattle.live_session.proofs.Durably.{leaves_durably}
+use Rattle.live_session.proofs.Stopping.{is_stopped}
+use Rattle.live_session.proofs.Talking.{is_session}
+use Rattle.live_session.proofs.session.serve_by.Goals as goal
+
+pub returns-in-Err-clause-durable : goal.returns-in-Err-clause-durable
+returns-in-Err-clause-durable g c = λ said.
+    leaves_durably (g.D.LineDesk.state c.args.desk.now) (g.D.LineDesk.state c.release.new.self) c.in-Err.flash
+    c.release.ensures said
+
+pub returns-in-Ok-clause-session : goal.returns-in-Ok-clause-session
+returns-in-Ok-clause-session g c =
+    is_session (g.D.LineDesk.state c.args.desk.now).told (g.D.LineDesk.state c.serve_lines.new.desk).told c.args.flash
+    c.config-config.result c.in-Ok.server (ending_of c.serve_lines.result) c.config-config.ensures.config
+    c.in-Ok.ensures.opens c.serve_lines.ensures.session
+
+pub returns-in-Ok-clause-stops : goal.returns-in-Ok-clause-stops
+returns-in-Ok-clause-stops g c =
+    is_stopped (g.D.LineDesk.state c.args.desk.now).told (g.D.LineDesk.state c.serve_lines.new.desk).told c.args.flash
+    c.config-config.result c.in-Ok.server (ending_of c.serve_lines.result) c.config-config.ensures.config
+    c.in-Ok.ensures.opens c.serve_lines.ensures.stops

@@ -1,0 +1,11 @@
+pub mod LineDesk
+pub mod Lines
+pub mod Words
+pub mod Endings
+pub mod Saying
+pub mod Opening
+pub mod RealDesk
+pub mod Sessions
+pub mod Talks
+pub mod Hearing
+pub mod Top

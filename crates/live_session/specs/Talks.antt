@@ -1,0 +1,140 @@
+-- What a session hears, line by line, and what it says.
+use Rattle.std.specs.Prelude.{◌≡◌, ℕ, ◌+◌, Bool, true, false, List, [], ◌∷◌, ◌++◌, take, ◌⊎◌, Option, None, Some, codes}
+use Rattle.std.specs.Fmt.{decimal}
+use Rattle.tx_types.specs.declared.config.Config.{Config}
+use Rattle.flash_model.specs.Flash.{FlashState}
+use Rattle.flash_model.specs.Operations.{moment_of}
+use Rattle.host_protocol.specs.Files.{IsFile}
+use Rattle.host_protocol.specs.Replies.{text_of}
+use Rattle.host_protocol.specs.declared.command.Command.{Command}
+use Rattle.host_protocol.specs.declared.reply.Reply.{Reply}
+use Rattle.cut_replay.specs.FlashCalls.{BeginsFlash}
+use Rattle.cut_replay.specs.FlashRun.{IsFlashRun, Point, first_point, last_point}
+use Rattle.program_base.specs.Refusals.{Unsound, line}
+use Rattle.file_flash.specs.FileFlashState.{FileFlashState, untold}
+use Rattle.live_session.specs.declared.desk.Next.{Next}
+use Rattle.live_session.specs.declared.desk.Next.TheVariants as next
+use Rattle.live_session.specs.Endings.{LiveEnding, Closed, BadLine, Refused, Fault, Starved}
+use Rattle.live_session.specs.LineDesk.{BothTell, DeskTold, Saying, TakesNext, with_input, with_left, with_saying}
+use Rattle.live_session.specs.Opening.{OpensFile}
+
+-- the flash of a file, as a run sees it
+abbrev pub shown : FileFlashState → FlashState
+shown f = untold f.memory
+
+-- what claims nothing of what was done
+abbrev pub plain : List ℕ → Saying
+plain text = record { text = text; flash = None }
+
+-- what is said when a session begins
+abbrev pub serving : Saying
+serving = plain (line (codes "serving"))
+
+-- and of the line of this number, if it is bad
+abbrev pub bad_line : ℕ → List ℕ
+bad_line number = line (codes "bad line " ++ decimal number)
+
+-- a reply, and the flash as it stood when it was said
+abbrev pub reply_said : Reply → FileFlashState → Saying
+reply_said r flash = record { text = text_of r; flash = Some flash }
+
+-- Of this piece of the input no command is read: its line is none of the grammar, or has too many bytes, or these are
+-- the bytes behind the last line feed.
+abbrev pub IsBad : ℕ → Next → List ℕ → Type 0
+IsBad page_bytes next.Line line = (cs : List Command) → IsFile page_bytes line cs → ⊥
+IsBad page_bytes next.LongLine line = Unit {0}
+IsBad page_bytes next.Part line = Unit {0}
+IsBad page_bytes next.End line = ⊥
+
+-- From one moment on lines were read and answered, so that the desk is as told now and the next line has this number: a
+-- line with a command by the reply of its run, as the flash of the point there is; a line without one by nothing; a bad
+-- one by its number. `good` says that none was bad.
+pub data IsTalk (page_bytes : ℕ) (first : DeskTold) : DeskTold → ℕ → Bool → List Command → List Reply → List Point →
+    Type 0 where
+  begins : IsTalk page_bytes first first 1 true [] [] []
+  passes : (now : DeskTold) → (number : ℕ) → (good : Bool) → (cs : List Command) → (rs : List Reply) →
+      (ps : List Point) → (line rest : List ℕ) → IsTalk page_bytes first now number good cs rs ps →
+      TakesNext next.Line line rest now → IsFile page_bytes line [] →
+      IsTalk page_bytes first (with_input rest now) (number + 1) good cs rs ps
+  replies : (now : DeskTold) → (number : ℕ) → (good : Bool) → (cs : List Command) → (rs : List Reply) →
+      (ps : List Point) → (line rest : List ℕ) → IsTalk page_bytes first now number good cs rs ps →
+      TakesNext next.Line line rest now → (c : Command) → IsFile page_bytes line (c ∷ []) →
+      (r : Reply) → (p : Point) → (flash : FileFlashState) → p.flash ≡ shown flash →
+      IsTalk page_bytes first (with_saying (reply_said r flash) (with_input rest now)) (number + 1) good
+      (cs ++ c ∷ []) (rs ++ r ∷ []) (ps ++ p ∷ [])
+  complains : (now : DeskTold) → (number : ℕ) → (good : Bool) → (cs : List Command) → (rs : List Reply) →
+      (ps : List Point) → (line rest : List ℕ) → IsTalk page_bytes first now number good cs rs ps →
+      (it : Next) → TakesNext it line rest now → IsBad page_bytes it line →
+      IsTalk page_bytes first (with_saying (plain (bad_line number)) (with_input rest now)) (number + 1) false
+      cs rs ps
+
+-- The commands have a run, with these replies and points. It begins with the flash that was opened, once that is
+-- mounted, and its last point shows the flash that is left.
+pub record LeadsTo (its : Config) (opened left : FlashState) (cs : List Command) (rs : List Reply) (ps : List Point) :
+    Type 0 where
+  pub run : IsFlashRun its (moment_of opened) cs rs ps
+  pub begins : BeginsFlash its opened run.up run.flash
+  pub last : (last_point (first_point its run.up run.flash) ps).flash ≡ left
+
+-- A session on a flash: `serving` was said, then lines of the input were read and answered, in order, by a run over the
+-- commands that were read; and the file was closed with the flash that the run left.
+pub record IsSession (flash : FileFlashState) (good : Bool) (old new : DeskTold) : Type 0 where
+  pub number : ℕ
+  pub cs : List Command
+  pub rs : List Reply
+  pub ps : List Point
+  pub ended : DeskTold
+  pub left : FileFlashState
+  pub talk : IsTalk flash.config.page_bytes (with_saying serving old) ended number good cs rs ps
+  pub run : LeadsTo flash.config (shown flash) (shown left) cs rs ps
+  pub closes : new ≡ with_left left ended
+
+-- what was said of a text of which the last bytes were not
+abbrev pub shorter : ℕ → Saying → Saying
+shorter n it = record it { text = take n it.text }
+
+-- All of this was said, or all but the last; or the last in part.
+abbrev pub IsSaidOf : List Saying → List Saying → Type 0
+IsSaidOf all said =
+    (said ≡ all)
+    ⊎ ((before : List Saying) × (last : Saying) × (n : ℕ) × (all ≡ before ++ last ∷ [])
+    × ((said ≡ before) ⊎ (said ≡ before ++ shorter n last ∷ [])))
+
+-- The commands have a run, with these replies and points.
+pub record HasRun (its : Config) (opened : FlashState) (cs : List Command) (rs : List Reply) (ps : List Point) :
+    Type 0 where
+  pub run : IsFlashRun its (moment_of opened) cs rs ps
+  pub begins : BeginsFlash its opened run.up run.flash
+
+-- A session that was stopped: up to then it is one. What it was about to say may be missing, or its last bytes.
+pub record IsStopped (flash : FileFlashState) (old new : DeskTold) : Type 0 where
+  pub number : ℕ
+  pub good : Bool
+  pub cs : List Command
+  pub rs : List Reply
+  pub ps : List Point
+  pub reached : DeskTold
+  pub talk : IsTalk flash.config.page_bytes (with_saying serving old) reached number good cs rs ps
+  pub run : HasRun flash.config (shown flash) cs rs ps
+  pub said : IsSaidOf reached.sayings new.sayings
+
+-- a session that was stopped, or did not begin: nothing was said then
+abbrev pub IsStoppedOrNone : FileFlashState → DeskTold → DeskTold → Type 0
+IsStoppedOrNone flash old new = (new.sayings ≡ old.sayings) ⊎ IsStopped flash old new
+
+-- How a session ends on the flash of a file that was opened.
+abbrev pub IsHeld : FileFlashState → LiveEnding → Option DeskTold → Option DeskTold → Type 0
+IsHeld flash Closed old new = BothTell (IsSession flash true) old new
+IsHeld flash BadLine old new = BothTell (IsSession flash false) old new
+IsHeld flash (Refused (Unsound breach)) old new = BothTell (IsStoppedOrNone flash) old new
+IsHeld flash Fault old new = BothTell (IsStoppedOrNone flash) old new
+IsHeld flash Starved old new = BothTell (IsStoppedOrNone flash) old new
+IsHeld flash _ old new = ⊥
+
+-- The file that the words name was opened, and a session was held on its flash.
+pub record ServesFile (name : Option (List ℕ)) (good : Bool) (old new : DeskTold) : Type 0 where
+  pub path : List ℕ
+  pub named : name ≡ Some path
+  pub flash : FileFlashState
+  pub opens : OpensFile path flash old
+  pub session : IsSession flash good old new

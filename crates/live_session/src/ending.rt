@@ -1,0 +1,88 @@
+ghost use Rattle.std.specs.Prelude.{◌≡◌, codes};
+ghost use Rattle.program_base.specs.Refusals.{line};
+ghost use Rattle.live_session.specs.Endings.{EndsSo, FaultTold, MemoryTold, Refuses, Speaks, ending_of};
+ghost use Rattle.live_session.specs.Saying.{SaidDurably};
+
+use crate::{CallError, LineDesk};
+use file_flash::{FileFlash, Store};
+use program_base::{ImageRefusal, Status};
+use std::alloc::{AllocError, Global};
+
+/// How a call of the program ends.
+#[derive(Clone, Copy)]
+pub enum Ending<'a> {
+    /// The input ended, no line was bad, and the file is closed.
+    Closed,
+    /// The same, but a line was bad.
+    BadLine,
+    /// The file is refused.
+    Refused(ImageRefusal<'a>),
+    /// Another program holds the file.
+    InUse,
+    /// A call of the desk or of the file failed.
+    Fault,
+    /// There was no memory.
+    Memory,
+}
+
+/// The status where another program holds the file.
+pub const IN_USE: u8 = 15;
+
+/// Says how a call ends, and returns the status.
+pub fn end<S: Store + Drop, D: LineDesk<S, FileFlash<S>>>(
+    alloc: Global,
+    desk: &mut D,
+    ending: Ending,
+) -> u8
+    ensures ends { EndsSo (ending_of ending.entry) (D.state desk.old) (D.state desk.new) result }
+{
+    match ending {
+        Ending::Closed => Status::Done.code(),
+        Ending::BadLine => Status::BadLine.code(),
+        Ending::Refused(why) => refuse(desk, why.line(alloc), why.status().code()),
+        Ending::InUse => tell(desk, b"in use\n", IN_USE),
+        Ending::Fault => desk_fault(desk),
+        Ending::Memory => no_memory(desk),
+    }
+}
+
+/// Says the line of a refusal, where there was memory for it, and returns the status.
+fn refuse<S: Store + Drop, D: LineDesk<S, FileFlash<S>>>(
+    desk: &mut D,
+    line: Result<String, AllocError>,
+    status: u8,
+) -> u8
+    ensures { Refuses (D.state desk.old) (D.state desk.new) line status result }
+{
+    match line {
+        Ok(line) => tell(desk, line.as_bytes(), status),
+        Err(_) => no_memory(desk),
+    }
+}
+
+/// Says a line, and returns the status.
+fn tell<S: Store + Drop, D: LineDesk<S, FileFlash<S>>>(desk: &mut D, line: &[u8], status: u8) -> u8
+    ensures { Speaks (D.state desk.old) (D.state desk.new) line.now status result }
+{
+    match desk.say(line) {
+        Ok(()) => status,
+        Err(CallError::Failed) => desk_fault(desk),
+        Err(CallError::Memory) => no_memory(desk),
+    }
+}
+
+/// Attempts to say that a call failed.
+fn desk_fault<S: Store + Drop, D: LineDesk<S, FileFlash<S>>>(desk: &mut D) -> u8
+    ensures { FaultTold (D.state desk.old) (D.state desk.new) result }
+{
+    let _ = desk.say(b"desk fault\n");
+    Status::DeskFault.code()
+}
+
+/// Attempts to say that there was no memory.
+fn no_memory<S: Store + Drop, D: LineDesk<S, FileFlash<S>>>(desk: &mut D) -> u8
+    ensures { MemoryTold (D.state desk.old) (D.state desk.new) result }
+{
+    let _ = desk.say(b"no memory\n");
+    Status::NoMemory.code()
+}

@@ -1,0 +1,207 @@
+"""A session of the program flash_serve over two pipes, and what is wrong with it, if anything."""
+import os
+import select
+import signal
+import subprocess
+import time
+from itertools import combinations
+from typing import Callable, Iterable, Iterator, List, NamedTuple, Optional, Set, Union
+
+from grammar import BadLine, Command, parse
+from image import BLANK, COMPLETE, MAX_FILE, SPARE, Config, Refused, read_header
+from judge import Served, need
+from laws import Pages, Reading, read
+from machine import PLAIN, Run, State
+from program import LONGEST, TOP
+
+BUILT = os.path.join(TOP, "crates", "flash_serve", "out", "flash_serve")
+
+
+def filled(data: bytes) -> bytes:
+    """An image file in use, with the own bytes of blank and of damaged slots as an image file has them."""
+    header = read_header(data)
+    if isinstance(header, Refused):
+        return data
+    config, size = header[0], header[0].page_bytes + SPARE
+    states, begin = data[64:64 + config.slots], 64 + config.slots
+    cells = (data[begin + i * size:begin + (i + 1) * size] if state == COMPLETE else
+             (b"\xff" if state == BLANK else b"\0") * size for i, state in enumerate(states))
+    return data[:begin] + b"".join(cells)
+
+
+def read_in_use(data: bytes, name: str) -> Reading:
+    """What a session finds in an image file that another one may have left in use."""
+    return read(filled(data), name)
+
+
+def read_line(line: bytes, page_bytes: int) -> Union[Command, BadLine, None]:
+    """The command of a line of a session, nothing where it has none, or that it is bad."""
+    if not line.endswith(b"\n") or len(line) > MAX_FILE + 1:
+        return BadLine(1)
+    commands = parse(line, page_bytes)
+    if isinstance(commands, BadLine):
+        return commands
+    return commands[0] if commands else None
+
+
+class Session:
+    """The program at work on an image. What it says is read as it comes."""
+
+    def __init__(self, program: str, words: List[str], setup: Optional[Callable[[], None]] = None) -> None:
+        self.process = subprocess.Popen([program, *words], stdin=subprocess.PIPE, stdout=subprocess.PIPE, bufsize=0,
+                                        preexec_fn=setup)
+        assert self.process.stdin and self.process.stdout
+        self.input, self.output = self.process.stdin, self.process.stdout
+        self.said = b""
+
+    def give(self, data: bytes) -> bool:
+        """Whether the program takes these bytes."""
+        try:
+            while data:
+                data = data[self.input.write(data):]
+        except (BrokenPipeError, ConnectionResetError):
+            return False
+        return True
+
+    def more(self, seconds: float = LONGEST) -> bool:
+        """Reads what is said next; whether there is anything before the end."""
+        ready, _, _ = select.select([self.output], [], [], seconds)
+        need(bool(ready), f"no answer in {seconds} seconds")
+        part = os.read(self.output.fileno(), 1 << 20)
+        self.said += part
+        return bool(part)
+
+    def line(self) -> Optional[str]:
+        """The next line that is said, none where the output ends before."""
+        while b"\n" not in self.said:
+            if not self.more():
+                return None
+        line, _, self.said = self.said.partition(b"\n")
+        return line.decode("ascii")
+
+    def reply(self, command: Command) -> Optional[str]:
+        """The reply to a command: that of `explain` is several lines, up to the one that counts them."""
+        lines = [self.line()]
+        while command.verb == "explain" and lines[-1] is not None and lines[-1].startswith("verdict "):
+            lines.append(self.line())
+        return None if lines[-1] is None else "\n".join(it for it in lines if it is not None)
+
+    def kill(self) -> None:
+        self.process.send_signal(signal.SIGKILL)
+
+    def end(self) -> int:
+        """Closes the input, reads what is said still, and answers the status, below 0 where a signal ended it."""
+        if not self.input.closed:
+            self.input.close()
+        if not self.output.closed:
+            while self.more():
+                pass
+            self.output.close()
+        begun = time.monotonic()
+        status = self.process.wait(LONGEST)
+        need(time.monotonic() - begun <= LONGEST, "the program did not end")
+        return status
+
+
+class Heard(NamedTuple):
+    """A line that was given, its command, if it has one, and what was said of it, empty where nothing was."""
+    line: bytes
+    command: Optional[Command]
+    said: str
+
+
+class Talk:
+    """What a session was asked and said, against the machine."""
+
+    def __init__(self, session: Session, config: Config, reading: Reading) -> None:
+        self.session, self.config = session, config
+        assert reading.image and reading.records
+        self.image = reading.image
+        self.served = Served(config, reading.records)
+        self.commands = 0
+        self.heard: List[Heard] = []
+        self.had_bad = False
+        # The command that was given and has no reply.
+        self.in_hand: Optional[Command] = None
+
+    def begin(self) -> None:
+        said = self.session.line()
+        need(said == "serving", f"the session begins with {said!r}")
+
+    def ask(self, line: bytes) -> bool:
+        """Gives a line and takes what is said of it; whether the program is there still."""
+        return self.session.give(line) and self.hear(line)
+
+    def hear(self, line: bytes) -> bool:
+        """Takes what is said of a line that was given."""
+        command = read_line(line, self.config.page_bytes)
+        said = self.answer(command)
+        if said is None:
+            return False
+        self.heard.append(Heard(line, None if isinstance(command, BadLine) else command, said))
+        return True
+
+    def answer(self, command: Union[Command, BadLine, None]) -> Optional[str]:
+        """What is said of it, none where the program is gone."""
+        number = len(self.heard) + 1
+        if command is None:
+            return ""
+        if isinstance(command, BadLine):
+            said = self.session.line()
+            need(said in (None, f"bad line {number}"), f"line {number} is bad, and {said!r} is said")
+            self.had_bad = self.had_bad or said is not None
+            return said
+        self.in_hand = command
+        reply = self.session.reply(command)
+        if reply is None or reply == "desk fault":
+            self.session.said = b"" if reply is None else b"desk fault\n" + self.session.said
+            return None
+        self.commands += 1
+        self.served.take(self.commands, command, reply)
+        self.in_hand = None
+        return reply
+
+    def arrays(self) -> Set[Pages]:
+        """What the image may hold where the session broke off here."""
+        return arrays_of(self.served.run, self.in_hand)
+
+    def ends_strictly(self, data: bytes) -> None:
+        """Whether a session that was closed may have left this file."""
+        need(self.in_hand is None, "a command has no reply")
+        self.served.ends_with(data, self.image)
+
+    def ends_in_use(self, data: bytes) -> None:
+        """Whether a session that was not closed may have left it."""
+        left = read_in_use(data, "")
+        need(left.status == 0, f"what is left is refused: {left.said[:100]}")
+        assert left.image and left.records
+        need(left.image.config == self.config and left.image.extras == self.image.extras, "the header has changed")
+        need(left.records.array() in self.arrays(), "what is left has an array that no run ends with")
+
+
+def arrays_of(run: Run, in_hand: Optional[Command]) -> Set[Pages]:
+    """What an image may hold where a run broke off, and the command in hand, if any, is done, or not, or in part."""
+    states = set(run.states)
+    if in_hand:
+        for state in run.states:
+            states |= {after for _, after in run.answers(state, in_hand, "")}
+            states |= set(some_done(state.settled()) if in_hand.verb == "stepall" else ())
+    return {it.settled().array for it in states}
+
+
+def some_done(state: State) -> Iterator[State]:
+    """Any of the transactions that are at their last pages are done, and the others are not."""
+    last = [it for it in state.open if it.mark == PLAIN and it.written == len(it.writes) - 1]
+    for count in range(len(last) + 1):
+        for some in combinations(last, count):
+            after = state
+            for it in some:
+                after = after.put(it.writes).without(it.tag)
+            yield after
+
+
+def give_all(talk: Talk, lines: Iterable[bytes]) -> None:
+    """Asks line by line, as long as the program is there."""
+    for line in lines:
+        if not talk.ask(line):
+            return

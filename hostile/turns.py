@@ -1,0 +1,102 @@
+"""Turns with the program flash_serve: what each begins with, and what is looked at behind it."""
+import collections
+import os
+import random
+from typing import Callable, Counter, List, Optional, Tuple
+
+import commands as drawn_commands
+import images as drawn_images
+from image import Config, Refused, read_header
+from judge import Wrong, check_explain, check_run, need
+from kills import read as read_file
+from kills import write as write_file
+from laws import read
+from live import Session, Talk, give_all, read_in_use
+from program import Program
+
+IMAGE, COMMANDS = "d.img", "c.txt"
+
+
+def config_of(data: bytes) -> Config:
+    header = read_header(data)
+    assert not isinstance(header, Refused)
+    return header[0]
+
+
+class Turns:
+    """The folder in which the program is talked with."""
+
+    def __init__(self, program: str, txflash: Optional[str], seed: int) -> None:
+        self.program, self.draw = program, random.Random(seed)
+        self.txflash = Program(txflash) if txflash else None
+        self.counts: Counter[str] = collections.Counter()
+        self.faults: List[str] = []
+        self.number = 0
+
+    def image(self, protocol: Optional[int] = None) -> bytes:
+        data = drawn_images.sound_image(self.draw)
+        while protocol and config_of(data).protocol != protocol:
+            data = drawn_images.sound_image(self.draw)
+        write_file(IMAGE, data)
+        return data
+
+    def lines(self, config: Config) -> List[bytes]:
+        draw = self.draw.choice((drawn_commands.in_grammar, drawn_commands.in_grammar, drawn_commands.spoiled,
+                                 drawn_commands.any_bytes))
+        return [it for _ in range(self.draw.choice((1, 1, 4))) for it in
+                draw(self.draw, config).splitlines(keepends=True) if it.endswith(b"\n")]
+
+    def talk(self, setup: Optional[Callable[[], None]] = None, protocol: Optional[int] = None) -> Talk:
+        data = self.image(protocol)
+        talk = Talk(Session(self.program, [IMAGE], setup), config_of(data), read(data, IMAGE))
+        talk.begin()
+        return talk
+
+    def break_in(self, call: str, what: str, protocol: Optional[int] = None) -> Tuple[int, Talk]:
+        """Serves lines under strace, which does this at some call of the system."""
+        data, number = self.image(protocol), self.draw.randrange(1, self.draw.choice((4, 20, 60)))
+        words = ["-o", os.devnull, "-e", f"trace={call}", "-e", f"inject={call}:{what}:when={number}"]
+        talk = Talk(Session("strace", [*words, self.program, IMAGE]), config_of(data), read(data, IMAGE))
+        said = talk.session.line()
+        if said == "serving":
+            give_all(talk, [it for _ in range(4) for it in self.lines(talk.config)])
+        else:
+            talk.session.said = said.encode() + b"\n" if said else b""
+            need(read_file(IMAGE) == data, "the file has changed")
+        status = talk.session.end()
+        if status in (0, 4):
+            need(status == (4 if talk.had_bad else 0), f"status {status}")
+            talk.ends_strictly(read_file(IMAGE) or b"")
+        return status, talk
+
+    def left_in_use(self, talk: Talk) -> str:
+        """Looks at what a session left that was not closed, and has it closed."""
+        left = read_file(IMAGE) or b""
+        talk.ends_in_use(left)
+        strict, in_use = read(left, IMAGE), read_in_use(left, IMAGE)
+        if self.txflash:
+            check_explain(strict, self.txflash.run(["explain", IMAGE]), left, read_file(IMAGE))
+            if strict.status:
+                commands = self.commands()
+                ended = self.txflash.run(["run", IMAGE, COMMANDS])
+                check_run(strict, left, commands, COMMANDS, ended, read_file(IMAGE))
+        closed = Session(self.program, [IMAGE])
+        status = closed.end()
+        need(status == 0 and closed.said == b"serving\n", f"opened again: status {status}, {closed.said[:80]!r}")
+        after = read(read_file(IMAGE) or b"", IMAGE)
+        need(after.image == in_use.image, "opened and closed it is another image")
+        what = "at rest" if talk.in_hand is None else "in a command"
+        return f"{what}, {'an image file' if strict.status == 0 else 'in use'}"
+
+    def commands(self) -> bytes:
+        """A file of commands for the programs that read image files."""
+        data = b"write 1 0=01\nfinish 1\n"
+        write_file(COMMANDS, data)
+        return data
+
+    def turn(self, kind: str) -> None:
+        self.number += 1
+        try:
+            self.counts[f"{kind} {getattr(self, kind)()}"] += 1
+        except Wrong as why:
+            self.faults.append(f"turn {self.number}, {kind}: {why}")
