@@ -1,0 +1,43 @@
+#!/usr/bin/env python3
+"""Image files of blank devices, as `./txflash format` makes them.
+
+    images.py IMAGE PROTOCOL PAGE PAGES BLOCKS DIES LOGICAL PENDING
+
+docs/manual.md has the rules of these numbers; flash_serve refuses an image that breaks one. No file is replaced."""
+from __future__ import annotations
+
+import os
+import struct
+import sys
+from typing import Union
+
+HEADER, SPARE = struct.Struct("<8s7I"), 64
+NUMBERS = {"scc": 1, "bpcc": 2}
+
+
+def write_blank(path: str, protocol: str, page_bytes: int, pages: int, blocks: int, dies: int, logical: int,
+                pending: int) -> None:
+    """A new file, durable when this returns."""
+    head = HEADER.pack(b"TXFLASH1", NUMBERS[protocol], page_bytes, pages, blocks, dies, logical, pending)
+    slots = pages * blocks * dies
+    with open(path, "xb") as file:
+        file.write(head.ljust(64, b"\0") + bytes(slots) + b"\xff" * (slots * (page_bytes + SPARE)))
+        file.flush()
+        os.fsync(file.fileno())
+
+
+def main() -> Union[int, str]:
+    words = sys.argv[1:]
+    if len(words) != 8 or words[1] not in NUMBERS or not all(it.isdecimal() for it in words[2:]):
+        return str(__doc__)
+    try:
+        write_blank(words[0], words[1], *map(int, words[2:]))
+    except OSError as error:
+        return f"images: {words[0]}: {error.strerror}"
+    except struct.error:
+        return "images: a number is too large"
+    return 0
+
+
+if __name__ == "__main__":
+    sys.exit(main())
