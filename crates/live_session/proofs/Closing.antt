@@ -3,6 +3,8 @@ use Rattle.std.proofs.Common.{◌≡◌, ◌⊎◌, ℕ, List, [], Bool, true, f
 use Rattle.flash_model.specs.declared.cached.NotDurable.{NotDurable}
 use Rattle.file_flash.specs.FileFlashState.{FileFlashState}
 use Rattle.file_flash.specs.Losing.{LeavesSpelling}
+use Rattle.cut_replay.specs.declared.serving.ServeError.{ServeError}
+use Rattle.cut_replay.specs.declared.serving.ServeError.TheVariants as serving
 use Rattle.program_base.specs.Refusals as image
 use Rattle.program_base.specs.Refusals.{ImageEnding, image_line, image_status, line}
 use Rattle.live_session.specs.declared.answering.Stop.{Stop}
@@ -14,7 +16,7 @@ use Rattle.live_session.specs.Hearing.{WhereClosed}
 use Rattle.live_session.specs.Opening.{IsNotOpened}
 use Rattle.live_session.specs.LineDesk.{DeskTold, LineDeskState, ReadsLine, TakesNext, with_input, with_left}
 use Rattle.live_session.specs.Saying.{HasNoInput, IsSpelledLeft, SpellsLeft, SpellsWhereClosed}
-use Rattle.live_session.specs.Sessions.{ending_after, ending_of_stop}
+use Rattle.live_session.specs.Sessions.{ending_after, ending_of_stop, ending_unmounted}
 
 -- ---- the end of the input
 
@@ -42,7 +44,6 @@ pub closes : (old new : LineDeskState) (f : FileFlashState) (answered : Result B
     OnOk closed (IfSome f.file (LeavesSpelling f.config f.memory.image f.memory.extras)) →
     new ≡ record old { told = option_map (with_left f) old.told } →
     SpellsWhereClosed (ending_after answered closed) new
-closes old new f (Err (stop.Unsound breach)) closed ended failed spelled left = tt
 closes old new f (Err stop.Fault) closed ended failed spelled left = tt
 closes old new f (Err stop.Memory) closed ended failed spelled left = tt
 closes old new f (Ok good) (Err why) ended failed spelled left = tt
@@ -52,9 +53,12 @@ closes old new f (Ok false) (Ok done) ended failed spelled left =
     subst SpellsLeft (sym left) (left_spelled old.told f (sym failed) spelled ended)
 
 pub stopped_open : (why : Stop) (new : LineDeskState) → SpellsWhereClosed (ending_of_stop why) new
-stopped_open (stop.Unsound breach) new = tt
 stopped_open stop.Fault new = tt
 stopped_open stop.Memory new = tt
+
+pub unmounted_open : (why : ServeError) (new : LineDeskState) → SpellsWhereClosed (ending_unmounted why) new
+unmounted_open (serving.Unsound law slot) new = tt
+unmounted_open serving.Memory new = tt
 
 -- ---- the statuses
 

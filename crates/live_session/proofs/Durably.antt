@@ -40,7 +40,7 @@ says_durably flash old new text (Ok done) h s p =
     subst SaidDurably (sym s) (said_more old.told (record { text = text; flash = flash }) h p)
 says_durably flash old new text (Err call.Failed) h s p =
     subst SaidDurably (sym s.1) (said_more old.told (record { text = take s.0 text; flash = flash }) h p)
-says_durably flash old new text (Err call.Memory) h s p = subst SaidDurably (sym s) p
+says_durably flash old new text (Err call.Memory) h s p = absurd s
 
 pub reads_durably : (old new : LineDeskState) (bytes : List ℕ) (result : Result Next CallError) →
     ReadsLine old new bytes result → SaidDurably old → SaidDurably new

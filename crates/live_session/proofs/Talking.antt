@@ -12,6 +12,8 @@ use Rattle.host_protocol.specs.declared.reply.Reply.{Reply}
 use Rattle.mounted_session.specs.Sessions.{is_mounted}
 use Rattle.mounted_session.specs.declared.session.Session.TheVariants as session
 use Rattle.cut_replay.specs.FlashRun.{Point}
+use Rattle.cut_replay.specs.declared.serving.ServeError.{ServeError}
+use Rattle.cut_replay.specs.declared.serving.ServeError.TheVariants as ended
 use Rattle.cut_replay.specs.ServerCalls.{OpensServer}
 use Rattle.cut_replay.specs.ServerRuns.{IsServed, RunsOn}
 use Rattle.cut_replay.specs.ServerState.{ServerState}
@@ -25,9 +27,9 @@ use Rattle.live_session.specs.declared.desk.Next.TheVariants as next
 use Rattle.live_session.specs.Endings.{LiveEnding, Closed, BadLine, Refused, InUse, Fault, Starved}
 use Rattle.live_session.specs.LineDesk.{BothTell, DeskTold, LineDeskState, ReadsLine, TakesNext, after, with_input, with_left, with_saying}
 use Rattle.live_session.specs.Opening.{IsNotOpened, OpensFile}
-use Rattle.live_session.specs.Sessions.{ending_after, ending_of_stop}
+use Rattle.live_session.specs.Sessions.{ending_after, ending_of_stop, ending_unmounted}
 use Rattle.live_session.specs.Talks.{IsBad, IsSession, LeadsTo, ServesFile, bad_line, begins, complains, passes, plain, replies, reply_said, serving, shown}
-use Rattle.live_session.specs.Hearing.{AnswersCommand, AnswersFirst, AnswersPiece, FileSession, Hears, HearsAll, HearsAndCloses, WhereClosed}
+use Rattle.live_session.specs.Hearing.{AnswersCommand, AnswersFirst, AnswersPiece, FileSession, GoesOn, Hears, HearsAll, HearsAndCloses, WhereClosed}
 use Rattle.live_session.proofs.OneLine.{one_command}
 
 abbrev Told : Type 0
@@ -35,11 +37,25 @@ Told = Option DeskTold
 
 -- ---- a command
 
-point_shows : (its : Config) (s : FileSession) → (point_of shown its s).flash ≡ shown (flash_in s)
+pub point_shows : (its : Config) (s : FileSession) → (point_of shown its s).flash ≡ shown (flash_in s)
 point_shows its (session.Mounted s) = refl
 point_shows its (session.Unmounted flash) = refl
 
--- a command was served, what it did was made durable, and its reply was said
+-- a command was served, and what it did was made durable
+pub goes_on : (its kept : Config) (c : Command) (old mid new : FileSession) (served : Reply) → kept ≡ its →
+    RunsOn shown its c old served mid →
+    ((init : FlashState) (cs : List Command) (rs : List Reply) (ps : List Point) →
+    IsServed shown kept init cs rs ps mid → IsServed shown kept init cs rs ps new) →
+    GoesOn its c old served (point_of shown its mid) new
+goes_on its kept c old mid new served same runs flushes = λ init cs rs ps h.
+    let cs' = cs ++ c ∷ [] in
+    let rs' = rs ++ served ∷ [] in
+    let ps' = ps ++ point_of shown its mid ∷ [] in
+    subst (λ x. IsServed shown x init cs' rs' ps' new) same
+    (flushes init cs' rs' ps'
+    (subst (λ x. IsServed shown x init cs' rs' ps' mid) (sym same) (runs init cs rs ps h)))
+
+-- and its reply was said
 pub answers_command : (its kept : Config) (c : Command) (old mid new : FileSession) (served reply : Reply)
     (text : List ℕ) (flash : FileFlashState) (before said : LineDeskState) → kept ≡ its →
     RunsOn shown its c old served mid →
@@ -57,13 +73,7 @@ answers_command its kept c old mid new served reply text flash before said same 
       says = ap (λ d. d.told) call
           ∙ ap (λ t. option_map (with_saying (record { text = t; flash = Some flash })) before.told)
           (says ∙ ap text_of opens);
-      runs = λ init cs rs ps h.
-          let cs' = cs ++ c ∷ [] in
-          let rs' = rs ++ served ∷ [] in
-          let ps' = ps ++ point_of shown its mid ∷ [] in
-          subst (λ x. IsServed shown x init cs' rs' ps' new) same
-          (flushes init cs' rs' ps'
-          (subst (λ x. IsServed shown x init cs' rs' ps' mid) (sym same) (runs init cs rs ps h)));
+      runs = goes_on its kept c old mid new served same runs flushes;
     }
 
 -- ---- beginning
@@ -231,7 +241,6 @@ pub heard_and_closed : (old : Told) (its : Config) (s t : FileSession) (left : F
     IfOk answered (λ good. BothTell (HearsAll its good s t) old mid.told) → left.memory ≡ (flash_in t).memory →
     new ≡ after (with_left left) mid →
     WhereClosed (λ good. BothTell (HearsAndCloses its good s) old new.told) (ending_after answered closed)
-heard_and_closed old its s t left (Err (stop.Unsound breach)) closed mid new h stays leaves = tt
 heard_and_closed old its s t left (Err stop.Fault) closed mid new h stays leaves = tt
 heard_and_closed old its s t left (Err stop.Memory) closed mid new h stays leaves = tt
 heard_and_closed old its s t left (Ok good) (Err why) mid new h stays leaves = tt
@@ -243,9 +252,12 @@ heard_and_closed old its s t left (Ok false) (Ok done) mid new h stays leaves =
     (closed_told old mid.told its false s t left h stays)
 
 pub where_stopped : (P : Bool → Type 0) (why : Stop) → WhereClosed P (ending_of_stop why)
-where_stopped P (stop.Unsound breach) = tt
 where_stopped P stop.Fault = tt
 where_stopped P stop.Memory = tt
+
+pub where_unmounted : (P : Bool → Type 0) (why : ServeError) → WhereClosed P (ending_unmounted why)
+where_unmounted P (ended.Unsound law slot) = tt
+where_unmounted P ended.Memory = tt
 
 pub where_weaker : (P Q : Bool → Type 0) → ((good : Bool) → P good → Q good) → (it : LiveEnding) → WhereClosed P it →
     WhereClosed Q it
@@ -258,7 +270,7 @@ where_weaker P Q to Starved h = tt
 
 -- ---- the session of a flash
 
-leads : (its : Config) (flash left : FileFlashState) (cs : List Command) (rs : List Reply) (ps : List Point)
+pub leads : (its : Config) (flash left : FileFlashState) (cs : List Command) (rs : List Reply) (ps : List Point)
     (t : FileSession) → IsServed shown its (shown flash) cs rs ps t → left.memory ≡ (flash_in t).memory →
     LeadsTo its (shown flash) (shown left) cs rs ps
 leads its flash left cs rs ps t served stays = record {

@@ -1,5 +1,5 @@
 -- What answering a line comes to, and all lines, while a server goes on.
-use Rattle.std.specs.Prelude.{◌≡◌, ℕ, Bool, true, false, List, [], ◌∷◌, ◌++◌, ◌⊎◌, Option}
+use Rattle.std.specs.Prelude.{◌≡◌, ℕ, Bool, true, false, List, [], ◌∷◌, ◌++◌, ◌⊎◌, Option, Some}
 use Rattle.std.specs.Option.{option_map}
 use Rattle.tx_types.specs.declared.config.Config.{Config}
 use Rattle.flash_model.specs.Flash.{FlashState}
@@ -9,13 +9,16 @@ use Rattle.host_protocol.specs.declared.reply.Reply.{Reply}
 use Rattle.mounted_session.specs.Sessions.{is_mounted}
 use Rattle.cut_replay.specs.FlashRun.{Point}
 use Rattle.cut_replay.specs.ServerRuns.{IsServed}
-use Rattle.cut_replay.specs.Sessions.{DeviceSession, flash_in}
+use Rattle.cut_replay.specs.Sessions.{DeviceSession, EndsServing, flash_in}
+use Rattle.cut_replay.specs.declared.serving.ServeError.{ServeError}
 use Rattle.program_base.specs.Refusals.{Unsound}
+use Rattle.record_list.specs.declared.found.Breach.{Breach}
 use Rattle.file_flash.specs.FileFlashState.{FileFlashState}
 use Rattle.live_session.specs.declared.desk.Next.{Next}
 use Rattle.live_session.specs.declared.desk.Next.TheVariants as next
 use Rattle.live_session.specs.Endings.{LiveEnding, Closed, BadLine, Refused, Fault, Starved}
 use Rattle.live_session.specs.LineDesk.{DeskTold, Saying, with_left, with_saying}
+use Rattle.live_session.specs.Saying.{IsClosed}
 use Rattle.live_session.specs.Talks.{IsSaidOf, IsTalk, bad_line, plain, reply_said, serving, shorter, shown}
 
 -- the session of a server whose flash is a file
@@ -62,17 +65,23 @@ IsCutOff told all told' =
     (it : Saying) × (n : ℕ) × (all ≡ option_map (with_saying it) told)
     × (told' ≡ option_map (with_saying (shorter n it)) told)
 
--- answering a command stopped, before its reply was said or in that
-abbrev pub StopsCommand : Config → Command → Option DeskTold → FileSession → Option DeskTold → Type 0
-StopsCommand its c told old told' =
-    (told' ≡ told)
-    ⊎ ((all : Option DeskTold) × (end : FileSession) × AnswersCommand its c told old all end × IsCutOff told all told')
+-- The session in which serving stopped has the flash of this one; or one command more was served, or ended serving.
+abbrev pub RestsBy : Config → (old new : FileSession) → Type 0
+RestsBy its old new =
+    (shown (flash_in new) ≡ shown (flash_in old))
+    ⊎ (((c : Command) × (r : Reply) × (p : Point) × GoesOn its c old r p new)
+    ⊎ ((c : Command) × (why : ServeError) × EndsServing shown its c old (flash_in new) why))
 
-abbrev pub StopsLine : Config → List ℕ → Option DeskTold → FileSession → Option DeskTold → Type 0
-StopsLine its line told old told' =
-    (told' ≡ told)
-    ⊎ ((all : Option DeskTold) × (end : FileSession) × AnswersLine its line true told old all end
-    × IsCutOff told all told')
+-- answering a command stopped, before its reply was said or in that
+abbrev pub StopsCommand : Config → Command → Option DeskTold → FileSession → Option DeskTold → FileSession → Type 0
+StopsCommand its c told old told' new =
+    ((told' ≡ told) × RestsBy its old new)
+    ⊎ ((all : Option DeskTold) × AnswersCommand its c told old all new × IsCutOff told all told')
+
+abbrev pub StopsLine : Config → List ℕ → Option DeskTold → FileSession → Option DeskTold → FileSession → Type 0
+StopsLine its line told old told' new =
+    ((told' ≡ told) × RestsBy its old new)
+    ⊎ ((all : Option DeskTold) × AnswersLine its line true told old all new × IsCutOff told all told')
 
 -- A piece of the input was answered: a line, or by the number where it is bad.
 abbrev pub AnswersPiece : Config → Next → List ℕ → ℕ → Bool → Option DeskTold → FileSession → Option DeskTold →
@@ -83,11 +92,12 @@ AnswersPiece its it line number false told old told' new =
     (it ≡ next.Line → (cs : List Command) → IsFile its.page_bytes line cs → ⊥)
     × (told' ≡ option_map (with_saying (plain (bad_line number))) told) × (new ≡ old)
 
-abbrev pub StopsPiece : Config → Next → List ℕ → ℕ → Option DeskTold → FileSession → Option DeskTold → Type 0
-StopsPiece its it line number told old told' =
-    (told' ≡ told)
-    ⊎ ((good : Bool) × (all : Option DeskTold) × (end : FileSession)
-    × AnswersPiece its it line number good told old all end × IsCutOff told all told')
+abbrev pub StopsPiece : Config → Next → List ℕ → ℕ → Option DeskTold → FileSession → Option DeskTold → FileSession →
+    Type 0
+StopsPiece its it line number told old told' new =
+    ((told' ≡ told) × RestsBy its old new)
+    ⊎ ((good : Bool) × (all : Option DeskTold) × AnswersPiece its it line number good told old all new
+    × IsCutOff told all told')
 
 -- Lines were answered, up to the one of this number, and the run over their commands leads from the one session to the
 -- other.
@@ -106,7 +116,7 @@ pub record HearsAll (its : Config) (good : Bool) (old new : FileSession) (first 
   pub mounted : is_mounted old ≡ true
 
 -- Lines were answered, and then answering stopped, on a flash that is mounted.
-pub record HearsPart (its : Config) (old : FileSession) (first now : DeskTold) : Type 0 where
+pub record HearsPart (its : Config) (old new : FileSession) (first now : DeskTold) : Type 0 where
   pub number : ℕ
   pub good : Bool
   pub end : FileSession
@@ -114,10 +124,21 @@ pub record HearsPart (its : Config) (old : FileSession) (first now : DeskTold) :
   pub hears : Hears its good old end number (with_saying serving first) reached
   pub mounted : is_mounted old ≡ true
   pub said : IsSaidOf reached.sayings now.sayings
+  pub rests : RestsBy its end new
 
--- the same, or nothing was said
-abbrev pub HearsPartOrNone : Config → FileSession → DeskTold → DeskTold → Type 0
-HearsPartOrNone its old first now = (now.sayings ≡ first.sayings) ⊎ HearsPart its old first now
+-- the same, or nothing was said or done
+abbrev pub HearsPartOrNone : Config → (old new : FileSession) → DeskTold → DeskTold → Type 0
+HearsPartOrNone its old new first now =
+    ((now.sayings ≡ first.sayings) × (new ≡ old)) ⊎ HearsPart its old new first now
+
+-- and the file was closed with the flash that was left
+pub record StopsAndCloses (its : Config) (old : FileSession) (first now : DeskTold) : Type 0 where
+  pub end : FileSession
+  pub left : FileFlashState
+  pub part : HearsPartOrNone its old end first now
+  pub stays : left.memory ≡ (flash_in end).memory
+  pub leaves : now.left ≡ Some left
+  pub closed : IsClosed left
 
 -- and the file was closed with the flash that was left
 pub record HearsAndCloses (its : Config) (good : Bool) (old : FileSession) (first now : DeskTold) : Type 0 where
@@ -128,14 +149,15 @@ pub record HearsAndCloses (its : Config) (good : Bool) (old : FileSession) (firs
   pub stays : left.memory ≡ (flash_in end).memory
   pub closes : now ≡ with_left left ended
 
--- Where a session ended otherwise, this is so, and it was no refusal but of an image that is not sound.
-abbrev pub WhereStopped : Type 0 → LiveEnding → Type 0
-WhereStopped P Closed = Unit {0}
-WhereStopped P BadLine = Unit {0}
-WhereStopped P (Refused (Unsound breach)) = P
-WhereStopped P Fault = P
-WhereStopped P Starved = P
-WhereStopped P _ = ⊥
+-- Where a session ended otherwise, the second is so, or the first of the breach of an image that is not sound. It was
+-- no other refusal.
+abbrev pub WhereStopped : (Breach → Type 0) → Type 0 → LiveEnding → Type 0
+WhereStopped U P Closed = Unit {0}
+WhereStopped U P BadLine = Unit {0}
+WhereStopped U P (Refused (Unsound breach)) = U breach
+WhereStopped U P Fault = P
+WhereStopped U P Starved = P
+WhereStopped U P _ = ⊥
 
 -- This is so of whether all lines were good, where a session ended so that the file was closed.
 abbrev pub WhereClosed : (Bool → Type 0) → LiveEnding → Type 0

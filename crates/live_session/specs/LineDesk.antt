@@ -93,9 +93,9 @@ ReadsLine old new line (Ok next) =
 ReadsLine old new line (Err call.Failed) = (rest : List ℕ) × (new ≡ after_fault (with_input rest) old)
 ReadsLine old new line (Err call.Memory) = (rest : List ℕ) × (new ≡ after (with_input rest) old)
 
--- A text is said. After a failure any first part of it was.
+-- A text is said. After a failure any first part of it was. It is no want of memory.
 abbrev pub Says : Option FileFlashState → LineDeskState → LineDeskState → List ℕ → Result (Unit {0}) CallError → Type 0
 Says flash old new text (Ok done) = new ≡ after (with_saying (record { text = text; flash = flash })) old
 Says flash old new text (Err call.Failed) =
     (n : ℕ) × (new ≡ after_fault (with_saying (record { text = take n text; flash = flash })) old)
-Says flash old new text (Err call.Memory) = new ≡ old
+Says flash old new text (Err call.Memory) = ⊥

@@ -13,14 +13,12 @@ pub record IsLine (line : List ℕ) : Type 0 where
   pub feeds : HasNoFeed line
   pub most : length line ≤ MAX_LINE_BYTES
 
--- a line with its line feed, or all that is left
-abbrev pub IsWhole : List ℕ → List ℕ → Type 0
-IsWhole piece rest = ((line : List ℕ) × HasNoFeed line × (piece ≡ line ++ 10 ∷ [])) ⊎ (HasNoFeed piece × (rest ≡ []))
-
--- of a line with too many bytes
+-- of a line with too many bytes: it has its line feed, or is all that is left
 pub record IsLong (piece rest : List ℕ) : Type 0 where
-  pub whole : IsWhole piece rest
-  pub long : MAX_LINE_BYTES < length piece
+  pub line : List ℕ
+  pub feeds : HasNoFeed line
+  pub long : MAX_LINE_BYTES < length line
+  pub whole : (piece ≡ line ++ 10 ∷ []) ⊎ ((piece ≡ line) × (rest ≡ []))
 
 -- the bytes behind the last line feed
 pub record IsPart (piece rest : List ℕ) : Type 0 where

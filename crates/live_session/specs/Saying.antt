@@ -28,6 +28,10 @@ IsSpelledLeft c =
     (f : FileFlashState) × (c.left ≡ Some f) × (f.failed ≡ false)
     × IfSome f.file (LeavesSpelling f.config f.memory.image f.memory.extras)
 
+-- The flash of a file that was closed: where no call of it has failed, a loss leaves its image file, to the byte.
+abbrev pub IsClosed : FileFlashState → Type 0
+IsClosed f = f.failed ≡ false → IfSome f.file (LeavesSpelling f.config f.memory.image f.memory.extras)
+
 -- The input was read to its end, and a loss leaves of the file that was closed its image file, to the byte.
 abbrev pub SpellsLeft : LineDeskState → Type 0
 SpellsLeft desk = HasNoInput desk × IfSome desk.told IsSpelledLeft

@@ -15,14 +15,18 @@ stop_of_call call.Failed = stop.Fault
 stop_of_call call.Memory = stop.Memory
 
 abbrev pub stop_of_serving : ServeError → Stop
-stop_of_serving (serving.Unsound law slot) = stop.Unsound (record { law = law; slot = slot })
+stop_of_serving (serving.Unsound law slot) = stop.Fault
 stop_of_serving serving.Memory = stop.Memory
 
 -- how a session ends that was stopped
 abbrev pub ending_of_stop : Stop → LiveEnding
-ending_of_stop (stop.Unsound breach) = Refused (Unsound breach)
 ending_of_stop stop.Fault = Fault
 ending_of_stop stop.Memory = Starved
+
+-- how a session ends whose flash was not mounted
+abbrev pub ending_unmounted : ServeError → LiveEnding
+ending_unmounted (serving.Unsound law slot) = Refused (Unsound (record { law = law; slot = slot }))
+ending_unmounted serving.Memory = Starved
 
 -- how it ends after its lines were answered, and the file was closed: the first thing that failed decides
 abbrev pub ending_after : Result Bool Stop → Result (Unit {0}) NotDurable → LiveEnding

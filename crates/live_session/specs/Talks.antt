@@ -1,7 +1,10 @@
 -- What a session hears, line by line, and what it says.
 use Rattle.std.specs.Prelude.{◌≡◌, ℕ, ◌+◌, Bool, true, false, List, [], ◌∷◌, ◌++◌, take, ◌⊎◌, Option, None, Some, codes}
 use Rattle.std.specs.Fmt.{decimal}
+use Rattle.tx_types.specs.Config.{shape_of}
 use Rattle.tx_types.specs.declared.config.Config.{Config}
+use Rattle.record_list.specs.declared.found.Breach.{Breach}
+use Rattle.judged_records.specs.Images.{IsLeastImageBreach}
 use Rattle.flash_model.specs.Flash.{FlashState}
 use Rattle.flash_model.specs.Operations.{moment_of}
 use Rattle.host_protocol.specs.Files.{IsFile}
@@ -9,7 +12,9 @@ use Rattle.host_protocol.specs.Replies.{text_of}
 use Rattle.host_protocol.specs.declared.command.Command.{Command}
 use Rattle.host_protocol.specs.declared.reply.Reply.{Reply}
 use Rattle.cut_replay.specs.FlashCalls.{BeginsFlash}
+use Rattle.cut_replay.specs.EndsLost.{EndsLost}
 use Rattle.cut_replay.specs.FlashRun.{IsFlashRun, Point, first_point, last_point}
+use Rattle.mounted_session.specs.Mounting.{StaysQuiet}
 use Rattle.program_base.specs.Refusals.{Unsound, line}
 use Rattle.file_flash.specs.FileFlashState.{FileFlashState, untold}
 use Rattle.live_session.specs.declared.desk.Next.{Next}
@@ -17,6 +22,7 @@ use Rattle.live_session.specs.declared.desk.Next.TheVariants as next
 use Rattle.live_session.specs.Endings.{LiveEnding, Closed, BadLine, Refused, Fault, Starved}
 use Rattle.live_session.specs.LineDesk.{BothTell, DeskTold, Saying, TakesNext, with_input, with_left, with_saying}
 use Rattle.live_session.specs.Opening.{OpensFile}
+use Rattle.live_session.specs.Saying.{IsClosed}
 
 -- the flash of a file, as a run sees it
 abbrev pub shown : FileFlashState → FlashState
@@ -100,13 +106,32 @@ IsSaidOf all said =
     ⊎ ((before : List Saying) × (last : Saying) × (n : ℕ) × (all ≡ before ++ last ∷ [])
     × ((said ≡ before) ⊎ (said ≡ before ++ shorter n last ∷ [])))
 
--- The commands have a run, with these replies and points.
-pub record HasRun (its : Config) (opened : FlashState) (cs : List Command) (rs : List Reply) (ps : List Point) :
+-- A run over the commands ended for want of memory in one more: nothing was done on the flash, or the command was
+-- broken off, and the flash is left as that left it.
+pub record StopsIn (its : Config) (opened left : FlashState) (cs : List Command) (rs : List Reply) (ps : List Point) :
     Type 0 where
   pub run : IsFlashRun its (moment_of opened) cs rs ps
   pub begins : BeginsFlash its opened run.up run.flash
+  pub c : Command
+  pub ends : StaysQuiet (last_point (first_point its run.up run.flash) ps).flash left
+      ⊎ EndsLost its c (last_point (first_point its run.up run.flash) ps) left
 
--- A session that was stopped: up to then it is one. What it was about to say may be missing, or its last bytes.
+-- and one more was served, whose reply was not said
+pub record LeadsOn (its : Config) (opened left : FlashState) (cs : List Command) (rs : List Reply) (ps : List Point) :
+    Type 0 where
+  pub c : Command
+  pub r : Reply
+  pub p : Point
+  pub leads : LeadsTo its opened left (cs ++ c ∷ []) (rs ++ r ∷ []) (ps ++ p ∷ [])
+
+-- The commands have a run with these replies and points, and the flash that is left is that of its last point, or what
+-- came of one command more, which was in hand.
+abbrev pub Rests : Config → (opened left : FlashState) → List Command → List Reply → List Point → Type 0
+Rests its opened left cs rs ps =
+    LeadsTo its opened left cs rs ps ⊎ (LeadsOn its opened left cs rs ps ⊎ StopsIn its opened left cs rs ps)
+
+-- A session that was stopped: up to then it is one. What it was about to say may be missing, or its last bytes. The
+-- flash that is left is as its run or one command more left it, and the file was closed.
 pub record IsStopped (flash : FileFlashState) (old new : DeskTold) : Type 0 where
   pub number : ℕ
   pub good : Bool
@@ -115,18 +140,35 @@ pub record IsStopped (flash : FileFlashState) (old new : DeskTold) : Type 0 wher
   pub ps : List Point
   pub reached : DeskTold
   pub talk : IsTalk flash.config.page_bytes (with_saying serving old) reached number good cs rs ps
-  pub run : HasRun flash.config (shown flash) cs rs ps
   pub said : IsSaidOf reached.sayings new.sayings
+  pub left : FileFlashState
+  pub leaves : new.left ≡ Some left
+  pub rests : Rests flash.config (shown flash) (shown left) cs rs ps
+  pub closed : IsClosed left
 
--- a session that was stopped, or did not begin: nothing was said then
+-- A session that did not begin: nothing was said, the flash that is left is as it was opened, and the file was closed.
+pub record IsUnbegun (flash : FileFlashState) (old new : DeskTold) : Type 0 where
+  pub said : new.sayings ≡ old.sayings
+  pub left : FileFlashState
+  pub leaves : new.left ≡ Some left
+  pub rests : moment_of (shown left) ≡ moment_of (shown flash)
+  pub closed : IsClosed left
+
+-- a session that did not begin, since the image of the flash is not sound: this breach is its first
+abbrev pub IsUnsound : FileFlashState → Breach → DeskTold → DeskTold → Type 0
+IsUnsound flash breach old new =
+    IsUnbegun flash old new × (new.input ≡ old.input)
+    × IsLeastImageBreach flash.config.protocol flash.config.logical (shape_of flash.config) flash.memory.image breach
+
+-- a session that was stopped, or did not begin
 abbrev pub IsStoppedOrNone : FileFlashState → DeskTold → DeskTold → Type 0
-IsStoppedOrNone flash old new = (new.sayings ≡ old.sayings) ⊎ IsStopped flash old new
+IsStoppedOrNone flash old new = IsUnbegun flash old new ⊎ IsStopped flash old new
 
 -- How a session ends on the flash of a file that was opened.
 abbrev pub IsHeld : FileFlashState → LiveEnding → Option DeskTold → Option DeskTold → Type 0
 IsHeld flash Closed old new = BothTell (IsSession flash true) old new
 IsHeld flash BadLine old new = BothTell (IsSession flash false) old new
-IsHeld flash (Refused (Unsound breach)) old new = BothTell (IsStoppedOrNone flash) old new
+IsHeld flash (Refused (Unsound breach)) old new = BothTell (IsUnsound flash breach) old new
 IsHeld flash Fault old new = BothTell (IsStoppedOrNone flash) old new
 IsHeld flash Starved old new = BothTell (IsStoppedOrNone flash) old new
 IsHeld flash _ old new = ⊥

@@ -15,15 +15,13 @@ use cut_replay::{ServeError, Server};
 use file_flash::{FileFlash, Store};
 use flash_model::NotDurable;
 use host_protocol::{Command, TextError, parse, reply_text};
-use record_list::{Breach, CommitRule};
+use record_list::CommitRule;
 use std::alloc::{AllocError, Global};
 use tx_types::Memory;
 
 /// Why a session stops before the end of its input.
 #[derive(Clone, Copy)]
 pub enum Stop {
-    /// The image is not sound.
-    Unsound(Breach),
     /// A call of the desk or of the file failed.
     Fault,
     /// There was no memory.
@@ -46,7 +44,8 @@ impl From<ServeError> for Stop {
 
     fn from(error: ServeError) -> Self {
         match error {
-            ServeError::Unsound { law, slot } => Stop::Unsound(Breach { law, slot }),
+            // A flash that was mounted is sound, so no session comes to this.
+            ServeError::Unsound { .. } => Stop::Fault,
             ServeError::Memory => Stop::Memory,
         }
     }
@@ -87,7 +86,7 @@ pub fn answer_lines<S: Store + Drop, D: LineDesk<S, FileFlash<S>>, R: CommitRule
     ensures hears { IfOk result (λ good. BothTell
         (HearsAll server.old.config good server.old.session server.new.session)
         (D.state desk.old).told (D.state desk.new).told) }
-    ensures stops { OnErr result (BothTell (HearsPartOrNone server.old.config server.old.session)
+    ensures stops { OnErr result (BothTell (HearsPartOrNone server.old.config server.old.session server.new.session)
         (D.state desk.old).told (D.state desk.new).told) }
 {
     if !server.is_mounted() {
@@ -123,7 +122,7 @@ fn answer_piece<S: Store + Drop, D: LineDesk<S, FileFlash<S>>, R: CommitRule>(
     ensures answers { IfOk result (λ good. AnswersPiece server.old.config next line.now number good
         (D.state desk.old).told server.old.session (D.state desk.new).told server.new.session) }
     ensures stops { OnErr result (StopsPiece server.old.config next line.now number
-        (D.state desk.old).told server.old.session (D.state desk.new).told) }
+        (D.state desk.old).told server.old.session (D.state desk.new).told server.new.session) }
 {
     if next == Next::Line && answer_line(alloc, desk, server, line)? {
         return Ok(true);
@@ -145,7 +144,7 @@ fn answer_line<S: Store + Drop, D: LineDesk<S, FileFlash<S>>, R: CommitRule>(
     ensures answers { IfOk result (λ good. AnswersLine server.old.config line.now good
         (D.state desk.old).told server.old.session (D.state desk.new).told server.new.session) }
     ensures stops { OnErr result (StopsLine server.old.config line.now
-        (D.state desk.old).told server.old.session (D.state desk.new).told) }
+        (D.state desk.old).told server.old.session (D.state desk.new).told server.new.session) }
 {
     let page_bytes = server.config().page_bytes;
     match parse(alloc, line, page_bytes) {
@@ -173,7 +172,7 @@ fn answer_command<S: Store + Drop, D: LineDesk<S, FileFlash<S>>, R: CommitRule>(
     ensures answers { OnOk result (AnswersCommand server.old.config command.now
         (D.state desk.old).told server.old.session (D.state desk.new).told server.new.session) }
     ensures stops { OnErr result (StopsCommand server.old.config command.now
-        (D.state desk.old).told server.old.session (D.state desk.new).told) }
+        (D.state desk.old).told server.old.session (D.state desk.new).told server.new.session) }
 {
     let unflushed = server.serve_next(alloc, command)?;
     let reply = server.flush(unflushed)?;

@@ -1,20 +1,20 @@
 ghost use Rattle.std.specs.Prelude.{◌≡◌};
 ghost use Rattle.live_session.specs.Endings.{ending_of};
-ghost use Rattle.live_session.specs.Hearing.{HearsAndCloses, HearsPartOrNone, WhereClosed, WhereStopped};
+ghost use Rattle.live_session.specs.Hearing.{HearsAndCloses, StopsAndCloses, WhereClosed, WhereStopped};
 ghost use Rattle.live_session.specs.LineDesk.{BothTell};
 ghost use Rattle.live_session.specs.Saying.{SaidDurably, SpellsWhereClosed};
-ghost use Rattle.live_session.specs.Sessions.{ending_after, ending_of_stop};
-ghost use Rattle.live_session.specs.Talks.{IsSession, IsStoppedOrNone};
+ghost use Rattle.live_session.specs.Sessions.{ending_after, ending_of_stop, ending_unmounted};
+ghost use Rattle.live_session.specs.Talks.{IsSession, IsStoppedOrNone, IsUnsound};
 
 use crate::LineDesk;
 use crate::answering::{Stop, answer_lines};
 use crate::ending::Ending;
 use bpcc_commit::Bpcc;
-use cut_replay::Server;
+use cut_replay::{ServeError, Server};
 use file_flash::{FileFlash, Store};
 use flash_model::NotDurable;
 use program_base::ImageRefusal;
-use record_list::CommitRule;
+use record_list::{Breach, CommitRule};
 use scc_commit::Scc;
 use std::alloc::Global;
 use tx_types::Protocol;
@@ -31,6 +31,7 @@ pub fn serve_flash<S: Store + Drop, D: LineDesk<S, FileFlash<S>>>(
         (λ good. BothTell (IsSession flash good) (D.state desk.old).told (D.state desk.new).told)
         (ending_of result) }
     ensures stops { WhereStopped
+        (λ breach. BothTell (IsUnsound flash breach) (D.state desk.old).told (D.state desk.new).told)
         (BothTell (IsStoppedOrNone flash) (D.state desk.old).told (D.state desk.new).told)
         (ending_of result) }
 {
@@ -53,6 +54,7 @@ fn serve_by<S: Store + Drop, D: LineDesk<S, FileFlash<S>>, R: CommitRule>(
         (λ good. BothTell (IsSession flash good) (D.state desk.old).told (D.state desk.new).told)
         (ending_of result) }
     ensures stops { WhereStopped
+        (λ breach. BothTell (IsUnsound flash breach) (D.state desk.old).told (D.state desk.new).told)
         (BothTell (IsStoppedOrNone flash) (D.state desk.old).told (D.state desk.new).told)
         (ending_of result) }
 {
@@ -60,8 +62,10 @@ fn serve_by<S: Store + Drop, D: LineDesk<S, FileFlash<S>>, R: CommitRule>(
     match Server::<FileFlash<S>, R>::open(alloc, flash, config) {
         Ok(server) => serve_lines(alloc, desk, server),
         Err((flash, why)) => {
+            let mut flash = flash;
+            let _ = flash.close();
             desk.release(flash);
-            stopped(Stop::from(why))
+            not_mounted(why)
         }
     }
 }
@@ -78,8 +82,8 @@ fn serve_lines<S: Store + Drop, D: LineDesk<S, FileFlash<S>>, R: CommitRule>(
         (λ good. BothTell (HearsAndCloses server.config good server.session)
         (D.state desk.old).told (D.state desk.new).told)
         (ending_of result) }
-    ensures stops { WhereStopped
-        (BothTell (HearsPartOrNone server.config server.session) (D.state desk.old).told (D.state desk.new).told)
+    ensures stops { WhereStopped (λ breach. ⊥)
+        (BothTell (StopsAndCloses server.config server.session) (D.state desk.old).told (D.state desk.new).told)
         (ending_of result) }
 {
     let mut server = server;
@@ -102,12 +106,24 @@ fn ending_of(answered: Result<bool, Stop>, closed: Result<(), NotDurable>) -> En
     }
 }
 
+/// How a session ends whose flash was not mounted.
+fn not_mounted(why: ServeError) -> Ending<'static>
+    ensures { ending_of result ≡ ending_unmounted why }
+{
+    match why {
+        ServeError::Unsound { law, slot } => Ending::Refused(ImageRefusal::Unsound(Breach {
+            law,
+            slot,
+        })),
+        ServeError::Memory => Ending::Memory,
+    }
+}
+
 /// How a session ends that was stopped.
 fn stopped(stop: Stop) -> Ending<'static>
     ensures { ending_of result ≡ ending_of_stop stop }
 {
     match stop {
-        Stop::Unsound(breach) => Ending::Refused(ImageRefusal::Unsound(breach)),
         Stop::Fault => Ending::Fault,
         Stop::Memory => Ending::Memory,
     }

@@ -121,18 +121,19 @@ returns-in_err-is_good-clause-stops g c =
     let mid = (g.D.LineDesk.state c.next_line.new.self).told in
     on_err c.from_residual-in_err-is_good.result _
     (part_piece c.args.server.now.config c.loop-number.are_good c.args.server.now.session
-    c.loop-number.server.session c.loop-number.number (g.D.LineDesk.state c.args.desk.now).told
+    c.loop-number.server.session c.answer_piece.new.server.session c.loop-number.number
+    (g.D.LineDesk.state c.args.desk.now).told
     (g.D.LineDesk.state c.say.new.self).told (g.D.LineDesk.state c.loop-number.desk)
     (g.D.LineDesk.state c.next_line.new.self) told c.in_ok-next.next c.next_line.new.line.items
     (sym c.is_mounted.ensures ∙ c.if-not-is_mounted.false) (ap (λ d. d.told) c.in_ok-say.ensures)
     c.loop-number.invariant.2 c.in_ok-next.ensures.reads (not_end c.in_ok-next.next c.if-eq.ensures)
     (subst
     (λ x. StopsPiece x c.in_ok-next.next c.next_line.new.line.items c.loop-number.number mid
-    c.loop-number.server.session told)
+    c.loop-number.server.session told c.answer_piece.new.server.session)
     c.loop-number.invariant.1
     (subst
     (λ x. StopsPiece c.loop-number.server.config c.in_ok-next.next x c.loop-number.number mid
-    c.loop-number.server.session told)
+    c.loop-number.server.session told c.answer_piece.new.server.session)
     c.deref.ensures.value c.in_err-is_good.ensures.stops)))
 
 pub returns-clause-stops : goal.returns-clause-stops

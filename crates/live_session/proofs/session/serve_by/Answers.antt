@@ -1,12 +1,12 @@
 use Rattle.live_session.specs.Endings.{ending_of}
 use Rattle.live_session.proofs.Durably.{leaves_durably}
-use Rattle.live_session.proofs.Stopping.{is_stopped}
+use Rattle.live_session.proofs.Stopping.{is_stopped, unopened_said}
 use Rattle.live_session.proofs.Talking.{is_session}
 use Rattle.live_session.proofs.session.serve_by.Goals as goal
 
 pub returns-in-Err-clause-durable : goal.returns-in-Err-clause-durable
 returns-in-Err-clause-durable g c = λ said.
-    leaves_durably (g.D.LineDesk.state c.args.desk.now) (g.D.LineDesk.state c.release.new.self) c.in-Err.flash
+    leaves_durably (g.D.LineDesk.state c.args.desk.now) (g.D.LineDesk.state c.release.new.self) c.close.new.self
     c.release.ensures said
 
 pub returns-in-Ok-clause-session : goal.returns-in-Ok-clause-session
@@ -20,3 +20,10 @@ returns-in-Ok-clause-stops g c =
     is_stopped (g.D.LineDesk.state c.args.desk.now).told (g.D.LineDesk.state c.serve_lines.new.desk).told c.args.flash
     c.config-config.result c.in-Ok.server (ending_of c.serve_lines.result) c.config-config.ensures.config
     c.in-Ok.ensures.opens c.serve_lines.ensures.stops
+
+pub returns-in-Err-clause-stops : goal.returns-in-Err-clause-stops
+returns-in-Err-clause-stops g c =
+    rw c.not_mounted.ensures
+    (unopened_said c.config-config.result c.args.flash c.in-Err.flash c.close.new.self c.in-Err.why c.close.result
+    (g.D.LineDesk.state c.args.desk.now) (g.D.LineDesk.state c.release.new.self) c.config-config.ensures.config
+    c.in-Err.ensures.failed c.close.ensures.stays c.close.ensures.answer c.close.ensures.spelled c.release.ensures)

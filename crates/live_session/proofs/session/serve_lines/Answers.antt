@@ -1,6 +1,6 @@
 use Rattle.std.proofs.Common.{ap, ◌∙◌}
 use Rattle.live_session.proofs.Closing.{closes}
-use Rattle.live_session.proofs.Stopping.{heard_part}
+use Rattle.live_session.proofs.Stopping.{heard_part, is_closed}
 use Rattle.live_session.proofs.Talking.{heard_and_closed}
 use Rattle.live_session.proofs.Durably.{leaves_durably}
 use Rattle.live_session.proofs.session.serve_lines.Goals as goal
@@ -33,4 +33,8 @@ returns-clause-stops g c =
     (heard_part (g.D.LineDesk.state c.args.desk.now).told c.args.server.config c.args.server.session
     c.answer_lines-answered.new.server.session c.close-closed.new.self c.answer_lines-answered.result
     c.close-closed.result (g.D.LineDesk.state c.answer_lines-answered.new.desk) (g.D.LineDesk.state c.release.new.self)
-    c.answer_lines-answered.ensures.hears c.answer_lines-answered.ensures.stops c.release.ensures)
+    c.answer_lines-answered.ensures.hears c.answer_lines-answered.ensures.stops
+    (c.close-closed.ensures.stays ∙ ap (λ f. f.memory) c.close-flash.ensures.flash)
+    (is_closed c.close-closed.new.self c.close-closed.result c.close-closed.ensures.answer
+    c.close-closed.ensures.spelled)
+    c.release.ensures)
