@@ -37,7 +37,7 @@ from calls import STRACE, Event, events
 IMAGE, TRACE = "d.img", "trace.txt"
 SECTOR = 512
 # How often losses are drawn where syncs are left out, and of how many something must be noticed.
-TRIES, MANY = 5, 8
+TRIES, MANY = 60, 8
 Draw = random.Random
 Piece = Tuple[int, bytes]
 

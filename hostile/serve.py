@@ -29,7 +29,7 @@ from judge import need
 from kills import read as read_file
 from kills import write as write_file
 from laws import read
-from live import BUILT, Session, Talk, give_all, read_in_use
+from live import BUILT, Session, Talk, filled, give_all, read_in_use
 from program import BUILT as TXFLASH
 from program import found_program
 from turns import COMMANDS, IMAGE, Turns, config_of
@@ -245,7 +245,8 @@ class Kinds(Turns):
         return "refused"
 
     def refused(self) -> str:
-        """Any image: it is refused as `explain` refuses it, but for the own bytes of empty slots, or served."""
+        """Any image: it is refused as `explain` refuses it, but for the own bytes of empty slots, or served. One that is
+        not sound is an image file then."""
         drawn = drawn_images.draw_image(self.draw.randrange(1 << 30), self.number)
         write_file(IMAGE, drawn.data)
         reading = read_in_use(drawn.data, IMAGE)
@@ -255,7 +256,8 @@ class Kinds(Turns):
         need(status == reading.status and session.said == said.encode(),
              f"status {status} and {session.said[:80]!r}, wanted {reading.status} and {said[:80]!r}")
         left = read_file(IMAGE) or b""
-        need(left == drawn.data if reading.status else read(left, IMAGE).image == reading.image, "the file has changed")
+        before = filled(drawn.data) if reading.status == 7 else drawn.data
+        need(left == before if reading.status else read(left, IMAGE).image == reading.image, "the file has changed")
         return f"status {status}"
 
     def longest(self) -> str:
