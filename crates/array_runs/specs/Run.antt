@@ -82,7 +82,8 @@ left_of (Some e) = length e.writes - e.done
 abbrev pub pages_left : ℕ → ArrayState → ℕ
 pages_left tag s = left_of (entry_of tag s.entries)
 
--- a page has no version left only where it may have been mentioned at the last one
+-- A page has no version left only where it may have been mentioned at the last one. A run has no tables: it adds to the
+-- mention of the page on the first flash one for each entry that named the page in a write opened since.
 abbrev pub MayBeSpent : (ℕ → ℕ) → (ℕ → Bool) → Type 0
 MayBeSpent seen spent = (page : ℕ) → spent page ≡ true → max_version ≤ seen page
 

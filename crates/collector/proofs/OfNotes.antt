@@ -4,5 +4,6 @@ pub mod KeepsLemmas
 pub mod Losing
 pub mod NeedFacts
 pub mod NotesLeft
+pub mod SinceErases
 pub mod SpelledNotes
 pub mod SureCounts

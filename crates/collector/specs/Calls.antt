@@ -22,6 +22,7 @@ use Rattle.collector.specs.Collecting.{CopiesDone, CopyDone, CollectsForRoom, Ha
 use Rattle.collector.specs.Going.{CostsAtMost, CostsBroken, CostsCopying, HasNoNewRecord, IsEvicted, EvictsAll, blocks_to_go}
 use Rattle.collector.specs.Matches.{Matches, CanSpare, IsFilledBy, IsNextOfSpare}
 use Rattle.collector.specs.Preserves.{Preserves, KeepsArray}
+use Rattle.collector.specs.SinceErase.{FlashWorksSinceErase}
 use Rattle.collector.specs.StoreParts.{StoreParts}
 use Rattle.collector.specs.Victim.{IsVictim, HasNoGarbage}
 
@@ -36,6 +37,7 @@ pub record Keeps (p : Protocol) (a b : StoreParts) (broken : Bool) : Type 0 wher
   pub records : HasNoNewRecord a.noted b.noted
   pub moves : FlashMoves a.flash b.flash broken
   pub carries : Carries a.flash b.flash broken
+  pub since : FlashWorksSinceErase p a.noted.config.logical a.flash b.flash broken
 
 -- The spare is made all blank.
 pub record Cleans (p : Protocol) (a b : StoreParts) (result : Result (Unit {0}) Broken) : Type 0 where

@@ -2,6 +2,7 @@ pub mod Known
 pub mod Matches
 pub mod StoreParts
 pub mod Preserves
+pub mod SinceErase
 pub mod Victim
 pub mod Collecting
 pub mod Settling

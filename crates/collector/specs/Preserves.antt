@@ -4,6 +4,8 @@ use Rattle.tx_types.specs.declared.config.Protocol.{Protocol}
 use Rattle.tx_types.specs.declared.record.Link.{Link}
 use Rattle.tx_types.specs.declared.record.Rec.{Rec}
 use Rattle.flash_model.specs.Flash.{Contents}
+use Rattle.record_list.specs.Changes.{SameCurrent}
+use Rattle.record_list.specs.Current.{is_held}
 use Rattle.record_list.specs.Records.{is_present}
 use Rattle.record_list.specs.Transaction.{InProgress}
 use Rattle.record_list.specs.Written.{text_at}
@@ -33,8 +35,12 @@ pub record Preserves (old new : IndexState) : Type 0 where
       InProgress old.config.protocol (found_in old.notes) old.config.logical names →
       InProgress old.config.protocol (found_in new.notes) old.config.logical names
 
--- The image stands for the same array, and a name that it has now has the text that it had.
+-- The image stands for the same array, with the same current versions, and a name that it has now has the text that it
+-- had. No record is held that was not.
 pub record KeepsArray (protocol : Protocol) (logical : ℕ) (old new : List Contents) : Type 0 where
   pub array : array_in protocol logical new ≡ array_in protocol logical old
+  pub versions : SameCurrent protocol (records_in protocol old) (records_in protocol new) logical
+  pub held : (r : Rec) → is_held protocol (records_in protocol new) logical r ≡ true →
+      is_held protocol (records_in protocol old) logical r ≡ true
   pub texts : (name : Link) → is_present (records_in protocol new) name ≡ true →
       text_at (written_in protocol new) name ≡ text_at (written_in protocol old) name

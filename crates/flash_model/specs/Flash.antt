@@ -53,7 +53,8 @@ counted_by more n = min (n + more) (2 ^ 64 - 1)
 abbrev pub counted : ℕ → ℕ
 counted n = counted_by 1 n
 
--- a count goes up by one, so many times: where that is none it is as before, whatever it was
+-- A count goes up by one, so many times: where that is none it is as before, whatever it was. The counts of reads and
+-- faults may be any number to callers, and stand still at the end of 64 bits, so none has a case of its own.
 abbrev pub counted_times : ℕ → ℕ → ℕ
 counted_times zero n = n
 counted_times (suc times) n = counted_by (suc times) n

@@ -13,7 +13,7 @@ pub trait Cached: Flash {
     ghost flushes: { Self → Self → Result (Unit {0}) NotDurable → Type 0 };
 
     /// Makes durable all that was done. What the flash shows is as before, also where this fails: then a loss of
-    /// power may still take what waits, nothing may be answered that rests on it, and each later flush fails too.
+    /// power may still take what waits, and nothing may be answered that rests on it.
     fn flush(&mut self) -> Result<(), NotDurable>
         ensures same { Self.state self.new ≡ Self.state self.old }
         ensures flushes { flushes self.old self.new result };

@@ -23,7 +23,7 @@ pub fn write_head(width: u64, height: u64, text: &mut Vec<u8>) -> Result<(), All
     add(tip(), text)
 }
 
-/// How the classes look.
+/// How the classes look. A cell's words are also the names of its class, by which this style colours it.
 #[tactic(auto, unfolding(crate::specs::Svg::style))]
 fn style() -> &'static [u8]
     ensures { result.now ≡ style }

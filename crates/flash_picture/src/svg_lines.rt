@@ -13,10 +13,12 @@ use sorted_records::SortedRecords;
 use std::alloc::{AllocError, Global};
 use tx_types::{Link, Memory, Protocol};
 
-/// A line of a walk is full with this many columns: a step behind more stands in the next line.
+/// A line of a walk is full with this many columns: a step behind more stands in the next line, so the place of each is
+/// known before it is written.
 const FULL_COLUMNS: usize = 80;
 
-/// Appends the walks of all pages whose newest version does not count, and returns how many lines they are.
+/// Appends the walks of all pages whose newest version does not count, one that many share once, and returns how many
+/// lines they are.
 pub fn write_walks(
     alloc: Global,
     chart: &SortedRecords,

@@ -151,7 +151,7 @@ fn protocol_of(code: u32) -> Option<Protocol>
     }
 }
 
-/// The number that stands for a protocol.
+/// The number that stands for a protocol in an image file: a choice of this format's own.
 fn code(protocol: Protocol) -> u32
     ensures { result ≡ code_of protocol }
 {

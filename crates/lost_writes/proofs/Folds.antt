@@ -12,6 +12,7 @@ use Rattle.lost_writes.specs.Waiting.{IsLeftOf}
 use Rattle.lost_writes.specs.Fired.{Fired, with_record, with_records, waits_too, IsFired, AreApart, IsLeftWhole, LostWritesLaw}
 use Rattle.lost_writes.proofs.Steps.{Moves, moves, fired_yet}
 use Rattle.lost_writes.proofs.Left.{removable, fired_left, is_left_sound}
+use Rattle.lost_writes.proofs.Slots.{none_waits}
 
 -- some of the records were added, in their order
 abbrev WrittenFrom : Protocol → List Contents → List Fired → List Contents → Type 0
@@ -167,7 +168,7 @@ module _ (p : Protocol) (partial : PartialWriteLaw p) (completing : CompletingWr
     (Q : Entry → Type 0) (block : ℕ) (exists : block < blocks_of shape) (left : List Contents) where
   all_added : (fs : List Fired) (image : List Contents) → IsSoundImage p logical shape image →
       KeepsCounted p (records_in p image) logical (is_outside shape block) →
-      ((f : Fired) → Contains fs f → IsFired p logical shape Q block image f) → AllPairs AreApart fs →
+      ((f : Fired) → Contains fs f → IsFired p logical shape Q block none_waits image f) → AllPairs AreApart fs →
       WrittenFrom p image fs left → IsLeftWhole p logical shape Q image (map (λ (f : Fired). f.entry) fs) left
   all_added [] image sound still each apart from = record {
     sound = subst (IsSoundImage p logical shape) (sym from) sound;
@@ -206,8 +207,8 @@ same_array Q es a b new e h = subst (λ pages. MayTakeEach pages Q es new) e h
 pub lost_writes : (p : Protocol) → LossLaw p → PartialWriteLaw p → CompletingWriteLaw p → LostWritesLaw p
 lost_writes p loss partial completing logical shape c block waits image fired left u lost =
     let Q = MayComplete c in
-    let fired_at : (f : Fired) → Contains fired f → IsFired p logical shape Q block image f =
-    λ f i. All-contains (IsFired p logical shape Q block image) fired f u.each i in
+    let fired_at : (f : Fired) → Contains fired f → IsFired p logical shape Q block waits image f =
+    λ f i. All-contains (IsFired p logical shape Q block waits image) fired f u.each i in
     let part : IsParted p waits image fired left = parted p fired waits image left
     (λ f i. record { within = (fired_at f i).asks.within; free = (fired_at f i).asks.blank }) u.apart lost in
     let kept = is_left_sound p loss logical shape Q block waits image fired u part.before part.is_left in

@@ -1,5 +1,5 @@
 -- What is left of an image in which slots wait: each transaction asks for its record yet.
-use Rattle.lost_writes.proofs.Common.{◌≡◌, ℕ, ◌⊎◌, Bool, true, false, not, ◌&&◌, List, Contains, refl, sym, ap, ◌∙◌, subst, inl, inr, and_parts, and_from, All-contains, all_from, from_filter, Contents, blank, damaged, complete, slot_at, records_in, written_in, LosesSlots, left, KeepsCounted, LossLaw, IsSpared, name_of, is_present, found_of, records_of, is_outside, Found, Protocol, Shape, Link}
+use Rattle.lost_writes.proofs.Common.{◌≡◌, ℕ, ◌⊎◌, Bool, true, false, not, ◌&&◌, List, Contains, refl, sym, ap, ◌∙◌, subst, inl, inr, and_parts, and_from, All-contains, all_from, from_filter, in_filter, Contents, blank, damaged, complete, slot_at, records_in, written_in, LosesSlots, left, KeepsCounted, LossLaw, IsSpared, name_of, is_present, found_of, records_of, is_outside, Found, Protocol, Shape, Link}
 use Rattle.std.proofs.Common.{option_and_then}
 use Rattle.array_machine.specs.ArrayState.{Entry}
 use Rattle.record_list.specs.Written.{value_of}
@@ -15,7 +15,7 @@ use Rattle.judged_records.proofs.OfLaws.ImageScans.{records_scanned, HasNone, wr
 use Rattle.judged_records.proofs.OfLaws.SlotLosses.{image_slot_loss, asks_after_loss}
 use Rattle.lost_writes.specs.Waiting.{IsLeftOf, is_spared}
 use Rattle.lost_writes.specs.Fired.{Fired, with_record, IsFired, IsUnflushed}
-use Rattle.lost_writes.proofs.Slots.{IsLossOf, stays, loses, must_stay, counted_weaker, waits_not}
+use Rattle.lost_writes.proofs.Slots.{IsLossOf, stays, loses, must_stay, counted_weaker, waits_not, none_waits}
 
 -- a slot that waits and is blank afterwards: it was blank, or something was lost
 gone_case : (old new : Contents) (W : Type 0) → W → new ≡ blank →
@@ -91,7 +91,17 @@ module _ (p : Protocol) (law : LossLaw p) (logical : ℕ) (shape : Shape) (Q : E
   pub is_left_sound : KeepsLost p logical shape image image'
   is_left_sound = kept
 
-  module _ (f : Fired) (is : IsFired p logical shape Q block image f) where
+  -- a record that does not wait is there yet
+  still_there : (g : Found) → Contains (left (is_spared waits shape block) l) g →
+      Contains (left (is_spared none_waits shape block) m) g
+  still_there g i =
+      let k = from_filter (λ (x : Found). is_spared waits shape block x.slot.0) g l i in
+      let parts = and_parts (not (waits g.slot.0)) (out g.slot.0) k.1 in
+      let stays = must_stay go image image' lost_at g.slot.0 (λ w. waits_not (waits g.slot.0) w.0 parts.0) in
+      in_filter (λ (x : Found). is_spared none_waits shape block x.slot.0) g m
+      (subst (λ xs. Contains xs g) its_left (in_filter (λ (x : Found). keep x.slot.0) g l k.0 stays)) parts.1
+
+  module _ (f : Fired) (is : IsFired p logical shape Q block waits image f) where
     asks : AsksFor p logical shape image' f.names f.at f.rec
     asks = asks_after_loss p law logical shape image image' f.names f.at f.rec keep is.asks keeps spared
         (must_stay go image image' lost_at f.at (λ g. g.1 is.asks.blank))
@@ -111,7 +121,7 @@ module _ (p : Protocol) (law : LossLaw p) (logical : ℕ) (shape : Shape) (Q : E
           | inr old ↦ present_as l' g.0 name (in_inserted l l' new a g.0 (was_there g.0 old)) g.2
         ]
 
-    pub fired_left : IsFired p logical shape Q block image' f
+    pub fired_left : IsFired p logical shape Q block none_waits image' f
     fired_left = record {
       asks = asks;
       pages = is.pages;
@@ -119,9 +129,18 @@ module _ (p : Protocol) (law : LossLaw p) (logical : ℕ) (shape : Shape) (Q : E
           ap (option_and_then value_of) (sym (kept.texts name h))
           ∙ is.says name w i j same (among_present m l (among_of m l was_there) name h);
       says_own = is.says_own;
-      outside = all_from (λ (g : Found). Contains f.names (name_of g.rec) → out g.slot.0 ≡ true) m (λ g i.
-          All-contains (λ (x : Found). Contains f.names (name_of x.rec) → out x.slot.0 ≡ true) l g is.outside
-          (was_there g i));
+      outside = all_from (λ (g : Found). Contains f.names (name_of g.rec) →
+          (out g.slot.0 ≡ true) ⊎ (is_present (left (is_spared none_waits shape block) m) (name_of g.rec) ≡ true)) m
+          (λ g i own.
+          elim (All-contains (λ (x : Found). Contains f.names (name_of x.rec) →
+          (out x.slot.0 ≡ true) ⊎ (is_present (left (is_spared waits shape block) l) (name_of x.rec) ≡ true)) l g
+          is.outside (was_there g i) own) [
+            | inl here ↦ inl here
+            | inr other ↦ inr (among_present (left (is_spared waits shape block) l)
+                (left (is_spared none_waits shape block) m)
+                (among_of (left (is_spared waits shape block) l) (left (is_spared none_waits shape block) m)
+                still_there) (name_of g.rec) other)
+          ]);
       slot = is.slot;
       last = λ all. is.last (all_from (λ name. is_present (records_in p (with_record p image f)) name ≡ true) f.names
           (λ name i. name_was name (All-contains (λ name. is_present (records_in p (with_record p image' f)) name

@@ -9,5 +9,10 @@ mod Left
 mod Folds
 mod Doubts
 mod Commands
+mod Room
+mod Carried
+mod UnderOneFlush
+mod Fires
+mod Devices
 mod Sessions
 mod OnImages

@@ -80,6 +80,10 @@ spared_weaker p l n shape a b weaker spared =
           spared.counted;
     }
 
+-- no slot waits
+abbrev pub none_waits : ℕ → Bool
+none_waits slot = false
+
 -- a slot waits, and is durable: not both
 pub waits_not : (b : Bool) → b ≡ true → not b ≡ true → ⊥
 waits_not true e h = false≢true h

@@ -1,6 +1,6 @@
 -- A record that its transaction asks for is added to an image: the image stays sound, its array stays or takes the
 -- transaction, and each other transaction still asks for its record.
-use Rattle.lost_writes.proofs.Common.{◌≡◌, ◌≢◌, ℕ, ◌<◌, ◌≤◌, ◌⊎◌, Bool, true, false, ◌&&◌, List, map, All, Any, Contains, None, refl, sym, ap, ◌∙◌, subst, inl, inr, arith, ⊎_elim, cases_Bool, and_parts, and_from, both_ways, false≢true, length-set, get_or-set_other, All-contains, all_from, in_filter, in_map, map_in, Contents, blank, records_in, written_in, array_in, left, KeepsCounted, PartialWriteLaw, CompletingWriteLaw, cur, name_of, is_present, found_of, is_outside, Found, blocks_of, Protocol, Scc, Bpcc, Shape, Link, Rec}
+use Rattle.lost_writes.proofs.Common.{◌≡◌, ◌≢◌, ℕ, ◌<◌, ◌≤◌, ◌⊎◌, Bool, true, false, ◌&&◌, List, map, All, Any, Contains, None, refl, sym, ap, ◌∙◌, subst, inl, inr, arith, ⊎_elim, cases_Bool, and_parts, and_from, both_ways, false≢true, length-set, get_or-set_other, All-contains, all_from, from_filter, in_filter, in_map, map_in, Contents, blank, records_in, written_in, array_in, left, KeepsCounted, PartialWriteLaw, CompletingWriteLaw, cur, name_of, is_present, found_of, is_outside, Found, blocks_of, Protocol, Scc, Bpcc, Shape, Link, Rec}
 use Rattle.std.proofs.Common.{option_and_then, ◌||◌, eqb, nat_lt, ne_eqb, ◌^◌, ltb-true, lt-ltb, zip}
 use Rattle.tx_types.specs.Batch.{PageWrite}
 use Rattle.array_machine.specs.ArrayState.{Entry, put}
@@ -18,6 +18,7 @@ use Rattle.record_list.proofs.OfChanges.WrittenChange.{written_partial_write, wr
 use Rattle.record_list.proofs.OfChanges.WrittenLists.{left_more}
 use Rattle.record_list.proofs.OfFacts.Names.{cases_present, found_named, named_name, present_as, same_name}
 use Rattle.record_list.proofs.OfFacts.SoundNames.{IsSoundMap, sound_map}
+use Rattle.record_list.proofs.OfLosses.LossAmong.{among_of, among_present}
 use Rattle.record_list.proofs.OfLosses.LossCounted.{IsCounted}
 use Rattle.record_list.proofs.OfWalks.Rounds.{cases_page, follows_of, follows_in}
 use Rattle.judged_records.specs.Images.{IsSoundImage}
@@ -26,7 +27,9 @@ use Rattle.judged_records.proofs.OfLaws.ImageScans.{records_scanned, written}
 use Rattle.judged_records.proofs.OfLaws.ImageLaws.{Writes, writes, image_partial_law, image_completing_law}
 use Rattle.lost_writes.specs.Fired.{Fired, with_record, IsFired, AreApart}
 use Rattle.lost_writes.proofs.Arrays.{at_page, put_is}
+use Rattle.lost_writes.specs.Waiting.{is_spared}
 use Rattle.lost_writes.proofs.Grows.{held_more, counted_grows}
+use Rattle.lost_writes.proofs.Slots.{none_waits}
 
 -- a name of a page is a write of it, and back
 name_written : (names : List Link) (ws : List PageWrite) →
@@ -85,7 +88,7 @@ pub record Moves (p : Protocol) (logical : ℕ) (shape : Shape) (Q : Entry → T
 module _ (p : Protocol) (partial : PartialWriteLaw p) (completing : CompletingWriteLaw p) (logical : ℕ) (shape : Shape)
     (Q : Entry → Type 0) (block : ℕ) (exists : block < blocks_of shape) (image : List Contents) (f : Fired)
     (removable : KeepsCounted p (records_in p image) logical (is_outside shape block))
-    (is : IsFired p logical shape Q block image f) where
+    (is : IsFired p logical shape Q block none_waits image f) where
   abbrev image' : List Contents
   image' = with_record p image f
 
@@ -122,17 +125,28 @@ module _ (p : Protocol) (partial : PartialWriteLaw p) (completing : CompletingWr
         | inr old ↦ inr (present_as l g.0 name old g.2)
       ]
 
-  -- a record of the transaction lies outside the block
+  -- a record of the transaction has a slot outside the block
   name_outside : (name : Link) → Contains f.names name → is_present m name ≡ true →
       is_present (left out m) name ≡ true
   name_outside name i h =
       let g = found_named m name h in
-      let lies : out g.0.slot.0 ≡ true = elim (new_or_old g.0 g.1) [
-        | inl new ↦ subst (λ (x : Found). out x.slot.0 ≡ true) new is.slot
-        | inr old ↦ All-contains (λ (x : Found). Contains f.names (name_of x.rec) → out x.slot.0 ≡ true) l g.0
-            is.outside old (subst (Contains f.names) (sym g.2) i)
-      ] in
-      present_as (left out m) g.0 name (in_filter (λ (x : Found). out x.slot.0) g.0 m g.1 lies) g.2
+      elim (new_or_old g.0 g.1) [
+        | inl new ↦ lies_out g.0 g.1 (subst (λ (x : Found). out x.slot.0 ≡ true) new is.slot) g.2
+        | inr old ↦ elim (All-contains (λ (x : Found). Contains f.names (name_of x.rec) →
+            (out x.slot.0 ≡ true) ⊎ (is_present (left (is_spared none_waits shape block) l) (name_of x.rec) ≡ true))
+            l g.0 is.outside old (subst (Contains f.names) (sym g.2) i)) [
+              | inl here ↦ lies_out g.0 g.1 here g.2
+              | inr other ↦ (
+                  let k = found_named (left (is_spared none_waits shape block) l) (name_of g.0.rec) other in
+                  let parts = from_filter (λ (x : Found). is_spared none_waits shape block x.slot.0) k.0 l k.1 in
+                  lies_out k.0 (stays_in k.0 parts.0) parts.1 (k.2 ∙ g.2))
+            ]
+      ]
+    where
+      lies_out : (x : Found) → Contains m x → out x.slot.0 ≡ true → name_of x.rec ≡ name →
+          is_present (left out m) name ≡ true
+      lies_out x there lies same =
+          present_as (left out m) x name (in_filter (λ (y : Found). out y.slot.0) x m there lies) same
 
   map_old : IsSoundMap p l logical
   map_old = sound_map p l logical is.asks.sound.written.records (records_scanned p image)
@@ -257,7 +271,14 @@ module _ (p : Protocol) (partial : PartialWriteLaw p) (completing : CompletingWr
 
   -- ---- another transaction asks for its record yet
 
-  module _ (g : Fired) (apart : AreApart f g) (other : IsFired p logical shape Q block image g) where
+  -- a record that was there outside the block is there yet
+  spared_in : (x : Found) → Contains (left (is_spared none_waits shape block) l) x →
+      Contains (left (is_spared none_waits shape block) m) x
+  spared_in x i =
+      let parts = from_filter (λ (y : Found). is_spared none_waits shape block y.slot.0) x l i in
+      in_filter (λ (y : Found). is_spared none_waits shape block y.slot.0) x m (stays_in x parts.0) parts.1
+
+  module _ (g : Fired) (apart : AreApart f g) (other : IsFired p logical shape Q block none_waits image g) where
     pages_apart : (a b : Link) → Contains f.names a → Contains g.names b → a.page ≢ b.page
     pages_apart a b i j =
         All-contains (λ (y : Link). a.page ≢ y.page) g.names b
@@ -354,7 +375,7 @@ module _ (p : Protocol) (partial : PartialWriteLaw p) (completing : CompletingWr
               present_as more x.0 b (in_inserted l more new k.write.added x.0 x.1) x.2)
         ]
 
-    pub fired_yet : IsFired p logical shape Q block image' g
+    pub fired_yet : IsFired p logical shape Q block none_waits image' g
     fired_yet =
         let k : Moves p logical shape Q block image image' f = moves in
         record {
@@ -364,12 +385,22 @@ module _ (p : Protocol) (partial : PartialWriteLaw p) (completing : CompletingWr
               let old = was_there name i h in
               ap (option_and_then value_of) (k.texts name old) ∙ other.says name w i j same old;
           says_own = other.says_own;
-          outside = all_from (λ (x : Found). Contains g.names (name_of x.rec) → out x.slot.0 ≡ true) m (λ x i own.
+          outside = all_from (λ (x : Found). Contains g.names (name_of x.rec) →
+              (out x.slot.0 ≡ true) ⊎ (is_present (left (is_spared none_waits shape block) m) (name_of x.rec) ≡ true))
+              m (λ x i own.
               elim (new_or_old x i) [
                 | inl new ↦ absurd (pages_apart (name_of f.rec) (name_of x.rec) is.asks.named own
                     (ap (λ (y : Found). y.rec.page) new))
-                | inr old ↦ All-contains (λ (y : Found). Contains g.names (name_of y.rec) → out y.slot.0 ≡ true) l x
-                    other.outside old own
+                | inr old ↦ elim (All-contains (λ (y : Found). Contains g.names (name_of y.rec) →
+                    (out y.slot.0 ≡ true)
+                    ⊎ (is_present (left (is_spared none_waits shape block) l) (name_of y.rec) ≡ true)) l x
+                    other.outside old own) [
+                      | inl here ↦ inl here
+                      | inr there ↦ inr (among_present (left (is_spared none_waits shape block) l)
+                          (left (is_spared none_waits shape block) m)
+                          (among_of (left (is_spared none_waits shape block) l)
+                          (left (is_spared none_waits shape block) m) spared_in) (name_of x.rec) there)
+                    ]
               ]);
           slot = other.slot;
           last = λ all. other.last (all_from (λ b. is_present (records_in p (with_record p image g)) b ≡ true) g.names

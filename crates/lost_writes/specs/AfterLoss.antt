@@ -58,7 +58,7 @@ pub record IsProgramming (protocol : Protocol) (logical : ℕ) (shape : Shape) (
   pub exists : block < blocks_of shape
   pub removable : IsRemovable protocol (records_in protocol flushed) logical shape block
   pub quiet : AreQuiet protocol logical shape slots flushed image
-  pub each : All (IsFired protocol logical shape (MayComplete c) block image) fired
+  pub each : All (IsFired protocol logical shape (MayComplete c) block (is_one_of slots) image) fired
   pub apart : AllPairs AreApart fired
   pub open_entries : AreSome (map (λ f. f.entry) fired) old.entries
   pub few : MayStart c (length fired)

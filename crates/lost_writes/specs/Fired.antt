@@ -1,5 +1,5 @@
 -- Records that were started and wait, each the next one of its transaction, and what a loss of power leaves of them.
-use Rattle.std.specs.Prelude.{◌≡◌, ◌≢◌, ℕ, ◌<◌, ◌==◌, Bool, true, ◌||◌, List, [], ◌∷◌, map, All, AllPairs, Contains}
+use Rattle.std.specs.Prelude.{◌≡◌, ◌≢◌, ◌⊎◌, ℕ, ◌<◌, ◌==◌, Bool, true, ◌||◌, List, [], ◌∷◌, map, All, AllPairs, Contains}
 use Rattle.std.specs.List.{list_any}
 use Rattle.tx_types.specs.Batch.{PageWrite}
 use Rattle.tx_types.specs.Config.{blocks_of}
@@ -8,7 +8,7 @@ use Rattle.tx_types.specs.declared.config.Shape.{Shape}
 use Rattle.tx_types.specs.declared.record.Link.{Link}
 use Rattle.tx_types.specs.declared.record.Rec.{Rec}
 use Rattle.flash_model.specs.Flash.{Contents}
-use Rattle.record_list.specs.Changes.{KeepsCounted}
+use Rattle.record_list.specs.Changes.{KeepsCounted, left}
 use Rattle.record_list.specs.Records.{name_of, is_present}
 use Rattle.record_list.specs.Transaction.{ShareNoPage}
 use Rattle.record_list.specs.Written.{is_outside, value_of, value_at}
@@ -47,17 +47,25 @@ SaysWrites protocol image f =
     is_present (records_in protocol image) name ≡ true →
     value_at (written_in protocol image) name ≡ w.value
 
--- The transaction of a started record asks for it in this image. Its records lie outside the block and say what it
--- writes. Where with this record all its names are there, the transaction is of this kind.
+-- Each record of these names lies outside the block, or its name has another one there that does not wait.
+abbrev pub AreOutside : Protocol → Shape → ℕ → (ℕ → Bool) → List Contents → List Link → Type 0
+AreOutside protocol shape block waits image names =
+    All (λ g. Contains names (name_of g.rec) →
+    (is_outside shape block g.slot.0 ≡ true)
+    ⊎ (is_present (left (is_spared waits shape block) (records_in protocol image)) (name_of g.rec) ≡ true))
+    (records_in protocol image)
+
+-- The transaction of a started record asks for it in this image. Its records say what it writes, and outside the block
+-- each of its names that is there has one. Where with this record all its names are there, the transaction is of this
+-- kind.
 pub record IsFired (protocol : Protocol) (logical : ℕ) (shape : Shape) (Q : Entry → Type 0) (block : ℕ)
-    (image : List Contents) (f : Fired) : Type 0 where
+    (waits : ℕ → Bool) (image : List Contents) (f : Fired) : Type 0 where
   pub asks : AsksFor protocol logical shape image f.names f.at f.rec
   pub pages : map (λ (name : Link). name.page) f.names ≡ map (λ (w : PageWrite). w.page) f.entry.writes
   pub says : SaysWrites protocol image f
   pub says_own : (w : PageWrite) → Contains f.entry.writes w → w.page ≡ f.rec.page →
       value_of (record { discard = f.rec.discard; bytes = f.bytes }) ≡ w.value
-  pub outside : All (λ g. Contains f.names (name_of g.rec) → is_outside shape block g.slot.0 ≡ true)
-      (records_in protocol image)
+  pub outside : AreOutside protocol shape block waits image f.names
   pub slot : is_outside shape block f.at ≡ true
   pub last : All (λ name. is_present (records_in protocol (with_record protocol image f)) name ≡ true) f.names →
       Q f.entry
@@ -74,7 +82,7 @@ pub record IsUnflushed (protocol : Protocol) (logical : ℕ) (shape : Shape) (Q 
   pub sound : IsSoundImage protocol logical shape image
   pub exists : block < blocks_of shape
   pub spared : KeepsCounted protocol (records_in protocol image) logical (is_spared waits shape block)
-  pub each : All (IsFired protocol logical shape Q block image) fired
+  pub each : All (IsFired protocol logical shape Q block waits image) fired
   pub apart : AllPairs AreApart fired
 
 -- What is left is sound. Its array is that of the image, where each of these transactions that is of this kind was

@@ -2,6 +2,8 @@ pub mod Waiting
 pub mod Quiet
 pub mod Fired
 pub mod AfterLoss
+pub mod Room
+pub mod UnderOneFlush
 pub mod Sessions
 pub mod OnImages
 pub mod Examples

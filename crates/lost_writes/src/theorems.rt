@@ -5,10 +5,14 @@ ghost use Rattle.lost_writes.specs.Examples.{TwoWait, AbortedBetween, TwoTogethe
 ghost use Rattle.lost_writes.specs.Fired.{LostWritesLaw};
 ghost use Rattle.lost_writes.specs.OnImages.{ImagesAreOneRun, AcknowledgedIsLeft, OthersAreLeftWhole};
 ghost use Rattle.lost_writes.specs.Quiet.{QuietProgramsLaw};
+ghost use Rattle.lost_writes.specs.Room.{RoomLossLaw};
+ghost use Rattle.lost_writes.specs.UnderOneFlush.{StepLoss, FinishLoss, StepAllLoss, AbortLoss};
+ghost use Rattle.lost_writes.specs.UnderOneFlush.{CollectLoss, ReadyLoss, LeftIsCut};
 ghost use Rattle.lost_writes.specs.Sessions.{LossIsCut, MentionsFall, SessionsAreOneRun};
 ghost use Rattle.lost_writes.specs.Sessions.{AcknowledgedSurvives, OthersAreWholeOrAbsent, LossLeavesTransactions};
 ghost use Rattle.lost_writes.specs.Waiting.{WaitingLossLaw, TornEraseLaw, EraseIsTorn, BetweenIsTorn, SparedLaw};
 
+use flash_model::Flash;
 use record_list::CommitRule;
 
 /// Of an image of which some slots wait a loss leaves a sound one, with the array and all transactions in progress, as
@@ -59,6 +63,30 @@ pub fn losses_are_cuts<R: CommitRule>()
     ensures step { LossIsCut R.protocol }
     ensures mentions { MentionsFall R.protocol }
 {}
+
+/// What a loss leaves of a call that collects or makes room is sound, and has the array from before the call: if what
+/// waits is made durable before each erase, of whatever part of the slots that were programmed since the last one it
+/// leaves, and whatever mix of a block that is being erased.
+pub fn room_losses<R: CommitRule>()
+    ensures { RoomLossLaw R.protocol }
+{}
+
+/// Whatever a loss leaves of a command of a device, broken off anywhere or done, if what waits is made durable before
+/// each erase and with each reply, is sound, and has the array from before the command, or one that a cut of it allows:
+/// a run goes on there as after the reply `cut`. What a loss may leave blank are the slots that were so at some moment
+/// at which the command began, or an erase of it ended, and behind which nothing was erased, with the array still as it
+/// was. That what waits was programmed since is for the flash to keep: no clause of a device says it.
+pub fn commands_under_one_flush<F: Flash, R: CommitRule>()
+    ensures step { StepLoss F.state R.protocol }
+    ensures finish { FinishLoss F.state R.protocol }
+    ensures together { StepAllLoss F.state R.protocol }
+    ensures abort { AbortLoss F.state R.protocol }
+    ensures collect { CollectLoss F.state R.protocol }
+    ensures ready { ReadyLoss F.state R.protocol }
+    ensures cut { LeftIsCut R.protocol }
+{
+    tx_engine::theorems::crash_states::<F, R>();
+}
 
 /// Sessions of which each was broken off by a loss, and begins with what the loss before it left, are one run, from
 /// image to image too. So over any number of them a transaction that was acknowledged survives, and any other is whole

@@ -1,4 +1,6 @@
--- What a device keeps when it is opened: the block that becomes its spare, and its tables.
+-- What a device keeps when it is opened: the block that becomes its spare, and its tables. How slots read is defined in
+-- flash_model, the block table in die_alloc, the spare and the notes in judged_records: so collector states that such
+-- tables match without this crate.
 use Rattle.std.specs.Prelude.{◌≡◌, ℕ, ◌<◌, ◌⊎◌, List, Option, None, Some}
 use Rattle.tx_types.specs.declared.config.Config.{Config}
 use Rattle.tx_types.specs.declared.config.Block.{Block}

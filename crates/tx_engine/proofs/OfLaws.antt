@@ -1,3 +1,4 @@
 pub mod DevicesStand
+pub mod GoingBlocks
 pub mod LaterSlots
 pub mod ReadySteps

@@ -1,9 +1,11 @@
 pub mod Breaking
 pub mod HeldImages
+pub mod LastWrites
 pub mod Leaving
 pub mod PageWrites
 pub mod RecordWrites
 pub mod RoomMaking
+pub mod SpareBlanks
 pub mod WriteAfter
 pub mod WriteExits
 pub mod Programs

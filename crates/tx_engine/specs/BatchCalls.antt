@@ -26,7 +26,7 @@ use Rattle.array_machine.specs.declared.answers.Moved.{Moved}
 use Rattle.array_machine.specs.declared.answers.Progress.{Progress}
 use Rattle.array_machine.specs.declared.answers.Progress.TheVariants as progress
 use Rattle.array_machine.specs.ArrayState.{ArrayState, Entry}
-use Rattle.tx_engine.specs.Batches.{jobs_of, chosen_in, noted_each, record_due, taken_writes, takes_each, used_each}
+use Rattle.tx_engine.specs.Batches.{MayLeaveEach, jobs_of, chosen_in, noted_each, record_due, taken_writes, takes_each, used_each}
 use Rattle.tx_engine.specs.Calls.{IsReady, AdvancesTo}
 use Rattle.tx_engine.specs.Exits.{Exits, ExitsTogether, MentionsAtMost, VersionsRise}
 use Rattle.tx_engine.specs.Held.{AddsNoHeldIn}
@@ -184,6 +184,8 @@ pub record WrittenAll {F : Type 0} (state : F → FlashState) (S S' : StoreState
   pub reads : (state S'.flash).reads ≡ (state S.flash).reads
   pub low : All (λ w. w.page < S.noted.config.logical)
       (flat_map taken_writes (take (length jobs) (entries_of O)))
+  pub leaves : MayLeaveEach S.noted.config.protocol S.noted.config.logical (state S.flash).shape (state S.flash).image
+      (loads_for S.noted O 0 jobs) (device_in state S O).machine.pages (entries_of O)
 
 -- Their fire was broken, or was not started. The image is sound, and of the transactions that wrote their last page each
 -- was taken or not by itself.
@@ -201,6 +203,8 @@ pub record DroppedAll {F : Type 0} (state : F → FlashState) (S S' : StoreState
   pub moves : FlashMovesTogether (state S.flash) (state S'.flash) true
   pub carries : Carries (state S.flash) (state S'.flash) true
   pub stays : S' ≡ record S { flash = S'.flash }
+  pub leaves : MayLeaveEach S.noted.config.protocol S.noted.config.logical (state S.flash).shape (state S.flash).image
+      (loads_for S.noted O 0 jobs) (device_in state S O).machine.pages (entries_of O)
 
 pub record WritesAll {F : Type 0} (state : F → FlashState) (S S' : StoreState F) (O O' : OpenTransactionsState)
     (jobs : List Job) (result : Result (Unit {0}) Broken) : Type 0 where

@@ -3,12 +3,15 @@ use Rattle.std.specs.Prelude.{◌≡◌, ◌≢◌, ◌⊎◌, ℕ, ◌&&◌, Bo
 use Rattle.std.specs.Prelude.{is_none, not, Result, Ok, IfOk, OnErr, if◌then◌else◌}
 use Rattle.std.specs.List.{zip, flat_map, range_with_len}
 use Rattle.tx_types.specs.Batch.{PageWrite, bytes_in}
+use Rattle.tx_types.specs.declared.config.Protocol.{Protocol}
+use Rattle.tx_types.specs.declared.config.Shape.{Shape}
 use Rattle.tx_types.specs.declared.config.Slot.{Slot}
 use Rattle.tx_types.specs.declared.record.Rec.{Rec}
 use Rattle.flash_model.specs.Calls.{Carries}
-use Rattle.flash_model.specs.Flash.{FlashState, counted_times}
+use Rattle.flash_model.specs.declared.outcome.Outcome.{Outcome}
+use Rattle.flash_model.specs.Flash.{FlashState, Contents, counted_times}
 use Rattle.flash_model.specs.Moves.{Does, FlashMovesTogether}
-use Rattle.flash_model.specs.Operations.{BreaksIn, Load, fire, moment_of}
+use Rattle.flash_model.specs.Operations.{BreaksIn, Load, fire, left_each, moment_of}
 use Rattle.page_record.specs.Spelling.{spelling}
 use Rattle.record_list.specs.Records.{is_present}
 use Rattle.record_list.specs.Transaction.{back_version}
@@ -19,7 +22,7 @@ use Rattle.die_alloc.specs.BlocksState.{BlocksState, with_slot}
 use Rattle.die_alloc.specs.NextSlot.{next_slot_in}
 use Rattle.collector.specs.Settling.{slots_read}
 use Rattle.collector.specs.declared.unsure.Unsure.TheVariants as unsure
-use Rattle.array_machine.specs.Batches.{StepsAllAs, CutLeavesEach}
+use Rattle.array_machine.specs.Batches.{StepsAllAs, CutLeavesEach, MayTakeEach}
 use Rattle.array_machine.specs.declared.answers.Fault.{Fault}
 use Rattle.array_machine.specs.declared.answers.Moved.{Moved}
 use Rattle.array_machine.specs.declared.answers.Progress.{Progress}
@@ -27,10 +30,11 @@ use Rattle.array_machine.specs.ArrayState.{Entry, Pages, idle, put}
 use Rattle.tx_engine.specs.DeviceCalls.{StepsDevice}
 use Rattle.tx_engine.specs.Exits.{ExitsTogether, MentionsAtMost, VersionsRise, is_there, plain_writes, settled_writes}
 use Rattle.tx_engine.specs.Held.{AddsNoHeldIn}
+use Rattle.tx_engine.specs.LastWrite.{StepSince}
 use Rattle.open_table.specs.OpenTransactionsState.{TransactionState, name_at, write_at}
 use Rattle.tx_engine.specs.Settling.{is_at_last, is_whole, link_place, with_settlement}
 use Rattle.tx_engine.specs.DeviceState.{DeviceState}
-use Rattle.array_machine.specs.Step.{settled}
+use Rattle.array_machine.specs.Step.{settled, IsAtLast}
 use Rattle.tx_engine.specs.Writing.{WritesNothing}
 use Rattle.tx_engine.specs.declared.jobs.Job.{Job}
 
@@ -134,6 +138,22 @@ StepsFirst state old new answer [] = Unit {0}
 StepsFirst state old new answer (e ∷ es) =
     (answer.moved ≡ 1) × ((progress : Progress) × StepsDevice state old new e.tag (Ok progress))
 
+-- Whatever each program that is started together leaves of an image: it is sound, and of these transactions each that is
+-- at its last page was taken or not, by itself.
+pub record MayLeaveEach (protocol : Protocol) (logical : ℕ) (shape : Shape) (image : List Contents)
+    (loads : List Load) (pages : Pages) (entries : List Entry) : Type 0 where
+  pub sound : (hows : List Outcome) → length hows ≡ length loads →
+      IsSoundImage protocol logical shape (left_each image loads hows)
+  pub array : (hows : List Outcome) → length hows ≡ length loads →
+      MayTakeEach pages IsAtLast entries (array_in protocol logical (left_each image loads hows))
+
+-- so it is of the chosen transactions of a device, once its state settled
+abbrev pub ChosenMayLeave : {F : Type 0} → (F → FlashState) → DeviceState F → Type 0
+ChosenMayLeave state old =
+    MayLeaveEach old.config.protocol old.config.logical (state old.flash).shape (state old.flash).image
+    (loads_of (with_settlement state old).noted (chosen_of state old))
+    (settled (is_there state old) old.machine).pages old.machine.entries
+
 -- Open transactions went on, as many as it says. Where some were chosen, all of them and no others were written at
 -- once; where none was, the first one took a step.
 pub record MovesDevice {F : Type 0} (state : F → FlashState) (old new : DeviceState F)
@@ -148,6 +168,7 @@ pub record MovesDevice {F : Type 0} (state : F → FlashState) (old new : Device
   pub alone : chosen_of state old ≡ [] → StepsFirst state old new answer old.machine.entries
   pub nothing : old.machine.entries ≡ [] →
       (moment_of (state new.flash) ≡ moment_of (state old.flash)) × WritesNothing state old new
+  pub leaves : chosen_of state old ≢ [] → ChosenMayLeave state old
 
 -- A fault was met, and the device is not used any more. The image is sound, and its array is what a cut may leave.
 -- Where some transactions were chosen, nothing was done to the flash but their fire, if it was started.
@@ -167,6 +188,12 @@ pub record DropsDevice {F : Type 0} (state : F → FlashState) (old new : Device
       ⊎ BreaksIn (state old.flash).shape (moment_of (state old.flash))
       (fire (loads_of (with_settlement state old).noted (chosen_of state old)))
       (moment_of (state new.flash))
+  -- Nothing was done, or this fire was tried. Where none was chosen a step was broken off.
+  pub leaves : chosen_of state old ≢ [] →
+      (moment_of (state new.flash) ≡ moment_of (state old.flash)) ⊎ ChosenMayLeave state old
+  pub alone : chosen_of state old ≡ [] →
+      (moment_of (state new.flash) ≡ moment_of (state old.flash))
+      ⊎ ((tag : ℕ) × StepSince state old (with_settlement state old) new tag true)
 
 -- Open transactions of a device went on together, or a fault was met.
 pub record StepsAllDevice {F : Type 0} (state : F → FlashState) (old new : DeviceState F)

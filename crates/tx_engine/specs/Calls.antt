@@ -28,6 +28,7 @@ use Rattle.tx_engine.specs.Breaking.{WritingBreaks}
 use Rattle.tx_engine.specs.Collections.{CollectsTables, HasNothingToCollect}
 use Rattle.tx_engine.specs.Costs.{StepCosts}
 use Rattle.tx_engine.specs.Exits.{Exits, is_there}
+use Rattle.tx_engine.specs.LastWrite.{StepWorks}
 use Rattle.open_table.specs.OpenTransactionsState.{OpenTransactionsState, HasLimitsOf, HasPlace, IsDueAt, bytes_due, entries_of, name_due, transaction_at, with_done, with_transaction, name_at, write_at}
 use Rattle.tx_engine.specs.Settling.{AddsOnly, Advances, AdvanceRises, Counts, CountsOn, IsLeft, IsSettled, WriteFails, WritesNext, link_place, with_next}
 use Rattle.tx_engine.specs.DeviceState.{Stands}
@@ -184,6 +185,8 @@ pub record WritesPage {F : Type 0} (state : F → FlashState) (S S' : StoreState
       (name_due O at) S.noted S'.noted)
   pub breaks : OnErr result (WritingBreaks state (device_in state S O) (device_in state S' O')
       (name_due O at))
+  pub since : StepWorks state (device_in state S O) (device_in state S' O') (transaction_at O at).entry
+      (transaction_at O at).naming (is_err result)
 
 -- what is open where the transaction at an index counted a page, or was whole and went
 abbrev pub counted_on : OpenTransactionsState → ℕ → Progress → OpenTransactionsState
@@ -227,6 +230,8 @@ pub record AdvancesTo {F : Type 0} (state : F → FlashState) (S S' : StoreState
   pub kept : OnErr result (Preserves S.noted S'.noted)
   pub breaks : OnErr result (WritingBreaks state (device_in state S O) (device_in state S' O')
       (name_due O at))
+  pub since : StepWorks state (device_in state S O) (device_in state S' O') (transaction_at O at).entry
+      (transaction_at O at).naming (is_err result)
 
 -- The pages of a transaction are pinned no more.
 pub record Unpins {F : Type 0} (S S' : StoreState F) (names : List Link) : Type 0 where

@@ -1,5 +1,5 @@
 -- What each call of a device does: each has one clause.
-use Rattle.std.specs.Prelude.{◌≡◌, ℕ, List, Result, Err, Ok, IfErr, IfOk, IfSome, OnOk, OnErr, sum_by, option_map}
+use Rattle.std.specs.Prelude.{◌≡◌, ◌≢◌, ℕ, List, Result, Err, Ok, IfErr, IfOk, IfSome, OnOk, OnErr, sum_by, option_map}
 use Rattle.std.specs.List.{range_with_len}
 use Rattle.std.specs.Result.{is_err}
 use Rattle.tx_types.specs.Batch.{PageWrite}
@@ -31,13 +31,14 @@ use Rattle.tx_engine.specs.Breaking.{CollectBreaks, StepBreaks}
 use Rattle.array_machine.specs.Collect.{CollectsAs, TellsStats}
 use Rattle.tx_engine.specs.Collections.{CollectsTables, HasNothingToCollect}
 use Rattle.tx_engine.specs.Costs.{CostsStep}
-use Rattle.tx_engine.specs.Exits.{AbortRises, CollectRises, Exits, StepRises, is_abort_fault, is_step_fault, is_there}
+use Rattle.tx_engine.specs.Exits.{AbortRises, CollectRises, Exits, StepRises, WorksSince, is_abort_fault, is_step_fault, is_there}
 use Rattle.tx_engine.specs.Naming.{KeepsTables, is_spent, named_after}
 use Rattle.tx_engine.specs.Opens.{FailsToMount, Mounts, ReadsUnmounted}
 use Rattle.tx_engine.specs.Read.{ReadsFlash, is_read_fault, read_place}
 use Rattle.array_machine.specs.Read.{ReadsPage}
 use Rattle.tx_engine.specs.Retire.{AnswersRetire, RetireExits, RetireRises, RetireTables, RetiresAs, retire_refusal}
-use Rattle.tx_engine.specs.Settling.{CollectFails, HasTables, settlement_of}
+use Rattle.tx_engine.specs.LastWrite.{StepSince}
+use Rattle.tx_engine.specs.Settling.{CollectFails, HasTables, settlement_of, with_settlement}
 use Rattle.tx_engine.specs.DeviceState.{DeviceState, limits_of}
 use Rattle.array_machine.specs.Step.{AbortsAs, StepsAs}
 use Rattle.array_machine.specs.Submit.{Submits}
@@ -80,6 +81,9 @@ pub record StepsDevice {F : Type 0} (state : F → FlashState) (old new : Device
   -- Where it failed: the place could not be read, or the writing of the record broke off, and the blocks are as they
   -- were known then.
   pub failed : result ≡ Err error.Fault → StepBreaks state old new tag
+  -- What it did last: nothing, or the program of the record, by the tables that are known once the place was read.
+  pub since : result ≢ Err error.Unknown →
+      StepSince state old (with_settlement state old) new tag (is_step_fault result)
 
 -- A transaction was given up, or it was too late for that, or a fault was met.
 pub record AbortsDevice {F : Type 0} (state : F → FlashState) (old new : DeviceState F) (tag : ℕ)
@@ -112,6 +116,7 @@ pub record CollectsDevice {F : Type 0} (state : F → FlashState) (old new : Dev
   pub nothing : result ≡ Ok collected.Nothing →
       HasNothingToCollect old.config.protocol old.config.logical (state new.flash).image
       new.machine.entries
+  pub since : WorksSince state old new (is_err result)
 
 -- all slots of a block are blank
 abbrev pub IsBlankBlock : FlashState → IndexState → ℕ → Type 0

@@ -10,6 +10,7 @@ use Rattle.flash_model.specs.Moves.{FlashMoves, FlashMovesTogether}
 use Rattle.record_list.specs.Records.{mention}
 use Rattle.judged_records.specs.Images.{records_in, current_in}
 use Rattle.judged_records.specs.IndexState.{IndexState, current_of, mention_of}
+use Rattle.collector.specs.SinceErase.{FlashWorksSinceErase}
 use Rattle.array_machine.specs.ArrayState.{ArrayState, Entry, is_doubted, page_at, entry_of}
 use Rattle.array_machine.specs.declared.mark.Mark.{Mark}
 use Rattle.array_machine.specs.declared.mark.Mark.TheVariants.{Plain, Doubt, Whole}
@@ -137,7 +138,13 @@ pub record Exits {F : Type 0} (state : F → FlashState) (old new : DeviceState 
   pub carries : Carries (state old.flash) (state new.flash) broken
   pub held : AddsNoHeldIn old.config.protocol old.config.logical (state old.flash).image (state new.flash).image
 
--- the same of a call that was answered and may have started the programs of several transactions together
+-- The call completed no transaction. At some moment nothing waited that had not waited before, where what waits is made
+-- durable before each erase; since then only programs were done.
+abbrev pub WorksSince : {F : Type 0} → (F → FlashState) → DeviceState F → DeviceState F → Bool → Type 0
+WorksSince state old new broken =
+    FlashWorksSinceErase old.config.protocol old.config.logical (state old.flash) (state new.flash) broken
+
+-- What a call keeps that was answered and may have started the programs of several transactions together
 pub record ExitsTogether {F : Type 0} (state : F → FlashState) (old new : DeviceState F) : Type 0 where
   pub tables : ExitsTables old new
   pub moves : FlashMovesTogether (state old.flash) (state new.flash) false

@@ -9,6 +9,7 @@ pub mod DeviceCalls
 pub mod Exits
 pub mod Held
 pub mod LaterSlots
+pub mod LastWrite
 pub mod Naming
 pub mod Opens
 pub mod Read

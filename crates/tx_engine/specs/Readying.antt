@@ -1,5 +1,5 @@
 -- Making ready for the next page of an open transaction: what is cleared away and collected before it is written.
-use Rattle.std.specs.Prelude.{◌≡◌, ◌⊎◌, ℕ, [], Bool, true, false, MatchOption, Result, Ok, Err, IfSome, OnOk, OnErr}
+use Rattle.std.specs.Prelude.{◌≡◌, ◌≢◌, ◌⊎◌, ℕ, [], Bool, true, false, MatchOption, Result, Ok, Err, IfSome, OnOk, OnErr}
 use Rattle.std.specs.Result.{is_err}
 use Rattle.tx_types.specs.declared.record.Link.{Link}
 use Rattle.flash_model.specs.declared.flash.Broken.{Broken}
@@ -16,7 +16,7 @@ use Rattle.array_machine.specs.declared.answers.StepError.TheVariants as failed
 use Rattle.open_table.specs.OpenTransactionsState.{OpenTransactionsState, name_due}
 use Rattle.tx_engine.specs.Breaking.{StepBreaks, WritingBreaks}
 use Rattle.tx_engine.specs.DeviceState.{DeviceState}
-use Rattle.tx_engine.specs.Exits.{Exits, SettlesOrNot, VersionsRise, is_there, settled_writes}
+use Rattle.tx_engine.specs.Exits.{Exits, SettlesOrNot, VersionsRise, WorksSince, is_there, settled_writes}
 use Rattle.tx_engine.specs.Settling.{IsLeft}
 use Rattle.tx_engine.specs.StoreState.{StoreState}
 use Rattle.tx_engine.specs.Tables.{device_in}
@@ -78,4 +78,5 @@ pub record ReadiesDevice {F : Type 0} (state : F → FlashState) (old new : Devi
   pub unknown : result ≡ Err failed.Unknown → new ≡ old
   pub ready : OnOk result (IfSome (next_of new tag)
       (λ name. (IsThere new.noted name → ⊥) → IsReadyToWrite new.noted new.table name))
+  pub since : result ≢ Err failed.Unknown → WorksSince state old new (is_ready_fault result)
   pub failed : result ≡ Err failed.Fault → StepBreaks state old new tag

@@ -16,7 +16,7 @@ use Rattle.array_machine.specs.declared.answers.Progress.{Progress}
 use Rattle.array_machine.specs.declared.answers.Progress.TheVariants as progress
 use Rattle.open_table.specs.OpenTransactionsState.{OpenTransactionsState, TransactionState, transaction_at, with_transaction, with_mark, with_noted_count, name_at}
 use Rattle.judged_records.specs.IndexState.{IndexState, current_of}
-use Rattle.tx_engine.specs.Exits.{Exits, VersionsRise, settled_writes, done_writes}
+use Rattle.tx_engine.specs.Exits.{Exits, VersionsRise, WorksSince, settled_writes, done_writes}
 use Rattle.tx_engine.specs.DeviceState.{DeviceState, Stands}
 use Rattle.array_machine.specs.Step.{settled, IsAtLast, GoesOn}
 
@@ -72,6 +72,7 @@ pub record IsLeft {F : Type 0} (state : F → FlashState) (old new : DeviceState
   pub versions : (page : ℕ) → page < old.config.logical →
       current_of new.noted page ≡ current_of old.noted page
   pub kept : Preserves old.noted new.noted
+  pub since : WorksSince state old new broken
 
 -- whether the transaction writes its last page next
 abbrev pub is_at_last : Entry → Bool

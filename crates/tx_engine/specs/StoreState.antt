@@ -1,5 +1,5 @@
 -- A flash with the tables that match it, and what its calls keep.
-use Rattle.std.specs.Prelude.{◌≡◌, ℕ, ◌+◌, ◌≤◌, List, [], ◌∷◌, length, slice_set, Result, OnOk, OnErr}
+use Rattle.std.specs.Prelude.{◌≡◌, ◌⊎◌, ℕ, ◌+◌, ◌≤◌, List, [], ◌∷◌, length, slice_set, Result, OnOk, OnErr}
 use Rattle.std.specs.Result.{is_err}
 use Rattle.tx_types.specs.declared.config.Protocol.{Protocol}
 use Rattle.tx_types.specs.declared.config.Slot.{Slot}
@@ -8,7 +8,7 @@ use Rattle.flash_model.specs.declared.flash.Broken.{Broken}
 use Rattle.flash_model.specs.Flash.{FlashState, complete, slot_at}
 use Rattle.flash_model.specs.Calls.{Carries}
 use Rattle.flash_model.specs.Moves.{Does, FlashMoves}
-use Rattle.flash_model.specs.Operations.{moment_of, program}
+use Rattle.flash_model.specs.Operations.{BreaksIn, CanDo, moment_of, program}
 use Rattle.page_record.specs.Spelling.{CanBeSpelled, spelling}
 use Rattle.judged_records.specs.ImageChanges.{TextsStay, TextsCome}
 use Rattle.judged_records.specs.IndexState.{IndexState, programmed}
@@ -61,6 +61,11 @@ pub record WriteBreaks (old new : StoreParts) (at : Slot) (rec : Rec) (bytes : L
   pub unsure : new.unsure ≡ unsure.Own at rec
   pub slot : (its spare : List ℕ) → slot_at new.flash.image at.0 ≡ complete its spare →
       its ≡ bytes
+  pub can : CanDo old.flash.shape old.flash.image
+      (program at.0 bytes (spelling old.noted.config.protocol rec))
+  pub torn : (moment_of new.flash ≡ moment_of old.flash)
+      ⊎ BreaksIn old.flash.shape (moment_of old.flash)
+      (program at.0 bytes (spelling old.noted.config.protocol rec)) (moment_of new.flash)
   pub stay : TextsStay old.noted.config.protocol old.flash.image new.flash.image
 
 -- The record of an open transaction is written. The tables match the flash, done or broken.

@@ -1,5 +1,5 @@
 -- Making the spare blank: where it is blank already, and by an erase.
-use Rattle.collector.proofs.Common.{◌≡◌, ℕ, ◌+◌, ◌*◌, ◌<◌, ◌≤◌, true, false, [], ◌∷◌, length, Option, Some, None, Ok, Err, refl, sym, ap, ◌∙◌, subst, inl, inr, arith, option_map_or, cases_lt, cond-true, cond-false, ext_get_or, all_range, shape_of, slots_of, blocks_of, Protocol, Rec, Broken, FlashState, Contents, blank, damaged, complete, slot_at, Erases, moment_of, erase, CanDo, Does, same_done, operation_started, FlashMoves-operates, block_within, record_of, LossLaw, WrittenLossLaw, Blank, Damaged, Holds, note_at, note_of, with_block_noted, IndexState, erased, is_blank, block_noted, BlocksState, Unsure, Cleans, Matches, is_blank_slot, is_blank_block, is_noted_blank, cleaning, KeepsArray, KeepsStore, StoreParts, store_parts}
+use Rattle.collector.proofs.Common.{◌≡◌, ℕ, ◌+◌, ◌*◌, ◌<◌, ◌≤◌, true, false, [], ◌∷◌, length, Option, Some, None, Ok, Err, refl, sym, ap, ◌∙◌, subst, inl, inr, arith, option_map_or, cases_lt, cond-true, cond-false, ext_get_or, all_range, shape_of, slots_of, blocks_of, Protocol, Rec, Broken, FlashState, Contents, blank, damaged, complete, slot_at, Erases, moment_of, erase, CanDo, Does, same_done, operation_started, block_within, record_of, LossLaw, WrittenLossLaw, Blank, Damaged, Holds, note_at, note_of, with_block_noted, IndexState, erased, is_blank, block_noted, BlocksState, Unsure, Cleans, Matches, is_blank_slot, is_blank_block, is_noted_blank, cleaning, KeepsArray, KeepsStore, StoreParts, store_parts}
 use Rattle.list_lemmas.proofs.Ranges.{range_same}
 use Rattle.flash_model.specs.Operations.{after}
 use Rattle.collector.specs.declared.unsure.Unsure.TheVariants as unsure
@@ -10,7 +10,7 @@ use Rattle.collector.proofs.OfCollect.CollectedNotes.{erased_no_new}
 use Rattle.collector.proofs.OfErase.EraseExits.{spare_erased, spare_torn, array_erased, left_torn}
 use Rattle.collector.proofs.OfErase.Emptying.{Empties, erases_empties}
 use Rattle.collector.proofs.OfNotes.Keeping.{preserves_same}
-use Rattle.collector.proofs.OfNotes.KeepsLemmas.{keeps_same, keeps_of}
+use Rattle.collector.proofs.OfNotes.KeepsLemmas.{keeps_same, keeps_erase}
 use Rattle.collector.proofs.OfNotes.Losing.{preserves, can_be_lost}
 use Rattle.collector.proofs.OfNotes.NotesLeft.{note_at-in, note_at-out, length-noted}
 use Rattle.collector.proofs.OfClean.BlankNotes.{noted_blank}
@@ -152,9 +152,8 @@ module _ (p : Protocol) (loss : LossLaw p) (written_loss : WrittenLossLaw p) (a 
         Cleans p a (store_parts s' (erased a.noted a.table.spare) a.table a.unsure)
         (Ok tt)
     cleans_erased x e = record {
-      keeps = keeps_of p a (store_parts s' (erased a.noted a.table.spare) a.table a.unsure) false
-          (spare_emptied s' (erases_empties a.flash s' a.table.spare (Ok tt) e))
-          (FlashMoves-operates a.flash s' (erase a.table.spare) (Ok x) tt can e) e.carries;
+      keeps = keeps_erase p a (store_parts s' (erased a.noted a.table.spare) a.table a.unsure) k a.table.spare can
+          matches.spared (Ok x) e (spare_emptied s' (erases_empties a.flash s' a.table.spare (Ok tt) e));
       done = subst (λ l. Does a.flash.shape (moment_of a.flash) l (moment_of s')) (sym its_cleaning) (
         can,
         same_done a.flash s' (erase a.table.spare) x e,
@@ -171,9 +170,8 @@ module _ (p : Protocol) (loss : LossLaw p) (written_loss : WrittenLossLaw p) (a 
     pub cleans_torn : (x : Broken) → Erases a.flash s' a.table.spare (Err x) →
         Cleans p a (store_parts s' a.noted a.table unsure.SpareErase) (Err x)
     cleans_torn x e = record {
-      keeps = keeps_of p a (store_parts s' a.noted a.table unsure.SpareErase) true
-          (spare_left s' x (erases_empties a.flash s' a.table.spare (Err x) e))
-          (FlashMoves-operates a.flash s' (erase a.table.spare) (Err x) tt can e) e.carries;
+      keeps = keeps_erase p a (store_parts s' a.noted a.table unsure.SpareErase) k a.table.spare can matches.spared
+          (Err x) e (spare_left s' x (erases_empties a.flash s' a.table.spare (Err x) e));
       done = tt;
       noted = tt;
       broken = record {

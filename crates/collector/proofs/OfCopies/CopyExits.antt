@@ -1,14 +1,16 @@
 -- A copy that was programmed in the spare, or whose program was broken: what matches then.
-use Rattle.collector.proofs.Common.{◌≡◌, ◌≢◌, ◌⊎◌, ℕ, ◌/◌, ◌<◌, eqb-true, List, length, set, Option, Some, None, Ok, Err, refl, sym, ap, ◌∙◌, subst, inl, inr, arith, ◌==◌, option_map_or, cases_Bool, eqb-false, get_or-set_same, get_or-set_other, text_at, shape_of, slots_of, Protocol, Shape, Slot, Rec, Broken, Outcome, FlashState, IsFlash, IsImage, Contents, blank, damaged, complete, slot_at, Programs, program, image_left, CanDo, record_of, CopyLaw, Blank, Damaged, Holds, IsSoundImage, note_at, note_of, IndexState, IsNoted, copied, BlocksState, IsFree, block_of_slot, has_room_not_spare, Matches, IsNotedAt, KeepsArray}
+use Rattle.collector.proofs.Common.{◌≡◌, ◌≢◌, ◌⊎◌, ℕ, ◌/◌, ◌<◌, eqb-true, List, length, set, Option, Some, None, Ok, Err, refl, sym, ap, ◌∙◌, subst, inl, inr, arith, ◌==◌, option_map_or, cases_Bool, eqb-false, get_or-set_same, get_or-set_other, text_at, shape_of, slots_of, Protocol, Shape, Slot, Rec, Broken, Outcome, FlashState, IsFlash, IsImage, Contents, blank, damaged, complete, slot_at, Programs, program, image_left, CanDo, record_of, CopyLaw, Blank, Damaged, Holds, cur, is_held, IsSoundImage, note_at, note_of, IndexState, IsNoted, copied, BlocksState, IsFree, block_of_slot, has_room_not_spare, Matches, IsNotedAt, KeepsArray}
 use Rattle.std.proofs.lemmas.List.{set-get_or}
 use Rattle.flash_model.specs.declared.outcome.Outcome.TheVariants as outcome
 use Rattle.flash_model.proofs.ImageLemmas.{IsImage-left}
+use Rattle.record_list.specs.Written.{records_of}
 use Rattle.record_list.specs.WrittenChanges.{WrittenCopyLaw}
 use Rattle.judged_records.specs.ImageChanges.{KeepsCopied, KeepsDamaged}
 use Rattle.judged_records.proofs.OfLaws.ImageLaws.{image_copy_law, image_damage_law}
 use Rattle.die_alloc.proofs.Changes.{block_within}
 use Rattle.collector.specs.declared.unsure.Unsure.TheVariants as unsure
 use Rattle.collector.proofs.OfNotes.Calm.{noted_as_read}
+use Rattle.collector.proofs.OfNotes.Keeping.{keeps_array_same}
 use Rattle.collector.proofs.OfCopies.CopyNotes.{copy_spared}
 use Rattle.collector.proofs.OfNotes.SureCounts.{sure_counts}
 
@@ -81,11 +83,21 @@ module _ (s s' : FlashState) (n : IndexState) (t : BlocksState) (m : Matches s n
       }
 
   copied_array : KeepsArray p n.config.logical s.image with_copy
-  copied_array = record { array = kept.array; texts = λ name h. kept.texts name (kept.names name h) }
+  copied_array = record {
+    array = kept.array;
+    versions = kept.records.same_current;
+    held = λ r h. sym (kept.records.same_held r) ∙ h;
+    texts = λ name h. kept.texts name (kept.names name h);
+  }
 
   -- a damaged slot changes no record
   harmed_array : KeepsArray p n.config.logical s.image (set s.image to.0 damaged)
-  harmed_array = record { array = harmed.array; texts = λ name h. ap (λ l. text_at l name) harmed.written }
+  harmed_array = record {
+    array = harmed.array;
+    versions = λ page low. ap (λ l. cur p (records_of l) n.config.logical page) harmed.written;
+    held = λ r h. ap (λ l. is_held p (records_of l) n.config.logical r) (sym harmed.written) ∙ h;
+    texts = λ name h. ap (λ l. text_at l name) harmed.written;
+  }
 
   pub left_done : s'.image ≡ image_left s.shape s.image (program to.0 bytes spare) outcome.All →
       Left (λ contents. contents ≡ complete bytes spare)
@@ -99,8 +111,7 @@ module _ (s s' : FlashState) (n : IndexState) (t : BlocksState) (m : Matches s n
   left_torn outcome.None is =
       left_as MayHold outcome.None blank is (sym (set_same blank_there))
       (subst SoundNow (sym (set_same blank_there)) m.sound)
-      (subst (λ i. KeepsArray p n.config.logical s.image i) (sym (set_same blank_there))
-      (record { array = refl; texts = λ name h. refl })) (inl refl)
+      (keeps_array_same p n.config.logical s.image (set s.image to.0 blank) (set_same blank_there)) (inl refl)
     where
       set_same : slot_at s.image to.0 ≡ blank → set s.image to.0 blank ≡ s.image
       set_same e = ap (set s.image to.0) (sym e) ∙ set-get_or s.image to.0 blank

@@ -11,6 +11,7 @@ use Rattle.collector.proofs.OfNotes.NotesLeft.{note_at-in}
 use Rattle.collector.specs.declared.unsure.Unsure.TheVariants as unsure
 use Rattle.collector.proofs.OfErase.Emptying.{Empties}
 use Rattle.collector.proofs.OfNotes.Calm.{noted_as_read, image_can_lose}
+use Rattle.collector.proofs.OfNotes.Keeping.{keeps_array_same}
 use Rattle.collector.proofs.OfNotes.Losing.{blocked, spared_still}
 use Rattle.collector.proofs.OfNotes.SpelledNotes.{calm_spelled}
 use Rattle.collector.proofs.OfErase.Swap.{free_away, free_before, tail_blank}
@@ -86,7 +87,12 @@ module _ (s : FlashState) (n : IndexState) (t : BlocksState) (m : Matches s n t 
   pub array_stays : (contents : Contents) → KeepsLost p n.config.logical s.shape s.image
       (with_block s.shape s.image block contents) →
       KeepsArray p n.config.logical s.image (with_block s.shape s.image block contents)
-  array_stays contents k = record { array = k.array; texts = λ name h. sym (k.texts name h) }
+  array_stays contents k = record {
+    array = k.array;
+    versions = k.records.same_current;
+    held = k.records.held;
+    texts = λ name h. sym (k.texts name h);
+  }
 
 module _ (s s' : FlashState) (n : IndexState) (t : BlocksState) (m : Matches s n t unsure.Nothing)
     (loss : LossLaw n.config.protocol) (written_loss : WrittenLossLaw n.config.protocol)
@@ -149,8 +155,7 @@ module _ (s s' : FlashState) (n : IndexState) (t : BlocksState) (m : Matches s n
   left_torn outcome.None is = record {
     sound = sound_as s.image is m.sound;
     flash = flash_as s.image is m.flash;
-    array = subst (λ i. KeepsArray n.config.protocol n.config.logical s.image i) (sym is)
-        (record { array = refl; texts = λ name h. refl });
+    array = keeps_array_same n.config.protocol n.config.logical s.image s'.image is;
     outside = λ slot e. ap (λ i. slot_at i slot) is;
     erasing = inl (λ slot within e. noted_as_read s n t m slot (omega (arith, within, ap slots_of m.shape)) ∙ ap
         (λ i. note_of n.config.protocol (slot_at i slot)) (sym is));

@@ -1,5 +1,5 @@
 -- The erase of a collected block as a call: what it leaves where it is done, and where it is broken.
-use Rattle.collector.proofs.Common.{ℕ, ◌<◌, true, false, Ok, Err, refl, sym, ap, ◌∙◌, subst, arith, shape_of, blocks_of, Block, Protocol, Broken, FlashState, Erases, erase, CanDo, FlashMoves-operates, LossLaw, WrittenLossLaw, Blank, IndexState, IsNoted, current_of, held_of, erased, with_spare, block_noted, IsBlocksState, table_with_spare, ErasesVictim, swapped, Matches, Preserves, KeepsArray, KeepsStore, StoreParts, store_parts}
+use Rattle.collector.proofs.Common.{ℕ, ◌<◌, true, false, Ok, Err, refl, sym, ap, ◌∙◌, subst, arith, shape_of, blocks_of, Block, Protocol, Broken, FlashState, Erases, erase, CanDo, LossLaw, WrittenLossLaw, Blank, IndexState, IsNoted, current_of, held_of, erased, with_spare, block_noted, IsBlocksState, table_with_spare, ErasesVictim, swapped, Matches, Preserves, KeepsArray, KeepsStore, StoreParts, store_parts}
 use Rattle.collector.specs.declared.unsure.Unsure.TheVariants as unsure
 use Rattle.collector.specs.Calls.{CanErase}
 use Rattle.collector.specs.StoreParts.{IsSure}
@@ -8,7 +8,7 @@ use Rattle.collector.proofs.OfCollect.CollectedNotes.{erased_no_new}
 use Rattle.collector.proofs.OfErase.EraseExits.{victim_erased, victim_torn, array_erased, left_torn}
 use Rattle.collector.proofs.OfErase.Emptying.{Empties, erases_empties}
 use Rattle.collector.proofs.OfNotes.Keeping.{preserves_same}
-use Rattle.collector.proofs.OfNotes.KeepsLemmas.{keeps_of}
+use Rattle.collector.proofs.OfNotes.KeepsLemmas.{keeps_erase}
 use Rattle.collector.proofs.OfNotes.Losing.{preserves, can_be_lost}
 
 -- a block that becomes the spare is noted so
@@ -111,9 +111,8 @@ module _ (p : Protocol) (loss : LossLaw p) (written_loss : WrittenLossLaw p) (a 
       IsBlocksState (swapped a.table b.0 used) →
       ErasesVictim p a (store_parts s' now (swapped a.table b.0 used) a.unsure) b used (Ok tt)
   victim_done x e between good = record {
-    keeps = keeps_of p a (store_parts s' now (swapped a.table b.0 used) a.unsure) false
-        (victim_emptied (erases_empties a.flash s' b.0 (Ok tt) e) between good)
-        (FlashMoves-operates a.flash s' (erase b.0) (Ok x) tt can_do e) e.carries;
+    keeps = keeps_erase p a (store_parts s' now (swapped a.table b.0 used) a.unsure) k b.0 can_do can.spared (Ok x) e
+        (victim_emptied (erases_empties a.flash s' b.0 (Ok tt) e) between good);
     erases = e;
     noted = refl;
     blocks = refl;
@@ -123,9 +122,8 @@ module _ (p : Protocol) (loss : LossLaw p) (written_loss : WrittenLossLaw p) (a 
   pub victim_breaks : (x : Broken) → Erases a.flash s' b.0 (Err x) →
       ErasesVictim p a (store_parts s' a.noted a.table (unsure.VictimErase b)) b used (Err x)
   victim_breaks x e = record {
-    keeps = keeps_of p a (store_parts s' a.noted a.table (unsure.VictimErase b)) true
-        (victim_left x (erases_empties a.flash s' b.0 (Err x) e))
-        (FlashMoves-operates a.flash s' (erase b.0) (Err x) tt can_do e) e.carries;
+    keeps = keeps_erase p a (store_parts s' a.noted a.table (unsure.VictimErase b)) k b.0 can_do can.spared (Err x) e
+        (victim_left x (erases_empties a.flash s' b.0 (Err x) e));
     erases = e;
     noted = tt;
     blocks = tt;

@@ -44,15 +44,25 @@ pub keeps_array_then : (p : Protocol) (logical : ℕ) (a b c : List Contents) �
     KeepsArray p logical b c → KeepsArray p logical a c
 keeps_array_then p logical a b c ab bc = record {
   array = bc.array ∙ ab.array;
+  versions = λ page low. bc.versions page low ∙ ab.versions page low;
+  held = λ r h. ab.held r (bc.held r h);
   texts = λ name there.
       let later = bc.texts name there in
       later ∙ ab.texts name (sym (has_text (written_in p b) name) ∙ ap is_some (sym later)
       ∙ has_text (written_in p c) name ∙ there);
 }
 
+pub keeps_array_itself : (p : Protocol) (logical : ℕ) (a : List Contents) → KeepsArray p logical a a
+keeps_array_itself p logical a = record {
+  array = refl;
+  versions = λ page low. refl;
+  held = λ r h. h;
+  texts = λ name there. refl;
+}
+
 pub keeps_array_same : (p : Protocol) (logical : ℕ) (a b : List Contents) → b ≡ a → KeepsArray p logical a b
 keeps_array_same p logical a b same =
-    subst (KeepsArray p logical a) (sym same) (record { array = refl; texts = λ name there. refl })
+    subst (KeepsArray p logical a) (sym same) (keeps_array_itself p logical a)
 
 pub preserves_same : (n : IndexState) → Preserves n n
 preserves_same n = record {

@@ -4,7 +4,10 @@ use Rattle.list_lemmas.proofs.Quantifiers.{all_left, all_right}
 use Rattle.flash_model.specs.Moves.{MovesTogether}
 use Rattle.flash_model.specs.Operations.{Moment, moment_of}
 use Rattle.flash_model.proofs.MoveLemmas.{FlashMovesTogether-then}
-use Rattle.tx_engine.specs.Exits.{ExitsTogether, VersionsTell}
+use Rattle.tx_types.specs.declared.config.Shape.{Shape}
+use Rattle.collector.specs.SinceErase.{WorksSinceErase}
+use Rattle.collector.proofs.OfNotes.SinceErases.{works_then}
+use Rattle.tx_engine.specs.Exits.{ExitsTogether, VersionsTell, WorksSince}
 use Rattle.tx_engine.specs.Held.{AddsNoHeldIn}
 use Rattle.tx_engine.proofs.OfDevice.HeldRecords.{held_same, held_then}
 
@@ -115,6 +118,30 @@ module _ {F : Type 0} (state : F → FlashState) where
     held = images_then a.config b.config (state a.flash).image (state b.flash).image (state c.flash).image
         first.tables.config first.held second.held;
   }
+
+  -- so with what is durable since the last erase, from the state before
+  module _ (a b c : DeviceState F) (broken : Bool) (config : b.config ≡ a.config)
+      (shape : (state b.flash).shape ≡ (state a.flash).shape) (h : WorksSince state b c broken) where
+    since_as : WorksSinceErase a.config.protocol a.config.logical (state a.flash).shape (moment_of (state b.flash)) broken
+        (moment_of (state c.flash))
+    since_as =
+        subst (λ (k : Config). WorksSinceErase k.protocol k.logical (state a.flash).shape (moment_of (state b.flash))
+        broken (moment_of (state c.flash))) config
+        (subst (λ (sh : Shape). WorksSinceErase b.config.protocol b.config.logical sh (moment_of (state b.flash))
+        broken (moment_of (state c.flash))) shape h)
+
+    -- where the first call left the moment
+    pub since_still : moment_of (state b.flash) ≡ moment_of (state a.flash) → WorksSince state a c broken
+    since_still same =
+        subst (λ (m : Moment). WorksSinceErase a.config.protocol a.config.logical (state a.flash).shape m broken
+        (moment_of (state c.flash))) same since_as
+
+  pub since_then : (a b c : DeviceState F) (broken : Bool) → Exits state a b false → WorksSince state a b false →
+      WorksSince state b c broken → WorksSince state a c broken
+  since_then a b c broken exits first second =
+      works_then a.config.protocol a.config.logical (state a.flash).shape (moment_of (state a.flash))
+      (moment_of (state b.flash)) (moment_of (state c.flash)) broken exits.moves first
+      (since_as a b c broken exits.tables.config exits.carries.shape second)
 
   -- what may be started together need not be
   pub together_exits : (a b : DeviceState F) → Exits state a b false → ExitsTogether state a b

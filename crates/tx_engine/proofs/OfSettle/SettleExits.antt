@@ -4,7 +4,8 @@ use Rattle.collector.specs.declared.unsure.Unsure.TheVariants as unsure
 use Rattle.collector.specs.declared.unsure.Settled.{Settled}
 use Rattle.collector.specs.declared.unsure.Settled.TheVariants as found
 use Rattle.collector.specs.Settling.{IsFound, Settles}
-use Rattle.tx_engine.specs.Exits.{SettlesOrNot}
+use Rattle.collector.proofs.OfNotes.SinceErases.{works_to_end}
+use Rattle.tx_engine.specs.Exits.{SettlesOrNot, WorksSince}
 use Rattle.tx_engine.specs.Settling.{IsSettled}
 use Rattle.tx_engine.proofs.OfDevice.Kept.{BlocksInvariant, IsTransaction, from_stands, to_stands}
 use Rattle.tx_engine.proofs.OfDevice.OpenOnes.{can_take}
@@ -59,6 +60,13 @@ module _ {F : Type 0} (state : F → FlashState) (S S' : StoreState F) (O O' : O
       exits_still state (device_in state S O) S'.flash broken (device_in state S' O') refl
       (failed_stays same opens moment) (ap (λ (m : Moment). m.image) moment)
       (FlashMoves-nothing (state S.flash) (state S'.flash) broken moment) carries
+
+  -- nothing was done since the call began
+  pub since_unread : Stands state (device_in state S O) → moment_of (state S'.flash) ≡ moment_of (state S.flash) →
+      WorksSince state (device_in state S O) (device_in state S' O') true
+  since_unread h moment =
+      works_to_end S.noted.config.protocol S.noted.config.logical (state S.flash).shape (moment_of (state S.flash))
+      (moment_of (state S'.flash)) true h.matches.sound (inl moment)
 
   -- the whole of it
   pub settle_failed : (x y : Broken) → Stands state (device_in state S O) →

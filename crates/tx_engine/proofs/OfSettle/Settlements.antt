@@ -7,6 +7,7 @@ use Rattle.list_lemmas.proofs.Lists.{slice_get_map, slice_get_at}
 use Rattle.collector.specs.declared.unsure.Unsure.TheVariants as unsure
 use Rattle.collector.specs.declared.unsure.Settled.TheVariants as found
 use Rattle.collector.specs.Settling.{own_settled}
+use Rattle.collector.proofs.OfNotes.Keeping.{keeps_array_itself}
 use Rattle.tx_engine.specs.Exits.{MentionsRise}
 use Rattle.array_machine.specs.Step.{doubted}
 use Rattle.tx_engine.proofs.OfDevice.Arrays.{as_many_names}
@@ -314,7 +315,7 @@ module _ (s : FlashState) (n m : IndexState) (t t' : BlocksState) (u : Unsure) (
     (m' : Matches s m t' unsure.Nothing) (keep : Preserves n m)
     (current : (page : ℕ) → current_in n.config.protocol n.config.logical s.image page ≡ current_of m page) where
   same_image : KeepsArray n.config.protocol n.config.logical s.image s.image
-  same_image = record { array = refl; texts = λ name there. refl }
+  same_image = keeps_array_itself n.config.protocol n.config.logical s.image
 
   same_known : array_known m s.image ≡ array_known n s.image
   same_known = law.array s s n m t t' u unsure.Nothing k.matches m' refl keep same_image

@@ -206,7 +206,7 @@ module _ (s : FlashState) (n : IndexState) (t : BlocksState) (o : OpenTransactio
       clear = nothing_goes n rec clear;
     }
 
-    pub next_take : block_to_go n rec.page rec.version ≡ None → CanTakeOwn n t rec
+    abbrev pub next_take : block_to_go n rec.page rec.version ≡ None → CanTakeOwn n t rec
     next_take clear = record {
       next = next_record clear;
       outside = λ j d inside here.

@@ -4,6 +4,7 @@ use Rattle.std.specs.Prelude.{MatchOption, IfSome, option_map}
 use Rattle.array_machine.specs.declared.answers.Progress.TheVariants as progress
 use Rattle.array_machine.specs.declared.answers.StepError.TheVariants as failed
 use Rattle.tx_engine.specs.Exits.{StepRises}
+use Rattle.tx_engine.specs.LastWrite.{StepSince, StepWorks}
 use Rattle.array_machine.specs.Step.{StepGives}
 use Rattle.tx_engine.specs.Writing.{next_of, open_of}
 use Rattle.tx_engine.proofs.OfCollect.Collecting.{rises_stay}
@@ -98,6 +99,18 @@ pub for_open : {F : Type 0} (state : F → FlashState) (S : StoreState F) (O : O
     P (transaction_at O i).entry (transaction_at O i).naming →
     IfSome (open_of (device_in state S O) tag) (λ (e, x). P e x)
 for_open state S O tag i P first h = subst (λ o. IfSome o (λ (e, x). P e x)) (sym (open_found tag O.all i first)) h
+
+-- what it did last
+pub step_since : {F : Type 0} (state : F → FlashState) (S : StoreState F) (O : OpenTransactionsState) (tag i : ℕ)
+    (broken : Bool) (known new : DeviceState F) → IsFirstTagged tag O.all i →
+    StepWorks state known new (transaction_at O i).entry (transaction_at O i).naming broken →
+    StepSince state (device_in state S O) known new tag broken
+step_since state S O tag i broken known new first works = record {
+  entry = (transaction_at O i).entry;
+  naming = (transaction_at O i).naming;
+  is_open = open_found tag O.all i first;
+  works = works;
+}
 
 pub for_next : {F : Type 0} (state : F → FlashState) (S : StoreState F) (O : OpenTransactionsState) (tag i : ℕ)
     (P : Link → Type 0) → IsFirstTagged tag O.all i →

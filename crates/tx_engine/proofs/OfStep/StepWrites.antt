@@ -1,11 +1,13 @@
 -- What a step did with its next page, by the tables that are known once the device is settled.
 use Rattle.tx_engine.proofs.Common.{◌≡◌, ℕ, ◌<◌, Bool, length, sym, ap, ◌∙◌, subst, Config, Link, FlashState, moment_of, IndexState, counted_times, IsThere, Settlement, slots_read, Entry, StepCosts, OpenTransactionsState, transaction_at, AddsOnly, settlement_of, with_settlement, DeviceState, Naming, name_at, no_name, settled_entry, StoreState, device_in, BringsPage, due_record, WritingBreaks}
 use Rattle.std.specs.Prelude.{slice_index_or}
+use Rattle.tx_engine.specs.LastWrite.{StepWorks}
 use Rattle.tx_engine.specs.Settling.{HasTables}
 use Rattle.tx_engine.specs.Writing.{WritesRecord}
 use Rattle.tx_engine.proofs.OfWrite.Breaking.{breaks_from}
 use Rattle.tx_engine.proofs.OfStep.CostFacts.{costs_from}
 use Rattle.tx_engine.proofs.OfDevice.OpenNames.{all_names, names_at}
+use Rattle.tx_engine.proofs.OfWrite.LastWrites.{works_from}
 use Rattle.tx_engine.proofs.OfWrite.RecordWrites.{writes_from}
 
 -- only the pins of a store changed
@@ -109,3 +111,12 @@ module _ {F : Type 0} (state : F → FlashState) (S T : StoreState F) (O P : Ope
       AddsOnly (name_at x e.done) found.noted n'
   notes_then n' adds = subst (λ (a : Link). AddsOnly a found.noted n') name_is
       (subst (λ (n : IndexState). AddsOnly (name_at y f.done) n n') is_noted adds)
+
+  pub works_then : (U : StoreState F) (Q : OpenTransactionsState) (broken : Bool) → T.noted.config ≡ S.noted.config →
+      (state T.flash).shape ≡ (state S.flash).shape →
+      StepWorks state (device_in state T P) (device_in state U Q) f y broken →
+      StepWorks state (with_settlement state (device_in state S O)) (device_in state U Q) e x broken
+  works_then U Q broken config shape w =
+      works_from state (with_settlement state (device_in state S O)) (device_in state T P) (device_in state U Q) e there
+      x y config shape moment is_table (names_at O P i names within) broken
+      (subst (λ (a : Entry). StepWorks state (device_in state T P) (device_in state U Q) a y broken) entry w)

@@ -1,6 +1,7 @@
 -- One of several programs that are done together: how it leaves a device, whole, damaged or blank, over states in which
 -- no flash was.
 use Rattle.tx_engine.proofs.Common.{◌≡◌, ◌≢◌, ℕ, ◌<◌, true, List, length, All, Some, None, refl, sym, ap, ◌∙◌, subst, arith, is_none, get_or-set_same, All-from_get_or, PageWrite, bytes_in, no_write, slots_of, Protocol, Shape, Slot, Rec, Outcome, FlashState, Contents, IsImage, blank, damaged, complete, slot_at, CanDo, image_left, load_left, program, CanBeSpelled, spelling, is_present, name_of, back_version, text_at, ImagePartialLaw, ImageCompletingLaw, array_in, records_in, written_in, found_in, IsNextRecord, IndexState, block_to_go, damaged_at, programmed, BlocksState, IsFree, with_slot, Unsure, array_known, ArrayStays, ImageIsSound, NotingKeeps, Matches, CanTakeOwn, KeepsArray, Preserves, Settlement, matches_still, IsJobDue, load_of, OpenTransactionsState, TransactionState, bytes_due, entries_of, namings_of, no_transaction, transaction_at, with_transaction, with_next, DoubtsAs, IsNamed, name_at, text_in, text_with, write_at, Job}
+use Rattle.record_list.specs.Current.{cur, is_held}
 use Rattle.std.proofs.lemmas.List.Elements.{All-get_or}
 use Rattle.flash_model.specs.declared.outcome.Outcome.TheVariants as outcome
 use Rattle.flash_model.proofs.ImageLemmas.{IsImage-left}
@@ -235,10 +236,16 @@ module _ (s : FlashState) (n : IndexState) (t : BlocksState) (O : OpenTransactio
     damaged_records = found_in_damaged n.notes at.0
         (omega (arith, free.within, ap slots_of m.blocks, ap slots_of m.shape, m.noted.slots)) (m.free at.0 free)
 
+    same_found : records_in p s'.image ≡ records_in p s.image
+    same_found = left_records s' shape outcome.Bad image damaged spoilt ∙ damaged_records
+        ∙ sym (laws.images.records s n t unsure.Nothing m tt refl)
+
     same_array : KeepsArray p n.config.logical s.image s'.image
     same_array = record {
       array = preserved.1 ∙ image_array n s.image s'.image (left_stay s' shape outcome.Bad image) m.noted
           ∙ sym (laws.images.array s n t unsure.Nothing m tt refl);
+      versions = λ page low. ap (λ l. cur p l n.config.logical page) same_found;
+      held = λ rec held. ap (λ l. is_held p l n.config.logical rec) (sym same_found) ∙ held;
       texts = λ name there. left_stay s' shape outcome.Bad image name
           (subst (λ l. is_present l name ≡ true) (left_records s' shape outcome.Bad image damaged spoilt
           ∙ damaged_records) there);

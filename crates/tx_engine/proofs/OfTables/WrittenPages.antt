@@ -1,5 +1,5 @@
 -- The pages of a device that are not blank are those whose current record does not discard them.
-use Rattle.tx_engine.proofs.Common.{◌≡◌, ℕ, ◌+◌, ◌<◌, ◌==◌, ◌&&◌, ◌||◌, Bool, true, false, not, cond, List, [], ◌∷◌, map, get_or, Option, None, Some, is_some, count_by, refl, sym, ap, ap₂, ◌∙◌, inl, inr, arith, eq-eqb, ne_eqb, option_and_then, range_with_len, option_map, cases_Bool, cases_eq, cond-true, cond-false, Protocol, Link, Rec, FlashState, Contents, cur, is_present, value_at, value_of, array_in, written_in, records_in, found_in, IndexState, current_of, current_name_of, discarded_of, noted_present, BlocksState, Unsure, known_image, page_known, array_known, Matches}
+use Rattle.tx_engine.proofs.Common.{◌≡◌, ℕ, ◌<◌, ◌==◌, ◌&&◌, ◌||◌, Bool, true, false, not, List, [], ◌∷◌, get_or, Option, None, Some, is_some, count_by, refl, sym, ap, ap₂, ◌∙◌, inl, inr, arith, eq-eqb, ne_eqb, option_and_then, range_with_len, option_map, cases_Bool, cases_eq, cond-true, cond-false, Protocol, Link, Rec, FlashState, Contents, cur, is_present, value_at, value_of, array_in, written_in, records_in, found_in, IndexState, current_of, current_name_of, discarded_of, noted_present, BlocksState, Unsure, known_image, page_known, array_known, Matches}
 use Rattle.std.proofs.Common.{find}
 use Rattle.std.proofs.lemmas.Bool.{or_left}
 use Rattle.record_list.specs.Records.{has_name}

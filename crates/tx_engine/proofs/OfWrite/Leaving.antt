@@ -2,12 +2,13 @@
 use Rattle.tx_engine.proofs.Common.{◌≡◌, ℕ, ◌<◌, Bool, false, List, Option, refl, sym, ap, ◌∙◌, subst, inl, inr, slice_index, Protocol, FlashState, KeepsArray, array_known, page_at, DeviceState, Stands, OpenTransactionsState, entries_of, namings_of, StoreState, store_in, device_in, ArrayStays, ImageIsSound, Matches}
 use Rattle.collector.specs.Calls.{Keeps}
 use Rattle.collector.specs.Retiring.{KeepsStore}
+use Rattle.collector.specs.SinceErase.{FlashWorksSinceErase}
 use Rattle.collector.proofs.OfNotes.KeepsLemmas.{tables_of}
 use Rattle.collector.specs.declared.unsure.Unsure.TheVariants as unsure
 use Rattle.tx_engine.specs.Retire.{LeavesTables}
 use Rattle.tx_engine.specs.Settling.{IsLeft}
 use Rattle.tx_engine.proofs.OfDevice.Kept.{BlocksInvariant, IsNoOwn, from_stands, to_stands, kept_still, nothing_no_own}
-use Rattle.tx_engine.proofs.OfDevice.ExitsThen.{before_itself, exits_then}
+use Rattle.tx_engine.proofs.OfDevice.ExitsThen.{before_itself, exits_then, since_then}
 use Rattle.tx_engine.proofs.OfWrite.HeldImages.{held_left}
 use Rattle.collector.proofs.OfNotes.Keeping.{preserves_then}
 
@@ -69,6 +70,8 @@ left_by state S S' O broken p law images rule h keep sure =
       exits = record { tables = left.tables; moves = keep.moves; carries = keep.carries; held = left.held };
       versions = left.versions;
       kept = left.kept;
+      since = subst (λ q. FlashWorksSinceErase q S.noted.config.logical (state S.flash) (state S'.flash) broken)
+          (sym rule) keep.since;
     }
 
 -- one after another
@@ -82,4 +85,5 @@ left_then state a b c broken config config' first second = record {
   versions = λ page low. second.versions page (subst (λ (k : _). page < k.logical) (sym first.exits.tables.config) low)
       ∙ first.versions page low;
   kept = preserves_then a.noted b.noted c.noted first.kept second.kept;
+  since = since_then state a b c broken first.exits first.since second.since;
 }

@@ -1,13 +1,16 @@
 -- The write of a page as a whole: what it asks for on its way, and what each of its ends leaves.
-use Rattle.tx_engine.proofs.Common.{◌≡◌, ℕ, ◌<◌, length, false, true, List, None, Ok, Err, refl, sym, ap, ◌∙◌, subst, inl, if◌then◌else◌, bytes_in, no_write, Config, Protocol, Slot, Link, Rec, Broken, FlashState, block_to_go, IsNextName, ImageIsSound, NotingKeeps, Doubt, IsReady, WritesPage, HasPlace, IsDueAt, OpenTransactionsState, TransactionState, bytes_due, name_due, transaction_at, with_mark, with_transaction, is_at_last, with_next, DeviceState, write_at, no_name, text_in, text_with, CanWrite, StoreState, WritesOwn, WritesStored, store_in, device_in, due_record, IsFirstFree}
+use Rattle.tx_engine.proofs.Common.{◌≡◌, ℕ, ◌<◌, Bool, length, false, true, List, None, Ok, Err, refl, sym, ap, ◌∙◌, subst, inl, inr, if◌then◌else◌, bytes_in, no_write, Config, Protocol, Slot, Link, Rec, Broken, FlashState, CanDo, moment_of, program, spelling, BlocksState, block_to_go, IsNextName, ImageIsSound, NotingKeeps, Doubt, IsReady, WritesPage, HasPlace, IsDueAt, OpenTransactionsState, TransactionState, bytes_due, name_due, transaction_at, with_mark, with_transaction, is_at_last, with_next, DeviceState, write_at, no_name, text_in, text_with, CanWrite, StoreState, WritesOwn, WritesStored, store_in, device_in, due_record, IsFirstFree}
 use Rattle.collector.specs.declared.unsure.Unsure.TheVariants as unsure
 use Rattle.tx_engine.specs.Calls.{ClearsFor, FindsFor, IsRecordDue}
 use Rattle.tx_engine.specs.Settling.{IsLeft}
 use Rattle.tx_engine.proofs.OfWrite.Breaking.{seeking_breaks, record_breaks}
 use Rattle.tx_engine.proofs.OfStep.CostFacts.{costs_clear, costs_slot, costs_all}
-use Rattle.tx_engine.proofs.OfDevice.ExitsThen.{exits_then}
+use Rattle.tx_engine.specs.LastWrite.{EndsProgram, WritesLastOf}
+use Rattle.tx_engine.proofs.OfDevice.ExitsThen.{exits_then, since_then}
 use Rattle.tx_engine.proofs.OfDevice.Kept.{BlocksInvariant}
+use Rattle.tx_engine.proofs.OfWrite.LastWrites.{programmed, writes_last}
 use Rattle.tx_engine.proofs.OfWrite.Leaving.{left_then}
+use Rattle.tx_engine.proofs.OfWrite.SpareBlanks.{room_made}
 use Rattle.tx_engine.proofs.OfStep.NextRecord.{due_named, due_inside, next_name, next_record, next_take, next_can_be_spelled}
 use Rattle.tx_engine.proofs.OfWrite.RecordWrites.{writes_record, adds_own, free_within}
 use Rattle.tx_engine.proofs.OfWrite.WriteAfter.{settled_kept, next_low, written_after, fails_after, fails_room}
@@ -98,6 +101,7 @@ module _ {F : Type 0} (state : F → FlashState) (p : Protocol) (S : StoreState 
     writes = tt;
     fresh = tt;
     breaks = inl cl.clears.broken;
+    since = inl cl.left.since;
   }
 
   module _ (S1 : StoreState F) (cl : ClearsFor state p S S1 O its_name (Ok tt)) where
@@ -134,6 +138,7 @@ module _ {F : Type 0} (state : F → FlashState) (p : Protocol) (S : StoreState 
           fresh = tt;
           breaks = seeking_breaks state S S1 S2 O O its_name cl.clears.turns cl.left.exits.moves fd.finds.stays
               fd.finds.broken;
+          since = inl (since_then state first mid last true cl.left.exits cl.left.since fd.left.since);
         }
 
     module _ (S2 : StoreState F) (at : Slot) (fd : FindsFor state p S1 S2 O its_name (Ok at))
@@ -165,6 +170,24 @@ module _ {F : Type 0} (state : F → FlashState) (p : Protocol) (S : StoreState 
         asked : IsAsked state p S2 O i at rec (bytes_due O i)
         asked = is_asked state p S2 O i ready_found due rec right fd.clear at fd.finds.free size_found
 
+        -- the record is programmed last
+        comes_last : (broken : Bool) → S3.table.spare ≡ S2.table.spare →
+            CanDo (state S2.flash).shape (state S2.flash).image
+            (program at.0 (bytes_due O i) (spelling S2.noted.config.protocol rec)) →
+            EndsProgram (state S2.flash).shape (moment_of (state S2.flash))
+            (program at.0 (bytes_due O i) (spelling S2.noted.config.protocol rec)) broken (moment_of (state S3.flash)) →
+            WritesLastOf state first new its.entry its.naming broken
+        comes_last broken spare can ends =
+            writes_last state S S1 S2 S3 O O' its.entry its.naming at.0 (bytes_due O i) rec broken config2
+            left.exits.carries.shape spare left.since
+            (room_made S S1 S2 its_name at false cl.clears.turns cl.clears.cleared idle1 fd.direct fd.slot
+            cl.left.stands.matches.table)
+            (settled_kept state S O ready.stands ready.sure).matches
+            (settled_kept state S2 O ready_found.stands ready_found.sure).matches
+            (programmed state p S2 O i ready_found due rec right
+            (subst (λ (a : Link). block_to_go S2.noted a.page a.version ≡ None) (sym right.named) fd.clear) at
+            fd.finds.free asked.text broken (moment_of (state S3.flash)) can ends)
+
         pub program_breaks : (x : Broken) → WritesOwn (store_in state S2) (store_in state S3) at rec
             (bytes_due O i) (Err x) →
             O' ≡ (if is_at_last its.entry then with_transaction O i (with_mark its Doubt) else O) →
@@ -185,6 +208,7 @@ module _ {F : Type 0} (state : F → FlashState) (p : Protocol) (S : StoreState 
           fresh = tt;
           breaks = record_breaks state S S1 S2 O O' its_name S3 at rec cl.clears.turns fd.slot right.named
               w.broken.noted w.broken.table w.broken.unsure;
+          since = inr (comes_last true (ap (λ (t : BlocksState). t.spare) w.broken.table) w.broken.can w.broken.torn);
         }
 
         pub page_written : WritesOwn (store_in state S2) (store_in state S3) at rec (bytes_due O i) (Ok tt) →
@@ -218,4 +242,6 @@ module _ {F : Type 0} (state : F → FlashState) (p : Protocol) (S : StoreState 
                   matches.noted S2.unsure matches fd.finds.free
                   cl.left.kept fd.left.kept right.named written;
               breaks = tt;
+              since = inr (comes_last false (ap (λ (t : BlocksState). t.spare) w.written.table) w.written.does.0
+                  w.written.does.1);
             }

@@ -85,7 +85,7 @@ module _ (s : FlashState) (n : IndexState) (t : BlocksState) (m : Matches s n t 
   same : found_in n.notes ≡ old
   same = same_records s n t m
 
-  asks : AsksFor p n.config.logical s.shape s.image names at.0 rec
+  pub asks : AsksFor p n.config.logical s.shape s.image names at.0 rec
   asks = record {
     sound = m.sound;
     within = within;
@@ -98,7 +98,7 @@ module _ (s : FlashState) (n : IndexState) (t : BlocksState) (m : Matches s n t 
     clear = subst (λ l. NothingMustGo p l n.config.logical rec) same take.next.clear;
   }
 
-  added : IsInserted old (found_of (written at.0 rec bytes)) new
+  pub added : IsInserted old (found_of (written at.0 rec bytes)) new
   added =
       inserted_records (written_in p s.image) (written_in p image') (written at.0 rec bytes)
       (written_inserted p s.image at.0 bytes (spelling p rec) rec within blank_slot (record_of-spelling p rec spelled))

@@ -4,7 +4,9 @@ use Rattle.list_lemmas.proofs.Counts.{count_first}
 use Rattle.die_alloc.specs.BlocksState.{IsFull, block_of_slot}
 use Rattle.die_alloc.proofs.Changes.{block_within}
 use Rattle.collector.specs.Going.{is_going}
+use Rattle.flash_model.specs.Operations.{moment_of}
 use Rattle.collector.proofs.OfNotes.Keeping.{preserves_same}
+use Rattle.collector.proofs.OfNotes.SinceErases.{works_nothing}
 use Rattle.collector.proofs.OfRoom.GoingCounts.{going_at}
 use Rattle.collector.proofs.OfRoom.GoneRecords.{going_none}
 use Rattle.tx_engine.specs.Calls.{ClearsFor, FindsFor, IsClearFor}
@@ -46,6 +48,8 @@ left_still state p S O ready = record {
       (FlashMoves-nothing (state S.flash) (state S.flash) false refl) (Carries-nothing (state S.flash));
   versions = λ page low. refl;
   kept = preserves_same S.noted;
+  since = works_nothing S.noted.config.protocol S.noted.config.logical (state S.flash).shape (moment_of (state S.flash))
+      false ready.stands.matches.sound;
 }
 
 module _ {F : Type 0} (state : F → FlashState) (p : Protocol) (S : StoreState F) (O : OpenTransactionsState) (i : ℕ)

@@ -17,6 +17,7 @@ use Rattle.collector.proofs.OfCollect.CollectedNotes.{copied_no_new}
 use Rattle.collector.proofs.OfCopies.CopyNotes.{copy_preserves}
 use Rattle.collector.proofs.OfCopies.CopyExits.{blank_noted, copy_done, copy_torn, left_done, left_torn}
 use Rattle.collector.proofs.OfNotes.Keeping.{preserves_same, keeps_array_same}
+use Rattle.collector.proofs.OfNotes.KeepsLemmas.{keeps_copy, keeps_copy_torn, keeps_unread}
 use Rattle.collector.proofs.OfSettle.SettledExits.{matches_still}
 
 -- a slot that is noted with a record is complete
@@ -156,19 +157,21 @@ module _ (p : Protocol) (copy : CopyLaw p) (written_copy : WrittenCopyLaw p) (a 
   noted' : IsNoted n.config.protocol (copied n from.0 to.0)
   noted' = copied_noted n.config.protocol n m.noted law from.0 to.0 some next.within was
 
+  can0 : CanDo s.shape s.image (program to.0 bytes spare)
+  can0 = subst (λ i. CanDo s.shape i (program to.0 bytes spare)) done.image
+      (subst (λ sh. CanDo sh s1.image (program to.0 bytes spare)) shape_same can)
+
   pub copy_is_done : (s2 : FlashState) (x : Unit {0}) → Programs s1 s2 to.0 bytes spare (Ok x) →
       CopiesRecord p a (store_parts s2 (copied n from.0 to.0) t a.unsure) from to (Ok tt)
   copy_is_done s2 x e =
       let o = program to.0 bytes spare in
-      let can0 : CanDo s.shape s.image o = subst (λ i. CanDo s.shape i o) done.image
-      (subst (λ sh. CanDo sh s1.image o) shape_same can) in
       let now : moment_of s2 ≡ after s.shape (moment_of s) o =
       same_moments (moment_of s2) (after s.shape (moment_of s) o)
       (e.done.image ∙ ap (λ i. set i to.0 (complete bytes spare)) done.image)
       (e.done.programs ∙ ap counted done.programs) (e.done.erases ∙ done.erases)
       (operation_started s1 s2 o (Ok x) e.powered e ∙ ap counted done.started) in
       record {
-        keeps = record {
+        keeps = keeps_copy p a (store_parts s2 (copied n from.0 to.0) t a.unsure) k to.0 bytes spare can0 (record {
           matches = subst (Matches s2 (copied n from.0 to.0) t) (sym k.nothing)
               (copy_done s1 s2 n t m1 written_law from to noted.rec bytes spare exists next.within next.in_spare
               noted.is was source1 can e.carries.shape e law
@@ -182,9 +185,7 @@ module _ (p : Protocol) (copy : CopyLaw p) (written_copy : WrittenCopyLaw p) (a 
           sure = k.nothing;
           others = λ at rec own. (let q = sym k.nothing ∙ own in cc);
           records = copied_no_new n to.0 (from.0 ∷ []);
-          moves = moves s2 (Ok x) e;
-          carries = Carries-then s s1 s2 false done.carries e.carries;
-        };
+        }) (moves s2 (Ok x) e) (Carries-then s s1 s2 false done.carries e.carries) now;
         done = record {
           programmed = subst (λ q. Does s.shape (moment_of s) (q ∷ []) (moment_of s2)) (sym asks) (can0, now);
           reads = reads_once s2 e.reads;
@@ -195,10 +196,20 @@ module _ (p : Protocol) (copy : CopyLaw p) (written_copy : WrittenCopyLaw p) (a 
         counts = tt;
       }
 
+  broken_in : (s2 : FlashState) (x : Broken) → Programs s1 s2 to.0 bytes spare (Err x) →
+      BreaksIn s.shape (moment_of s) (program to.0 bytes spare) (moment_of s2)
+  broken_in s2 x e =
+      subst (λ sh. BreaksIn sh (moment_of s) (program to.0 bytes spare) (moment_of s2)) shape_same
+      (subst (λ q. BreaksIn s1.shape q (program to.0 bytes spare) (moment_of s2))
+      (same_read s s1 from.0 bytes spare (Ok how) done) (
+        e.torn,
+        operation_started s1 s2 (program to.0 bytes spare) (Err x) (done.carries.lives ∙ done.powered) e,
+      ))
+
   pub copy_breaks : (s2 : FlashState) (x : Broken) → Programs s1 s2 to.0 bytes spare (Err x) →
       CopiesRecord p a (store_parts s2 n t (unsure.Copy from to)) from to (Err x)
   copy_breaks s2 x e = record {
-    keeps = record {
+    keeps = keeps_copy_torn p a (store_parts s2 n t (unsure.Copy from to)) k to.0 bytes spare can0 (record {
       matches = copy_torn s1 s2 n t m1 written_law from to noted.rec bytes spare exists next.within next.in_spare
           noted.is was source1 can e.carries.shape x e
           to_apart;
@@ -210,21 +221,13 @@ module _ (p : Protocol) (copy : CopyLaw p) (written_copy : WrittenCopyLaw p) (a 
       sure = tt;
       others = λ at rec own. (let q = own in cc);
       records = HasNoNewRecord-nothing n;
-      moves = moves s2 (Err x) e;
-      carries = Carries-then s s1 s2 true done.carries e.carries;
-    };
+    }) (moves s2 (Err x) e) (Carries-then s s1 s2 true done.carries e.carries) (broken_in s2 x e);
     done = tt;
     noted = tt;
     stays = refl;
     broken = inr (
       refl,
-      subst (λ o. BreaksIn s.shape (moment_of s) o (moment_of s2)) (sym asks)
-          (subst (λ sh. BreaksIn sh (moment_of s) (program to.0 bytes spare) (moment_of s2)) shape_same
-          (subst (λ q. BreaksIn s1.shape q (program to.0 bytes spare) (moment_of s2))
-          (same_read s s1 from.0 bytes spare (Ok how) done) (
-            e.torn,
-            operation_started s1 s2 (program to.0 bytes spare) (Err x) (done.carries.lives ∙ done.powered) e,
-          ))),
+      subst (λ o. BreaksIn s.shape (moment_of s) o (moment_of s2)) (sym asks) (broken_in s2 x e),
       reads_once s2 e.reads,
     );
     counts = (e.torn.programs ∙ done.programs, e.torn.erases ∙ done.erases);
@@ -238,16 +241,14 @@ pub copy_unread : (p : Protocol) (a : StoreParts) → IsSure p a → (from to : 
 copy_unread p a k from to s1 bytes spare x y e =
     let still = same_read a.flash s1 from.0 bytes spare (Err x) e in
     record {
-      keeps = record {
+      keeps = keeps_unread p a (store_parts s1 a.noted a.table a.unsure) k (record {
         matches = matches_still a.flash s1 a.noted a.table a.unsure e.carries.shape e.image k.matches;
         preserves = preserves_same a.noted;
         array = keeps_array_same p a.noted.config.logical a.flash.image s1.image e.image;
         sure = tt;
         others = λ at rec own. (let q = sym k.nothing ∙ own in cc);
         records = HasNoNewRecord-nothing a.noted;
-        moves = FlashMoves-reads a.flash s1 from.0 bytes spare (Err x) true e;
-        carries = e.carries;
-      };
+      }) (FlashMoves-reads a.flash s1 from.0 bytes spare (Err x) true e) e.carries still;
       done = tt;
       noted = tt;
       stays = refl;

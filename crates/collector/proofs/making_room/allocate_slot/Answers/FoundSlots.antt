@@ -47,6 +47,7 @@ keeps_moved p a b t is good h = record {
   records = h.records;
   moves = h.moves;
   carries = h.carries;
+  since = h.since;
 }
 
 module _ (p : Protocol) (a : StoreParts) (k : IsSure p a) where

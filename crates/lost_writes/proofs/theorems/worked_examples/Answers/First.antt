@@ -16,6 +16,7 @@ use Rattle.judged_records.specs.Images.{SlotReads, IsSoundImage}
 use Rattle.judged_records.specs.ImageChanges.{AsksFor}
 use Rattle.array_runs.specs.Run.{MayComplete}
 use Rattle.lost_writes.specs.Fired.{IsFired}
+use Rattle.lost_writes.specs.Quiet.{is_one_of}
 use Rattle.lost_writes.specs.Examples.{blank_flash, started, FirstIsProgramming}
 
 none_in : {X : Type 0} (P : X → Type 0) → All P []
@@ -76,7 +77,7 @@ asks = record {
   clear = λ k d within. absurd (omega arith);
 }
 
-fired : IsFired Scc 2 (shape_of (config Scc)) (MayComplete (command.Finish 1)) 1 blank_flash started
+fired : IsFired Scc 2 (shape_of (config Scc)) (MayComplete (command.Finish 1)) 1 (is_one_of []) blank_flash started
 unfolding written_in
 fired = record {
   asks = asks;
@@ -100,8 +101,8 @@ first_is_programming = record {
   exists = omega arith;
   removable = λ k d within. absurd (omega arith);
   quiet = refl;
-  each = All-from_recursion (IsFired Scc 2 (shape_of (config Scc)) (MayComplete (command.Finish 1)) 1 blank_flash)
-      (started ∷ []) (fired, tt);
+  each = All-from_recursion (IsFired Scc 2 (shape_of (config Scc)) (MayComplete (command.Finish 1)) 1 (is_one_of [])
+      blank_flash) (started ∷ []) (fired, tt);
   apart = λ i j d less within. absurd (omega arith);
   open_entries = inl (refl, tt);
   few = omega arith;

@@ -12,6 +12,7 @@ use Rattle.tx_engine.proofs.OfSettle.NextNoted.{next_parts}
 use Rattle.tx_engine.proofs.OfSettle.NextSet.{transaction_set}
 use Rattle.tx_engine.proofs.OfStep.NextThere.{adds_pinned, due_not_there, not_due_there}
 use Rattle.open_table.proofs.OfTransactions.OpenList.{IsFirstTagged, first_of_own}
+use Rattle.tx_engine.proofs.OfWrite.LastWrites.{works_pinned}
 use Rattle.tx_engine.proofs.OfWrite.RecordWrites.{writes_pinned}
 
 counts_advances : (s new : ArrayState) (tag : ℕ) (e : Entry) (p : Progress) → Counts s tag e p new →
@@ -65,6 +66,10 @@ module _ {F : Type 0} (state : F → FlashState) (p : Protocol) (S : StoreState 
     fresh = λ name here. inl (subst (λ (T : StoreState F). IsThere T.noted name) k.stays here);
     kept = tt;
     breaks = tt;
+    since = inl (
+      ap (λ (T : StoreState F). moment_of (state T.flash)) k.stays,
+      ap (λ (T : StoreState F). T.table.spare) k.stays,
+    );
   }
 
   module _ (due : must_program o ≡ true) where
@@ -95,6 +100,7 @@ module _ {F : Type 0} (state : F → FlashState) (p : Protocol) (S : StoreState 
           fresh = tt;
           kept = w.failed.kept;
           breaks = w.breaks;
+          since = w.since;
         }
 
     module _ (S1 : StoreState F) (O1 : OpenTransactionsState) (w : WritesPage state S S1 O O1 i (Ok tt)) where
@@ -177,4 +183,6 @@ module _ {F : Type 0} (state : F → FlashState) (p : Protocol) (S : StoreState 
               (ap (λ (T : StoreState F). T.noted) k.stays);
           kept = tt;
           breaks = tt;
+          since = works_pinned state a b c o.entry o.naming (ap (λ (T : StoreState F). T.flash) k.stays)
+              (ap (λ (T : StoreState F). T.table) k.stays) w.since;
         }

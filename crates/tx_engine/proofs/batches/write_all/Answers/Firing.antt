@@ -1,5 +1,5 @@
 -- The fire of several programs as a call: what it asks for, and what it leaves where it is done and where it is broken.
-use Rattle.tx_engine.proofs.Common.{◌≡◌, ◌≢◌, ℕ, suc, ◌+◌, ◌<◌, List, [], ◌∷◌, ◌++◌, length, drop, replicate, All, AllPairs, Option, Result, Ok, Err, refl, sym, ap, ap₂, ◌∙◌, subst, arith, flat_map, drop_more, get_or-map, length-map, All-nil, All-cons, All-head, All-tail, All-contains, all_from, pairs_cons, pairs_head, pairs_tail, slots_of, Protocol, Shape, Broken, FlashState, Does, CanDo, Load, die_of, fire, left_each, moment_of, PageWrite, Config, array_in, found_in, IndexState, current_of, BlocksState, array_known, ArrayStays, ImageIsSound, NotingKeeps, MayTakeEach, Entry, Pages, AreJobsDue, CanNoteEach, CanWriteAll, DroppedAll, InOrderOfDies, IsJobDue, WrittenAll, loads_for, nexts_noted, noted_each, taken_writes, takes_each, used_each, OpenTransactionsState, TransactionState, entries_of, no_transaction, StoreState, Job}
+use Rattle.tx_engine.proofs.Common.{◌≡◌, ◌≢◌, ℕ, suc, ◌+◌, ◌<◌, List, [], ◌∷◌, ◌++◌, length, drop, replicate, All, AllPairs, Option, Result, Ok, Err, refl, sym, ap, ap₂, ◌∙◌, subst, arith, flat_map, drop_more, get_or-map, length-map, All-nil, All-cons, All-head, All-tail, All-contains, all_from, pairs_cons, pairs_head, pairs_tail, slots_of, Protocol, Shape, Broken, Outcome, FlashState, Does, CanDo, Load, die_of, fire, left_each, moment_of, PageWrite, Config, IsSoundImage, array_in, found_in, IndexState, current_of, BlocksState, array_known, ArrayStays, ImageIsSound, NotingKeeps, MayTakeEach, Entry, Pages, AreJobsDue, CanNoteEach, CanWriteAll, DroppedAll, InOrderOfDies, IsJobDue, WrittenAll, loads_for, nexts_noted, noted_each, taken_writes, takes_each, used_each, OpenTransactionsState, TransactionState, entries_of, no_transaction, StoreState, Job}
 use Rattle.std.proofs.Common.{take}
 use Rattle.std.proofs.lemmas.List.{take-append-drop}
 use Rattle.flash_model.specs.declared.outcome.Outcome.TheVariants as outcome
@@ -13,6 +13,7 @@ use Rattle.collector.specs.declared.unsure.Unsure.TheVariants as unsure
 use Rattle.array_machine.specs.Step.{IsAtLast}
 use Rattle.tx_engine.specs.BatchCalls.{AreLoadable, CanLoadAll, FiresStored}
 use Rattle.tx_engine.specs.BatchCalls.{LoadsEach}
+use Rattle.tx_engine.specs.Batches.{MayLeaveEach}
 use Rattle.tx_engine.proofs.OfDevice.HeldRecords.{held_between}
 use Rattle.tx_engine.proofs.OfDevice.Kept.{BlocksInvariant, from_stands, to_stands}
 use Rattle.tx_engine.proofs.batches.write_all.Answers.BatchLeaves.{SomeLeft, left_array, left_held, left_mentions, left_sound, some_left, take_fewer}
@@ -137,6 +138,37 @@ module _ {F : Type 0} (state : F → FlashState) (p : Protocol) (S S' : StoreSta
   pub can_fire_all : CanDo (state S.flash).shape (state S.flash).image (fire (loads_for S.noted O 0 jobs))
   can_fire_all = can_fire (state S.flash) S.noted S.table O its stands_now can.size jobs can.due can.dies
 
+  -- what is left, whatever each of the programs leaves
+  module _ (hows : List Outcome) (long : length hows ≡ length (loads_for S.noted O 0 jobs)) where
+    abbrev left_by : FlashState
+    left_by = record (state S.flash) { image = left_each (state S.flash).image (loads_for S.noted O 0 jobs) hows }
+
+    some_by : SomeLeft S.flash (state S.flash) left_by S.noted S.table O 0 jobs
+    some_by =
+        some_left S.flash jobs hows (state S.flash) left_by S.noted S.table O 0 its stands_now can.size can.due can.dies
+        (long ∙ loads_long (state S.flash) S.noted S.table O its stands_now can.size jobs 0) refl refl
+
+    sound_by : IsSoundImage S.noted.config.protocol S.noted.config.logical (state S.flash).shape
+        (left_each (state S.flash).image (loads_for S.noted O 0 jobs) hows)
+    sound_by = left_sound S.flash (state S.flash) left_by S.noted S.table O 0 jobs its some_by
+
+    array_by : MayTakeEach (array_known S.noted (state S.flash).image) IsAtLast (entries_of O)
+        (array_in S.noted.config.protocol S.noted.config.logical
+        (left_each (state S.flash).image (loads_for S.noted O 0 jobs) hows))
+    array_by =
+        let all : take (length jobs) (entries_of O) ++ drop (length jobs) (entries_of O) ≡ entries_of O =
+        take-append-drop (length jobs) (entries_of O) in
+        let pages : Pages = array_known S.noted (state S.flash).image in
+        let after_it : Pages = array_in S.noted.config.protocol S.noted.config.logical left_by.image in
+        subst (λ es. MayTakeEach pages IsAtLast es after_it) all
+        (take_fewer (take (length jobs) (entries_of O)) (drop (length jobs) (entries_of O)) pages after_it IsAtLast
+        (subst (λ es. MayTakeEach pages IsAtLast es after_it) (entries_first O jobs 0 S.noted S.table can.due)
+        (left_array S.flash (state S.flash) left_by S.noted S.table O 0 jobs its some_by)))
+
+  may_leave : MayLeaveEach S.noted.config.protocol S.noted.config.logical (state S.flash).shape (state S.flash).image
+      (loads_for S.noted O 0 jobs) (array_known S.noted (state S.flash).image) (entries_of O)
+  may_leave = record { sound = sound_by; array = array_by }
+
   -- the fire of what was loaded, as the store has it
   module _ (registers : F → List (Option Load)) (C : StoreState F) (load : LoadsEach state registers S C O jobs)
       (r : Result (Unit {0}) Broken)
@@ -220,6 +252,7 @@ module _ {F : Type 0} (state : F → FlashState) (p : Protocol) (S S' : StoreSta
           reads = done.reads;
           low = subst (λ es. All (λ (w : PageWrite). w.page < S.noted.config.logical) (flat_map taken_writes es))
               first_ones whole.low;
+          leaves = may_leave;
         }))
 
   -- It was broken
@@ -247,4 +280,5 @@ module _ {F : Type 0} (state : F → FlashState) (p : Protocol) (S S' : StoreSta
             torn;
         carries = torn.carries;
         stays = same;
+        leaves = may_leave;
       }

@@ -5,8 +5,8 @@ use Rattle.tx_engine.specs.Collections.{HasNothingToCollect}
 use Rattle.tx_engine.specs.DeviceCalls.{CollectsDevice}
 use Rattle.tx_engine.specs.Settling.{StaysUnread}
 use Rattle.tx_engine.proofs.OfWrite.Breaking.{broke_then}
-use Rattle.tx_engine.proofs.OfSettle.SettleExits.{failed_machine, failed_stays, not_settled}
-use Rattle.tx_engine.proofs.OfDevice.ExitsThen.{exits_then}
+use Rattle.tx_engine.proofs.OfSettle.SettleExits.{failed_machine, failed_stays, not_settled, since_unread}
+use Rattle.tx_engine.proofs.OfDevice.ExitsThen.{exits_then, since_still}
 use Rattle.tx_engine.proofs.OfCollect.Collecting.{settled_low, rises_stay, collects_from}
 use Rattle.tx_engine.proofs.OfDevice.KeptDevices.{by_kept, kept_is, kept_stands}
 use Rattle.tx_engine.proofs.device.Device.collect.Goals as goal
@@ -61,6 +61,9 @@ returns-in_default g c =
       failed = inl unread;
       breaks = inl unread;
       nothing = λ is. cc;
+      since = since_unread state S c.settle.new.store O c.settle.new.transactions
+          (kept_stands state c.self.inside _ c.self.view_is c.requires.kept g.R.CommitRule.protocol c.self.invariant)
+          c.settle.ensures.moment;
     })
 
 pub returns-in_default-collect_settled : goal.returns-in_default-collect_settled
@@ -97,6 +100,8 @@ returns-in_default-collect_settled g c =
           settles.tables.1 (λ between n t. RoomBreaksOff n t between (state new.flash) new.noted new.unsure)
           its.broken);
       nothing = λ is. cc;
+      since = since_still state old mid new true settles.exits.tables.config settles.exits.carries.shape
+          its.left.since c.settle.ensures.moment;
     })
 
 pub returns : goal.returns
@@ -133,4 +138,6 @@ returns g c =
           let same : Ok collected ≡ Ok Nothing = (let its : collected ≡ Nothing = cc in ap (λ x. Ok x) its) in
           subst (λ (k : Config). HasNothingToCollect k.protocol k.logical (state new.flash).image (entries_of O1))
           config (its.nothing same);
+      since = since_still state old mid new false settles.exits.tables.config settles.exits.carries.shape
+          its.left.since c.settle.ensures.moment;
     })

@@ -6,10 +6,10 @@ use Rattle.open_table.proofs.OfTransactions.OpenList.{IsFirstTagged, first_of_ow
 use Rattle.tx_engine.specs.Readying.{IsReadyToWrite, ReadiesAs, ReadiesDevice}
 use Rattle.tx_engine.proofs.OfAbort.Aborting.{entry_found, entry_missing, entry_settled}
 use Rattle.tx_engine.proofs.OfCollect.Collecting.{rises_stay, settled_low}
-use Rattle.tx_engine.proofs.OfDevice.ExitsThen.{exits_still, exits_then}
+use Rattle.tx_engine.proofs.OfDevice.ExitsThen.{exits_still, exits_then, since_still}
 use Rattle.tx_engine.proofs.OfDevice.Kept.{from_stands}
 use Rattle.tx_engine.proofs.OfDevice.KeptDevices.{as_kept, by_kept, kept_is, kept_stands}
-use Rattle.tx_engine.proofs.OfSettle.SettleExits.{failed_machine, failed_stays, not_settled, rises_unread}
+use Rattle.tx_engine.proofs.OfSettle.SettleExits.{failed_machine, failed_stays, not_settled, rises_unread, since_unread}
 use Rattle.tx_engine.proofs.OfStep.StepExits.{for_next}
 use Rattle.tx_engine.proofs.OfStep.StepWrites.{breaks_then}
 use Rattle.tx_engine.proofs.device.Device.make_ready.Answers.Readied.{readies_found, readies_missing}
@@ -34,6 +34,7 @@ returns-in_default g c =
       unknown = λ is. refl;
       ready = tt;
       failed = λ is. cc;
+      since = λ other. absurd (other refl);
     }
 
 pub settle-requires-clause-stands : goal.settle-requires-clause-stands
@@ -73,6 +74,9 @@ returns-in_default-settle g c =
         moment = c.settle.ensures.moment;
         reads = its.first_failed;
       });
+      since = λ other. since_unread state S c.settle.new.store O c.settle.new.transactions
+          (kept_stands state c.self.inside _ c.self.view_is c.requires.kept g.R.CommitRule.protocol c.self.invariant)
+          c.settle.ensures.moment;
     })
 
 pub make_ready_settled-requires : goal.make_ready_settled-requires
@@ -136,6 +140,8 @@ returns-in_default-make_ready_settled g c =
       failed = λ fault. inr (for_next state S O c.args.tag i (WritingBreaks state (with_settlement state old) new) first
           (breaks_then state S S1 O O1 i there settles.tables.0 settles.tables.1 c.settle.ensures.moment
           c.settle.ensures.names first.within at.1 S2 O1 c.settle.ensures.exits.carries.shape its.breaks));
+      since = λ other. since_still state old mid new true settles.exits.tables.config settles.exits.carries.shape
+          its.left.since c.settle.ensures.moment;
     })
 
 pub returns : goal.returns
@@ -170,4 +176,6 @@ returns g c =
       ready = for_next state S2 O1 c.args.tag i
           (λ name. (IsThere S2.noted name → ⊥) → IsReadyToWrite S2.noted S2.table name) first its.ready;
       failed = λ is. cc;
+      since = λ other. since_still state old mid new false settles.exits.tables.config settles.exits.carries.shape
+          its.left.since c.settle.ensures.moment;
     })

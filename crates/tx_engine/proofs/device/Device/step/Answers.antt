@@ -8,10 +8,10 @@ use Rattle.tx_engine.proofs.OfCollect.Collecting.{settled_low, own_writes_low}
 use Rattle.tx_engine.proofs.OfDevice.ExitsThen.{exits_still, exits_then, rises_then}
 use Rattle.tx_engine.proofs.OfDevice.Kept.{from_stands}
 use Rattle.open_table.proofs.OfTransactions.OpenList.{first_position, first_of_own, entry_first}
-use Rattle.tx_engine.proofs.OfSettle.SettleExits.{failed_machine, failed_stays, not_settled, rises_unread}
+use Rattle.tx_engine.proofs.OfSettle.SettleExits.{failed_machine, failed_stays, not_settled, rises_unread, since_unread}
 use Rattle.tx_engine.proofs.OfStep.CostFacts.{costs_still}
-use Rattle.tx_engine.proofs.OfStep.StepExits.{step_missing, step_unsettled, step_settled, done_low, fault_rises, for_next, for_open, of_each, ok_as}
-use Rattle.tx_engine.proofs.OfStep.StepWrites.{costs_then, found_then, brings_then, notes_then, breaks_then}
+use Rattle.tx_engine.proofs.OfStep.StepExits.{step_missing, step_unsettled, step_settled, done_low, fault_rises, for_next, for_open, of_each, ok_as, step_since}
+use Rattle.tx_engine.proofs.OfStep.StepWrites.{costs_then, found_then, brings_then, notes_then, breaks_then, works_then}
 use Rattle.tx_engine.proofs.OfDevice.KeptDevices.{as_kept, by_kept, kept_is, kept_stands, limits_then}
 use Rattle.tx_engine.proofs.device.Device.step.Goals as goal
 
@@ -40,6 +40,7 @@ returns-in_default g c =
       brings = tt;
       fresh = inl (record { stays = refl; moment = refl; reads = (0, omega arith, refl) });
       failed = λ is. cc;
+      since = λ other. absurd (other refl);
     }
 
 pub settle-requires-clause-stands : goal.settle-requires-clause-stands
@@ -87,6 +88,11 @@ returns-in_default-settle g c =
       brings = tt;
       fresh = inl unread;
       failed = λ fault. inl unread;
+      since = λ other. step_since state S O c.args.tag c.in-Some.at true (with_settlement state old) new
+          (first_position c.args.tag O.all c.in-Some.at (sym c.position.ensures ∙ c.in-Some.is))
+          (inl (since_unread state S c.settle.new.store O c.settle.new.transactions
+          (kept_stands state c.self.inside _ c.self.view_is c.requires.kept g.R.CommitRule.protocol c.self.invariant)
+          c.settle.ensures.moment));
     })
 
 pub advance-requires : goal.advance-requires
@@ -163,6 +169,11 @@ returns-in_default-advance g c =
           (breaks_then state S S1 O O1 i there settles.tables.0 settles.tables.1 c.settle.ensures.moment
           c.settle.ensures.names first.within at.1
           c.advance.new.store c.advance.new.transactions c.settle.ensures.exits.carries.shape advances.breaks));
+      since = λ other. step_since state S O c.args.tag i true (with_settlement state old) new first
+          (works_then state S S1 O O1 i there settles.tables.0 settles.tables.1 c.settle.ensures.moment
+          c.settle.ensures.names first.within at.1
+          c.advance.new.store c.advance.new.transactions true settles.exits.tables.config
+          c.settle.ensures.exits.carries.shape advances.since);
     })
 
 pub returns : goal.returns
@@ -229,4 +240,9 @@ returns g c =
           c.settle.ensures.names first.within at.1
           c.advance.new.store.noted advances.fresh);
       failed = λ is. cc;
+      since = λ other. step_since state S O c.args.tag i false (with_settlement state old) new first
+          (works_then state S S1 O O1 i there settles.tables.0 settles.tables.1 c.settle.ensures.moment
+          c.settle.ensures.names first.within at.1
+          c.advance.new.store c.advance.new.transactions false settles.exits.tables.config
+          c.settle.ensures.exits.carries.shape advances.since);
     })

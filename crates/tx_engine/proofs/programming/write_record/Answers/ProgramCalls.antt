@@ -1,9 +1,10 @@
 -- The program of a record as a call: what it leaves where it is done, and where it is broken.
-use Rattle.tx_engine.proofs.Common.{◌≡◌, ℕ, eqb-true, List, [], ◌∷◌, length, Ok, Err, refl, sym, ap, ◌∙◌, subst, arith, get_or-set_same, slots_of, Protocol, Shape, Slot, Rec, Broken, FlashState, IsImage, blank, complete, slot_at, Does, CanDo, moment_of, program, image_left, CanBeSpelled, spelling, TextsStay, ImagePartialLaw, ImageCompletingLaw, IndexState, programmed, BlocksState, IsBlocksState, IsFree, with_slot, Matches, CanTakeOwn, StoreParts, CanWrite, WritesOwn}
+use Rattle.tx_engine.proofs.Common.{◌≡◌, ◌⊎◌, ℕ, eqb-true, List, [], ◌∷◌, length, Ok, Err, refl, sym, ap, ◌∙◌, subst, arith, get_or-set_same, slots_of, Protocol, Shape, Slot, Rec, Broken, FlashState, IsImage, blank, complete, slot_at, Does, CanDo, moment_of, program, image_left, CanBeSpelled, spelling, TextsStay, ImagePartialLaw, ImageCompletingLaw, IndexState, programmed, BlocksState, IsBlocksState, IsFree, with_slot, Matches, CanTakeOwn, StoreParts, CanWrite, WritesOwn}
 use Rattle.flash_model.specs.declared.outcome.Outcome.TheVariants as outcome
 use Rattle.flash_model.specs.Calls.{Programs}
 use Rattle.flash_model.proofs.ImageLemmas.{IsImage-left}
-use Rattle.flash_model.proofs.MoveLemmas.{FlashMoves-operates, same_done}
+use Rattle.flash_model.specs.Operations.{BreaksIn}
+use Rattle.flash_model.proofs.MoveLemmas.{FlashMoves-operates, same_done, same_or_broken}
 use Rattle.page_record.proofs.Spellings.{length-spelling}
 use Rattle.record_list.specs.Changes.{PartialWriteLaw, CompletingWriteLaw}
 use Rattle.record_list.specs.WrittenChanges.{WrittenPartialWriteLaw, WrittenCompletingWriteLaw}
@@ -80,7 +81,17 @@ module _ (q : Protocol) (partial : PartialWriteLaw q) (completing : CompletingWr
           (IsImage-left s.shape s.image (program at.0 bytes spare) broken.torn.left.0 m.flash can)) torn_left;
       config = refl;
       written = tt;
-      broken = record { noted = refl; table = refl; unsure = refl; slot = torn_left.slot; stay = torn_left.stay };
+      broken = record {
+        noted = refl;
+        table = refl;
+        unsure = refl;
+        slot = torn_left.slot;
+        can = subst (λ sp. CanDo s.shape s.image (program at.0 bytes sp)) spells can;
+        torn = subst (λ sp. (moment_of s' ≡ moment_of s)
+            ⊎ BreaksIn s.shape (moment_of s) (program at.0 bytes sp) (moment_of s')) spells
+            (same_or_broken s s' (program at.0 bytes spare) x broken);
+        stay = torn_left.stay;
+      };
       moves = FlashMoves-operates s s' (program at.0 bytes spare) (Err x) tt can broken;
       carries = broken.carries;
       costs = (omega (arith, broken.torn.programs), broken.torn.erases);

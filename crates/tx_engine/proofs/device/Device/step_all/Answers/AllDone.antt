@@ -5,7 +5,7 @@ use Rattle.std.proofs.Common.{take}
 use Rattle.std.proofs.lemmas.List.{nil_from_length}
 use Rattle.tx_engine.specs.Batches.{WritesAtOnce}
 use Rattle.tx_engine.proofs.device.Device.step_all.Answers.AllMoved.{chosen_exits, chosen_rises, its_turns, then_exits, then_rises, then_steps}
-use Rattle.tx_engine.proofs.device.Device.step_all.Answers.Dropping.{known_jobs, known_loads}
+use Rattle.tx_engine.proofs.device.Device.step_all.Answers.Dropping.{known_jobs, known_leaves, known_loads}
 use Rattle.tx_engine.proofs.OfStepAll.Nexts.{AreDue}
 
 module _ {F : Type 0} (state : F → FlashState) (S S1 W S2 : StoreState F) (O O1 OW O2 : OpenTransactionsState)
@@ -94,4 +94,5 @@ module _ {F : Type 0} (state : F → FlashState) (S S1 W S2 : StoreState F) (O O
         absurd (let long = ap length none in let same = ap length entries in
         let mapped = length-map (entries_of O) (settled_entry (is_there state old)) in
         omega (arith, long, same, mapped, few, any));
+    leaves = λ chosen. known_leaves state S S1 O O1 u st size w.leaves;
   }

@@ -111,7 +111,7 @@ module _ {F : Type 0} (state : F → FlashState) (p : Protocol) (S S1 S2 : Store
       | inr chosen ↦ (
           let its = h.chosen some chosen in
           record {
-            drops = drops_fired state S S1 S2 O O1 O2 u st size its.broken;
+            drops = drops_fired state S S1 S2 O O1 O2 u st size chosen its.broken;
             limits = subst (HasLimitsOf O1) (sym its.kept)
                 (record { page_bytes = refl; logical = refl; pending = refl });
           })

@@ -1,18 +1,19 @@
 -- A device that met a fault where several transactions went on: what its flash is left with.
-use Rattle.tx_engine.proofs.Common.{◌≡◌, ℕ, ◌<◌, true, false, List, [], length, map, Ok, Err, refl, sym, ap, ap₂, ◌∙◌, subst, inl, inr, arith, range_with_len, Config, Protocol, Shape, Broken, Contents, FlashState, Load, Moment, fire, moment_of, Carries-then, FlashMoves-then, mention, IsSoundImage, array_in, records_in, IndexState, mention_of, BlocksState, MayTakeEach, ArrayState, Entry, idle, DroppedAll, chosen_now, loads_for, DropsDevice, chosen_from, chosen_of, jobs_of, AdvancesTo, SettlesDevice, ExitsTables, MentionsAtMost, is_there, OpenTransactionsState, TransactionState, entries_of, namings_of, transaction_at, settlement_of, with_settlement, DeviceState, Stands, StepsAs, settled, settled_entry, StoreState, device_in, length-map}
+use Rattle.tx_engine.proofs.Common.{◌≡◌, ◌≢◌, ℕ, ◌<◌, true, false, List, [], length, map, Ok, Err, refl, sym, ap, ap₂, ◌∙◌, subst, inl, inr, arith, range_with_len, Config, Protocol, Shape, Broken, Contents, FlashState, Load, Moment, fire, moment_of, Carries-then, FlashMoves-then, mention, IsSoundImage, array_in, records_in, IndexState, mention_of, BlocksState, MayTakeEach, left_each, ArrayState, Entry, idle, DroppedAll, chosen_now, loads_for, DropsDevice, chosen_from, chosen_of, jobs_of, AdvancesTo, SettlesDevice, ExitsTables, MentionsAtMost, is_there, OpenTransactionsState, TransactionState, entries_of, namings_of, transaction_at, settlement_of, with_settlement, DeviceState, Stands, StepsAs, settled, settled_entry, StoreState, device_in, length-map}
 use Rattle.flash_model.specs.Operations.{BreaksIn}
 use Rattle.flash_model.proofs.MoveLemmas.{FlashMovesTogether-then}
 use Rattle.array_machine.specs.Batches.{CutLeavesEach}
 use Rattle.array_machine.specs.Step.{IsAtLast}
 use Rattle.tx_engine.specs.Always.{CutsLeave, DevicesStand}
-use Rattle.tx_engine.specs.Batches.{loads_of, transactions_of}
+use Rattle.tx_engine.specs.Batches.{ChosenMayLeave, MayLeaveEach, loads_of, transactions_of}
 use Rattle.tx_engine.proofs.OfSettle.SettleExits.{failed_machine}
 use Rattle.array_machine.specs.declared.answers.StepError.TheVariants as failed
 use Rattle.tx_engine.proofs.OfAbort.Aborting.{entry_settled}
 use Rattle.open_table.proofs.OfTransactions.OpenList.{entry_first, first_of_own}
 use Rattle.tx_engine.proofs.OfDevice.ExitsThen.{images_then, named_before}
 use Rattle.tx_engine.proofs.OfDevice.Kept.{from_stands}
-use Rattle.tx_engine.proofs.OfStep.StepExits.{step_settled}
+use Rattle.tx_engine.proofs.OfStep.StepExits.{step_settled, step_since}
+use Rattle.tx_engine.proofs.OfStep.StepWrites.{works_then}
 use Rattle.tx_engine.proofs.OfStepAll.Moving.{none_chosen}
 use Rattle.tx_engine.proofs.device.Device.step_all.Answers.KnownChoice.{bare, jobs_alike, leaves_each, loads_alike, loads_chosen, transactions_alike, take_settled}
 
@@ -52,6 +53,40 @@ module _ {F : Type 0} (state : F → FlashState) (S S1 : StoreState F) (O O1 : O
       ∙ loads_alike S1.noted S1.table (dies_of S1.table) opened O1.all alike
       ∙ sym (loads_chosen S1.noted S1.table O1 size (dies_of S1.table) 0)
 
+  -- so is what their fire may leave
+  pub known_leaves : O1.page_bytes ≡ S1.noted.config.page_bytes →
+      MayLeaveEach S1.noted.config.protocol S1.noted.config.logical (state S1.flash).shape (state S1.flash).image
+      (loads_for S1.noted O1 0 (jobs_of S1.noted (chosen_now S1 O1))) (device_in state S1 O1).machine.pages
+      (entries_of O1) → ChosenMayLeave state old
+  known_leaves size leaves =
+      let there = is_there state old in
+      let loads = loads_of (settlement_of state old).noted (chosen_of state old) in
+      let at_begin : MayLeaveEach S.noted.config.protocol S.noted.config.logical (state S.flash).shape
+      (state S.flash).image loads known.pages known.entries =
+      subst (λ (ls : List Load). MayLeaveEach S.noted.config.protocol S.noted.config.logical (state S.flash).shape
+      (state S.flash).image ls known.pages known.entries) (sym (known_loads size))
+      (subst (λ (c : Config). MayLeaveEach c.protocol c.logical (state S.flash).shape (state S.flash).image
+      (loads_for S1.noted O1 0 (jobs_of S1.noted (chosen_now S1 O1))) known.pages known.entries) st.exits.tables.config
+      (subst (λ (sh : Shape). MayLeaveEach S1.noted.config.protocol S1.noted.config.logical sh (state S.flash).image
+      (loads_for S1.noted O1 0 (jobs_of S1.noted (chosen_now S1 O1))) known.pages known.entries)
+      st.exits.carries.shape
+      (subst (λ (m : Moment). MayLeaveEach S1.noted.config.protocol S1.noted.config.logical (state S1.flash).shape
+      m.image (loads_for S1.noted O1 0 (jobs_of S1.noted (chosen_now S1 O1))) known.pages known.entries) st.moment
+      (subst (λ (s : ArrayState). MayLeaveEach S1.noted.config.protocol S1.noted.config.logical (state S1.flash).shape
+      (state S1.flash).image (loads_for S1.noted O1 0 (jobs_of S1.noted (chosen_now S1 O1))) s.pages s.entries)
+      st.settles.machine leaves)))) in
+      record {
+        sound = at_begin.sound;
+        array = λ hows long. take_settled there old.machine.entries known.pages
+            (array_in S.noted.config.protocol S.noted.config.logical (left_each (state S.flash).image loads hows))
+            (at_begin.array hows long);
+      }
+
+  -- where none was chosen then, none is now
+  pub none_now : chosen_of state old ≡ [] → chosen_now S1 O1 ≡ []
+  none_now none = none_chosen S1.noted (chosen_now S1 O1)
+      (sym known_jobs ∙ ap (jobs_of (settlement_of state old).noted) none)
+
 -- The place could not be read
 pub drops_unsettled : {F : Type 0} (state : F → FlashState) (p : Protocol) (S S1 : StoreState F)
     (O O1 : OpenTransactionsState) (b : Broken) → DevicesStand state p →
@@ -82,6 +117,8 @@ drops_unsettled {F} state p S S1 O O1 b devices cuts rule st =
       moves = inl st.exits.moves;
       carries = st.exits.carries;
       torn = λ some. inl st.moment;
+      leaves = λ some. inl st.moment;
+      alone = λ none. inl st.moment;
     }
 
 -- what is mentioned at most afterwards was mentioned at most, or named, before
@@ -106,9 +143,10 @@ mentions_back a b image own config tables most page low =
 -- The fire was broken
 pub drops_fired : {F : Type 0} (state : F → FlashState) (S S1 S2 : StoreState F) (O O1 O2 : OpenTransactionsState)
     (u : Unit {0}) (st : SettlesDevice state S S1 O O1 (Ok u)) →
-    O1.page_bytes ≡ S1.noted.config.page_bytes → DroppedAll state S1 S2 O1 (jobs_of S1.noted (chosen_now S1 O1)) →
+    O1.page_bytes ≡ S1.noted.config.page_bytes → chosen_now S1 O1 ≢ [] →
+    DroppedAll state S1 S2 O1 (jobs_of S1.noted (chosen_now S1 O1)) →
     DropsDevice state (device_in state S O) (record (device_in state S2 O2) { dropped = true })
-drops_fired {F} state S S1 S2 O O1 O2 u st size d =
+drops_fired {F} state S S1 S2 O O1 O2 u st size chosen d =
     let config : S1.noted.config ≡ S.noted.config = st.exits.tables.config in
     let old = device_in state S O in
     let there = is_there state old in
@@ -148,6 +186,8 @@ drops_fired {F} state S S1 S2 O O1 O2 u st size d =
             (fire (loads_for S1.noted O1 0 (jobs_of S1.noted (chosen_now S1 O1))))
             (moment_of (state S2.flash))) st.moment breaks)))
       ];
+      leaves = λ some. inr (known_leaves state S S1 O O1 u st size d.leaves);
+      alone = λ none. absurd (chosen (none_now state S S1 O O1 u st none));
     }
 
 -- The step of the first transaction met a fault
@@ -201,4 +241,13 @@ drops_first {F} state p S S1 S2 O O1 O2 u b devices cuts rule stands st adv any 
       carries = Carries-then (state S.flash) (state S1.flash) (state S2.flash) true st.exits.carries adv.exits.carries;
       torn = λ some. absurd (some (none_chosen (settlement_of state old).noted (chosen_of state old)
           (known_jobs state S S1 O O1 u st ∙ ap (jobs_of S1.noted) none)));
+      leaves = λ some. absurd (some (none_chosen (settlement_of state old).noted (chosen_of state old)
+          (known_jobs state S S1 O O1 u st ∙ ap (jobs_of S1.noted) none)));
+      alone = λ none. inr (
+        tag,
+        step_since state S O tag 0 true (with_settlement state old) (record new { dropped = true })
+            (first_of_own O.all 0 was.tags within)
+            (works_then state S S1 O O1 0 there st.tables.0 st.tables.1 st.moment st.names within at.1 S2 O2 true
+            st.exits.tables.config st.exits.carries.shape adv.since),
+      );
     }

@@ -7,8 +7,8 @@ use Rattle.tx_engine.proofs.OfCollect.Collecting.{own_writes_low, settled_low}
 use Rattle.open_table.proofs.OfTransactions.OpenList.{entry_first, first_of_own}
 use Rattle.tx_engine.proofs.OfDevice.ExitsThen.{exits_then, rises_then}
 use Rattle.tx_engine.proofs.OfDevice.Kept.{from_stands}
-use Rattle.tx_engine.proofs.OfStep.StepExits.{done_low, for_next, for_open, ok_as, step_settled}
-use Rattle.tx_engine.proofs.OfStep.StepWrites.{brings_then, costs_then, found_then, notes_then}
+use Rattle.tx_engine.proofs.OfStep.StepExits.{done_low, for_next, for_open, ok_as, step_settled, step_since}
+use Rattle.tx_engine.proofs.OfStep.StepWrites.{brings_then, costs_then, found_then, notes_then, works_then}
 
 -- what a settled transaction takes in a step
 pub taken_done : (s : ArrayState) (tag : ℕ) (e : Entry) (p : Progress) (new : ArrayState) → GoesOn s tag e p new →
@@ -87,4 +87,7 @@ module _ {F : Type 0} (state : F → FlashState) (S S1 S2 : StoreState F) (O O1 
             (notes_then state S S1 O O1 0 there st.tables.0 st.tables.1 st.moment st.names first.within at.1
             S2.noted adv.fresh);
         failed = λ is. cc;
+        since = λ other. step_since state S O tag 0 false (with_settlement state old) new first
+            (works_then state S S1 O O1 0 there st.tables.0 st.tables.1 st.moment st.names first.within at.1 S2 O2 false
+            st.exits.tables.config st.exits.carries.shape adv.since);
       }

@@ -85,6 +85,7 @@ module _ {F : Type 0} (state : F → FlashState) (S S1 S2 : StoreState F) (O O1 
         alone = λ is. first_steps state old new (first_moved p) p O.all refl
             (stepped state S S1 S2 O O1 O2 u p stands st adv within);
         nothing = λ is. absurd (let gone = ap length is in omega (arith, gone, mapped_old, within));
+        leaves = λ some. absurd (some (none_of none));
       }
 
   pub moves_none : O1.all ≡ [] → MovesDevice state old (device_in state S1 O1) no_moves
@@ -121,4 +122,7 @@ module _ {F : Type 0} (state : F → FlashState) (S S1 S2 : StoreState F) (O O1 
             reads = st.reads;
           },
         );
+        leaves = λ some. absurd
+            (some (none_of (ap (chosen_from S1.noted S1.table (range_with_len 0 S1.table.shape.dies)) none
+            ∙ chosen_ends S1.noted S1.table (range_with_len 0 S1.table.shape.dies))));
       }
