@@ -10,7 +10,7 @@ use Rattle.tx_engine.proofs.OfDevice.Seen.{seen_flash}
 use Rattle.mounted_session.proofs.Beginning.{sets_flash}
 use Rattle.cut_replay.specs.UnmountedRun.{FailsUnmounted, ServesUnmounted}
 use Rattle.cut_replay.specs.Sessions.{IsNotDropped, SetsArm, SetsArmHere, CachesFrom, CallsSession}
-use Rattle.cut_replay.specs.Mounted.{CallsDevice}
+use Rattle.cut_replay.specs.Mounted.{CallsDevice, ChangesFlash}
 use Rattle.mounted_session.specs.declared.session.Session.TheVariants as session
 use Rattle.cut_replay.proofs.Mountings.{point_flash}
 use Rattle.cut_replay.proofs.Followed.{always_point}
@@ -143,19 +143,22 @@ armed_unmounted its c old new arm h =
     subst (λ b. MatchBool b ((reply.Armed ≡ reply.Armed) × ArmsFlash c old new)
     (FailsUnmounted its old reply.Armed new)) (sym arm) (refl, h)
 
--- an arm is none of these calls of a device
+-- it changes the flash alone
 arms_alone : {F : Type 0} (state : F → FlashState) (c : Command) (s t : DeviceState F) (r : Reply) → is_arm c ≡ true →
-    CallsDevice state c s t r
-arms_alone state (command.Step tag) s t r arm = (let no : false ≡ true = arm in absurd cc)
-arms_alone state command.StepAll s t r arm = (let no : false ≡ true = arm in absurd cc)
-arms_alone state command.Collect s t r arm = (let no : false ≡ true = arm in absurd cc)
-arms_alone state _ s t r arm = tt
+    ChangesFlash s t → CallsDevice state c s t r
+arms_alone state (command.Cut count what) s t r arm h = h
+arms_alone state (command.Fault count what) s t r arm h = h
+arms_alone state (command.BadRead count) s t r arm h = h
+arms_alone state _ s t r arm h = (let no : false ≡ true = arm in absurd cc)
 
-armed_calls : {F : Type 0} (state : F → FlashState) (c : Command) (old new : DeviceSession F) → is_arm c ≡ true →
-    CallsSession state c old reply.Armed new
-armed_calls state c (session.Mounted s) (session.Mounted t) arm = arms_alone state c s t reply.Armed arm
-armed_calls state c (session.Mounted s) (session.Unmounted flash) arm = tt
-armed_calls state c (session.Unmounted flash) new arm = tt
+armed_calls : {F : Type 0} (state : F → FlashState) (its : Config) (protocol : Protocol) (sets : Told → Told →
+    Type 0) (c : Command) (old new : DeviceSession F) → is_arm c ≡ true →
+    SetsArm state protocol sets old new → CallsSession state its c old reply.Armed new
+armed_calls state its protocol sets c (session.Mounted s) (session.Mounted t) arm h =
+    arms_alone state c s t reply.Armed arm h.stays
+armed_calls state its protocol sets c (session.Mounted s) (session.Unmounted flash) arm h = tt
+armed_calls state its protocol sets c (session.Unmounted flash) (session.Mounted t) arm h = absurd h
+armed_calls state its protocol sets c (session.Unmounted flash) (session.Unmounted new) arm h = tt
 
 armed_serves : {F : Type 0} (state : F → FlashState) (its : Config) (protocol : Protocol) (sets : Told → Told →
     Type 0) (entries : List CachedPage) (c : Command) (old new : DeviceSession F) →
@@ -177,7 +180,7 @@ armed_serves state its protocol sets entries c old new arming fits h =
         point = armed_point state its protocol sets entries seen faulted old new h fits stands;
         stands = armed_stands state its protocol sets c seen faulted old new h stands;
       };
-      device = armed_calls state c old new arming.arm;
+      device = armed_calls state its protocol sets c old new arming.arm h;
       kept = inr (still_armed sets (state (flash_in old)) (state (flash_in new)) flash);
       unsound = λ unsound. armed_unmounted its c (state (flash_in old)) (state (flash_in new)) arming.arm
           (arming.arms (state (flash_in old)) (state (flash_in new)) flash);

@@ -1,5 +1,5 @@
 -- The session that serving begins with.
-use Rattle.cut_replay.proofs.Common.{◌≡◌, Bool, true, false, List, [], Ok, Err, refl, sym, ap, ◌∙◌, subst, inl, inr, arith, MatchBool, Config, checked, shape_of, Shape, CachedPage, FlashState, BothTell, Spends, Moment, moment_of, ArrayState, array_in, idle, MountsFlash, BeginsFlash, mentions_in, first_point, CountsBreaks, flash_in, point_of, IsSoundFlash, Fits, Mounted, Unmounted, Begins, Command, Watched, ServesUnsound, ServeError, DeviceSession, sound_unbroken}
+use Rattle.cut_replay.proofs.Common.{◌≡◌, Bool, true, false, List, [], Ok, Err, refl, sym, ap, ◌∙◌, subst, inl, inr, arith, MatchBool, Config, checked, shape_of, Shape, CachedPage, FlashState, BothTell, Carries, Spends, Moment, moment_of, ArrayState, array_in, idle, MountsFlash, BeginsFlash, mentions_in, first_point, CountsBreaks, flash_in, point_of, IsSoundFlash, Fits, Mounted, Unmounted, Begins, Command, Watched, ServesUnsound, ServeError, DeviceSession, sound_unbroken}
 use Rattle.flash_model.specs.Flash.{IsSteady}
 use Rattle.cut_replay.specs.Bounds.{BeginsUnbroken}
 use Rattle.cut_replay.specs.Beginning.{MountsFirst}
@@ -8,7 +8,7 @@ use Rattle.array_runs.specs.Run.{RunState}
 use Rattle.cut_replay.specs.FlashRun.{Point}
 use Rattle.mounted_session.proofs.Beginning.{first_by, first_still}
 use Rattle.mounted_session.proofs.Telling.{none_spent}
-use Rattle.mounted_session.specs.Devices.{MountsIn, ReadsFew}
+use Rattle.mounted_session.specs.Devices.{MountsIn, ReadsFew, mounts_quiet}
 use Rattle.mounted_session.specs.Sessions.{IfAlone, is_mounted}
 use Rattle.judged_records.specs.Images.{IsSoundImage}
 use Rattle.tx_engine.specs.DeviceState.{DeviceState}
@@ -121,18 +121,20 @@ dead_begins state its flash off sound = record {
 -- nothing was served, for want of memory
 nothing_served : {F : Type 0} (state : F → FlashState) (its : Config) (list : List Command) (flash new : F)
     (w : Watched) →
-    IsSoundFlash its (state flash) → StaysQuiet (state flash) (state new) →
+    IsSoundFlash its (state flash) → StaysQuiet (state flash) (state new) → Carries (state flash) (state new) false →
     ServesSound its list (state flash) (state new) w w (Err failed.Memory)
-nothing_served state its list flash new w sound still = inl (record { still = still; untold = refl })
+nothing_served state its list flash new w sound still calls =
+    inl (record { still = still; calls = calls; untold = refl })
 
 pub begin_ended : {F : Type 0} (state : F → FlashState) (its : Config) (list : List Command)
     (flash new : F) (why : ServeError) (w : Watched) →
-    IsSoundFlash its (state flash) → Unmounted state its flash new why →
+    IsSoundFlash its (state flash) → Unmounted state its flash new why → Carries (state flash) (state new) false →
     ServesSound its list (state flash) (state new) w w (Err why)
-begin_ended state its list flash new (failed.Unsound law slot) w sound h = absurd
+begin_ended state its list flash new (failed.Unsound law slot) w sound h calls = absurd
     (sound_unbroken its.protocol its.logical (shape_of its) (state flash).image
     (record { law = law; slot = slot }) sound h.1)
-begin_ended state its list flash new failed.Memory w sound h = nothing_served state its list flash new w sound h
+begin_ended state its list flash new failed.Memory w sound h calls =
+    nothing_served state its list flash new w sound h calls
 
 -- the shape of the flash of a session, and of the flash that comes back
 pub fits_shape : {F : Type 0} (state : F → FlashState) (its : Config) (cache : List CachedPage) (s : DeviceSession F) →
@@ -211,7 +213,7 @@ module _ {F : Type 0} (state : F → FlashState) (its : Config) (flash : F) (s :
 
   pub first_stays : MomentStays (state flash) (state (flash_in s))
   first_stays = first_still state (MountsIn state its) flash (λ (d : DeviceState F). d.flash)
-      (λ d h. record { still = h.still; quiet = h.quiet }) s first.mounts
+      (mounts_quiet state its flash) s first.mounts
 
 pub begin_refused : {F : Type 0} (state : F → FlashState) (its : Config) (flash new : F) (why : ServeError) →
     Unmounted state its flash new why →
@@ -230,14 +232,14 @@ left_as its list init final (failed.Unsound law slot) still = still
 left_as its list init final failed.Memory still = inl still
 
 pub unsound_ended : (its : Config) (init final : FlashState) (list : List Command) (w : Watched) (why : ServeError) →
-    StaysQuiet init final →
+    StaysQuiet init final → Carries init final false →
     ServesUnsound its list init final w w (Err why)
-unsound_ended its init final list w why still = record {
+unsound_ended its init final list w why still calls = record {
   told = 0;
   replies = [];
   first = init;
   points = [];
-  begins = inr (refl, refl);
+  begins = inr (refl, refl, still, calls);
   run = tt;
   all = tt;
   ends = left_as its list init final why still;
@@ -256,10 +258,10 @@ unmounted_quiet state its flash new failed.Memory h = h
 
 pub begin_unsound : {F : Type 0} (state : F → FlashState) (its : Config) (list : List Command) (flash new : F)
     (why : ServeError) (w : Watched) →
-    Unmounted state its flash new why →
+    Unmounted state its flash new why → Carries (state flash) (state new) false →
     ServesUnsound its list (state flash) (state new) w w (Err why)
-begin_unsound state its list flash new why w h = unsound_ended its (state flash) (state new) list w why
-    (unmounted_quiet state its flash new why h)
+begin_unsound state its list flash new why w h calls = unsound_ended its (state flash) (state new) list w why
+    (unmounted_quiet state its flash new why h) calls
 
 pub begin_shape : {F : Type 0} (state : F → FlashState) (its : Config) (flash new : F) (why : ServeError) →
     Unmounted state its flash new why →

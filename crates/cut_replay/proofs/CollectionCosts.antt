@@ -29,6 +29,7 @@ use Rattle.array_machine.specs.declared.answers.Fault.{Fault}
 use Rattle.tx_engine.specs.Breaking.{CollectBreaks}
 use Rattle.tx_engine.specs.Collections.{CollectsTables}
 use Rattle.tx_engine.specs.Settling.{settlement_of}
+use Rattle.host_protocol.specs.declared.reply.Reply.TheVariants as reply
 use Rattle.array_runs.specs.Run.{collect_reply}
 use Rattle.cut_replay.specs.Costs.{CostsCollection}
 use Rattle.cut_replay.proofs.Counting.{programs_in, erases_in, programs_append, erases_append, counts}
@@ -245,6 +246,12 @@ module _ {F : Type 0} (state : F → FlashState) (old new : DeviceState F) where
       subst (λ (m : Moment). Within (found.noted.config.pages_per_block - 1) 1 m m1) h.moment
       (room_within found.noted found.table h.between (state new.flash) new.noted new.unsure h.breaks)
 
+  nothing_within :
+      CollectsTables (state old.flash) (state new.flash) found.noted new.noted found.table new.table collected.Nothing →
+      Within 0 1 m0 m1
+  nothing_within h =
+      cleaned_within found.noted (state old.flash).image (state old.flash).shape found.table.spare 0 m0 m1 h.does
+
   collected_within : (answer : Collected) →
       CollectsTables (state old.flash) (state new.flash) found.noted new.noted found.table new.table answer →
       Within (found.noted.config.pages_per_block - 1) 2 m0 m1
@@ -254,9 +261,7 @@ module _ {F : Type 0} (state : F → FlashState) (old new : DeviceState F) where
       found.noted.config.pages_per_block (needed_slots (noted_cleaned found.noted found.table.spare) h.victim)
       (few_needed (noted_cleaned found.noted found.table.spare) found.table h.victim h.is_victim) h.victim m1 h.does
   collected_within collected.Nothing h =
-      let c = cleaned_within found.noted (state old.flash).image (state old.flash).shape found.table.spare 0 m0 m1
-      h.does in
-      record {
+      let c = nothing_within h in record {
         programmed = (let low = c.programmed in omega (arith, low));
         erased = (let low = c.erased in omega (arith, low));
       }
@@ -268,14 +273,28 @@ module _ {F : Type 0} (state : F → FlashState) (old new : DeviceState F) where
     collect_costs (Ok collected.One) tables breaks =
         let c = subst (λ (x : Config). Within (x.pages_per_block - 1) 2 m0 m1) same
         (collected_within collected.One tables) in
-        record { programs = c.programmed; erases = c.erased }
+        record {
+          programs = c.programmed;
+          erases = c.erased;
+          nothing = λ is. (let no : reply.Collected ≡ reply.Nothing = is in absurd cc);
+        }
     collect_costs (Ok collected.Nothing) tables breaks =
         let c = subst (λ (x : Config). Within (x.pages_per_block - 1) 2 m0 m1) same
         (collected_within collected.Nothing tables) in
-        record { programs = c.programmed; erases = c.erased }
+        let least = nothing_within tables in
+        let programs = least.programmed in
+        record {
+          programs = c.programmed;
+          erases = c.erased;
+          nothing = λ is. (omega (arith, programs), least.erased);
+        }
     collect_costs (Err fault) tables breaks =
         let c = subst (λ (x : Config). Within (x.pages_per_block - 1) 1 m0 m1) same (breaks_within breaks) in
-        record { programs = c.programmed; erases = c.erased }
+        record {
+          programs = c.programmed;
+          erases = c.erased;
+          nothing = λ is. (let no : reply.Fault ≡ reply.Nothing = is in absurd cc);
+        }
 
 -- by the tables that the device knows once the place was read
 pub known_config : {F : Type 0} (state : F → FlashState) (protocol : Protocol) (s : DeviceState F) →

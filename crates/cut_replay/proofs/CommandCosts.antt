@@ -1,24 +1,17 @@
 -- What each command costs.
-use Rattle.cut_replay.proofs.Common.{◌≡◌, ◌⊎◌, ℕ, ◌+◌, ◌<◌, ◌≤◌, Bool, true, false, not, List, [], ◌∷◌, cond, length, Option, Some, None, Result, Ok, Err, refl, sym, ap, ◌∙◌, subst, inl, inr, arith, IfSome, cases_Bool, Config, Protocol, FlashState, Moment, moment_of, mention, IndexState, ArrayState, DeviceState, HoldsAlways, Command, Reply}
+use Rattle.cut_replay.proofs.Common.{◌≡◌, ◌⊎◌, ℕ, ◌+◌, ◌<◌, ◌≤◌, Bool, true, false, not, List, [], ◌∷◌, cond, length, Option, Some, None, Result, Ok, Err, refl, sym, ap, ◌∙◌, subst, inl, inr, arith, IfSome, Config, Protocol, FlashState, Moment, moment_of, mention, IndexState, ArrayState, DeviceState, HoldsAlways, Command, Reply}
 use Rattle.std.proofs.Common.{◌-◌, ◌*◌, ◌==◌, eq-eqb, zero, suc, ap₂}
-use Rattle.std.specs.Prelude.{MatchOption, min, count_by, drop, map, slice_index_or, if◌then◌else◌}
-use Rattle.std.specs.List.{AllZip, find, range_with_len, zip}
+use Rattle.std.specs.Prelude.{MatchOption, min, drop, map, slice_index_or, if◌then◌else◌}
+use Rattle.std.specs.List.{AllZip, find, zip}
 use Rattle.std.specs.Option.{option_map}
-use Rattle.std.proofs.lemmas.Bool.{both_ways, ne_eqb, cases_eq, cond-true}
+use Rattle.std.proofs.lemmas.Bool.{ne_eqb, cases_eq, cond-true}
 use Rattle.std.proofs.Math.ListN.{length-map}
 use Rattle.std.proofs.Math.Nat.{mul-le-mul_right}
-use Rattle.std.proofs.lemmas.List.Sums.{count_by-le-length}
-use Rattle.std.proofs.lemmas.List.FromFn.{length-range_with_len}
-use Rattle.list_lemmas.proofs.Membership.{all_from}
-use Rattle.list_lemmas.proofs.Tests.{none_counted}
 use Rattle.tx_types.specs.Batch.{PageWrite, no_write}
 use Rattle.tx_types.specs.Config.{shape_of, blocks_of}
-use Rattle.tx_types.specs.declared.config.Protocol.TheVariants.{Scc, Bpcc}
 use Rattle.tx_types.specs.declared.record.Link.{Link}
-use Rattle.tx_types.specs.declared.record.Rec.{Rec}
 use Rattle.flash_model.specs.Flash.{Contents, counted, counted_by}
 use Rattle.flash_model.specs.Operations.{Load, fire, after}
-use Rattle.record_list.specs.Current.{must_go}
 use Rattle.record_list.specs.declared.found.Found.{Found}
 use Rattle.judged_records.specs.Images.{records_in}
 use Rattle.judged_records.specs.IndexState.{IsNoted}
@@ -26,9 +19,7 @@ use Rattle.judged_records.specs.Notes.{found_in}
 use Rattle.collector.specs.Settling.{settlement}
 use Rattle.collector.specs.declared.unsure.Unsure.{Unsure}
 use Rattle.collector.specs.declared.unsure.Unsure.TheVariants as unsure
-use Rattle.collector.specs.Going.{is_going}
 unfoldable use Rattle.collector.specs.Going.{blocks_to_go}
-use Rattle.collector.proofs.OfRoom.GoingCounts.{going_at}
 use Rattle.array_machine.specs.ArrayState.{Entry, entry_of, has_tag}
 use Rattle.array_machine.specs.Step.{StepGives, settled, settled_entry}
 use Rattle.array_machine.specs.declared.answers.Moved.{Moved}
@@ -38,16 +29,17 @@ use Rattle.array_machine.specs.declared.answers.StepError.TheVariants as failed
 use Rattle.open_table.specs.OpenTransactionsState.{Naming, TransactionState, name_at, no_name, write_at}
 use Rattle.tx_types.specs.declared.config.Slot.{Slot}
 use Rattle.tx_engine.specs.Batches.{MovesDevice, StepsFirst, chosen_of, loads_of}
-use Rattle.tx_engine.specs.Costs.{StepCosts}
+use Rattle.tx_engine.specs.Costs.{StepCosts, most_collected, most_to_go}
 use Rattle.tx_engine.specs.DeviceCalls.{StepsDevice}
 use Rattle.tx_engine.specs.DeviceState.{IsOpenAs, Stands}
 use Rattle.tx_engine.specs.Exits.{is_there}
 use Rattle.tx_engine.specs.Settling.{settlement_of, with_settlement}
+use Rattle.tx_engine.proofs.OfLaws.GoingBlocks.{few_to_go}
 use Rattle.host_protocol.specs.declared.command.Command.TheVariants as command
 use Rattle.host_protocol.specs.declared.reply.Reply.TheVariants as reply
 use Rattle.array_runs.specs.Run.{left_of, pages_left}
 use Rattle.cut_replay.specs.FlashRun.{is_still}
-use Rattle.cut_replay.specs.Costs.{CostsAtMost, CostsCommand, CostsPages, CostsStep, CostsTogether, blocks_going, most_collected, most_to_go, next_version}
+use Rattle.cut_replay.specs.Costs.{CostsAtMost, CostsCommand, CostsPages, CostsStep, CostsTogether, blocks_going, next_version}
 use Rattle.cut_replay.proofs.StepBlocks.{going_more, names_long, version_seen}
 use Rattle.cut_replay.proofs.CollectionCosts.{known_config}
 
@@ -100,40 +92,6 @@ pages_then its k j m a b c le first second =
     costs_more its (k + j) m (k * most_collected its + j * most_collected its) (m * most_collected its) a c le
     (sum_of k j m (most_collected its) (mul-le-mul_right (most_collected its) le))
     (costs_then its k j (k * most_collected its) (j * most_collected its) a b c first second)
-
--- ---- which blocks hold records that must go
-
-none_goes : (p : Protocol) → p ≡ Bpcc → (list : List Found) (logical page below : ℕ) (r : Rec) →
-    must_go p list logical page below r ≡ false
-none_goes Scc is list logical page below r = (let no : Scc ≡ Bpcc = is in absurd cc)
-none_goes Bpcc is list logical page below r = refl
-
-stays : (n : IndexState) (page below block : ℕ) → n.config.protocol ≡ Bpcc → is_going n page below block ≡ false
-stays n page below block is = elim (cases_Bool (is_going n page below block)) [
-  | inr off ↦ off
-  | inl going ↦ (
-      let at = going_at n page below block going in
-      absurd (both_ways (must_go n.config.protocol (found_in n.notes) n.config.logical page below at.0.rec)
-      (none_goes n.config.protocol is (found_in n.notes) n.config.logical page below at.0.rec) at.1.goes))
-]
-
-few_to_go : (n : IndexState) (page below : ℕ) →
-    blocks_to_go n page below ≤ most_to_go n.config.protocol (blocks_of (shape_of n.config))
-unfolding blocks_to_go
-few_to_go n page below = by n.config.protocol refl
-  where
-    by : (p : Protocol) → n.config.protocol ≡ p →
-        count_by (is_going n page below) (range_with_len 0 (blocks_of (shape_of n.config)))
-        ≤ most_to_go p (blocks_of (shape_of n.config))
-    by Scc is =
-        let most = count_by-le-length (is_going n page below) (range_with_len 0 (blocks_of (shape_of n.config))) in
-        let long = length-range_with_len 0 (blocks_of (shape_of n.config)) in
-        omega (arith, most, long)
-    by Bpcc is =
-        let none = none_counted (is_going n page below) (range_with_len 0 (blocks_of (shape_of n.config)))
-        (all_from (λ k. is_going n page below k ≡ false) (range_with_len 0 (blocks_of (shape_of n.config)))
-        (λ k i. stays n page below k is)) in
-        omega (arith, none)
 
 -- ---- a step
 
@@ -395,7 +353,11 @@ cut_costs its (command.Step tag) s old new h = h
 cut_costs its (command.Finish tag) s old new h = h
 cut_costs its (command.Abort tag) s old new h = h
 cut_costs its command.StepAll s old new h = h
-cut_costs its command.Collect s old new h = record { programs = h.programs; erases = h.erases }
+cut_costs its command.Collect s old new h = record {
+  programs = h.programs;
+  erases = h.erases;
+  nothing = λ is. (let no : reply.Cut ≡ reply.Nothing = is in absurd cc);
+}
 cut_costs its command.Stats s old new h = h
 cut_costs its command.Explain s old new h = h
 cut_costs its (command.Cut count what) s old new h = h

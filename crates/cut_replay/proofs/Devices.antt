@@ -9,7 +9,7 @@ use Rattle.tx_engine.proofs.OfDevice.Seen.{exits_seen}
 use Rattle.collector.specs.declared.unsure.Unsure.TheVariants as unsure
 use Rattle.array_runs.specs.Run.{is_opened, writes_in}
 use Rattle.cut_replay.specs.Costs.{CostsCommand, CostsStep}
-use Rattle.cut_replay.specs.FlashRun.{is_still, is_together}
+use Rattle.cut_replay.specs.FlashRun.{KnowsSpent, is_still, is_together}
 use Rattle.cut_replay.specs.Mounted.{CallsDevice, MayHaveCut}
 
 -- what is seen at least is not less after a command
@@ -69,9 +69,11 @@ pub call_serves : {F : Type 0} (state : F → FlashState) (protocol : Protocol) 
     CostsCommand old.config c old.machine r (moment_of (state old.flash)) (moment_of (state new.flash)) →
     (old.unsure ≡ unsure.Nothing →
     CostsStep old.config c old.machine (moment_of (state old.flash)) (moment_of (state new.flash))) →
-    CallsDevice state c old new r → ServesHere state c old new r
+    CallsDevice state c old new r →
+    KnowsSpent old.config (is_spent old.noted.mentions) c old.machine (moment_of (state old.flash)) →
+    ServesHere state c old new r
 call_serves state protocol c old new r broken was is tables ops carries breaks faults whole does still tells sure cut
-    costs direct device = record {
+    costs direct device knows = record {
       config = tables.config;
       does = does;
       costs = costs;
@@ -85,6 +87,7 @@ call_serves state protocol c old new r broken was is tables ops carries breaks f
       };
       carries = subst (λ (b : Bool). Carries (state old.flash) (state new.flash) b) (sym faults) carries;
       tells = tells;
+      knows = knows;
       sure = sure;
       seen = λ seen h. seen_later seen c r new (exits_seen state protocol old new seen was is tables h);
       versions = tables.versions;
@@ -108,7 +111,9 @@ pub exits_serve : {F : Type 0} (state : F → FlashState) (protocol : Protocol) 
     CostsCommand old.config c old.machine r (moment_of (state old.flash)) (moment_of (state new.flash)) →
     (old.unsure ≡ unsure.Nothing →
     CostsStep old.config c old.machine (moment_of (state old.flash)) (moment_of (state new.flash))) →
-    CallsDevice state c old new r → ServesHere state c old new r
+    CallsDevice state c old new r →
+    KnowsSpent old.config (is_spent old.noted.mentions) c old.machine (moment_of (state old.flash)) →
+    ServesHere state c old new r
 exits_serve state protocol c old new r broken was is exits =
     call_serves state protocol c old new r broken was is exits.tables
     (together_of (is_together c) (state old.flash).shape (moment_of (state old.flash)) (moment_of (state new.flash))

@@ -1,18 +1,28 @@
 -- A session whose flash was flushed.
-use Rattle.cut_replay.proofs.Common.{◌≡◌, ℕ, Bool, true, false, List, Ok, ap, sym, ◌∙◌, subst, Config, Protocol, checked, shape_of, FlashState, IsSoundImage, records_in, array_in, idle, CachedPage, DeviceState, Command, Reply, Point, RunState, first_point, HoldsAlways, point_at, IsCachedAs, flash_in, point_of, Fits, StandsAt, StandsMounted, DeviceSession}
+use Rattle.cut_replay.proofs.Common.{◌≡◌, ℕ, Bool, true, false, List, Result, Ok, Err, refl, ap, inl, inr, sym, ◌∙◌, subst, Config, Protocol, checked, shape_of, FlashState, IsSoundImage, records_in, array_in, idle, CachedPage, DeviceState, Command, Reply, ServeError, Point, RunState, first_point, HoldsAlways, point_at, IsCachedAs, StaysQuiet, EndsLost, EndsServing, IsSoundOrSame, flash_in, point_of, Fits, StandsAt, StandsMounted, DeviceSession}
+use Rattle.std.specs.Result.{is_err}
 use Rattle.std.proofs.lemmas.List.Elements.{All-weaker}
+use Rattle.flash_model.specs.declared.cached.NotDurable.{NotDurable}
 use Rattle.array_machine.specs.ArrayState.{Represents}
 use Rattle.array_machine.specs.Step.{CutLeaves, IsAtLast}
+use Rattle.judged_records.specs.Images.{IsLeastImageBreach}
 use Rattle.judged_records.specs.Notes.{found_in}
+use Rattle.tx_types.specs.declared.config.Slot.{Slot}
 use Rattle.mounted_session.specs.declared.session.Session.TheVariants as session
 use Rattle.tx_engine.specs.DeviceCalls.{FlushesDevice}
 use Rattle.tx_engine.specs.Exits.{MentionsAtMost}
 use Rattle.tx_engine.proofs.OfDevice.Seen.{seen_flash}
-use Rattle.cut_replay.specs.ServerCalls.{FlushesSession, FlushesServer}
+use Rattle.cut_replay.specs.ServerCalls.{FlushesSession, FlushesServer, ServesDurably, ServesNext}
 use Rattle.cut_replay.specs.ServerRuns.{IsServed}
 use Rattle.cut_replay.specs.ServerState.{ServerState}
-use Rattle.cut_replay.specs.Sessions.{FitsMounted, StandsUnmounted}
+use Rattle.cut_replay.specs.Sessions.{EndsFor, FitsMounted, Refuses, StandsUnmounted}
+use Rattle.cut_replay.specs.declared.server.NextError.TheVariants as unserved
+use Rattle.cut_replay.specs.declared.serving.ServeError.TheVariants as failed
 use Rattle.cut_replay.proofs.Arming.{fits_flash}
+
+pub is_done : (r : Result (Unit {0}) NotDurable) → is_err r ≡ false → r ≡ Ok tt
+is_done (Ok u) whole = refl
+is_done (Err e) whole = (let no : true ≡ false = whole in absurd cc)
 
 module _ {F : Type 0} (state : F → FlashState) where
   -- what holds always, of a device whose flash shows the same
@@ -113,3 +123,83 @@ module _ {F : Type 0} (state : F → FlashState) where
     shows = flushed_flash old.session new.session h;
     served = flushed_served its old.session new.session h;
   }
+
+  -- ---- a command that was served after it
+
+  module _ (flushes : F → F → Result (Unit {0}) NotDurable → Type 0) (its : Config) (c : Command)
+      (old first : ServerState F) (stays : FlushesServer state its old first) (kept : old.config ≡ its)
+      (flushed : Result (Unit {0}) NotDurable)
+      (durable : flushes (flash_in old.session) (flash_in first.session) flushed) where
+    same : first.config ≡ its
+    same = stays.config ∙ kept
+
+    pub serves_durably : (r : Reply) (new : ServerState F) → flushed ≡ Ok tt →
+        ServesNext state first.config c first (Ok r) new → ServesDurably state flushes its c old (Ok r) new
+    serves_durably r new done h =
+        let one = subst (λ (x : Config). ServesNext state x c first (Ok r) new) same h in record {
+          first = first;
+          flushed = flushed;
+          stays = stays;
+          durable = durable;
+          config = one.config ∙ stays.config;
+          next = (done, one);
+          served = λ init cs rs ps served. one.served init cs rs ps (stays.served init cs rs ps served);
+          ends = tt;
+        }
+
+    -- or serving ended
+    pub ends_durably : (why : ServeError) (new : ServerState F) → flushed ≡ Ok tt →
+        ServesNext state first.config c first (Err why) new →
+        ServesDurably state flushes its c old (Err (unserved.Ended why)) new
+    ends_durably why new done h =
+        let one = subst (λ (x : Config). ServesNext state x c first (Err why) new) same h in record {
+          first = first;
+          flushed = flushed;
+          stays = stays;
+          durable = durable;
+          config = one.config ∙ stays.config;
+          next = tt;
+          served = tt;
+          ends = (done, one);
+        }
+
+    -- or it failed
+    pub not_durable : is_err flushed ≡ true → ServesDurably state flushes its c old (Err unserved.NotDurable) first
+    not_durable fails = record {
+      first = first;
+      flushed = flushed;
+      stays = stays;
+      durable = durable;
+      config = stays.config;
+      next = tt;
+      served = tt;
+      ends = (fails, refl);
+    }
+
+  flushed_refuses : (its : Config) (old new : DeviceSession F) (flash : F) (law : ℕ) (slot : Slot) →
+      FlushesSession state old new → Refuses state its new flash law slot → Refuses state its old flash law slot
+  flushed_refuses its (session.Mounted s) (session.Mounted t) flash law slot h ends = ends
+  flushed_refuses its (session.Mounted s) (session.Unmounted f) flash law slot h ends = absurd h
+  flushed_refuses its (session.Unmounted e) (session.Mounted t) flash law slot h ends = absurd h
+  flushed_refuses its (session.Unmounted e) (session.Unmounted f) flash law slot h ends =
+      subst (λ (x : FlashState). StaysQuiet x (state flash)
+      × IsLeastImageBreach its.protocol its.logical (shape_of its) x.image (record { law = law; slot = slot })) h ends
+
+  flushed_for : (its : Config) (c : Command) (old new : DeviceSession F) (flash : F) (why : ServeError) →
+      FlushesSession state old new → EndsFor state its c new flash why → EndsFor state its c old flash why
+  flushed_for its c old new flash (failed.Unsound law slot) h ends = flushed_refuses its old new flash law slot h ends
+  flushed_for its c old new flash failed.Memory h (inl still) =
+      inl (subst (λ (x : FlashState). StaysQuiet x (state flash)) (flushed_flash old new h) still)
+  flushed_for its c old new flash failed.Memory h (inr lost) =
+      inr (subst (λ (p : Point). EndsLost its c p (state flash)) (flushed_point its old new h) lost)
+
+  -- serving that ended after a flush ended so before it
+  pub flushed_ends : (its : Config) (c : Command) (old new : DeviceSession F) (flash : F) (why : ServeError) →
+      FlushesSession state old new → EndsServing state its c new flash why → EndsServing state its c old flash why
+  flushed_ends its c old new flash why h ends =
+      let shows = flushed_flash old new h in record {
+        cause = flushed_for its c old new flash why h ends.cause;
+        shape = subst (λ (x : FlashState). (state flash).shape ≡ x.shape) shows ends.shape;
+        extras = subst (λ (x : FlashState). (state flash).extras ≡ x.extras) shows ends.extras;
+        kept = subst (λ (x : FlashState). IsSoundOrSame its x (state flash)) shows ends.kept;
+      }

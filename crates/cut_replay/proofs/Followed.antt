@@ -14,6 +14,7 @@ use Rattle.mounted_session.specs.declared.session.Session.TheVariants as session
 use Rattle.cut_replay.proofs.CommandCosts.{cut_costs}
 use Rattle.cut_replay.proofs.Losing.{Sessions, FitsAfter, ServesAfter, EndsAfter, CachesAfter, WasLost, served_no_arm, again_serves, again_ends, again_fits}
 use Rattle.cut_replay.proofs.Losing.{again_caches, no_arm_caches}
+use Rattle.cut_replay.proofs.Raising.{raised}
 use Rattle.cut_replay.proofs.Spending.{is_its_fault}
 
 -- a page is spent only where it may have been mentioned at the last version
@@ -41,9 +42,10 @@ break_is _ h = refl
 pub done_in : {F : Type 0} (state : F → FlashState) (protocol : Protocol) (c : Command) (s t : DeviceState F)
     (r : Reply) (seen : ℕ → ℕ) (faulted : Bool) →
     is_arm c ≡ false → (state t.flash).live ≡ true →
-    ServesHere state c s t r → HoldsAlways state protocol t → StandsMounted seen faulted s →
+    ServesHere state c s t r → HoldsAlways state protocol s → HoldsAlways state protocol t →
+    StandsMounted seen faulted s →
     ServesIn state s.config seen faulted c (session.Mounted s) r (session.Mounted t)
-done_in state protocol c s t r seen faulted no_arm on h always stands = record {
+done_in state protocol c s t r seen faulted no_arm on h was always stands = record {
   spent = is_spent s.noted.mentions;
   may = may_be_spent seen s stands.mentions;
   serves = served_no_arm s.config (is_spent s.noted.mentions) faulted c (point_at state s) r (point_at state t) no_arm
@@ -53,7 +55,10 @@ done_in state protocol c s t r seen faulted no_arm on h always stands = record {
         moves = h.moves;
         costs = h.costs;
         direct = λ whole. h.direct (stands.sure whole);
+        raises = λ whole. raised state protocol s t was always h.config (stands.sure whole) c r
+            (h.sure (stands.sure whole)) h.device;
         tells = h.tells faulted stands.sure;
+        knows = h.knows;
         first = state s.flash;
         mounts = refl;
         calls = subst (λ (b : Bool). Carries (state s.flash) (state t.flash) b) (sym (break_is r h.whole)) h.carries;
@@ -96,6 +101,7 @@ pub record WasDone {F : Type 0} (state : F → FlashState) (its : Config) (c : C
   pub on : (state s.flash).live ≡ true
   pub here : ServesHere state c s t r
   pub cached : IsCached t entries
+  pub was : HoldsAlways state its.protocol s
   pub always : HoldsAlways state its.protocol t
 
 pub after_check : {F : Type 0} (state : F → FlashState) (its : Config) (c : Command) (s t : DeviceState F) (r : Reply)
@@ -139,7 +145,7 @@ went_serves : {F : Type 0} (state : F → FlashState) (c : Command) (s t : Devic
     ServesSession state s.config c (session.Mounted s) r (session.Mounted t)
 went_serves state c s t r entries w on = record {
   in_run = λ seen faulted stands. done_in state s.config.protocol c s t r seen faulted w.no_arm on w.here
-      w.always stands;
+      w.was w.always stands;
   device = subst (λ b. MatchBool b (Unit {0}) (CallsDevice state c s t r)) (sym w.here.whole) w.here.device;
   kept = inl (w.sound, sound_here state c s t r entries w);
   unsound = λ unsound. absurd (unsound w.sound);
@@ -309,5 +315,6 @@ was_done state its protocol c s t r before entries rule fits no_arm here cached 
   on = fits.live;
   here = here;
   cached = cached;
+  was = fits.always;
   always = subst (λ (p : Protocol). HoldsAlways state p t) (sym rule) always;
 }

@@ -6,10 +6,12 @@ pub mod CommandCosts
 pub mod Devices
 pub mod Single
 pub mod Telling
+pub mod Unspent
 pub mod Caching
 pub mod Spending
 pub mod Mountings
 pub mod Losing
+pub mod Raising
 pub mod Followed
 pub mod Lifted
 pub mod Arming

@@ -1,16 +1,18 @@
 -- A command that mounts the device first.
-use Rattle.cut_replay.proofs.Common.{◌≡◌, ◌⊎◌, ℕ, ◌≤◌, Bool, true, false, not, [], Result, Ok, Err, refl, sym, ap, ◌∙◌, subst, inl, inr, arith, MatchBool, Config, Shape, checked, shape_of, FlashState, Rose, Moment, moment_of, mention, IsSoundImage, records_in, ArrayState, DeviceState, limits_of, Command, Reply, DoesCommand, MayLose, CutLeavesOf, is_arm, seen_after, Point, IsArmed, IsDone, IsLost, DoesFlash, ArmsFlash, ComesUp, MountsFlash, MovesBy, ServesFlash, Tells, first_point, first_state, is_cut, CountsBreak, point_at, MomentStays, PageCacheState, flash_in, point_of, StandsMounted, ServesIn, ServesSession, IsSoundOrSame, EndsServing, MountsIn, Mounted, Unmounted, CachesSession, Fits, Serves, ServeError, DeviceSession}
+use Rattle.cut_replay.proofs.Common.{◌≡◌, ◌⊎◌, ℕ, ◌≤◌, Bool, true, false, not, [], Result, Ok, Err, refl, sym, ap, ◌∙◌, subst, inl, inr, MatchBool, Config, Shape, checked, shape_of, FlashState, Rose, Moment, moment_of, mention, IsSoundImage, records_in, ArrayState, DeviceState, limits_of, Command, Reply, DoesCommand, MayLose, CutLeavesOf, is_arm, seen_after, Point, IsArmed, IsDone, IsLost, DoesFlash, ArmsFlash, ComesUp, MountsFlash, MovesBy, ServesFlash, Tells, first_point, first_state, is_cut, CountsBreak, point_at, MomentStays, PageCacheState, flash_in, point_of, StandsMounted, ServesIn, ServesSession, IsSoundOrSame, EndsServing, MountsIn, Mounted, Unmounted, CachesSession, Fits, Serves, ServeError, DeviceSession}
 use Rattle.host_protocol.specs.declared.reply.Reply.TheVariants as reply
 use Rattle.cut_replay.specs.Costs.{CostsCommand, CostsStep}
-use Rattle.cut_replay.specs.FlashRun.{HasErased}
+use Rattle.cut_replay.specs.FlashRun.{HasErased, KnowsSpent}
+use Rattle.cut_replay.specs.Rising.{RaisesCommand}
 use Rattle.mounted_session.specs.Sessions.{is_mounted}
 use Rattle.cut_replay.specs.Sessions.{MeetsOne, StandsUnmounted}
 use Rattle.cut_replay.specs.UnmountedRun.{FailsUnmounted}
-use Rattle.cut_replay.specs.Sessions.{EndsFor, CachesServed, CachesFrom}
+use Rattle.cut_replay.specs.Sessions.{EndsFor, CallsSession, CachesServed, CachesFrom}
 use Rattle.cut_replay.specs.declared.serving.ServeError.TheVariants as failed
 use Rattle.mounted_session.specs.declared.session.Session.TheVariants as session
 use Rattle.cut_replay.proofs.Mountings.{mounted_stands, mounted_point, mounted_flash}
-use Rattle.flash_model.proofs.CallLemmas.{no_more_then}
+use Rattle.mounted_session.specs.Devices.{mounts_quiet}
+use Rattle.mounted_session.proofs.Mounting.{quiet_twice}
 use Rattle.cut_replay.proofs.Losing.{served_no_arm}
 
 -- From another point with the same machine and the same moment
@@ -35,6 +37,12 @@ step_from : (its : Config) (c : Command) (s t : ArrayState) (a b new : Moment) �
 step_from its c s t a b new machine moment h =
     subst (λ (x : ArrayState). CostsStep its c x b new) (sym machine)
     (subst (λ (m : Moment). CostsStep its c s m new) (sym moment) h)
+
+raises_from : (its : Config) (c : Command) (r : Reply) (s t : ArrayState) (a b new : Moment) → t ≡ s → b ≡ a →
+    RaisesCommand its c s r a new → RaisesCommand its c t r b new
+raises_from its c r s t a b new machine moment h =
+    subst (λ (x : ArrayState). RaisesCommand its c x r b new) (sym machine)
+    (subst (λ (m : Moment). RaisesCommand its c s r m new) (sym moment) h)
 
 -- the device of the first point was mounted on the flash of the other one
 record IsMountedFrom (its : Config) (a b : Point) : Type 0 where
@@ -62,7 +70,11 @@ done_from its spent faulted c a b r new from h = record {
       (moment_of new.flash) from.machine (sym from.mounts.moment) h.costs;
   direct = λ whole. step_from its c a.state.machine b.state.machine (moment_of a.flash) (moment_of b.flash)
       (moment_of new.flash) from.machine (sym from.mounts.moment) (h.direct whole);
+  raises = λ whole. raises_from its c r a.state.machine b.state.machine (moment_of a.flash) (moment_of b.flash)
+      (moment_of new.flash) from.machine (sym from.mounts.moment) (h.raises whole);
   tells = tells_from its faulted a b r new (sym from.mounts.moment) h.tells;
+  knows = subst (λ (x : ArrayState). KnowsSpent its spent c x (moment_of b.flash)) (sym from.machine)
+      (subst (λ (m : Moment). KnowsSpent its spent c a.state.machine m) (sym (sym from.mounts.moment)) h.knows);
   first = h.first;
   mounts = comes_from its a b h.first from h.mounts;
   calls = h.calls;
@@ -145,6 +157,13 @@ sound_or_same_from its a b new same (inl sound) = inl (
 )
 sound_or_same_from its a b new same (inr is) = inr (is ∙ same)
 
+-- the call was one of the device that was mounted
+lifted_calls : {F : Type 0} (state : F → FlashState) (its : Config) (flash : F) (t : DeviceState F) (c : Command)
+    (r : Reply) (new : DeviceSession F) → MountsIn state its flash t →
+    CallsSession state its c (session.Mounted t) r new → CallsSession state its c (session.Unmounted flash) r new
+lifted_calls state its flash t c r (session.Mounted u) mounts h = (t, mounts, h)
+lifted_calls state its flash t c r (session.Unmounted new) mounts h = tt
+
 lifted_serves : {F : Type 0} (state : F → FlashState) (its : Config) (flash : F) (t : DeviceState F) (c : Command)
     (r : Reply) (new : DeviceSession F) →
     is_arm c ≡ false → MountsIn state its flash t →
@@ -152,7 +171,7 @@ lifted_serves : {F : Type 0} (state : F → FlashState) (its : Config) (flash : 
     ServesSession state its c (session.Unmounted flash) r new
 lifted_serves state its flash t c r new no_arm mounts h = record {
   in_run = lifted_run state its flash t c r new no_arm mounts h.in_run;
-  device = tt;
+  device = lifted_calls state its flash t c r new mounts h.device;
   kept = sound_or_same_from its (state flash) (state t.flash) (state (flash_in new)) mounts.still.moment h.kept;
   unsound = λ unsound. absurd (unsound (subst
       (λ (m : Moment). IsSoundImage its.protocol its.logical (shape_of its) m.image) mounts.still.moment
@@ -162,15 +181,6 @@ lifted_serves state its flash t c r new no_arm mounts h = record {
   extras = h.extras ∙ mounts.still.extras;
 }
 
-still_then : (a b d : FlashState) → MomentStays a b → MomentStays b d → MomentStays a d
-still_then a b d ab bd = record {
-  moment = bd.moment ∙ ab.moment;
-  shape = bd.shape ∙ ab.shape;
-  later = omega (arith, ab.later, bd.later);
-  told = no_more_then a.told b.told d.told ab.told bd.told;
-  extras = bd.extras ∙ ab.extras;
-}
-
 lifted_cause : {F : Type 0} (state : F → FlashState) (its : Config) (flash : F) (t : DeviceState F)
     (c : Command) (new : F) (why : ServeError) →
     is_arm c ≡ false → MountsIn state its flash t →
@@ -178,10 +188,7 @@ lifted_cause : {F : Type 0} (state : F → FlashState) (its : Config) (flash : F
     EndsFor state its c (session.Unmounted flash) new why
 lifted_cause state its flash t c new (failed.Unsound law slot) no_arm mounts h = absurd h
 lifted_cause state its flash t c new failed.Memory no_arm mounts (inl still) =
-    inl (record {
-      still = still_then (state flash) (state t.flash) (state new) mounts.still still.still;
-      quiet = still.quiet ∙ mounts.quiet;
-    })
+    inl (quiet_twice (state flash) (state t.flash) (state new) (mounts_quiet state its flash t mounts) still)
 lifted_cause {F = F} state its flash t c new failed.Memory no_arm mounts (inr h) =
     inr (record {
       reply = h.reply;

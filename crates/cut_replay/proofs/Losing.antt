@@ -135,11 +135,11 @@ lost_by state its c s flash r after w leaves =
     }
 
 -- nothing is said of its call then
-lost_calls : {F : Type 0} (state : F → FlashState) (c : Command) (s : DeviceState F) (r : Reply)
-    (after : DeviceSession F) → is_lost r ≡ true → CallsSession state c (session.Mounted s) r after
-lost_calls state c s r (session.Mounted t) lost =
+lost_calls : {F : Type 0} (state : F → FlashState) (its : Config) (c : Command) (s : DeviceState F) (r : Reply)
+    (after : DeviceSession F) → is_lost r ≡ true → CallsSession state its c (session.Mounted s) r after
+lost_calls state its c s r (session.Mounted t) lost =
     subst (λ b. MatchBool b (Unit {0}) (CallsDevice state c s t r)) (sym lost) tt
-lost_calls state c s r (session.Unmounted flash) lost = tt
+lost_calls state its c s r (session.Unmounted flash) lost = tt
 
 lost_serves : {F : Type 0} (state : F → FlashState) (its : Config) (c : Command) (s : DeviceState F) (flash : F)
     (r : Reply) (after : DeviceSession F) →
@@ -149,7 +149,7 @@ lost_serves state its c s flash r after w mounted =
     let by = lost_by state its c s flash r after w (mounted_leaves state its flash after mounted) in
     record {
       in_run = λ seen faulted stands. lost_in state its c s flash r after seen faulted w stands mounted;
-      device = lost_calls state c s r after w.lost;
+      device = lost_calls state its c s r after w.lost;
       kept = by.kept;
       unsound = λ unsound. absurd (unsound w.before);
       faults = lost_counts r (state s.flash).faults (state (flash_in after)).faults w.lost by.faults;

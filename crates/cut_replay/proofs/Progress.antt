@@ -378,17 +378,17 @@ unmounted_more state its init cs c r s t a b d unsound h serves text kept flashe
 
 -- and what serving comes to then
 pub unmounted_in : (its : Config) (init now final : FlashState) (list : List Command) (at : ℕ) (a b d : Watched)
-    (why : ServeError) →
+    (why : ServeError) → at < length list →
     (h : StaysUnmounted its (take at list) init now a b) → moment_of final ≡ moment_of init →
     d.text ≡ b.text → d.kept ≡ b.kept → d.flashes ≡ b.flashes → CountsTold h.replies init final (Err why) →
     EndsUnmounted its list at now final (Err why) →
     ServesUnsound its list init final a d (Err why)
-unmounted_in its init now final list at a b d why h same text kept flashes faults ends = record {
+unmounted_in its init now final list at a b d why lt h same text kept flashes faults ends = record {
   told = at;
   replies = h.replies;
   first = h.first;
   points = h.points;
-  begins = inl h.begins;
+  begins = inl (h.begins, lt);
   run = h.run;
   all = tt;
   ends = subst (λ (x : FlashState). EndsUnmounted its list at x final (Err why)) h.last ends;

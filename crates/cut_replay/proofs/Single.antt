@@ -11,7 +11,7 @@ use Rattle.collector.specs.declared.unsure.Unsure.TheVariants as unsure
 use Rattle.array_machine.specs.ArrayState.{Entry, entry_of}
 use Rattle.tx_engine.specs.Exits.{Exits, is_step_fault, is_abort_fault}
 use Rattle.array_machine.specs.Collect.{CollectsAs}
-use Rattle.tx_engine.specs.DeviceCalls.{CollectsDevice, StepsDevice}
+use Rattle.tx_engine.specs.DeviceCalls.{AbortsDevice, CollectsDevice, StepsDevice}
 use Rattle.tx_engine.specs.Collections.{CollectsTables, HasNothingToCollect}
 use Rattle.array_machine.specs.declared.answers.Collected.{Collected}
 use Rattle.array_machine.specs.declared.answers.Collected.TheVariants as collected
@@ -85,7 +85,7 @@ step_serves state protocol old new there tag result r was is steps exits sure un
     (result, (there, steps), refl) (λ still. cc) (λ faulted h. step_tells old.config faulted (point_at state old)
     (point_at state new) tag result)
     (step_sure old new tag result sure unknown)
-    (step_cuts state protocol old new there tag result is steps) costs direct (result, device, refl))
+    (step_cuts state protocol old new there tag result is steps) costs direct (result, device, refl) tt)
 
 -- An abort
 abort_breaks : (tag : ℕ) (result : Result Aborted StepError) →
@@ -146,8 +146,9 @@ pub abort_serves : {F : Type 0} (state : F → FlashState) (protocol : Protocol)
     Exits state old new (is_abort_fault result) →
     moment_of (state new.flash) ≡ moment_of (state old.flash) → OnOk result (new.unsure ≡ unsure.Nothing) →
     (result ≡ Err failed.Unknown → new ≡ old) →
-    r ≡ abort_reply tag result → ServesHere state (command.Abort tag) old new r
-abort_serves state protocol old new there tag result r was is aborts exits still sure unknown told =
+    AbortsDevice state old new tag result → r ≡ abort_reply tag result →
+    ServesHere state (command.Abort tag) old new r
+abort_serves state protocol old new there tag result r was is aborts exits still sure unknown device told =
     let breaks = abort_breaks tag result in
     subst (λ (q : Reply). ServesHere state (command.Abort tag) old new q) (sym told)
     (exits_serve state protocol (command.Abort tag) old new (abort_reply tag result) (is_abort_fault result) was is
@@ -155,7 +156,7 @@ abort_serves state protocol old new there tag result r was is aborts exits still
     (result, (there, aborts), refl) (λ h. still) (λ faulted h. abort_tells old.config faulted (point_at state old)
     (point_at state new) tag result)
     (abort_sure old new tag result sure unknown) (abort_cuts state protocol old new there tag result is aborts) tt
-    (λ sure. tt) tt)
+    (λ sure. tt) (result, device, refl) tt)
 
 -- A collection
 collect_breaks : (result : Result Collected Fault) → (is_break (collect_reply result) ≡ is_err result)
@@ -232,4 +233,4 @@ collect_serves state protocol old new there n t result r was is collects exits s
     (result, (there, collects), refl) (λ still. cc) (λ faulted h. collect_tells state old new n t faulted result
     was.shape tables nothing)
     (λ h. collect_sure new result sure) (collect_cuts state protocol old new there result is collects) costs
-    (λ sure. tt) (result, device, refl))
+    (λ sure. tt) (result, device, refl) tt)

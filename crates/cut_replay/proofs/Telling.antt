@@ -15,13 +15,13 @@ use Rattle.flash_model.proofs.MoveLemmas.{Moves-nothing, together_of}
 use Rattle.judged_records.specs.IndexState.{current_of, mention_of}
 use Rattle.collector.specs.declared.unsure.Unsure.TheVariants as unsure
 use Rattle.array_machine.specs.ArrayState.{Pages}
-use Rattle.array_machine.specs.Collect.{TellsStats}
+use Rattle.tx_engine.specs.DeviceCalls.{SubmitsDevice, TellsDevice}
 use Rattle.tx_engine.specs.Exits.{IsNamedAt}
-use Rattle.tx_engine.specs.Naming.{named_after, KeepsTables}
+use Rattle.tx_engine.specs.Naming.{named_after}
 use Rattle.open_table.specs.OpenTransactionsState.{next_name, Naming}
 use Rattle.tx_engine.specs.Read.{is_read_fault}
 use Rattle.array_machine.specs.Read.{ReadsPage}
-use Rattle.array_machine.specs.Submit.{Submits, is_of, opened, refusal}
+use Rattle.array_machine.specs.Submit.{is_of, opened, refusal}
 use Rattle.array_machine.specs.declared.answers.ReadAnswer.{ReadAnswer}
 use Rattle.array_machine.specs.declared.answers.ReadAnswer.TheVariants as read
 use Rattle.array_machine.specs.declared.answers.ReadError.{ReadError}
@@ -33,7 +33,7 @@ use Rattle.host_protocol.specs.declared.reply.Reply.TheVariants as reply
 use Rattle.array_runs.specs.Run.{read_reply, submit_reply}
 use Rattle.cut_replay.specs.Costs.{CostsCommand, CostsStep}
 use Rattle.cut_replay.specs.Mounted.{CallsDevice}
-use Rattle.cut_replay.specs.FlashRun.{is_together}
+use Rattle.cut_replay.specs.FlashRun.{KnowsSpent, is_together}
 use Rattle.cut_replay.proofs.Devices.{seen_at, seen_later}
 
 -- the moment stays
@@ -55,8 +55,10 @@ pub same_serves : {F : Type 0} (state : F → FlashState) (c : Command) (s : Dev
     Tells s.config faulted (point_at state s) r (point_at state s)) →
     CostsCommand s.config c s.machine r (moment_of (state s.flash)) (moment_of (state s.flash)) →
     CostsStep s.config c s.machine (moment_of (state s.flash)) (moment_of (state s.flash)) →
-    CallsDevice state c s s r → ServesHere state c s s r
-same_serves state c s r unbroken whole uncut does tells costs direct device = record {
+    CallsDevice state c s s r →
+    KnowsSpent s.config (is_spent s.noted.mentions) c s.machine (moment_of (state s.flash)) →
+    ServesHere state c s s r
+same_serves state c s r unbroken whole uncut does tells costs direct device knows = record {
   config = refl;
   does = does;
   costs = costs;
@@ -65,6 +67,7 @@ same_serves state c s r unbroken whole uncut does tells costs direct device = re
   carries = subst (λ (b : Bool). Carries (state s.flash) (state s.flash) b) (sym whole)
       (Carries-nothing (state s.flash));
   tells = tells;
+  knows = knows;
   sure = λ sure h. sure;
   seen = λ seen h. seen_later seen c r s h;
   versions = λ page lt. inr (refl, refl);
@@ -74,16 +77,14 @@ same_serves state c s r unbroken whole uncut does tells costs direct device = re
 }
 
 pub stats_serves : {F : Type 0} (state : F → FlashState) (s : DeviceState F) (told : Stats) →
-    TellsStats s.machine told →
-    told.programs ≡ (state s.flash).programs → told.erases ≡ (state s.flash).erases →
-    ServesHere state command.Stats s s (reply.Stats told)
-stats_serves state s told machine programs erases =
+    TellsDevice state s told → ServesHere state command.Stats s s (reply.Stats told)
+stats_serves state s told h =
     same_serves state command.Stats s (reply.Stats told) refl refl refl (
       told,
-      machine,
+      h.machine,
       refl,
       refl,
-    ) (λ faulted h. (programs, erases)) tt tt tt
+    ) (λ faulted sure. (h.programs, h.erases)) tt tt (told, h, refl, refl) tt
 
 -- A read
 read_breaks : (page : ℕ) (bytes : List ℕ) (result : Result ReadAnswer ReadError) →
@@ -128,6 +129,7 @@ flash_serves state protocol old flash page bytes result is reads still carries =
       does = (bytes, result, reads, refl, refl);
       costs = tt;
       direct = λ sure. tt;
+      knows = tt;
       moves = stays_moved old.config (command.Read page) (read_reply page bytes result) (state old.flash)
           (state flash) still;
       carries = subst (λ (b : Bool). Carries (state old.flash) (state flash) b) (sym breaks.1) carries;
@@ -144,7 +146,7 @@ flash_serves state protocol old flash page bytes result is reads still carries =
         may = read_may old.config.logical old.machine.pages page bytes result reads fault;
         leaves = is.same_cut;
       };
-      device = tt;
+      device = refl;
       whole = breaks.2;
     }
 
@@ -256,20 +258,20 @@ named_after_seen old new seen tag batch (Ok u) h names page version named =
 
 pub write_serves : {F : Type 0} (state : F → FlashState) (old new : DeviceState F) (tag : ℕ) (batch : Writes)
     (result : Result (Unit {0}) SubmitError)
-    (r : Reply) →
-    Submits (limits_of old.config) (is_spent old.noted.mentions) old.machine new.machine tag batch.entries result →
-    new.namings ≡ named_after old.noted batch.entries result old.namings →
-    KeepsTables old new → r ≡ submit_reply tag (length batch.entries) result →
-    ServesHere state (command.Write tag batch) old new r
-write_serves {F = F} state old new tag batch result r submits names keeps told =
+    (r : Reply) → SubmitsDevice old new tag batch.entries result → r ≡ submit_reply tag (length batch.entries) result →
+    KnowsSpent old.config (is_spent old.noted.mentions) (command.Write tag batch) old.machine
+    (moment_of (state old.flash)) → ServesHere state (command.Write tag batch) old new r
+write_serves {F = F} state old new tag batch result r device told knows =
+    let keeps = device.keeps in
     let reply = submit_reply tag (length batch.entries) result in
     let breaks = write_unbroken tag (length batch.entries) result in
     let flash : state new.flash ≡ state old.flash = ap state keeps.flash in
     subst (λ (q : Reply). ServesHere state (command.Write tag batch) old new q) (sym told) (record {
       config = keeps.config;
-      does = (result, submits, refl);
+      does = (result, device.submits, refl);
       costs = tt;
       direct = λ sure. tt;
+      knows = knows;
       moves = stays_moved old.config (command.Write tag batch) reply (state old.flash) (state new.flash)
           (ap moment_of flash);
       carries = subst (λ (b : Bool). Carries (state old.flash) (state new.flash) b) (sym breaks.1)
@@ -282,16 +284,16 @@ write_serves {F = F} state old new tag batch result r submits names keeps told =
         mentions = λ page. (let same : mention_of new.noted page
             ≡ mention_of old.noted page = ap (λ (n : IndexState). mention_of n page) keeps.noted in
             let least = seen_at seen (command.Write tag batch) reply page in let most = h.mentions page in omega arith);
-        names = named_after_seen old new seen tag batch result h names;
+        names = named_after_seen old new seen tag batch result h device.named;
       };
       versions = λ page lt. inr (
         ap (λ (n : IndexState). current_of n page) keeps.noted ∙ pins_current old.noted new.noted.pins page,
-        ap (λ (m : ArrayState). page_at m.pages page) submits.opens ∙ ap (λ (x : Pages). page_at x page)
+        ap (λ (m : ArrayState). page_at m.pages page) device.submits.opens ∙ ap (λ (x : Pages). page_at x page)
             (opened_pages (refusal (limits_of old.config) (is_spent old.noted.mentions) old.machine.entries tag
             batch.entries) tag batch.entries old.machine),
       );
       cut = λ fault. (let not = breaks.1 in cc);
-      device = tt;
+      device = (result, device, refl);
       whole = breaks.2;
     })
 

@@ -185,8 +185,8 @@ module _ (its : Config) (spent : ℕ → Bool) (faulted : Bool) (c : Command) (o
       carries.cause
 
   does_mount : DoesFlash its spent faulted c old r new →
-      MountsAfter old r new old.flash.faults new.flash.faults
-  does_mount (inl h) = inl (λ lost. inl (h.stays, h.mounts.moment))
+      MountsAfter its old r new old.flash.faults new.flash.faults
+  does_mount (inl h) = inl (λ lost. inl h)
   does_mount (inr (inl h)) = inl (λ lost. inr h.up)
   does_mount (inr (inr h)) = elim (cases_Bool new.state.up) [
     | inl up ↦ inl (λ lost. inr up)
@@ -197,8 +197,9 @@ module _ (its : Config) (spent : ℕ → Bool) (faulted : Bool) (c : Command) (o
   ]
 
   command_mounts : ServesFlash its spent faulted c old r new →
-      MountsAfter old r new old.flash.faults new.flash.faults
-  command_mounts = by_command its spent faulted c old r new (MountsAfter old r new old.flash.faults new.flash.faults)
+      MountsAfter its old r new old.flash.faults new.flash.faults
+  command_mounts = by_command its spent faulted c old r new
+      (MountsAfter its old r new old.flash.faults new.flash.faults)
       (λ h. inl (λ lost. let no : false ≡ true = sym (ap is_lost h.told) ∙ lost in absurd cc)) does_mount
 
   command_sets : ServesFlash its spent faulted c old r new → IfSome new.flash.told (IsSet c)
@@ -222,7 +223,7 @@ module _ (its : Config) (from : FlashState) (first : Point) where
     same : length rs ≡ length cs
     spends : SpendsTold cs rs from.told (last_point first ps).flash.told
     faults : CountsBreaks rs from (last_point first ps).flash
-    mounts : CountsMounts first rs ps from (last_point first ps).flash
+    mounts : CountsMounts its first rs ps from (last_point first ps).flash
 
   one_more : (spent : ℕ → Bool) (faulted : Bool) (c : Command) (r : Reply) (p : Point) (cs : List Command)
       (rs : List Reply) (ps : List Point) → IsPoint its (last_point first ps) →
@@ -239,8 +240,8 @@ module _ (its : Config) (from : FlashState) (first : Point) where
             (command_spends its spent faulted c old r p point serves));
         faults = subst (λ (x : Point). CountsBreaks (rs ++ r ∷ []) from x.flash) (sym last)
             (counts_more rs r from old.flash p.flash h.faults counts);
-        mounts = subst (λ (x : Point). CountsMounts first (rs ++ r ∷ []) (ps ++ p ∷ []) from x.flash) (sym last)
-            (mounts_more first rs ps r p from old.flash p.flash h.mounts counts
+        mounts = subst (λ (x : Point). CountsMounts its first (rs ++ r ∷ []) (ps ++ p ∷ []) from x.flash) (sym last)
+            (mounts_more its first rs ps r p from old.flash p.flash h.mounts counts
             (command_mounts its spent faulted c old r p point serves));
       }
 
@@ -355,7 +356,7 @@ module _ (its : Config) (cs : List Command) (told : ℕ) (old new : FlashState) 
           least = least_none old.faults first.flash.faults starts_with.later;
           quiet = λ unbroken all. starts_with.quiet unbroken;
         };
-        mounts = mounts_none first old first.flash starts_with.later;
+        mounts = mounts_none its first old first.flash starts_with.later;
       })
 
   pub run_last : moment_of new ≡ last_moment (moment_of old) serves.points
@@ -373,8 +374,8 @@ module _ (its : Config) (cs : List Command) (told : ℕ) (old new : FlashState) 
       (last_point (first_point its serves.run.up serves.run.flash) serves.points).flash new all_add_up.faults
       serves.left.quiet
 
-  pub run_mounts : CountsMounts (first_point its serves.run.up serves.run.flash) serves.replies serves.points old new
-  run_mounts = mounts_same (first_point its serves.run.up serves.run.flash) serves.replies serves.points old
+  pub run_mounts : CountsMounts its (first_point its serves.run.up serves.run.flash) serves.replies serves.points old new
+  run_mounts = mounts_same its (first_point its serves.run.up serves.run.flash) serves.replies serves.points old
       (last_point (first_point its serves.run.up serves.run.flash) serves.points).flash new all_add_up.mounts
       serves.left.quiet
 

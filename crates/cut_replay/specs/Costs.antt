@@ -2,8 +2,6 @@
 use Rattle.std.specs.Prelude.{◌≡◌, ℕ, ◌+◌, ◌-◌, ◌*◌, ◌/◌, ◌==◌, ◌&&◌, ◌≤◌, min, List, IfSome, count_by, if◌then◌else◌}
 use Rattle.std.specs.List.{list_any, range_with_len}
 use Rattle.tx_types.specs.declared.config.Config.{Config}
-use Rattle.tx_types.specs.declared.config.Protocol.{Protocol}
-use Rattle.tx_types.specs.declared.config.Protocol.TheVariants.{Scc, Bpcc}
 use Rattle.tx_types.specs.Config.{shape_of, blocks_of}
 use Rattle.flash_model.specs.Flash.{counted, counted_by}
 use Rattle.flash_model.specs.Operations.{Moment}
@@ -13,16 +11,12 @@ use Rattle.record_list.specs.declared.found.Found.{Found}
 use Rattle.judged_records.specs.Images.{records_in}
 use Rattle.array_machine.specs.ArrayState.{ArrayState, Entry, entry_of}
 use Rattle.open_table.specs.OpenTransactionsState.{write_at}
+use Rattle.tx_engine.specs.Costs.{most_collected}
 use Rattle.host_protocol.specs.declared.command.Command.{Command}
 use Rattle.host_protocol.specs.declared.command.Command.TheVariants as command
 use Rattle.host_protocol.specs.declared.reply.Reply.{Reply}
 use Rattle.host_protocol.specs.declared.reply.Reply.TheVariants as reply
 use Rattle.array_runs.specs.Run.{is_break, pages_left}
-
--- how many blocks may hold records that must go before a page is written: where records have back versions, none
-abbrev pub most_to_go : Protocol → ℕ → ℕ
-most_to_go Scc blocks = blocks
-most_to_go Bpcc blocks = 0
 
 -- how many blocks hold, of these records, one that must go before this version of a page is written
 abbrev pub blocks_going : Config → List Found → ℕ → ℕ → ℕ
@@ -31,10 +25,6 @@ blocks_going its list page below =
     (λ block. list_any
     (λ f. (f.slot.0 / its.pages_per_block == block) && must_go its.protocol list its.logical page below f.rec) list)
     (range_with_len 0 (blocks_of (shape_of its)))
-
--- how many blocks are collected for a page at most: each that may hold such a record, and one for room
-abbrev pub most_collected : Config → ℕ
-most_collected its = most_to_go its.protocol (blocks_of (shape_of its)) + 1
 
 -- The counts rose at most by a program for each of these pages, and by these collections, each of which copies fewer
 -- records than a block has slots, and erases two blocks at most.
@@ -46,10 +36,12 @@ pub record CostsAtMost (its : Config) (pages collections : ℕ) (old new : Momen
 abbrev pub CostsPages : Config → ℕ → Moment → Moment → Type 0
 CostsPages its pages old new = CostsAtMost its pages (pages * most_collected its) old new
 
--- one collection, which erases the block last: where it broke off that was not done
+-- One collection, which erases the block last: where it broke off that was not done. Where there was nothing to collect
+-- the spare may have been made blank.
 pub record CostsCollection (its : Config) (r : Reply) (old new : Moment) : Type 0 where
   pub programs : new.programs ≤ old.programs + (its.pages_per_block - 1)
   pub erases : new.erases ≤ old.erases + (if is_break r then 1 else 2)
+  pub nothing : r ≡ reply.Nothing → (new.programs ≤ old.programs) × (new.erases ≤ old.erases + 1)
 
 -- Where no more than one transaction went on it took a step. The programs of several were started as one, and nothing
 -- else was.

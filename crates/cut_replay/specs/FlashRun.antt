@@ -1,8 +1,10 @@
 -- A run on a flash: a run of the array machine in which each state has the whole flash, as it was when the reply was
 -- given.
 use Rattle.std.specs.Prelude.{◌≡◌, ◌⊎◌, ℕ, ◌<◌, ◌≤◌, ◌||◌, Bool, true, false, not, List, [], ◌∷◌, Any, MatchBool}
+use Rattle.std.specs.Prelude.{None, find}
 use Rattle.tx_types.specs.declared.config.Config.{Config}
 use Rattle.tx_types.specs.Config.{shape_of}
+use Rattle.tx_types.specs.Limits.{max_version}
 use Rattle.flash_model.specs.Calls.{Carries}
 use Rattle.flash_model.specs.Flash.{FlashState}
 use Rattle.flash_model.specs.Operations.{Operation, program, erase, fire, Moment, moment_of}
@@ -15,13 +17,15 @@ use Rattle.host_protocol.specs.declared.command.Command.{Command}
 use Rattle.host_protocol.specs.declared.command.Command.TheVariants as command
 use Rattle.host_protocol.specs.declared.reply.Reply.{Reply}
 use Rattle.host_protocol.specs.declared.reply.Reply.TheVariants as reply
-use Rattle.array_machine.specs.ArrayState.{idle, Represents}
+use Rattle.array_machine.specs.ArrayState.{ArrayState, idle, Represents}
+use Rattle.array_machine.specs.Submit.{is_owner}
 use Rattle.tx_engine.specs.Collections.{HasNothingToCollect}
 use Rattle.tx_engine.specs.DeviceState.{limits_of}
 use Rattle.array_runs.specs.Breaks.{is_cut, is_fault, is_lost}
 use Rattle.array_runs.specs.Run.{RunState, DoesCommand, NotDone, LosesOpen, MayBeSpent, is_arm, is_break, seen_after}
 use Rattle.cut_replay.specs.Costs.{CostsCommand, CostsStep}
 use Rattle.cut_replay.specs.FlashCalls.{ArmsFlash, ComesUp, MountsFlash}
+use Rattle.cut_replay.specs.Rising.{RaisesCommand}
 
 -- where a run stands: its state, and what the flash is
 pub record Point : Type 0 where
@@ -42,6 +46,13 @@ mentions_in its m page = mention (records_in its.protocol m.image) page
 -- The image mentions each page at these versions at most.
 abbrev pub MentionsUpTo : Config → (ℕ → ℕ) → Point → Type 0
 MentionsUpTo its seen p = (page : ℕ) → page < its.logical → mentions_in its (moment_of p.flash) page ≤ seen page
+
+-- Where a batch is asked for, each page of no open transaction that the image mentions at the last version is spent.
+abbrev pub KnowsSpent : Config → (ℕ → Bool) → Command → ArrayState → Moment → Type 0
+KnowsSpent its spent (command.Write tag batch) s m =
+    (page : ℕ) → page < its.logical → spent page ≡ false → find (is_owner page) s.entries ≡ None →
+    mentions_in its m page < max_version
+KnowsSpent its spent _ s m = Unit {0}
 
 -- a command that asks for no program and no erase
 abbrev pub is_still : Command → Bool
@@ -121,7 +132,8 @@ pub record IsNotDone (its : Config) (old : Point) (r : Reply) (new : Point) : Ty
   pub cut : is_cut r ≡ not new.flash.live
 
 -- The command was done, and power stayed on. Its calls met a fault exactly where the reply is `fault`, and nothing that
--- was open is lost. While no fault was met before it, the image tells how many blocks a step collects at most.
+-- was open is lost. While no fault was met before it, the image tells how many blocks a step collects at most, and
+-- each page of what is answered as done is at a later version.
 pub record IsDone (its : Config) (spent : ℕ → Bool) (faulted : Bool) (c : Command) (old : Point)
     (r : Reply) (new : Point) : Type 0 where
   pub does : DoesCommand (limits_of its) spent c old.state.machine r new.state.machine
@@ -129,7 +141,9 @@ pub record IsDone (its : Config) (spent : ℕ → Bool) (faulted : Bool) (c : Co
   pub moves : MovesBy its c r (moment_of old.flash) (moment_of new.flash)
   pub costs : CostsCommand its c old.state.machine r (moment_of old.flash) (moment_of new.flash)
   pub direct : faulted ≡ false → CostsStep its c old.state.machine (moment_of old.flash) (moment_of new.flash)
+  pub raises : faulted ≡ false → RaisesCommand its c old.state.machine r (moment_of old.flash) (moment_of new.flash)
   pub tells : Tells its faulted old r new
+  pub knows : KnowsSpent its spent c old.state.machine (moment_of old.flash)
   pub first : FlashState
   pub mounts : ComesUp its old.state.up old.flash first
   pub calls : Carries first new.flash (is_break r)
@@ -164,8 +178,8 @@ ServesFlash its spent faulted c old r new =
     MatchBool (is_arm c) (IsArmed c old r new) (DoesFlash its spent faulted c old r new)
 
 -- A run over a list of commands: one reply and one point for each. `seen` is at least the greatest
--- mention of each page on the flash, and rises by one for each write of the page that is opened: so no command mentions
--- a page once more that is not to be written. `faulted` says whether a fault was met before.
+-- mention of each page on the flash, and rises by one for each write of the page that is opened. `faulted` says whether
+-- a fault was met before.
 abbrev pub FlashRun : Config → (ℕ → ℕ) → Bool → Point → List Command → List Reply → List Point →
     Type 0
 FlashRun its seen faulted old [] [] [] = Unit {0}

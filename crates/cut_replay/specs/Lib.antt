@@ -1,5 +1,6 @@
 pub mod FlashCalls
 pub mod Costs
+pub mod Rising
 pub mod FlashRun
 pub mod Watching
 pub mod Bounds

@@ -1,12 +1,15 @@
 -- What a command does on a mounted device, before it is asked whether power was cut in it.
-use Rattle.std.specs.Prelude.{◌≡◌, ◌<◌, ◌≤◌, ℕ, ◌⊎◌, Bool, true, false, not, ◌&&◌, nat_lt, List, All, Result, Ok, Err}
+use Rattle.std.specs.Prelude.{◌≡◌, ◌<◌, ◌≤◌, ℕ, ◌⊎◌, Bool, true, false, not, ◌&&◌, nat_lt, List, [], ◌∷◌, length, All, Result, Ok, Err}
 use Rattle.std.specs.Prelude.{Some, is_some, MatchBool, if◌then◌else◌}
 use Rattle.tx_types.specs.declared.memory.Memory.{Memory}
+use Rattle.tx_types.specs.declared.stats.Stats.{Stats}
 use Rattle.flash_model.specs.Flash.{FlashState, counted}
 use Rattle.flash_model.specs.Calls.{Carries}
 use Rattle.flash_model.specs.Operations.{moment_of}
 use Rattle.judged_records.specs.Images.{array_in}
 use Rattle.judged_records.specs.IndexState.{current_of}
+use Rattle.judged_records.specs.Notes.{found_in}
+use Rattle.verdict_report.specs.Report.{report}
 use Rattle.collector.specs.declared.unsure.Unsure.TheVariants as unsure
 use Rattle.page_cache.specs.PageCacheState.{CachedPage, PageCacheState, cached_page, promoted, kept}
 use Rattle.tx_engine.specs.Always.{IsSeen}
@@ -16,21 +19,25 @@ use Rattle.tx_engine.specs.Naming.{is_spent}
 use Rattle.tx_engine.specs.Read.{ReadsFlash, read_place}
 use Rattle.tx_engine.specs.DeviceState.{DeviceState, limits_of}
 use Rattle.tx_engine.specs.Batches.{MovesDevice}
-use Rattle.tx_engine.specs.DeviceCalls.{CollectsDevice, StepsDevice}
+use Rattle.tx_engine.specs.DeviceCalls.{AbortsDevice, CollectsDevice, StepsDevice, SubmitsDevice, TellsDevice}
+use Rattle.array_machine.specs.declared.answers.Aborted.{Aborted}
 use Rattle.array_machine.specs.declared.answers.Collected.{Collected}
 use Rattle.array_machine.specs.declared.answers.Fault.{Fault}
 use Rattle.array_machine.specs.declared.answers.Moved.{Moved}
 use Rattle.array_machine.specs.declared.answers.Progress.{Progress}
+use Rattle.array_machine.specs.declared.answers.Progress.TheVariants as progress
 use Rattle.array_machine.specs.declared.answers.StepError.{StepError}
+use Rattle.array_machine.specs.declared.answers.SubmitError.{SubmitError}
 use Rattle.array_machine.specs.declared.answers.ReadAnswer.{ReadAnswer}
 use Rattle.array_machine.specs.declared.answers.ReadAnswer.TheVariants as answer
 use Rattle.array_machine.specs.declared.answers.ReadError.{ReadError}
 use Rattle.host_protocol.specs.declared.command.Command.{Command}
 use Rattle.host_protocol.specs.declared.command.Command.TheVariants as command
 use Rattle.host_protocol.specs.declared.reply.Reply.{Reply}
-use Rattle.array_runs.specs.Run.{DoesCommand, MayBeCut, CutLeavesOf, seen_after, step_reply, moved_reply, collect_reply}
+use Rattle.host_protocol.specs.declared.reply.Reply.TheVariants as reply
+use Rattle.array_runs.specs.Run.{DoesCommand, MayBeCut, CutLeavesOf, seen_after, submit_reply, step_reply, abort_reply, moved_reply, collect_reply}
 use Rattle.cut_replay.specs.Costs.{CostsCommand, CostsStep}
-use Rattle.cut_replay.specs.FlashRun.{Point, MovesBy, Tells}
+use Rattle.cut_replay.specs.FlashRun.{KnowsSpent, Point, MovesBy, Tells}
 use Rattle.array_runs.specs.Breaks.{is_fault, is_lost}
 
 -- several transactions go on at once
@@ -61,16 +68,45 @@ pub record MayHaveCut {F : Type 0} (state : F → FlashState) (c : Command)
   pub leaves : CutLeavesOf c old.machine
       (idle (array_in new.config.protocol new.config.logical (state new.flash).image))
 
--- A step, a `stepall` and a collection are one call of the device each: what that call says of it, and the reply of its
--- answer.
+-- Steps of one transaction on a device, through these devices, up to the first answer that is no `Wrote`.
+abbrev pub FinishesDevice : {F : Type 0} → (F → FlashState) → DeviceState F → List (DeviceState F) → DeviceState F → ℕ →
+    Result Progress StepError → Type 0
+FinishesDevice state old [] new tag (Ok (progress.Wrote done all)) = ⊥
+FinishesDevice state old [] new tag (Ok progress.Done) = StepsDevice state old new tag (Ok progress.Done)
+FinishesDevice state old [] new tag (Err e) = StepsDevice state old new tag (Err e)
+FinishesDevice state old (mid ∷ mids) new tag result =
+    (done : ℕ) × (all : ℕ) × StepsDevice state old mid tag (Ok (progress.Wrote done all))
+    × FinishesDevice state mid mids new tag result
+
+-- only the flash of a device changed
+abbrev pub ChangesFlash : {F : Type 0} → DeviceState F → DeviceState F → Type 0
+ChangesFlash old new = new ≡ record old { flash = new.flash }
+
+-- What the device's own call says of a command, and the reply of its answer. A `finish` is steps. A read, which the
+-- cache may answer, and an arm change the flash alone.
 abbrev pub CallsDevice : {F : Type 0} → (F → FlashState) → Command → DeviceState F → DeviceState F → Reply → Type 0
+CallsDevice state (command.Read page) old new r = ChangesFlash old new
+CallsDevice state (command.Write tag batch) old new r =
+    (answer : Result (Unit {0}) SubmitError) × SubmitsDevice old new tag batch.entries answer
+    × (r ≡ submit_reply tag (length batch.entries) answer)
 CallsDevice state (command.Step tag) old new r =
     (answer : Result Progress StepError) × StepsDevice state old new tag answer × (r ≡ step_reply tag answer)
+CallsDevice {F = F} state (command.Finish tag) old new r =
+    (mids : List (DeviceState F)) × (answer : Result Progress StepError)
+    × FinishesDevice state old mids new tag answer × (r ≡ step_reply tag answer)
+CallsDevice state (command.Abort tag) old new r =
+    (answer : Result Aborted StepError) × AbortsDevice state old new tag answer × (r ≡ abort_reply tag answer)
 CallsDevice state command.StepAll old new r =
     (answer : Moved) × MovesDevice state old new answer × (r ≡ moved_reply answer)
 CallsDevice state command.Collect old new r =
     (answer : Result Collected Fault) × CollectsDevice state old new answer × (r ≡ collect_reply answer)
-CallsDevice state _ old new r = Unit {0}
+CallsDevice state command.Stats old new r =
+    (told : Stats) × TellsDevice state old told × (r ≡ reply.Stats told) × (new ≡ old)
+CallsDevice state command.Explain old new r =
+    (r ≡ reply.Report (report old.config.protocol (found_in old.noted.notes) old.config.logical)) × (new ≡ old)
+CallsDevice state (command.Cut count what) old new r = ChangesFlash old new
+CallsDevice state (command.Fault count what) old new r = ChangesFlash old new
+CallsDevice state (command.BadRead count) old new r = ChangesFlash old new
 
 -- A command was done on a device, with this reply unless power was cut.
 pub record ServesHere {F : Type 0}
@@ -85,6 +121,7 @@ pub record ServesHere {F : Type 0}
   pub carries : Carries (state old.flash) (state new.flash) (is_fault r)
   pub tells : (faulted : Bool) → (faulted ≡ false → old.unsure ≡ unsure.Nothing) →
       Tells old.config faulted (point_at state old) r (point_at state new)
+  pub knows : KnowsSpent old.config (is_spent old.noted.mentions) c old.machine (moment_of (state old.flash))
   pub sure : old.unsure ≡ unsure.Nothing → is_fault r ≡ false → new.unsure ≡ unsure.Nothing
   pub seen : (seen : ℕ → ℕ) → IsSeen seen old → IsSeen (seen_after seen c r) new
   pub versions : VersionsTell old new

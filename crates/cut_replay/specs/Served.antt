@@ -1,7 +1,8 @@
 -- What serving a list of commands comes to.
-use Rattle.std.specs.Prelude.{◌≡◌, ◌⊎◌, ℕ, ◌+◌, ◌<◌, List, [], ◌∷◌, ◌++◌, length, take, map, Option, OnOk, Result, Ok, Err}
+use Rattle.std.specs.Prelude.{◌≡◌, ◌⊎◌, ℕ, ◌+◌, ◌<◌, false, List, [], ◌∷◌, ◌++◌, length, take, map, Option, OnOk, Result, Ok, Err}
 use Rattle.tx_types.specs.declared.config.Config.{Config}
 use Rattle.tx_types.specs.Config.{shape_of}
+use Rattle.flash_model.specs.Calls.{Carries}
 use Rattle.flash_model.specs.Flash.{FlashState}
 use Rattle.flash_model.specs.Operations.{moment_of}
 use Rattle.judged_records.specs.Images.{IsLeastImageBreach}
@@ -56,9 +57,11 @@ pub record EndsInMount (its : Config) (cs : List Command) (told : ℕ) (old new 
   pub serves : ServesRun its (take told cs) told old between before after
   pub lost : EndsLost its next (last_point (first_point its serves.run.up serves.run.flash) serves.points) new
 
--- there was no memory before the first command: nothing was told, nothing was started, and no fault was met
+-- there was no memory before the first command: nothing was told, and the flash was read at most, with the power that it
+-- had
 pub record EndsBefore (old new : FlashState) (before after : Watched) : Type 0 where
   pub still : StaysQuiet old new
+  pub calls : Carries old new false
   pub untold : after ≡ before
 
 -- what serving comes to where the image handed in was sound
@@ -90,7 +93,7 @@ pub record ServesUnsound
   pub replies : List Reply
   pub first : FlashState
   pub points : List FlashState
-  pub begins : StartsUnmounted its old first told result
+  pub begins : StartsUnmounted its cs old first told new result
   pub run : UnmountedRun its first (take told cs) replies points
   pub all : OnOk result (told ≡ length cs)
   pub ends : EndsUnmounted its cs told (last_flash first points) new result

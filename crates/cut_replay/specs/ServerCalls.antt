@@ -1,5 +1,6 @@
 -- What the calls of a server come to.
 use Rattle.std.specs.Prelude.{◌≡◌, true, false, List, [], IfOk, IfErr, OnErr, Result, Ok, Err}
+use Rattle.std.specs.Result.{is_err}
 use Rattle.tx_types.specs.declared.config.Config.{Config}
 use Rattle.flash_model.specs.declared.cached.NotDurable.{NotDurable}
 use Rattle.flash_model.specs.Flash.{FlashState, IsSteady}
@@ -15,6 +16,8 @@ use Rattle.cut_replay.specs.ServerRuns.{IsServed, RunsOn}
 use Rattle.cut_replay.specs.ServerState.{ServerState}
 use Rattle.cut_replay.specs.Sessions.{DeviceSession, flash_in, ServesSession, CachesSession, EndsServing, IsSoundFlash, IsSoundOrSame}
 use Rattle.cut_replay.specs.declared.serving.ServeError.{ServeError}
+use Rattle.cut_replay.specs.declared.server.NextError.{NextError}
+use Rattle.cut_replay.specs.declared.server.NextError.TheVariants as unserved
 
 -- A flash on which no command was served yet. A live flash was mounted, unless that met a fault; any other is as it
 -- was. On an image that is not sound nothing is mounted.
@@ -59,3 +62,25 @@ pub record FlushesServer {F : Type 0} (state : F → FlashState) (its : Config) 
   pub shows : state (flash_in new.session) ≡ state (flash_in old.session)
   pub served : (init : FlashState) → (cs : List Command) → (rs : List Reply) → (ps : List Point) →
       IsServed state its init cs rs ps old.session → IsServed state its init cs rs ps new.session
+
+-- Why the next command has no reply: what an earlier one left was not made durable, and nothing more was done; or it
+-- was, and then serving ended.
+abbrev pub EndsNext : {F : Type 0} → (F → FlashState) → Config → Command → ServerState F →
+    Result (Unit {0}) NotDurable → ServerState F → NextError → Type 0
+EndsNext state its c first flushed new unserved.NotDurable = (is_err flushed ≡ true) × (new ≡ first)
+EndsNext state its c first flushed new (unserved.Ended why) =
+    (flushed ≡ Ok tt) × ServesNext state its c first (Err why) new
+
+-- The flash was flushed, and this is what that did to what waited. Then the next command was served, on what the flush
+-- left. So each run goes on by it, and what waits then is of this command alone.
+pub record ServesDurably {F : Type 0} (state : F → FlashState)
+    (flushes : F → F → Result (Unit {0}) NotDurable → Type 0) (its : Config) (c : Command) (old : ServerState F)
+    (result : Result Reply NextError) (new : ServerState F) : Type 0 where
+  pub first : ServerState F
+  pub flushed : Result (Unit {0}) NotDurable
+  pub stays : FlushesServer state its old first
+  pub durable : flushes (flash_in old.session) (flash_in first.session) flushed
+  pub config : new.config ≡ old.config
+  pub next : IfOk result (λ r. (flushed ≡ Ok tt) × ServesNext state its c first (Ok r) new)
+  pub served : IfOk result (λ r. RunsOn state its c old.session r new.session)
+  pub ends : IfErr result (EndsNext state its c first flushed new)

@@ -104,13 +104,18 @@ abbrev pub IsSoundOrSame : Config → FlashState → FlashState → Type 0
 IsSoundOrSame its old new =
     (IsSoundFlash its old × IsSoundFlash its new) ⊎ (moment_of new ≡ moment_of old)
 
--- Where a device is mounted before and after, and nothing that was open was lost, the command did there what the
--- device's own call says.
-abbrev pub CallsSession : {F : Type 0} → (F → FlashState) → Command → DeviceSession F → Reply → DeviceSession F → Type 0
-CallsSession state c (session.Mounted s) r (session.Mounted t) =
-    MatchBool (is_lost r) (Unit {0}) (CallsDevice state c s t r)
-CallsSession state c (session.Mounted s) r (session.Unmounted flash) = Unit {0}
-CallsSession state c (session.Unmounted flash) r new = Unit {0}
+-- On a device that is mounted still, with nothing lost that was open, a command did what the device's own call says.
+abbrev pub CallsServed : {F : Type 0} → (F → FlashState) → Command → DeviceState F → Reply → DeviceSession F → Type 0
+CallsServed state c s r (session.Mounted t) = MatchBool (is_lost r) (Unit {0}) (CallsDevice state c s t r)
+CallsServed state c s r (session.Unmounted flash) = Unit {0}
+
+-- So it did on the device of the session, and where there was none on the device that it mounted first.
+abbrev pub CallsSession : {F : Type 0} → (F → FlashState) → Config → Command → DeviceSession F → Reply →
+    DeviceSession F → Type 0
+CallsSession state its c (session.Mounted s) r new = CallsServed state c s r new
+CallsSession {F = F} state its c (session.Unmounted flash) r (session.Mounted t) =
+    (s : DeviceState F) × MountsIn state its flash s × CallsServed state c s r (session.Mounted t)
+CallsSession state its c (session.Unmounted flash) r (session.Unmounted new) = Unit {0}
 
 -- What serving a command comes to, whatever the image is.
 pub record ServesSession {F : Type 0}
@@ -118,7 +123,7 @@ pub record ServesSession {F : Type 0}
     (c : Command) (old : DeviceSession F) (r : Reply) (new : DeviceSession F) : Type 0 where
   pub in_run : (seen : ℕ → ℕ) → (faulted : Bool) → StandsAt state its seen faulted old →
       ServesIn state its seen faulted c old r new
-  pub device : CallsSession state c old r new
+  pub device : CallsSession state its c old r new
   pub kept : IsSoundOrSame its (state (flash_in old)) (state (flash_in new))
   pub unsound : (IsSoundFlash its (state (flash_in old)) → ⊥) →
       ServesUnmounted its c (state (flash_in old)) r (state (flash_in new))

@@ -1,6 +1,7 @@
 -- A run on a flash whose image is not sound: no mount succeeds, and no command is done.
-use Rattle.std.specs.Prelude.{◌≡◌, ◌⊎◌, ℕ, ◌+◌, false, not, List, [], ◌∷◌, ◌++◌, take, MatchBool, Result, Ok, Err}
+use Rattle.std.specs.Prelude.{◌≡◌, ◌⊎◌, ℕ, ◌+◌, ◌<◌, false, not, List, [], ◌∷◌, ◌++◌, length, take, MatchBool, Result, Ok, Err}
 use Rattle.tx_types.specs.declared.config.Config.{Config}
+use Rattle.flash_model.specs.Calls.{Carries}
 use Rattle.flash_model.specs.Flash.{FlashState}
 use Rattle.mounted_session.specs.Mounting.{StaysQuiet}
 use Rattle.host_protocol.specs.declared.command.Command.{Command}
@@ -34,11 +35,15 @@ abbrev pub last_flash : FlashState → List FlashState → FlashState
 last_flash old [] = old
 last_flash old (s ∷ ss) = last_flash s ss
 
--- The flash with which it begins: with power it was mounted, which met a fault. Where serving ended before the first
--- command, it may be the flash that was handed in.
-abbrev pub StartsUnmounted : Config → FlashState → FlashState → ℕ → Result (Unit {0}) ServeError → Type 0
-StartsUnmounted its old first told (Ok u) = BeginsFlash its old false first
-StartsUnmounted its old first told (Err why) = BeginsFlash its old false first ⊎ ((told ≡ 0) × (first ≡ old))
+-- The flash with which it begins: with power it was mounted, which met a fault. Where serving ended early, it ended in
+-- the command after those that were told, or before the first one: then the flash that was handed in was read at most,
+-- with the power that it had.
+abbrev pub StartsUnmounted : Config → List Command → FlashState → FlashState → ℕ → FlashState →
+    Result (Unit {0}) ServeError → Type 0
+StartsUnmounted its cs old first told new (Ok u) = BeginsFlash its old false first
+StartsUnmounted its cs old first told new (Err why) =
+    (BeginsFlash its old false first × (told < length cs))
+    ⊎ ((told ≡ 0) × (first ≡ old) × StaysQuiet old new × Carries old new false)
 
 -- one command more was answered, and its reply could not be told
 pub record EndsUntold (its : Config) (cs : List Command) (told : ℕ) (old new : FlashState) : Type 0 where

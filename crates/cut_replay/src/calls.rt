@@ -20,6 +20,7 @@ pub fn write<F: Flash, R: CommitRule>(device: &mut Device<F, R>, tag: u32, batch
     ensures serves { ServesHere F.state (Command.Write tag batch.now) device.old device.new result }
     ensures always { HoldsAlways F.state R.protocol device.new }
 {
+    device.config();
     let answer = device.submit(tag, batch);
     device_facts(device);
     match answer {

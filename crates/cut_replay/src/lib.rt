@@ -17,7 +17,7 @@ mod unflushed;
 mod watch;
 
 pub use lines::Lines;
-pub use server::Server;
+pub use server::{NextError, Server};
 pub use serving::{ServeError, serve};
 pub use unflushed::Unflushed;
 pub use watch::Watch;

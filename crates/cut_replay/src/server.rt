@@ -1,9 +1,10 @@
-ghost use Rattle.std.specs.Prelude.{◌≡◌, Ok, [], length, IfOk, IfErr};
+ghost use Rattle.std.specs.Prelude.{◌≡◌, Ok, false, [], length, IfOk, IfErr};
 ghost use Rattle.tx_types.specs.Config.{checked};
+ghost use Rattle.flash_model.specs.Calls.{Carries};
 ghost use Rattle.host_protocol.specs.Commands.{Suits};
 ghost use Rattle.mounted_session.specs.Sessions.{is_mounted};
 ghost use Rattle.cut_replay.specs.Sessions.{flash_in, Unmounted};
-ghost use Rattle.cut_replay.specs.ServerCalls.{OpensServer, ServesNext, FlushesServer, flush_of};
+ghost use Rattle.cut_replay.specs.ServerCalls.{OpensServer, ServesNext, ServesDurably, FlushesServer, flush_of};
 
 use crate::flushing::flush;
 use crate::serving::serve_one;
@@ -17,6 +18,15 @@ use std::alloc::Global;
 use std::marker::Model;
 use tx_engine::Device;
 use tx_types::{Config, Memory};
+
+/// Why the next command has no reply.
+#[derive(Clone, Copy)]
+pub enum NextError {
+    /// What an earlier command left could not be made durable, and nothing was served: what keeps the flash has failed.
+    NotDurable,
+    /// Serving ended.
+    Ended(ServeError),
+}
 
 /// A flash on which commands are served one at a time. It is seen as its configuration, its session, and the pages that
 /// were read.
@@ -49,6 +59,7 @@ impl<F: Power, R: CommitRule> Server<F, R> {
         requires rule { config.protocol ≡ R.protocol }
         ensures opens { IfOk result (OpensServer F.state config flash) }
         ensures failed { IfErr result (λ e. Unmounted F.state config flash e.0 e.1) }
+        ensures calls { IfErr result (λ e. Carries (F.state flash) (F.state e.0) false) }
     {
         let Ok((cache, room)) = buffers(alloc, config.page_bytes) else {
             return Err((flash, ServeError::Memory));
@@ -126,16 +137,31 @@ impl<F: Power + Arms + Wide, R: CommitRule> Server<F, R> {
 }
 
 impl<F: Power + Arms + Wide + Cached, R: CommitRule> Server<F, R> {
-    /// Serves the next command. Its reply may be said once `flush` has opened it. After an error the flash is alone,
-    /// and nothing is to be served any more.
-    pub fn serve_next(&mut self, alloc: Global, command: &Command) -> Result<Unflushed, ServeError>
+    /// Serves the next command. What an earlier one left is made durable before that, so what waits afterwards is of
+    /// this command alone. Its reply may be said once `flush` has opened it. After an error nothing is to be served any
+    /// more; where serving ended the flash is alone.
+    pub fn serve_next(&mut self, alloc: Global, command: &Command) -> Result<Unflushed, NextError>
         requires { Suits self.old.config.page_bytes command.now }
-        ensures { ServesNext F.state self.old.config command.now self.old result self.new }
+        ensures { ServesDurably F.state F.flushes self.old.config command.now self.old result self.new }
     {
-        match self.answer_next(alloc, command) {
-            Ok(reply) => Ok(Unflushed { reply }),
-            Err(why) => Err(why),
+        let earlier = self.make_durable();
+        if earlier.is_err() {
+            return Err(NextError::NotDurable);
         }
+        let answered = self.answer_next(alloc, command);
+        match answered {
+            Ok(reply) => Ok(Unflushed { reply }),
+            Err(why) => Err(NextError::Ended(why)),
+        }
+    }
+
+    /// Makes durable all that was done. The run is as before, and the flash shows what it showed, also where this
+    /// fails.
+    fn make_durable(&mut self) -> Result<(), NotDurable>
+        ensures stays { FlushesServer F.state self.old.config self.old self.new }
+        ensures flushes { F.flushes (flash_in self.old.session) (flash_in self.new.session) result }
+    {
+        flush(&mut self.session)
     }
 
     /// Makes durable all that was done, and opens a reply: it may be said then. The run is as before, and the flash
@@ -146,7 +172,7 @@ impl<F: Power + Arms + Wide + Cached, R: CommitRule> Server<F, R> {
         ensures stays { FlushesServer F.state self.old.config self.old self.new }
         ensures flushes { F.flushes (flash_in self.old.session) (flash_in self.new.session) (flush_of result) }
     {
-        let flushed = flush(&mut self.session);
+        let flushed = self.make_durable();
         open_flushed(unflushed, flushed)
     }
 }

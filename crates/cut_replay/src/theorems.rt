@@ -108,7 +108,7 @@ pub fn runs_add_up()
         CountsBreaks serves.replies old new }
     ensures mounts { (its : Config) (cs : List Command) (told : ℕ) (old new : FlashState)
         (before after : Watched) → (serves : ServesRun its cs told old new before after) →
-        CountsMounts (first_point its serves.run.up serves.run.flash) serves.replies serves.points old new }
+        CountsMounts its (first_point its serves.run.up serves.run.flash) serves.replies serves.points old new }
     ensures up { (its : Config) (cs : List Command) (told : ℕ) (old new : FlashState) (before after : Watched) →
         (serves : ServesRun its cs told old new before after) → IsSteady old →
         serves.run.up ≡ true }

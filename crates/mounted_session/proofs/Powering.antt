@@ -1,5 +1,5 @@
 -- Mounting a flash on which power was turned on.
-use Rattle.std.proofs.Common.{◌≡◌, ◌+◌, ◌≤◌, Bool, true, false, List, sym, ap, ◌∙◌, subst}
+use Rattle.std.proofs.Common.{◌≡◌, ◌+◌, ◌≤◌, Bool, true, false, List, sym, ap, ◌∙◌, subst, inr}
 use Rattle.tx_types.specs.Config.{shape_of}
 use Rattle.tx_types.specs.declared.config.Config.{Config}
 use Rattle.tx_types.specs.declared.config.Protocol.{Protocol}
@@ -33,6 +33,7 @@ module _ (old on new : FlashState) (turned : TurnsOn old on) (moment : moment_of
   powered_quiet carries = record {
     still = powered_still false carries;
     quiet = carries.quiet ∙ ap (λ (s : FlashState). s.faults) turned;
+    reads = inr (subst (λ (s : FlashState). Carries s new false) turned carries);
   }
 
   powered_fault : Carries on new true → MeetsFault old new

@@ -1,4 +1,5 @@
 -- A device that was mounted on a flash, and why none was.
+use mathlib.Core.Logic.{inr}
 use Rattle.std.specs.Prelude.{◌≡◌, ◌+◌, ◌≤◌, true, false, []}
 use Rattle.tx_types.specs.Config.{shape_of}
 use Rattle.tx_types.specs.declared.config.Config.{Config}
@@ -13,7 +14,7 @@ use Rattle.tx_engine.specs.DeviceState.{DeviceState}
 use Rattle.tx_engine.specs.Opens.{mount_reads}
 use Rattle.tx_engine.specs.declared.device.MountError.{MountError}
 use Rattle.tx_engine.specs.declared.device.MountError.TheVariants as mount
-use Rattle.mounted_session.specs.Mounting.{MomentStays, powered}
+use Rattle.mounted_session.specs.Mounting.{MomentStays, StaysQuiet, powered}
 use Rattle.mounted_session.specs.declared.device.Refusal.{Refusal}
 use Rattle.mounted_session.specs.declared.device.Refusal.TheVariants as refusal
 use Rattle.mounted_session.specs.declared.mounted.NotMounted.{NotMounted}
@@ -34,6 +35,11 @@ pub record MountsIn {F : Type 0} (state : F → FlashState) (its : Config) (flas
   pub started : (state s.flash).started ≡ (state flash).started
   pub carries : Carries (powered (state flash)) (state s.flash) false
   pub always : HoldsAlways state its.protocol s
+
+-- so the flash was read at most
+abbrev pub mounts_quiet : {F : Type 0} (state : F → FlashState) (its : Config) (flash : F) (s : DeviceState F) →
+    MountsIn state its flash s → StaysQuiet (state flash) (state s.flash)
+mounts_quiet state its flash s h = record { still = h.still; quiet = h.quiet; reads = inr h.carries }
 
 -- why a flash is refused: by its image, or for want of memory
 abbrev pub IsWhy : Config → FlashState → Refusal → Type 0

@@ -1,5 +1,5 @@
 -- What mounting a flash leaves of it, and why it fails.
-use Rattle.std.specs.Prelude.{◌≡◌, ◌≤◌, true}
+use Rattle.std.specs.Prelude.{◌≡◌, ◌⊎◌, ◌≤◌, true, false}
 use Rattle.flash_model.specs.Calls.{BothTell, Carries, NoMoreToCome, Rose, Spends}
 use Rattle.flash_model.specs.Flash.{FlashState}
 use Rattle.flash_model.specs.Operations.{moment_of}
@@ -14,14 +14,16 @@ pub record MomentStays (old new : FlashState) : Type 0 where
   pub told : BothTell NoMoreToCome old.told new.told
   pub extras : new.extras ≡ old.extras
 
--- and no fault was counted
-pub record StaysQuiet (old new : FlashState) : Type 0 where
-  pub still : MomentStays old new
-  pub quiet : new.faults ≡ old.faults
-
 -- the flash with power on, and all else as it was
 abbrev pub powered : FlashState → FlashState
 powered s = record s { live = true }
+
+-- And no fault was counted: it was read at most, once power was on, by reads of which each counts for the arms; or it
+-- is as it was.
+pub record StaysQuiet (old new : FlashState) : Type 0 where
+  pub still : MomentStays old new
+  pub quiet : new.faults ≡ old.faults
+  pub reads : (new ≡ old) ⊎ Carries (powered old) new false
 
 -- or a read met a fault, once power was on
 pub record MeetsFault (old new : FlashState) : Type 0 where

@@ -1,6 +1,6 @@
 ghost use Rattle.std.specs.Prelude.{◌≡◌};
 ghost use Rattle.flash_model.specs.Arms.{TurnsOn};
-ghost use Rattle.mounted_session.specs.Devices.{MountsIn, IsWhy, ReadsFew, not_mounted};
+ghost use Rattle.mounted_session.specs.Devices.{MountsIn, IsWhy, ReadsFew, mounts_quiet, not_mounted};
 
 use crate::{Mounted, NotMounted};
 use flash_model::Power;
@@ -53,7 +53,7 @@ impl<F: Power, R: CommitRule> Mounted<F> for Device<F, R> {
         self.close()
     }
 
-    ghost stays = { λ its flash s h. record { still = h.still; quiet = h.quiet } };
+    ghost stays = { mounts_quiet F.state };
 }
 
 /// Turns power on where it is off.

@@ -1,5 +1,6 @@
-ghost use Rattle.std.specs.Prelude.{◌≡◌, Ok, true, IfOk, IfErr, OnOk};
+ghost use Rattle.std.specs.Prelude.{◌≡◌, Ok, true, false, IfOk, IfErr, OnOk};
 ghost use Rattle.tx_types.specs.Config.{checked};
+ghost use Rattle.flash_model.specs.Calls.{Carries};
 ghost use Rattle.mounted_session.specs.Mounting.{IsRefused};
 ghost use Rattle.mounted_session.specs.Sessions.{flash_in, is_mounted, IfAlone, Mounts, MountsFirst};
 ghost use Rattle.mounted_session.specs.declared.session.Session.TheVariants as sessions;
@@ -138,6 +139,9 @@ pub fn begin<F: Power, M: Mounted<F>>(
     ensures met { (F.state flash).live ≡ true →
         IfOk result (IfAlone (λ new. M.meets config (F.state flash) (F.state new))) }
     ensures failed { IfErr result (λ e. IsRefused (M.refuses config (F.state flash)) (F.state flash) (F.state e.0) e.1) }
+
+    // One without power is not refused.
+    ensures calls { IfErr result (λ e. Carries (F.state flash) (F.state e.0) false) }
 {
     if flash.live() {
         mount(alloc, flash, config)

@@ -1,7 +1,7 @@
 -- What serving a key script comes to.
 use Rattle.std.specs.Prelude.{◌≡◌, ◌⊎◌, ◌+◌, ◌<◌, ℕ, Bool, true, false, List, ◌++◌, length, take, IfSome, MatchBool, Result, Ok, Err}
 use Rattle.tx_types.specs.declared.config.Config.{Config}
-use Rattle.flash_model.specs.Calls.{BothTell, NoMoreToCome}
+use Rattle.flash_model.specs.Calls.{BothTell, Carries, NoMoreToCome}
 use Rattle.flash_model.specs.Flash.{FlashState, IsSteady}
 use Rattle.flash_model.specs.Operations.{moment_of}
 use Rattle.mounted_session.specs.Mounting.{StaysQuiet}
@@ -51,9 +51,10 @@ pub record ServesKeyRun (its : Config) (cs : List KeyCommand) (told : ℕ) (old 
   pub few : IfSome old.told (λ t. AreFewBreaks t.cuts t.breaks cs replies)
 
 -- No command was served: the store could not be opened, for want of memory or since the image is no image of keys. The
--- flash is as it was handed in, but for reads.
+-- flash is as it was handed in, but for reads, and has the power that it had.
 pub record ServesNone (old new : FlashState) (before after : List ℕ) : Type 0 where
   pub still : StaysQuiet old new
+  pub calls : Carries old new false
   pub text : after ≡ before
 
 -- What serving comes to where the image handed in is sound and its pages are buckets: the flash comes back as the run

@@ -79,8 +79,8 @@ PutGives state old new m cs (Err e) =
     (put_refusal old.device.config (is_spent old.device.noted.mentions) m cs ≡ Some e)
     × StaysPut state old new
 
--- How a put reads. Each page of its keys is read at most once before it writes, and none where its changes alone refuse
--- it: then the flash is this one. A put that is refused, or finds no memory, leaves it so.
+-- How a put reads. Before it writes it reads no more pages than its keys fall in, and none where its changes alone
+-- refuse it: then the flash is this one. A put that is refused, or finds no memory, leaves it so.
 pub record ReadsFirst {F : Type 0} (state : F → FlashState) (old new : KeyStoreState F) (cs : List Change)
     (result : Result (Unit {0}) PutError) : Type 0 where
   pub read : F

@@ -1,21 +1,10 @@
 -- How many programs and erases a put takes at most.
 use Rattle.std.specs.Prelude.{ℕ, ◌+◌, ◌-◌, ◌*◌, ◌≤◌, List, length}
-use Rattle.tx_types.specs.Config.{shape_of, blocks_of}
 use Rattle.tx_types.specs.declared.config.Config.{Config}
-use Rattle.tx_types.specs.declared.config.Protocol.{Protocol}
-use Rattle.tx_types.specs.declared.config.Protocol.TheVariants.{Scc, Bpcc}
 use Rattle.flash_model.specs.Operations.{Moment}
+use Rattle.tx_engine.specs.Costs.{most_collected}
 use Rattle.page_keys.specs.KeyMaps.{pages_of}
 use Rattle.page_keys.specs.declared.changes.Change.{Change}
-
--- how many blocks may hold records that must go before a page is written: where records have back versions, none
-abbrev pub most_to_go : Protocol → ℕ → ℕ
-most_to_go Scc blocks = blocks
-most_to_go Bpcc blocks = 0
-
--- how many blocks are collected for a page at most: each that may hold such a record, and one for room
-abbrev pub most_collected : Config → ℕ
-most_collected its = most_to_go its.protocol (blocks_of (shape_of its)) + 1
 
 -- The counts rose at most by a program for each of these pages, and by its collections, each of which copies fewer
 -- records than a block has slots, and erases two blocks at most.

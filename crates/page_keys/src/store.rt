@@ -57,8 +57,8 @@ impl<F: Flash, R: CommitRule> Model for KeyStore<F, R> {
 }
 
 impl<F: Flash, R: CommitRule> KeyStore<F, R> {
-    /// The store that a device shows on which nothing is open. Each page is read, in ascending order, up to the first
-    /// one that is no bucket. A device that is not taken comes back.
+    /// The store that a device shows on which nothing is open: each page is a bucket. A device that is not taken comes
+    /// back, with the least page that is none.
     pub fn over(
         alloc: Global,
         device: Device<F, R>,

@@ -1,5 +1,5 @@
 -- The session that serving a key script begins with.
-use Rattle.page_keys.proofs.Common.{◌≡◌, ◌≤◌, ℕ, true, false, List, Result, Ok, Err, refl, sym, ap, ◌∙◌, subst, inl, arith, OnOk, Config, Shape, checked, shape_of, FlashState, Moment, moment_of, ArrayState, Pages, IsSoundImage, array_in, AreBuckets, EncodesMap, KeyMap, mentions_in, BeginsKeys, Ends, IsKeyImage, KeyCommand, KeyServeError, KeySession}
+use Rattle.page_keys.proofs.Common.{◌≡◌, ◌≤◌, ℕ, true, false, List, Result, Ok, Err, refl, sym, ap, ◌∙◌, subst, inl, arith, OnOk, Config, Shape, checked, shape_of, FlashState, Carries, Moment, moment_of, ArrayState, Pages, IsSoundImage, array_in, AreBuckets, EncodesMap, KeyMap, mentions_in, BeginsKeys, Ends, IsKeyImage, KeyCommand, KeyServeError, KeySession}
 use Rattle.std.specs.Prelude.{◌<◌, MatchBool}
 use Rattle.flash_model.specs.Flash.{IsSteady}
 use Rattle.page_keys.specs.KeyRuns.{OpensFlash}
@@ -152,10 +152,12 @@ module _ {F : Type 0} (state : F → FlashState) (its : Config) (flash : F) wher
 
 -- nothing was served, for want of memory
 pub begin_ended : (its : Config) (list : List KeyCommand) (old new : FlashState) (why : KeyServeError)
-    (out : List ℕ) → IsKeyImage its old → Ends its old new why → ServesScript its list old new out out (Err why)
-begin_ended its list old new why out image ends =
+    (out : List ℕ) → IsKeyImage its old → Ends its old new why → Carries old new false →
+    ServesScript its list old new out out (Err why)
+begin_ended its list old new why out image ends calls =
     subst (λ (w : KeyServeError). ServesScript its list old new out out (Err w))
-    (sym (never_for its old why image ends.cause)) (inl (record { still = ends.still; text = refl }))
+    (sym (never_for its old why image ends.cause))
+    (inl (record { still = ends.still; calls = calls; text = refl }))
 
 pub on_each : {A E : Type 0} (P : Type 0) (r : Result A E) → P → OnOk r P
 on_each P (Ok a) h = h

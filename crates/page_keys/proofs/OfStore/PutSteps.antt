@@ -1,36 +1,25 @@
 -- What the steps of a put cost.
-use Rattle.page_keys.proofs.Common.{◌≡◌, ℕ, ◌+◌, ◌-◌, ◌≤◌, Bool, true, false, List, [], ◌∷◌, Option, Some, option_map, refl, ap, subst, ◌∙◌, inl, inr, arith, count_by, range_with_len, find, if◌then◌else◌, IfSome, PageWrite, Config, Protocol, shape_of, FlashState, Moment, moment_of, IndexState, HoldsAlways, ArrayState, DeviceState, writing}
+use Rattle.page_keys.proofs.Common.{◌≡◌, ℕ, ◌+◌, ◌-◌, ◌≤◌, Bool, true, false, List, [], ◌∷◌, Option, Some, option_map, refl, ap, subst, ◌∙◌, arith, find, if◌then◌else◌, IfSome, PageWrite, Config, Protocol, shape_of, FlashState, Moment, moment_of, IndexState, HoldsAlways, ArrayState, DeviceState, writing}
 use Rattle.std.proofs.Common.{◌*◌}
 use Rattle.std.specs.List.{zip}
 use Rattle.std.proofs.Math.Nat.{mul-le-mul_right}
-use Rattle.std.proofs.lemmas.Bool.{both_ways, cases_Bool}
-use Rattle.std.proofs.lemmas.List.FromFn.{length-range_with_len}
-use Rattle.std.proofs.lemmas.List.Sums.{count_by-le-length}
-use Rattle.list_lemmas.proofs.Membership.{all_from}
-use Rattle.list_lemmas.proofs.Tests.{none_counted}
 use Rattle.tx_types.specs.Config.{blocks_of}
 use Rattle.flash_model.specs.Flash.{Contents, blank, damaged, complete, slot_at}
-use Rattle.tx_types.specs.declared.config.Protocol.TheVariants.{Scc, Bpcc}
 use Rattle.tx_types.specs.declared.record.Link.{Link}
-use Rattle.tx_types.specs.declared.record.Rec.{Rec}
-use Rattle.record_list.specs.Current.{must_go}
-use Rattle.record_list.specs.declared.found.Found.{Found}
 use Rattle.judged_records.specs.IndexState.{erased, lost, programmed}
-use Rattle.judged_records.specs.Notes.{found_in}
 use Rattle.collector.specs.Collecting.{is_blank_block}
 use Rattle.collector.specs.Settling.{Settlement, block_reads_as_noted, block_settled, copy_settled, own_settled, settlement, unchanged, victim_settled}
 use Rattle.collector.specs.declared.unsure.Settled.TheVariants as settled
 use Rattle.collector.specs.declared.unsure.Unsure.{Unsure}
 use Rattle.collector.specs.declared.unsure.Unsure.TheVariants as unsure
-use Rattle.collector.specs.Going.{is_going}
 unfoldable use Rattle.collector.specs.Going.{blocks_to_go}
-use Rattle.collector.proofs.OfRoom.GoingCounts.{going_at}
 use Rattle.array_machine.specs.ArrayState.{Entry, has_tag}
 use Rattle.open_table.specs.OpenTransactionsState.{Naming, name_at}
-use Rattle.tx_engine.specs.Costs.{CostsStep, StepCosts}
+use Rattle.tx_engine.specs.Costs.{CostsStep, StepCosts, most_to_go}
 use Rattle.tx_engine.specs.Settling.{settlement_of, with_settlement}
 use Rattle.tx_engine.specs.Writing.{next_of, open_of}
-use Rattle.page_keys.specs.PutCosts.{CostsPages, most_to_go}
+use Rattle.tx_engine.proofs.OfLaws.GoingBlocks.{few_to_go}
+use Rattle.page_keys.specs.PutCosts.{CostsPages}
 use Rattle.page_keys.proofs.OfStore.Turns.{Turning, entry_at}
 
 -- ---- the configuration stays where the place was read whose contents were not known
@@ -70,40 +59,6 @@ module _ {F : Type 0} (s : DeviceState F) where
       either_config (block_reads_as_noted s.noted image block.0) s.noted (unchanged s.noted s.table)
       (victim_settled s.noted s.table image block.0) refl
       (block_config s.noted block.0 (is_blank_block s.noted image block.0))
-
--- ---- which blocks hold records that must go
-
-none_goes : (p : Protocol) → p ≡ Bpcc → (list : List Found) (logical page below : ℕ) (r : Rec) →
-    must_go p list logical page below r ≡ false
-none_goes Scc is list logical page below r = (let no : Scc ≡ Bpcc = is in absurd cc)
-none_goes Bpcc is list logical page below r = refl
-
-stays : (n : IndexState) (page below block : ℕ) → n.config.protocol ≡ Bpcc → is_going n page below block ≡ false
-stays n page below block is = elim (cases_Bool (is_going n page below block)) [
-  | inr off ↦ off
-  | inl going ↦ (
-      let at = going_at n page below block going in
-      absurd (both_ways (must_go n.config.protocol (found_in n.notes) n.config.logical page below at.0.rec)
-      (none_goes n.config.protocol is (found_in n.notes) n.config.logical page below at.0.rec) at.1.goes))
-]
-
-few_to_go : (n : IndexState) (page below : ℕ) →
-    blocks_to_go n page below ≤ most_to_go n.config.protocol (blocks_of (shape_of n.config))
-unfolding blocks_to_go
-few_to_go n page below = by n.config.protocol refl
-  where
-    by : (p : Protocol) → n.config.protocol ≡ p →
-        count_by (is_going n page below) (range_with_len 0 (blocks_of (shape_of n.config)))
-        ≤ most_to_go p (blocks_of (shape_of n.config))
-    by Scc is =
-        let most = count_by-le-length (is_going n page below) (range_with_len 0 (blocks_of (shape_of n.config))) in
-        let long = length-range_with_len 0 (blocks_of (shape_of n.config)) in
-        omega (arith, most, long)
-    by Bpcc is =
-        let none = none_counted (is_going n page below) (range_with_len 0 (blocks_of (shape_of n.config)))
-        (all_from (λ k. is_going n page below k ≡ false) (range_with_len 0 (blocks_of (shape_of n.config)))
-        (λ k i. stays n page below k is)) in
-        omega (arith, none)
 
 -- ---- costs of pages
 

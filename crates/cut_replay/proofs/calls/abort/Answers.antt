@@ -8,4 +8,4 @@ returns-clause-serves g c =
     c.requires c.device_facts.ensures.always
     c.abort-answer.ensures.aborts c.abort-answer.ensures.exits c.abort-answer.ensures.moment c.abort-answer.ensures.sure
     c.abort-answer.ensures.unknown
-    c.abort_reply.ensures
+    c.abort-answer.ensures c.abort_reply.ensures

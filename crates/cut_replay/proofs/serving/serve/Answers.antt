@@ -70,7 +70,7 @@ pub returns-in-Err-clause-serves : goal.returns-in-Err-clause-serves
 returns-in-Err-clause-serves g c = λ sound.
     begin_ended g.F.Flash.state c.args.config c.args.list.now c.args.flash c.in-Err.flash c.in-Err.why
     (record { text = g.W.Watch.text c.args.out.now; kept = g.W.Watch.kept c.args.out.now; flashes = g.W.Watch.flashes c.args.out.now }) sound
-    c.in-Err.ensures.failed
+    c.in-Err.ensures.failed c.in-Err.ensures.calls
 
 pub returns-in-Err-clause-refuses : goal.returns-in-Err-clause-refuses
 returns-in-Err-clause-refuses g c =
@@ -81,6 +81,7 @@ pub returns-in-Err-clause-unsound : goal.returns-in-Err-clause-unsound
 returns-in-Err-clause-unsound g c = λ unsound.
     begin_unsound g.F.Flash.state c.args.config c.args.list.now c.args.flash c.in-Err.flash c.in-Err.why
     (record { text = g.W.Watch.text c.args.out.now; kept = g.W.Watch.kept c.args.out.now; flashes = g.W.Watch.flashes c.args.out.now }) c.in-Err.ensures.failed
+    c.in-Err.ensures.calls
 
 pub returns-in-Err-clause-shape : goal.returns-in-Err-clause-shape
 returns-in-Err-clause-shape g c =

@@ -106,7 +106,8 @@ returns-then-is_err-clause-unsound g c = λ init unsound begins same counted.
     c.loop-command.command-index
     (record { text = g.W.Watch.text c.args.out.now; kept = g.W.Watch.kept c.args.out.now; flashes = g.W.Watch.flashes c.args.out.now })
     (record { text = g.W.Watch.text c.loop-command.out; kept = g.W.Watch.kept c.loop-command.out; flashes = g.W.Watch.flashes c.loop-command.out })
-    (record { text = g.W.Watch.text c.tell.new.self; kept = g.W.Watch.kept c.tell.new.self; flashes = g.W.Watch.flashes c.tell.new.self }) failed.Memory stays
+    (record { text = g.W.Watch.text c.tell.new.self; kept = g.W.Watch.kept c.tell.new.self; flashes = g.W.Watch.flashes c.tell.new.self }) failed.Memory
+    c.loop-command-test.true stays
     (moment_stays its init (state (flash_in s)) (state (flash_in t)) unsound stays.still next.serves.kept)
     none.0 none.1 none.2 tt
     (unmounted_untold state its c.args.list.now c.loop-command.command-index c.command-item.result
@@ -155,7 +156,7 @@ returns-in-Err-clause-unsound g c = λ init unsound begins same counted.
     let between : Watched = record { text = g.W.Watch.text c.loop-command.out; kept = g.W.Watch.kept c.loop-command.out; flashes = g.W.Watch.flashes c.loop-command.out } in
     unmounted_in its init (state (flash_in s)) (state flash) c.args.list.now c.loop-command.command-index
     (record { text = g.W.Watch.text c.args.out.now; kept = g.W.Watch.kept c.args.out.now; flashes = g.W.Watch.flashes c.args.out.now }) between between
-    c.in-Err.why stays
+    c.in-Err.why c.loop-command-test.true stays
     (moment_stays its init (state (flash_in s)) (state flash) unsound stays.still next.ends.kept)
     refl refl refl
     (ended_counts state its init stays.replies c.command-item.result s flash c.in-Err.why stays.faults next.ends)

@@ -52,6 +52,7 @@ pub returns-in-Err-clause-serves : goal.returns-in-Err-clause-serves
 returns-in-Err-clause-serves g c = λ image.
     begin_ended c.args.config c.args.list.now (g.F.Flash.state c.args.flash)
     (g.F.Flash.state c.in-Err.flash) c.in-Err.why c.args.out.now.items image c.in-Err.ensures.failed
+    c.in-Err.ensures.calls
 
 pub returns-in-Err-clause-keeps : goal.returns-in-Err-clause-keeps
 returns-in-Err-clause-keeps g c = λ image.
@@ -62,7 +63,8 @@ pub returns-in-Err-clause-unopened : goal.returns-in-Err-clause-unopened
 returns-in-Err-clause-unopened g c = λ not. c.in-Err.ensures.failed.still.still.moment
 
 pub returns-in-Err-clause-unserved : goal.returns-in-Err-clause-unserved
-returns-in-Err-clause-unserved g c = λ not. inl (record { still = c.in-Err.ensures.failed.still; text = refl })
+returns-in-Err-clause-unserved g c = λ not.
+    inl (record { still = c.in-Err.ensures.failed.still; calls = c.in-Err.ensures.calls; text = refl })
 
 pub returns-in-Err-clause-refuses : goal.returns-in-Err-clause-refuses
 returns-in-Err-clause-refuses g c = λ not. c.in-Err.ensures.failed.cause

@@ -1,5 +1,5 @@
 -- Steps of a device, one after another, up to the end of a transaction.
-use Rattle.cut_replay.proofs.Common.{◌≡◌, ℕ, ◌<◌, Bool, [], ◌∷◌, Result, refl, sym, ◌∙◌, subst, inl, inr, arith, Config, shape_of, FlashState, moment_of, array_in, DeviceState, Reply, Point, Tells, is_fault, point_at, ServesHere}
+use Rattle.cut_replay.proofs.Common.{◌≡◌, ℕ, ◌<◌, Bool, [], ◌∷◌, Result, Ok, Err, refl, sym, ◌∙◌, subst, inl, inr, arith, Config, shape_of, FlashState, moment_of, array_in, DeviceState, Reply, Point, Tells, is_fault, point_at, ServesHere}
 use Rattle.std.proofs.Common.{◌≢◌}
 use Rattle.flash_model.specs.Moves.{Moves}
 use Rattle.flash_model.proofs.CallLemmas.{Carries-then}
@@ -8,6 +8,7 @@ use Rattle.array_machine.specs.ArrayState.{idle}
 use Rattle.tx_engine.specs.Exits.{VersionsTell}
 use Rattle.array_machine.specs.Step.{Steps}
 use Rattle.array_machine.specs.declared.answers.Progress.{Progress}
+use Rattle.array_machine.specs.declared.answers.Progress.TheVariants as progress
 use Rattle.array_machine.specs.declared.answers.StepError.{StepError}
 use Rattle.array_machine.proofs.UnbrokenCalls.{again}
 use Rattle.host_protocol.specs.declared.command.Command.TheVariants as command
@@ -15,9 +16,19 @@ use Rattle.host_protocol.specs.declared.reply.Reply.TheVariants as reply
 use Rattle.std.specs.Prelude.{min}
 use Rattle.array_runs.specs.Run.{pages_left, step_reply, is_break}
 use Rattle.cut_replay.specs.Costs.{CostsPages}
+use Rattle.cut_replay.specs.Mounted.{FinishesDevice}
+use Rattle.tx_engine.specs.DeviceCalls.{StepsDevice}
 use Rattle.cut_replay.proofs.CommandCosts.{pages_more, pages_then}
 use Rattle.cut_replay.proofs.Single.{step_tells}
 use Rattle.array_runs.proofs.Finishes.{told_wrote, step_writes, fewer_left, cut_before, at_last, ends}
+
+-- the last step
+device_ends : {F : Type 0} (state : F → FlashState) (old new : DeviceState F) (tag : ℕ) (r : Reply)
+    (result : Result Progress StepError) → ((own done all : ℕ) → r ≢ reply.Wrote own done all) →
+    r ≡ step_reply tag result → StepsDevice state old new tag result → FinishesDevice state old [] new tag result
+device_ends state old new tag r (Ok (progress.Wrote done all)) last told steps = absurd (last tag done all told)
+device_ends state old new tag r (Ok progress.Done) last told steps = steps
+device_ends state old new tag r (Err e) last told steps = steps
 
 pub last_serves : {F : Type 0} (state : F → FlashState) (old new : DeviceState F) (tag : ℕ) (r : Reply) →
     ((own done all : ℕ) → r ≢ reply.Wrote own done all) →
@@ -29,6 +40,7 @@ last_serves state old new tag r last h = record {
   costs = pages_more old.config (min 1 (pages_left tag old.machine)) (pages_left tag old.machine)
       (moment_of (state old.flash)) (moment_of (state new.flash)) (omega arith) h.costs;
   direct = λ sure. tt;
+  knows = tt;
   carries = h.carries;
   tells = h.tells;
   sure = h.sure;
@@ -39,7 +51,12 @@ last_serves state old new tag r last h = record {
     leaves = at_last tag old.machine (idle (array_in new.config.protocol new.config.logical (state new.flash).image))
         (h.cut fault).leaves;
   };
-  device = tt;
+  device = (
+    [],
+    h.device.0,
+    device_ends state old new tag r h.device.0 last h.device.2 h.device.1,
+    h.device.2,
+  );
   whole = h.whole;
 }
 
@@ -109,6 +126,7 @@ wrote_serves state old mid new own tag done all r first rest =
           (subst (λ (c : Config). CostsPages c (pages_left tag mid.machine) (moment_of (state mid.flash))
           (moment_of (state new.flash))) first.config rest.costs));
       direct = λ sure. tt;
+      knows = tt;
       carries = Carries-then (state old.flash) (state mid.flash) (state new.flash) (is_fault r)
           first.carries rest.carries;
       tells = λ faulted h. finish_tells old.config faulted (point_at state old) (point_at state new) tag r
@@ -122,6 +140,17 @@ wrote_serves state old mid new own tag done all r first rest =
             (idle (array_in new.config.protocol new.config.logical (state new.flash).image)) tag w.1 w.2
             (rest.cut fault).leaves;
       };
-      device = tt;
+      device = (
+        mid ∷ rest.device.0,
+        rest.device.1,
+        (
+          done,
+          all,
+          subst (λ (x : Result Progress StepError). StepsDevice state old mid tag x)
+              (told_wrote own tag done all first.device.0 first.device.2) first.device.1,
+          rest.device.2,
+        ),
+        rest.device.3,
+      );
       whole = rest.whole;
     }

@@ -1,4 +1,5 @@
 use Rattle.cut_replay.proofs.Common.{List, refl, sym, subst, CachedPage, Fits, Unmounted}
+use Rattle.flash_model.proofs.CallLemmas.{Carries-nothing}
 use Rattle.mounted_session.proofs.Mounting.{nothing_done}
 use Rattle.cut_replay.proofs.Begun.{first_fits}
 use Rattle.cut_replay.proofs.Mountings.{refused_as}
@@ -29,3 +30,6 @@ pub returns-in-Err-clause-failed : goal.returns-in-Err-clause-failed
 returns-in-Err-clause-failed g c =
     subst (Unmounted g.F.Flash.state c.args.config c.args.flash c.in-Err.flash) (sym c.from.ensures)
     (refused_as g.F.Flash.state c.args.config c.args.flash c.in-Err.flash c.in-Err.why c.in-Err.ensures.failed)
+
+pub returns-in_default-clause-calls : goal.returns-in_default-clause-calls
+returns-in_default-clause-calls g c = Carries-nothing (g.F.Flash.state c.args.flash)

@@ -25,7 +25,7 @@ moved_serve state protocol old new answer was stands is moves =
     moves.exits.moves moves.exits.carries refl refl refl
     (answer, (is_there state old, moves.steps), refl) (λ still. cc) (λ faulted h. tt)
     (λ sure whole. moves.sure) (λ fault. cc) (moves_cost state protocol old new was answer stands moves)
-    (λ sure. tt) (answer, moves, refl)
+    (λ sure. tt) (answer, moves, refl) tt
 
 -- a device on which a call met no fault is live still
 pub moved_session : {F : Type 0} (state : F → FlashState) (its : Config) (protocol : Protocol) (s t : DeviceState F)

@@ -18,7 +18,7 @@ use Rattle.page_keys.specs.declared.answers.KeyError.TheVariants as opening
 module _ {F : Type 0} (state : F → FlashState) (its : Config) (old : F) (s : DeviceState F)
     (mounts : device.MountsIn state its old s) where
   quiet : StaysQuiet (state old) (state s.flash)
-  quiet = record { still = mounts.still; quiet = mounts.quiet }
+  quiet = device.mounts_quiet state its old s mounts
 
   read_quiet : (t : DeviceState F) → OnlyReads state s t false → StaysQuiet (state old) (state t.flash)
   read_quiet t reads = quiet_then (state old) (state s.flash) (state t.flash) quiet reads.moment reads.carries
