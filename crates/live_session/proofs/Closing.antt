@@ -40,16 +40,17 @@ closed_well : (f : FileFlashState) (answer : Bool) → answer ≡ f.failed → a
 closed_well f answer e h = sym e ∙ h
 
 pub closes : (old new : LineDeskState) (f : FileFlashState) (answered : Result Bool Stop)
-    (closed : Result (Unit {0}) NotDurable) → OnOk answered (HasNoInput old) → is_err closed ≡ f.failed →
+    (closed : Result (Unit {0}) NotDurable) (same : Bool) → OnOk answered (HasNoInput old) → is_err closed ≡ f.failed →
     OnOk closed (IfSome f.file (LeavesSpelling f.config f.memory.image f.memory.extras)) →
     new ≡ record old { told = option_map (with_left f) old.told } →
-    SpellsWhereClosed (ending_after answered closed) new
-closes old new f (Err stop.Fault) closed ended failed spelled left = tt
-closes old new f (Err stop.Memory) closed ended failed spelled left = tt
-closes old new f (Ok good) (Err why) ended failed spelled left = tt
-closes old new f (Ok true) (Ok done) ended failed spelled left =
+    SpellsWhereClosed (ending_after answered closed same) new
+closes old new f (Err stop.Fault) closed same ended failed spelled left = tt
+closes old new f (Err stop.Memory) closed same ended failed spelled left = tt
+closes old new f (Ok good) (Err why) same ended failed spelled left = tt
+closes old new f (Ok good) (Ok done) false ended failed spelled left = tt
+closes old new f (Ok true) (Ok done) true ended failed spelled left =
     subst SpellsLeft (sym left) (left_spelled old.told f (sym failed) spelled ended)
-closes old new f (Ok false) (Ok done) ended failed spelled left =
+closes old new f (Ok false) (Ok done) true ended failed spelled left =
     subst SpellsLeft (sym left) (left_spelled old.told f (sym failed) spelled ended)
 
 pub stopped_open : (why : Stop) (new : LineDeskState) → SpellsWhereClosed (ending_of_stop why) new

@@ -10,7 +10,7 @@ use Rattle.live_session.specs.declared.desk.Next.{Next}
 use Rattle.live_session.specs.Endings.{LiveEnding, Closed, BadLine, Refused, InUse, Fault, Starved, Attempts, EndsSo, Speaks}
 use Rattle.live_session.specs.Opening.{IsNotOpened}
 use Rattle.program_base.specs.Refusals as refusal
-use Rattle.live_session.specs.LineDesk.{DeskTold, LineDeskState, ReadsLine, Saying, Says, with_input, with_left, with_saying}
+use Rattle.live_session.specs.LineDesk.{DeskTold, LineDeskState, ReadsLine, Saying, Says, claimed, with_claim, with_input, with_left, with_saying}
 use Rattle.live_session.specs.Saying.{IsDurable, IsDurableSaying, SaidDurably}
 
 abbrev AllDurable : DeskTold → Type 0
@@ -32,6 +32,15 @@ flash_left : (told : Option DeskTold) (flash : FileFlashState) → IfSome told A
     IfSome (option_map (with_left flash) told) AllDurable
 flash_left None flash p = tt
 flash_left (Some c) flash p = p
+
+file_claimed : (told : Option DeskTold) (name : List ℕ) → IfSome told AllDurable →
+    IfSome (option_map (with_claim name) told) AllDurable
+file_claimed None name p = tt
+file_claimed (Some c) name p = p
+
+pub claims_durably : (name : List ℕ) (old new : LineDeskState) → new ≡ claimed name old → SaidDurably old →
+    SaidDurably new
+claims_durably name old new s p = subst SaidDurably (sym s) (file_claimed old.told name p)
 
 pub says_durably : (flash : Option FileFlashState) (old new : LineDeskState) (text : List ℕ)
     (result : Result (Unit {0}) CallError) → IfSome flash IsDurable → Says flash old new text result →
@@ -82,10 +91,10 @@ not_opened_durably name Closed old new h p = absurd h
 not_opened_durably name BadLine old new h p = absurd h
 not_opened_durably name (Refused refusal.BadWords) old new h p = absurd h
 not_opened_durably name (Refused (refusal.Unsound breach)) old new h p = absurd h
-not_opened_durably name (Refused (refusal.Missing missing)) old new h p = subst SaidDurably (sym h.1) p
-not_opened_durably name (Refused (refusal.TooLong long)) old new h p = subst SaidDurably (sym h.1) p
-not_opened_durably name (Refused (refusal.BadImage rule)) old new h p = subst SaidDurably (sym h.0) p
-not_opened_durably name InUse old new h p = subst SaidDurably (sym h.0) p
-not_opened_durably name Fault old new (inl h) p = subst SaidDurably (sym h) p
-not_opened_durably name Fault old new (inr h) p = subst SaidDurably (sym h) p
-not_opened_durably name Starved old new h p = subst SaidDurably (sym h) p
+not_opened_durably name (Refused (refusal.Missing missing)) old new h p = claims_durably name old new h.1 p
+not_opened_durably name (Refused (refusal.TooLong long)) old new h p = claims_durably name old new h.1 p
+not_opened_durably name (Refused (refusal.BadImage rule)) old new h p = claims_durably name old new h.0 p
+not_opened_durably name InUse old new h p = claims_durably name old new h.0 p
+not_opened_durably name Fault old new (inl h) p = subst SaidDurably (sym h) (file_claimed old.told name p)
+not_opened_durably name Fault old new (inr h) p = claims_durably name old new h p
+not_opened_durably name Starved old new h p = claims_durably name old new h p

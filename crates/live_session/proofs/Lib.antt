@@ -3,5 +3,7 @@ pub mod Flushed
 pub mod Closing
 pub mod Opened
 pub mod OneLine
+pub mod Reading
 pub mod Talking
 pub mod Stopping
+pub mod Faulting

@@ -13,7 +13,7 @@ use Rattle.live_session.specs.declared.desk.ClaimError.{ClaimError}
 use Rattle.live_session.specs.declared.desk.ClaimError.TheVariants as claim
 use Rattle.live_session.specs.Endings as live
 use Rattle.live_session.specs.Endings.{MemoryTold, Speaks}
-use Rattle.live_session.specs.LineDesk.{Claims, DeskTold, LineDeskState, OpensFree}
+use Rattle.live_session.specs.LineDesk.{Claims, DeskTold, LineDeskState, OpensFree, claimed}
 use Rattle.live_session.specs.Opening.{IsNotOpened, OpensFile, RefusesFile, ending_of_claim, ending_of_opening}
 
 pub opened : (told : Option DeskTold) (file : Option FileState) (name : List ℕ) (f : FileFlashState) →
@@ -26,8 +26,9 @@ ruled : (told : Option DeskTold) (file : Option FileState) (name : List ℕ) (ru
 ruled None file name rule h o = tt
 ruled (Some c) file name rule h o = (h.0, h.1, subst (λ x. Refuses x rule) h.2 o)
 
-pub not_opened : (old new : LineDeskState) (file : Option FileState) (name : List ℕ) (error : OpenError) → new ≡ old →
-    IfSome old.told (OpensFree name file) → ((rule : ImageError) → error ≡ opening.Image rule → Refuses file rule) →
+pub not_opened : (old new : LineDeskState) (file : Option FileState) (name : List ℕ) (error : OpenError) →
+    new ≡ claimed name old → IfSome old.told (OpensFree name file) →
+    ((rule : ImageError) → error ≡ opening.Image rule → Refuses file rule) →
     IsNotOpened name (ending_of_opening error) old new
 not_opened old new file name opening.Store same h why = inr same
 not_opened old new file name (opening.Image image.Memory) same h why = same

@@ -22,12 +22,15 @@ use Rattle.tx_types.specs.declared.config.Slot.{Slot}
 use Rattle.cut_replay.specs.EndsLost.{EndsLost}
 use Rattle.cut_replay.specs.FlashCalls.{MountsFlash}
 use Rattle.cut_replay.specs.FlashRun.{Point, first_point, last_point}
-use Rattle.cut_replay.specs.ServerCalls.{OpensServer}
+use Rattle.cut_replay.specs.ServerCalls.{EndsNext, FlushesServer, OpensServer}
 use Rattle.cut_replay.specs.ServerRuns.{IsServed, RunsOn}
 use Rattle.cut_replay.specs.ServerState.{ServerState}
 use Rattle.cut_replay.specs.Sessions.{EndsFor, EndsForMemory, EndsServing, Refuses, Unmounted, flash_in, point_of}
+use Rattle.cut_replay.specs.declared.server.NextError.{NextError}
+use Rattle.cut_replay.specs.declared.server.NextError.TheVariants as unserved
 use Rattle.cut_replay.specs.declared.serving.ServeError.{ServeError}
 use Rattle.cut_replay.specs.declared.serving.ServeError.TheVariants as ended
+use Rattle.cut_replay.proofs.Flushes.{flushed_ends}
 use Rattle.program_base.specs.Refusals as refusal
 use Rattle.file_flash.specs.FileFlashState.{FileFlashState, untold}
 use Rattle.file_flash.specs.Losing.{LeavesSpelling}
@@ -39,7 +42,7 @@ use Rattle.live_session.specs.contracts.desk.Next.{the_type}
 use Rattle.live_session.specs.declared.desk.Next.{Next}
 use Rattle.live_session.specs.declared.desk.Next.TheVariants as next
 use Rattle.live_session.specs.Endings.{LiveEnding, Closed, BadLine, Refused, InUse, Fault, Starved}
-use Rattle.live_session.specs.LineDesk.{BothTell, DeskTold, LineDeskState, ReadsLine, Saying, Says, after, with_input, with_left, with_saying}
+use Rattle.live_session.specs.LineDesk.{BothTell, DeskTold, LineDeskState, ReadsLine, Saying, Says, after, claimed, with_input, with_left, with_saying}
 use Rattle.live_session.specs.Opening.{OpensFile}
 use Rattle.live_session.specs.Saying.{IsClosed}
 use Rattle.live_session.specs.Sessions.{ending_after, ending_unmounted}
@@ -63,6 +66,20 @@ says_stops flash old new text call.Failed says = inr (says.0, ap (λ d. d.told) 
 says_stops flash old new text call.Memory says = absurd says
 
 -- ---- a command
+
+-- a command was not served
+pub rests_unserved : (its : Config) (c : Command) (old first new : ServerState FileFlashState)
+    (flushed : Result (Unit {0}) NotDurable) (e : NextError) → FlushesServer shown its old first →
+    EndsNext shown its c first flushed new e → RestsBy its old.session new.session
+rests_unserved its c old first new flushed unserved.NotDurable stays h =
+    inl (ap (λ (s : ServerState FileFlashState). shown (flash_in s.session)) h.1 ∙ stays.shows)
+rests_unserved its c old first new flushed (unserved.Ended why) stays h =
+    inr (inr (
+      c,
+      why,
+      flushed_ends shown its c old.session first.session (flash_in new.session) why stays.session
+          h.1.ends,
+    ))
 
 -- a command was served, and its reply was not said
 pub rests_served : (its kept : Config) (c : Command) (old mid new : FileSession) (served : Reply) → kept ≡ its →
@@ -163,7 +180,7 @@ stops_bad its it line n told told' old new none stays (inr cut) =
 
 none_said : (its : Config) (s : FileSession) (told : Told) → BothTell (HearsPartOrNone its s s) told told
 none_said its s None = tt
-none_said its s (Some a) = inl (refl, refl)
+none_said its s (Some a) = inl (refl, refl, refl)
 
 pub part_none : (its : Config) (s : FileSession) (old new : Told) → new ≡ old →
     BothTell (HearsPartOrNone its s s) old new
@@ -177,9 +194,10 @@ part_begun its s (Some a) n up = inr (record {
   good = true;
   end = s;
   reached = with_saying serving a;
-  hears = record { cs = []; rs = []; ps = []; talk = begins; runs = λ init h. h };
+  hears = record { cs = []; rs = []; ps = []; talk = begins; claims = refl; runs = λ init h. h };
   mounted = up;
   said = inr (a.sayings, serving, n, refl, inr refl);
+  claims = refl;
   rests = inl refl;
 })
 
@@ -203,6 +221,7 @@ part_at its good s t u n (Some a) (Some b) up h rests = inr (record {
   hears = h;
   mounted = up;
   said = inl refl;
+  claims = h.claims;
   rests = rests;
 })
 
@@ -220,6 +239,7 @@ part_read its s t (Some a) (Some b) rest (inr h) = inr (record {
   hears = h.hears;
   mounted = h.mounted;
   said = h.said;
+  claims = h.claims;
   rests = h.rests;
 })
 
@@ -248,6 +268,7 @@ part_left its s t (Some a) (Some b) left stays closed (inr h) = record {
     hears = h.hears;
     mounted = h.mounted;
     said = h.said;
+    claims = h.claims;
     rests = h.rests;
   });
   stays = stays;
@@ -270,6 +291,7 @@ part_cut_at its good s u n k (Some a) (Some m) it up h = inr (record {
   hears = h;
   mounted = up;
   said = inr (m.sayings, it, k, refl, inr refl);
+  claims = h.claims;
   rests = inl refl;
 })
 
@@ -334,6 +356,7 @@ all_part its good s t (Some a) (Some b) h = inr (record {
   hears = h.hears;
   mounted = h.mounted;
   said = inl refl;
+  claims = h.hears.claims;
   rests = inl refl;
 })
 
@@ -351,19 +374,21 @@ closed_part old its s t left mid new stays closed leaves h =
     (part_left its s t old mid.told left stays closed h)
 
 pub heard_part : (old : Told) (its : Config) (s t : FileSession) (left : FileFlashState)
-    (answered : Result Bool Stop) (closed : Result (Unit {0}) NotDurable) (mid new : LineDeskState) →
+    (answered : Result Bool Stop) (closed : Result (Unit {0}) NotDurable) (same : Bool) (mid new : LineDeskState) →
     IfOk answered (λ good. BothTell (HearsAll its good s t) old mid.told) →
     OnErr answered (BothTell (HearsPartOrNone its s t) old mid.told) → left.memory ≡ (flash_in t).memory →
     IsClosed left → new ≡ after (with_left left) mid →
-    WhereStopped (λ breach. ⊥) (BothTell (StopsAndCloses its s) old new.told) (ending_after answered closed)
-heard_part old its s t left (Err stop.Fault) closed mid new h stops stays shut leaves =
+    WhereStopped (λ breach. ⊥) (BothTell (StopsAndCloses its s) old new.told) (ending_after answered closed same)
+heard_part old its s t left (Err stop.Fault) closed same mid new h stops stays shut leaves =
     closed_part old its s t left mid new stays shut leaves stops
-heard_part old its s t left (Err stop.Memory) closed mid new h stops stays shut leaves =
+heard_part old its s t left (Err stop.Memory) closed same mid new h stops stays shut leaves =
     closed_part old its s t left mid new stays shut leaves stops
-heard_part old its s t left (Ok good) (Err why) mid new h stops stays shut leaves =
+heard_part old its s t left (Ok good) (Err why) same mid new h stops stays shut leaves =
     closed_part old its s t left mid new stays shut leaves (all_part its good s t old mid.told h)
-heard_part old its s t left (Ok true) (Ok done) mid new h stops stays shut leaves = tt
-heard_part old its s t left (Ok false) (Ok done) mid new h stops stays shut leaves = tt
+heard_part old its s t left (Ok good) (Ok done) false mid new h stops stays shut leaves =
+    closed_part old its s t left mid new stays shut leaves (all_part its good s t old mid.told h)
+heard_part old its s t left (Ok true) (Ok done) true mid new h stops stays shut leaves = tt
+heard_part old its s t left (Ok false) (Ok done) true mid new h stops stays shut leaves = tt
 
 -- ---- the session of a flash
 
@@ -388,7 +413,7 @@ unbegun_at : (flash left : FileFlashState) (old : Told) → moment_of (shown lef
     IsClosed left → BothTell (IsUnread flash) old (option_map (with_left left) old)
 unbegun_at flash left None rests closed = tt
 unbegun_at flash left (Some a) rests closed =
-    (record { said = refl; left = left; leaves = refl; rests = rests; closed = closed }, refl)
+    (record { said = refl; left = left; leaves = refl; rests = rests; closed = closed; claims = refl }, refl)
 
 also_told : (P Q : DeskTold → DeskTold → Type 0) (old new : Told) →
     ((a b : DeskTold) → P a b → Q a b) → BothTell P old new → BothTell Q old new
@@ -474,7 +499,8 @@ ends_in : (its : Config) (flash left : FileFlashState) (cs : List Command) (rs :
     ⊎ EndsLost its c (last_point (first_point its served.run.up served.run.flash) ps) (shown left)
 ends_in its flash left cs rs ps c t served (inl still) =
     inl (subst (λ x. StaysQuiet x (shown left)) (sym (point_shows its t) ∙ ap (λ p. p.flash) served.last) still)
-ends_in its flash left cs rs ps c t served (inr lost) = inr (subst (λ x. EndsLost its c x (shown left)) served.last lost)
+ends_in its flash left cs rs ps c t served (inr lost) =
+    inr (subst (λ x. EndsLost its c x (shown left)) served.last lost)
 
 still_refused : (its : Config) (s : FileSession) (flash : FileFlashState) (law : ℕ) (slot : Slot) →
     Refuses shown its s flash law slot → StaysQuiet (shown (flash_in s)) (shown flash)
@@ -520,8 +546,9 @@ stopped_part old new flash left s t opens stays leaves closed (inl none) = inl (
   said = none.0;
   left = left;
   leaves = leaves;
-  rests = ap (λ m. moment_of (untold m)) stays ∙ moment_opened flash s t none.1 opens;
+  rests = ap (λ m. moment_of (untold m)) stays ∙ moment_opened flash s t none.2 opens;
   closed = closed;
+  claims = none.1;
 })
 stopped_part old new flash left s t opens stays leaves closed (inr h) =
     let heard = h.hears in
@@ -539,6 +566,7 @@ stopped_part old new flash left s t opens stays leaves closed (inr h) =
       leaves = leaves;
       rests = rests_at flash.config flash left heard.cs heard.rs heard.ps h.end t served stays h.rests;
       closed = closed;
+      claims = h.claims;
     })
 
 stopped_told : (old new : Told) (flash : FileFlashState) (s : ServerState FileFlashState) →
@@ -581,7 +609,7 @@ is_held flash Fault old new h stops = stops
 is_held flash Starved old new h stops = stops
 
 pub calls_held : (old mid new : LineDeskState) (name : Option (List ℕ)) (path : List ℕ) (flash : FileFlashState)
-    (it : LiveEnding) → name ≡ Some path → mid ≡ old → IfSome old.told (OpensFile path flash) →
+    (it : LiveEnding) → name ≡ Some path → mid ≡ claimed path old → IfSome old.told (OpensFile path flash) →
     WhereClosed (λ good. BothTell (IsSession flash good) mid.told new.told) it →
     WhereStopped (λ breach. BothTell (IsUnsound flash breach) mid.told new.told)
     (BothTell (IsStoppedOrNone flash) mid.told new.told) it → Calls name old new it

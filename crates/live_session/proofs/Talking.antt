@@ -25,7 +25,7 @@ use Rattle.live_session.specs.contracts.desk.Next.{the_type}
 use Rattle.live_session.specs.declared.desk.Next.{Next}
 use Rattle.live_session.specs.declared.desk.Next.TheVariants as next
 use Rattle.live_session.specs.Endings.{LiveEnding, Closed, BadLine, Refused, InUse, Fault, Starved}
-use Rattle.live_session.specs.LineDesk.{BothTell, DeskTold, LineDeskState, ReadsLine, TakesNext, after, with_input, with_left, with_saying}
+use Rattle.live_session.specs.LineDesk.{BothTell, DeskTold, LineDeskState, ReadsLine, TakesNext, after, claimed, with_claim, with_input, with_left, with_saying}
 use Rattle.live_session.specs.Opening.{IsNotOpened, OpensFile}
 use Rattle.live_session.specs.Sessions.{ending_after, ending_of_stop, ending_unmounted}
 use Rattle.live_session.specs.Talks.{IsBad, IsSession, LeadsTo, ServesFile, bad_line, begins, complains, passes, plain, replies, reply_said, serving, shown}
@@ -80,7 +80,7 @@ answers_command its kept c old mid new served reply text flash before said same 
 
 pub hears_none : (told : Told) (its : Config) (s : FileSession) → BothTell (Hears its true s s 1) told told
 hears_none None its s = tt
-hears_none (Some c) its s = record { cs = []; rs = []; ps = []; talk = begins; runs = λ init h. h }
+hears_none (Some c) its s = record { cs = []; rs = []; ps = []; talk = begins; claims = refl; runs = λ init h. h }
 
 -- ---- a line
 
@@ -95,6 +95,7 @@ heard_passes (Some a) (Some b) its good s t n line rest h takes file = record {
   rs = h.rs;
   ps = h.ps;
   talk = passes b n good h.cs h.rs h.ps line rest h.talk takes file;
+  claims = h.claims;
   runs = h.runs;
 }
 
@@ -118,6 +119,7 @@ heard_replies (Some a) (Some b) its good s t u n line rest c more mid told h tak
       rs = h.rs ++ w.reply ∷ [];
       ps = h.ps ++ w.point ∷ [];
       talk = replies b n good h.cs h.rs h.ps line rest h.talk takes c one w.reply w.point w.flash w.shows;
+      claims = h.claims;
       runs = λ init begun. w.runs init h.cs h.rs h.ps (h.runs init begun);
     })
 
@@ -134,6 +136,7 @@ heard_complains (Some a) (Some b) its good s t n it line rest h takes bad = reco
   rs = h.rs;
   ps = h.ps;
   talk = complains b n good h.cs h.rs h.ps line rest h.talk it takes bad;
+  claims = h.claims;
   runs = h.runs;
 }
 
@@ -228,28 +231,29 @@ heard_all old first a now its good s t n line up begun h reads =
 -- ---- closing
 
 closed_told : (old a : Told) (its : Config) (good : Bool) (s t : FileSession) (left : FileFlashState) →
-    BothTell (HearsAll its good s t) old a → left.memory ≡ (flash_in t).memory →
+    BothTell (HearsAll its good s t) old a → left.memory ≡ (flash_in t).memory → left.config ≡ its →
     BothTell (HearsAndCloses its good s) old (option_map (with_left left) a)
-closed_told None None its good s t left h stays = tt
-closed_told None (Some b) its good s t left h stays = absurd h
-closed_told (Some a) None its good s t left h stays = absurd h
-closed_told (Some a) (Some b) its good s t left h stays =
-    record { end = t; ended = b; left = left; all = h; stays = stays; closes = refl }
+closed_told None None its good s t left h stays config = tt
+closed_told None (Some b) its good s t left h stays config = absurd h
+closed_told (Some a) None its good s t left h stays config = absurd h
+closed_told (Some a) (Some b) its good s t left h stays config =
+    record { end = t; ended = b; left = left; all = h; stays = stays; config = config; closes = refl }
 
 pub heard_and_closed : (old : Told) (its : Config) (s t : FileSession) (left : FileFlashState)
-    (answered : Result Bool Stop) (closed : Result (Unit {0}) NotDurable) (mid new : LineDeskState) →
+    (answered : Result Bool Stop) (closed : Result (Unit {0}) NotDurable) (same : Bool) (mid new : LineDeskState) →
     IfOk answered (λ good. BothTell (HearsAll its good s t) old mid.told) → left.memory ≡ (flash_in t).memory →
-    new ≡ after (with_left left) mid →
-    WhereClosed (λ good. BothTell (HearsAndCloses its good s) old new.told) (ending_after answered closed)
-heard_and_closed old its s t left (Err stop.Fault) closed mid new h stays leaves = tt
-heard_and_closed old its s t left (Err stop.Memory) closed mid new h stays leaves = tt
-heard_and_closed old its s t left (Ok good) (Err why) mid new h stays leaves = tt
-heard_and_closed old its s t left (Ok true) (Ok done) mid new h stays leaves =
+    (same ≡ true → left.config ≡ its) → new ≡ after (with_left left) mid →
+    WhereClosed (λ good. BothTell (HearsAndCloses its good s) old new.told) (ending_after answered closed same)
+heard_and_closed old its s t left (Err stop.Fault) closed same mid new h stays is leaves = tt
+heard_and_closed old its s t left (Err stop.Memory) closed same mid new h stays is leaves = tt
+heard_and_closed old its s t left (Ok good) (Err why) same mid new h stays is leaves = tt
+heard_and_closed old its s t left (Ok good) (Ok done) false mid new h stays is leaves = tt
+heard_and_closed old its s t left (Ok true) (Ok done) true mid new h stays is leaves =
     subst (BothTell (HearsAndCloses its true s) old) (sym (ap (λ d. d.told) leaves))
-    (closed_told old mid.told its true s t left h stays)
-heard_and_closed old its s t left (Ok false) (Ok done) mid new h stays leaves =
+    (closed_told old mid.told its true s t left h stays (is refl))
+heard_and_closed old its s t left (Ok false) (Ok done) true mid new h stays is leaves =
     subst (BothTell (HearsAndCloses its false s) old) (sym (ap (λ d. d.told) leaves))
-    (closed_told old mid.told its false s t left h stays)
+    (closed_told old mid.told its false s t left h stays (is refl))
 
 pub where_stopped : (P : Bool → Type 0) (why : Stop) → WhereClosed P (ending_of_stop why)
 where_stopped P stop.Fault = tt
@@ -297,6 +301,8 @@ session_told (Some a) (Some b) flash good s opens h =
       run = leads flash.config flash h.left heard.cs heard.rs heard.ps h.end
           (heard.runs (shown flash) (opens.served (opens.mounted h.all.mounted))) h.stays;
       closes = h.closes;
+      config = h.config;
+      claims = ap (λ d. d.claims) h.closes ∙ heard.claims;
     }
 
 pub is_session : (old new : Told) (flash : FileFlashState) (its : Config) (s : ServerState FileFlashState)
@@ -313,7 +319,7 @@ is_session old new flash its s it same opens h =
 -- ---- the call
 
 file_told : (old new : Told) (path : List ℕ) (flash : FileFlashState) (good : Bool) →
-    IfSome old (OpensFile path flash) → BothTell (IsSession flash good) old new →
+    IfSome old (OpensFile path flash) → BothTell (IsSession flash good) (option_map (with_claim path) old) new →
     BothTell (ServesFile (Some path) good) old new
 file_told None None path flash good opens h = tt
 file_told None (Some b) path flash good opens h = absurd h
@@ -322,12 +328,12 @@ file_told (Some a) (Some b) path flash good opens h =
     record { path = path; named = refl; flash = flash; opens = opens; session = h }
 
 pub serves_file : (old mid new : LineDeskState) (name : Option (List ℕ)) (path : List ℕ) (flash : FileFlashState)
-    (it : LiveEnding) → name ≡ Some path → mid ≡ old → IfSome old.told (OpensFile path flash) →
+    (it : LiveEnding) → name ≡ Some path → mid ≡ claimed path old → IfSome old.told (OpensFile path flash) →
     WhereClosed (λ good. BothTell (IsSession flash good) mid.told new.told) it →
     WhereClosed (λ good. BothTell (ServesFile name good) old.told new.told) it
 serves_file old mid new name path flash it named same opens h =
     subst (λ x. WhereClosed (λ good. BothTell (ServesFile x good) old.told new.told) it) (sym named)
-    (where_weaker (λ good. BothTell (IsSession flash good) old.told new.told)
+    (where_weaker (λ good. BothTell (IsSession flash good) (claimed path old).told new.told)
     (λ good. BothTell (ServesFile (Some path) good) old.told new.told)
     (λ good w. file_told old.told new.told path flash good opens w) it
     (subst (λ x. WhereClosed (λ good. BothTell (IsSession flash good) x.told new.told) it) same h))

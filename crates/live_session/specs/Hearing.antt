@@ -107,6 +107,7 @@ pub record Hears (its : Config) (good : Bool) (old new : FileSession) (number : 
   pub rs : List Reply
   pub ps : List Point
   pub talk : IsTalk its.page_bytes first now number good cs rs ps
+  pub claims : now.claims ≡ first.claims
   pub runs : (init : FlashState) → IsServed shown its init [] [] [] old → IsServed shown its init cs rs ps new
 
 -- All lines of the input were answered, on a flash that is mounted.
@@ -124,12 +125,13 @@ pub record HearsPart (its : Config) (old new : FileSession) (first now : DeskTol
   pub hears : Hears its good old end number (with_saying serving first) reached
   pub mounted : is_mounted old ≡ true
   pub said : IsSaidOf reached.sayings now.sayings
+  pub claims : now.claims ≡ first.claims
   pub rests : RestsBy its end new
 
 -- the same, or nothing was said or done
 abbrev pub HearsPartOrNone : Config → (old new : FileSession) → DeskTold → DeskTold → Type 0
 HearsPartOrNone its old new first now =
-    ((now.sayings ≡ first.sayings) × (new ≡ old)) ⊎ HearsPart its old new first now
+    ((now.sayings ≡ first.sayings) × (now.claims ≡ first.claims) × (new ≡ old)) ⊎ HearsPart its old new first now
 
 -- and the file was closed with the flash that was left
 pub record StopsAndCloses (its : Config) (old : FileSession) (first now : DeskTold) : Type 0 where
@@ -147,6 +149,7 @@ pub record HearsAndCloses (its : Config) (good : Bool) (old : FileSession) (firs
   pub left : FileFlashState
   pub all : HearsAll its good old end first ended
   pub stays : left.memory ≡ (flash_in end).memory
+  pub config : left.config ≡ its
   pub closes : now ≡ with_left left ended
 
 -- Where a session ended otherwise, the second is so, or the first of the breach of an image that is not sound. It was

@@ -8,4 +8,5 @@ pub mod RealDesk
 pub mod Sessions
 pub mod Talks
 pub mod Hearing
+pub mod Faults
 pub mod Top

@@ -23,10 +23,11 @@ pub data Place : Type 0 where
   Held : Place
   Free : (file : FileState) → Place
 
--- What a desk tells: what is at each name, the bytes of its input that were not read, all that was said, in order, and
--- the flash of the file that was closed last.
+-- What a desk tells: what is at each name, the names that were claimed, in order, the bytes of its input that were not
+-- read, all that was said, in order, and the flash of the file that was closed last.
 pub record DeskTold : Type 0 where
   pub place : List ℕ → Place
+  pub claims : List (List ℕ)
   pub input : List ℕ
   pub sayings : List Saying
   pub left : Option FileFlashState
@@ -47,6 +48,9 @@ BothTell P (Some old) None = ⊥
 abbrev pub closed_desk : ℕ → LineDeskState
 closed_desk faults = record { told = None; faults = faults }
 
+abbrev pub with_claim : List ℕ → DeskTold → DeskTold
+with_claim name c = record c { claims = c.claims ++ name ∷ [] }
+
 abbrev pub with_input : List ℕ → DeskTold → DeskTold
 with_input rest c = record c { input = rest }
 
@@ -64,23 +68,25 @@ after change desk = record desk { told = option_map change desk.told }
 abbrev pub after_fault : (DeskTold → DeskTold) → LineDeskState → LineDeskState
 after_fault change desk = record { told = option_map change desk.told; faults = counted desk.faults }
 
--- a fault is counted, and nothing else changes
-abbrev pub after_failing : LineDeskState → LineDeskState
-after_failing desk = record desk { faults = counted desk.faults }
-
 -- the file at the name is open, as it is told
 abbrev pub OpensFree : List ℕ → Option FileState → DeskTold → Type 0
 OpensFree name opened c = (file : FileState) × (c.place name ≡ Free file) × (opened ≡ Some file)
 
--- A claim changes nothing of what is told.
+-- the desk once the file of this name was claimed
+abbrev pub claimed : List ℕ → LineDeskState → LineDeskState
+claimed name desk = after (with_claim name) desk
+
+-- A claim is told, whatever comes of it, and nothing else changes.
 abbrev pub Claims : {F : Type 0} → (F → Option FileState) → LineDeskState → LineDeskState → List ℕ →
     Result F ClaimError → Type 0
-Claims told old new name (Ok file) = (new ≡ old) × IfSome old.told (OpensFree name (told file))
-Claims told old new name (Err claim.Missing) = (new ≡ old) × IfSome old.told (λ c. c.place name ≡ Missing)
-Claims told old new name (Err claim.TooLong) = (new ≡ old) × IfSome old.told (λ c. c.place name ≡ TooLong)
-Claims told old new name (Err claim.InUse) = (new ≡ old) × IfSome old.told (λ c. c.place name ≡ Held)
-Claims told old new name (Err claim.Failed) = new ≡ after_failing old
-Claims told old new name (Err claim.Memory) = new ≡ old
+Claims told old new name (Ok file) = (new ≡ claimed name old) × IfSome old.told (OpensFree name (told file))
+Claims told old new name (Err claim.Missing) =
+    (new ≡ claimed name old) × IfSome old.told (λ c. c.place name ≡ Missing)
+Claims told old new name (Err claim.TooLong) =
+    (new ≡ claimed name old) × IfSome old.told (λ c. c.place name ≡ TooLong)
+Claims told old new name (Err claim.InUse) = (new ≡ claimed name old) × IfSome old.told (λ c. c.place name ≡ Held)
+Claims told old new name (Err claim.Failed) = new ≡ after_fault (with_claim name) old
+Claims told old new name (Err claim.Memory) = new ≡ claimed name old
 
 -- a piece of the input is gone, and these are the bytes of its line
 abbrev pub TakesNext : Next → (line rest : List ℕ) → DeskTold → Type 0

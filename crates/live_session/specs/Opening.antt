@@ -14,7 +14,7 @@ use Rattle.live_session.specs.declared.ending.Ending.{Ending}
 use Rattle.live_session.specs.Endings as live
 use Rattle.live_session.specs.Endings.{LiveEnding, ending_of}
 use Rattle.live_session.specs.LineDesk as desk
-use Rattle.live_session.specs.LineDesk.{DeskTold, LineDeskState, after_failing}
+use Rattle.live_session.specs.LineDesk.{DeskTold, LineDeskState, after_fault, claimed, with_claim}
 
 -- the file at the name is free, and its bytes are the image file in use of this flash
 abbrev pub OpensFile : List ℕ → FileFlashState → DeskTold → Type 0
@@ -24,21 +24,22 @@ OpensFile name f c = (state : FileState) × (c.place name ≡ desk.Free state) �
 abbrev pub RefusesFile : List ℕ → ImageError → DeskTold → Type 0
 RefusesFile name rule c = (state : FileState) × (c.place name ≡ desk.Free state) × file.Refuses (Some state) rule
 
--- Why a file is not served.
+-- Why a file is not served. It was claimed once, and no other.
 abbrev pub IsNotOpened : List ℕ → LiveEnding → LineDeskState → LineDeskState → Type 0
 IsNotOpened name (live.Refused (Missing missing)) old new =
-    (missing ≡ name) × (new ≡ old) × IfSome old.told (λ c. c.place name ≡ desk.Missing)
+    (missing ≡ name) × (new ≡ claimed name old) × IfSome old.told (λ c. c.place name ≡ desk.Missing)
 IsNotOpened name (live.Refused (TooLong long)) old new =
-    (long ≡ name) × (new ≡ old) × IfSome old.told (λ c. c.place name ≡ desk.TooLong)
-IsNotOpened name (live.Refused (BadImage rule)) old new = (new ≡ old) × IfSome old.told (RefusesFile name rule)
-IsNotOpened name live.InUse old new = (new ≡ old) × IfSome old.told (λ c. c.place name ≡ desk.Held)
-IsNotOpened name live.Fault old new = (new ≡ after_failing old) ⊎ (new ≡ old)
-IsNotOpened name live.Starved old new = new ≡ old
+    (long ≡ name) × (new ≡ claimed name old) × IfSome old.told (λ c. c.place name ≡ desk.TooLong)
+IsNotOpened name (live.Refused (BadImage rule)) old new =
+    (new ≡ claimed name old) × IfSome old.told (RefusesFile name rule)
+IsNotOpened name live.InUse old new = (new ≡ claimed name old) × IfSome old.told (λ c. c.place name ≡ desk.Held)
+IsNotOpened name live.Fault old new = (new ≡ after_fault (with_claim name) old) ⊎ (new ≡ claimed name old)
+IsNotOpened name live.Starved old new = new ≡ claimed name old
 IsNotOpened name _ old new = ⊥
 
 -- What opening comes to.
 abbrev pub OpensFlash : List ℕ → LineDeskState → LineDeskState → Result FileFlashState Ending → Type 0
-OpensFlash name old new (Ok f) = (new ≡ old) × IfSome old.told (OpensFile name f)
+OpensFlash name old new (Ok f) = (new ≡ claimed name old) × IfSome old.told (OpensFile name f)
 OpensFlash name old new (Err why) = IsNotOpened name (ending_of why) old new
 
 -- the ending where a claim fails

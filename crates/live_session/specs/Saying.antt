@@ -1,14 +1,16 @@
 -- What is durable when something is said.
 use Rattle.std.specs.Prelude.{◌≡◌, false, [], All, IfSome, Some}
 use Rattle.file_flash.specs.FileFlashState.{FileFlashState}
-use Rattle.file_flash.specs.Losing.{LosesOnly, LeavesSpelling}
+use Rattle.file_flash.specs.Losing.{LosesOnly, LeavesImages, LeavesSpelling}
 use Rattle.live_session.specs.LineDesk.{DeskTold, LineDeskState, Saying}
 use Rattle.live_session.specs.Endings.{LiveEnding, Closed, BadLine}
 
--- No call of the file has failed, and whatever a loss of power leaves of it, each slot is as it is in memory.
+-- No call of the file has failed, and whatever a loss of power leaves of it is an image file in use of the device, each
+-- slot of which is as it is in memory.
 pub record IsDurable (f : FileFlashState) : Type 0 where
   pub failed : f.failed ≡ false
   pub loses : IfSome f.file (LosesOnly f.memory.shape f.memory.image [])
+  pub opens : IfSome f.file (LeavesImages f.config f.memory.shape f.memory.extras)
 
 -- what was done was durable when a reply was said
 abbrev pub IsDurableSaying : Saying → Type 0

@@ -20,7 +20,7 @@ use Rattle.file_flash.specs.FileFlashState.{FileFlashState, untold}
 use Rattle.live_session.specs.declared.desk.Next.{Next}
 use Rattle.live_session.specs.declared.desk.Next.TheVariants as next
 use Rattle.live_session.specs.Endings.{LiveEnding, Closed, BadLine, Refused, Fault, Starved}
-use Rattle.live_session.specs.LineDesk.{BothTell, DeskTold, Saying, TakesNext, with_input, with_left, with_saying}
+use Rattle.live_session.specs.LineDesk.{BothTell, DeskTold, Saying, TakesNext, with_claim, with_input, with_left, with_saying}
 use Rattle.live_session.specs.Opening.{OpensFile}
 use Rattle.live_session.specs.Saying.{IsClosed}
 
@@ -83,7 +83,8 @@ pub record LeadsTo (its : Config) (opened left : FlashState) (cs : List Command)
   pub last : (last_point (first_point its run.up run.flash) ps).flash ≡ left
 
 -- A session on a flash: `serving` was said, then lines of the input were read and answered, in order, by a run over the
--- commands that were read; and the file was closed with the flash that the run left.
+-- commands that were read; and the file was closed with the flash that the run left, in its configuration. No file
+-- was claimed in it.
 pub record IsSession (flash : FileFlashState) (good : Bool) (old new : DeskTold) : Type 0 where
   pub number : ℕ
   pub cs : List Command
@@ -94,6 +95,8 @@ pub record IsSession (flash : FileFlashState) (good : Bool) (old new : DeskTold)
   pub talk : IsTalk flash.config.page_bytes (with_saying serving old) ended number good cs rs ps
   pub run : LeadsTo flash.config (shown flash) (shown left) cs rs ps
   pub closes : new ≡ with_left left ended
+  pub config : left.config ≡ flash.config
+  pub claims : new.claims ≡ old.claims
 
 -- what was said of a text of which the last bytes were not
 abbrev pub shorter : ℕ → Saying → Saying
@@ -131,7 +134,7 @@ Rests its opened left cs rs ps =
     LeadsTo its opened left cs rs ps ⊎ (LeadsOn its opened left cs rs ps ⊎ StopsIn its opened left cs rs ps)
 
 -- A session that was stopped: up to then it is one. What it was about to say may be missing, or its last bytes. The
--- flash that is left is as its run or one command more left it, and the file was closed.
+-- flash that is left is as its run or one command more left it, and the file was closed. No file was claimed.
 pub record IsStopped (flash : FileFlashState) (old new : DeskTold) : Type 0 where
   pub number : ℕ
   pub good : Bool
@@ -145,6 +148,7 @@ pub record IsStopped (flash : FileFlashState) (old new : DeskTold) : Type 0 wher
   pub leaves : new.left ≡ Some left
   pub rests : Rests flash.config (shown flash) (shown left) cs rs ps
   pub closed : IsClosed left
+  pub claims : new.claims ≡ old.claims
 
 -- A session that did not begin: nothing was said, the flash that is left is as it was opened, and the file was closed.
 pub record IsUnbegun (flash : FileFlashState) (old new : DeskTold) : Type 0 where
@@ -153,6 +157,7 @@ pub record IsUnbegun (flash : FileFlashState) (old new : DeskTold) : Type 0 wher
   pub leaves : new.left ≡ Some left
   pub rests : moment_of (shown left) ≡ moment_of (shown flash)
   pub closed : IsClosed left
+  pub claims : new.claims ≡ old.claims
 
 -- a session that did not begin, since the image of the flash is not sound: this breach is its first
 abbrev pub IsUnsound : FileFlashState → Breach → DeskTold → DeskTold → Type 0
@@ -173,10 +178,10 @@ IsHeld flash Fault old new = BothTell (IsStoppedOrNone flash) old new
 IsHeld flash Starved old new = BothTell (IsStoppedOrNone flash) old new
 IsHeld flash _ old new = ⊥
 
--- The file that the words name was opened, and a session was held on its flash.
+-- The file that the words name was claimed and opened, and a session was held on its flash.
 pub record ServesFile (name : Option (List ℕ)) (good : Bool) (old new : DeskTold) : Type 0 where
   pub path : List ℕ
   pub named : name ≡ Some path
   pub flash : FileFlashState
   pub opens : OpensFile path flash old
-  pub session : IsSession flash good old new
+  pub session : IsSession flash good (with_claim path old) new

@@ -1,5 +1,7 @@
-ghost use Rattle.std.specs.Prelude.{◌≡◌, ◌≢◌, ◌≤◌, length, string_bytes, IfOk, OnOk, OnErr};
+ghost use Rattle.std.specs.Prelude.{◌≡◌, ◌≢◌, ◌≤◌, length, string_bytes, IfOk, IfErr, OnOk, OnErr};
+ghost use Rattle.desk_io.specs.Desk.{counted};
 ghost use Rattle.host_protocol.specs.Commands.{Suits};
+ghost use Rattle.live_session.specs.Faults.{FaultsCommand, FaultsLines, WhereFault};
 ghost use Rattle.live_session.specs.Hearing.{AnswersCommand, AnswersLine, AnswersPiece, HearsAll, HearsPartOrNone};
 ghost use Rattle.live_session.specs.Hearing.{StopsCommand, StopsLine, StopsPiece, StopsSaying};
 ghost use Rattle.live_session.specs.LineDesk.{BothTell, after, with_saying};
@@ -11,7 +13,7 @@ ghost use Rattle.live_session.specs.declared.desk.Next.TheVariants as next;
 ghost use Rattle.live_session.specs.declared.lines.TheConstants.{MAX_LINE_BYTES};
 
 use crate::{CallError, LineDesk, Next};
-use cut_replay::{ServeError, Server};
+use cut_replay::{NextError, ServeError, Server};
 use file_flash::{FileFlash, Store};
 use flash_model::NotDurable;
 use host_protocol::{Command, TextError, parse, reply_text};
@@ -39,14 +41,15 @@ impl From<CallError> for Stop {
     }
 }
 
-impl From<ServeError> for Stop {
+impl From<NextError> for Stop {
     ghost from_gives = { λ why e. e ≡ stop_of_serving why };
 
-    fn from(error: ServeError) -> Self {
+    fn from(error: NextError) -> Self {
         match error {
+            NextError::NotDurable => Stop::Fault,
             // A flash that was mounted is sound, so no session comes to this.
-            ServeError::Unsound { .. } => Stop::Fault,
-            ServeError::Memory => Stop::Memory,
+            NextError::Ended(ServeError::Unsound { .. }) => Stop::Fault,
+            NextError::Ended(ServeError::Memory) => Stop::Memory,
         }
     }
 }
@@ -88,6 +91,8 @@ pub fn answer_lines<S: Store + Drop, D: LineDesk<S, FileFlash<S>>, R: CommitRule
         (D.state desk.old).told (D.state desk.new).told) }
     ensures stops { OnErr result (BothTell (HearsPartOrNone server.old.config server.old.session server.new.session)
         (D.state desk.old).told (D.state desk.new).told) }
+    ensures fault { IfErr result (WhereFault (FaultsLines server.old.config
+        (D.state desk.old) (D.state desk.new) server.old.session server.new.session)) }
 {
     if !server.is_mounted() {
         return Err(Stop::Fault);
@@ -104,7 +109,7 @@ pub fn answer_lines<S: Store + Drop, D: LineDesk<S, FileFlash<S>>, R: CommitRule
         are_good = is_good && are_good;
     }
     // No machine comes to this line.
-    Err(Stop::Fault)
+    Err(Stop::Memory)
 }
 
 /// Answers what came next of the input, or says that the line of this number is bad. The answer is whether it is good.
@@ -123,6 +128,9 @@ fn answer_piece<S: Store + Drop, D: LineDesk<S, FileFlash<S>>, R: CommitRule>(
         (D.state desk.old).told server.old.session (D.state desk.new).told server.new.session) }
     ensures stops { OnErr result (StopsPiece server.old.config next line.now number
         (D.state desk.old).told server.old.session (D.state desk.new).told server.new.session) }
+    ensures calm { OnOk result ((D.state desk.new).faults ≡ (D.state desk.old).faults) }
+    ensures fault { IfErr result (WhereFault (FaultsCommand server.old.config
+        (D.state desk.old) (D.state desk.new) server.old.session server.new.session)) }
 {
     if next == Next::Line && answer_line(alloc, desk, server, line)? {
         return Ok(true);
@@ -145,6 +153,9 @@ fn answer_line<S: Store + Drop, D: LineDesk<S, FileFlash<S>>, R: CommitRule>(
         (D.state desk.old).told server.old.session (D.state desk.new).told server.new.session) }
     ensures stops { OnErr result (StopsLine server.old.config line.now
         (D.state desk.old).told server.old.session (D.state desk.new).told server.new.session) }
+    ensures calm { OnOk result ((D.state desk.new).faults ≡ (D.state desk.old).faults) }
+    ensures fault { IfErr result (WhereFault (FaultsCommand server.old.config
+        (D.state desk.old) (D.state desk.new) server.old.session server.new.session)) }
 {
     let page_bytes = server.config().page_bytes;
     match parse(alloc, line, page_bytes) {
@@ -173,12 +184,18 @@ fn answer_command<S: Store + Drop, D: LineDesk<S, FileFlash<S>>, R: CommitRule>(
         (D.state desk.old).told server.old.session (D.state desk.new).told server.new.session) }
     ensures stops { OnErr result (StopsCommand server.old.config command.now
         (D.state desk.old).told server.old.session (D.state desk.new).told server.new.session) }
+    ensures calm { OnOk result ((D.state desk.new).faults ≡ (D.state desk.old).faults) }
+    ensures fault { IfErr result (WhereFault (FaultsCommand server.old.config
+        (D.state desk.old) (D.state desk.new) server.old.session server.new.session)) }
 {
     let unflushed = server.serve_next(alloc, command)?;
     let reply = server.flush(unflushed)?;
     let mut text = Vec::new(alloc);
     reply_text(alloc, &reply, &mut text)?;
-    desk.answer(server.flash(), &text)?;
+    let flash = server.flash();
+    // It tells what a loss leaves of the file, which the desk may rest on.
+    let _ = flash.has_failed();
+    desk.answer(flash, &text)?;
     Ok(())
 }
 
@@ -192,6 +209,8 @@ fn say_bad_line<S: Store + Drop, D: LineDesk<S, FileFlash<S>>>(
     ensures says { OnOk result (D.state desk.new ≡ after (with_saying (plain (bad_line number))) (D.state desk.old)) }
     ensures stops { OnErr result (StopsSaying (plain (bad_line number))
         (D.state desk.old).told (D.state desk.new).told) }
+    ensures fault { IfErr result (WhereFault
+        ((D.state desk.new).faults ≡ counted (D.state desk.old).faults)) }
 {
     let line = bad_line(alloc, number)?;
     desk.say(line.as_bytes())?;

@@ -1,5 +1,6 @@
 ghost use Rattle.std.specs.Prelude.{◌≡◌, ◌⊎◌, true, false};
 ghost use Rattle.live_session.specs.Endings.{ending_of};
+ghost use Rattle.live_session.specs.Faults.{IsFaulted, WhereFailed};
 ghost use Rattle.live_session.specs.Hearing.{WhereClosed};
 ghost use Rattle.live_session.specs.LineDesk.{BothTell};
 ghost use Rattle.live_session.specs.Saying.{SaidDurably, SpellsLeft, SpellsWhereClosed};
@@ -32,6 +33,7 @@ pub fn top<S: Store + Drop, D: LineDesk<S, FileFlash<S>>>(
         BothTell (ServesFile (name_by words.now) true) (D.state desk.old).told (D.state desk.new).told }
     ensures bad { result ≡ 4 →
         BothTell (ServesFile (name_by words.now) false) (D.state desk.old).told (D.state desk.new).told }
+    ensures fault { result ≡ 5 → IsFaulted (name_by words.now) (D.state desk.old) (D.state desk.new) }
 {
     let ending = serve(alloc, words, desk);
     end(alloc, desk, ending)
@@ -49,6 +51,8 @@ fn serve<'a, S: Store + Drop, D: LineDesk<S, FileFlash<S>>>(
     ensures serves { WhereClosed
         (λ good. BothTell (ServesFile (name_by words.now) good) (D.state desk.old).told (D.state desk.new).told)
         (ending_of result) }
+    ensures fault { WhereFailed (IsFaulted (name_by words.now) (D.state desk.old) (D.state desk.new))
+        ((D.state desk.new).faults ≡ (D.state desk.old).faults) (ending_of result) }
 {
     let Some(name) = parse_words(words) else {
         return Ending::Refused(ImageRefusal::BadWords);

@@ -1,5 +1,6 @@
-ghost use Rattle.std.specs.Prelude.{◌≡◌};
+ghost use Rattle.std.specs.Prelude.{◌≡◌, ◌↔◌, IsTrue};
 ghost use Rattle.live_session.specs.Endings.{ending_of};
+ghost use Rattle.live_session.specs.Faults.{FaultsClosing, FaultsSession, WhereFailed};
 ghost use Rattle.live_session.specs.Hearing.{HearsAndCloses, StopsAndCloses, WhereClosed, WhereStopped};
 ghost use Rattle.live_session.specs.LineDesk.{BothTell};
 ghost use Rattle.live_session.specs.Saying.{SaidDurably, SpellsWhereClosed};
@@ -17,7 +18,7 @@ use program_base::ImageRefusal;
 use record_list::{Breach, CommitRule};
 use scc_commit::Scc;
 use std::alloc::Global;
-use tx_types::Protocol;
+use tx_types::{Config, Protocol};
 
 /// Serves the lines of the input on a flash, and closes its file.
 pub fn serve_flash<S: Store + Drop, D: LineDesk<S, FileFlash<S>>>(
@@ -34,6 +35,8 @@ pub fn serve_flash<S: Store + Drop, D: LineDesk<S, FileFlash<S>>>(
         (λ breach. BothTell (IsUnsound flash breach) (D.state desk.old).told (D.state desk.new).told)
         (BothTell (IsStoppedOrNone flash) (D.state desk.old).told (D.state desk.new).told)
         (ending_of result) }
+    ensures fault { WhereFailed (FaultsSession flash (D.state desk.old) (D.state desk.new))
+        ((D.state desk.new).faults ≡ (D.state desk.old).faults) (ending_of result) }
 {
     match flash.config().protocol {
         Protocol::Scc => serve_by::<S, D, Scc>(alloc, desk, flash),
@@ -57,6 +60,8 @@ fn serve_by<S: Store + Drop, D: LineDesk<S, FileFlash<S>>, R: CommitRule>(
         (λ breach. BothTell (IsUnsound flash breach) (D.state desk.old).told (D.state desk.new).told)
         (BothTell (IsStoppedOrNone flash) (D.state desk.old).told (D.state desk.new).told)
         (ending_of result) }
+    ensures fault { WhereFailed (FaultsSession flash (D.state desk.old) (D.state desk.new))
+        ((D.state desk.new).faults ≡ (D.state desk.old).faults) (ending_of result) }
 {
     let config = flash.config();
     match Server::<FileFlash<S>, R>::open(alloc, flash, config) {
@@ -85,22 +90,40 @@ fn serve_lines<S: Store + Drop, D: LineDesk<S, FileFlash<S>>, R: CommitRule>(
     ensures stops { WhereStopped (λ breach. ⊥)
         (BothTell (StopsAndCloses server.config server.session) (D.state desk.old).told (D.state desk.new).told)
         (ending_of result) }
+    ensures fault { WhereFailed
+        (FaultsClosing server.config (D.state desk.old) (D.state desk.new) server.session)
+        ((D.state desk.new).faults ≡ (D.state desk.old).faults) (ending_of result) }
 {
     let mut server = server;
+    let config = server.config();
     let answered = answer_lines(alloc, desk, &mut server);
     let mut flash = server.close();
     let closed = flash.close();
+    let is_same = has_config(&flash, config);
     desk.release(flash);
-    ending_of(answered, closed)
+    ending_of(answered, closed, is_same)
+}
+
+/// Whether this is the configuration of a flash.
+fn has_config<S: Store + Drop>(flash: &FileFlash<S>, config: Config) -> bool
+    ensures { IsTrue result ↔ (flash.now.config ≡ config) }
+{
+    flash.config() == config
 }
 
 /// How a session ends: the first thing that failed decides.
-fn ending_of(answered: Result<bool, Stop>, closed: Result<(), NotDurable>) -> Ending<'static>
-    ensures { ending_of result ≡ ending_after answered closed }
+fn ending_of(
+    answered: Result<bool, Stop>,
+    closed: Result<(), NotDurable>,
+    is_same: bool,
+) -> Ending<'static>
+    ensures { ending_of result ≡ ending_after answered closed is_same }
 {
     match (answered, closed) {
         (Err(stop), _) => stopped(stop),
         (Ok(_), Err(NotDurable)) => Ending::Fault,
+        // No session comes to another configuration.
+        (Ok(_), Ok(())) if !is_same => Ending::Fault,
         (Ok(true), Ok(())) => Ending::Closed,
         (Ok(false), Ok(())) => Ending::BadLine,
     }

@@ -1,7 +1,10 @@
-use Rattle.std.proofs.Common.{None, Ok, ap, refl, subst, sym, ◌∙◌, ◌≡◌, ◌&&◌, ◌+◌}
+use Rattle.std.proofs.Common.{None, Ok, ap, inl, inr, refl, subst, sym, ◌∙◌, ◌≡◌, ◌&&◌, ◌+◌}
+use Rattle.live_session.specs.Faults.{FaultsLines}
 use Rattle.live_session.specs.Hearing.{AnswersPiece, Hears, StopsPiece}
-use Rattle.live_session.specs.LineDesk.{BothTell, ReadsLine}
+use Rattle.live_session.specs.LineDesk.{BothTell, LineDeskState, ReadsLine}
+use Rattle.live_session.specs.Sessions.{stop_of_call}
 use Rattle.live_session.proofs.Durably.{reads_durably, says_durably}
+use Rattle.live_session.proofs.Faulting.{by_error, lines_fault, piece_fault, reads_fault, says_fault}
 use Rattle.live_session.proofs.Stopping.{on_err, part_begins, part_here, part_piece, part_unread, says_stops}
 use Rattle.live_session.proofs.Talking.{and_false, and_true, heard_all, heard_piece, hears_none, is_end, not_end}
 use Rattle.live_session.proofs.answering.answer_lines.Goals as goal
@@ -43,6 +46,7 @@ loop-number-init g c = (
   λ said. said,
   refl,
   hears_none (g.D.LineDesk.state c.say.new.self).told c.args.server.now.config c.args.server.now.session,
+  refl,
 )
 
 pub loop-number-preserved : goal.loop-number-preserved
@@ -83,6 +87,8 @@ loop-number-preserved g c =
           (λ x. BothTell (Hears its x c.args.server.now.session c.answer_piece.new.server.session
           (c.loop-number.number + 1)) first told)
           (sym good) heard,
+      c.in_ok-is_good.ensures.calm
+          ∙ (ap (λ (d : LineDeskState). d.faults) c.in_ok-next.ensures.reads.1 ∙ c.loop-number.invariant.3),
     )
 
 pub returns-then-eq-clause-hears : goal.returns-then-eq-clause-hears
@@ -142,3 +148,58 @@ returns-clause-stops g c =
     c.loop-number.number (g.D.LineDesk.state c.args.desk.now).told (g.D.LineDesk.state c.say.new.self).told
     (g.D.LineDesk.state c.loop-number.desk).told (sym c.is_mounted.ensures ∙ c.if-not-is_mounted.false)
     (ap (λ d. d.told) c.in_ok-say.ensures) c.loop-number.invariant.2
+
+pub returns-then-not-is_mounted-clause-fault : goal.returns-then-not-is_mounted-clause-fault
+returns-then-not-is_mounted-clause-fault g c =
+    inr (inr (inl (sym c.is_mounted.ensures ∙ c.if-not-is_mounted.true, refl, refl)))
+
+pub returns-in_err-say-clause-fault : goal.returns-in_err-say-clause-fault
+returns-in_err-say-clause-fault g c =
+    let its = c.args.server.now.config in
+    let s = c.args.server.now.session in
+    let before = g.D.LineDesk.state c.args.desk.now in
+    let now = g.D.LineDesk.state c.say.new.self in
+    let why = stop_of_call c.in_err-say.field-0.0 in
+    by_error c.from_residual.result why (FaultsLines its before now s s) c.from_residual.ensures.1
+    (lines_fault its before before now s s why refl
+    (says_fault None before now _ c.in_err-say.field-0.0 c.in_err-say.ensures))
+
+pub returns-in_err-next-clause-fault : goal.returns-in_err-next-clause-fault
+returns-in_err-next-clause-fault g c =
+    let its = c.args.server.now.config in
+    let s = c.args.server.now.session in
+    let t = c.loop-number.server.session in
+    let before = g.D.LineDesk.state c.args.desk.now in
+    let mid = g.D.LineDesk.state c.loop-number.desk in
+    let now = g.D.LineDesk.state c.next_line.new.self in
+    let why = stop_of_call c.in_err-next.field-0.0 in
+    by_error c.from_residual-in_err-next.result why (FaultsLines its before now s t)
+    c.from_residual-in_err-next.ensures.1
+    (lines_fault its before mid now s t why
+    (c.loop-number.invariant.3 ∙ ap (λ (d : LineDeskState). d.faults) c.in_ok-say.ensures)
+    (reads_fault mid now c.next_line.new.line.items c.in_err-next.field-0.0 c.in_err-next.ensures.reads))
+
+pub returns-in_err-is_good-clause-fault : goal.returns-in_err-is_good-clause-fault
+returns-in_err-is_good-clause-fault g c =
+    let its = c.args.server.now.config in
+    let s = c.args.server.now.session in
+    let t = c.loop-number.server.session in
+    let u = c.answer_piece.new.server.session in
+    let before = g.D.LineDesk.state c.args.desk.now in
+    let mid = g.D.LineDesk.state c.next_line.new.self in
+    let now = g.D.LineDesk.state c.answer_piece.new.desk in
+    let why = c.in_err-is_good.field-0.0 in
+    by_error c.from_residual-in_err-is_good.result why (FaultsLines its before now s u)
+    c.from_residual-in_err-is_good.ensures.1
+    (piece_fault its c.loop-number.server.config c.loop-number.are_good s t u c.loop-number.number before mid now
+    (g.D.LineDesk.state c.say.new.self).told (g.D.LineDesk.state c.loop-number.desk).told why
+    c.loop-number.invariant.1 (sym c.is_mounted.ensures ∙ c.if-not-is_mounted.false)
+    (ap (λ (d : LineDeskState). d.told) c.in_ok-say.ensures) c.loop-number.invariant.2
+    (ap (λ (d : LineDeskState). d.faults) c.in_ok-next.ensures.reads.1
+    ∙ (c.loop-number.invariant.3 ∙ ap (λ (d : LineDeskState). d.faults) c.in_ok-say.ensures))
+    c.in_err-is_good.ensures.fault)
+
+pub returns-in_err-say-clause-durable : goal.returns-in_err-say-clause-durable
+returns-in_err-say-clause-durable g c = λ said.
+    says_durably None (g.D.LineDesk.state c.args.desk.now) (g.D.LineDesk.state c.say.new.self) _ c.say.result tt
+    c.say.ensures said

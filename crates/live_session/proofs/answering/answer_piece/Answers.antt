@@ -1,6 +1,9 @@
-use Rattle.std.proofs.Common.{ap, subst, ◌∙◌}
+use Rattle.std.proofs.Common.{◌≡◌, ap, subst, ◌∙◌}
+use Rattle.live_session.specs.Faults.{FaultsCommand}
 use Rattle.live_session.specs.Hearing.{StopsPiece, StopsSaying}
+use Rattle.live_session.specs.LineDesk.{LineDeskState}
 use Rattle.live_session.specs.Talks.{bad_line, plain}
+use Rattle.live_session.proofs.Faulting.{by_error, say_fault}
 use Rattle.live_session.proofs.Stopping.{answered_bad, not_line, on_err, stops_bad}
 use Rattle.live_session.proofs.answering.answer_piece.Goals as goal
 use Rattle.live_session.proofs.answering.answer_piece.Goals.{else-eq-via-then-eq+in_ok-answer_line+else-branch, else-eq-via-else-eq}
@@ -32,3 +35,40 @@ returns-in_err-say_bad_line-clause-stops g c =
           (λ x. StopsSaying (plain (bad_line c.args.number)) x (g.D.LineDesk.state c.say_bad_line.new.desk).told)
           (ap (λ d. (g.D.LineDesk.state d).told) w.desk-is) c.in_err-say_bad_line.ensures.stops)
     ])
+
+pub returns-in_err-answer_line-clause-fault : goal.returns-in_err-answer_line-clause-fault
+returns-in_err-answer_line-clause-fault g c =
+    by_error c.from_residual.result c.in_err-answer_line.field-0.0
+    (FaultsCommand c.args.server.now.config (g.D.LineDesk.state c.args.desk.now)
+    (g.D.LineDesk.state c.answer_line.new.desk) c.args.server.now.session c.answer_line.new.server.session)
+    c.from_residual.ensures.1 c.in_err-answer_line.ensures.fault
+
+pub returns-in_err-say_bad_line-clause-fault : goal.returns-in_err-say_bad_line-clause-fault
+returns-in_err-say_bad_line-clause-fault g c =
+    let its = c.args.server.now.config in
+    let before = g.D.LineDesk.state c.args.desk.now in
+    let mid = g.D.LineDesk.state c.else-eq.desk in
+    let now = g.D.LineDesk.state c.say_bad_line.new.desk in
+    let same : mid.faults ≡ before.faults = elim c.else-eq.branch [
+      | else-eq-via-then-eq+in_ok-answer_line+else-branch w ↦
+          ap (λ d. (g.D.LineDesk.state d).faults) w.desk-is ∙ w.in_ok-answer_line.ensures.calm
+      | else-eq-via-else-eq w ↦ ap (λ d. (g.D.LineDesk.state d).faults) w.desk-is
+    ]
+    in
+    by_error c.from_residual-in_err-say_bad_line.result c.in_err-say_bad_line.field-0.0
+    (FaultsCommand its before now c.args.server.now.session c.else-eq.server.session)
+    c.from_residual-in_err-say_bad_line.ensures.1
+    (say_fault its before mid now c.args.server.now.session c.else-eq.server.session c.in_err-say_bad_line.field-0.0
+    same c.in_err-say_bad_line.ensures.fault)
+
+pub returns-clause-calm : goal.returns-clause-calm
+returns-clause-calm g c =
+    let before = g.D.LineDesk.state c.args.desk.now in
+    let mid = g.D.LineDesk.state c.else-eq.desk in
+    let same : mid.faults ≡ before.faults = elim c.else-eq.branch [
+      | else-eq-via-then-eq+in_ok-answer_line+else-branch w ↦
+          ap (λ d. (g.D.LineDesk.state d).faults) w.desk-is ∙ w.in_ok-answer_line.ensures.calm
+      | else-eq-via-else-eq w ↦ ap (λ d. (g.D.LineDesk.state d).faults) w.desk-is
+    ]
+    in
+    ap (λ (d : LineDeskState). d.faults) c.in_ok-say_bad_line.ensures.says ∙ same

@@ -4,6 +4,7 @@ use Rattle.live_session.specs.Talks.{ServesFile}
 use Rattle.live_session.specs.Words.{name_by}
 use Rattle.live_session.proofs.Closing.{bad_ending, closing_ending, good_ending}
 use Rattle.live_session.proofs.Durably.{ends_durably}
+use Rattle.live_session.proofs.Faulting.{ends_fault}
 use Rattle.live_session.proofs.call.top.Goals as goal
 
 pub returns-clause-ends : goal.returns-clause-ends
@@ -39,3 +40,9 @@ returns-clause-bad g c = λ answer.
     (ending_of c.serve-ending.result)
     (g.D.LineDesk.state c.serve-ending.new.desk) (g.D.LineDesk.state c.end.new.desk) c.end.result c.end.ensures.ends
     c.serve-ending.ensures.serves answer
+
+pub returns-clause-fault : goal.returns-clause-fault
+returns-clause-fault g c = λ answer.
+    ends_fault (name_by c.args.words.now) (ending_of c.serve-ending.result) (g.D.LineDesk.state c.args.desk.now)
+    (g.D.LineDesk.state c.serve-ending.new.desk) (g.D.LineDesk.state c.end.new.desk) c.end.result c.end.ensures.ends
+    c.serve-ending.ensures.fault answer

@@ -1,5 +1,7 @@
 use Rattle.live_session.specs.Endings.{ending_of}
+use Rattle.live_session.specs.Faults.{FaultsSession}
 use Rattle.live_session.proofs.Durably.{leaves_durably}
+use Rattle.live_session.proofs.Faulting.{session_fault, unopened_fault}
 use Rattle.live_session.proofs.Stopping.{is_stopped, unopened_said}
 use Rattle.live_session.proofs.Talking.{is_session}
 use Rattle.live_session.proofs.session.serve_by.Goals as goal
@@ -27,3 +29,16 @@ returns-in-Err-clause-stops g c =
     (unopened_said c.config-config.result c.args.flash c.in-Err.flash c.close.new.self c.in-Err.why c.close.result
     (g.D.LineDesk.state c.args.desk.now) (g.D.LineDesk.state c.release.new.self) c.config-config.ensures.config
     c.in-Err.ensures.failed c.close.ensures.stays c.close.ensures.answer c.close.ensures.spelled c.release.ensures)
+
+pub returns-in-Ok-clause-fault : goal.returns-in-Ok-clause-fault
+returns-in-Ok-clause-fault g c =
+    session_fault (g.D.LineDesk.state c.args.desk.now) (g.D.LineDesk.state c.serve_lines.new.desk) c.args.flash
+    c.config-config.result c.in-Ok.server (ending_of c.serve_lines.result) c.config-config.ensures.config
+    c.in-Ok.ensures.opens c.serve_lines.ensures.stops c.serve_lines.ensures.fault
+
+pub returns-in-Err-clause-fault : goal.returns-in-Err-clause-fault
+returns-in-Err-clause-fault g c =
+    let before = g.D.LineDesk.state c.args.desk.now in
+    let now = g.D.LineDesk.state c.release.new.self in
+    rw c.not_mounted.ensures
+    (unopened_fault (FaultsSession c.args.flash before now) c.in-Err.why c.close.new.self before now c.release.ensures)
