@@ -20,7 +20,7 @@ def program_argument(parser: argparse.ArgumentParser) -> None:
 def found_program(path: str) -> str:
     """The whole path of a program. Where there is none, this ends the script with a sentence."""
     if not os.access(path, os.X_OK) or os.path.isdir(path):
-        raise SystemExit(f"There is no program {path}: ./txflash builds it, or name another one.")
+        raise SystemExit(f"There is no program {path}: ./txflash and ./flash_serve build theirs, or name another one.")
     return os.path.abspath(path)
 
 

@@ -13,12 +13,13 @@ from programs import MANUAL, NOT_STARTED, built_program, options_of, version
 
 USAGE = f"""flash_serve is a live flash disk: an image file stays open, and each line of the input is answered at once.
 
-    ./flash_serve [OPTIONS] IMAGE      says `serving`, and then the reply of each line that asks for one
+    ./flash_serve [OPTIONS] IMAGE      prints `serving`, and then the reply to each line that asks for one
 
     --version, --help
 
-The lines are those of a command file. What was answered is durable. The end of the input closes the image; a session
-that was killed is mended by ./flash_serve IMAGE </dev/null. The manual is {MANUAL}, 'A live device'.
+The lines are those of a command file. What was answered is durable. The end of the input closes the image; where a
+session was killed, ./flash_serve IMAGE </dev/null makes an image file of it again.
+The manual is {MANUAL}, 'A live device'.
 """
 OPTIONS = ("--help", "--version", "--unproved")
 

@@ -23,9 +23,9 @@ count or do not.
     --svg                       draws in SVG, for a browser
     --block N, --page N         lists the slots of a block, or those with records of a page, in place of a picture
     --loose                     lists those with loose records, and with records that are held for them
-    --unsound                   draws an image too whose records contradict each other
-    --color always|never|auto   colours in text; auto, on a terminal alone, if nothing is said
-    --unproved                  without any proof, where the program is not built
+    --unsound                   also draws an image whose records contradict each other
+    --color always|never|auto   colours in text; auto, as without it, on a terminal alone
+    --unproved                  needs no proof where the program is not built
     --version, --help
 
 Options stand in any order; what stands behind -- is a name. The manual is {MANUAL}, 'A picture of a flash'.

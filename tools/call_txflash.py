@@ -21,15 +21,15 @@ MAGICS = (b"TXFLASH1", b"TXFLASH2")
 MOST_READ = 1 << 24
 
 TABLE = f"""txflash is a flash disk on which several pages change at once, all or none, whatever breaks: an image file
-holds its flash, and a file of commands says what its host does.
+holds its flash, and a file of commands has what its host asks for.
 
-    ./txflash [OPTIONS] WORDS        the words are one of
+    ./txflash [OPTIONS] WORDS        options first; the words are one of
 
 {{rows}}
 
-    --unproved    before the words: on copies of the files, and without any proof where the program is not built
-    --keep        with --unproved: the image that the call leaves is kept all the same
-    --replace     with format: also a file that is no image is replaced
+    --unproved    works on copies of the files, and needs no proof where the program is not built
+    --keep        with --unproved: keeps the image that the call leaves
+    --replace     with format: also replaces a file that is no image
     --version, --help
 
 The manual is {MANUAL}

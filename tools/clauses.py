@@ -149,7 +149,7 @@ def document():
 
 
 def mistakes():
-    """What keeps an answers file from being read: no goal in it, or an import from a file of proofs that is not there."""
+    """What keeps an answers file from being read: no goal in it, or an import of a file of proofs that is missing."""
     for _, paths in answers():
         for path in paths:
             text = path.read_text()

@@ -26,12 +26,12 @@ ROWS = (
     ("format", "IMAGE PROTOCOL PAGE PAGES BLOCKS DIES LOGICAL PENDING [ALLOWANCE]",
      "writes an image file with a blank device"),
     ("run", "IMAGE COMMANDS", "serves the commands of a file on the device of an image, and saves the image"),
-    ("explain", "IMAGE", "says the verdict on each page of an image"),
-    ("check", "IMAGE REPORT", "says whether a file is the report on an image"),
-    ("compare", "A B", "says whether two images stand for one array, or where they differ first"),
-    ("keys", "IMAGE SCRIPT", "serves puts and gets of short keys on the store of an image, and saves the image"),
-    ("retire", "IMAGE BLOCK", "puts a fresh block in the place of one of an image, and saves the image"),
-    ("drive", "START COUNT PROTOCOL", "serves generated commands on a fresh device in memory, and sums the replies up"),
+    ("explain", "IMAGE", "prints the verdict on each page of an image"),
+    ("check", "IMAGE REPORT", "prints whether a file is the report on an image"),
+    ("compare", "A B", "prints whether two images have the same array, or where they differ first"),
+    ("keys", "IMAGE SCRIPT", "serves puts and gets of short keys on the device of an image, and saves the image"),
+    ("retire", "IMAGE BLOCK", "puts a fresh block in place of one of an image, and saves the image"),
+    ("drive", "START COUNT PROTOCOL", "serves generated commands on a fresh device in memory, and sums up the replies"),
 )
 FORMS = {verb: form for verb, form, _ in ROWS}
 NAMES = ("IMAGE", "COMMANDS", "REPORT", "SCRIPT", "A", "B")

@@ -1,17 +1,20 @@
 #!/usr/bin/env python3
 """prove.py PROGRAM: proves the crates that a program of crates.txt stands on, and builds the program.
 
-rt proves them side by side, as many as processors and memory allow. What is proved stays in the folders
-crates/NAME/out, also where this is stopped, and only what has changed is proved again. Notes go to standard error, in
-the name of the program. The status is 0 where the program is built, 125 where it is not, and 129, 130 or 143 where a
-signal ended this.
+rt ci proves them side by side, on a copy of these crates without their edits. What it has proved it keeps beside the
+toolchain, also where this is stopped: neither this nor the gate proves the same files again on this machine, in this
+clone or another. Where it can keep nothing there, as beside the toolchain of another user, rt check proves them, and
+what is proved stays in the folders crates/NAME/out. Notes go to standard error, in the name of the program. The status
+is 0 where the program is built, 125 where it is not, and 129, 130 or 143 where a signal ended this.
 """
 
 import os
 import re
+import shutil
 import signal
 import subprocess
 import sys
+import tempfile
 import time
 from typing import IO, Dict, Iterator, List, Optional, Set
 
@@ -60,6 +63,26 @@ def sources_of(name: str) -> Iterator[str]:
         yield from (f"{at}/{it}" for it in files if it.endswith((".rt", ".antt")))
 
 
+def copy_crates(names: Set[str], to: str) -> None:
+    """Copies crates without their edits to a folder, which is then the top of a repository."""
+    os.mkdir(f"{to}/.git")
+    for name in names:
+        left_out = shutil.ignore_patterns("out", "must-fail")
+        shutil.copytree(f"{TOP}/crates/{name}", f"{to}/crates/{name}", ignore=left_out)
+    shutil.copy(f"{TOP}/HANDLES", to)
+    with open(f"{TOP}/crates.txt", encoding="utf-8") as file, open(f"{to}/crates.txt", "w", encoding="utf-8") as copy:
+        copy.writelines(line for line in file if {*line.partition(":")[0].split()[:1]} <= names)
+
+
+def keeps() -> bool:
+    """Whether rt ci can keep what it proves: in a folder beside the toolchain, for the owner of that folder alone."""
+    beside = os.path.dirname(os.path.dirname(os.path.dirname(os.path.realpath(shutil.which("rt") or "/"))))
+    try:
+        return os.stat(f"{beside}/rattle-kept").st_uid == os.geteuid()
+    except OSError:
+        return os.access(beside, os.W_OK)
+
+
 def free_bytes() -> int:
     """Bytes of memory that can be had now."""
     with open("/proc/meminfo", encoding="utf-8") as file:
@@ -79,10 +102,11 @@ class Proofs:
     def __init__(self, program: str) -> None:
         self.program = program
         self.names = stands_on(program)
-        self.stamp = f"{path_of(program)}.stamp"
+        self.stamp = f"{path_of(program)}.proved"
         self.begun = time.time()
         self.done = 0
         self.child: "Optional[subprocess.Popen[str]]" = None
+        self.room = ""
 
     def tell(self, text: str) -> None:
         """Says a line."""
@@ -101,11 +125,17 @@ class Proofs:
         paths = [f"{TOP}/crates.txt", *(path for name in self.names for path in sources_of(name))]
         return all(os.stat(path).st_mtime <= made for path in paths)
 
-    def lines_of(self, *words: str) -> IO[str]:
-        """Starts rt in the folder of the program, and answers the lines that it says, as they come."""
+    def note(self, name: str) -> None:
+        """Says that a crate is done, if the program stands on it."""
+        if name in self.names:
+            self.done += 1
+            self.tell_progress(f"{name} is done")
+
+    def lines_of(self, folder: str, *words: str) -> IO[str]:
+        """Starts rt in a folder, and answers the lines that it says, as they come."""
         self.child = subprocess.Popen(
             ["rt", *words],
-            cwd=f"{TOP}/crates/{self.program}",
+            cwd=folder,
             stdin=subprocess.DEVNULL,
             stdout=subprocess.PIPE,
             stderr=subprocess.STDOUT,
@@ -114,15 +144,37 @@ class Proofs:
         )
         return self.child.stdout
 
+    def make(self) -> bool:
+        """Proves the crates and builds the program by rt ci, in a copy. Answers whether it is built; what rt says where
+        it is not is said."""
+        with tempfile.TemporaryDirectory(prefix="txflash-") as self.room:
+            copy_crates(self.names, self.room)
+            said: List[str] = []
+            block: List[str] = []
+            for line in self.lines_of(self.room, "ci"):
+                block.append(line)
+                if found := re.match(r"rt: (\w+) (proved$|is kept\b|NOT PROVED)", line):
+                    if found[2] == "NOT PROVED":
+                        said += block
+                    else:
+                        self.note(found[1])
+                    block = []
+            if self.child.wait() != 0:
+                tell_text("".join(said + block))
+                return False
+            os.makedirs(os.path.dirname(self.stamp), exist_ok=True)
+            made = f"{path_of(self.program)}.new"
+            shutil.copy(f"{self.room}/crates/{self.program}/out/{self.program}", made)
+            os.replace(made, path_of(self.program))
+        return True
+
     def prove(self) -> bool:
-        """Proves the crates. Answers whether all are proved; what rt says of the others is said."""
+        """Proves the crates by rt check. Answers whether all are proved; what rt says of the others is said."""
         said, name = {}, None
-        for line in self.lines_of("all", "check", "--jobs", str(at_once())):
+        for line in self.lines_of(f"{TOP}/crates/{self.program}", "all", "check", "--jobs", str(at_once())):
             if found := re.match(r"== (\w+)$", line):
                 name = found[1]
-                if name in self.names:
-                    self.done += 1
-                    self.tell_progress(f"{name} is done")
+                self.note(name)
             said.setdefault(name, []).append(line)
         if self.child.wait() == 0:
             return True
@@ -133,10 +185,10 @@ class Proofs:
         return False
 
     def build(self) -> bool:
-        """Builds the program of proved crates. Answers whether it is built: rt makes its stamp then."""
-        said = list(self.lines_of("run", "--", *WORDS[self.program]))
+        """Builds the program of crates that rt check proved. Answers whether it is built: rt makes its stamp then."""
+        said = list(self.lines_of(f"{TOP}/crates/{self.program}", "run", "--", *WORDS[self.program]))
         self.child.wait()
-        if os.path.exists(self.stamp):
+        if os.path.exists(f"{path_of(self.program)}.stamp"):
             return True
         tell_text("".join(said))
         return False
@@ -144,11 +196,12 @@ class Proofs:
     def run(self) -> int:
         """Proves and builds. Answers the status."""
         self.tell("proving and building the program first; README.md says how long that takes")
-        if not (self.prove() and self.build()):
+        if not (self.make() if keeps() else self.prove() and self.build()):
             self.tell("the program was not built: see above")
             return 125
         # A source that has changed since this began is newer than the stamp, so that the next call builds again.
-        os.utime(self.stamp, (self.begun, self.begun))
+        with open(self.stamp, "w", encoding="utf-8"):
+            os.utime(self.stamp, (self.begun, self.begun))
         self.tell_progress("the program is built")
         return 0
 
@@ -159,6 +212,8 @@ class Proofs:
                 os.killpg(self.child.pid, signal.SIGTERM)
             except ProcessLookupError:
                 pass
+            self.child.wait()
+        shutil.rmtree(self.room, ignore_errors=True)
         self.tell_progress("stopped; what is proved is kept for the next call")
         os._exit(128 + number)
 

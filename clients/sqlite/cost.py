@@ -177,28 +177,13 @@ def counted(pages: int) -> str:
 
 
 def table(results: Results) -> List[str]:
-    lines = [f"| pages | way | {' | '.join(COLUMNS)} |", f"|{'---|' * (2 + len(COLUMNS))}"]
-    for pages in COUNTS:
-        for way in WAYS:
-            numbers = [form.format(it) for form, it in zip(FORMATS, results[way, pages].numbers())]
-            lines.append(f"| {pages} | {way.name} | {' | '.join(numbers)} |")
+    """A row for each way. A cell has a number for each size of commits."""
+    lines = [f"| way | {' | '.join(COLUMNS)} |", f"|{'---|' * (1 + len(COLUMNS))}"]
+    for way in WAYS:
+        sizes = [results[way, pages].numbers() for pages in COUNTS]
+        cells = [" / ".join(map(form.format, column)) for form, column in zip(FORMATS, zip(*sizes))]
+        lines.append(f"| {way.name} | {' | '.join(cells)} |")
     return lines
-
-
-def losses(results: Results) -> List[str]:
-    """Where another way does better than the device: a line for each column and way."""
-    found = []
-    for column, (name, form) in enumerate(zip(COLUMNS, FORMATS)):
-        for way in WAYS[:2]:
-            pairs = {pages: [form.format(results[it, pages].numbers()[column]) for it in (DEVICE, way)]
-                     for pages in COUNTS}
-            sign = -1 if column == 0 else 1
-            lost = [it for it, (own, other) in pairs.items() if sign * float(own) > sign * float(other)]
-            own, other = (" / ".join(pairs[it][place] for it in lost) for place in (0, 1))
-            if lost:
-                sizes = " / ".join(map(str, lost)) + (" page" if lost == [1] else " pages")
-                found.append(f"- {name} at {sizes}: {own}, with the {way.name} {other}")
-    return found or ["- in no number of this table"]
 
 
 def panels(results: Results) -> List[Panel]:
@@ -208,8 +193,8 @@ def panels(results: Results) -> List[Panel]:
     return [Panel(COLUMNS[0], groups(0)), Panel("KiB to the disk for a commit", groups(4))]
 
 
-def wrapped(words: str, indent: str = "") -> List[str]:
-    return textwrap.wrap(words, 120, subsequent_indent=indent, break_on_hyphens=False)
+def wrapped(words: str) -> List[str]:
+    return textwrap.wrap(words, 120, break_on_hyphens=False)
 
 
 def report(rounds: Rounds, folder: str, sync: float, load: float) -> List[str]:
@@ -220,21 +205,14 @@ def report(rounds: Rounds, folder: str, sync: float, load: float) -> List[str]:
     return [
         *wrapped(
             f"Measured on {processor()}, {kind} on {device}, SQLite {say('version')[0]}. A sync of a page took "
-            f"{sync:.2f} ms there. A row is the best of {number} rounds, each with {commits}; within a row the worst "
-            f"round had at least 1/{spread(rounds):.1f} of the speed. The load of the machine was {load:.1f} before, "
-            f"and {os.getloadavg()[0]:.1f} after{priority}."
-        ),
-        "",
-        *table(results),
-        "",
-        *wrapped(
-            f"A page that is not in SQLite's cache takes {reading(rounds, WAYS[0]):.0f} µs from a file in the memory of "
+            f"{sync:.2f} ms there. A cell has commits of {', '.join(map(str, COUNTS))} pages, each the best of "
+            f"{number} rounds, a round with {commits}; the worst one had at least 1/{spread(rounds):.1f} of the "
+            f"speed. The load of the machine was {load:.1f} before, and {os.getloadavg()[0]:.1f} after{priority}. A "
+            f"page that is not in SQLite's cache takes {reading(rounds, WAYS[0]):.0f} µs from a file in the memory of "
             f"the system, and {reading(rounds, DEVICE):.0f} µs from the device."
         ),
         "",
-        f"**Where the {DEVICE.name}, does worse than SQLite's own ways:**",
-        "",
-        *(line for loss in losses(results) for line in wrapped(loss, "  ")),
+        *table(results),
         "",
         "![The table as a picture](cost.svg)",
     ]

@@ -10,7 +10,8 @@ from programs import TOP
 # Answers as the program does where that is told by its words, and makes an image of nothing but a magic.
 PROGRAM = """#!/bin/sh
 case $1 in
-    try) [ "$2" != bad.txt ] || { echo "bad line 2"; exit 4; }; [ -f "$2" ] || { echo "no file $2"; exit 2; }; cat "$2" ;;
+    try) [ "$2" != bad.txt ] || { echo "bad line 2"; exit 4; }
+        [ -f "$2" ] || { echo "no file $2"; exit 2; }; cat "$2" ;;
     format) printf TXFLASH1 >"$2" && echo "formatted $2 32" ;;
     run) [ -f "$2" ] || { echo "desk fault"; exit 5; }; printf ' run' >>"$2"; echo done ;;
     drive) kill -TERM $$ ;;

@@ -152,7 +152,13 @@ fn stands_behind_each(
 
 /// How many replies are this word.
 fn count_of(said: &str, word: &str) -> usize {
-    said.split('\n').filter(|line| *line == word).count()
+    let mut count: usize = 0;
+    for line in said.split('\n') {
+        if line == word {
+            count = count.saturating_add(1);
+        }
+    }
+    count
 }
 
 /// Runs the history with this arm. Returns how many replies are `cut` and how many are `fault`, or nothing where a
@@ -200,13 +206,15 @@ fn is_right(alloc: Global, protocol: &str, line: &str) -> Result<bool, AllocErro
     Ok(true)
 }
 
+/// Whether a kind of arms is answered as its line says, where there is memory.
+fn is_answered(alloc: Global, protocol: &str, line: &str) -> bool {
+    matches!(is_right(alloc, protocol, line), Ok(true))
+}
+
 #[test]
 fn each_arm_in_each_place(rt: HostRuntime) {
     for line in ARMS.split('\n') {
-        assert!(rt; is_right(rt.alloc(), "scc", line) == Ok(true), "scc {line}");
-        assert!(rt;
-            is_right(rt.alloc(), "bpcc", line) == Ok(true),
-            "bpcc {line}"
-        );
+        assert!(rt; is_answered(rt.alloc(), "scc", line), "scc {line}");
+        assert!(rt; is_answered(rt.alloc(), "bpcc", line), "bpcc {line}");
     }
 }

@@ -1,22 +1,20 @@
 //! The program on real files, in a folder of the test's own. What it says is written to a file there.
 use crate::calls::{lines_of, status_of};
 use desk_io::{RealDesk, RealFolder};
-use std::alloc::{AllocError, Allocator, Global};
+use std::alloc::{AllocError, Global};
 use std::fmt::Display;
-use std::fs::{Metadata, OpenOptions};
+use std::fs::OpenOptions;
 use std::io::Write;
-use std::path::PathBuf;
-use std::rt::Files;
 use std::{fs, io};
 
 /// A runtime whose standard output is a file.
 #[derive(Drop)]
-struct Printing<'a, R> {
-    rt: &'a R,
+struct Printing<'a> {
+    rt: &'a HostRuntime,
     output: &'a str,
 }
 
-impl<R: AllocGlobal> Alloc for Printing<'_, R> {
+impl Alloc for Printing<'_> {
     type A = Global;
 
     fn alloc(&self) -> Global {
@@ -24,7 +22,7 @@ impl<R: AllocGlobal> Alloc for Printing<'_, R> {
     }
 }
 
-impl<R: Files + AllocGlobal> Print for Printing<'_, R> {
+impl Print for Printing<'_> {
     fn print<D: Display + Drop>(&self, value: D) -> io::Result<()> {
         let text = format!(in self.rt.alloc(); "{value}")?;
         self.write_all(text.as_bytes())
@@ -42,67 +40,13 @@ impl<R: Files + AllocGlobal> Print for Printing<'_, R> {
     }
 }
 
-impl<R: Files> Files for Printing<'_, R> {
-    type File = R::File;
-
-    type Dir = R::Dir;
-
-    fn open_file(&self, how: &OpenOptions, path: &str) -> io::Result<R::File> {
-        self.rt.open_file(how, path)
-    }
-
-    fn open_dir(&self, path: &str) -> io::Result<R::Dir> {
-        self.rt.open_dir(path)
-    }
-
-    fn metadata(&self, path: &str) -> io::Result<Metadata> {
-        self.rt.metadata(path)
-    }
-
-    fn symlink_metadata(&self, path: &str) -> io::Result<Metadata> {
-        self.rt.symlink_metadata(path)
-    }
-
-    fn copy(&self, from: &str, to: &str) -> io::Result<u64> {
-        self.rt.copy(from, to)
-    }
-
-    fn rename(&self, from: &str, to: &str) -> io::Result<()> {
-        self.rt.rename(from, to)
-    }
-
-    fn remove_file(&self, path: &str) -> io::Result<()> {
-        self.rt.remove_file(path)
-    }
-
-    fn create_dir(&self, path: &str) -> io::Result<()> {
-        self.rt.create_dir(path)
-    }
-
-    fn remove_dir(&self, path: &str) -> io::Result<()> {
-        self.rt.remove_dir(path)
-    }
-
-    fn remove_dir_all<B: Allocator>(&self, alloc: B, path: &str) -> io::Result<()> {
-        self.rt.remove_dir_all(alloc, path)
-    }
-
-    fn canonicalize<B: Allocator>(&self, alloc: B, path: &str) -> io::Result<PathBuf<B>> {
-        self.rt.canonicalize(alloc, path)
-    }
-
-    fn lchown(&self, path: &str, uid: Option<u32>, gid: Option<u32>) -> io::Result<()> {
-        self.rt.lchown(path, uid, gid)
-    }
-}
-
 /// The file of what is said.
 const SAID: &str = "test_files/said.txt";
 
 /// The status of a call of txflash on the files of the system, with what it says at the end of a file.
 fn ended(rt: &HostRuntime, output: &str, text: &str) -> Result<u8, AllocError> {
     let printing = Printing { rt, output };
-    let mut desk = RealDesk::new(&printing, RealFolder { rt: &printing });
+    let mut desk = RealDesk::new(&printing, RealFolder { rt });
     status_of(rt.alloc(), text, &mut desk)
 }
 
@@ -150,6 +94,14 @@ fn is_answered(rt: &HostRuntime, line: &str) -> bool {
     ended(rt, SAID, parts.next().unwrap_or("")) == Ok(status) && is_said(rt, before, text)
 }
 
+/// Whether an image is saved before replies that cannot be said, and the folder of the test could be removed then.
+fn is_saved_unsaid(rt: &HostRuntime) -> bool {
+    let status = ended(rt, "/dev/full", "run test_files/d.img test_files/other.txt");
+    status == Ok(5)
+        && is_answered(rt, "0|page 0 42..|run test_files/d.img test_files/read.txt")
+        && fs::remove_dir_all(rt, "test_files").is_ok()
+}
+
 /// Whether the folder of the test could be made, with files of commands.
 fn is_folder_made(rt: &HostRuntime) -> bool {
     let _ = fs::remove_dir_all(rt, "test_files");
@@ -165,19 +117,5 @@ fn files_of_the_system_are_served(rt: HostRuntime) {
     for line in CALLS.split('\n') {
         assert!(rt; is_answered(&rt, line), "{line}");
     }
-    // The replies cannot be said, after the image was saved.
-    assert!(rt;
-        ended(
-            &rt,
-            "/dev/full",
-            "run test_files/d.img test_files/other.txt"
-        ) == Ok(5)
-    );
-    assert!(rt;
-        is_answered(
-            &rt,
-            "0|page 0 42..|run test_files/d.img test_files/read.txt"
-        )
-    );
-    assert!(rt; fs::remove_dir_all(&rt, "test_files").is_ok());
+    assert!(rt; is_saved_unsaid(&rt));
 }

@@ -84,11 +84,7 @@ impl<'a, 'r> Fitting<'a, 'r> {
 
     /// Takes a device in where the reply is its numbers, of which the first three are known.
     fn count(&mut self, world: World<'a>) -> Result<(), AllocError> {
-        let written = world
-            .array
-            .iter()
-            .filter(|digits| !digits.is_empty())
-            .count();
+        let written = world.written();
         let (tags, pages) = world.pending();
         let front = format!(in self.alloc; "stats written {written} open {tags} pending {pages} ");
         self.offer_front(front, world)
@@ -217,12 +213,12 @@ impl<'a, 'r> Fitting<'a, 'r> {
 
     /// Whether the arm is that of a read.
     fn is_read_bad(&self) -> bool {
-        self.arm.is_some_and(|arm| arm.kind == Kind::BadRead)
+        matches!(self.arm, Some(arm) if arm.kind == Kind::BadRead)
     }
 
     /// Whether an operation in which the arm comes due is done all the same.
     fn is_done(&self) -> bool {
-        self.arm.is_some_and(|arm| arm.is_done)
+        matches!(self.arm, Some(arm) if arm.is_done)
     }
 }
 

@@ -29,6 +29,16 @@ fn complete_slots(kept: &Kept, i: usize) -> usize {
     count
 }
 
+/// Whether nothing was programmed in a slot with these bytes.
+fn is_blank(cell: &[u8]) -> bool {
+    for byte in cell {
+        if *byte != 0xff {
+            return false;
+        }
+    }
+    true
+}
+
 /// Whether the first slot had what it is to have when a reply was given: nothing before the second.
 fn is_cell_right(alloc: Global, kept: &Kept, i: usize) -> bool {
     if i >= kept.len() || kept.slots(i) == 0 {
@@ -36,7 +46,7 @@ fn is_cell_right(alloc: Global, kept: &Kept, i: usize) -> bool {
     }
     let cell = kept.cell(i, Slot(0));
     if i == 0 {
-        cell.iter().all(|byte| *byte == 0xff)
+        is_blank(cell)
     } else {
         match hex::encode(alloc, cell) {
             Ok(digits) => digits.as_str() == CELL,
@@ -45,13 +55,15 @@ fn is_cell_right(alloc: Global, kept: &Kept, i: usize) -> bool {
     }
 }
 
+/// Whether bytes are a line with this text.
+fn is_line(bytes: &[u8], text: &str) -> bool {
+    str::from_utf8(bytes).unwrap_or("").strip_suffix('\n') == Some(text)
+}
+
 /// Whether a reply is this, and was given after this many programs as there were replies before.
 fn is_reply_right(kept: &Kept, i: usize, text: &str) -> bool {
     i < kept.len()
-        && str::from_utf8(kept.text(i))
-            .unwrap_or("")
-            .strip_suffix('\n')
-            == Some(text)
+        && is_line(kept.text(i), text)
         && kept.programs(i) == i as u64
         && kept.erases(i) == 0
 }

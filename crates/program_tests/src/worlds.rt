@@ -46,7 +46,12 @@ impl<'a> Open<'a> {
 
     /// Whether it has a page.
     pub fn has(&self, page: &str) -> bool {
-        self.pages.split(' ').any(|entry| page_of(entry).0 == page)
+        for entry in self.pages.split(' ') {
+            if page_of(entry).0 == page {
+                return true;
+            }
+        }
+        false
     }
 }
 
@@ -79,20 +84,22 @@ impl<'a> World<'a> {
 
     /// The open transaction with this tag.
     pub fn find(&self, tag: &str) -> Option<Open<'a>> {
-        self.open
-            .iter()
-            .flatten()
-            .find(|open| open.tag == tag)
-            .copied()
+        for open in self.open.iter().flatten() {
+            if open.tag == tag {
+                return Some(*open);
+            }
+        }
+        None
     }
 
     /// The open transaction that a page belongs to.
     pub fn owner(&self, page: &str) -> Option<Open<'a>> {
-        self.open
-            .iter()
-            .flatten()
-            .find(|open| open.has(page))
-            .copied()
+        for open in self.open.iter().flatten() {
+            if open.has(page) {
+                return Some(*open);
+            }
+        }
+        None
     }
 
     /// How many transactions are open, and how many pages they have.
@@ -104,6 +111,17 @@ impl<'a> World<'a> {
             pages = pages.saturating_add(open.len());
         }
         (tags, pages)
+    }
+
+    /// How many pages are written.
+    pub fn written(&self) -> usize {
+        let mut written: usize = 0;
+        for digits in &self.array {
+            if !digits.is_empty() {
+                written = written.saturating_add(1);
+            }
+        }
+        written
     }
 
     /// The digits of a page.
@@ -125,7 +143,7 @@ impl<'a> World<'a> {
     /// The device with another state of a transaction, or without it.
     pub fn changed(mut self, tag: &str, to: Option<Open<'a>>) -> World<'a> {
         for place in &mut self.open {
-            if place.is_some_and(|open| open.tag == tag) {
+            if matches!(place, Some(open) if open.tag == tag) {
                 *place = to;
             }
         }
