@@ -26,7 +26,7 @@ doubted [] = []
 doubted (e ∷ es) = if is_doubted e.mark then e.writes ++ doubted es else doubted es
 
 -- A state settles: it becomes known of what is in doubt whether it is there, and where it is, the array takes all
--- its pages. A device has at most one transaction in doubt.
+-- its pages. All that are in doubt settle, though a device has at most one, so no rule here needs to count them.
 abbrev pub settled : Bool → ArrayState → ArrayState
 settled there s = record {
   pages = if there then put s.pages (doubted s.entries) else s.pages;

@@ -7,3 +7,4 @@ pub mod NotesLeft
 pub mod SinceErases
 pub mod SpelledNotes
 pub mod SureCounts
+pub mod ShutBlocks

@@ -4,3 +4,4 @@ pub mod RoomCalls
 pub mod RoomMade
 pub mod Space
 pub mod NextNames
+pub mod NowVictims

@@ -11,11 +11,12 @@ use Rattle.record_list.specs.Written.{is_outside, IsDispensable}
 use Rattle.judged_records.specs.declared.note.Note.TheVariants.{Blank, Holds}
 use Rattle.judged_records.specs.Images.{IsSoundImage}
 use Rattle.judged_records.specs.Notes.{found_in, note_at, note_of}
-use Rattle.judged_records.specs.IndexState.{IndexState, IsNoted, IsNextRecord, pinned_names}
-use Rattle.die_alloc.specs.BlocksState.{BlocksState, IsBlocksState, IsFree}
+use Rattle.judged_records.specs.IndexState.{IndexState, IsNoted, IsNextRecord, pinned_names, is_closed, is_shut_now}
+use Rattle.die_alloc.specs.BlocksState.{BlocksState, IsBlocksState, IsFree, block_state}
 use Rattle.collector.specs.declared.unsure.Unsure.{Unsure}
 use Rattle.collector.specs.declared.unsure.Unsure.TheVariants as unsure
 use Rattle.collector.specs.Known.{is_unsure}
+use Rattle.collector.specs.Victim.{is_shut}
 
 -- each slot of a block passes the test
 abbrev pub AllOfBlock : IndexState → ℕ → (ℕ → Type 0) → Type 0
@@ -95,8 +96,15 @@ VictimIsSpared n (unsure.Copy from to) = Unit {0}
 VictimIsSpared n unsure.SpareErase = Unit {0}
 VictimIsSpared n (unsure.VictimErase block) = CanSpare n block.0
 
+-- The spare is not closed, and a block but the spare is closed or has its last slot used exactly where it is shut.
+pub record AreShut (n : IndexState) (t : BlocksState) : Type 0 where
+  pub spare : is_closed n t.spare ≡ false
+  pub others : (block : ℕ) → block < blocks_of (shape_of n.config) → block ≢ t.spare →
+      is_shut_now n block ≡ is_shut (block_state t block)
+
 -- The tables match the flash. Its image is sound; save for the one place whose contents are not known each slot is
--- noted as it reads; the records that are needed have slots outside the spare; and free slots are noted as blank.
+-- noted as it reads; the records that are needed have slots outside the spare; free slots are noted as blank; and it is
+-- noted which blocks are shut.
 pub record Matches (s : FlashState) (n : IndexState) (t : BlocksState) (u : Unsure) : Type 0 where
   pub shape : s.shape ≡ shape_of n.config
   pub flash : IsFlash s
@@ -112,6 +120,7 @@ pub record Matches (s : FlashState) (n : IndexState) (t : BlocksState) (u : Unsu
   pub spared : CanSpare n t.spare
   pub victim : VictimIsSpared n u
   pub free : (slot : ℕ) → IsFree t slot → note_at n.notes slot ≡ Blank
+  pub shut : AreShut n t
 
 -- A record whose program was broken may be there: a transaction in progress asks for it, and each of its records that
 -- is present has a slot outside the spare.

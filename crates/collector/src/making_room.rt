@@ -10,7 +10,6 @@ ghost use Rattle.collector.specs.Collecting.{HasUnneeded};
 ghost use Rattle.collector.specs.Going.{IsNextName};
 ghost use Rattle.collector.specs.StoreParts.{IsSure, store_parts};
 
-use crate::choosing::victim;
 use crate::cleaning::clean_spare;
 use crate::collecting::{collect, collect_clean};
 use crate::{BlockBuffer, Unsure};
@@ -128,7 +127,7 @@ pub fn collect_victim<F: Flash, R: CommitRule>(
         (store_parts (F.state flash.new) index.new blocks.new unsure.new) result }
 {
     clean_spare(flash, index, blocks, unsure)?;
-    let Some(chosen) = victim(index, blocks) else {
+    let Some(chosen) = index.most_garbage_now() else {
         return Ok(false);
     };
     collect_clean(flash, index, blocks, unsure, room, chosen)?;

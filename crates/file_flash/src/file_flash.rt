@@ -20,7 +20,8 @@ use std::marker::Model;
 use tx_types::{Block, Config, Shape, Slot};
 
 /// A flash that is an image file: it shows what it has in memory, and the file follows it. At the first call of the
-/// file that fails it loses power, and from then on each call is broken and changes no slot, in memory or in the file.
+/// file that fails it loses power, and from then on each call is broken and changes no slot, in memory or in the file:
+/// else it would go on in memory while the file stands still. The header is never written in use, and no block retired.
 #[derive(Drop)]
 pub struct FileFlash<S: Store + Drop> {
     pub(crate) config: Config,

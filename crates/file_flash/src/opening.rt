@@ -103,7 +103,10 @@ fn follow<S: Store + Drop>(
 impl<S: Store + Drop> FileFlash<S> {
     /// Opens an image file, also one that a session has left in use at whatever moment: the flash is the one that its
     /// states say. Power is on, nothing is armed, and nothing was counted. The whole image is written once, as it was
-    /// read, so an opening takes as long as a save.
+    /// read, so an opening takes as long as a save: after a sync that failed in an earlier session the system may hold
+    /// copies that the disk does not have and that no sync would write. What was read is at each byte a value that a
+    /// loss might have left, so a loss meanwhile loses nothing. To drop the copies first would cost a read alone, but
+    /// the system's call for it only advises, and the standard library has none.
     pub fn open(alloc: Global, store: S) -> Result<FileFlash<S>, OpenError>
         ensures opens { IfOk result (Opens (S.told store)) }
         ensures refuses { (image : ImageError) → result ≡ Err (OpenError.Image image) →

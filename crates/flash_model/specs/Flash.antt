@@ -12,7 +12,8 @@ pub data Contents : Type 0 where
   complete : (bytes spare_area : List ℕ) → Contents
 
 -- What a flash tells of the breaks to come: how many power cuts and how many faults it may still give by itself, and
--- its arms, which are the power cut and the fault that are to come, and the count of the read that is to fail.
+-- its arms, which are the power cut and the fault that are to come, and the count of the read that is to fail. A flash
+-- has no call that tells it: the values stand in contracts alone.
 pub record Told : Type 0 where
   pub cuts : ℕ
   pub breaks : ℕ

@@ -23,7 +23,8 @@ pub data Operation : Type 0 where
 abbrev pub program_of : Load → Operation
 program_of load = program load.at load.bytes load.spare_area
 
--- what a flash holds, how many programs and erases it has counted, and how much it counts as started
+-- What a flash holds, how many programs and erases it has counted, and how much it counts as started: without that
+-- count a call might count a start that it did not make, and an arm would come at another operation.
 pub record Moment : Type 0 where
   pub image : List Contents
   pub programs : ℕ

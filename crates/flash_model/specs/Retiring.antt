@@ -49,8 +49,8 @@ pub record CarriesRetiring (old new : FlashState) (broken : Bool) : Type 0 where
   pub carries : Carries (with_extras old new.extras) new broken
   pub dead : old.live ≡ false → new.extras ≡ old.extras
 
--- A block is replaced, which needs power, or the call is broken, and the block is then replaced or not. No read is
--- counted, and where power is on the call is counted as started.
+-- A block is replaced, which needs power, or the call is broken, and the block is then replaced or not: the outcomes
+-- `all` and `bad` both leave it replaced. No read is counted, and where power is on the call is counted as started.
 pub record Retires (old new : FlashState) (block : ℕ) (result : Result (Unit {0}) Broken) : Type 0 where
   pub carries : CarriesRetiring old new (is_err result)
   pub powered : OnOk result (old.live ≡ true)

@@ -26,6 +26,7 @@ begun protocol = record {
   pins = 0 ∷ 0 ∷ 0 ∷ 0 ∷ [];
   spare = Some 3;
   mentions = 2 ∷ 2 ∷ 2 ∷ 0 ∷ [];
+  closed = false ∷ false ∷ false ∷ false ∷ [];
 }
 
 -- both wait for page 0, and the cycle is open; under Simple Cyclic Commit the aborted one must go first

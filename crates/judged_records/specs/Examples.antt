@@ -47,6 +47,7 @@ doubled protocol = record {
   pins = 0 ∷ 0 ∷ 0 ∷ 0 ∷ [];
   spare = Some 0;
   mentions = 1 ∷ 3 ∷ 7 ∷ 0 ∷ [];
+  closed = false ∷ false ∷ false ∷ false ∷ [];
 }
 
 -- the home is outside the spare; outside a block the lowest slot is taken, in the spare too; the aborted

@@ -1,5 +1,5 @@
 -- What a device has noted of its flash, what follows from it, and how it changes.
-use Rattle.std.specs.Prelude.{◌≡◌, ℕ, ◌+◌, ◌*◌, ◌/◌, ◌<◌, ◌≤◌, ◌==◌, ◌⊎◌, max, Bool, true, false, ◌&&◌, List, map, length, replicate, slice_index, slice_set}
+use Rattle.std.specs.Prelude.{◌≡◌, ℕ, ◌+◌, ◌-◌, ◌*◌, ◌/◌, ◌<◌, ◌≤◌, ◌==◌, ◌⊎◌, max, Bool, true, false, not, ◌&&◌, ◌||◌, List, map, length, replicate, slice_index, slice_index_or, slice_set}
 use Rattle.std.specs.Prelude.{count_by, filter_map, Option, Some, None, Ok, IsSomeAnd, IfSome, All, Contains, if◌then◌else◌}
 use Rattle.std.specs.List.{zip, enumerate_from, filter, list_any, range_with_len}
 use Rattle.std.specs.Option.{option_map}
@@ -7,11 +7,13 @@ use Rattle.tx_types.specs.declared.record.Link.{Link}
 use Rattle.tx_types.specs.declared.record.Rec.{Rec}
 use Rattle.tx_types.specs.declared.config.Block.{Block}
 use Rattle.tx_types.specs.declared.config.Config.{Config}
+use Rattle.tx_types.specs.declared.config.Shape.{Shape}
 use Rattle.tx_types.specs.declared.config.Protocol.{Protocol}
 use Rattle.tx_types.specs.declared.config.BlockState.{BlockState}
 use Rattle.tx_types.specs.declared.config.BlockState.TheVariants as state
 use Rattle.tx_types.specs.Config.{IsConfig, checked, shape_of, slots_of, blocks_of}
 use Rattle.flash_model.specs.declared.flash.Seen.{Seen}
+use Rattle.flash_model.specs.Readings.{reads_blank_block}
 use Rattle.record_list.specs.declared.found.Found.{Found}
 use Rattle.record_list.specs.Records.{newest, mention, name_of, has_name, is_present, IsScanned}
 use Rattle.record_list.specs.Verdict.{link_of, record_named}
@@ -25,14 +27,15 @@ use Rattle.judged_records.specs.declared.note.Note.TheVariants.{Blank, Damaged, 
 use Rattle.judged_records.specs.Notes.{note_at, rec_of, seen_as, found_in, with_block_noted}
 
 -- the configuration, what is noted of each slot, the version of each page that is pinned, 0 for none, the
--- spare block once it is chosen, and the greatest version at which each page was mentioned by a record that
--- was ever noted
+-- spare block once it is chosen, the greatest version at which each page was mentioned by a record that was
+-- ever noted, and of each block whether it is closed: no program goes there before it was the spare
 pub record IndexState : Type 0 where
   pub config : Config
   pub notes : List Note
   pub pins : List ℕ
   pub spare : Option ℕ
   pub mentions : List ℕ
+  pub closed : List Bool
 
 -- a page at its pinned version, if it has one
 abbrev pub pinned_at : ℕ → ℕ → Option Link
@@ -131,6 +134,34 @@ blanks_of n block =
     count_by
     (λ at. is_blank (note_at n.notes at))
     (range_with_len (block * n.config.pages_per_block) n.config.pages_per_block)
+
+-- whether a block is closed
+abbrev pub is_closed : IndexState → ℕ → Bool
+is_closed n block = slice_index_or n.closed block false
+
+-- the last slot of a block
+abbrev pub last_slot : IndexState → ℕ → ℕ
+last_slot n block = block * n.config.pages_per_block + (n.config.pages_per_block - 1)
+
+-- whether no program goes to a block: it is closed, or its last slot is used
+abbrev pub is_shut_now : IndexState → ℕ → Bool
+is_shut_now n block = is_closed n block || not (is_blank (note_at n.notes (last_slot n block)))
+
+-- the number of garbage slots of a block as it is
+abbrev pub garbage_now : IndexState → ℕ → ℕ
+garbage_now n block = garbage_of n block (is_shut_now n block)
+
+-- the block has garbage as it is, none has more, and none that is lower has as much
+pub record HasMostGarbageNow (n : IndexState) (block : ℕ) : Type 0 where
+  pub exists : block < blocks_of (shape_of n.config)
+  pub some : 0 < garbage_now n block
+  pub most : (other : ℕ) → other < blocks_of (shape_of n.config) → garbage_now n other ≤ garbage_now n block
+  pub lowest : (other : ℕ) → other < block → garbage_now n other < garbage_now n block
+
+abbrev pub FindsMostGarbageNow : IndexState → Option Block → Type 0
+FindsMostGarbageNow n None =
+    (block : ℕ) → block < blocks_of (shape_of n.config) → garbage_now n block ≡ 0
+FindsMostGarbageNow n (Some block) = HasMostGarbageNow n block.0
 
 -- the block has garbage if all are shut, none has more, shut or not, and none that is lower has as much
 pub record HasMostGarbage (n : IndexState) (block : ℕ) : Type 0 where
@@ -239,13 +270,13 @@ pinned n page version = record n { pins = slice_set n.pins page version }
 abbrev pub unpinned : IndexState → ℕ → IndexState
 unpinned n page = pinned n page 0
 
--- a block is the spare
+-- a block is the spare, and so no longer closed
 abbrev pub with_spare : IndexState → ℕ → IndexState
-with_spare n block = record n { spare = Some block }
+with_spare n block = record n { spare = Some block; closed = slice_set n.closed block false }
 
 -- What a device has noted under a protocol: the configuration passed its check, each slot has a note, each
--- page a pin and a mention, the spare exists, the records keep laws 1 to 7, and no mention is below that of
--- the records.
+-- page a pin and a mention, and each block a flag, the spare exists, the records keep laws 1 to 7, and no mention
+-- is below that of the records.
 pub record IsNoted (protocol : Protocol) (n : IndexState) : Type 0 where
   pub check : checked n.config ≡ Ok (shape_of n.config)
   pub bounds : IsConfig n.config
@@ -254,13 +285,22 @@ pub record IsNoted (protocol : Protocol) (n : IndexState) : Type 0 where
   pub pages : length n.pins ≡ n.config.logical
   pub mentions : length n.mentions ≡ n.config.logical
   pub spare : IfSome n.spare (λ block. block < blocks_of (shape_of n.config))
+  pub closed : length n.closed ≡ blocks_of (shape_of n.config)
   pub scanned : IsScanned (found_in n.notes)
   pub sound : IsSoundList protocol (found_in n.notes) n.config.logical
   pub mentioned :
       (page : ℕ) → page < n.config.logical → mention (found_in n.notes) page ≤ mention_of n page
 
--- what is noted of slots that read so and hold these records: nothing is pinned, there is no spare, and each
--- page is mentioned as the records mention it
+-- whether a block has a slot that is not blank
+abbrev pub is_used_block : Shape → List Seen → ℕ → Bool
+is_used_block shape seen block = not (reads_blank_block shape seen block)
+
+-- of each block
+abbrev pub used_blocks : Shape → List Seen → List Bool
+used_blocks shape seen = map (is_used_block shape seen) (range_with_len 0 (blocks_of shape))
+
+-- what is noted of slots that read so and hold these records: nothing is pinned, there is no spare, each page is
+-- mentioned as the records mention it, and the blocks with a slot that is not blank are closed
 pub record IsNotedFrom (its : Config) (seen : List Seen) (list : List Found)
     (n : IndexState) : Type 0 where
   pub config : n.config ≡ its
@@ -269,3 +309,4 @@ pub record IsNotedFrom (its : Config) (seen : List Seen) (list : List Found)
   pub pins : n.pins ≡ replicate its.logical 0
   pub spare : n.spare ≡ None
   pub mentions : n.mentions ≡ map (mention list) (range_with_len 0 its.logical)
+  pub closed : n.closed ≡ used_blocks (shape_of its) seen

@@ -1,5 +1,5 @@
 -- The block that becomes the spare when a device is opened, and what is noted then.
-use Rattle.std.specs.Prelude.{◌≡◌, ℕ, ◌<◌, ◌⊎◌, true, List, map, replicate, Some}
+use Rattle.std.specs.Prelude.{◌≡◌, ℕ, ◌<◌, ◌⊎◌, true, false, List, map, replicate, slice_set, Some}
 use Rattle.std.specs.List.{range_with_len}
 use Rattle.tx_types.specs.declared.config.Config.{Config}
 use Rattle.tx_types.specs.declared.config.Protocol.{Protocol}
@@ -12,7 +12,7 @@ use Rattle.record_list.specs.Records.{mention}
 use Rattle.record_list.specs.Written.{IsRemovable}
 use Rattle.judged_records.specs.Images.{records_in}
 use Rattle.judged_records.specs.Notes.{notes_of}
-use Rattle.judged_records.specs.IndexState.{IndexState}
+use Rattle.judged_records.specs.IndexState.{IndexState, used_blocks}
 use Rattle.flash_model.specs.Readings.{seen_in, reads_blank_block}
 
 -- of this many blocks this one is the highest of which the fact holds
@@ -51,4 +51,5 @@ opening_noted config image spare = record {
   pins = replicate config.logical 0;
   spare = Some spare;
   mentions = map (mention (records_in config.protocol image)) (range_with_len 0 config.logical);
+  closed = slice_set (used_blocks (shape_of config) (seen_in image)) spare false;
 }

@@ -72,7 +72,8 @@ pub trait LineDesk<S: Store + Drop, F: Shown + Drop> {
     fn say(&mut self, bytes: &[u8]) -> Result<(), CallError>
         ensures { Says None (state self.old) (state self.new) bytes.now result };
 
-    /// Says the reply of a command, and is lent the flash as it stands when this is said.
+    /// Says the reply of a command, and is lent the flash as it stands when this is said: what holds at every moment of
+    /// a session is thus a clause on the list of what was said.
     fn answer(&mut self, flash: &F, bytes: &[u8]) -> Result<(), CallError>
         ensures { Says (Some (F.seen flash.now)) (state self.old) (state self.new) bytes.now result };
 

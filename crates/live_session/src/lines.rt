@@ -23,7 +23,8 @@ enum Taken {
 }
 
 /// Reads the next line of an input, and puts its bytes there, without its line feed. A line with too many bytes is read
-/// over, up to its line feed or to the end of the input.
+/// over, up to its line feed or to the end of the input. A last line without a line feed is not served, also not a
+/// comment, so that one rule is enough.
 pub fn next_line<B: BufRead>(input: &mut B, line: &mut Vec<u8>) -> io::Result<Next>
     ensures most { OnOk result (length line.new.items ≤ MAX_LINE_BYTES) }
     ensures takes { IfOk result (λ it.

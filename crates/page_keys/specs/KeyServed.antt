@@ -58,7 +58,7 @@ pub record ServesNone (old new : FlashState) (before after : List ℕ) : Type 0 
   pub text : after ≡ before
 
 -- What serving comes to where the image handed in is sound and its pages are buckets: the flash comes back as the run
--- leaves it, and where no memory was left it was read at most after that.
+-- leaves it, and where no memory was left power may have been turned on after that, and it was read at most.
 abbrev pub ServesScript : Config → List KeyCommand → FlashState → FlashState → List ℕ → List ℕ →
     Result (Unit {0}) KeyServeError → Type 0
 ServesScript its cs old new before after (Ok u) =
@@ -81,7 +81,7 @@ pub record ServesUnopenedRun (its : Config) (cs : List KeyCommand) (told : ℕ) 
   pub text : after ≡ before ++ key_texts (take told replies)
 
 -- What serving comes to where it is another one: the store is never open. The flash comes back as the run leaves it,
--- and where the run ends early it was read at most after that.
+-- and where the run ends early power may have been turned on after that, and it was read at most.
 abbrev pub ServesUnopened : Config → List KeyCommand → FlashState → FlashState → List ℕ → List ℕ →
     Result (Unit {0}) KeyServeError → Type 0
 ServesUnopened its cs old new before after (Ok u) =

@@ -22,7 +22,9 @@ abbrev pub next_names : List Link → List Link
 next_names [] = []
 next_names (name ∷ names) = names ++ name ∷ []
 
--- the back version of a record of this page that is written now
+-- The back version of a record of this page that is written now. The list is the one before the record is added: of the
+-- list with it the demand would be empty, since a newest record that is uncommitted makes its own back version current.
+-- With 0.1 -> 0.1, 0.2 -> 1.1 with back version 0 could be added for pages 0 and 1, and page 0 would lose version 1.
 abbrev pub back_version : Protocol → List Found → ℕ → ℕ → ℕ
 back_version Scc list logical page = 0
 back_version Bpcc list logical page = cur Bpcc list logical page

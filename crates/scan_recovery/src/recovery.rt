@@ -35,7 +35,8 @@ use version_index::Index;
 /// `Fault` comes at the first read that fails, and nothing is read after it. `Unsound` comes where
 /// no read failed and the image is not sound: law 1 names the lowest slot that does not read or has
 /// a page that does not exist, laws 2 to 7 and 9 the lowest slot whose record breaks them, law 8 slot 0.
-/// All memory of the tables is taken here.
+/// All memory of the tables is taken here. The calls of `CommitRule` are the plain programs of the definitions: an
+/// opening asks its tables in place of them, and tests compare the two.
 pub fn recover<F: Flash, R: CommitRule>(
     alloc: Global,
     flash: &mut F,

@@ -1,5 +1,6 @@
 pub mod Counting
 pub mod Needing
 pub mod Tallying
-pub mod Unneeded
+pub mod Counted
+pub mod Walks
 pub mod Garbage

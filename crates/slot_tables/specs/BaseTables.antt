@@ -18,9 +18,10 @@ tables_state g = record {
   waits = g.waits.waits;
   pins = g.pins.items;
   spare = option_map (λ block. block.0) g.spare;
+  closed = g.closed.items;
 }
 
--- the tables have one entry for each slot, each number or each page
+-- the tables have one entry for each slot, each number, each page or each block
 pub record IsSized (g : BaseTables) : Type 0 where
   pub kept : IsTablesState (tables_state g)
   pub waits_pages : g.waits.pages ≡ length g.records.pages

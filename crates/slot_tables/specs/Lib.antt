@@ -5,6 +5,8 @@ pub mod Versions
 pub mod WaitListState
 pub mod BaseTables
 pub mod BlockCounts
+pub mod BlockNumbers
+pub mod SlotMarks
 pub mod LiveSlots
 pub mod Slots
 pub mod LazyTable

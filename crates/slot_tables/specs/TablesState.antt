@@ -1,5 +1,5 @@
 -- What the tables are given, what follows from it, and how it changes.
-use Rattle.std.specs.Prelude.{◌≡◌, ℕ, ◌*◌, ◌<◌, ◌≤◌, ◌==◌, Bool, true, false, nat_lt, ◌&&◌, ◌||◌, Option, Some, None, IsSomeAnd, IfSome, List, [], ◌∷◌, length}
+use Rattle.std.specs.Prelude.{◌≡◌, ℕ, ◌+◌, ◌-◌, ◌*◌, ◌<◌, ◌≤◌, ◌==◌, Bool, true, false, not, nat_lt, ◌&&◌, ◌||◌, Option, Some, None, IsSomeAnd, IfSome, List, [], ◌∷◌, length}
 use Rattle.std.specs.Prelude.{map, find, filter, replicate, count_by, slice_index, slice_index_or, slice_set, if◌then◌else◌}
 use Rattle.std.specs.List.{AllPairs, Contains, list_any, range_with_len, remove, slice_get}
 use Rattle.std.specs.Option.{option_map_or, option_or}
@@ -16,7 +16,8 @@ use Rattle.slot_tables.specs.declared.slots.SlotUse.TheVariants.{Blank, Damaged,
 
 -- The shape of the flash, what each slot holds, the record of each number, of each page the numbers of its
 -- records, newest first, and the number of its current record; of each number the one that answers for it, and
--- the page that it waits for; the version at which each page is pinned, 0 for none, and the spare block.
+-- the page that it waits for; the version at which each page is pinned, 0 for none, the spare block, and of each
+-- block whether it is closed: no program goes there before it was the spare.
 pub record TablesState : Type 0 where
   pub shape : Shape
   pub slots : List SlotUse
@@ -27,6 +28,7 @@ pub record TablesState : Type 0 where
   pub waits : List (Option ℕ)
   pub pins : List ℕ
   pub spare : Option ℕ
+  pub closed : List Bool
 
 -- what a slot holds
 abbrev pub use_at : List SlotUse → ℕ → SlotUse
@@ -130,6 +132,22 @@ garbage_of k shut block =
 unfoldable pub blanks_of : TablesState → ℕ → ℕ
 blanks_of k block = count_by (λ at. is_blank (use_at k.slots at)) (slots_in k.shape block)
 
+-- whether a block is closed
+abbrev pub is_closed : TablesState → ℕ → Bool
+is_closed k block = slice_index_or k.closed block false
+
+-- the last slot of a block
+abbrev pub last_slot : Shape → ℕ → ℕ
+last_slot shape block = block * shape.pages_per_block + (shape.pages_per_block - 1)
+
+-- whether no program goes to a block: it is closed, or its last slot is used
+abbrev pub is_shut : TablesState → ℕ → Bool
+is_shut k block = is_closed k block || not (is_blank (use_at k.slots (last_slot k.shape block)))
+
+-- the number of garbage slots of a block as it is
+abbrev pub garbage_now : TablesState → ℕ → ℕ
+garbage_now k block = garbage_of k (is_shut k block) block
+
 abbrev pub is_some_number : Option ℕ → Bool
 is_some_number None = false
 is_some_number (Some number) = true
@@ -166,11 +184,24 @@ blank_tables its logical = record {
   waits = replicate (slots_of its) None;
   pins = replicate logical 0;
   spare = None;
+  closed = replicate (blocks_of its) false;
 }
 
 -- the garbage numbers of the blocks that are shut
 abbrev pub garbage_numbers : TablesState → List ℕ
 garbage_numbers k = map (garbage_of k true) (range_with_len 0 (blocks_of k.shape))
+
+-- the garbage numbers of the blocks as they are
+abbrev pub garbage_now_numbers : TablesState → List ℕ
+garbage_now_numbers k = map (garbage_now k) (range_with_len 0 (blocks_of k.shape))
+
+-- a block is closed, or not
+abbrev pub with_closed : TablesState → ℕ → Bool → TablesState
+with_closed k block flag = record k { closed = slice_set k.closed block flag }
+
+-- a block is the spare, and so no longer closed
+abbrev pub with_spare : TablesState → ℕ → TablesState
+with_spare k block = record k { spare = Some block; closed = slice_set k.closed block false }
 
 -- the lowest slot of the record of a number where its link's version is below this one
 abbrev pub links_below : ℕ → Option Rec → Bool
@@ -212,8 +243,8 @@ pub record AreVersions (records : List (Option Rec)) (pages : List (List ℕ)) :
       (r.page < length pages) × Contains (numbers_at pages r.page) number
   pub falls : (page : ℕ) → AllPairs (IsNewer records) (numbers_at pages page)
 
--- There is one entry for each slot, each number or each page, each number is below that of the slots, and the
--- lists of the pages have the records in the order of their versions.
+-- There is one entry for each slot, each number, each page or each block, each number is below that of the slots, and
+-- the lists of the pages have the records in the order of their versions.
 pub record IsTablesState (k : TablesState) : Type 0 where
   pub shape : IsShape k.shape
   pub slots : length k.slots ≡ slots_of k.shape
@@ -223,6 +254,7 @@ pub record IsTablesState (k : TablesState) : Type 0 where
   pub current : length k.current ≡ length k.pages
   pub pins : length k.pins ≡ length k.pages
   pub spare : IfSome k.spare (λ block. block < blocks_of k.shape)
+  pub closed : length k.closed ≡ blocks_of k.shape
   pub held : (at number : ℕ) → use_at k.slots at ≡ Holds number → number < slots_of k.shape
   pub counts : (page number : ℕ) → number_at k.current page ≡ Some number → number < slots_of k.shape
   pub versions : AreVersions k.records k.pages

@@ -1,11 +1,11 @@
-ghost use Rattle.std.specs.Prelude.{◌≡◌, ℕ, ◌<◌, ◌↔◌, length, slice_index, slice_set, Some, None, false, IfOk, IfSome, IsSomeAnd};
+ghost use Rattle.std.specs.Prelude.{◌≡◌, ℕ, ◌<◌, ◌↔◌, length, replicate, slice_index, slice_set, Some, None, false, IfOk, IfSome, IsSomeAnd};
 ghost use Rattle.std.specs.Option.{option_map, option_and_then};
 ghost use Rattle.tx_types.specs.Config.{blocks_of};
 ghost use Rattle.tx_types.specs.declared.record.Rec.{Rec};
 ghost use Rattle.record_list.specs.Written.{is_slot};
 ghost use Rattle.slot_tables.specs.BaseTables.{tables_state, refreshed, is_same_slot, marked, home_marked, moved_refreshed, IsSized, IsRefreshedFrom};
 ghost use Rattle.slot_tables.specs.Counts.{is_marked};
-ghost use Rattle.slot_tables.specs.Tables.{AreMarked};
+ghost use Rattle.slot_tables.specs.Tables.{AreBlanks, AreMarked};
 ghost use Rattle.slot_tables.specs.TablesState.{home, home_in, is_wanted, is_needed, first_below, links_below, record_at};
 ghost use Rattle.slot_tables.specs.Versions.{Names};
 
@@ -30,6 +30,8 @@ pub struct BaseTables {
     pub waits: WaitList,
     pub pins: Vec<u64>,
     pub spare: Option<Block>,
+    /// The blocks to which no program goes before they were the spare.
+    pub closed: Vec<bool>,
 }
 
 impl BaseTables {
@@ -249,16 +251,27 @@ impl BaseTables {
         }
     }
 
-    /// Finds which slots are needed, where no spare is chosen.
-    pub fn find_needs(&self, alloc: Global) -> Result<LiveSlots, AllocError>
+    /// Finds which slots are needed, where no spare is chosen and no block is closed. The marks of the blank slots
+    /// become a part of what is found.
+    pub fn find_needs(&self, alloc: Global, blanks: BlockCounts) -> Result<LiveSlots, AllocError>
         requires sized { IsSized self.now }
         requires spare { self.now.spare ≡ None }
-        ensures { IfOk result (λ live. AreMarked (tables_state self.now) live) }
+        requires closed { self.now.closed.items ≡ replicate (blocks_of self.now.shape) false }
+        requires blanks { AreBlanks (tables_state self.now) blanks }
+        ensures marked { IfOk result (λ live. AreMarked (tables_state self.now) live) }
+        ensures blanks { IfOk result (λ live. live.blanks ≡ blanks.marks) }
     {
         let blocks = self.shape.blocks();
-        let mut marks = BlockCounts::new(alloc, blocks, self.shape.pages_per_block, false)?;
-        self.mark_needed(&mut marks);
-        LiveSlots::new(alloc, blocks, marks)
+        match BlockCounts::new(alloc, blocks, self.shape.pages_per_block, false) {
+            Ok(mut marks) => {
+                self.mark_needed(&mut marks);
+                LiveSlots::new(alloc, blocks, marks, blanks)
+            }
+            Err(error) => {
+                drop(blanks);
+                Err(error)
+            }
+        }
     }
 
     /// Marks each slot that is needed: the home of each record that is wanted. No slot is marked before.

@@ -5,6 +5,7 @@
 
 mod base_tables;
 mod block_counts;
+mod block_numbers;
 mod current;
 mod lazy_table;
 mod live_slots;

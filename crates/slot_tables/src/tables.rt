@@ -7,7 +7,6 @@ mod gathering;
 mod reading;
 
 use crate::base_tables::BaseTables;
-use crate::block_counts::BlockCounts;
 use crate::live_slots::LiveSlots;
 use crate::tables_builder::TablesBuilder;
 use std::alloc::{AllocError, Global};
@@ -20,7 +19,6 @@ use tx_types::Shape;
 #[derive(Drop)]
 pub struct Tables {
     pub(crate) base: BaseTables,
-    pub(crate) blanks: BlockCounts,
     pub(crate) live: LiveSlots,
 }
 

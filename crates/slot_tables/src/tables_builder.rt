@@ -1,4 +1,4 @@
-ghost use Rattle.std.specs.Prelude.{◌≡◌, ◌<◌, ◌≤◌, [], length, replicate, slice_set, Some, None, IfOk, IfSome};
+ghost use Rattle.std.specs.Prelude.{◌≡◌, ◌<◌, ◌≤◌, [], length, replicate, slice_set, Some, None, false, IfOk, IfSome};
 ghost use Rattle.std.specs.List.{slice_get};
 ghost use Rattle.tx_types.specs.Config.{IsShape, slots_of};
 ghost use Rattle.slot_tables.specs.BaseTables.{tables_state};
@@ -57,20 +57,23 @@ fn record_tables(
     ))
 }
 
-/// The tables of pins, of answers and of waits, while there are none.
+/// The tables of pins, of closed blocks, of answers and of waits, while there are none.
 fn answer_tables(
     alloc: Global,
     logical: u32,
+    blocks: u32,
     slots: u32,
-) -> Result<(Vec<u64>, Responsibilities, WaitList), AllocError>
+) -> Result<(Vec<u64>, Vec<bool>, Responsibilities, WaitList), AllocError>
     requires pages { logical ≤ 65536 }
     requires slots { slots ≤ 65536 }
     ensures pins { IfOk result (λ t. t.0.items ≡ replicate logical 0) }
-    ensures answers { IfOk result (λ t. t.1 ≡ replicate slots None) }
-    ensures waits { IfOk result (λ t. t.2 ≡ record { pages = logical; waits = replicate slots None }) }
+    ensures closed { IfOk result (λ t. t.1.items ≡ replicate blocks false) }
+    ensures answers { IfOk result (λ t. t.2 ≡ replicate slots None) }
+    ensures waits { IfOk result (λ t. t.3 ≡ record { pages = logical; waits = replicate slots None }) }
 {
     Ok((
         vec![in alloc; 0; logical as usize]?,
+        vec![in alloc; false; blocks as usize]?,
         Responsibilities::new(alloc, slots)?,
         WaitList::new(alloc, logical, slots)?,
     ))
@@ -85,7 +88,7 @@ fn blank_base_tables(alloc: Global, shape: Shape, logical: u32) -> Result<BaseTa
     ensures spare { IfOk result (λ g. g.spare ≡ None) }
 {
     let count = shape.slots();
-    let (pins, answers, waits) = answer_tables(alloc, logical, count)?;
+    let (pins, closed, answers, waits) = answer_tables(alloc, logical, shape.blocks(), count)?;
     match record_tables(alloc, logical, count) {
         Ok((current, slots, records)) => Ok(BaseTables {
             shape,
@@ -96,6 +99,7 @@ fn blank_base_tables(alloc: Global, shape: Shape, logical: u32) -> Result<BaseTa
             waits,
             pins,
             spare: None,
+            closed,
         }),
         Err(error) => {
             drop(answers);
@@ -209,14 +213,11 @@ impl TablesBuilder {
     pub fn finish(self, alloc: Global) -> Result<Tables, AllocError>
         ensures { IfOk result (λ t. t ≡ self) }
     {
-        match self.base.find_needs(alloc) {
-            Ok(live) => Ok(Tables {
-                base: self.base,
-                blanks: self.blanks,
-                live,
-            }),
+        let TablesBuilder { base, blanks } = self;
+        match base.find_needs(alloc, blanks) {
+            Ok(live) => Ok(Tables { base, live }),
             Err(error) => {
-                drop(self);
+                drop(base);
                 Err(error)
             }
         }

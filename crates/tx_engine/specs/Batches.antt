@@ -138,8 +138,8 @@ StepsFirst state old new answer [] = Unit {0}
 StepsFirst state old new answer (e ∷ es) =
     (answer.moved ≡ 1) × ((progress : Progress) × StepsDevice state old new e.tag (Ok progress))
 
--- Whatever each program that is started together leaves of an image: it is sound, and of these transactions each that is
--- at its last page was taken or not, by itself.
+-- Whatever each program that is started together leaves of an image: it is sound, and of these transactions each that
+-- is at its last page was taken or not, by itself.
 pub record MayLeaveEach (protocol : Protocol) (logical : ℕ) (shape : Shape) (image : List Contents)
     (loads : List Load) (pages : Pages) (entries : List Entry) : Type 0 where
   pub sound : (hows : List Outcome) → length hows ≡ length loads →

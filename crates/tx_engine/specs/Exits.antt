@@ -32,7 +32,8 @@ has_moved n image [] = false
 has_moved n image (name ∷ names) =
     not (current_in n.config.protocol n.config.logical image name.page == current_of n name.page)
 
--- whether the transaction in doubt is there: the image has another version of its first page than the one that is known
+-- Whether the transaction in doubt is there: the image has another version of its first page than the one that is
+-- known. One page tells it, since all pages of a transaction change at once.
 abbrev pub is_there : {F : Type 0} → (F → FlashState) → DeviceState F → Bool
 is_there state s =
     list_any (λ (e, x). is_doubted e.mark && has_moved s.noted (state s.flash).image x.names)

@@ -26,7 +26,8 @@ pub struct Rec {
     /// Under Back Pointer Cyclic Commit the version that was current when the record was written, 0 for
     /// none; under Simple Cyclic Commit 0.
     pub back: u64,
-    /// How many records the transaction has, 0 where its records do not say.
+    /// How many records the transaction has, 0 where its records do not say. It tells in which format a record is
+    /// stored, and a copy is stored in that of its source, since two records with one name must be equal.
     pub count: u32,
     /// Whether the page was discarded: it then has no contents.
     pub discard: bool,

@@ -179,6 +179,25 @@ fn is_counted(tables: &Tables, block: u32) -> bool
         && shut == tables.garbage(Block(block), true)
 }
 
+/// Whether the tables say of the blocks as they are, shut or not, what they say of each.
+fn is_recounted_now(tables: &Tables) -> bool
+    requires shape { tables.now.shape ≡ SHAPE }
+{
+    let mut most = 0;
+    let mut place = None;
+    let mut all: u32 = 0;
+    for block in 0..BLOCKS {
+        let block = Block(block);
+        let garbage = tables.garbage(block, tables.is_shut(block));
+        all = all.wrapping_add(garbage);
+        if garbage > most {
+            most = garbage;
+            place = Some(block);
+        }
+    }
+    tables.most_garbage_now() == place && tables.all_garbage() == all
+}
+
 /// Whether the tables say of each block, and of the block with the greatest number, what the slots say.
 fn is_recounted(tables: &Tables) -> bool
     requires shape { tables.now.shape ≡ SHAPE }
@@ -196,7 +215,9 @@ fn is_recounted(tables: &Tables) -> bool
             place = Some(Block(block));
         }
     }
-    tables.most_garbage() == place && tables.most_garbage_among(0) == most
+    tables.most_garbage() == place
+        && tables.most_garbage_among(0) == most
+        && is_recounted_now(tables)
 }
 
 /// Gives a page a record that is newer than those it has, where a number is free. Returns whether it is kept.
@@ -288,7 +309,7 @@ fn is_changed(tables: &mut Tables, kind: u32, at: u32, number: u32, page: u32) -
     was_above && is_recounted(tables)
 }
 
-/// Whether 200 changes leave tables that are right.
+/// Whether 200 changes, and as many of closed blocks, leave tables that are right.
 fn are_changed(tables: &mut Tables) -> bool
     requires shape { tables.old.shape ≡ SHAPE }
     requires pages { length tables.old.pages ≡ PAGES }
@@ -298,6 +319,7 @@ fn are_changed(tables: &mut Tables) -> bool
         random = random.wrapping_mul(1664525).wrapping_add(1013904223);
         let (kind, at) = ((random >> 27) % 16, (random >> 8) % SLOTS);
         let (number, page) = ((random >> 13) % NUMBERS, (random >> 20) % PAGES);
+        tables.set_closed(Block((random >> 3) % BLOCKS), random & 64 == 0);
         if !is_changed(tables, kind, at, number, page) {
             return false;
         }

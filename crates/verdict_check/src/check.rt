@@ -19,7 +19,8 @@ use tx_types::Protocol;
 
 /// Whether a text is the report on a list of records: the number of pages that it explains, and otherwise the
 /// number of the first line, counted from 1, at which the two differ or which one of them alone has. A line ends
-/// with its line feed; bytes after the last one are a line.
+/// with its line feed; bytes after the last one are a line. It shares definitions with the writer of the report and
+/// no code, so it repeats none of its mistakes.
 ///
 /// No memory is taken. On a list in which no two records have one link, the work grows with the list and the report;
 /// but for the records of one page, under Back Pointer Cyclic Commit, with them times the links into that page. The

@@ -1,3 +1,4 @@
 pub mod ScanDecided
 pub mod ScanNumbers
 pub mod ScanSlots
+pub mod ClosedBlocks

@@ -1,3 +1,4 @@
 pub mod KeptReadings
 pub mod KeptHomes
 pub mod MostGarbage
+pub mod GarbageNow

@@ -34,6 +34,7 @@ noted_by its its_mentions k = record {
   pins = k.pins;
   spare = k.spare;
   mentions = its_mentions;
+  closed = k.closed;
 }
 
 abbrev pub noted_of : {R : Type 0} → Inside R → IndexState

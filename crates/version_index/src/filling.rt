@@ -1,9 +1,11 @@
-ghost use Rattle.std.specs.Prelude.{◌≡◌, ◌≤◌, All, List, length, map, IfOk, OnOk};
-ghost use Rattle.tx_types.specs.Config.{IsShape, slots_of};
+ghost use Rattle.std.specs.Prelude.{◌≡◌, ◌<◌, ◌≤◌, All, List, length, map, IfOk, OnOk};
+ghost use Rattle.tx_types.specs.Config.{IsShape, slots_of, blocks_of};
+ghost use Rattle.flash_model.specs.Readings.{reads_blank_block};
 ghost use Rattle.record_list.specs.SoundList.{PagesExist};
 ghost use Rattle.record_list.specs.declared.found.Found.{Found};
 ghost use Rattle.sorted_records.specs.SortedRecords.{Sorts};
 ghost use Rattle.slot_tables.specs.TablesState.{blank_tables};
+ghost use Rattle.judged_records.specs.IndexState.{used_blocks};
 ghost use Rattle.judged_records.specs.Notes.{seen_as, found_in};
 ghost use Rattle.version_index.specs.Filling.{AreFilled};
 ghost use Rattle.version_index.specs.Scanned.{CanFill};
@@ -14,10 +16,10 @@ use crate::holding::{hold_uses, slot_uses};
 use crate::numbering::number_records;
 use flash_model::Seen;
 use record_list::Found;
-use slot_tables::TablesBuilder;
+use slot_tables::{Tables, TablesBuilder};
 use sorted_records::{CurrentVersions, SortedRecords};
 use std::alloc::{AllocError, Global};
-use tx_types::{Memory, Protocol, Shape};
+use tx_types::{Block, Memory, Protocol, Shape};
 
 /// Tables of slots that read so and hold the records of a list, in the order of their slots. Of the records it is known
 /// where their pages stand.
@@ -77,6 +79,29 @@ fn fill(
     decide_current(tables, logical, standing, &numbers);
     decide_records(tables, logical, standing, &numbers);
     Ok(())
+}
+
+/// Closes each block with a slot that is not blank, and no other one.
+pub fn close_used(tables: &mut Tables, seen: &[Seen])
+    requires { length seen.now ≡ slots_of tables.old.shape }
+    ensures { tables.new ≡ record tables.old { closed = used_blocks tables.old.shape seen.now } }
+{
+    let shape = tables.shape();
+    for block in 0..shape.blocks() {
+        let blank = are_blank(seen, shape, block);
+        tables.set_closed(Block(block), !blank);
+    }
+}
+
+/// Whether each slot of a block is blank.
+fn are_blank(seen: &[Seen], shape: Shape, block: u32) -> bool
+    requires exists { block < blocks_of shape }
+    requires seen { length seen.now ≡ slots_of shape }
+    ensures { result ≡ reads_blank_block shape seen.now block }
+{
+    let slots = shape.pages_per_block as usize;
+    let first = block as usize * slots;
+    seen[first..first + slots].iter().all(|how| how.is_blank())
 }
 
 /// The records of a list in the order of their names, and where their pages stand.

@@ -11,7 +11,7 @@ mod changing;
 mod reading;
 
 use crate::counting::count_written;
-use crate::filling::{build_tables, current_versions_of};
+use crate::filling::{build_tables, close_used, current_versions_of};
 use crate::mentioning::first_mentions;
 use flash_model::Seen;
 use record_list::{CommitRule, Found};
@@ -89,7 +89,8 @@ impl<R: CommitRule> Index<R> {
         };
         let mentions = first_mentions(alloc, standing.sorted_records().records(), config.logical)?;
         let filling = build_tables(alloc, shape, config.logical, seen, standing)?;
-        let tables = filling.finish(alloc)?;
+        let mut tables = filling.finish(alloc)?;
+        close_used(&mut tables, seen);
         let written = count_written(&tables, config.logical);
         Ok(Index {
             config,

@@ -12,6 +12,7 @@ use Rattle.collector.specs.declared.unsure.Unsure.TheVariants as unsure
 use Rattle.collector.proofs.OfNotes.Calm.{noted_as_read}
 use Rattle.collector.proofs.OfNotes.Keeping.{keeps_array_same}
 use Rattle.collector.proofs.OfCopies.CopyNotes.{copy_spared}
+use Rattle.collector.proofs.OfNotes.ShutBlocks.{copy_shut}
 use Rattle.collector.proofs.OfNotes.SureCounts.{sure_counts}
 
 -- a slot that is noted blank as it reads is blank
@@ -159,6 +160,8 @@ module _ (s s' : FlashState) (n : IndexState) (t : BlocksState) (m : Matches s n
         victim = tt;
         free = λ slot free. get_or-set_other n.notes to.0 slot (note_at n.notes from.0) Blank (free_other slot free)
             ∙ m.free slot free;
+        shut = copy_shut n t m.shut (let b = m.noted.bounds.shape.pages_least in omega arith) to.0
+            (note_at n.notes from.0) in_spare;
       }
 
   -- the program of the copy was broken
@@ -193,4 +196,5 @@ module _ (s s' : FlashState) (n : IndexState) (t : BlocksState) (m : Matches s n
         spared = m.spared;
         victim = tt;
         free = m.free;
+        shut = m.shut;
       }

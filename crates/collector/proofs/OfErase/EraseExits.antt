@@ -15,7 +15,7 @@ use Rattle.collector.proofs.OfNotes.Keeping.{keeps_array_same}
 use Rattle.collector.proofs.OfNotes.Losing.{blocked, spared_still}
 use Rattle.collector.proofs.OfNotes.SpelledNotes.{calm_spelled}
 use Rattle.collector.proofs.OfErase.Swap.{free_away, free_before, tail_blank}
-use Rattle.collector.proofs.OfSettle.SettledBlocks.{out_of, noted_out}
+use Rattle.collector.proofs.OfSettle.SettledBlocks.{out_of, noted_out, block_shut, victim_shut}
 use Rattle.collector.proofs.OfNotes.SureCounts.{sure_counts}
 
 module _ (s : FlashState) (n : IndexState) (t : BlocksState) (m : Matches s n t unsure.Nothing)
@@ -210,6 +210,7 @@ module _ (s s' : FlashState) (n : IndexState) (t : BlocksState) (m : Matches s n
     spared = spared_still n m.noted loss t.spare spare_below m.spared Blank refl;
     victim = tt;
     free = free_still s n t m loss written_loss t.spare spare_below m.spared;
+    shut = block_shut s n t unsure.Nothing m Blank;
   }
 
   -- the erase of the spare was broken
@@ -234,6 +235,7 @@ module _ (s s' : FlashState) (n : IndexState) (t : BlocksState) (m : Matches s n
         spared = m.spared;
         victim = tt;
         free = m.free;
+        shut = m.shut;
       }
 
   -- the erase of a collected block was broken
@@ -260,6 +262,7 @@ module _ (s s' : FlashState) (n : IndexState) (t : BlocksState) (m : Matches s n
         spared = m.spared;
         victim = spared;
         free = m.free;
+        shut = m.shut;
       }
 
   -- the collected block was erased: it is the spare, and the old one has its copies
@@ -301,4 +304,5 @@ module _ (s s' : FlashState) (n : IndexState) (t : BlocksState) (m : Matches s n
                   (subst (λ k. filled.0 ≤ slot % k) same_per behind.1)
               | inr before ↦ m.free slot before
             ]);
+        shut = victim_shut s n t unsure.Nothing m block below Blank other mid filled;
       }

@@ -5,7 +5,7 @@ use Rattle.tx_types.specs.declared.config.BlockState.TheVariants.{Clean}
 use Rattle.die_alloc.proofs.Changes.{use_of-with_use_same, use_of-with_use_other, use_of-with_spare_same, use_of-with_spare_other}
 
 -- the slot of a block, by its number in it
-slot_in : (per block slot : ℕ) → slot / per ≡ block → block * per + slot % per ≡ slot
+pub slot_in : (per block slot : ℕ) → slot / per ≡ block → block * per + slot % per ≡ slot
 slot_in per block slot e =
     let whole = div-add-mod slot per in
     subst (λ b. b * per + slot % per ≡ slot) e (omega (arith, whole, mul_comm per (slot / per)))
@@ -23,11 +23,11 @@ module _ (t : BlocksState) (h : IsBlocksState t) (block : ℕ) (below : block < 
       (open_state t.shape.pages_per_block used) used other
       ∙ use_of-with_spare_same t h block below
 
-  use_old : use_of after t.spare ≡ record { state = open_state t.shape.pages_per_block used; used = used }
+  pub use_old : use_of after t.spare ≡ record { state = open_state t.shape.pages_per_block used; used = used }
   use_old = use_of-with_use_same (table_with_spare t block) mid t.spare (open_state t.shape.pages_per_block used) used
       h.spare_within
 
-  use_other : (b : ℕ) → b ≢ block → b ≢ t.spare → use_of after b ≡ use_of t b
+  pub use_other : (b : ℕ) → b ≢ block → b ≢ t.spare → use_of after b ≡ use_of t b
   use_other b away apart =
       use_of-with_use_other (table_with_spare t block) t.spare b (open_state t.shape.pages_per_block used) used apart
       ∙ use_of-with_spare_other t block b away apart

@@ -1,5 +1,6 @@
 -- The erase of a collected block as a call: what it leaves where it is done, and where it is broken.
 use Rattle.collector.proofs.Common.{ℕ, ◌<◌, true, false, Ok, Err, refl, sym, ap, ◌∙◌, subst, arith, shape_of, blocks_of, Block, Protocol, Broken, FlashState, Erases, erase, CanDo, LossLaw, WrittenLossLaw, Blank, IndexState, IsNoted, current_of, held_of, erased, with_spare, block_noted, IsBlocksState, table_with_spare, ErasesVictim, swapped, Matches, Preserves, KeepsArray, KeepsStore, StoreParts, store_parts}
+use Rattle.std.proofs.lemmas.List.{length-set}
 use Rattle.collector.specs.declared.unsure.Unsure.TheVariants as unsure
 use Rattle.collector.specs.Calls.{CanErase}
 use Rattle.collector.specs.StoreParts.{IsSure}
@@ -22,6 +23,7 @@ spare_noted p n block below k = record {
   pages = k.pages;
   mentions = k.mentions;
   spare = below;
+  closed = length-set n.closed block false ∙ k.closed;
   scanned = k.scanned;
   sound = k.sound;
   mentioned = k.mentioned;

@@ -1,11 +1,13 @@
 -- Making room: the spare is made blank, and the block with the most garbage is collected, if there is any.
-use Rattle.collector.proofs.Common.{◌≡◌, ◌≢◌, ◌*◌, ◌<◌, true, false, length, List, Result, Ok, Err, refl, sym, ap, ap₂, ◌∙◌, subst, inl, inr, arith, shape_of, blocks_of, Config, Block, Protocol, Shape, Link, Broken, LossLaw, IndexState, needed_of, BlocksState, IsFull, Cleans, Collects, CollectsVictim, is_noted_blank, needed_slots, noted_cleaned, HasUnneeded, IsNextName, CostsAtMost, Matches, IsNextOfSpare, StoreParts, IsVictim, HasNoGarbage}
+use Rattle.collector.proofs.Common.{◌≡◌, ◌≢◌, ◌*◌, ◌<◌, true, false, length, List, Result, None, Ok, Err, refl, sym, ap, ap₂, ◌∙◌, subst, inl, inr, arith, shape_of, blocks_of, Config, Block, Protocol, Shape, Link, Broken, LossLaw, IndexState, needed_of, BlocksState, IsFull, Cleans, Collects, CollectsVictim, is_noted_blank, needed_slots, noted_cleaned, HasUnneeded, IsNextName, CostsAtMost, Matches, IsNextOfSpare, StoreParts, IsVictim, HasNoGarbage}
+use Rattle.judged_records.specs.IndexState.{FindsMostGarbageNow, HasMostGarbageNow}
 use Rattle.collector.specs.declared.unsure.Unsure.TheVariants as unsure
 use Rattle.collector.specs.Calls.{CollectsClean}
 use Rattle.collector.specs.StoreParts.{IsSure}
 use Rattle.collector.proofs.OfCollect.CollectCalls.{collects_cleaned}
 use Rattle.collector.proofs.OfCollect.Collections.{first_of_spare}
 use Rattle.collector.proofs.OfRoom.NextNames.{next_stays}
+use Rattle.collector.proofs.OfRoom.NowVictims.{none_now, victim_now}
 use Rattle.collector.proofs.OfRoom.RoomMade.{blank_erased, spare_within, victim_apart, victim_unneeded, some_garbage, room_made}
 use Rattle.list_lemmas.proofs.Ranges.{filter_fewer}
 
@@ -39,8 +41,8 @@ module _ (p : Protocol) (loss : LossLaw p) (a m : StoreParts) (k : IsSure p a) (
       cleaned.blocks
 
   -- there is no garbage
-  pub most_none : HasNoGarbage m.noted m.table → CollectsVictim p a m (Ok false)
-  most_none none = record {
+  pub most_none : FindsMostGarbageNow m.noted None → CollectsVictim p a m (Ok false)
+  most_none clear = let none = none_now m.flash m.noted m.table unsure.Nothing calm clear in record {
     keeps = cleaned.keeps;
     done = record {
       none = subst (HasNoGarbage (noted_cleaned a.noted a.table.spare)) cleaned.blocks
@@ -55,7 +57,10 @@ module _ (p : Protocol) (loss : LossLaw p) (a m : StoreParts) (k : IsSure p a) (
     costs = costs_cleaning p a m (Ok tt) cleaned;
   }
 
-  module _ (block : Block) (v : IsVictim m.noted m.table block.0) where
+  module _ (block : Block) (most : HasMostGarbageNow m.noted block.0) where
+    v : IsVictim m.noted m.table block.0
+    v = victim_now m.flash m.noted m.table unsure.Nothing calm block.0 most
+
     pub chosen_apart : block.0 ≢ m.table.spare
     chosen_apart = victim_apart m.flash m.noted m.table calm block.0 v
 

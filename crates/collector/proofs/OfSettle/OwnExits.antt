@@ -1,11 +1,12 @@
 -- A record of an open transaction that was programmed in a free slot, or whose program was broken, or which was found
 -- there: what matches then.
-use Rattle.collector.proofs.Common.{◌≡◌, ℕ, ◌/◌, ◌<◌, true, List, refl, sym, ap, ◌∙◌, arith, shape_of, slots_of, Protocol, Shape, Rec, FlashState, Contents, damaged, complete, slot_at, CanBeSpelled, PartialWriteLaw, CompletingWriteLaw, is_outside, Blank, Damaged, Holds, note_at, note_of, IndexState, IsNoted, programmed, damaged_at, BlocksState, IsBlocksState, IsFree, block_of_slot, with_slot, has_room_not_spare, Unsure, option_map_or, is_unsure, Matches, CanTakeOwn}
+use Rattle.collector.proofs.Common.{◌≡◌, ℕ, ◌/◌, ◌<◌, true, List, length, refl, sym, ap, ◌∙◌, arith, shape_of, slots_of, Protocol, Shape, Rec, FlashState, Contents, damaged, complete, slot_at, CanBeSpelled, PartialWriteLaw, CompletingWriteLaw, is_outside, Blank, Damaged, Holds, note_at, note_of, IndexState, IsNoted, programmed, damaged_at, BlocksState, IsBlocksState, IsFree, block_of_slot, with_slot, has_room_not_spare, Unsure, option_map_or, is_unsure, Matches, CanTakeOwn}
 use Rattle.page_record.specs.Spelling.{spelling}
 use Rattle.page_record.proofs.Spellings.{record_of-spelling}
 use Rattle.die_alloc.proofs.Changes.{block_within}
 use Rattle.collector.specs.declared.unsure.Unsure.TheVariants as unsure
 use Rattle.collector.proofs.OfSettle.SettledExits.{settled_slot, free_with_slot, damaged_spared}
+use Rattle.collector.proofs.OfNotes.ShutBlocks.{used_shut}
 use Rattle.collector.proofs.OfSettle.Programming.{programmed_spared}
 use Rattle.collector.proofs.OfSettle.SettledBlocks.{out_of}
 
@@ -33,6 +34,12 @@ module _ (s : FlashState) (n : IndexState) (t : BlocksState) (u : Unsure) (m : M
   within : at < slots_of s.shape
   within = omega (arith, free.within, ap slots_of m.blocks)
 
+  long : at < length n.notes
+  long = omega (arith, within, m.noted.slots, ap slots_of m.shape)
+
+  positive : 0 < n.config.pages_per_block
+  positive = (let b = m.noted.bounds.shape.pages_least in omega arith)
+
   -- the record is there
   pub own_there : (partial : PartialWriteLaw n.config.protocol) (completing : CompletingWriteLaw n.config.protocol)
       (rec : Rec) → CanTakeOwn n t rec →
@@ -46,6 +53,8 @@ module _ (s : FlashState) (n : IndexState) (t : BlocksState) (u : Unsure) (m : M
       (programmed_spared n m.noted partial completing at rec (omega (arith, within, m.noted.slots, ap slots_of m.shape))
       was t take (free_out s n t u m at free)
       noted m.spared)
+      (used_shut n t m.shut positive m.table (m.blocks ∙ m.shape) at free (Holds rec) refl (programmed n at rec).mentions
+      long)
 
   -- the slot is damaged
   pub own_damaged : slot_at s.image at ≡ damaged → IsNoted n.config.protocol (damaged_at n at) →
@@ -55,3 +64,4 @@ module _ (s : FlashState) (n : IndexState) (t : BlocksState) (u : Unsure) (m : M
       (sym (ap (note_of n.config.protocol) reads)) table refl refl
       (free_with_slot t m.table at free)
       (damaged_spared n at t.spare (omega (arith, within, m.noted.slots, ap slots_of m.shape)) was m.spared)
+      (used_shut n t m.shut positive m.table (m.blocks ∙ m.shape) at free Damaged refl n.mentions long)

@@ -7,7 +7,9 @@ use Rattle.die_alloc.proofs.Changes.{block_within}
 use Rattle.collector.specs.declared.unsure.Unsure.TheVariants as unsure
 use Rattle.collector.proofs.OfNotes.Losing.{blocked, spared_still}
 use Rattle.collector.proofs.OfErase.Swap.{free_away, free_before, tail_blank}
+use Rattle.collector.proofs.OfNotes.ShutBlocks.{spare_shut, swapped_shut}
 use Rattle.collector.proofs.OfNotes.SureCounts.{sure_counts}
+use Rattle.collector.specs.Matches.{AreShut}
 
 -- a slot of another block is outside the block
 pub out_of : (shape : Shape) (block slot : ℕ) → slot / shape.pages_per_block ≢ block →
@@ -48,6 +50,33 @@ module _ (s : FlashState) (n : IndexState) (t : BlocksState) (u : Unsure) (m : M
           ∙ ap (note_of n.config.protocol) (sym (all slot (omega (arith, within, ap slots_of m.shape)) here)))
     ]
 
+-- the notes of the spare are others
+pub block_shut : (s : FlashState) (n : IndexState) (t : BlocksState) (u : Unsure) (m : Matches s n t u) (note : Note) →
+    AreShut (blocked n t.spare note) t
+block_shut s n t u m note =
+    let below : t.spare < blocks_of (shape_of n.config) = omega (
+      arith,
+      m.table.spare_within,
+      ap blocks_of m.blocks,
+      ap blocks_of m.shape,
+    ) in
+    let positive : 0 < n.config.pages_per_block = (let b = m.noted.bounds.shape.pages_least in omega arith) in
+    spare_shut n t m.shut positive (with_block_noted (shape_of n.config) n.notes t.spare note)
+    (λ slot off. noted_out s n t u m t.spare below note slot (out_of s.shape t.spare slot
+    (λ e. off (ap (λ (x : Shape). slot / x.pages_per_block) (sym m.shape) ∙ e))))
+
+-- another block becomes the spare, whose notes are others
+pub victim_shut : (s : FlashState) (n : IndexState) (t : BlocksState) (u : Unsure) (m : Matches s n t u) (block : ℕ) →
+    block < blocks_of (shape_of n.config) → (note : Note) → block ≢ t.spare →
+    IsBlocksState (table_with_spare t block) → (filled : IsFilledTo n t.spare) →
+    AreShut (with_spare (blocked n block note) block) (swapped t block filled.0)
+victim_shut s n t u m block below note other mid filled =
+    let positive : 0 < n.config.pages_per_block = (let b = m.noted.bounds.shape.pages_least in omega arith) in
+    swapped_shut n t m.shut positive m.table (m.blocks ∙ m.shape) block below other mid filled m.noted.closed
+    (with_block_noted (shape_of n.config) n.notes block note)
+    (λ slot off. noted_out s n t u m block below note slot (out_of s.shape block slot
+    (λ e. off (ap (λ (x : Shape). slot / x.pages_per_block) (sym m.shape) ∙ e))))
+
 -- the spare
 pub settled_spare : (s : FlashState) (n : IndexState) (t : BlocksState) (m : Matches s n t unsure.SpareErase)
     (loss : LossLaw n.config.protocol)
@@ -86,6 +115,7 @@ settled_spare s n t m loss contents note fits none all noted =
           let out = out_of s.shape t.spare slot
           (λ e. apart (ap (λ (x : Shape). slot / x.pages_per_block) m.blocks ∙ e)) in
           noted_out s n t unsure.SpareErase m t.spare below note slot out ∙ m.free slot free;
+      shut = block_shut s n t unsure.SpareErase m note;
     }
 
 -- a collected block, which is the spare then
@@ -134,4 +164,5 @@ settled_victim s n t block m loss contents note fits none all filled below apart
                 (subst (λ k. filled.0 ≤ slot % k) same_per behind.1)
             | inr before ↦ m.free slot before
           ]);
+      shut = victim_shut s n t (unsure.VictimErase block) m block.0 below note apart mid filled;
     }

@@ -4,7 +4,7 @@ use Rattle.judged_records.proofs.OfNotes.FoundIn.{found_in_damaged}
 use Rattle.record_list.specs.Written.{IsDispensable}
 use Rattle.die_alloc.proofs.Changes.{use_of-with_slot_same, use_of-with_slot_other}
 use Rattle.collector.specs.declared.unsure.Unsure.TheVariants as unsure
-use Rattle.collector.specs.Matches.{IsPlace}
+use Rattle.collector.specs.Matches.{IsPlace, AreShut}
 use Rattle.collector.proofs.OfNotes.SureCounts.{sure_counts}
 
 -- a call that leaves image and shape leaves what matches
@@ -28,6 +28,7 @@ matches_still s s' n t u shape image m = record {
   spared = m.spared;
   victim = m.victim;
   free = m.free;
+  shut = m.shut;
 }
 
 -- Where each slot is noted as it reads, nothing is unsure.
@@ -51,6 +52,7 @@ matches_surely s n t u m place = record {
   spared = m.spared;
   victim = tt;
   free = m.free;
+  shut = m.shut;
 }
 
 pub damaged_spared : (n : IndexState) (at block : ℕ) → at < length n.notes → note_at n.notes at ≡ Blank →
@@ -88,8 +90,9 @@ module _ (s : FlashState) (n : IndexState) (t t' : BlocksState) (u : Unsure) (m 
   pub settled_slot : IsBlocksState t' → t'.shape ≡ t.shape → t'.spare ≡ t.spare →
       ((slot : ℕ) → IsFree t' slot → IsFree t slot × (slot ≢ at)) →
       CanSpare (record n { notes = set n.notes at note; mentions = ms }) t.spare →
+      AreShut (record n { notes = set n.notes at note; mentions = ms }) t' →
       Matches s (record n { notes = set n.notes at note; mentions = ms }) t' unsure.Nothing
-  settled_slot table shape spare free spared = record {
+  settled_slot table shape spare free spared shut = record {
     shape = m.shape;
     flash = m.flash;
     sound = m.sound;
@@ -104,6 +107,7 @@ module _ (s : FlashState) (n : IndexState) (t t' : BlocksState) (u : Unsure) (m 
     spared = subst (CanSpare (record n { notes = set n.notes at note; mentions = ms })) (sym spare) spared;
     victim = tt;
     free = λ slot f. get_or-set_other n.notes at slot note Blank (free slot f).1 ∙ m.free slot (free slot f).0;
+    shut = shut;
   }
 
 -- a slot that is used is free no more, and those that are free were free

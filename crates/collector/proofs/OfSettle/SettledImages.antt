@@ -20,6 +20,7 @@ use Rattle.collector.proofs.OfNotes.Losing.{preserves, blocked, can_be_lost}
 use Rattle.collector.proofs.OfSettle.DamagedNotes.{damaged_preserves}
 use Rattle.collector.proofs.OfSettle.OwnExits.{own_there, own_damaged}
 use Rattle.collector.proofs.OfSettle.SettledBlocks.{settled_spare, settled_victim}
+use Rattle.collector.proofs.OfNotes.ShutBlocks.{copy_shut}
 use Rattle.collector.proofs.OfSettle.SettledExits.{matches_surely, settled_slot, damaged_spared}
 use Rattle.die_alloc.proofs.Swaps.{spare_table}
 use Rattle.collector.proofs.OfSettle.TableChanges.{slot_table, table_swapped}
@@ -94,6 +95,9 @@ module _ (s : FlashState) (n : IndexState) (t : BlocksState) (from to : Slot) (l
   copy_within : to.0 < slots_of s.shape
   copy_within = omega (arith, m.place.0, ap slots_of m.shape)
 
+  positive : 0 < n.config.pages_per_block
+  positive = (let b = m.noted.bounds.shape.pages_least in omega arith)
+
   copy_only : (slot : ℕ) → (slot == to.0) ≡ true → slot ≡ to.0
   copy_only slot e = eqb-true slot to.0 e
 
@@ -141,7 +145,8 @@ module _ (s : FlashState) (n : IndexState) (t : BlocksState) (from to : Slot) (l
     matches = settled_slot s n t t (unsure.Copy from to) m to.0 copy_within copy_only Damaged n.mentions
         (damaged_noted n.config.protocol n m.noted to.0 m.place.0 was)
         (sym (ap (note_of n.config.protocol) is)) m.table refl refl free_other
-        (damaged_spared n to.0 t.spare long was m.spared);
+        (damaged_spared n to.0 t.spare long was m.spared)
+        (copy_shut n t m.shut positive to.0 Damaged m.place.1);
     config = refl;
     preserves = λ no_record. damaged_preserves n to.0 long was;
   }
@@ -151,7 +156,8 @@ module _ (s : FlashState) (n : IndexState) (t : BlocksState) (from to : Slot) (l
         (m.sure from.0 (omega (arith, m.place.3, ap slots_of m.shape)) (ne_eqb from.0 to.0 apart)
         ∙ ap (note_of n.config.protocol) (sym (same_there bytes spare is)))
         m.table refl refl free_other
-        (copy_spared n m.noted law from.0 to.0 (m.place.4).0 (m.place.4).1 long_from long was copied' t.spare m.spared);
+        (copy_spared n m.noted law from.0 to.0 (m.place.4).0 (m.place.4).1 long_from long was copied' t.spare m.spared)
+        (copy_shut n t m.shut positive to.0 (note_at n.notes from.0) m.place.1);
     config = refl;
     preserves = λ no_record. copy_preserves n m.noted law from.0 to.0 (m.place.4).0 (m.place.4).1 long_from
         long was copied';

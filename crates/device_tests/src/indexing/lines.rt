@@ -104,6 +104,11 @@ fn most_is<R: CommitRule>(index: &Index<R>, words: &str) -> bool {
     is_block(index.most_garbage(), words, 0)
 }
 
+/// The block with the most garbage as the blocks are, and how much all have: `now 2 5`.
+fn now_is<R: CommitRule>(index: &Index<R>, words: &str) -> bool {
+    is_block(index.most_garbage_now(), words, 0) && index.all_garbage() == number(words, 1)
+}
+
 /// The most garbage among sixteen blocks: `among 1 2`.
 fn among_is<R: CommitRule>(index: &Index<R>, words: &str) -> bool {
     let sixteen = number(words, 0);
@@ -196,6 +201,7 @@ fn is_said<R: CommitRule>(alloc: Global, index: &Index<R>, name: &str, words: &s
         "garbage" => garbage_is(index, words),
         "blanks" => are_blanks(index, words),
         "most" => most_is(index, words),
+        "now" => now_is(index, words),
         "among" => among_is(index, words),
         "must_go" => must_go_is(index, words),
         "going" => going_are(alloc, index, words),

@@ -11,7 +11,7 @@ use Rattle.record_list.specs.Transaction.{IsAskedAt}
 use Rattle.record_list.specs.Written.{IsRemovable}
 use Rattle.record_list.proofs.OfFacts.Names.{greatest_bound, cases_present}
 use Rattle.record_list.proofs.OfChanges.OneMore.{inserted_all}
-use Rattle.judged_records.specs.IndexState.{IsNotedFrom, mention_of, CanLose, damaged_at, copied}
+use Rattle.judged_records.specs.IndexState.{IsNotedFrom, is_used_block, mention_of, CanLose, damaged_at, copied}
 use Rattle.judged_records.proofs.OfNotes.FoundIn.{found, found_in_programmed, found_in_damaged, found_in_block, found_in_ascending, noted_in, holds_within}
 use Rattle.judged_records.proofs.OfNotes.Blocks.{length-with_item}
 use Rattle.judged_records.proofs.OfChanges.Mentions.{length-raised, raised_bounds}
@@ -58,6 +58,7 @@ pub record IsNextNoted (protocol : Protocol) (n m : IndexState) : Type 0 where
   pub pages : length m.pins ≡ length n.pins
   pub mentions : length m.mentions ≡ length n.mentions
   pub spare : m.spare ≡ n.spare
+  pub closed : length m.closed ≡ length n.closed
   pub versions : All HasVersions (found_in m.notes)
   pub sound : IsSoundList protocol (found_in m.notes) n.config.logical
   pub mentioned : (page : ℕ) → page < n.config.logical → mention (found_in m.notes) page ≤ mention_of m page
@@ -74,6 +75,7 @@ module _ (protocol : Protocol) (n : IndexState) (k : IsNoted protocol n) where
     mentions = s.mentions ∙ k.mentions ∙ ap (λ c. c.logical) (sym s.config);
     spare = subst (λ c. IfSome m.spare (λ block. block < blocks_of (shape_of c))) (sym s.config)
         (subst (λ o. IfSome o (λ block. block < blocks_of (shape_of n.config))) (sym s.spare) k.spare);
+    closed = s.closed ∙ k.closed ∙ ap (λ c. blocks_of (shape_of c)) (sym s.config);
     scanned = record { ascending = found_in_ascending m.notes; versions = s.versions };
     sound = subst (λ c. IsSoundList protocol (found_in m.notes) c.logical) (sym s.config) s.sound;
     mentioned = subst (λ c. (page : ℕ) → page < c.logical → mention (found_in m.notes) page ≤ mention_of m page)
@@ -92,6 +94,7 @@ module _ (protocol : Protocol) (n : IndexState) (k : IsNoted protocol n) where
         pages = refl;
         mentions = refl;
         spare = refl;
+        closed = refl;
         versions = subst (All HasVersions) (sym same) k.scanned.versions;
         sound = subst (λ l. IsSoundList protocol l n.config.logical) (sym same) k.sound;
         mentioned = subst (λ l. (page : ℕ) → page < n.config.logical → mention l page ≤ mention_of n page)
@@ -138,6 +141,7 @@ module _ (protocol : Protocol) (n : IndexState) (k : IsNoted protocol n) where
         pages = refl;
         mentions = length-raised rec n.mentions;
         spare = refl;
+        closed = refl;
         versions = write.scanned'.versions;
         sound = elim (cases_present list' next.names) [
           | inl absent ↦ (partial (found_in n.notes) list' n.config.logical next.names (found at rec) k.sound
@@ -184,6 +188,7 @@ module _ (protocol : Protocol) (n : IndexState) (k : IsNoted protocol n) where
             pages = refl;
             mentions = refl;
             spare = refl;
+            closed = refl;
             versions = versions;
             sound = keeps.sound;
             mentioned = λ page below.
@@ -216,6 +221,7 @@ module _ (protocol : Protocol) (n : IndexState) (k : IsNoted protocol n) where
         pages = refl;
         mentions = refl;
         spare = refl;
+        closed = refl;
         versions = subst (All HasVersions) (sym rest) (All-filter (λ f. keep f.slot.0) HasVersions (found_in n.notes)
             k.scanned.versions);
         sound = subst (λ l. IsSoundList protocol l n.config.logical) (sym rest)
@@ -242,6 +248,8 @@ fresh_noted protocol its all list n check bounds rule slots scanned sound from =
   mentions = ap length from.mentions ∙ length-map-range_with_len (mention list) 0 its.logical
       ∙ ap (λ c. c.logical) (sym from.config);
   spare = subst (λ o. IfSome o (λ block. block < blocks_of (shape_of n.config))) (sym from.spare) tt;
+  closed = ap length from.closed ∙ length-map-range_with_len (is_used_block (shape_of its) all) 0
+      (blocks_of (shape_of its)) ∙ ap (λ c. blocks_of (shape_of c)) (sym from.config);
   scanned = subst IsScanned (sym from.found) scanned;
   sound = subst (λ l. IsSoundList protocol l n.config.logical) (sym from.found)
       (subst (λ c. IsSoundList protocol list c.logical) (sym from.config) sound);

@@ -108,23 +108,27 @@ all_marked k marks kept h at = by (is_marked marks at) refl (is_needed k at) ref
         absurd (false≢true (sym is ∙ h.homes number at (omega (arith, kept.slots)) its_home wanted))
 
 -- tables that are being filled are tables with the marks of the needed slots
-abbrev pub right_needs : TablesState → LiveSlotsState
-right_needs k = record {
+abbrev pub right_needs : TablesState → List Bool → LiveSlotsState
+right_needs k blank = record {
   needed = map (is_needed k) (range_with_len 0 (slots_of k.shape));
+  blanks = blank;
+  closed = k.closed;
   size = k.shape.pages_per_block;
   blocks = blocks_of k.shape;
   spare = k.spare;
 }
 
 abbrev pub as_tables : Inside → Whole
-as_tables f = record { base = f.base; blanks = f.blanks; live = right_needs (tables_state f.base) }
+as_tables f = record { base = f.base; live = right_needs (tables_state f.base) f.blanks.marks }
 
-right_marked : (k : TablesState) → length k.slots ≡ slots_of k.shape → AreMarked k (right_needs k)
-right_marked k slots = record {
+right_marked : (k : TablesState) (blank : List Bool) → length k.slots ≡ slots_of k.shape →
+    AreMarked k (right_needs k blank)
+right_marked k blank slots = record {
   slots = length-map-range_with_len (is_needed k) 0 (slots_of k.shape);
   size = refl;
   blocks = refl;
   spare = refl;
+  closed = refl;
   needed = λ at. elim (cases_lt at (slots_of k.shape)) [
     | inl low ↦ get_or-map-range_with_len (is_needed k) 0 (slots_of k.shape) at at false low (omega arith)
     | inr past ↦
@@ -137,6 +141,6 @@ right_marked k slots = record {
 pub are_tables : (f : Inside) → TablesBuilderInvariant f → TablesInvariant (as_tables f)
 are_tables f h = record {
   sized = h.sized;
-  blanks = h.blanks;
-  live = right_marked (tables_state f.base) h.sized.kept.slots;
+  blanks = record { marks = h.blanks.marks; size = refl };
+  live = right_marked (tables_state f.base) f.blanks.marks h.sized.kept.slots;
 }

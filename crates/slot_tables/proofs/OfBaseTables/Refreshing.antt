@@ -16,14 +16,15 @@ two_refreshed k needed a b = refreshed k (refreshed k needed (home_at k a)) (hom
 -- they are right where they were so elsewhere
 marked_twice : (k k' : TablesState) (n : LiveSlotsState) (a b : Option ℕ) → AreMarked k n →
     length k'.slots ≡ slots_of k.shape → k'.shape ≡ k.shape
-    → k'.spare ≡ k.spare
+    → k'.spare ≡ k.spare → k'.closed ≡ k.closed
     → ((at : ℕ) → (home_at k' a ≡ Some at → ⊥) → (home_at k' b ≡ Some at → ⊥) → is_needed k' at ≡ is_needed k at)
     → AreMarked k' (record n { needed = two_refreshed k' n.needed a b })
-marked_twice k k' n a b m slots shape spare still = record {
+marked_twice k k' n a b m slots shape spare closed still = record {
   slots = refreshed_long k' (refreshed k' n.needed (home_at k' a)) (home_at k' b) ∙ long ∙ rw shape refl;
   size = m.size ∙ rw shape refl;
   blocks = m.blocks ∙ rw shape refl;
   spare = m.spare ∙ sym spare;
+  closed = m.closed ∙ sym closed;
   needed = λ at.
       refreshed_at k' (refreshed k' n.needed (home_at k' a)) (home_at k' b) at
       (rw (long, ← slots) (home_lies k' b)) (λ off_b.
@@ -96,6 +97,7 @@ module _ (t : Inside) (h : TablesInvariant t) where
         current = h.sized.kept.current;
         pins = h.sized.kept.pins;
         spare = h.sized.kept.spare;
+        closed = h.sized.kept.closed;
         held = h.sized.kept.held;
         counts = h.sized.kept.counts;
         versions = h.sized.kept.versions;
@@ -108,6 +110,7 @@ module _ (t : Inside) (h : TablesInvariant t) where
       size = h.live.size;
       blocks = h.live.blocks;
       spare = h.live.spare;
+      closed = h.live.closed;
       needed = λ at. h.live.needed at ∙ sym (wants_stay k (tables_state
           (record g { waits = record g.waits { waits = set g.waits.waits number to } })) at None None refl refl refl
           (λ x a b. refl)
@@ -135,6 +138,7 @@ module _ (t : Inside) (h : TablesInvariant t) where
             current = length-set g.current page to ∙ h.sized.kept.current;
             pins = h.sized.kept.pins;
             spare = h.sized.kept.spare;
+            closed = h.sized.kept.closed;
             held = h.sized.kept.held;
             counts = λ p x e. elim (cases_eq p page) [
               | inl here ↦ in_some to x (sym (get_or-set_same g.current page to None low) ∙ rw here at e) within
@@ -145,7 +149,7 @@ module _ (t : Inside) (h : TablesInvariant t) where
           waits_pages = h.sized.waits_pages;
         };
         blanks = record { marks = h.blanks.marks; size = h.blanks.size };
-        live = marked_twice k (tables_state g') t.live (number_at g.current page) to h.live slots_long refl refl
+        live = marked_twice k (tables_state g') t.live (number_at g.current page) to h.live slots_long refl refl refl
             (λ at off_a off_b. wants_stay k (tables_state g') at (number_at g.current page) to refl refl refl
             (λ number a b. current_wanted k page number to low a b) off_a off_b);
       }
@@ -174,6 +178,7 @@ module _ (t : Inside) (h : TablesInvariant t) where
             current = h.sized.kept.current;
             pins = h.sized.kept.pins;
             spare = h.sized.kept.spare;
+            closed = h.sized.kept.closed;
             held = h.sized.kept.held;
             counts = h.sized.kept.counts;
             versions = h.sized.kept.versions;
@@ -181,7 +186,7 @@ module _ (t : Inside) (h : TablesInvariant t) where
           waits_pages = h.sized.waits_pages;
         };
         blanks = record { marks = h.blanks.marks; size = h.blanks.size };
-        live = marked_twice k (tables_state g') t.live (number_at g.answers y) to h.live slots_long refl refl
+        live = marked_twice k (tables_state g') t.live (number_at g.answers y) to h.live slots_long refl refl refl
             (λ at off_a off_b. wants_stay k (tables_state g') at (number_at g.answers y) to refl refl refl
             (λ number a b. answerer_wanted k y number to low a b) off_a off_b);
       }
@@ -210,6 +215,7 @@ module _ (t : Inside) (h : TablesInvariant t) where
             current = h.sized.kept.current;
             pins = length-set g.pins.items page version ∙ h.sized.kept.pins;
             spare = h.sized.kept.spare;
+            closed = h.sized.kept.closed;
             held = h.sized.kept.held;
             counts = h.sized.kept.counts;
             versions = h.sized.kept.versions;
@@ -217,7 +223,7 @@ module _ (t : Inside) (h : TablesInvariant t) where
           waits_pages = h.sized.waits_pages;
         };
         blanks = record { marks = h.blanks.marks; size = h.blanks.size };
-        live = marked_twice k (tables_state g') t.live old new h.live slots_long refl refl
+        live = marked_twice k (tables_state g') t.live old new h.live slots_long refl refl refl
             (λ at off_a off_b. wants_stay k (tables_state g') at old new refl refl refl
             (λ number a b. pin_wanted k page version number low
             (λ r e page_is. ((λ v. a (was number r e (page_is, v))), (λ v. b (is number r e (page_is, v))))))
@@ -242,6 +248,7 @@ module _ (t : Inside) (h : TablesInvariant t) where
         current = h.sized.kept.current ∙ sym long;
         pins = h.sized.kept.pins ∙ sym long;
         spare = h.sized.kept.spare;
+        closed = h.sized.kept.closed;
         held = h.sized.kept.held;
         counts = h.sized.kept.counts;
         versions = versions;
@@ -263,7 +270,7 @@ module _ (t : Inside) (h : TablesInvariant t) where
     record_set = record {
       sized = renewed_sized;
       blanks = record { marks = h.blanks.marks; size = h.blanks.size };
-      live = marked_twice k (tables_state renewed) t.live (Some x) None h.live slots_long refl refl
+      live = marked_twice k (tables_state renewed) t.live (Some x) None h.live slots_long refl refl refl
           (λ at off_a off_b. wants_stay k (tables_state renewed) at (Some x) None refl refl refl
           (λ number a b. renewed_wanted number (λ e. a (ap Some (sym e)))) off_a off_b);
     }
@@ -278,6 +285,7 @@ module _ (t : Inside) (h : TablesInvariant t) where
         size = h.live.size;
         blocks = h.live.blocks;
         spare = h.live.spare;
+        closed = h.live.closed;
         needed = λ at.
             h.live.needed at
             ∙ sym (wants_stay k (tables_state renewed) at (Some x) None refl refl refl

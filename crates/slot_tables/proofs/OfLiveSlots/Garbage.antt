@@ -1,10 +1,10 @@
 -- The garbage of a block, from the marks of its slots.
-use Rattle.slot_tables.proofs.Common.{◌≡◌, ℕ, zero, suc, ◌+◌, ◌-◌, ◌*◌, ◌<◌, ◌≤◌, Bool, true, false, not, ◌||◌, cond, length, map, count_by, refl, ap, arith, range_with_len, row_fits, length-map, one_of, blocks_of, is_slot, SlotUse, Blank, Damaged, Holds, TablesState, IsTablesState, use_at, is_blank, is_needed, is_needed_for, number_in, LiveSlotsState, is_marked, marked_in, AreMarked}
+use Rattle.slot_tables.proofs.Common.{◌≡◌, ℕ, zero, suc, ◌+◌, ◌-◌, ◌*◌, ◌<◌, ◌≤◌, Bool, true, false, not, ◌||◌, cond, length, map, count_by, refl, sym, ap, ap₂, ◌∙◌, arith, range_with_len, row_fits, length-map, one_of, blocks_of, is_slot, SlotUse, Blank, Damaged, Holds, TablesState, IsTablesState, use_at, is_blank, is_needed, is_needed_for, number_in, LiveSlotsState, is_marked, marked_in, AreMarked}
 use Rattle.std.proofs.lemmas.List.{get_or-map}
 use Rattle.list_lemmas.proofs.Counts.{count_first}
 use Rattle.list_lemmas.proofs.Ranges.{map_range}
-use Rattle.slot_tables.specs.TablesState.{slots_in, garbage_of, garbage_numbers, blanks_of}
-use Rattle.slot_tables.specs.Counts.{BlockCountsState, unmarked_in, unmarked_numbers}
+use Rattle.slot_tables.specs.TablesState.{slots_in, last_slot, is_shut, garbage_of, garbage_now, garbage_numbers, garbage_now_numbers, blanks_of}
+use Rattle.slot_tables.specs.Counts.{BlockCountsState, unmarked_in, unmarked_numbers, is_shut_in, garbage_in, garbage_counts}
 use Rattle.slot_tables.specs.Tables.{AreBlanks}
 use Rattle.slot_tables.proofs.OfLiveSlots.Counting.{count_same}
 
@@ -105,3 +105,48 @@ module _ (k : TablesState) (h : IsTablesState k) (m : BlockCountsState) (b : Are
       (count_same (is_marked (map is_blank k.slots)) (λ at. is_blank (use_at k.slots at))
       (block * k.shape.pages_per_block) k.shape.pages_per_block
       (λ at first last. let fits = block_fits in get_or-map is_blank k.slots at Blank false (omega arith)))
+
+-- of a block as it is
+module _ (k : TablesState) (h : IsTablesState k) (n : LiveSlotsState) (m : AreMarked k n)
+    (b : AreBlanks k (record { marks = n.blanks; size = n.size })) where
+  last_blank : (block : ℕ) → block < blocks_of k.shape →
+      is_marked n.blanks (block * n.size + (n.size - 1)) ≡ is_blank (use_at k.slots (last_slot k.shape block))
+  last_blank block low =
+      let fits = block_fits k h (record { marks = n.blanks; size = n.size }) b block low in
+      let some = h.shape.pages_least in
+      rw (b.size, b.marks)
+      (get_or-map is_blank k.slots (last_slot k.shape block) Blank false (omega (arith, fits, some)))
+
+  shut_is : (block : ℕ) → block < blocks_of k.shape → is_shut k block ≡ is_shut_in n.blanks n.closed n.size block
+  shut_is block low =
+      ap₂ (λ c last. c || not last) (ap (λ cs. is_marked cs block) (sym m.closed)) (sym (last_blank block low))
+
+  pub garbage_is : (block : ℕ) → block < blocks_of k.shape → garbage_now k block ≡ garbage_in n block
+  garbage_is block low =
+      ap (λ shut. garbage_of k shut block) (shut_is block low) ∙ by (is_shut_in n.blanks n.closed n.size block)
+    where
+      -- by whether programs go to it
+      counted : Bool → ℕ
+      counted shut = n.size - marked_in n.needed n.size block - cond shut 0 (marked_in n.blanks n.size block)
+
+      by : (shut : Bool) → garbage_of k shut block ≡ cond (is_slot block n.spare) 0 (counted shut)
+      by true = garbage_shut k h n m block ∙ whole (is_slot block n.spare)
+        where
+          whole : (spare : Bool) → cond spare 0 (n.size - marked_in n.needed n.size block)
+              ≡ cond spare 0 (n.size - marked_in n.needed n.size block - 0)
+          whole true = refl
+          whole false = omega arith
+      by false =
+          garbage_part k h n m block
+          ∙ ap (λ count. unmarked_in n block - count)
+          (sym (blank_count k h (record { marks = n.blanks; size = n.size }) b block low))
+          ∙ less (is_slot block n.spare)
+        where
+          less : (spare : Bool) → cond spare 0 (n.size - marked_in n.needed n.size block)
+              - marked_in n.blanks n.size block ≡ cond spare 0 (counted false)
+          less true = omega arith
+          less false = refl
+
+  pub garbage_counts_are : garbage_now_numbers k ≡ garbage_counts n
+  garbage_counts_are = rw m.blocks (map_range (garbage_now k) (garbage_in n) 0 (blocks_of k.shape)
+      (λ block first last. garbage_is block (omega arith)))

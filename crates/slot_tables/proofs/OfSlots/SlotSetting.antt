@@ -99,6 +99,7 @@ module _ (t : Inside) (h : TablesInvariant t) (at : ℕ) (to : SlotUse) (low : a
       current = h.sized.kept.current;
       pins = h.sized.kept.pins;
       spare = h.sized.kept.spare;
+      closed = h.sized.kept.closed;
       held = λ s x e. elim (cases_eq s at) [
         | inl here ↦ numbers to x (sym own_use ∙ rw here at e) numbered
         | inr other ↦ h.sized.kept.held s x (sym (other_use s other) ∙ e)
@@ -223,7 +224,7 @@ module _ (t : Inside) (h : TablesInvariant t) (at : ℕ) (to : SlotUse) (low : a
       ∙ sym (calm_needs s (inr (off, away)) j))
 
   blanks_set : (mark : Bool) → mark ≡ is_blank to →
-      AreBlanks k' (record t.blanks { marks = set t.blanks.marks at mark })
+      AreBlanks k' (record { marks = set t.live.blanks at mark; size = t.live.size })
   blanks_set mark is = record {
     marks = ap (λ ms. set ms at mark) h.blanks.marks ∙ ap (set (map is_blank t.base.slots) at) is
         ∙ sym (map-set is_blank t.base.slots at to);
@@ -233,8 +234,8 @@ module _ (t : Inside) (h : TablesInvariant t) (at : ℕ) (to : SlotUse) (low : a
   pub slot_set : (mark : Bool) → mark ≡ is_blank to
       → TablesInvariant (record t {
         base = g';
-        blanks = record t.blanks { marks = set t.blanks.marks at mark };
         live = record t.live {
+          blanks = set t.live.blanks at mark;
           needed =
               moved_refreshed k' first (home_at k joined) (home_at k' joined);
         };
@@ -247,6 +248,7 @@ module _ (t : Inside) (h : TablesInvariant t) (at : ℕ) (to : SlotUse) (low : a
       size = h.live.size;
       blocks = h.live.blocks;
       spare = h.live.spare;
+      closed = h.live.closed;
       needed = λ s.
           moved_at k' first (home_at k joined) (home_at k' joined) s (rw (first_long, ← slots_long) (old_lies joined))
           (rw (first_long, ← slots_long) (home_lies k' joined)) (λ same. marked_first s (inl same))
@@ -339,8 +341,7 @@ module _ (t : Inside) (h : TablesInvariant t) (at : ℕ) (to : SlotUse) (low : a
         → ((s : ℕ) → is_marked marks s ≡ is_needed k' s)
         → TablesInvariant (record t {
           base = g';
-          blanks = record t.blanks { marks = set t.blanks.marks at mark };
-          live = record t.live { needed = marks };
+          live = record t.live { blanks = set t.live.blanks at mark; needed = marks };
         })
     slot_emptied mark is marks long right = record {
       sized = set_sized;
@@ -350,6 +351,7 @@ module _ (t : Inside) (h : TablesInvariant t) (at : ℕ) (to : SlotUse) (low : a
         size = h.live.size;
         blocks = h.live.blocks;
         spare = h.live.spare;
+        closed = h.live.closed;
         needed = right;
       };
     }

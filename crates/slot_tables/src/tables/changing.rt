@@ -2,7 +2,7 @@ ghost use Rattle.std.specs.Prelude.{◌≡◌, ℕ, ◌<◌, [], length, slice_s
 ghost use Rattle.tx_types.specs.Config.{slots_of, blocks_of};
 ghost use Rattle.tx_types.specs.declared.record.Rec.{Rec};
 ghost use Rattle.slot_tables.specs.Copies.{HoldsNone, NumbersBelow};
-ghost use Rattle.slot_tables.specs.TablesState.{record_at, added, given_up, IsNewest, copies_of};
+ghost use Rattle.slot_tables.specs.TablesState.{record_at, added, given_up, with_closed, with_spare, IsNewest, copies_of};
 ghost use Rattle.slot_tables.specs.Versions.{HasFree};
 
 use crate::Tables;
@@ -60,7 +60,7 @@ impl Tables {
         let left = number_in(self.base.slots.get(at.0));
         self.base.slots.set(at.0, to);
         let blank = to.is_blank();
-        self.blanks.set(at.0, blank);
+        self.live.set_blank(at.0, blank);
         if self.live.is_needed(at.0) {
             self.base.move_need(&mut self.live, at.0, left);
         }
@@ -77,7 +77,7 @@ impl Tables {
         let old = self.base.home_of(left);
         let other = self.base.home_of(joined);
         self.base.slots.set(at.0, to);
-        self.blanks.set(at.0, to.is_blank());
+        self.live.set_blank(at.0, to.is_blank());
         self.base.refresh_moved(&mut self.live, old, left);
         self.base.refresh_moved(&mut self.live, other, joined);
     }
@@ -150,13 +150,23 @@ impl Tables {
         self.base.refresh_home(&mut self.live, before);
     }
 
-    /// Makes a block the spare. This goes through the slots of the old and the new spare.
+    /// Sets whether a block is closed: no program goes there before it was the spare.
+    pub fn set_closed(&mut self, block: Block, closed: bool)
+        requires { block.0 < blocks_of self.old.shape }
+        ensures { self.new ≡ with_closed self.old block.0 closed }
+    {
+        self.base.closed[block.0 as usize] = closed;
+        self.live.set_closed(block, closed);
+    }
+
+    /// Makes a block the spare, which is not closed. This goes through the slots of the old and the new spare.
     pub fn set_spare(&mut self, block: Block)
         requires { block.0 < blocks_of self.old.shape }
-        ensures { self.new ≡ record self.old { spare = Some block.0 } }
+        ensures { self.new ≡ with_spare self.old block.0 }
     {
         let before = self.base.spare;
         self.base.spare = Some(block);
+        self.base.closed[block.0 as usize] = false;
         self.live.set_spare(block);
         if let Some(old) = before {
             self.base.refresh_block(&mut self.live, before, old);

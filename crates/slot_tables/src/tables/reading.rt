@@ -1,4 +1,4 @@
-ghost use Rattle.std.specs.Prelude.{◌≡◌, ℕ, ◌+◌, ◌*◌, ◌<◌, ◌≤◌, ◌↔◌, length, slice_index, Some, None, IsNone, IfSome, IfNone, IsSomeAnd};
+ghost use Rattle.std.specs.Prelude.{◌≡◌, ℕ, ◌+◌, ◌*◌, ◌<◌, ◌≤◌, ◌↔◌, length, slice_index, sum, Some, None, IsNone, IfSome, IfNone, IsSomeAnd};
 ghost use Rattle.std.specs.List.{All, slice_get};
 ghost use Rattle.std.specs.Option.{option_map, option_and_then};
 ghost use Rattle.tx_types.specs.Config.{slots_of, blocks_of};
@@ -6,7 +6,7 @@ ghost use Rattle.tx_types.specs.declared.record.Rec.{Rec};
 ghost use Rattle.dense_tables.specs.Greatest.{greatest, group_of, IsFirstGreatest};
 ghost use Rattle.dense_tables.specs.LinkedLists.{next_in};
 ghost use Rattle.slot_tables.specs.Copies.{NumbersBelow};
-ghost use Rattle.slot_tables.specs.TablesState.{use_at, copies_of, record_at, numbers_at, number_at, home, copy_off, is_answerer, is_wanted, is_needed, garbage_of, garbage_numbers, blanks_of, written_of, WaitsBelow, IsLowestToGo, IsTablesState};
+ghost use Rattle.slot_tables.specs.TablesState.{use_at, copies_of, record_at, numbers_at, number_at, home, copy_off, is_answerer, is_wanted, is_needed, is_shut, garbage_of, garbage_numbers, garbage_now_numbers, blanks_of, written_of, WaitsBelow, IsLowestToGo, IsTablesState};
 ghost use Rattle.slot_tables.specs.Versions.{Names};
 ghost use Rattle.slot_tables.specs.declared.slots.SlotUse.TheVariants as slot;
 
@@ -234,7 +234,18 @@ impl Tables {
         requires { block.0 < blocks_of self.now.shape }
         ensures { result ≡ blanks_of self.now block.0 }
     {
-        self.blanks.count(block.0)
+        self.live.blanks(block)
+    }
+
+    /// Whether no program goes to a block: it is closed, or its last slot is used. It is there for who builds on this
+    /// crate: no program calls it.
+    pub fn is_shut(&self, block: Block) -> bool
+        requires { block.0 < blocks_of self.now.shape }
+        ensures { result ≡ is_shut self.now block.0 }
+    {
+        let size = self.base.shape.pages_per_block;
+        self.base.closed[block.0 as usize]
+            || !self.base.slots.get(block.0 * size + (size - 1)).is_blank()
     }
 
     /// The number of garbage slots of a block: those that are not needed, without its blank ones where it
@@ -243,35 +254,53 @@ impl Tables {
         requires { block.0 < blocks_of self.now.shape }
         ensures { result ≡ garbage_of self.now shut block.0 }
     {
-        let unneeded = self.live.garbage(block);
+        let unneeded = self.live.unneeded(block);
         if shut {
             return unneeded;
         }
-        unneeded.saturating_sub(self.blanks.count(block.0))
+        unneeded.saturating_sub(self.live.blanks(block))
     }
 
     /// The first block with the most garbage if all blocks are shut. Where there is none at all there is
-    /// no such block.
+    /// no such block. It looks at each block, and is there for who builds on this crate: no program calls it.
     pub fn most_garbage(&self) -> Option<Block>
         ensures none { IsNone result ↔ All (λ x. x ≡ 0) (garbage_numbers self.now) }
         ensures first { IfSome result (λ block. IsFirstGreatest (garbage_numbers self.now) block.0) }
     {
-        self.live.most_garbage()
+        self.live.most_unneeded()
     }
 
-    /// The most garbage that one of sixteen blocks has if all are shut.
+    /// The most garbage that one of sixteen blocks has if all are shut. It looks at each of them, and is there for who
+    /// builds on this crate: no program calls it.
     pub fn most_garbage_among(&self, sixteen: u32) -> u32
         requires { 16 * sixteen < blocks_of self.now.shape }
         ensures { result ≡ greatest (group_of 16 (garbage_numbers self.now) sixteen) }
     {
-        self.live.most_garbage_among(sixteen)
+        self.live.most_unneeded_among(16, sixteen)
     }
 
-    /// The most garbage that one of 256 blocks has if all are shut.
+    /// The most garbage that one of 256 blocks has if all are shut. It looks at each of them, and is there for who
+    /// builds on this crate: no program calls it.
     pub fn most_garbage_among_256(&self, group: u32) -> u32
         requires { 256 * group < blocks_of self.now.shape }
         ensures { result ≡ greatest (group_of 256 (garbage_numbers self.now) group) }
     {
-        self.live.most_garbage_among_256(group)
+        self.live.most_unneeded_among(256, group)
+    }
+
+    /// The first block with the most garbage as it is: its blank slots are among it where the block is closed or its
+    /// last slot is used. Where there is none at all there is no such block.
+    pub fn most_garbage_now(&self) -> Option<Block>
+        ensures none { IsNone result ↔ All (λ x. x ≡ 0) (garbage_now_numbers self.now) }
+        ensures first { IfSome result (λ block. IsFirstGreatest (garbage_now_numbers self.now) block.0) }
+    {
+        self.live.most_garbage()
+    }
+
+    /// The number of garbage slots of all blocks as they are.
+    pub fn all_garbage(&self) -> u32
+        ensures { result ≡ sum (garbage_now_numbers self.now) }
+    {
+        self.live.all_garbage()
     }
 }

@@ -109,6 +109,7 @@ matches_pins s n t pins m long fewer = record {
     pages = long ∙ m.noted.pages;
     mentions = m.noted.mentions;
     spare = m.noted.spare;
+    closed = m.noted.closed;
     scanned = m.noted.scanned;
     sound = m.noted.sound;
     mentioned = m.noted.mentioned;
@@ -132,6 +133,7 @@ matches_pins s n t pins m long fewer = record {
       ]);
   victim = tt;
   free = m.free;
+  shut = record { spare = m.shut.spare; others = m.shut.others };
 }
 
 -- one pin after others

@@ -231,4 +231,5 @@ module _ (s : FlashState) (n : IndexState) (t : BlocksState) (m : Matches s n t 
     spared = m.spared;
     victim = tt;
     free = m.free;
+    shut = m.shut;
   }

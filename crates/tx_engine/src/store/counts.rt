@@ -1,5 +1,5 @@
 ghost use Rattle.std.specs.List.{range_with_len};
-ghost use Rattle.std.specs.Prelude.{◌≡◌, ◌<◌, ◌≤◌, Ok, IfOk, sum_by, count_by, is_some};
+ghost use Rattle.std.specs.Prelude.{◌≡◌, ◌<◌, Ok, IfOk, sum_by, count_by, is_some};
 ghost use Rattle.tx_types.specs.Config.{shape_of, blocks_of};
 ghost use Rattle.judged_records.specs.IndexState.{current_of};
 ghost use Rattle.judged_records.specs.Notes.{found_in};
@@ -11,7 +11,7 @@ use crate::store::Store;
 use collector::theorems;
 use flash_model::Flash;
 use record_list::{CommitRule, Found};
-use tx_types::{Block, BlockState, Memory, Slot};
+use tx_types::{Memory, Slot};
 
 impl<F: Flash, R: CommitRule> Store<F, R> {
     /// The current version of a page, 0 for none.
@@ -22,28 +22,13 @@ impl<F: Flash, R: CommitRule> Store<F, R> {
         self.index.current(page)
     }
 
-    /// The number of garbage slots outside the spare.
+    /// The number of garbage slots outside the spare. No block is looked at.
     pub fn garbage(&self) -> u32
         requires stored { IsStoreState F.state R.protocol self.now }
         ensures { result ≡ sum_by (garbage_in self.now.noted self.now.table)
             (range_with_len 0 (blocks_of (shape_of self.now.noted.config))) }
     {
-        let mut count = 0;
-        for block in 0..self.flash.shape().blocks() {
-            count += self.garbage_in(Block(block));
-        }
-        count
-    }
-
-    /// The number of garbage slots of a block, none in the spare.
-    fn garbage_in(&self, block: Block) -> u32
-        requires stored { IsStoreState F.state R.protocol self.now }
-        requires exists { block.0 < blocks_of (shape_of self.now.noted.config) }
-        ensures garbage { result ≡ garbage_in self.now.noted self.now.table block.0 }
-        ensures few { result ≤ self.now.noted.config.pages_per_block }
-    {
-        let shut = self.blocks.state(block) == BlockState::Shut;
-        self.index.garbage(block, shut)
+        self.index.all_garbage()
     }
 
     /// The noted records, in the order of their slots.

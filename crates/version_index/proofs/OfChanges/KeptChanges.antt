@@ -1,7 +1,8 @@
 -- Pins, spares, damaged slots and copies leave tables that have what was noted.
-use Rattle.version_index.proofs.Common.{◌≡◌, ◌≢◌, ℕ, ◌<◌, List, length, set, IsSome, Some, refl, sym, ap, ap₂, ◌∙◌, subst, inl, inr, arith, cases_eq, length-set, get_or-set_same, get_or-set_other, Config, Protocol, Rec, shape_of, slots_of, blocks_of, cur, SlotUse, TablesState, use_at, Note, note_at, rec_of, found_in, IndexState, IsNoted, current_of, answerer, is_waiting, answerer_of, waits_of, Derived, derived_of, rec_at, AreDerived, note_in, notes_in, noted_by, numbered_of, AreHeld, AreIndexed}
+use Rattle.version_index.proofs.Common.{◌≡◌, ◌≢◌, ℕ, ◌<◌, List, length, set, false, IsSome, Some, refl, sym, ap, ap₂, ◌∙◌, subst, inl, inr, arith, cases_eq, length-set, get_or-set_same, get_or-set_other, Config, Protocol, Rec, shape_of, slots_of, blocks_of, cur, SlotUse, TablesState, use_at, Note, note_at, rec_of, found_in, IndexState, IsNoted, current_of, answerer, is_waiting, answerer_of, waits_of, Derived, derived_of, rec_at, AreDerived, note_in, notes_in, noted_by, numbered_of, AreHeld, AreIndexed}
 use Rattle.std.proofs.lemmas.List.{map-set}
 use Rattle.record_list.specs.Changes.{CopyLaw}
+use Rattle.slot_tables.specs.TablesState.{with_spare}
 use Rattle.slot_tables.specs.declared.slots.SlotUse.TheVariants as slot
 use Rattle.judged_records.specs.declared.note.Note.TheVariants as note
 use Rattle.judged_records.specs.DerivedChanges.{NothingMoves}
@@ -75,6 +76,7 @@ module _ (protocol : Protocol) (its : Config) (m : List ℕ) (k : TablesState) (
           pages = length-set k.pins page version ∙ n.pages;
           mentions = n.mentions;
           spare = n.spare;
+          closed = n.closed;
           scanned = n.scanned;
           sound = n.sound;
           mentioned = n.mentioned;
@@ -88,10 +90,10 @@ module _ (protocol : Protocol) (its : Config) (m : List ℕ) (k : TablesState) (
 
   -- another spare
   pub spared_indexed : (block : ℕ) → block < blocks_of (shape_of its) →
-      AreIndexed protocol its m (record k { spare = Some block })
+      AreIndexed protocol its m (with_spare k block)
   spared_indexed block exists =
       let n = i.noted in
-      let k' : TablesState = record k { spare = Some block } in
+      let k' : TablesState = with_spare k block in
       record {
         noted = record {
           check = n.check;
@@ -101,6 +103,7 @@ module _ (protocol : Protocol) (its : Config) (m : List ℕ) (k : TablesState) (
           pages = n.pages;
           mentions = n.mentions;
           spare = exists;
+          closed = length-set k.closed block false ∙ n.closed;
           scanned = n.scanned;
           sound = n.sound;
           mentioned = n.mentioned;

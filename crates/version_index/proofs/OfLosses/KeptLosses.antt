@@ -138,6 +138,7 @@ module _ (protocol : Protocol) (its : Config) (m : List ℕ) (k : TablesState) (
     waits : length t.waits ≡ length k.waits
     pins : t.pins ≡ k.pins
     spare : t.spare ≡ k.spare
+    closed : t.closed ≡ k.closed
     records : (x : ℕ) (r : Rec) → rec_at t.records x ≡ Some r → rec_at k.records x ≡ Some r
     held : AreHeld t
     judged : AreDerived (numbered_of t) its.logical (derived_of n)
@@ -150,6 +151,7 @@ module _ (protocol : Protocol) (its : Config) (m : List ℕ) (k : TablesState) (
     waits = refl;
     pins = refl;
     spare = refl;
+    closed = refl;
     slots = record { size = refl; inside = λ a low high. absurd (omega arith); outside = λ a off. refl };
     records = λ x r is. is;
     held = i.held;
@@ -197,6 +199,7 @@ module _ (protocol : Protocol) (its : Config) (m : List ℕ) (k : TablesState) (
       waits = l.waits;
       pins = l.pins;
       spare = l.spare;
+      closed = l.closed;
       slots = used_more count t.slots below l.slots;
       records = l.records;
       held = record {
@@ -263,6 +266,7 @@ module _ (protocol : Protocol) (its : Config) (m : List ℕ) (k : TablesState) (
         waits = length-set t.waits x None ∙ l.waits;
         pins = l.pins;
         spare = l.spare;
+        closed = l.closed;
         slots = used_more count t.slots below l.slots;
         records = λ y s e. l.records y s (sym (others y (not_x y s e)) ∙ e);
         held = record {
@@ -375,8 +379,9 @@ module _ (protocol : Protocol) (its : Config) (m : List ℕ) (k : TablesState) (
   lost_is =
       let l = all_steps per (omega arith) in
       ap (λ notes. record (noted_by its m whole) { notes = notes }) whole_notes
-      ∙ ap (λ pins. record after { pins = pins; spare = whole.spare }) l.pins
-      ∙ ap (λ spare. record after { spare = spare }) l.spare
+      ∙ ap (λ pins. record after { pins = pins; spare = whole.spare; closed = whole.closed }) l.pins
+      ∙ ap (λ spare. record after { spare = spare; closed = whole.closed }) l.spare
+      ∙ ap (λ closed. record after { closed = closed }) l.closed
 
   pub lost_indexed : AreIndexed protocol its m whole
   lost_indexed =

@@ -1,8 +1,8 @@
-ghost use Rattle.std.specs.Prelude.{◌≡◌, ◌+◌, ◌*◌, ◌<◌, ◌≤◌, ◌↔◌, map, IsNone, IfSome, count_by, vec_capacity};
+ghost use Rattle.std.specs.Prelude.{◌≡◌, ◌+◌, ◌*◌, ◌<◌, ◌≤◌, ◌↔◌, map, IsNone, IfSome, count_by, sum_by, vec_capacity};
 ghost use Rattle.std.specs.List.{range_with_len};
 ghost use Rattle.std.specs.Option.{option_map};
 ghost use Rattle.tx_types.specs.Config.{shape_of, slots_of, blocks_of};
-ghost use Rattle.judged_records.specs.IndexState.{mention_of, current_of, current_name_of, discarded_of, place_of, IsBlank, slot_off, needed_of, block_to_go, garbage_of, shut_or_part, is_garbage_at, blanks_of, is_going, going_blocks, FindsMostGarbage, IsMostAmong, HoldsName};
+ghost use Rattle.judged_records.specs.IndexState.{mention_of, current_of, current_name_of, discarded_of, place_of, IsBlank, slot_off, needed_of, block_to_go, garbage_of, shut_or_part, is_garbage_at, blanks_of, garbage_now, is_going, going_blocks, FindsMostGarbage, FindsMostGarbageNow, IsMostAmong, HoldsName};
 ghost use Rattle.judged_records.specs.Notes.{note_at, seen_as, rec_of};
 ghost use Rattle.version_index.specs.Written.{written_of};
 
@@ -170,14 +170,16 @@ impl<R: CommitRule> Index<R> {
     }
 
     /// The lowest of the blocks that have the most garbage if all blocks are shut. Where there is no
-    /// garbage at all there is no such block.
+    /// garbage at all there is no such block. It looks at each block, and is there for who builds on this crate: no
+    /// program calls it.
     pub fn most_garbage(&self) -> Option<Block>
         ensures { FindsMostGarbage self.now result }
     {
         self.tables.most_garbage()
     }
 
-    /// The most garbage that one of sixteen blocks which follow one another has if all blocks are shut.
+    /// The most garbage that one of sixteen blocks which follow one another has if all blocks are shut. It is there for
+    /// who builds on this crate: no program calls it.
     pub fn most_garbage_among(&self, sixteen: u32) -> u32
         requires { 16 * sixteen < blocks_of (shape_of self.now.config) }
         ensures { IsMostAmong self.now 16 sixteen result }
@@ -185,11 +187,27 @@ impl<R: CommitRule> Index<R> {
         self.tables.most_garbage_among(sixteen)
     }
 
-    /// The most garbage that one of 256 blocks which follow one another has if all blocks are shut.
+    /// The most garbage that one of 256 blocks which follow one another has if all blocks are shut. It is there for who
+    /// builds on this crate: no program calls it.
     pub fn most_garbage_among_256(&self, group: u32) -> u32
         requires { 256 * group < blocks_of (shape_of self.now.config) }
         ensures { IsMostAmong self.now 256 group result }
     {
         self.tables.most_garbage_among_256(group)
+    }
+
+    /// The lowest of the blocks that have the most garbage as they are: the blank slots of a block are among it where
+    /// the block is closed or its last slot is used. Where there is no garbage at all there is no such block.
+    pub fn most_garbage_now(&self) -> Option<Block>
+        ensures { FindsMostGarbageNow self.now result }
+    {
+        self.tables.most_garbage_now()
+    }
+
+    /// The number of garbage slots of all blocks as they are. No block is looked at.
+    pub fn all_garbage(&self) -> u32
+        ensures { result ≡ sum_by (garbage_now self.now) (range_with_len 0 (blocks_of (shape_of self.now.config))) }
+    {
+        self.tables.all_garbage()
     }
 }

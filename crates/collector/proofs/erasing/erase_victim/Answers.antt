@@ -1,6 +1,11 @@
 use Rattle.collector.proofs.Common.{◌∙◌, sym, ap, subst, Erases, IndexState, erased, with_spare, BlocksState, IsBlocksState, ErasesVictim, store_parts}
+use Rattle.collector.proofs.OfNotes.Losing.{can_be_lost}
 use Rattle.collector.proofs.OfErase.VictimCalls.{victim_done, victim_breaks}
 use Rattle.collector.proofs.erasing.erase_victim.Goals as goal
+
+pub note_erased-requires-clause-outside : goal.note_erased-requires-clause-outside
+note_erased-requires-clause-outside g c =
+    can_be_lost c.args.index.now c.args.block.0 c.requires.can.spared
 
 pub returns-in-Err : goal.returns-in-Err
 returns-in-Err g c =

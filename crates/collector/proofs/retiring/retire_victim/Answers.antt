@@ -1,6 +1,11 @@
 use Rattle.collector.proofs.Common.{◌∙◌, sym, ap, subst, Retires, IndexState, erased, with_spare, BlocksState, IsBlocksState, RetiresVictim, store_parts}
+use Rattle.collector.proofs.OfNotes.Losing.{can_be_lost}
 use Rattle.collector.proofs.OfRetire.RetireParts.{replaced_done, replaced_broke}
 use Rattle.collector.proofs.retiring.retire_victim.Goals as goal
+
+pub note_erased-requires-clause-outside : goal.note_erased-requires-clause-outside
+note_erased-requires-clause-outside g c =
+    can_be_lost c.args.index.now c.args.block.0 c.requires.can.spared
 
 pub returns-in-Err : goal.returns-in-Err
 returns-in-Err g c =

@@ -25,6 +25,7 @@ moved s n t good m = record {
   spared = m.spared;
   victim = m.victim;
   free = λ slot free. m.free slot (record { within = free.within; room = free.room; unused = free.unused });
+  shut = record { spare = m.shut.spare; others = m.shut.others };
 }
 
 pub matches_moved : (s : FlashState) (n : IndexState) (t t' : BlocksState) (u : Unsure) → u ≡ unsure.Nothing →

@@ -1,9 +1,10 @@
 -- The tables of a device that was just opened match its flash.
-use Rattle.collector.proofs.Common.{◌≡◌, ◌≢◌, ◌⊎◌, ℕ, suc, ◌+◌, ◌-◌, ◌*◌, ◌/◌, ◌<◌, ◌≤◌, true, false, eqb, eqb-true, eq-eqb, List, [], ◌∷◌, length, get_or, Contains, None, Ok, refl, sym, ap, ◌∙◌, subst, inl, inr, arith, list_all, cases_Bool, false≢true, cond-true, cond-false, none-some, length-map, get_or-map, All-contains, all_from, in_filter, shape_of, slots_of, blocks_of, Spare, Part, Config, Shape, Link, Seen, FlashState, IsFlash, Contents, blank, damaged, complete, slot_at, Moment, Found, name_of, is_present, left, IsCurrent, is_held, is_outside, is_wanted, IsRemovable, present_as, wanted_cases, Blank, Holds, IsSoundImage, records_in, note_at, note_of, notes_of, found_in, IndexState, IsNoted, pinned_names, inside_block, in_it, noted_from, records_scanned, found_in_notes, BlockUse, BlocksState, IsBlocksState, IsFree, HasRoom, use_of, block_state, used_of, Matches, CanSpare}
+use Rattle.collector.proofs.Common.{◌≡◌, ◌≢◌, ◌⊎◌, ℕ, suc, ◌+◌, ◌-◌, ◌*◌, ◌/◌, ◌<◌, ◌≤◌, true, false, not, ◌||◌, eqb, eqb-true, eq-eqb, List, [], ◌∷◌, length, get_or, Contains, None, Ok, refl, sym, ap, ap₂, ◌∙◌, subst, inl, inr, arith, get_or-set_same, get_or-set_other, list_all, cases_Bool, false≢true, cond-true, cond-false, none-some, length-map, get_or-map, All-contains, all_from, in_filter, shape_of, slots_of, blocks_of, Spare, Part, Config, Shape, Link, Seen, FlashState, IsFlash, Contents, blank, damaged, complete, slot_at, Moment, Found, name_of, is_present, left, IsCurrent, is_held, is_outside, is_wanted, IsRemovable, present_as, wanted_cases, Blank, Holds, IsSoundImage, records_in, note_at, note_of, notes_of, found_in, IndexState, is_blank, IsNoted, pinned_names, inside_block, in_it, noted_from, records_scanned, found_in_notes, BlockUse, BlocksState, IsBlocksState, IsFree, HasRoom, use_of, block_state, used_of, is_shut, Matches, CanSpare}
 use Rattle.std.proofs.Common.{◌↔◌, drop}
 use Rattle.std.proofs.Common.{replicate}
 use Rattle.std.specs.Fork.{slice_chunk}
-use Rattle.std.proofs.lemmas.List.{length-replicate, length-take, length-drop, get_or-take, get_or-drop, get_or-replicate}
+use Rattle.std.proofs.lemmas.Nat.{div-mul-add, row_fits}
+use Rattle.std.proofs.lemmas.List.{length-set, length-replicate, length-take, length-drop, get_or-take, get_or-drop, get_or-replicate}
 use Rattle.std.proofs.lemmas.List.Folds.{list_all_at}
 use Rattle.std.proofs.lemmas.List.FromFn.{get_or-map-range_with_len, length-map-range_with_len}
 use Rattle.tx_types.specs.Config.{checked, IsConfig, IsShape}
@@ -13,7 +14,7 @@ use Rattle.flash_model.specs.declared.flash.Seen.TheVariants as seen
 use Rattle.flash_model.specs.Calls.{seen_of}
 use Rattle.record_list.specs.Records.{mention, IsScanned}
 use Rattle.record_list.specs.SoundList.{IsSoundList}
-use Rattle.judged_records.specs.IndexState.{pinned_at, mention_of}
+use Rattle.judged_records.specs.IndexState.{pinned_at, mention_of, is_closed, last_slot, is_shut_now, is_used_block, used_blocks}
 use Rattle.judged_records.proofs.OfNotes.BaseTables.{given_from}
 use Rattle.judged_records.proofs.OfChanges.Pins.{numbered_pin}
 use Rattle.die_alloc.specs.BlocksState.{MayHave, no_block}
@@ -23,6 +24,7 @@ use Rattle.die_alloc.specs.Opening.{used_in, use_in, opening_table}
 use Rattle.judged_records.specs.Opening.{opening_noted, IsChosenFrom}
 use Rattle.collector.specs.declared.unsure.Unsure.TheVariants as unsure
 use Rattle.collector.specs.Laws.{OpenedTablesMatch}
+use Rattle.collector.specs.Matches.{AreShut}
 use Rattle.collector.proofs.OfSettle.SettledExits.{matches_still}
 use Rattle.collector.proofs.OfNotes.SureCounts.{sure_counts}
 
@@ -93,7 +95,7 @@ module _ (shape : Shape) (slots : List Seen) (spare : ℕ) where
     spared : block ≡ spare → use_of table block ≡ record { state = Spare; used = 0 } → Kind block
     clean : block ≢ spare → reads_blank_block shape slots block ≡ true →
         use_of table block ≡ record { state = Clean; used = 0 } → Kind block
-    shut : block ≢ spare → use_of table block ≡ record {
+    shut : block ≢ spare → reads_blank_block shape slots block ≡ false → use_of table block ≡ record {
       state = Shut;
       used = used_in (seen_in_block shape slots block);
     } → Kind block
@@ -105,7 +107,7 @@ module _ (shape : Shape) (slots : List Seen) (spare : ℕ) where
         (let apart : block ≢ spare = λ e. false≢true (sym other ∙ eq-eqb block spare e) in
         elim (cases_Bool (reads_blank_block shape slots block)) [
           | inl e ↦ clean apart e (use_at block low ∙ use_clean block other e)
-          | inr e ↦ shut apart (use_at block low ∙ use_shut block other e)
+          | inr e ↦ shut apart e (use_at block low ∙ use_shut block other e)
         ])
   ]
 
@@ -116,7 +118,7 @@ module _ (shape : Shape) (slots : List Seen) (spare : ℕ) where
   may_have block (spared here e) = subst (λ (u : BlockUse). MayHave shape.pages_per_block u.state u.used) (sym e) refl
   may_have block (clean apart all_blank e) = subst (λ (u : BlockUse). MayHave shape.pages_per_block u.state u.used)
       (sym e) refl
-  may_have block (shut apart e) =
+  may_have block (shut apart not_blank e) =
       let low = used_low (seen_in_block shape slots block) in
       let long = length-take shape.pages_per_block (drop (block * shape.pages_per_block) slots) in
       subst (λ (u : BlockUse). MayHave shape.pages_per_block u.state u.used) (sym e) (omega (arith, low, long))
@@ -127,7 +129,7 @@ module _ (shape : Shape) (slots : List Seen) (spare : ℕ) where
     λ s. (let no : Clean ≡ Spare = sym (state_is block _ e) ∙ s in cc),
     λ b. absurd (apart b),
   )
-  is_spare block (shut apart e) = (
+  is_spare block (shut apart not_blank e) = (
     λ s. (let no : Shut ≡ Spare = sym (state_is block _ e) ∙ s in cc),
     λ b. absurd (apart b),
   )
@@ -137,8 +139,8 @@ module _ (shape : Shape) (slots : List Seen) (spare : ℕ) where
   has_blank block (spared here e) (inl c) = let no : Spare ≡ Clean = sym (state_is block _ e) ∙ c in cc
   has_blank block (spared here e) (inr p) = let no : Spare ≡ Part = sym (state_is block _ e) ∙ p in cc
   has_blank block (clean apart all_blank e) room = all_blank
-  has_blank block (shut apart e) (inl c) = let no : Shut ≡ Clean = sym (state_is block _ e) ∙ c in cc
-  has_blank block (shut apart e) (inr p) = let no : Shut ≡ Part = sym (state_is block _ e) ∙ p in cc
+  has_blank block (shut apart not_blank e) (inl c) = let no : Shut ≡ Clean = sym (state_is block _ e) ∙ c in cc
+  has_blank block (shut apart not_blank e) (inr p) = let no : Shut ≡ Part = sym (state_is block _ e) ∙ p in cc
 
   pub table_kept : IsShape shape → spare < blocks_of shape → IsBlocksState table
   table_kept bounds low = record {
@@ -149,6 +151,16 @@ module _ (shape : Shape) (slots : List Seen) (spare : ℕ) where
     one_spare = λ block within. is_spare block (kind_of block within);
     bounds = λ block within. may_have block (kind_of block within);
   }
+
+  -- a block but the spare is shut where it is not all blank
+  pub shut_used : (block : ℕ) → block < blocks_of shape → block ≢ spare →
+      is_shut (block_state table block) ≡ not (reads_blank_block shape slots block)
+  shut_used block low apart = by (kind_of block low)
+    where
+      by : Kind block → is_shut (block_state table block) ≡ not (reads_blank_block shape slots block)
+      by (spared here e) = absurd (apart here)
+      by (clean away all_blank e) = ap is_shut (state_is block _ e) ∙ sym (ap not all_blank)
+      by (shut away not_blank e) = ap is_shut (state_is block _ e) ∙ sym (ap not not_blank)
 
   -- a free slot lies in a blank block
   free_blank : (at : ℕ) → IsFree table at → at / shape.pages_per_block < blocks_of shape →
@@ -210,6 +222,8 @@ module _ (its : Config) (s : FlashState) (check : checked its ≡ Ok s.shape) (w
     pages = length-replicate its.logical 0;
     mentions = length-map-range_with_len (mention list) 0 its.logical;
     spare = spare_low;
+    closed = length-set (used_blocks sh (seen_in s.image)) spare false
+        ∙ length-map-range_with_len (is_used_block sh (seen_in s.image)) 0 (blocks_of sh);
     scanned = subst IsScanned (sym same) (records_scanned its.protocol s.image);
     sound = subst (λ l. IsSoundList its.protocol l its.logical) (sym same) sound.written.records;
     mentioned = λ page low.
@@ -269,6 +283,49 @@ module _ (its : Config) (s : FlashState) (check : checked its ≡ Ok s.shape) (w
       noted_at slot within ∙ ap (note_of its.protocol) (blank_slot sh s.image (slot / sh.pages_per_block) slot
       some_pages all_blank within refl)
 
+  closed_long : length (used_blocks sh (seen_in s.image)) ≡ blocks_of sh
+  closed_long = length-map-range_with_len (is_used_block sh (seen_in s.image)) 0 (blocks_of sh)
+
+  -- the blocks that are used are closed, but the spare
+  closed_is : (block : ℕ) → block < blocks_of sh → block ≢ spare →
+      is_closed n block ≡ is_used_block sh (seen_in s.image) block
+  closed_is block low apart =
+      get_or-set_other (used_blocks sh (seen_in s.image)) spare block false false apart
+      ∙ get_or-map-range_with_len (is_used_block sh (seen_in s.image)) 0 (blocks_of sh) block block false low
+      (omega arith)
+
+  last_blank : (block : ℕ) → block < blocks_of sh → reads_blank_block sh (seen_in s.image) block ≡ true →
+      note_at n.notes (last_slot n block) ≡ Blank
+  last_blank block low all_blank =
+      let per = sh.pages_per_block in
+      let row = row_fits block per (blocks_of sh) per low (omega arith) in
+      let within : last_slot n block < length s.image = omega (arith, row, long, some_pages) in
+      let here : last_slot n block / per ≡ block = div-mul-add block per (per - 1) (omega (arith, some_pages)) in
+      noted_at (last_slot n block) within
+      ∙ ap (note_of its.protocol)
+      (blank_slot sh s.image block (last_slot n block) some_pages all_blank within here)
+
+  shut_as_used : (block : ℕ) → block < blocks_of sh → block ≢ spare →
+      is_shut_now n block ≡ is_shut (block_state t block)
+  shut_as_used block low apart =
+      let state = shut_used sh (seen_in s.image) spare block low apart in
+      elim (cases_Bool (reads_blank_block sh (seen_in s.image) block)) [
+        | inl all_blank ↦
+            ap₂ (λ closed note. closed || not (is_blank note))
+            (closed_is block low apart ∙ ap not all_blank) (last_blank block low all_blank)
+            ∙ sym (state ∙ ap not all_blank)
+        | inr not_blank ↦
+            ap (λ closed. closed || not (is_blank (note_at n.notes (last_slot n block))))
+            (closed_is block low apart ∙ ap not not_blank)
+            ∙ sym (state ∙ ap not not_blank)
+      ]
+
+  opening_shut : AreShut n t
+  opening_shut = record {
+    spare = get_or-set_same (used_blocks sh (seen_in s.image)) spare false false (rw closed_long spare_low);
+    others = λ block low apart. shut_as_used block low apart;
+  }
+
   opening_matches : Matches s n t unsure.Nothing
   opening_matches = record {
     shape = known.1;
@@ -285,6 +342,7 @@ module _ (its : Config) (s : FlashState) (check : checked its ≡ Ok s.shape) (w
     spared = spare_spared;
     victim = tt;
     free = free_noted;
+    shut = opening_shut;
   }
 
 -- the tables of an image that is read match the flash

@@ -1,6 +1,6 @@
 -- From the records of a scan to the image: what a device is opened with, and the first law that an image breaks.
-use Rattle.scan_recovery.proofs.Common.{◌≡◌, ℕ, ◌+◌, ◌*◌, ◌<◌, false, List, [], ◌∷◌, map, length, get_or, All, Option, None, Some, refl, sym, ap, ◌∙◌, subst, inl, inr, arith, Contains, false≢true, length-map, get_or-map, get_or_default, All-contains, all_from, Protocol, Shape, Rec, slots_of, Seen, Contents, FlashState, Found, IsScanned, Pages, Copies, Links, Present, Loose, Ending, CopiesAgree, IsSoundList, KeepsWritten, HasRemovable, written_in, records_in, SlotReads, IsLeastImageBreach, complete_slots, records_scanned, ReadsAll, IsScanOf, opening_table, IsChosenFrom, compared}
-use Rattle.std.proofs.Common.{replicate, Any, IsSomeAnd, Result, Ok}
+use Rattle.scan_recovery.proofs.Common.{◌≡◌, ℕ, ◌+◌, ◌*◌, ◌<◌, Bool, false, List, [], ◌∷◌, map, length, get_or, All, Option, None, Some, refl, sym, ap, ◌∙◌, subst, inl, inr, arith, Contains, false≢true, length-map, get_or-map, get_or_default, All-contains, all_from, Protocol, Shape, Rec, slots_of, Seen, Contents, FlashState, Found, IsScanned, Pages, Copies, Links, Present, Loose, Ending, CopiesAgree, IsSoundList, KeepsWritten, HasRemovable, written_in, records_in, SlotReads, IsLeastImageBreach, complete_slots, records_scanned, ReadsAll, IsScanOf, opening_table, IsChosenFrom, compared}
+use Rattle.std.proofs.Common.{replicate, set, Any, IsSomeAnd, Result, Ok}
 use Rattle.std.proofs.Common.{Err}
 use Rattle.std.specs.Prelude.{OnOk, IfErr}
 use Rattle.std.specs.List.{cons_option, range_with_len}
@@ -23,7 +23,7 @@ use Rattle.die_alloc.specs.BlocksState.{BlocksState}
 use Rattle.judged_records.specs.declared.note.Note.{Note}
 use Rattle.judged_records.specs.Images.{HasPages, IsSoundImage}
 use Rattle.judged_records.specs.Notes.{notes_of}
-use Rattle.judged_records.specs.IndexState.{IndexState, with_spare}
+use Rattle.judged_records.specs.IndexState.{IndexState, with_spare, used_blocks}
 use Rattle.judged_records.proofs.OfNotes.BaseTables.{given}
 use Rattle.judged_records.proofs.OfLaws.ImageScans.{read_at, written_in_is, written}
 use Rattle.judged_records.proofs.OfLaws.NotedImages.{scanned_notes}
@@ -81,23 +81,25 @@ module _ (p : Protocol) (logical : ℕ) (image : List Contents) (slots : List Se
       (λ w i. (All-contains (KeepsWritten p (written_in p image) logical Copies) (written_in p image) w copies i).0)))
 
 -- the tables of the scan are those of the image
-noted_of_parts : (n : IndexState) (config : Config) (notes : List Note) (mentions : List ℕ) (spare : ℕ) →
-    n.config ≡ config → n.notes ≡ notes →
-    n.pins ≡ replicate config.logical 0 → n.mentions ≡ mentions →
+noted_of_parts : (n : IndexState) (config : Config) (notes : List Note) (mentions : List ℕ) (closed : List Bool)
+    (spare : ℕ) → n.config ≡ config → n.notes ≡ notes → n.pins ≡ replicate config.logical 0 → n.mentions ≡ mentions →
+    n.closed ≡ closed →
     with_spare n spare ≡ record {
       config = config;
       notes = notes;
       pins = replicate config.logical 0;
       spare = Some spare;
       mentions = mentions;
+      closed = set closed spare false;
     }
-noted_of_parts n config notes mentions spare e f g h =
+noted_of_parts n config notes mentions closed spare e f g h i =
     ap (λ (k : Config). record {
       config = k;
       notes = n.notes;
       pins = n.pins;
       spare = Some spare;
       mentions = n.mentions;
+      closed = set n.closed spare false;
     }) e
     ∙ ap (λ (l : List Note). record {
       config = config;
@@ -105,6 +107,7 @@ noted_of_parts n config notes mentions spare e f g h =
       pins = n.pins;
       spare = Some spare;
       mentions = n.mentions;
+      closed = set n.closed spare false;
     }) f
     ∙ ap (λ (l : List ℕ). record {
       config = config;
@@ -112,6 +115,7 @@ noted_of_parts n config notes mentions spare e f g h =
       pins = l;
       spare = Some spare;
       mentions = n.mentions;
+      closed = set n.closed spare false;
     }) g
     ∙ ap (λ (l : List ℕ). record {
       config = config;
@@ -119,7 +123,16 @@ noted_of_parts n config notes mentions spare e f g h =
       pins = replicate config.logical 0;
       spare = Some spare;
       mentions = l;
+      closed = set n.closed spare false;
     }) h
+    ∙ ap (λ (l : List Bool). record {
+      config = config;
+      notes = notes;
+      pins = replicate config.logical 0;
+      spare = Some spare;
+      mentions = mentions;
+      closed = set l spare false;
+    }) i
 
 pub opened_image : (config : Config) (image : List Contents) (slots : List Seen) (list : List Found) →
     IsScanOf config.protocol config.logical image slots list →
@@ -135,9 +148,10 @@ opened_image config image slots list scan noted table h =
           scan.records
           (subst (λ s. IsChosenFrom config.protocol config.logical (shape_of config) s list h.spare)
           scan.seen h.chosen);
-      noted_is = h.noted_is ∙ noted_of_parts h.scan config (notes_of config.protocol image) _ h.spare
+      noted_is = h.noted_is ∙ noted_of_parts h.scan config (notes_of config.protocol image) _ _ h.spare
           n.config notes n.pins
-          (n.mentions ∙ ap (λ l. map (mention l) (range_with_len 0 config.logical)) scan.records);
+          (n.mentions ∙ ap (λ l. map (mention l) (range_with_len 0 config.logical)) scan.records)
+          (n.closed ∙ ap (used_blocks (shape_of config)) scan.seen);
       table_is = h.table_is ∙ ap (λ s. opening_table (shape_of config) s h.spare) scan.seen;
     }
 

@@ -1,5 +1,5 @@
 -- The marks are those of the needed slots.
-use Rattle.slot_tables.proofs.Common.{◌≡◌, ◌*◌, Bool, false, length, sym, ◌∙◌, ap, arith, length-replicate, slots_of}
+use Rattle.slot_tables.proofs.Common.{◌≡◌, ◌*◌, Bool, false, length, sym, ◌∙◌, ap, arith, length-map, length-replicate, slots_of, is_blank}
 use Rattle.slot_tables.proofs.OfBaseTables.RefreshedAll.{unmarked}
 use Rattle.slot_tables.proofs.base_tables.BaseTables.find_needs.Goals as goal
 
@@ -11,18 +11,26 @@ mark_needed-requires-clause-slots c =
     let g = c.args.self.now in
     let whole : c.blocks-blocks.result * g.shape.pages_per_block ≡ slots_of g.shape =
     rw c.blocks-blocks.ensures (omega arith) in
-    ap (λ m. length m.marks) c.in_ok-marks.ensures
+    ap (λ m. length m.marks) c.in-Ok.ensures
     ∙ length-replicate {A = Bool} (c.blocks-blocks.result * g.shape.pages_per_block) false
     ∙ whole ∙ sym c.requires.sized.kept.slots
 
 pub mark_needed-requires-clause-none : goal.mark_needed-requires-clause-none
-mark_needed-requires-clause-none c at = rw c.in_ok-marks.ensures
+mark_needed-requires-clause-none c at = rw c.in-Ok.ensures
     (unmarked (c.blocks-blocks.result * c.args.self.now.shape.pages_per_block) at)
 
-pub new-requires-2 : goal.new-requires-2
-new-requires-2 c =
+pub new-requires-in-Ok-clause-needed : goal.new-requires-in-Ok-clause-needed
+new-requires-in-Ok-clause-needed c =
     let g = c.args.self.now in
     let whole : c.blocks-blocks.result * g.shape.pages_per_block ≡ slots_of g.shape =
     rw c.blocks-blocks.ensures (omega arith) in
     c.mark_needed.ensures.slots ∙ c.requires.sized.kept.slots ∙ sym whole
-    ∙ ap (λ k. c.blocks-blocks.result * k) (sym (c.mark_needed.ensures.size ∙ ap (λ m. m.size) c.in_ok-marks.ensures))
+    ∙ ap (λ k. c.blocks-blocks.result * k) (sym (c.mark_needed.ensures.size ∙ ap (λ m. m.size) c.in-Ok.ensures))
+
+pub new-requires-in-Ok-clause-blanks : goal.new-requires-in-Ok-clause-blanks
+new-requires-in-Ok-clause-blanks c =
+    let g = c.args.self.now in
+    let whole : c.blocks-blocks.result * g.shape.pages_per_block ≡ slots_of g.shape =
+    rw c.blocks-blocks.ensures (omega arith) in
+    ap length c.requires.blanks.marks ∙ length-map g.slots is_blank ∙ c.requires.sized.kept.slots ∙ sym whole
+    ∙ ap (λ k. c.blocks-blocks.result * k) (sym (c.mark_needed.ensures.size ∙ ap (λ m. m.size) c.in-Ok.ensures))

@@ -1,22 +1,15 @@
--- The number of the slot's block is counted anew, if it is not the spare.
-use Rattle.slot_tables.proofs.Common.{◌-◌, sym, ◌∙◌, ap}
-use Rattle.slot_tables.proofs.OfLiveSlots.Unneeded.{marked_spare, marked_block}
+-- The garbage of the slot's block is counted anew.
+use Rattle.slot_tables.proofs.Common.{◌<◌, length, arith}
+use Rattle.slot_tables.proofs.OfLiveSlots.Counted.{garbage_few, needed_set}
 use Rattle.slot_tables.proofs.live_slots.LiveSlots.set.Goals as goal
+
+pub recount-requires-clause-few : goal.recount-requires-clause-few
+recount-requires-clause-few c = let few = garbage_few c.self.inside c.self.invariant in omega (arith, few)
 
 pub invariant_of-self : goal.invariant_of-self
 invariant_of-self c =
     let n = c.self.inside in
-    let block = rw (c.set.ensures, c.self.invariant.size) at c.group.ensures in
-    let count = rw (block, c.set.ensures, c.self.invariant.size) at c.count-count.ensures.count in
-    rw (c.set.ensures, c.set-then-not-is_spare.ensures, block)
-    (marked_block n c.args.at c.args.needed c.self.invariant (rw (← c.self.view_is) at c.requires)
-    _ (sym (rw block at c.is_spare.ensures)
-    ∙ c.if-not-is_spare.true) (ap (λ k. n.size - k) count))
-
-pub invariant_of-self-else-not-is_spare : goal.invariant_of-self-else-not-is_spare
-invariant_of-self-else-not-is_spare c =
-    let block = rw (c.set.ensures, c.self.invariant.size) at c.group.ensures in
-    rw c.set.ensures
-    (marked_spare c.self.inside c.args.at c.args.needed c.self.invariant (rw (← c.self.view_is) at c.requires)
-    (sym (rw block at c.is_spare.ensures)
-    ∙ c.if-not-is_spare.false))
+    let low : c.args.at < length n.marks.needed.marks = rw (← c.self.view_is) at c.requires in
+    let block = rw c.set.ensures at c.group-block.ensures in
+    rw (c.recount.ensures.garbage, c.set.ensures, block)
+    (needed_set n c.self.invariant c.args.at c.args.needed low)

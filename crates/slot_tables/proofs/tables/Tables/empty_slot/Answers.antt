@@ -18,9 +18,9 @@ invariant_of-self c =
     let at = c.args.at.0 in
     let low : at < length t.base.slots = rw h.sized.kept.slots (rw (← c.self.view_is) at c.requires.slot) in
     let numbered = none_below (slots_of t.base.shape) c.args.to c.requires.none in
-    let on : is_needed (tables_state t.base) at ≡ true = sym (h.live.needed at) ∙ sym c.is_needed.ensures
-    ∙ c.if-is_needed.true in
-    rw (c.move_need.ensures, c.set-2.ensures, c.set.ensures, c.number_in-left.ensures, c.get.ensures)
+    let reads = rw c.set_blank.ensures at c.is_needed.ensures in
+    let on : is_needed (tables_state t.base) at ≡ true = sym (h.live.needed at) ∙ sym reads ∙ c.if-is_needed.true in
+    rw (c.move_need.ensures, c.set_blank.ensures, c.set.ensures, c.number_in-left.ensures, c.get.ensures)
     (slot_emptied t h at c.args.to low numbered c.requires.none c.is_blank-blank.result c.is_blank-blank.ensures _
     (moved_lies t h at c.args.to low numbered c.requires.none)
     (needs_moved t h at c.args.to low numbered c.requires.none on))
@@ -32,9 +32,9 @@ invariant_of-self-else-is_needed c =
     let at = c.args.at.0 in
     let low : at < length t.base.slots = rw h.sized.kept.slots (rw (← c.self.view_is) at c.requires.slot) in
     let numbered = none_below (slots_of t.base.shape) c.args.to c.requires.none in
-    let off : is_needed (tables_state t.base) at ≡ false = sym (h.live.needed at) ∙ sym c.is_needed.ensures
-    ∙ c.if-is_needed.false in
-    rw (c.set-2.ensures, c.set.ensures)
+    let reads = rw c.set_blank.ensures at c.is_needed.ensures in
+    let off : is_needed (tables_state t.base) at ≡ false = sym (h.live.needed at) ∙ sym reads ∙ c.if-is_needed.false in
+    rw (c.set_blank.ensures, c.set.ensures)
     (slot_emptied t h at c.args.to low numbered c.requires.none c.is_blank-blank.result c.is_blank-blank.ensures
     t.live.needed h.live.slots
     (emptied_off t h at c.args.to low numbered c.requires.none off))

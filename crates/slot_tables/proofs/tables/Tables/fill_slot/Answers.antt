@@ -45,7 +45,7 @@ invariant_of-self c =
     rw (
       c.refresh_moved-2.ensures,
       c.refresh_moved.ensures,
-      c.set-2.ensures,
+      c.set_blank.ensures,
       c.home_of-other.ensures,
       c.home_of-old.ensures,
       c.set.ensures,

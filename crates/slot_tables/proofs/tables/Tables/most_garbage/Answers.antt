@@ -7,10 +7,10 @@ pub returns-clause-none : goal.returns-clause-none
 returns-clause-none c =
     let t = c.self.invariant in
     rw (← c.self.view_is, garbage_numbers_are (tables_state c.self.inside.base) t.sized.kept c.self.inside.live t.live)
-    c.most_garbage.ensures.none
+    c.most_unneeded.ensures.none
 
 pub returns-clause-first : goal.returns-clause-first
 returns-clause-first c =
     let t = c.self.invariant in
     rw (← c.self.view_is, garbage_numbers_are (tables_state c.self.inside.base) t.sized.kept c.self.inside.live t.live)
-    c.most_garbage.ensures.first
+    c.most_unneeded.ensures.first

@@ -7,4 +7,4 @@ pub returns : goal.returns
 returns c =
     let t = c.self.invariant in
     rw (← c.self.view_is, garbage_numbers_are (tables_state c.self.inside.base) t.sized.kept c.self.inside.live t.live)
-    c.most_garbage_among.ensures
+    c.most_unneeded_among.ensures

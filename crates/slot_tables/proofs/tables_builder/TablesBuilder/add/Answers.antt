@@ -11,4 +11,9 @@ invariant_of-self c =
     (ap (λ n. n.records) c.add.ensures.added)
     (ap (λ n. length n.pages) c.add.ensures.added ∙ length-set f.base.records.pages c.args.rec.now.page _)
     c.add.ensures.versions in
-    record { sized = after.sized; blanks = after.blanks; spare = c.self.invariant.spare }
+    record {
+      sized = after.sized;
+      blanks = record { marks = after.blanks.marks; size = c.self.invariant.blanks.size };
+      spare = c.self.invariant.spare;
+      closed = c.self.invariant.closed;
+    }

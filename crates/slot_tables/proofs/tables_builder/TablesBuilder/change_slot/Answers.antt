@@ -12,6 +12,7 @@ invariant_of-self c =
     let after = slot_set (as_tables f) h c.args.at.0 c.args.to low numbered c.is_blank.result c.is_blank.ensures in
     rw (c.set-2.ensures, c.set.ensures) (record {
       sized = after.sized;
-      blanks = after.blanks;
+      blanks = record { marks = after.blanks.marks; size = c.self.invariant.blanks.size };
       spare = c.self.invariant.spare;
+      closed = c.self.invariant.closed;
     })

@@ -8,4 +8,9 @@ invariant_of-self c =
     let h = are_tables f c.self.invariant in
     let after = answerer_set (as_tables f) h c.args.number c.args.to
     (rw h.sized.kept.answerers (rw (← c.self.view_is) at c.requires.number)) in
-    rw c.set.ensures (record { sized = after.sized; blanks = after.blanks; spare = c.self.invariant.spare })
+    rw c.set.ensures (record {
+      sized = after.sized;
+      blanks = record { marks = after.blanks.marks; size = c.self.invariant.blanks.size };
+      spare = c.self.invariant.spare;
+      closed = c.self.invariant.closed;
+    })

@@ -10,4 +10,9 @@ invariant_of-self c =
     let after = current_set (as_tables f) h c.args.page c.args.to
     (rw kept.current (rw (← c.self.view_is) at c.requires.page))
     (rw kept.slots (rw (← c.self.view_is) at c.requires.number)) in
-    rw c.set.ensures (record { sized = after.sized; blanks = after.blanks; spare = c.self.invariant.spare })
+    rw c.set.ensures (record {
+      sized = after.sized;
+      blanks = record { marks = after.blanks.marks; size = c.self.invariant.blanks.size };
+      spare = c.self.invariant.spare;
+      closed = c.self.invariant.closed;
+    })

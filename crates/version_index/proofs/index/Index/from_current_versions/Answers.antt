@@ -7,8 +7,9 @@ use Rattle.std.specs.Result.{result_unwrap_or}
 use Rattle.std.proofs.Math.Nat.{mul-le-mul_right}
 use Rattle.std.proofs.lemmas.List.Sorted.{length_permutation}
 use Rattle.tx_types.specs.Config.{IsShape}
-use Rattle.judged_records.specs.IndexState.{IsNotedFrom}
+use Rattle.judged_records.specs.IndexState.{IsNotedFrom, used_blocks}
 use Rattle.judged_records.proofs.OfChanges.NotedChanges.{fresh_noted}
+use Rattle.version_index.proofs.OfOpening.ClosedBlocks.{filled_closed}
 use Rattle.version_index.proofs.index.Index.from_current_versions.Answers.ScanFills.{can_fill}
 use Rattle.version_index.proofs.index.Index.from_current_versions.Answers.ScanDerived.{filled_indexed}
 use Rattle.version_index.proofs.index.Index.from_current_versions.Answers.ScanMentions.{mentions_sorted}
@@ -26,20 +27,40 @@ build_tables-requires-clause-few g c =
     let seen = c.requires.scan.1.reads in
     omega arith
 
+pub close_used-requires : goal.close_used-requires
+close_used-requires g c =
+    let same : c.in-Ok.shape ≡ shape_of c.args.config =
+    ap (λ r. result_unwrap_or r (shape_of c.args.config)) (sym c.in-Ok.is ∙ c.check.ensures.exact ∙ c.requires.check) in
+    c.requires.scan.1.reads
+    ∙ sym (ap (λ (k : TablesState). slots_of k.shape) c.in_ok-tables.ensures
+    ∙ ap slots_of (c.in_ok-filling.ensures.filled.shape ∙ same))
+
+pub count_written-written-requires : goal.count_written-written-requires
+count_written-written-requires g c =
+    ap (λ (k : TablesState). length k.pages) (c.close_used.ensures
+    ∙ ap (λ (k : TablesState). record k { closed = used_blocks k.shape c.args.seen.now }) c.in_ok-tables.ensures)
+    ∙ c.in_ok-filling.ensures.filled.pages
+
 pub invariant_of-result : goal.invariant_of-result
 invariant_of-result g c =
     let t : TablesState = c.in_ok-filling.filling in
     let its = c.args.config in
     let m = c.in_ok-mentions.mentions.items in
+    let closed = used_blocks (shape_of its) c.args.seen.now in
+    let t' : TablesState = record t { closed = closed } in
     let same : c.in-Ok.shape ≡ shape_of its =
     ap (λ r. result_unwrap_or r (shape_of its)) (sym c.in-Ok.is ∙ c.check.ensures.exact ∙ c.requires.check) in
+    let is : c.close_used.new.tables ≡ t' =
+    c.close_used.ensures
+    ∙ ap (λ (k : TablesState). record k { closed = used_blocks k.shape c.args.seen.now }) c.in_ok-tables.ensures
+    ∙ ap (λ s. record t { closed = used_blocks s c.args.seen.now }) (c.in_ok-filling.ensures.filled.shape ∙ same) in
     let can = can_fill g.R.CommitRule.protocol its c.in-Ok.shape c.args.seen.now c.requires.scan.0 c.args.standing.now
     same c.requires.scan.1 in
     let found = c.in_ok-filling.ensures.found c.requires.scan.0 can in
     let filled = subst (λ p. AreFilled p c.args.standing.now.list (shape_of its) its.logical t) c.requires.protocol
     (subst (λ s. AreFilled c.args.standing.now.protocol c.args.standing.now.list s its.logical t) same
     c.in_ok-filling.ensures.filled) in
-    let noted = fresh_noted _ its c.args.seen.now c.requires.scan.0 (noted_by its m t) c.requires.check
+    let noted = fresh_noted _ its c.args.seen.now c.requires.scan.0 (noted_by its m t') c.requires.check
     c.in-Ok.ensures.bounds c.requires.rule
     c.requires.scan.1.reads c.requires.scan.1.slots c.requires.scan.1.sound (record {
       config = refl;
@@ -51,12 +72,14 @@ invariant_of-result g c =
           ∙ mentions_sorted c.requires.scan.0 c.args.standing.now.list c.records.result.now c.requires.scan.1.sorts
           (c.records.ensures.records ∙
           c.sorted_records.ensures) (range_with_len 0 its.logical);
+      closed = refl;
     }) in
     record {
       indexed =
-          subst (λ (k : TablesState). AreIndexed g.R.CommitRule.protocol its m k) (sym c.in_ok-tables.ensures)
-          (filled_indexed _ its m t c.args.standing.now.list noted
-          (subst (λ l. Sorts l c.args.standing.now.list) (sym found) c.requires.scan.1.sorts) filled);
+          subst (λ (k : TablesState). AreIndexed g.R.CommitRule.protocol its m k) (sym is)
+          (filled_indexed _ its m t' c.args.standing.now.list noted
+          (subst (λ l. Sorts l c.args.standing.now.list) (sym found) c.requires.scan.1.sorts)
+          (filled_closed _ c.args.standing.now.list (shape_of its) its.logical t closed filled));
       written = c.count_written-written.ensures;
     }
 
@@ -68,8 +91,13 @@ returns g c own scan =
     ap (λ r. result_unwrap_or r (shape_of its)) (sym c.in-Ok.is ∙ c.check.ensures.exact ∙ c.requires.check) in
     let can = can_fill g.R.CommitRule.protocol its c.in-Ok.shape c.args.seen.now own c.args.standing.now same scan in
     let filled = c.in_ok-filling.ensures.filled in
+    let t : TablesState = c.in_ok-filling.filling in
+    let is : c.close_used.new.tables ≡ record t { closed = used_blocks (shape_of its) c.args.seen.now } =
+    c.close_used.ensures
+    ∙ ap (λ (k : TablesState). record k { closed = used_blocks k.shape c.args.seen.now }) c.in_ok-tables.ensures
+    ∙ ap (λ s. record t { closed = used_blocks s c.args.seen.now }) (filled.shape ∙ same) in
     subst (λ (k : TablesState). IsNotedFrom its c.args.seen.now own (noted_by its m k))
-    (sym c.in_ok-tables.ensures) (record {
+    (sym is) (record {
       config = refl;
       reads = c.in_ok-filling.ensures.reads;
       found = c.in_ok-filling.ensures.found own can;
@@ -78,6 +106,7 @@ returns g c own scan =
       mentions = c.in_ok-mentions.ensures
           ∙ mentions_sorted own c.args.standing.now.list c.records.result.now scan.sorts (c.records.ensures.records ∙
           c.sorted_records.ensures) (range_with_len 0 its.logical);
+      closed = refl;
     })
 
 pub build_tables-requires-clause-pages : goal.build_tables-requires-clause-pages

@@ -1,5 +1,5 @@
 -- The tables after another spare is chosen.
-use Rattle.slot_tables.proofs.Common.{◌≡◌, ◌≢◌, ℕ, ◌+◌, ◌*◌, ◌/◌, ◌<◌, ◌≤◌, ◌⊎◌, Bool, true, false, not, ◌&&◌, eqb, inl, inr, Option, Some, None, List, [], ◌∷◌, length, refl, sym, ◌∙◌, ap, ap₂, subst, cond, arith, Contains, find, slice_get, lt-div-mul-add, cases_eq, nat_tests, Contains-first, Contains-rest, cases_Option, Block, blocks_of, is_outside_spare, is_slot, Inside, BaseTables, TablesState, use_at, number_in, home, copies_of, is_wanted, is_needed, LiveSlotsState, is_marked, tables_state, IsSized, IsRefreshedFrom, TablesInvariant}
+use Rattle.slot_tables.proofs.Common.{◌≡◌, ◌≢◌, ℕ, ◌+◌, ◌*◌, ◌/◌, ◌<◌, ◌≤◌, ◌⊎◌, Bool, true, false, not, ◌&&◌, eqb, inl, inr, Option, Some, None, List, [], ◌∷◌, length, set, refl, sym, ◌∙◌, ap, ap₂, subst, cond, arith, length-set, with_item, Contains, find, slice_get, lt-div-mul-add, cases_eq, nat_tests, Contains-first, Contains-rest, cases_Option, Block, blocks_of, is_outside_spare, is_slot, Inside, BaseTables, TablesState, use_at, number_in, home, copies_of, is_wanted, is_needed, LiveSlotsState, is_marked, tables_state, IsSized, IsRefreshedFrom, TablesInvariant}
 use Rattle.std.specs.Option.{option_or}
 use Rattle.std.proofs.Math.Nat.{div-mul-le_self}
 use Rattle.list_lemmas.proofs.Ranges.{in_range}
@@ -83,7 +83,7 @@ module _ (t : Inside) (h : TablesInvariant t) (block : Block) (low : block.0 < b
   k = tables_state t.base
 
   abbrev g' : BaseTables
-  g' = record t.base { spare = Some block }
+  g' = record t.base { spare = Some block; closed = with_item t.base.closed block.0 false }
 
   abbrev k' : TablesState
   k' = tables_state g'
@@ -99,6 +99,7 @@ module _ (t : Inside) (h : TablesInvariant t) (block : Block) (low : block.0 < b
       current = h.sized.kept.current;
       pins = h.sized.kept.pins;
       spare = low;
+      closed = length-set t.base.closed.items block.0 false ∙ h.sized.kept.closed;
       held = h.sized.kept.held;
       counts = h.sized.kept.counts;
       versions = h.sized.kept.versions;
@@ -107,7 +108,7 @@ module _ (t : Inside) (h : TablesInvariant t) (block : Block) (low : block.0 < b
   }
 
   abbrev n0 : LiveSlotsState
-  n0 = record t.live { spare = Some block.0 }
+  n0 = record t.live { spare = Some block.0; closed = set t.live.closed block.0 false }
 
   module _ (first : IsMiddle k' k.spare n0 n1) (then : IsRefreshedFrom k' k.spare block.0 n1 n2) where
     some : 0 < k.shape.pages_per_block
@@ -201,12 +202,18 @@ module _ (t : Inside) (h : TablesInvariant t) (block : Block) (low : block.0 < b
     pub spare_set : TablesInvariant (record t { base = g'; live = n2 })
     spare_set = record {
       sized = spare_sized;
-      blanks = record { marks = h.blanks.marks; size = h.blanks.size };
+      blanks = record {
+        marks = ap (λ n. n.blanks) then.size ∙ ap (λ n. n.blanks) first.size ∙ h.blanks.marks;
+        size = ap (λ n. n.size) then.size ∙ ap (λ n. n.size) first.size ∙ h.blanks.size;
+      };
       live = record {
         slots = then.slots ∙ first.slots ∙ h.live.slots;
         size = ap (λ n. n.size) then.size ∙ ap (λ n. n.size) first.size ∙ h.live.size;
         blocks = ap (λ n. n.blocks) then.size ∙ ap (λ n. n.blocks) first.size ∙ h.live.blocks;
         spare = ap (λ n. n.spare) then.size ∙ ap (λ n. n.spare) first.size;
+        closed =
+            ap (λ n. n.closed) then.size ∙ ap (λ n. n.closed) first.size
+            ∙ ap (λ cs. set cs block.0 false) h.live.closed;
         needed = spare_right;
       };
     }

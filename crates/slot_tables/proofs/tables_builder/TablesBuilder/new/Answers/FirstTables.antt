@@ -33,6 +33,7 @@ module _ (s : Shape) (logical : ℕ) (shape : IsShape s) (few : logical ≤ slot
     current = length-replicate {A = Option ℕ} logical None ∙ sym (length-replicate {A = List ℕ} logical []);
     pins = length-replicate {A = ℕ} logical 0 ∙ sym (length-replicate {A = List ℕ} logical []);
     spare = tt;
+    closed = length-replicate {A = Bool} (blocks_of s) false;
     held = λ at number is. absurd (none_held (slots_of s) at number is);
     counts = λ page number is. absurd (let no : None ≡ Some number = sym (all_same {X = Option ℕ} logical page None)
         ∙ is in cc);
@@ -69,4 +70,5 @@ module _ (s : Shape) (logical : ℕ) (shape : IsShape s) (few : logical ≤ slot
       size = refl;
     });
     spare = spare;
+    closed = ap (λ k. k.closed) kept ∙ sym (ap (λ k. replicate (blocks_of k.shape) false) kept);
   }

@@ -85,6 +85,7 @@ module _ (n : IndexState) (page version : ℕ) where
     pages = length-set n.pins page version ∙ k.pages;
     mentions = k.mentions;
     spare = k.spare;
+    closed = k.closed;
     scanned = k.scanned;
     sound = k.sound;
     mentioned = k.mentioned;
@@ -120,4 +121,5 @@ module _ (n : IndexState) (page version : ℕ) where
     spared = pinned_spared absent t.spare m.spared;
     victim = pinned_victim absent u m.victim;
     free = m.free;
+    shut = record { spare = m.shut.spare; others = m.shut.others };
   }

@@ -1,0 +1,22 @@
+-- The numbers are those of the marks.
+use Rattle.slot_tables.proofs.Common.{tables_state}
+use Rattle.slot_tables.proofs.OfLiveSlots.Garbage.{garbage_counts_are}
+use Rattle.slot_tables.proofs.tables.Tables.most_garbage_now.Goals as goal
+
+pub returns-clause-none : goal.returns-clause-none
+returns-clause-none c =
+    let t = c.self.invariant in
+    rw (
+      ← c.self.view_is,
+      garbage_counts_are (tables_state c.self.inside.base) t.sized.kept c.self.inside.live t.live t.blanks,
+    )
+    c.most_garbage.ensures.none
+
+pub returns-clause-first : goal.returns-clause-first
+returns-clause-first c =
+    let t = c.self.invariant in
+    rw (
+      ← c.self.view_is,
+      garbage_counts_are (tables_state c.self.inside.base) t.sized.kept c.self.inside.live t.live t.blanks,
+    )
+    c.most_garbage.ensures.first

@@ -1,0 +1,4 @@
+pub mod ByteLemmas
+pub mod TornLemmas
+pub mod WholeLemmas
+mod ExampleLemmas
