@@ -1,6 +1,7 @@
 //! The files of the system, as a folder. This is what is trusted of a save: each method is one call of
-//! the system.
-ghost use Rattle.std.specs.Prelude.{◌≡◌, [], None, true, take, IfOk, IfSome};
+//! the system, but for a write, which is one for each 64 KB.
+ghost use Rattle.std.specs.Prelude.{◌≡◌, [], None, true, take, IfOk, IfSome, OnOk};
+ghost use Rattle.std.specs.Io.KnownBytes.{Appends};
 
 use durable_folder::{Folder, Found, Lock};
 use std::alloc::Global;
@@ -26,6 +27,10 @@ impl LockFile for File {
         }
     }
 }
+
+/// The most bytes that one call writes. The system keeps what one call wrote in one piece of memory, and each later sync
+/// of a few of its bytes looks at all of it.
+const PIECE_BYTES: usize = 65536;
 
 /// The files of the system.
 #[derive(Drop)]
@@ -63,6 +68,16 @@ fn as_found(metadata: Metadata) -> Found {
         seconds: metadata.mtime(),
         billionths: metadata.mtime_nsec(),
     }
+}
+
+/// Writes bytes where the next ones go, piece by piece.
+fn write_pieces<F: Write>(file: &mut F, bytes: &[u8]) -> io::Result<()>
+    ensures { OnOk result (Appends (F.contents file.old) (F.contents file.new) bytes.now) }
+{
+    for piece in bytes.chunks(PIECE_BYTES) {
+        file.write_all(piece)?;
+    }
+    Ok(())
 }
 
 impl<'a, R: Files + AllocGlobal> Folder for RealFolder<'a, R>
@@ -140,7 +155,7 @@ where
     }
 
     fn write(&mut self, file: &mut R::File, bytes: &[u8]) -> io::Result<()> {
-        file.write_all(bytes)
+        write_pieces(file, bytes)
     }
 
     fn seek(&mut self, file: &mut R::File, offset: u64) -> io::Result<()> {

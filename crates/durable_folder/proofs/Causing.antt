@@ -273,13 +273,13 @@ fill_names handle beside owner bytes (Ok replaced.Done) h k x n =
 fill_names handle beside owner bytes (Ok replaced.Refused) h k x n = ap (λ u. u.names n) x.0
 fill_names handle beside owner bytes (Err e) h k x n = of_file_names (λ old new. Unit {0}) handle.file h.now k.now x n
 
-pub fills_named : (handle : Handle) (beside : List ℕ) (owner : Option Owner) (bytes : List ℕ)
+pub fills_named : (handle : Handle) (beside name : List ℕ) (owner : Option Owner) (bytes : List ℕ)
     (filled : Result Replaced Error) (opened : Option ℕ) (a b : Option History) →
-    Fills handle beside owner bytes filled a b → AtNow (IsNamed opened beside) a → AtNow (IsNamed opened beside) b
-fills_named handle beside owner bytes filled opened a None fills named = tt
-fills_named handle beside owner bytes filled opened None (Some k) fills named = absurd fills.run
-fills_named handle beside owner bytes filled opened (Some h) (Some k) fills named =
-    (named.0, named.1, ap (newest None) (fill_names handle beside owner bytes filled h k fills.run.4 beside) ∙ named.2)
+    Fills handle beside owner bytes filled a b → AtNow (IsNamed opened name) a → AtNow (IsNamed opened name) b
+fills_named handle beside name owner bytes filled opened a None fills named = tt
+fills_named handle beside name owner bytes filled opened None (Some k) fills named = absurd fills.run
+fills_named handle beside name owner bytes filled opened (Some h) (Some k) fills named =
+    (named.0, named.1, ap (newest None) (fill_names handle beside owner bytes filled h k fills.run.4 name) ∙ named.2)
 
 pub made_named : {P : FolderState → FolderState → Type 0} (handle : Handle) (name beside : List ℕ)
     (a b : Option History) →

@@ -9,6 +9,7 @@ use Rattle.durable_folder.specs.Causes.{HasFailed, HasCause}
 use Rattle.durable_folder.specs.Counting.{answer_to_lock}
 use Rattle.durable_folder.specs.Locking.{LeadsToFile, IsTaken, IsClaimed, Claims, IsClaimCause, HasClaimCause, IsOpenAt, Holds, IsLocked}
 use Rattle.durable_folder.specs.Locking.{AsksLock, IsSameFinding, IsAsLoaded, IsFoundSo, IsPlainAt, Compares, IsNothing, IsRefusedIf, IsNoPlain, WhereFirst, HasSaveCause}
+use Rattle.durable_folder.specs.Renewing.{AtLast}
 use Rattle.durable_folder.specs.Ways.{IsSpecial, Looks}
 use Rattle.durable_folder.proofs.Causing.{turn_failed, turn_later, later_then, then_failed}
 use Rattle.durable_folder.proofs.Learning.{learns, learns_then, learns_weaker, learns_rests, rests_then, turn_rests, opens_learns, finds_learns}
@@ -28,6 +29,17 @@ pub lock_taken : (before after : Handle) (r : Result Lock Error) (n : Answer) (a
 lock_taken before after r n a b is turn =
     learns (Locks before after r) (IsLocked before after) n a b turn
     (λ s t x. (x.0, record { is_free = λ f opening. x.1 f opening ∙ is; is = x.2 ∙ lock_given r is before }))
+
+locked_file : (r : Result Lock Error) (handle : Handle) → (locked_by r handle).file ≡ handle.file
+locked_file (Ok lock.Held) handle = refl
+locked_file (Ok lock.Elsewhere) handle = refl
+locked_file (Err e) handle = refl
+
+pub lock_same : (before after : Handle) (r : Result Lock Error) (n : Answer) (a b : Option History) →
+    Turns (Locks before after r) n a b → AtLast (λ k. after.file ≡ before.file) b
+lock_same before after r n a None turn = tt
+lock_same before after r n None (Some k) turn = absurd turn
+lock_same before after r n (Some h) (Some k) turn = ap (λ i. i.file) turn.0.2 ∙ locked_file r before
 
 pub lock_refused : (before after : Handle) (r : Result Lock Error) (n : Answer) (a b : Option History) →
     Turns (Locks before after r) n a b → Rests a b

@@ -42,7 +42,7 @@ ends_err beside name (Ok replaced.Refused) (Err e) h k err = tt
 ends_err beside name (Err e) (Ok answer) h k err = absurd (cc)
 ends_err beside name (Err e) (Err other) h k err = tt
 
-steps_none : (beside name : List ℕ) (filled : Result Replaced Error) (s : FolderState) →
+pub steps_none : (beside name : List ℕ) (filled : Result Replaced Error) (s : FolderState) →
     FinishSteps beside name filled s s
 steps_none beside name (Ok replaced.Done) s = λ differ. record {
   here = λ e y. inr y;
@@ -125,13 +125,13 @@ removed_ends beside name filled result r n a b c apart ends rests turn =
     (λ h k l x y. ends h l (removes_aside beside r h.now k.now l.now x y.0))
 
 -- from the new file on
-made_new_file : (handle : Handle) (name beside : List ℕ) (f : ℕ) (s t u : FolderState) →
+pub made_new_file : (handle : Handle) (name beside : List ℕ) (f : ℕ) (s t u : FolderState) →
     IsMade handle name beside f s t →
     OfFile (λ old new. Unit {0}) handle.file t u → SparesNames f t u
 made_new_file handle name beside f s t u made x =
     let at : OfFile (λ old new. Unit {0}) (Some f) t u = rw (ap (λ h. h.file) made.opened) at x in at.0
 
-made_bytes : (handle : Handle) (name beside bytes : List ℕ) (f : ℕ) (s t u : FolderState) →
+pub made_bytes : (handle : Handle) (name beside bytes : List ℕ) (f : ℕ) (s t u : FolderState) →
     IsMade handle name beside f s t →
     OfFile (λ old new. handle.offset ≡ 0 → old ≡ [] ∷ [] → new ≡ bytes ∷ []) handle.file t u → SparesNames f t u
     × (u.files f ≡ bytes ∷ [])
@@ -140,7 +140,7 @@ made_bytes handle name beside bytes f s t u made x =
     rw (ap (λ h. h.file) made.opened) at x in
     (at.0, at.1 (ap (λ h. h.offset) made.opened) made.empty)
 
-still_named : (handle : Handle) (name beside : List ℕ) (f : ℕ) (s t u : FolderState) → IsMade handle name beside f s t →
+pub still_named : (handle : Handle) (name beside : List ℕ) (f : ℕ) (s t u : FolderState) → IsMade handle name beside f s t →
     SparesNames f t u →
     file_of u beside ≡ Some f
 still_named handle name beside f s t u made same = ap (newest None) (same.names beside) ∙ made.named
@@ -306,7 +306,7 @@ opened_place place folder opened n None (Some k) turn told = absurd turn
 opened_place place folder opened n (Some h) None turn told = absurd told
 opened_place place folder opened n (Some h) (Some k) turn told = turn.0.1
 
-no_change_keeps : (name bytes : List ℕ) (s t : FolderState) → t ≡ s → KeepsOrReplaces name bytes s t
+pub no_change_keeps : (name bytes : List ℕ) (s t : FolderState) → t ≡ s → KeepsOrReplaces name bytes s t
 no_change_keeps name bytes s t same = prepares_keeps name bytes s t (inl same)
 
 by_refusal : (name : List ℕ) (owner : Option Owner) (bytes : List ℕ) (refuses : Bool) (e : Error) (h k : History) →

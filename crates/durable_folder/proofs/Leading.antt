@@ -64,7 +64,7 @@ pub nothing_saved : (P : FolderState → Type 0) (name bytes : List ℕ) (result
 nothing_saved P name bytes result a b err known =
     inl (runs_weaker a b known (λ s t x. keeps_none (target s name) bytes s t x) (λ h k x. after_err result _ err))
 
-must_from : (name : List ℕ) (h k l : History) → KeepsRefusals h k → k.now ≡ h.now → MustBeInPlace name k l →
+pub must_from : (name : List ℕ) (h k l : History) → KeepsRefusals h k → k.now ≡ h.now → MustBeInPlace name k l →
     MustBeInPlace name h l
 must_from name h k l more same (inl special) = inl (rw same at special)
 must_from name h k l more same (inr (inl shared)) = inr (inl (rw same at shared))

@@ -16,6 +16,7 @@ mod Putting
 mod Reading
 mod Reasons
 mod Refusing
+mod Renewals
 mod Replacements
 mod Sighting
 mod Tearing

@@ -241,7 +241,7 @@ found_shared : (name : List ℕ) (old : Found) (s : FolderState) (file : ℕ) �
 found_shared name old s file found true is several = inr (found.shared is several)
 found_shared name old s file found false is several = inl (found_special name old s file found is)
 
-found_reason : (name : List ℕ) (old : Found) (h k : History) (file : ℕ) → IsFound h.now name file old →
+pub found_reason : (name : List ℕ) (old : Found) (h k : History) (file : ℕ) → IsFound h.now name file old →
     MustStay old → MustBeInPlace name h k
 found_reason name old h k file found (inl is) = inl (found_special name old h.now file found is)
 found_reason name old h k file found (inr several) =
@@ -282,7 +282,7 @@ refused_ends name owner bytes (Ok replaced.Refused) answer is refused h k x = x
 refused_ends name owner bytes (Err e) answer is refused h k x = absurd (cc)
 
 -- the owner is that of what was found, on its device
-record IsGivenBy (owner : Owner) (found : Found) : Type 0 where
+pub record IsGivenBy (owner : Owner) (found : Found) : Type 0 where
   pub user : owner.user ≡ found.user
   pub group : owner.group ≡ found.group
   pub device : owner.device ≡ found.device
@@ -308,7 +308,7 @@ was_refused handle name bytes opened owner r answer is refused h k l kept x y =
       ],
     )
 
-hindered_reason : (name : List ℕ) (old : Found) (owner : Owner) (h k l : History) (file : ℕ) →
+pub hindered_reason : (name : List ℕ) (old : Found) (owner : Owner) (h k l : History) (file : ℕ) →
     IsFound h.now name file old → IsGivenBy owner old →
     KeepsRefusals k l → IsHindered name owner h k → MustBeInPlace name h l
 hindered_reason name old owner h k l file found given later (inl other) =

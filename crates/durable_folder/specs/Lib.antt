@@ -8,6 +8,7 @@ pub mod InPlace
 pub mod Locking
 pub mod NewFiles
 pub mod Places
+pub mod Renewing
 pub mod Saving
 pub mod Sights
 pub mod Ways

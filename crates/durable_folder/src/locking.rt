@@ -7,6 +7,7 @@ ghost use Rattle.durable_folder.specs.FolderState.{IsFree, target};
 ghost use Rattle.durable_folder.specs.Saving.{SavesAnew};
 ghost use Rattle.durable_folder.specs.Histories.{Held, Rests};
 ghost use Rattle.durable_folder.specs.Locking.{AsksLock, Claims, Compares, HasClaimCause, HasSaveCause, Holds, IsAsLoaded, IsClaimed, IsFoundSo, IsNoPlain, IsNothing, IsOpenAt, IsSameFinding, IsStale, IsTaken, WhereFirst};
+ghost use Rattle.durable_folder.specs.Renewing.{AtLast};
 ghost use Rattle.durable_folder.specs.Sights.{SavesSeen, Sees, SeesBoth, SeesClaimed, SeesHeld};
 ghost use Rattle.durable_folder.specs.Ways.{Saves};
 
@@ -25,8 +26,9 @@ fn is_elsewhere(answer: &io::Result<Lock>) -> bool
 }
 
 /// Takes the lock of an open file. Where the system knows no locks there is none to be taken.
-fn lock<F: Folder>(folder: &mut F, file: &mut F::File) -> io::Result<()>
+pub fn lock<F: Folder>(folder: &mut F, file: &mut F::File) -> io::Result<()>
     ensures asks { AsksLock (F.handle file.old) (F.handle file.new) result (F.told folder.old) (F.told folder.new) }
+    ensures same { AtLast (λ k. (F.handle file.new).file ≡ (F.handle file.old).file) (F.told folder.new) }
     ensures order { Sees (λ done. Held (F.handle file.old).file) result (F.told folder.old) (F.told folder.new) }
     ensures fault { HasFault result (F.told folder.old) (F.told folder.new) }
 {

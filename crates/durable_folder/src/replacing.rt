@@ -1,8 +1,9 @@
 //! A file is replaced by a new one that was written beside it.
-ghost use Rattle.std.specs.Prelude.{◌≡◌, ◌≢◌, ◌⊎◌, ◌↔◌, IsTrue, true, None, Ok, IsErr};
+ghost use Rattle.std.specs.Prelude.{◌≡◌, ◌≢◌, ◌⊎◌, ◌↔◌, IsTrue, true, None, Ok, IfOk, IsErr};
 ghost use Rattle.durable_folder.specs.NewFiles.{beside_of, handle_of};
 ghost use Rattle.durable_folder.specs.Causes.{AllTaken, AtNow, HasCause, HasFailed, HasFault, IsLater, IsNamed};
 ghost use Rattle.durable_folder.specs.Histories.{IsPlaceOf, Rests};
+ghost use Rattle.durable_folder.specs.Renewing.{Compared, Owns};
 ghost use Rattle.durable_folder.specs.Saving.{Gives, WritesWhole, Fills, Puts, PutsAnew, Ends, ReplacesBy, Mounted, ReplacesOrNot};
 
 use crate::answers::{Replaced, as_fault, is_unlinkable, refusal_of};
@@ -23,6 +24,23 @@ pub struct Owner {
     pub group: u32,
     pub permissions: Permissions,
     pub device: u64,
+}
+
+/// Whose a new file has to be in the place of what was found, which may be replaced if it is a plain file with one
+/// name. Another hard link would keep the old bytes.
+pub fn owner_of(found: Found) -> Option<Owner>
+    ensures { Owns found result }
+{
+    if found.is_file && found.names <= 1 {
+        Some(Owner {
+            user: found.user,
+            group: found.group,
+            permissions: found.permissions,
+            device: found.device,
+        })
+    } else {
+        None
+    }
 }
 
 /// Gives a new file its owner and mode, if it is to have them. Answers whether the system gave leave. The owner is set
@@ -54,7 +72,7 @@ fn write_whole<F: Folder>(folder: &mut F, file: &mut F::File, bytes: &[u8]) -> i
 
 /// Gives a new file its owner and mode, and then its bytes. So the bytes never stand under a mode that is wider than
 /// that of the old file.
-fn fill<F: Folder>(
+pub fn fill<F: Folder>(
     folder: &mut F,
     file: &mut F::File,
     beside: &str,
@@ -79,11 +97,12 @@ pub fn is_same(one: &Found, other: &Found) -> bool
     one.device == other.device && one.inode == other.inode
 }
 
-/// Whether the file still has the name under which it was made.
-fn has_name<F: Folder>(folder: &mut F, file: &F::File, beside: &str) -> io::Result<bool>
+/// Whether a name still leads to the open file. A link is not followed.
+pub fn has_name<F: Folder>(folder: &mut F, file: &F::File, beside: &str) -> io::Result<bool>
     ensures rests { Rests (F.told folder.old) (F.told folder.new) }
     ensures later { IsLater (F.told folder.old) (F.told folder.new) }
     ensures named { AtNow (IsNamed (F.handle file.now).file beside.now) (F.told folder.old) → (result ≡ Ok true) ⊎ HasFailed (F.told folder.old) (F.told folder.new) }
+    ensures looks { IfOk result (λ is. Compared (F.handle file.now) beside.now is (F.told folder.old) (F.told folder.new)) }
 {
     let named = folder.find(beside)?;
     let made = folder.find_open(file)?;
@@ -171,6 +190,7 @@ fn put_or_remove<F: Folder>(
 ) -> io::Result<Replaced>
     ensures anew { beside.now ≢ name.now → IsPlaceOf (F.place place.now) name.now (F.told folder.old) → is_new ≡ true → result ≡ Ok Replaced.Done → PutsAnew name.now (F.told folder.old) (F.told folder.new) }
     ensures ends { beside.now ≢ name.now → IsPlaceOf (F.place place.now) name.now (F.told folder.old) → Ends beside.now name.now filled result (F.told folder.old) (F.told folder.new) }
+    ensures done { result ≡ Ok Replaced.Done → filled ≡ Ok Replaced.Done }
     ensures later { IsLater (F.told folder.old) (F.told folder.new) }
     ensures fault { IsErr result → IsErr filled ⊎ HasFailed (F.told folder.old) (F.told folder.new) }
 {
@@ -192,7 +212,7 @@ fn put_or_remove<F: Folder>(
 
 /// Puts a new file in its place or removes it, if its name still leads to it. What somebody else put
 /// there is neither renamed nor removed.
-fn finish<F: Folder>(
+pub fn finish<F: Folder>(
     folder: &mut F,
     place: &F::Place,
     file: &F::File,
@@ -203,6 +223,7 @@ fn finish<F: Folder>(
 ) -> io::Result<Replaced>
     ensures anew { beside.now ≢ name.now → IsPlaceOf (F.place place.now) name.now (F.told folder.old) → is_new ≡ true → result ≡ Ok Replaced.Done → PutsAnew name.now (F.told folder.old) (F.told folder.new) }
     ensures ends { beside.now ≢ name.now → IsPlaceOf (F.place place.now) name.now (F.told folder.old) → Ends beside.now name.now filled result (F.told folder.old) (F.told folder.new) }
+    ensures done { result ≡ Ok Replaced.Done → filled ≡ Ok Replaced.Done }
     ensures later { IsLater (F.told folder.old) (F.told folder.new) }
     ensures fault { AtNow (IsNamed (F.handle file.now).file beside.now) (F.told folder.old) → IsErr result → IsErr filled ⊎ HasFailed (F.told folder.old) (F.told folder.new) }
 {

@@ -9,7 +9,7 @@ ghost use Rattle.durable_folder.specs.Ways.{LeadsTo, ReplacesFound, SavesAt, Sav
 
 use crate::answers::{Replaced, as_fault};
 use crate::in_place::write_through;
-use crate::replacing::{Owner, replace};
+use crate::replacing::{owner_of, replace};
 use crate::syncing::sync_names;
 use crate::temporary_names::folder_of;
 use crate::{Folder, Found};
@@ -175,7 +175,7 @@ fn save_over<F: Folder>(
 }
 
 /// Replaces a plain file with one name, by a new file of its owner and mode. All else is refused: a file with
-/// several names, and what is no plain file. Another hard link would keep the old bytes.
+/// several names, and what is no plain file.
 fn replace_found<F: Folder>(
     folder: &mut F,
     alloc: Global,
@@ -186,16 +186,9 @@ fn replace_found<F: Folder>(
     ensures replaces { ReplacesFound name.now found bytes.now result (F.told folder.old) (F.told folder.new) }
     ensures cause { HasCause (AtNow (AllTaken name.now) (F.told folder.old)) result (F.told folder.old) (F.told folder.new) }
 {
-    if found.is_file && found.names <= 1 {
-        let owner = Owner {
-            user: found.user,
-            group: found.group,
-            permissions: found.permissions,
-            device: found.device,
-        };
-        replace(folder, alloc, name, Some(owner), bytes)
-    } else {
-        Ok(Replaced::Refused)
+    match owner_of(found) {
+        Some(owner) => replace(folder, alloc, name, Some(owner), bytes),
+        None => Ok(Replaced::Refused),
     }
 }
 

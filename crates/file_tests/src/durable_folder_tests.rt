@@ -1,6 +1,6 @@
 //! What a loss of power leaves of a save, in a folder in memory.
 use crate::lines::{LineTest, assert_lines, word};
-use durable_folder::{Found, load, save, save_held};
+use durable_folder::{Folder, Found, load, save, save_held, save_locked};
 use std::alloc::{AllocError, Global};
 use std::io::ErrorKind;
 
@@ -30,6 +30,8 @@ struct Case {
     /// Whether the file `f` is there.
     is_there: bool,
     name: &'static str,
+    /// Whether it is by a new file alone, of a file that is held.
+    is_held: bool,
     /// The number of the call that fails, and 0 where none does.
     fails: u32,
     kind: ErrorKind,
@@ -43,6 +45,7 @@ impl Case {
             setting,
             is_there,
             name,
+            is_held: false,
             fails: 0,
             kind: ErrorKind::Other,
             is_cut: false,
@@ -54,12 +57,13 @@ impl Case {
         self.name == "link" && !self.is_there
     }
 
-    /// Whether a save that goes well has to be in place.
+    /// Whether a save that goes well has to be in place, or can't be by a new file.
     fn is_in_place(&self) -> bool {
         let must_be = match self.setting {
             Setting::Plain | Setting::NoFolderSync | Setting::NoLinks => false,
             Setting::ClosedFolder => true,
             Setting::Unresolved => self.name == "link",
+            Setting::MountPoint => self.is_there && !self.is_held,
             _ => self.is_there,
         };
         must_be || self.is_nowhere()
@@ -129,8 +133,12 @@ fn stays(folder: &CrashingFolder, name: &str, bytes: &'static [u8]) -> bool {
 }
 
 /// Whether a save of which no call fails is in place only where it has to be, and returns Ok. A file that was made
-/// through a link has no folder to be synced, where that can't be told.
+/// through a link has no folder to be synced, where that can't be told. A file that is held is not saved where it would
+/// have to be in place.
 fn is_done(folder: &CrashingFolder, it: &Case, is_ok: bool) -> bool {
+    if it.is_held {
+        return is_ok == !it.is_in_place();
+    }
     let is_lost = it.is_nowhere() && it.setting == Setting::Unresolved;
     folder.is_in_place == it.is_in_place() && is_ok == !is_lost
 }
@@ -140,7 +148,25 @@ fn is_sound(folder: &CrashingFolder, it: &Case, is_ok: bool) -> bool {
     is_left_whole(folder, it, is_ok)
         && stays(folder, "f.saving", b"left")
         && stays(folder, "other", b"other")
+        && !(it.is_held && folder.is_in_place)
         && (it.fails > 0 || is_done(folder, it, is_ok))
+}
+
+/// Whether a file is saved that is held, and the new one is given.
+fn is_renewed(folder: &mut CrashingFolder, alloc: Global, name: &str) -> bool {
+    match folder.open(name) {
+        Ok(held) => matches!(save_locked(folder, alloc, name, &held, &NEW), Ok(Some(_))),
+        Err(_) => false,
+    }
+}
+
+/// Whether a save answers Ok.
+fn is_answered(folder: &mut CrashingFolder, alloc: Global, it: &Case) -> bool {
+    if it.is_held {
+        is_renewed(folder, alloc, it.name)
+    } else {
+        save(folder, alloc, it.name, &NEW).is_ok()
+    }
 }
 
 /// The number of calls of a save, where all that a loss of power may leave is as it should be.
@@ -148,7 +174,7 @@ fn save_over(folder: &mut CrashingFolder, alloc: Global, it: &Case) -> Option<u3
     if prepare(folder, it.is_there).is_err() {
         return None;
     }
-    let is_ok = save(folder, alloc, it.name, &NEW).is_ok();
+    let is_ok = is_answered(folder, alloc, it);
     if is_sound(folder, it, is_ok) {
         Some(folder.calls)
     } else {
@@ -179,8 +205,8 @@ fn may_call_fail(alloc: Global, it: &Case, fails: u32, kind: ErrorKind) -> bool 
     save_counting_calls(alloc, &failing).is_some() && save_counting_calls(alloc, &cut).is_some()
 }
 
-/// Whether all is well without a failing call, of which there are more than seven, and then where each fails or
-/// loses power.
+/// Whether all is well without a failing call, of which there are more than seven, or three where the file is held, and
+/// then where each fails or loses power.
 fn may_each_call_fail(alloc: Global, it: &Case) -> bool {
     let Some(calls) = save_counting_calls(alloc, it) else {
         return false;
@@ -192,7 +218,7 @@ fn may_each_call_fail(alloc: Global, it: &Case) -> bool {
             return false;
         }
     }
-    calls > 7
+    calls > 7 || (it.is_held && calls > 3)
 }
 
 /// Whether all is well with the saves at a name, whether or not a file is there.
@@ -201,9 +227,20 @@ fn are_saves_well(alloc: Global, setting: Setting, name: &'static str) -> bool {
         && may_each_call_fail(alloc, &Case::new(setting, true, name))
 }
 
-/// Whether all is well with the saves to a file, and with those through a link.
+/// Whether all is well with the saves of a file that is held.
+fn are_renewals_well(alloc: Global, setting: Setting) -> bool {
+    let held = Case {
+        is_held: true,
+        ..Case::new(setting, true, "f")
+    };
+    may_each_call_fail(alloc, &held)
+}
+
+/// Whether all is well with the saves to a file, with those through a link, and with those of a file that is held.
 fn are_all_well(alloc: Global, setting: Setting) -> bool {
-    are_saves_well(alloc, setting, "f") && are_saves_well(alloc, setting, "link")
+    are_saves_well(alloc, setting, "f")
+        && are_saves_well(alloc, setting, "link")
+        && are_renewals_well(alloc, setting)
 }
 
 #[test]
@@ -248,6 +285,7 @@ fn is_refused_where_taken(alloc: Global, name: &str) -> bool {
     let mut folder = folder_of(alloc, Setting::LockedElsewhere);
     let is_refused = prepare(&mut folder, true).is_ok()
         && !is_saved(&mut folder, alloc, name, &None)
+        && !is_renewed(&mut folder, alloc, name)
         && stays(&folder, "f", &OLD);
     drop(folder);
     is_refused
@@ -307,19 +345,26 @@ fn what_another_program_holds_is_not_saved(rt: HostRuntime) {
     assert!(rt; is_refused);
 }
 
-/// Whether a save fails at a free name to which something comes meanwhile, which stays there.
-fn stays_what_comes(alloc: Global) -> bool {
-    let mut folder = folder_of(alloc, Setting::Overtaken);
-    let is_kept = prepare(&mut folder, false).is_ok()
-        && save(&mut folder, alloc, "f", &NEW).is_err()
+/// Whether a save in such a folder fails, where something comes to the name meanwhile, which stays there.
+fn stays_what_comes(alloc: Global, setting: Setting, is_held: bool) -> bool {
+    let mut folder = folder_of(alloc, setting);
+    let it = Case {
+        is_held,
+        ..Case::new(setting, is_held, "f")
+    };
+    let is_kept = prepare(&mut folder, is_held).is_ok()
+        && !is_answered(&mut folder, alloc, &it)
         && stays(&folder, "f", b"meanwhile");
     drop(folder);
     is_kept
 }
 
 #[test]
-fn what_comes_to_a_free_name_meanwhile_is_not_replaced(rt: HostRuntime) {
-    assert!(rt; stays_what_comes(rt.alloc()));
+fn what_comes_to_a_name_meanwhile_is_not_replaced(rt: HostRuntime) {
+    let stays = stays_what_comes(rt.alloc(), Setting::Overtaken, false)
+        && stays_what_comes(rt.alloc(), Setting::OvertakenInFilling, true)
+        && stays_what_comes(rt.alloc(), Setting::OvertakenInSyncing, true);
+    assert!(rt; stays);
 }
 
 /// What is done to a file since it was loaded, and its kind and its name.

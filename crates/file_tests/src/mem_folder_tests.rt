@@ -1,6 +1,6 @@
 //! What a loss of power leaves of a folder in memory.
 use crate::lines::{LineTest, assert_lines, word};
-use durable_folder::{Folder, load, save};
+use durable_folder::{Folder, load, save, save_locked};
 use mem_folder::{Fault, Left, MemFolder, load_after_loss};
 use std::alloc::{AllocError, Global};
 use std::io;
@@ -79,7 +79,21 @@ fn is_named(folder: &mut MemFolder, verb: &str, name: &str, other: &str) -> bool
     }
 }
 
-/// Whether a step is done: its verb, a name, and bytes or another name.
+/// What comes of a save at a name, where the file of another name is held.
+fn renewal(folder: &mut MemFolder, alloc: Global, name: &str, held: &str) -> &'static str {
+    let Ok(file) = folder.open(held) else {
+        return "missing";
+    };
+    match save_locked(folder, alloc, name, &file, b"new") {
+        Ok(Some(_)) => "renewed",
+        Ok(None) => "refused",
+        Err(error) if error.kind() == ErrorKind::Other => "moved",
+        Err(_) => "failed",
+    }
+}
+
+/// Whether a step is done: its verb, a name, and bytes or another name. A step whose verb tells what comes of a save
+/// has the name that is saved, and that of the file that is held.
 fn is_done(folder: &mut MemFolder, alloc: Global, step: &str) -> bool {
     let (name, bytes) = (word(step, 1), word(step, 2));
     match word(step, 0) {
@@ -87,6 +101,8 @@ fn is_done(folder: &mut MemFolder, alloc: Global, step: &str) -> bool {
         "write" => write(folder, name, bytes).is_ok(),
         "sync" => sync(folder, name).is_ok(),
         "resize" => resize(folder, name, bytes).is_ok(),
+        "renewed" | "refused" | "moved" | "failed" => renewal(folder, alloc, name, bytes)
+            == word(step, 0),
         verb => is_named(folder, verb, name, bytes),
     }
 }
@@ -143,7 +159,15 @@ save f old; link f g; has f old; has g old; lose old old; has f old; none g
 save f old; link f g; settle; lose old old; has f old; has g old
 save f old; link f g; remove f; settle; none f; has g old
 save f old; save g new; cannot-link f g; cannot-link h g; has f old; has g new
-none f; save f one; remove f; save f two; lose old old; has f two";
+none f; save f one; remove f; save f two; lose old old; has f two
+save f old; renewed f f; has f new; none f.saving; lose old old; has f new; none f.saving
+save f old; renewed f f; renewed f f; lose new old; has f new; none f.saving
+save f old; save f.saving left; save f.saving2 more; renewed f f; has f new; has f.saving left; has f.saving2 more
+save f old; write f.saving left; renewed f f; lose old old; has f new; none f.saving2
+save f old; save g other; moved f g; has f old; has g other; none f.saving; lose old old; has f old; has g other
+save f old; save g other; failed h g; has f old; has g other; none h; none h.saving
+save f old; link f g; settle; renewed f g; has f new; has g old; lose old old; has f new; has g old; none f.saving
+save f old; link f g; remove f; settle; renewed g g; lose old old; has g new; none f";
 
 #[test]
 fn what_is_not_synced_may_be_lost(rt: HostRuntime) {
@@ -199,11 +223,20 @@ fn one_fault(alloc: Global, fault: Fault, calls: usize) -> Result<Vec<Option<Fau
     Ok(faults)
 }
 
+/// Whether a second save is done, of a file that is held or not.
+fn is_saved_again(folder: &mut MemFolder, alloc: Global, is_held: bool) -> bool {
+    if is_held {
+        renewal(folder, alloc, "f", "f") == "renewed"
+    } else {
+        save(folder, alloc, "f", b"new").is_ok()
+    }
+}
+
 /// Whether a loss of power leaves the new bytes after two saves if the second one was answered Ok, and else those of
 /// the first one if this was. Of a folder that could not be synced nothing is said.
-fn is_whole(folder: &mut MemFolder, alloc: Global) -> bool {
+fn is_whole(folder: &mut MemFolder, alloc: Global, is_held: bool) -> bool {
     let is_old = save(folder, alloc, "f", b"old").is_ok();
-    let is_new = save(folder, alloc, "f", b"new").is_ok();
+    let is_new = is_saved_again(folder, alloc, is_held);
     if folder.has_noted() {
         return true;
     }
@@ -213,16 +246,16 @@ fn is_whole(folder: &mut MemFolder, alloc: Global) -> bool {
     has(folder, "f", "new") || (!is_new && has(folder, "f", "old")) || !(is_old || is_new)
 }
 
-/// How many of the calls of two saves fail in turn. They make more.
-const CALLS: usize = 20;
+/// How many of the calls of two saves fail in turn, where the file is held for the second one, and else. They make more.
+const CALLS: (usize, usize) = (28, 20);
 
 /// Whether two saves are whole, of which the call after this many others fails.
-fn is_whole_at(alloc: Global, line: &str, calls: usize) -> bool {
-    let Ok(faults) = one_fault(alloc, fault(line), calls) else {
+fn is_whole_at(alloc: Global, name: &str, is_held: bool, calls: usize) -> bool {
+    let Ok(faults) = one_fault(alloc, fault(name), calls) else {
         return false;
     };
     let mut folder = MemFolder::new(alloc, faults);
-    let is_right = is_whole(&mut folder, alloc);
+    let is_right = is_whole(&mut folder, alloc, is_held);
     drop(folder);
     is_right
 }
@@ -232,8 +265,10 @@ struct Swept;
 
 impl LineTest for Swept {
     fn is_right(alloc: Global, line: &str) -> bool {
-        for calls in 0..CALLS {
-            if !is_whole_at(alloc, line, calls) {
+        let is_held = word(line, 1) == "held";
+        let end = if is_held { CALLS.0 } else { CALLS.1 };
+        for calls in 0..end {
+            if !is_whole_at(alloc, word(line, 0), is_held, calls) {
                 return false;
             }
         }
@@ -241,12 +276,16 @@ impl LineTest for Swept {
     }
 }
 
-/// How a call fails.
+/// How a call fails, and whether the file is held that is saved the second time.
 const FAULTS: &str = "\
 broken
 read-only
 denied
-unable";
+unable
+broken held
+read-only held
+denied held
+unable held";
 
 #[test]
 fn a_fault_leaves_the_old_bytes_or_the_new_ones(rt: HostRuntime) {

@@ -3,6 +3,8 @@ use super::recording::{Log, Recorder};
 use super::steps::{has, has_mode, is_absent, is_made, is_removed, is_written, sets_mode};
 use crate::lines::{word, word_count};
 use desk_io::{Desk, LockFile, RealDesk, RealFolder};
+use durable_folder::{Folder, Lock, save_locked};
+use std::alloc::Global;
 use std::fs;
 use std::io::ErrorKind;
 use std::os::unix::fs::{MetadataExt, symlink};
@@ -10,7 +12,8 @@ use std::rt::Files;
 
 /// What stands in the folder before a save, the name that is saved, and the calls that the save makes: first those by
 /// which the file is claimed. Before a save there may be a file f, a link to it, other as its second name, and
-/// f.saving, which a killed run left beside it.
+/// f.saving, which a killed run left beside it. At the name held the file f is saved while it is open, and then another
+/// opening asks for its lock.
 const SAVES: &str = "\
 nothing | f | stat f; stat f; open saves; create f.saving; write f.saving; sync f.saving; stat f.saving; \
 link f.saving; remove f.saving; sync saves;
@@ -23,7 +26,12 @@ link | link | stat link; open link; stat link; open link; open link; write link;
 write link; sync link; resolve link; open saves; sync saves;
 f other | f | stat f; open f; lock f; open f; stat f; open f; write f; sync f; length f; sync f; write f; sync f;
 f f.saving | f | stat f; open f; lock f; open f; stat f; open f; open saves; create f.saving; create f.saving2; \
-chown f.saving2; chmod f.saving2; write f.saving2; sync f.saving2; stat f.saving2; rename f.saving2; sync saves;";
+chown f.saving2; chmod f.saving2; write f.saving2; sync f.saving2; stat f.saving2; rename f.saving2; sync saves;
+f | held | open f; stat f; stat f; open saves; create f.saving; chown f.saving; chmod f.saving; write f.saving; \
+sync f.saving; stat f; lock f.saving; stat f.saving; rename f.saving; sync saves; stat f; open f; lock f;
+f f.saving | held | open f; stat f; stat f; open saves; create f.saving; create f.saving2; chown f.saving2; \
+chmod f.saving2; write f.saving2; sync f.saving2; stat f; lock f.saving2; stat f.saving2; rename f.saving2; \
+sync saves; stat f; open f; lock f;";
 
 const OLD: &[u8] = b"the old bytes";
 
@@ -106,9 +114,56 @@ where
     is_saved
 }
 
+/// Whether another opening of a file finds that its lock is held.
+fn is_locked<F: Folder>(folder: &mut F, name: &str) -> bool {
+    match folder.open(name) {
+        Ok(file) => {
+            let mut file = file;
+            matches!(folder.try_lock(&mut file), Ok(Lock::Elsewhere))
+        }
+        Err(_) => false,
+    }
+}
+
+/// Whether a save of a file that is held gives the new one, with its lock.
+fn is_renewed<F: Folder>(folder: &mut F, alloc: Global, name: &str, held: &F::File) -> bool {
+    match save_locked(folder, alloc, name, held, NEW) {
+        Ok(Some(new)) => {
+            let is_locked = is_locked(folder, name);
+            drop(new);
+            is_locked
+        }
+        _ => false,
+    }
+}
+
+/// The same of a file that is opened first.
+fn is_opened_and_renewed<F: Folder>(folder: &mut F, alloc: Global, name: &str) -> bool {
+    match folder.open(name) {
+        Ok(held) => is_renewed(folder, alloc, name, &held),
+        Err(_) => false,
+    }
+}
+
+/// The same over a system.
+fn is_renewed_over<R: Files + AllocGlobal>(alloc: Global, system: &R, name: &str) -> bool
+where
+    R::File: LockFile,
+{
+    let mut folder = RealFolder { rt: system };
+    let is_renewed = is_opened_and_renewed(&mut folder, alloc, name);
+    drop(folder);
+    is_renewed
+}
+
 /// Whether a save answers Ok whose calls are noted.
-fn is_saved(rt: &HostRuntime, name: &str, log: &Log) -> bool {
-    is_saved_over(rt, &Recorder { rt, log }, name)
+fn is_saved(rt: &HostRuntime, it: &Case, log: &Log) -> bool {
+    let system = Recorder { rt, log };
+    if it.name == "held" {
+        is_renewed_over(rt.alloc(), &system, it.path())
+    } else {
+        is_saved_over(rt, &system, it.path())
+    }
 }
 
 /// Whether a file has two names.
@@ -144,7 +199,7 @@ fn is_new(rt: &HostRuntime, it: &Case) -> bool {
 /// Whether a save answers Ok and makes the calls that it should.
 fn makes_calls(rt: &HostRuntime, it: &Case) -> bool {
     let log = Log::new(rt.alloc(), 0, ErrorKind::Other);
-    let makes_calls = is_prepared(rt, it) && is_saved(rt, it.path(), &log) && log.has(it.calls);
+    let makes_calls = is_prepared(rt, it) && is_saved(rt, it, &log) && log.has(it.calls);
     drop(log);
     makes_calls
 }
@@ -203,7 +258,7 @@ fn may_fail_with(rt: &HostRuntime, it: &Case, log: &Log) -> Option<bool> {
     if !is_prepared(rt, it) {
         return Some(false);
     }
-    let is_ok = is_saved(rt, it.path(), log);
+    let is_ok = is_saved(rt, it, log);
     if log.has_failed() {
         Some(is_well_after(rt, it, is_ok, log))
     } else {

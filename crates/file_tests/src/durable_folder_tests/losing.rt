@@ -49,6 +49,10 @@ pub enum Setting {
     NoLinks,
     /// Another program makes a file of a name just before a new one is linked there.
     Overtaken,
+    /// Another program puts a file in the place of `f` while a file is synced.
+    OvertakenInFilling,
+    /// It does so while a folder is synced.
+    OvertakenInSyncing,
     /// Another program holds the lock of each file.
     LockedElsewhere,
     /// No file is a plain one.

@@ -1,5 +1,5 @@
 use Rattle.durable_folder.proofs.Common.{◌∙◌, sym, refl, Err}
-use Rattle.durable_folder.proofs.Claiming.{lock_taken, lock_refused}
+use Rattle.durable_folder.proofs.Claiming.{lock_taken, lock_refused, lock_same}
 use Rattle.durable_folder.proofs.Sighting.{lock_seen, lock_unseen}
 use Rattle.durable_folder.proofs.locking.lock.Goals as goal
 
@@ -26,3 +26,15 @@ returns-clause-order g c =
     lock_seen (g.F.Folder.handle c.args.file.now) c.try_lock.result (g.F.Folder.told c.args.folder.now)
     (g.F.Folder.told c.try_lock.new.self)
     (sym c.is_elsewhere.ensures ∙ c.if-is_elsewhere.false) c.try_lock.ensures.sees
+
+pub returns-then-is_elsewhere-clause-same : goal.returns-then-is_elsewhere-clause-same
+returns-then-is_elsewhere-clause-same g c =
+    lock_same (g.F.Folder.handle c.args.file.now) (g.F.Folder.handle c.try_lock.new.file) c.try_lock.result
+    _ (g.F.Folder.told c.args.folder.now)
+    (g.F.Folder.told c.try_lock.new.self) c.try_lock.ensures.locks
+
+pub returns-clause-same : goal.returns-clause-same
+returns-clause-same g c =
+    lock_same (g.F.Folder.handle c.args.file.now) (g.F.Folder.handle c.try_lock.new.file) c.try_lock.result
+    _ (g.F.Folder.told c.args.folder.now)
+    (g.F.Folder.told c.try_lock.new.self) c.try_lock.ensures.locks

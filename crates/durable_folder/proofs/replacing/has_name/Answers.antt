@@ -1,6 +1,7 @@
 use Rattle.durable_folder.proofs.Common.{inl, inr, Ok, ap, quiet}
 use Rattle.durable_folder.proofs.Causing.{named_found, named_not_found}
 use Rattle.durable_folder.proofs.Filling.{finds_still, both_still}
+use Rattle.durable_folder.proofs.Renewals.{looked_same}
 use Rattle.durable_folder.proofs.replacing.has_name.Goals as goal
 
 pub returns-in_err-named-clause-rests : goal.returns-in_err-named-clause-rests
@@ -38,3 +39,10 @@ returns-clause-named g c named =
       | inl same ↦ inl (ap Ok (c.is_same.ensures.1 same))
       | inr failed ↦ inr failed
     ]
+
+pub returns-clause-looks : goal.returns-clause-looks
+returns-clause-looks g c =
+    looked_same (g.F.Folder.handle c.args.file.now) c.args.beside.now c.in_ok-named.named c.in_ok-made.made
+    c.is_same.result (g.F.Folder.told c.args.folder.now) (g.F.Folder.told c.find.new.self)
+    (g.F.Folder.told c.find_open.new.self) c.in_ok-named.ensures c.in_ok-made.ensures.finds c.in_ok-made.ensures.sees
+    (λ is_so. c.is_same.ensures.0 is_so)

@@ -34,7 +34,7 @@ returns-clause-fault g c named err =
     let beside = beside_of c.args.new in
     let there : AtNow (IsNamed (g.F.Folder.handle c.fill-filled.new.file).file beside) after =
     rw c.fill-filled.ensures.same
-    (fills_named handle beside c.args.owner c.args.bytes.now c.fill-filled.result handle.file before after
+    (fills_named handle beside beside c.args.owner c.args.bytes.now c.fill-filled.result handle.file before after
     (rw c.as_str.ensures at c.fill-filled.ensures.fills) named) in
     elim ((rw c.as_str-2.ensures at c.finish.ensures.fault) there err) [
       | inl bad ↦ failed_then before after last (c.fill-filled.ensures.fault.1 bad) c.finish.ensures.later

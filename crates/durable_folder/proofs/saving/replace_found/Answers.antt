@@ -1,14 +1,16 @@
-use Rattle.durable_folder.proofs.Common.{inl, refl}
+use Rattle.durable_folder.proofs.Common.{inl, inr, refl}
 use Rattle.durable_folder.proofs.saving.replace_found.Goals as goal
 
-pub returns-then-found-le1-clause-replaces : goal.returns-then-found-le1-clause-replaces
-returns-then-found-le1-clause-replaces g c = inl (record {
-  is_file = c.if-found.true;
-  one_name = c.if-found-le1.true;
-  owner = _;
-  user = refl;
-  group = refl;
-  permissions = refl;
-  device = refl;
-  replaces = c.replace.ensures.replaces;
-})
+pub returns-in-Some-clause-replaces : goal.returns-in-Some-clause-replaces
+returns-in-Some-clause-replaces g c =
+    let owns = c.in-Some.ensures in
+    inl (record {
+      is_file = owns.is_file;
+      one_name = owns.one_name;
+      owner = c.in-Some.owner;
+      user = owns.user;
+      group = owns.group;
+      permissions = owns.permissions;
+      device = owns.device;
+      replaces = c.replace.ensures.replaces;
+    })

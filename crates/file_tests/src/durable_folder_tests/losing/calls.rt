@@ -47,6 +47,15 @@ impl CrashingFolder {
         Ok(())
     }
 
+    /// Another program puts a file in the place of `f`, in such a folder.
+    fn overtake_in(&mut self, setting: Setting) -> Result<(), AllocError> {
+        if self.setting == setting {
+            self.replace("f", b"meanwhile")?;
+            self.keep_names()?;
+        }
+        Ok(())
+    }
+
     /// Makes the file that each name has now the only one that it had.
     fn keep_names(&mut self) -> Result<(), AllocError> {
         for it in self.names.iter_mut() {
@@ -214,6 +223,7 @@ impl Folder for CrashingFolder {
     fn sync(&mut self, file: &Opened) -> io::Result<()> {
         let answer = self.call();
         self.keep_one(file.file, answer.is_ok())?;
+        self.overtake_in(Setting::OvertakenInFilling)?;
         answer
     }
 
@@ -245,6 +255,7 @@ impl Folder for CrashingFolder {
             self.is_unsynced = true;
             return Err(Error::from(ErrorKind::InvalidInput));
         }
+        self.overtake_in(Setting::OvertakenInSyncing)?;
         Ok(self.keep_names()?)
     }
 
