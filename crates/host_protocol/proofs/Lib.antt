@@ -1,7 +1,9 @@
 mod Common
 pub mod CommandLemmas
+mod DigitLemmas
 pub mod EntryLemmas
 pub mod FileLemmas
+mod LaneLemmas
 mod LeadingLemmas
 pub mod LineLemmas
 pub mod NumberLemmas

@@ -1,4 +1,5 @@
 pub mod Commands
+pub mod Digits
 pub mod Files
 pub mod Lines
 pub mod Numbers

@@ -2,6 +2,7 @@
 #![tactic(auto)]
 
 mod command;
+mod digit_lanes;
 mod entry;
 mod error;
 mod file;

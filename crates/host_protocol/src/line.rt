@@ -1,4 +1,4 @@
-ghost use Rattle.std.specs.Prelude.{◌≡◌, ◌≢◌, ◌≤◌, [], false, IfOk, IfNone, IfSome, OnOk, IsErrOf};
+ghost use Rattle.std.specs.Prelude.{◌≡◌, ◌≢◌, ◌≤◌, [], false, length, IfOk, IfNone, IfSome, OnOk, IsErrOf};
 ghost use Rattle.host_protocol.specs.Files.{is_command_line};
 ghost use Rattle.host_protocol.specs.Lines.{words_of};
 ghost use Rattle.host_protocol.specs.Reading.{AddsCommand, AddsNone, HasEntries, HasNoEntries, IsWritePast, IsWriteWithin, MakesCommand, MakesNone, MakesPlain};
@@ -141,7 +141,8 @@ fn entries(
     ensures bad { IsErrOf result LineError.Bad →
         HasNoEntries page_bytes (words_of words.now) entries_left }
 {
-    let mut batch = Batch::with_room(alloc, page_bytes, near_entries(words))?;
+    let room_for = near_entries(words).max(whole_entries(words, page_bytes));
+    let mut batch = Batch::with_room(alloc, page_bytes, room_for)?;
     add_entries(words, page_bytes, entries_left, room, &mut batch)?;
     Ok(batch)
 }
@@ -174,10 +175,20 @@ fn add_entries(
     Ok(())
 }
 
+/// The fewest bytes of an entry of a whole page but for its digits: a space, a digit and an equals sign.
+const FEWEST_OTHERS: usize = 3;
+
+/// How many entries there are at most if each is of a whole page: room for this many is taken at once, too.
+fn whole_entries(words: &[u8], page_bytes: u32) -> usize
+    ensures { result ≤ length words.now }
+{
+    words.len() / (2 * page_bytes as usize + FEWEST_OTHERS)
+}
+
 /// The bytes behind a tag in which entries are counted beforehand.
 const NEAR_BYTES: usize = 64;
 
-/// How many equals signs stand near the beginning: room for this many entries is taken at once.
+/// How many equals signs stand near the beginning: room for at least this many entries is taken at once.
 fn near_entries(words: &[u8]) -> usize
     ensures { result ≤ NEAR_BYTES }
 {

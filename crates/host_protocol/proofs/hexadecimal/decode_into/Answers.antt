@@ -1,42 +1,7 @@
-use Rattle.host_protocol.proofs.Common.{◌≡◌, ◌+◌, ◌*◌, ◌%◌, ◌<◌, refl, ◌∙◌, length, slice_index, Ok, ap, arith, nat_tests}
-use Rattle.hex.proofs.Pairs.{decode_start, decode_step, decode_done}
-use Rattle.host_protocol.proofs.hexadecimal.decode_into.Invariants.HexLemmas.{pair_read, others_more, undecoded}
+use Rattle.std.proofs.Common.{refl}
+use Rattle.host_protocol.proofs.DigitLemmas.{undecoded}
 use Rattle.host_protocol.proofs.hexadecimal.decode_into.Goals as goal
 
-pub loop-i-init : goal.loop-i-init
-loop-i-init c = record {
-  digits = λ small. decode_start c.args.text.now c.args.bytes.now;
-  others = λ large. absurd (omega (arith, large));
-}
-
-pub loop-i-preserved : goal.loop-i-preserved
-loop-i-preserved c =
-    let text = c.args.text.now in
-    let i = c.loop-i.i in
-    let high = c.digit_value-high.result in
-    let low = c.digit_value-low.result in
-    let first = c.max.ensures in
-    let second = c.max-greatest.ensures in
-    let within : 2 * i + 1 < length text = omega arith in
-    record {
-      digits = λ small.
-          let few : high < 16 = grind (arith, small, first, second) in
-          let less : low < 16 = grind (arith, small, first, second) in
-          let is : high * 16 + low ≡ (high * 16 % 256 + low) % 256 = omega (arith, few, less) in
-          decode_step text c.loop-i.bytes i _ within (omega arith)
-          (pair_read (slice_index text (2 * i)) (slice_index text (2 * i + 1)) (2 * i) high low
-          c.digit_value-high.ensures c.digit_value-low.ensures few less ∙ ap Ok is)
-          (c.loop-i.invariant.digits (grind (arith, small, first, second)));
-      others = λ large. others_more text (2 * i) c.loop-i.greatest high low c.max.result c.max-greatest.result within
-          first second large
-          c.loop-i.invariant.others c.digit_value-high.ensures c.digit_value-low.ensures;
-    }
-
-pub returns-clause-digits : goal.returns-clause-digits
-returns-clause-digits c = λ small.
-    decode_done c.args.text.now c.loop-i.bytes c.loop-i.i (omega arith) (omega arith)
-    (c.loop-i.invariant.digits (grind (arith, nat_tests, small)))
-
-pub returns-clause-others : goal.returns-clause-others
-returns-clause-others c = λ large. undecoded c.args.text.now
-    _ (c.loop-i.invariant.others (grind (arith, nat_tests, large))) refl
+pub returns-then-not-decode_lanes-clause-others : goal.returns-then-not-decode_lanes-clause-others
+returns-then-not-decode_lanes-clause-others c = λ _.
+    undecoded c.args.text.now _ (c.decode_lanes.ensures.others c.if-not-decode_lanes.true) refl
