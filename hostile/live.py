@@ -8,30 +8,14 @@ from itertools import combinations
 from typing import Callable, Iterable, Iterator, List, NamedTuple, Optional, Set, Union
 
 from grammar import BadLine, Command, parse
-from image import BLANK, COMPLETE, MAX_FILE, SPARE, Config, Refused, read_header
+from image import MAX_FILE, Config
+from in_use import read_in_use
 from judge import Served, need
-from laws import Pages, Reading, read
+from laws import Pages, Reading
 from machine import PLAIN, Run, State
 from program import LONGEST, TOP
 
 BUILT = os.path.join(TOP, "crates", "flash_serve", "out", "flash_serve")
-
-
-def filled(data: bytes) -> bytes:
-    """An image file in use, with the own bytes of blank and of damaged slots as an image file has them."""
-    header = read_header(data)
-    if isinstance(header, Refused):
-        return data
-    config, size = header[0], header[0].page_bytes + SPARE
-    states, begin = data[64:64 + config.slots], 64 + config.slots
-    cells = (data[begin + i * size:begin + (i + 1) * size] if state == COMPLETE else
-             (b"\xff" if state == BLANK else b"\0") * size for i, state in enumerate(states))
-    return data[:begin] + b"".join(cells)
-
-
-def read_in_use(data: bytes, name: str) -> Reading:
-    """What a session finds in an image file that another one may have left in use."""
-    return read(filled(data), name)
 
 
 def read_line(line: bytes, page_bytes: int) -> Union[Command, BadLine, None]:

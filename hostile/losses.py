@@ -5,15 +5,18 @@
 
 A session serves drawn lines under `strace`, which writes down what it asked of the system. These calls are laid into
 the image that it began with: what was written since the last sync may be there or not, each write by itself, each
-sector of 512 bytes, and each byte. So many images are looked at under each protocol, each another one than all before
-of its session. Each must be an image file in use, with the array of a state in which a run over what was said may end,
-the command in hand done or not. Some are opened by the program, and sessions begin on some.
+sector of 512 bytes, and each byte; and until its folder is synced the name may lead to each file that it led to since
+then. So many images are looked at under each protocol, each another one than all before of its session. Each must be a
+file that a session opens, with the array of a state in which a run over what was said may end, the command in hand done
+or not. Some are opened by the program. Sessions begin on some, and on what a session had written that was killed, of
+which a loss may still take what was not synced.
 
 Then each session is laid out again with every N-th sync left out (7), from each of the first N on. That must be noticed
 where eight syncs or more are left out: of a few each may be one that nothing needed. The status is 1 where a loss left
 something else, or where that was not noticed."""
 import argparse
 import collections
+import copy
 import os
 import random
 import shutil
@@ -25,16 +28,18 @@ import commands as drawn_commands
 import images as drawn_images
 from grammar import Command
 from image import BPCC, PROTOCOLS, SCC, Image
+from in_use import read_in_use
 from judge import Wrong, need
 from kills import read as read_file
 from kills import write as write_file
 from laws import Pages, Reading, read
-from live import BUILT, Heard, Session, Talk, arrays_of, give_all, read_in_use
+from live import BUILT, Heard, Session, Talk, arrays_of, give_all
 from machine import Run
 from program import found_program
 from calls import STRACE, Event, events
 
 IMAGE, TRACE = "d.img", "trace.txt"
+SYNCS = ("sync", "kept", "named")
 SECTOR = 512
 # How often losses are drawn where syncs are left out, and of how many something must be noticed.
 TRIES, MANY = 60, 8
@@ -53,21 +58,58 @@ class Disk:
         there = slice(place, place + len(data))
         if self.synced[there] != data or self.newest[there] != data:
             self.waiting.append((place, data))
-            self.newest[there] = data
+            put(self.newest, place, data)
 
     def sync(self) -> None:
         self.synced, self.waiting = bytearray(self.newest), []
 
-    def left(self, pieces: List[Piece]) -> bytes:
-        data = bytearray(self.synced)
-        for place, piece in pieces:
-            data[place:place + len(piece)] = piece
-        return bytes(data)
-
     def losses(self, draw: Draw) -> Iterator[bytes]:
         """What a loss may leave."""
         for pieces in choices(draw, self.waiting):
-            yield self.left(pieces)
+            data = bytearray(self.synced)
+            for place, piece in pieces:
+                put(data, place, piece)
+            yield bytes(data)
+
+
+def put(data: bytearray, place: int, piece: bytes) -> None:
+    """Writes bytes at a place, behind zeros where there was no such place."""
+    data.extend(bytes(max(0, place - len(data))))
+    data[place:place + len(piece)] = piece
+
+
+class Folder:
+    """The image, the new file beside it, and the files to which the name may still lead after a loss."""
+
+    def __init__(self, data: bytes) -> None:
+        self.disk, self.beside = Disk(data), Disk(b"")
+        self.older: List[Disk] = []
+
+    def take(self, event: Event) -> bool:
+        """Whether this was a call of these files."""
+        if event.kind == "write":
+            self.disk.write(event.place, event.data)
+        elif event.kind == "sync":
+            self.disk.sync()
+        elif event.kind == "begun":
+            self.beside = Disk(b"")
+        elif event.kind == "laid":
+            self.beside.write(event.place, event.data)
+        elif event.kind == "kept":
+            self.beside.sync()
+        elif event.kind == "put":
+            self.older.append(self.disk)
+            self.disk = self.beside
+        elif event.kind == "named":
+            self.older = []
+        else:
+            return False
+        return True
+
+    def losses(self, draw: Draw) -> Iterator[bytes]:
+        """What a loss may leave at the name of the image."""
+        for it in (self.disk, *self.older):
+            yield from it.losses(draw)
 
 
 def choices(draw: Draw, waiting: List[Piece]) -> Iterator[List[Piece]]:
@@ -144,9 +186,16 @@ def length_of(it: Heard) -> int:
     return len(it.said) + 1 if it.said else 0
 
 
+class Begun(NamedTuple):
+    """What a session begins with: what the disk may hold, and the arrays of that."""
+    folder: Folder
+    arrays: Set[Pages]
+
+
 class Traced(NamedTuple):
-    """A session: the image that it began with, what was heard and said, and what it asked of the system."""
-    data: bytes
+    """A session: what it began with, and what it read there, what was heard and said, and what it asked of the
+    system."""
+    begun: Begun
     before: Reading
     talk: Talk
     trace: List[Event]
@@ -160,15 +209,20 @@ class Losses:
         self.counts: Counter[str] = collections.Counter()
         self.faults: List[str] = []
         self.lost: Optional[bytes] = None
+        self.killed: Optional[Begun] = None
 
-    def image(self, protocol: int) -> bytes:
-        """A sound image under a protocol, or what a loss has left."""
-        if self.lost is not None and self.draw.random() < 0.5:
-            return self.lost
+    def begun(self, protocol: int) -> Begun:
+        """A sound image under a protocol, what a loss has left, or what a session has that was killed."""
+        how = self.draw.random()
+        if self.killed and how < 0.4:
+            self.counts[f"{PROTOCOLS[protocol]} sessions after a kill"] += 1
+            return self.killed
+        if self.lost is not None and how < 0.7:
+            return Begun(Folder(self.lost), set())
         while True:
             data = drawn_images.sound_image(self.draw)
             if data[8] == protocol:
-                return data
+                return Begun(Folder(data), set())
 
     def lines(self, talk: Talk) -> Iterator[bytes]:
         for _ in range(self.draw.choice((3, 5, 8))):
@@ -178,7 +232,8 @@ class Losses:
 
     def session(self, protocol: int, most: int) -> int:
         """Serves an image, loses power, and answers how many images a loss left."""
-        data = self.image(protocol)
+        begun = self.begun(protocol)
+        data = bytes(begun.folder.disk.newest)
         write_file(IMAGE, data)
         before = read_in_use(data, IMAGE)
         config = before.image.config if before.image else None
@@ -190,28 +245,41 @@ class Losses:
         need(status == 0, f"status {status}")
         talk.ends_strictly(read_file(IMAGE) or b"")
         with open(TRACE, encoding="ascii") as file:
-            traced = Traced(data, before, talk, list(events(file.read().split("\n"), IMAGE)))
+            traced = Traced(begun, before, talk, list(events(file.read().split("\n"), IMAGE)))
         left: Dict[bytes, Pages] = {}
         self.lose(traced, left, most)
+        self.kill(traced)
         self.open_some(list(left), protocol)
         self.leave_out(traced, dict(left), protocol)
         return len(left)
 
     def lose(self, traced: Traced, left: Dict[bytes, Pages], most: int) -> None:
         """Goes through a session and loses power wherever something waits, until so many images are left."""
-        disk, course = Disk(traced.data), Course(traced.talk, traced.before)
+        folder, course = copy.deepcopy(traced.begun.folder), Course(traced.talk, traced.before)
+        before = traced.begun.arrays
         for event in traced.trace:
-            if event.kind == "write":
-                disk.write(event.place, event.data)
-            elif event.kind == "sync":
-                disk.sync()
-            else:
+            if not folder.take(event):
                 course.take(event)
-            for lost in disk.losses(self.draw):
+            # From here on what was there before is no more.
+            before = set() if event.kind == "said" else before
+            moment = course.now()
+            for lost in folder.losses(self.draw):
                 if lost not in left and len(left) >= most:
                     return
-                self.look(lost, traced.before.image, course.now(), left)
+                self.look(lost, traced.before.image, moment._replace(arrays=moment.arrays | before), left)
         need(not course.rest, "the trace says less than was heard")
+
+    def kill(self, traced: Traced) -> None:
+        """Ends a session at a moment, most often once another file has the name. What it wrote the next one finds."""
+        puts = [at + 1 for at, it in enumerate(traced.trace) if it.kind == "put"]
+        end = self.draw.choice(puts) if puts and self.draw.random() < 0.6 else self.draw.randrange(len(traced.trace))
+        folder, course = copy.deepcopy(traced.begun.folder), Course(traced.talk, traced.before)
+        arrays = set(traced.begun.arrays)
+        for event in traced.trace[:end]:
+            if not folder.take(event):
+                course.take(event)
+            arrays = set() if event.kind == "said" else arrays
+        self.killed = Begun(folder, course.now().arrays | arrays)
 
     def look(self, lost: bytes, image: Optional[Image], moment: Moment, left: Dict[bytes, Pages]) -> None:
         assert image
@@ -258,8 +326,8 @@ def without(trace: List[Event], apart: int, first: int) -> Iterator[Event]:
     """What was done, without the syncs whose numbers leave this rest."""
     number = 0
     for it in trace:
-        number += it.kind == "sync"
-        if it.kind != "sync" or number % apart != first:
+        number += it.kind in SYNCS
+        if it.kind not in SYNCS or number % apart != first:
             yield it
 
 
@@ -283,7 +351,7 @@ def lose_often(program: str, args: argparse.Namespace) -> int:
 
 def lose_under(work: Losses, protocol: int, losses: int) -> None:
     name, count, sessions = PROTOCOLS[protocol], 0, 0
-    work.lost = None
+    work.lost = work.killed = None
     while count < losses and sessions < losses:
         sessions += 1
         try:

@@ -4,13 +4,14 @@ said and left.
 
     serve.py [EXE] [--turns N] [--kills N] [--seed S] [--room FOLDER] [--txflash EXE]
 
-N turns, by kind in turn, and N kills under each protocol. A turn draws a sound image and lines, some of which are bad.
-Each reply must be one that `machine.py` allows, and comes before the next line is given, or all are given at once. A
-session whose input ends leaves an image file to the byte, with status 0, or 4 where a line was bad. One that is
-killed, or whose file fails, leaves an image file in use: its array is one after the replies that were said, with the
-command in hand done or not. The programs that read image files refuse it, or read the same; a session without lines
-opens and closes it, and then it is an image file. Where EXE2 is there, the program txflash is run beside sessions and
-on what they leave."""
+N turns, by kind in turn, and N kills under each protocol. A turn draws a sound image, as a file that a session leaves
+or as an image file, and lines, some of which are bad. Each reply must be one that `machine.py` allows, and comes before
+the next line is given, or all are given at once. A session begins with the live image file to the byte, and one whose
+input ends leaves the image file to the byte, with status 0, or 4 where a line was bad. One that is killed, or whose
+file fails, leaves the one or the other: its array is one after the replies that were said, with the command in hand
+done or not. The programs that read image files refuse a live one; a session without lines makes an image file of it. No
+file beside the image is touched, and only a kill leaves one. Where EXE2 is there, the program txflash is run beside
+sessions and on what they leave."""
 import argparse
 import os
 import resource
@@ -23,18 +24,19 @@ import time
 from typing import Optional
 
 import images as drawn_images
-from image import (BPCC, DAMAGED, MAX_FILE, SCC, Config, Image, Record, Slot, blank_image, complete, empty_cell,
-                   spell_image)
+from image import BPCC, DEFAULT, MAX_FILE, SCC, Image, blank_image, read_image, spell_image
+from in_use import changed_live, filled, read_in_use, spell_live
 from judge import need
 from kills import read as read_file
 from kills import write as write_file
 from laws import read
-from live import BUILT, Session, Talk, filled, give_all, read_in_use
+from live import BUILT, Session, Talk, give_all
 from program import BUILT as TXFLASH
 from program import found_program
-from turns import COMMANDS, IMAGE, Turns, config_of
+from turns import CALLS, COMMANDS, IMAGE, Turns, config_of, image_of
 
 PAGE = 4096
+MOVED = "moved.img"
 DESK_FAULT = b"desk fault\n"
 
 
@@ -43,25 +45,8 @@ def ignore_limit() -> None:
     signal.signal(signal.SIGXFSZ, signal.SIG_IGN)
 
 
-def zeros(protocol: int) -> Image:
-    """A page that is written, and damaged slots, which are holes of a file."""
-    config = Config(protocol, PAGE, 4, 3, 1, 2, 1)
-    slots = list(blank_image(config).slots)
-    slots[0] = complete(config, b"\1", Record(0, 1, 0, 1, 0, 1))
-    slots[1:10] = [Slot(DAMAGED, empty_cell(config, DAMAGED))] * 9
-    return Image(config, slots)
-
-
-def write_holes(name: str, data: bytes) -> int:
-    """Writes a file, but for the pages of it that are zeros, and answers how many these are."""
-    pages = {place: data[place:place + PAGE] for place in range(0, len(data), PAGE)}
-    with open(name, "wb") as file:
-        file.truncate(len(data))
-        for place, page in pages.items():
-            if any(page):
-                file.seek(place)
-                file.write(page)
-    return sum(not any(page) for page in pages.values())
+def blank_file() -> bytes:
+    return spell_image(blank_image(DEFAULT))
 
 
 class Kinds(Turns):
@@ -103,21 +88,25 @@ class Kinds(Turns):
         return found
 
     def killed_in_call(self, protocol: int) -> str:
-        """When it asks for some write of its file, or some sync."""
-        status, talk = self.break_in(self.draw.choice(("pwrite64", "fdatasync")), "signal=SIGKILL", protocol)
+        """When it asks for something of the system."""
+        call = self.draw.choice(("pwrite64", "fdatasync", "write", *CALLS))
+        status, talk = self.break_in(call, "signal=SIGKILL", protocol)
         if status in (0, 4):
             return ""
         need(status == -signal.SIGKILL and not talk.session.said, f"status {status}, {talk.session.said[:80]!r}")
-        return self.left_in_use(talk)
+        return f"at {call if call in ('fsync', 'rename') else 'another call'}, {self.left_in_use(talk)}"
 
     def failing(self) -> str:
-        """A call of the file fails."""
-        call, error = self.draw.choice((("pwrite64", "ENOSPC"), ("pwrite64", "EIO"), ("fdatasync", "EIO")))
+        """A call of the file, of the new one, or of their folder fails."""
+        call, error = self.draw.choice((("pwrite64", "ENOSPC"), ("pwrite64", "EIO"), ("fdatasync", "EIO"),
+                                        ("fsync", "EIO"), ("rename", "EIO"), ("rename", "EXDEV"), ("fchmod", "EPERM"),
+                                        ("lchown", "EPERM")))
         status, talk = self.break_in(call, f"error={error}")
         if status in (0, 4):
             return "never"
         need(status == 5 and talk.session.said == DESK_FAULT, f"status {status}, {talk.session.said[:80]!r}")
-        return self.left_in_use(talk)
+        need(not self.beside(), "a file is left beside the image")
+        return f"{call}, {self.left_in_use(talk)}"
 
     def killed_in_opening(self, protocol: int) -> str:
         data = self.image(protocol)
@@ -126,7 +115,7 @@ class Kinds(Turns):
         talk.session.kill()
         status = talk.session.end()
         need(status == -signal.SIGKILL, f"status {status}")
-        need(read_file(IMAGE) == data, "the file has changed")
+        need(read_in_use(read_file(IMAGE) or b"", IMAGE).image == read(data, IMAGE).image, "the image has changed")
         self.left_in_use(talk)
         return "in its opening, or before a line"
 
@@ -138,7 +127,7 @@ class Kinds(Turns):
         talk.session.kill()
         status = talk.session.end()
         if status == -signal.SIGKILL:
-            return f"in its closing, {self.left_in_use(talk).split(', ')[1]}"
+            return f"in its closing, {', '.join(self.left_in_use(talk).split(', ')[1:])}"
         need(status == (4 if talk.had_bad else 0), f"status {status}")
         talk.ends_strictly(read_file(IMAGE) or b"")
         return ""
@@ -180,7 +169,7 @@ class Kinds(Turns):
         lines = [it for _ in range(3) for it in self.lines(talk.config)]
         first = self.draw.randrange(len(lines) + 1)
         give_all(talk, lines[:first])
-        most = self.draw.choice((0, 64, self.draw.randrange(talk.config.file_bytes)))
+        most = self.draw.choice((0, 64, self.draw.randrange(2 * talk.config.file_bytes)))
         resource.prlimit(talk.session.process.pid, resource.RLIMIT_FSIZE, (most, resource.RLIM_INFINITY))
         give_all(talk, lines[first:])
         status = talk.session.end()
@@ -192,38 +181,110 @@ class Kinds(Turns):
         return self.left_in_use(talk)
 
     def full(self) -> str:
-        """The image has holes, on a disk with room for some of them or for all."""
+        """The disk has room for the new file, or not."""
         if os.getuid():
             return "not tried: this is for the superuser"
         os.makedirs("disk", exist_ok=True)
         subprocess.run(["mount", "-t", "tmpfs", "-o", "size=1m", "tmpfs", "disk"], check=True)
         try:
-            return self.with_holes(spell_image(zeros(self.draw.choice((SCC, BPCC)))), "disk/" + IMAGE)
+            return self.with_room(self.image(), "disk/" + IMAGE)
         finally:
             subprocess.run(["umount", "disk"], check=True)
 
-    def with_holes(self, data: bytes, name: str) -> str:
-        holes = write_holes(name, data)
-        left = self.draw.randrange(holes + 3)
+    def with_room(self, data: bytes, name: str) -> str:
+        write_file(name, data)
+        wanted = -(-len(spell_live(image_of(data))) // PAGE)
+        left = self.draw.randrange(2 * wanted)
         write_file("disk/filler", bytes(PAGE * (os.statvfs("disk").f_bavail - left)))
         talk = Talk(Session(self.program, [name]), config_of(data), read(data, name))
-        if left >= holes:
+        if left >= wanted:
             talk.begin()
             give_all(talk, self.lines(talk.config))
             status = talk.session.end()
             need(status == (4 if talk.had_bad else 0), f"status {status}")
             talk.ends_strictly(read_file(name) or b"")
-            return "with room for the holes"
+            return "with room"
         status = talk.session.end()
         need(status == 5 and talk.session.said == DESK_FAULT, f"status {status}, {talk.session.said[:80]!r}")
-        need(read_file(name) == data, "the file has changed")
+        need(read_file(name) == data and sorted(os.listdir("disk")) == [IMAGE, "filler"], "the folder has changed")
         os.remove("disk/filler")
         again = Session(self.program, [name])
         need(again.end() == 0 and again.said == b"serving\n", f"with room it says {again.said[:80]!r}")
         need(read_file(name) == data, "the file has changed")
-        return "without room for the holes"
+        return "without room"
 
-    def beside(self) -> str:
+    def taken(self) -> str:
+        """Names of new files are taken, some or all, by a file, a folder or a link: each stays as it is."""
+        data, last = self.image(), self.draw.choice((1, 2, 5, 98, 99))
+        names = [f"{IMAGE}.saving{number if number > 1 else ''}" for number in range(1, last + 1)]
+        for it in names:
+            self.draw.choice((os.mkdir, lambda name: os.symlink("nothing", name), lambda name: os.symlink(IMAGE, name),
+                              lambda name: write_file(name, b"mine")))(it)
+        before, stand = read_file(IMAGE), [os.lstat(it) for it in names]
+        talk = Talk(Session(self.program, [IMAGE]), config_of(data), read(data, IMAGE))
+        if last < 99:
+            talk.begin()
+            give_all(talk, self.lines(talk.config))
+        status = talk.session.end()
+        if last < 99:
+            need(status == (4 if talk.had_bad else 0), f"status {status}")
+            talk.ends_strictly(read_file(IMAGE) or b"")
+        else:
+            need(status == 5 and talk.session.said == DESK_FAULT, f"status {status}, {talk.session.said[:80]!r}")
+            need(read_file(IMAGE) == before, "the file has changed")
+        need([os.lstat(it)[:9] for it in names] == [it[:9] for it in stand], "a file with a taken name has changed")
+        for it in names:
+            (os.rmdir if os.path.isdir(it) and not os.path.islink(it) else os.remove)(it)
+        need(not os.path.lexists("nothing"), "a link was followed")
+        return "all" if last == 99 else "some"
+
+    def moved(self) -> str:
+        """The file gets another name meanwhile, or a second one, and another file may be put at its own: the session
+        goes on, touches no other file, and leaves its own where it went."""
+        talk, put = self.talk(), self.draw.choice((None, b"another file", blank_file(), "linked"))
+        lines = self.lines(talk.config)
+        half = self.draw.randrange(len(lines) + 1)
+        give_all(talk, lines[:half])
+        os.link(IMAGE, MOVED)
+        if put != "linked":
+            os.remove(IMAGE)
+        if isinstance(put, bytes):
+            write_file(IMAGE, put)
+        give_all(talk, lines[half:])
+        status = talk.session.end()
+        need(status == 5 and talk.session.said == DESK_FAULT, f"status {status}, {talk.session.said[:80]!r}")
+        need(put == "linked" or read_file(IMAGE) == put, "another file has changed")
+        need(not self.beside(), "a file is left beside the image")
+        os.replace(MOVED, IMAGE)
+        if os.path.exists(MOVED):
+            os.remove(MOVED)
+        said = "a second name" if put == "linked" else "another file" if put else "no file"
+        return f"{said}, {self.left_in_use(talk)}"
+
+    def named(self) -> str:
+        """The image is named by a link, or has a second name: the link stays, and two names are refused."""
+        data = self.image()
+        before = read_file(IMAGE)
+        os.makedirs("links", exist_ok=True)
+        if self.draw.random() < 0.5:
+            os.symlink("../" + IMAGE, "links/disk")
+            talk = Talk(Session(self.program, ["links/disk"]), config_of(data), read(data, IMAGE))
+            talk.begin()
+            give_all(talk, self.lines(talk.config))
+            status = talk.session.end()
+            need(status == (4 if talk.had_bad else 0), f"status {status}")
+            need(os.readlink("links/disk") == "../" + IMAGE and os.listdir("links") == ["disk"], "the link has changed")
+            talk.ends_strictly(read_file(IMAGE) or b"")
+            os.remove("links/disk")
+            return "by a link"
+        os.link(IMAGE, "links/second")
+        session = Session(self.program, [IMAGE])
+        need(session.end() == 5 and session.said == DESK_FAULT, f"two names: {session.said[:80]!r}")
+        need(read_file(IMAGE) == before and os.path.samefile(IMAGE, "links/second"), "the file has changed")
+        os.remove("links/second")
+        return "twice"
+
+    def second(self) -> str:
         """A second session, and a run, while the first is at work: both are refused, and change nothing."""
         talk = self.talk()
         lines = self.lines(talk.config)
@@ -236,7 +297,8 @@ class Kinds(Turns):
         if self.txflash:
             self.commands()
             ended = self.txflash.run(["run", IMAGE, COMMANDS])
-            need(ended.status in (3, 5), f"a run beside it: status {ended.status}, {ended.said[:80]!r}")
+            need(ended.status == 3 and ended.said == b"bad image: magic\n",
+                 f"a run beside it: status {ended.status}, {ended.said[:80]!r}")
         need(read_file(IMAGE) == before, "the file has changed")
         give_all(talk, lines[half:])
         status = talk.session.end()
@@ -245,20 +307,22 @@ class Kinds(Turns):
         return "refused"
 
     def refused(self) -> str:
-        """Any image: it is refused as `explain` refuses it, but for the own bytes of empty slots, or served. One that is
-        not sound is an image file then."""
-        drawn = drawn_images.draw_image(self.draw.randrange(1 << 30), self.number)
-        write_file(IMAGE, drawn.data)
-        reading = read_in_use(drawn.data, IMAGE)
+        """Any image, and any live image file: it is refused as `explain` refuses an image, but for the own bytes of
+        empty slots, and then its file stays; or it is served. One that is not sound is an image file then."""
+        data = drawn_images.draw_image(self.draw.randrange(1 << 30), self.number).data
+        image = read_image(filled(data))
+        is_live = isinstance(image, Image) and self.draw.random() < 0.5
+        data = changed_live(self.draw, image) if is_live else data
+        write_file(IMAGE, data)
+        reading = read_in_use(data, IMAGE)
         session = Session(self.program, [IMAGE])
         status = session.end()
         said = "serving\n" if reading.status == 0 else reading.said
         need(status == reading.status and session.said == said.encode(),
              f"status {status} and {session.said[:80]!r}, wanted {reading.status} and {said[:80]!r}")
         left = read_file(IMAGE) or b""
-        before = filled(drawn.data) if reading.status == 7 else drawn.data
-        need(left == before if reading.status else read(left, IMAGE).image == reading.image, "the file has changed")
-        return f"status {status}"
+        need(read_image(left) == reading.image if reading.image else left == data, "the file has changed")
+        return f"{'live ' if is_live else ''}status {status}"
 
     def longest(self) -> str:
         """Lines of the greatest length and of a byte more, and a last one of more without a line feed."""
@@ -283,7 +347,8 @@ class Kinds(Turns):
         return f"status {status}"
 
 
-KINDS = ("whole", "whole", "unheard", "limited", "failing", "beside", "refused", "refused", "words", "full")
+KINDS = ("whole", "whole", "unheard", "limited", "failing", "failing", "second", "refused", "refused", "words", "full",
+         "taken", "moved", "named")
 
 
 def talk_often(program: str, txflash: Optional[str], args: argparse.Namespace) -> int:

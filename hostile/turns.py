@@ -2,25 +2,35 @@
 import collections
 import os
 import random
-from typing import Callable, Counter, List, Optional, Tuple
+import shutil
+from typing import Callable, Counter, Dict, List, Optional, Tuple
 
 import commands as drawn_commands
 import images as drawn_images
-from image import Config, Refused, read_header
+from image import Config, Image, Refused, read_header, read_image
+from in_use import any_in_use, read_in_use, spell_live, torn_live
 from judge import Wrong, check_explain, check_run, need
 from kills import read as read_file
 from kills import write as write_file
 from laws import read
-from live import Session, Talk, give_all, read_in_use
+from live import Session, Talk, give_all
 from program import Program
 
 IMAGE, COMMANDS = "d.img", "c.txt"
+# Calls of which a session makes few, and about how many.
+CALLS = {"fsync": 4, "rename": 2, "flock": 3, "openat": 9, "fchmod": 2, "lchown": 2, "statx": 24, "close": 8}
 
 
 def config_of(data: bytes) -> Config:
     header = read_header(data)
     assert not isinstance(header, Refused)
     return header[0]
+
+
+def image_of(data: bytes) -> Image:
+    image = read_image(data)
+    assert isinstance(image, Image)
+    return image
 
 
 class Turns:
@@ -34,11 +44,18 @@ class Turns:
         self.number = 0
 
     def image(self, protocol: Optional[int] = None) -> bytes:
+        """A sound image. The file may be one that a session left of it."""
         data = drawn_images.sound_image(self.draw)
         while protocol and config_of(data).protocol != protocol:
             data = drawn_images.sound_image(self.draw)
-        write_file(IMAGE, data)
+        how, image = self.draw.random(), image_of(data)
+        write_file(IMAGE, data if how < 0.6 else torn_live(self.draw, image) if how < 0.9 else
+                   any_in_use(self.draw, image))
         return data
+
+    def beside(self) -> Dict[str, bytes]:
+        """The files that have names of new ones."""
+        return {it: read_file(it) or b"" for it in os.listdir(".") if it.startswith(IMAGE + ".saving")}
 
     def lines(self, config: Config) -> List[bytes]:
         draw = self.draw.choice((drawn_commands.in_grammar, drawn_commands.in_grammar, drawn_commands.spoiled,
@@ -50,11 +67,12 @@ class Turns:
         data = self.image(protocol)
         talk = Talk(Session(self.program, [IMAGE], setup), config_of(data), read(data, IMAGE))
         talk.begin()
+        need(read_file(IMAGE) == spell_live(talk.image), "the file of the session is not the live image file")
         return talk
 
     def break_in(self, call: str, what: str, protocol: Optional[int] = None) -> Tuple[int, Talk]:
         """Serves lines under strace, which does this at some call of the system."""
-        data, number = self.image(protocol), self.draw.randrange(1, self.draw.choice((4, 20, 60)))
+        data, number = self.image(protocol), 1 + self.draw.randrange(CALLS.get(call) or self.draw.choice((4, 20, 60)))
         words = ["-o", os.devnull, "-e", f"trace={call}", "-e", f"inject={call}:{what}:when={number}"]
         talk = Talk(Session("strace", [*words, self.program, IMAGE]), config_of(data), read(data, IMAGE))
         said = talk.session.line()
@@ -62,7 +80,7 @@ class Turns:
             give_all(talk, [it for _ in range(4) for it in self.lines(talk.config)])
         else:
             talk.session.said = said.encode() + b"\n" if said else b""
-            need(read_file(IMAGE) == data, "the file has changed")
+            need(read_in_use(read_file(IMAGE) or b"", IMAGE).image == talk.image, "the image has changed")
         status = talk.session.end()
         if status in (0, 4):
             need(status == (4 if talk.had_bad else 0), f"status {status}")
@@ -80,13 +98,17 @@ class Turns:
                 commands = self.commands()
                 ended = self.txflash.run(["run", IMAGE, COMMANDS])
                 check_run(strict, left, commands, COMMANDS, ended, read_file(IMAGE))
+        beside = self.beside()
         closed = Session(self.program, [IMAGE])
         status = closed.end()
         need(status == 0 and closed.said == b"serving\n", f"opened again: status {status}, {closed.said[:80]!r}")
         after = read(read_file(IMAGE) or b"", IMAGE)
         need(after.image == in_use.image, "opened and closed it is another image")
+        need(self.beside() == beside, "a file beside the image has changed")
+        for it in beside:
+            os.remove(it)
         what = "at rest" if talk.in_hand is None else "in a command"
-        return f"{what}, {'an image file' if strict.status == 0 else 'in use'}"
+        return f"{what}, {'an image file' if strict.status == 0 else 'in use'}{', a file beside it' if beside else ''}"
 
     def commands(self) -> bytes:
         """A file of commands for the programs that read image files."""
@@ -96,7 +118,10 @@ class Turns:
 
     def turn(self, kind: str) -> None:
         self.number += 1
+        for it in os.listdir("."):
+            (os.remove if os.path.islink(it) or not os.path.isdir(it) else shutil.rmtree)(it)
         try:
             self.counts[f"{kind} {getattr(self, kind)()}"] += 1
+            need(not self.beside(), "a file beside the image is left")
         except Wrong as why:
             self.faults.append(f"turn {self.number}, {kind}: {why}")

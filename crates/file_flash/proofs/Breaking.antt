@@ -5,10 +5,9 @@ use Rattle.std.specs.Option.{option_or}
 use Rattle.std.specs.Result.{is_err}
 use Rattle.std.proofs.lemmas.List.{length-replicate}
 use Rattle.flash_model.specs.declared.flash.Broken.{Broken}
-use Rattle.flash_model.specs.declared.flash.Seen.{Seen}
 use Rattle.flash_model.specs.declared.outcome.Outcome.TheVariants as outcome
 use Rattle.flash_model.specs.Flash.{FlashState, counted}
-use Rattle.flash_model.specs.Calls.{Carries, Reads, Operates}
+use Rattle.flash_model.specs.Calls.{Carries, Operates}
 use Rattle.flash_model.specs.declared.outcome.Outcome.{Outcome}
 use Rattle.flash_model.specs.Operations.{Operation, Load, program, erase, fire, MayLeave, image_left, left_each}
 use Rattle.flash_model.specs.Firing.{loads_in}
@@ -16,64 +15,6 @@ use Rattle.mem_flash.specs.Breaking.{due, broken_by, operated, is_idle, started,
 use Rattle.mem_flash.specs.Registers.{outcomes_from}
 use Rattle.mem_flash.specs.MemFlashState.{MemFlashState, state_of}
 use Rattle.file_flash.specs.FileFlashState.{untold, powerless, IsCut}
-
--- nothing is told
-abbrev silent : FlashState → FlashState
-silent s = record s { told = None }
-
-carries_untold : (s m : MemFlashState) (broken : Bool) → Carries (state_of s) (state_of m) broken →
-    Carries (untold s) (untold m) broken
-carries_untold s m true c = record {
-  shape = c.shape;
-  later = c.later;
-  cause = c.cause;
-  quiet = c.quiet;
-  lives = c.lives;
-  dead = λ off. ap silent (c.dead off);
-  no_more = tt;
-  extras = c.extras;
-  spends = λ on. tt;
-  starts = λ on. let it = c.starts on in (it.0, it.1, it.2, it.3, tt);
-}
-carries_untold s m false c = record {
-  shape = c.shape;
-  later = c.later;
-  cause = c.cause;
-  quiet = c.quiet;
-  lives = c.lives;
-  dead = λ off. ap silent (c.dead off);
-  no_more = tt;
-  extras = c.extras;
-  spends = c.spends;
-  starts = λ on. let it = c.starts on in (it.0, it.1, it.2, it.3, tt);
-}
-
-pub operates_untold : (s m : MemFlashState) (o : Operation) (r : Result (Unit {0}) Broken) →
-    Operates (state_of s) (state_of m) o r →
-    Operates (untold s) (untold m) o r
-operates_untold s m o r h = record {
-  carries = carries_untold s m (is_err r) h.carries;
-  powered = h.powered;
-  done = h.done;
-  torn = h.torn;
-  reads = h.reads;
-  started = h.started;
-}
-
-pub reads_untold : (s m : MemFlashState) (at : ℕ) (bytes spare_area : List ℕ) (r : Result Seen Broken) →
-    Reads (state_of s) (state_of m) at bytes spare_area r → Reads (untold s) (untold m) at bytes spare_area r
-reads_untold s m at bytes spare_area r h = record {
-  carries = carries_untold s m (is_err r) h.carries;
-  powered = h.powered;
-  done = h.done;
-  image = h.image;
-  programs = h.programs;
-  erases = h.erases;
-  reads = h.reads;
-  started = h.started;
-}
-
--- ---- power goes off in the call
 
 more_counted : (a b : ℕ) → a ≤ b → counted a ≤ counted b
 more_counted a b le = omega arith
@@ -123,8 +64,6 @@ operates_powerless s m o r h later = record {
   reads = h.reads;
   started = h.started;
 }
-
--- ---- a call in which a cut is to come before anything is done
 
 abbrev pub cut_next : MemFlashState → MemFlashState
 cut_next s = record s { armed = record s.armed { cut = Some (record { count = 1; outcome = outcome.None }) } }

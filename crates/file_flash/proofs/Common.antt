@@ -13,6 +13,5 @@ pub use Rattle.image_file.specs.Spelling.{state_byte}
 pub use Rattle.image_file.specs.States.{head_bytes}
 pub use Rattle.file_flash.specs.declared.store.StoreError.{StoreError}
 pub use Rattle.file_flash.specs.Files.{FileState, values_at, LeavesBytes, Writes, MayWrite, Syncs, WritesFile, SyncsFile, ReadsFile, BothTell}
-pub use Rattle.file_flash.specs.Layout.{state_offset, cell_offset, state_values, own_values, image_said, IsLong, IsOpened, IsImageFile}
-pub use Rattle.file_flash.specs.Following.{slots_in, IsWritten, IsDurable, FollowsSlot, IsProgrammed, AreProgrammed, Follows}
-pub use Rattle.file_flash.specs.Losing.{IsWithout, IsBetween, LosesOnly, LosesBetween}
+pub use Rattle.file_flash.specs.Following.{slots_in, IsProgrammed, AreProgrammed}
+pub use Rattle.file_flash.specs.Losing.{IsWithout, IsBetween}

@@ -104,8 +104,6 @@ syncs_exist old = (
   },
 )
 
--- ---- examples
-
 write_inside : (k : ℕ) → k < 1 → get_or three_written.values (1 + k) [] ≡ get_or (9 ∷ []) k 0
     ∷ get_or three.values (1 + k) []
 write_inside zero low = refl

@@ -12,9 +12,6 @@ use Rattle.file_flash.specs.Loads.{slots_loaded, IsLoaded, AreLoaded}
 pub in_append : (xs ys : List Slot) (k : ℕ) → slots_in (xs ++ ys) k ≡ (slots_in xs k || slots_in ys k)
 in_append xs ys k = list_any-append (λ at. at.0 == k) xs ys
 
-pub in_left : (xs ys : List Slot) (k : ℕ) → slots_in xs k ≡ true → slots_in (xs ++ ys) k ≡ true
-in_left xs ys k e = in_append xs ys k ∙ or_left (slots_in xs k) (slots_in ys k) e
-
 pub in_right : (xs ys : List Slot) (k : ℕ) → slots_in ys k ≡ true → slots_in (xs ++ ys) k ≡ true
 in_right xs ys k e = in_append xs ys k ∙ or_right (slots_in xs k) (slots_in ys k) e
 

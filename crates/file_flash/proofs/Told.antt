@@ -1,5 +1,5 @@
 -- What holds of the file that is told before a call, and of that after it.
-use Rattle.file_flash.proofs.Common.{ℕ, Option, Some, None, IfSome, FileState, BothTell}
+use Rattle.file_flash.proofs.Common.{Option, Some, None, IfSome, FileState, BothTell}
 
 pub carry : (P Q : FileState → Type 0) (R : FileState → FileState → Type 0) (old new : Option FileState) →
     BothTell R old new →
@@ -27,13 +27,3 @@ carry_both P P' Q R None None told p p' step = tt
 carry_both P P' Q R (Some a) (Some b) told p p' step = step a b told p p'
 carry_both P P' Q R None (Some b) told p p' step = absurd told
 carry_both P P' Q R (Some a) None told p p' step = absurd told
-
--- some number, of which this holds of the new file
-pub carry_some : (C : ℕ → Type 0) (P : ℕ → FileState → Type 0) (Q : FileState → Type 0)
-    (R : FileState → FileState → Type 0)
-    (old new : Option FileState) (base : ℕ) → C base → BothTell R old new → IfSome old Q →
-    ((a b : FileState) → R a b → Q a → (n : ℕ) × C n × P n b) → (n : ℕ) × C n × IfSome new (P n)
-carry_some C P Q R None None base here told q step = (base, here, tt)
-carry_some C P Q R (Some a) (Some b) base here told q step = step a b told q
-carry_some C P Q R None (Some b) base here told q step = absurd told
-carry_some C P Q R (Some a) None base here told q step = absurd told

@@ -10,7 +10,7 @@ use Rattle.flash_model.specs.Operations.{Load}
 use Rattle.mem_flash.specs.MemFlashState.{MemFlashState}
 use Rattle.file_flash.specs.Files.{FileState}
 
--- The configuration of its device, the flash in memory, the slots that wait for their state bytes, whether a call of
+-- The configuration of its device, the flash in memory, the slots that wait to become durable, whether a call of
 -- the file has failed, and what a loss of power may leave of the file, where that is told.
 pub record FileFlashState : Type 0 where
   pub config : Config

@@ -1,13 +1,8 @@
 pub mod Files
-pub mod Layout
 pub mod Following
 pub mod Losing
-pub mod Marking
 pub mod Clearing
 pub mod FileFlashState
-pub mod Flushes
-pub mod FileFlash
 pub mod Opening
 pub mod Loads
-pub mod Filling
 pub mod LossExamples

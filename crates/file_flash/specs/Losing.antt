@@ -1,13 +1,10 @@
 -- What a loss of power leaves of the slots of a file that follows a flash.
 use Rattle.std.specs.Prelude.{◌≡◌, ◌⊎◌, ℕ, ◌<◌, true, List, length}
 use Rattle.tx_types.specs.declared.config.Config.{Config}
-use Rattle.tx_types.specs.declared.config.Shape.{Shape}
 use Rattle.tx_types.specs.declared.config.Slot.{Slot}
 use Rattle.flash_model.specs.Flash.{Contents, Extras, blank, slot_at}
-use Rattle.image_file.specs.InUse.{IsInUse}
 use Rattle.image_file.specs.Spelling.{Spells}
 use Rattle.file_flash.specs.Files.{FileState, LeavesBytes}
-use Rattle.file_flash.specs.Layout.{image_said}
 use Rattle.file_flash.specs.Following.{slots_in}
 
 -- each slot is as in this image, or is one of these and blank
@@ -20,20 +17,6 @@ IsWithout image slots left =
 abbrev pub IsBetween : List Contents → List Contents → List Contents → Type 0
 IsBetween old new left =
     (k : ℕ) → k < length old → (slot_at left k ≡ slot_at old k) ⊎ (slot_at left k ≡ slot_at new k)
-
--- whatever a loss leaves is so
-abbrev pub LosesOnly : Shape → List Contents → List Slot → FileState → Type 0
-LosesOnly shape image slots file =
-    (left : List ℕ) → LeavesBytes file left → IsWithout image slots (image_said shape left)
-
-abbrev pub LosesBetween : Shape → List Contents → List Contents → FileState → Type 0
-LosesBetween shape old new file =
-    (left : List ℕ) → LeavesBytes file left → IsBetween old new (image_said shape left)
-
--- whatever a loss leaves is an image file in use, with the slots that its states say
-abbrev pub LeavesImages : Config → Shape → Extras → FileState → Type 0
-LeavesImages config shape extras file =
-    (left : List ℕ) → LeavesBytes file left → IsInUse left config (image_said shape left) extras
 
 -- whatever a loss leaves is the image file of these slots
 abbrev pub LeavesSpelling : Config → List Contents → Extras → FileState → Type 0

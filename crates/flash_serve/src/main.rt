@@ -1,4 +1,4 @@
-//! The program: it serves the lines of its input, one by one, on a device whose flash is an image file that stays open.
+//! The program: it serves the lines of its input, one by one, on a device whose flash is an image file that it holds.
 #![tactic(auto)]
 
 use file_flash::RealStore;
@@ -27,6 +27,9 @@ fn open_standard(rt: &HostRuntime) -> [io::Result<File>; 3] {
     ]
 }
 
+/// The most bytes that are read of the input at once: as many as a pipe holds.
+const INPUT_BYTES: usize = 65536;
+
 /// Serves the image that the words name.
 fn serve(rt: &HostRuntime) -> ExitCode {
     let args = match env::args(rt) {
@@ -39,7 +42,7 @@ fn serve(rt: &HostRuntime) -> ExitCode {
             return ExitCode::from(Status::NoMemory.code());
         }
     }
-    let Ok(input) = BufReader::new(rt.alloc(), rt.reader()) else {
+    let Ok(input) = BufReader::with_capacity(rt.alloc(), INPUT_BYTES, rt.reader()) else {
         return ExitCode::from(Status::NoMemory.code());
     };
     let mut desk = RealLineDesk::new(rt, input, rt.stdout());

@@ -1,6 +1,5 @@
 -- A file that was closed, and the statuses that tell that it was.
-use Rattle.std.proofs.Common.{◌≡◌, ◌⊎◌, ℕ, List, [], Bool, true, false, Option, None, Some, Result, Ok, Err, IfSome, is_err, sym, refl, subst, ◌∙◌, option_map, inl, inr, arith, OnOk, codes}
-use Rattle.flash_model.specs.declared.cached.NotDurable.{NotDurable}
+use Rattle.std.proofs.Common.{◌≡◌, ◌⊎◌, ℕ, List, [], Bool, true, false, Option, None, Some, Result, Ok, Err, IfSome, sym, ap, refl, subst, ◌∙◌, option_map, inl, inr, arith, OnOk, codes}
 use Rattle.file_flash.specs.FileFlashState.{FileFlashState}
 use Rattle.file_flash.specs.Losing.{LeavesSpelling}
 use Rattle.cut_replay.specs.declared.serving.ServeError.{ServeError}
@@ -11,12 +10,15 @@ use Rattle.live_session.specs.declared.answering.Stop.{Stop}
 use Rattle.live_session.specs.declared.answering.Stop.TheVariants as stop
 use Rattle.live_session.specs.declared.ending.TheConstants.{IN_USE}
 use Rattle.live_session.specs.declared.desk.Next.TheVariants as next
-use Rattle.live_session.specs.Endings.{LiveEnding, Closed, BadLine, Refused, InUse, Fault, Starved, EndsSo, Speaks}
+use Rattle.tx_types.specs.declared.config.Config.{Config}
+use Rattle.tx_types.specs.declared.config.Slot.{Slot}
+use Rattle.live_session.specs.Closing.{ClosesFlash}
+use Rattle.live_session.specs.Endings.{LiveEnding, Closed, BadLine, Refused, BadCount, InUse, Fault, Starved, EndsSo, Speaks, count_line}
 use Rattle.live_session.specs.Hearing.{WhereClosed}
 use Rattle.live_session.specs.Opening.{IsNotOpened}
-use Rattle.live_session.specs.LineDesk.{DeskTold, LineDeskState, ReadsLine, TakesNext, with_input, with_left}
-use Rattle.live_session.specs.Saying.{HasNoInput, IsSpelledLeft, SpellsLeft, SpellsWhereClosed}
-use Rattle.live_session.specs.Sessions.{ending_after, ending_of_stop, ending_unmounted}
+use Rattle.live_session.specs.LineDesk.{DeskTold, LineDeskState, ReadsLine, TakesNext, with_input}
+use Rattle.live_session.specs.Saying.{HasNoInput, IsSpelledLeft, SpellsLeft, SpellsWhereClosed, with_closed}
+use Rattle.live_session.specs.Sessions.{ending_after, ending_unmounted}
 
 -- ---- the end of the input
 
@@ -32,34 +34,41 @@ input_ended old new bytes h = subst HasNoInput (sym h.1) (none_left old.told byt
 
 left_spelled : (told : Option DeskTold) (f : FileFlashState) → f.failed ≡ false →
     IfSome f.file (LeavesSpelling f.config f.memory.image f.memory.extras) → IfSome told (λ c. c.input ≡ []) →
-    IfSome (option_map (with_left f) told) (λ c. c.input ≡ []) × IfSome (option_map (with_left f) told) IsSpelledLeft
+    IfSome (option_map (with_closed true f) told) (λ c. c.input ≡ [])
+    × IfSome (option_map (with_closed true f) told) IsSpelledLeft
 left_spelled None f live spelled none = (tt, tt)
-left_spelled (Some c) f live spelled none = (none, (f, refl, live, spelled))
+left_spelled (Some c) f live spelled none = (none, (f, refl, live, spelled, (c.puts, refl)))
 
-closed_well : (f : FileFlashState) (answer : Bool) → answer ≡ f.failed → answer ≡ false → f.failed ≡ false
-closed_well f answer e h = sym e ∙ h
+all_read : (old new : LineDeskState) (f : FileFlashState) (put : Bool) → put ≡ true → f.failed ≡ false →
+    IfSome f.file (LeavesSpelling f.config f.memory.image f.memory.extras) → HasNoInput old →
+    new.told ≡ option_map (with_closed put f) old.told → SpellsLeft new
+all_read old new f put is live spelled ended leaves =
+    let told : new.told ≡ option_map (with_closed true f) old.told =
+    leaves ∙ ap (λ b. option_map (with_closed b f) old.told) is in
+    subst (λ (t : Option DeskTold). IfSome t (λ c. c.input ≡ []) × IfSome t IsSpelledLeft) (sym told)
+    (left_spelled old.told f live spelled ended)
 
-pub closes : (old new : LineDeskState) (f : FileFlashState) (answered : Result Bool Stop)
-    (closed : Result (Unit {0}) NotDurable) (same : Bool) → OnOk answered (HasNoInput old) → is_err closed ≡ f.failed →
-    OnOk closed (IfSome f.file (LeavesSpelling f.config f.memory.image f.memory.extras)) →
-    new ≡ record old { told = option_map (with_left f) old.told } →
-    SpellsWhereClosed (ending_after answered closed same) new
-closes old new f (Err stop.Fault) closed same ended failed spelled left = tt
-closes old new f (Err stop.Memory) closed same ended failed spelled left = tt
-closes old new f (Ok good) (Err why) same ended failed spelled left = tt
-closes old new f (Ok good) (Ok done) false ended failed spelled left = tt
-closes old new f (Ok true) (Ok done) true ended failed spelled left =
-    subst SpellsLeft (sym left) (left_spelled old.told f (sym failed) spelled ended)
-closes old new f (Ok false) (Ok done) true ended failed spelled left =
-    subst SpellsLeft (sym left) (left_spelled old.told f (sym failed) spelled ended)
+pub closes : (flash : FileFlashState) (old new : LineDeskState) (config : Config) (answered : Result Bool Stop)
+    (closed : Result (Unit {0}) Stop) (same : Bool) → OnOk answered (HasNoInput old) →
+    ClosesFlash flash old new closed config → SpellsWhereClosed (ending_after answered closed same) new
+closes flash old new config (Err stop.Memory) closed same ended h = tt
+closes flash old new config (Err stop.Fault) (Ok done) same ended h = tt
+closes flash old new config (Err stop.Fault) (Err stop.Fault) same ended h = tt
+closes flash old new config (Err stop.Fault) (Err stop.Memory) same ended h = tt
+closes flash old new config (Ok good) (Err stop.Fault) same ended h = tt
+closes flash old new config (Ok good) (Err stop.Memory) same ended h = tt
+closes flash old new config (Ok good) (Ok done) false ended h = tt
+closes flash old new config (Ok true) (Ok done) true ended h =
+    all_read old new h.left h.put h.done.0 h.done.1 h.spelled ended h.leaves
+closes flash old new config (Ok false) (Ok done) true ended h =
+    all_read old new h.left h.put h.done.0 h.done.1 h.spelled ended h.leaves
 
-pub stopped_open : (why : Stop) (new : LineDeskState) → SpellsWhereClosed (ending_of_stop why) new
-stopped_open stop.Fault new = tt
-stopped_open stop.Memory new = tt
-
-pub unmounted_open : (why : ServeError) (new : LineDeskState) → SpellsWhereClosed (ending_unmounted why) new
-unmounted_open (serving.Unsound law slot) new = tt
-unmounted_open serving.Memory new = tt
+pub unmounted_open : (why : ServeError) (closed : Result (Unit {0}) Stop) (new : LineDeskState) →
+    SpellsWhereClosed (ending_unmounted why closed) new
+unmounted_open (serving.Unsound law slot) (Ok done) new = tt
+unmounted_open (serving.Unsound law slot) (Err stop.Fault) new = tt
+unmounted_open (serving.Unsound law slot) (Err stop.Memory) new = tt
+unmounted_open serving.Memory closed new = tt
 
 -- ---- the statuses
 
@@ -101,6 +110,11 @@ in_use_not : (old new : LineDeskState) (answer : ℕ) → Speaks old new (line (
 in_use_not old new answer e h = speaks_not old new (line (codes "in use")) IN_USE answer
     (λ z. absurd (omega (arith, z))) (λ z. absurd (omega (arith, z))) e h
 
+count_not : (old new : LineDeskState) (at : Slot) (answer : ℕ) → Speaks old new (count_line at.0) 3 answer →
+    IsClosing answer → ⊥
+count_not old new at answer e h = speaks_not old new (count_line at.0) 3 answer (λ z. absurd (omega (arith, z)))
+    (λ z. absurd (omega (arith, z))) e h
+
 -- a status that tells of a file that was closed comes of an ending that does
 pub closing_ending : (it : LiveEnding) (old new : LineDeskState) (answer : ℕ) → EndsSo it old new answer →
     SpellsWhereClosed it old → IsClosing answer → SpellsLeft new
@@ -109,6 +123,8 @@ closing_ending BadLine old new answer e s h = subst SpellsLeft (sym e.1) s
 closing_ending (Refused why) old new answer (inl e) s h =
     absurd (speaks_not old new (image_line why) (image_status why) answer (image_not_zero why) (image_not_four why) e h)
 closing_ending (Refused why) old new answer (inr e) s h = absurd (six_not answer e.0 h)
+closing_ending (BadCount at) old new answer (inl e) s h = absurd (count_not old new at answer e h)
+closing_ending (BadCount at) old new answer (inr e) s h = absurd (six_not answer e.0 h)
 closing_ending InUse old new answer e s h = absurd (in_use_not old new answer e h)
 closing_ending Fault old new answer e s h = absurd (five_not answer e.0 h)
 closing_ending Starved old new answer e s h = absurd (six_not answer e.0 h)
@@ -122,6 +138,8 @@ good_ending P (Refused why) old new answer (inl e) s h =
     absurd (speaks_not old new (image_line why) (image_status why) answer (image_not_zero why) (image_not_four why) e
     (inl h))
 good_ending P (Refused why) old new answer (inr e) s h = absurd (six_not answer e.0 (inl h))
+good_ending P (BadCount at) old new answer (inl e) s h = absurd (count_not old new at answer e (inl h))
+good_ending P (BadCount at) old new answer (inr e) s h = absurd (six_not answer e.0 (inl h))
 good_ending P InUse old new answer e s h = absurd (in_use_not old new answer e (inl h))
 good_ending P Fault old new answer e s h = absurd (five_not answer e.0 (inl h))
 good_ending P Starved old new answer e s h = absurd (six_not answer e.0 (inl h))
@@ -134,6 +152,8 @@ bad_ending P (Refused why) old new answer (inl e) s h =
     absurd (speaks_not old new (image_line why) (image_status why) answer (image_not_zero why) (image_not_four why) e
     (inr h))
 bad_ending P (Refused why) old new answer (inr e) s h = absurd (six_not answer e.0 (inr h))
+bad_ending P (BadCount at) old new answer (inl e) s h = absurd (count_not old new at answer e (inr h))
+bad_ending P (BadCount at) old new answer (inr e) s h = absurd (six_not answer e.0 (inr h))
 bad_ending P InUse old new answer e s h = absurd (in_use_not old new answer e (inr h))
 bad_ending P Fault old new answer e s h = absurd (five_not answer e.0 (inr h))
 bad_ending P Starved old new answer e s h = absurd (six_not answer e.0 (inr h))
@@ -144,6 +164,7 @@ pub not_opened_open : (name : List ℕ) (it : LiveEnding) (old new : LineDeskSta
 not_opened_open name Closed old new h = absurd h
 not_opened_open name BadLine old new h = absurd h
 not_opened_open name (Refused why) old new h = tt
+not_opened_open name (BadCount at) old new h = tt
 not_opened_open name InUse old new h = tt
 not_opened_open name Fault old new h = tt
 not_opened_open name Starved old new h = tt

@@ -24,17 +24,19 @@ use Rattle.desk_io.specs.Desk.{Rose, counted}
 use Rattle.program_base.specs.Refusals as refusal
 use Rattle.program_base.specs.Refusals.{ImageEnding, image_line, image_status, line}
 use Rattle.file_flash.specs.FileFlashState.{FileFlashState}
-use Rattle.file_flash.specs.Flushes.{Flushes}
+use Rattle.live_flash.specs.Flushes.{Flushes}
 use Rattle.live_session.specs.declared.answering.Stop.{Stop}
 use Rattle.live_session.specs.declared.answering.Stop.TheVariants as stop
 use Rattle.live_session.specs.declared.desk.CallError.{CallError}
 use Rattle.live_session.specs.declared.desk.CallError.TheVariants as call
 use Rattle.live_session.specs.declared.ending.TheConstants.{IN_USE}
-use Rattle.live_session.specs.Endings.{LiveEnding, Closed, BadLine, Refused, InUse, Fault, Starved, Attempts, EndsSo, Speaks}
+use Rattle.live_session.specs.Closing.{ClosesFlash}
+use Rattle.live_session.specs.Endings.{LiveEnding, Closed, BadLine, Refused, BadCount, InUse, Fault, Starved, Attempts, EndsSo, Speaks, count_line}
 use Rattle.live_session.specs.Faults.{FailsFile, FailsFlash, FaultsClosing, FaultsCommand, FaultsLeft, FaultsLines, FaultsSession, IsFaulted, IsUnserved, IsUnstarted, WhereFailed, WhereFault}
 use Rattle.live_session.specs.Hearing.{FileSession, Hears, StopsAndCloses, WhereStopped}
-use Rattle.live_session.specs.LineDesk.{BothTell, DeskTold, LineDeskState, ReadsLine, Saying, Says, after, claimed, with_claim, with_left, with_saying}
-use Rattle.live_session.specs.Opening.{IsNotOpened, OpensFile}
+use Rattle.live_session.specs.LineDesk.{BothTell, DeskTold, LineDeskState, ReadsLine, Saying, Says, with_claim, with_put, with_saying}
+use Rattle.live_session.specs.Opening.{IsNotOpened, OpensFile, begun}
+use Rattle.live_session.specs.Saying.{IsClosed, IsLeft, live_bytes, with_closed}
 use Rattle.live_session.specs.Sessions.{ending_after, ending_unmounted, stop_of_call, stop_of_serving}
 use Rattle.live_session.specs.Talks.{serving, shown}
 
@@ -143,74 +145,62 @@ piece_fault its kept good s t u n before mid now first heard why is up begun h s
 
 -- ---- closing
 
-leaves_it : (left : FileFlashState) (told : Told) →
-    IfSome (option_map (with_left left) told) (λ b. b.left ≡ Some left)
-leaves_it left None = tt
-leaves_it left (Some a) = refl
+leaves_it : (left : FileFlashState) (put : Bool) (told : Told) →
+    IfSome (option_map (with_closed put left) told) (λ b. b.left ≡ Some left)
+leaves_it left put None = tt
+leaves_it left put (Some a) = refl
 
-leaves_alone : (left : FileFlashState) (told : Told) →
-    BothTell (λ a b. b ≡ with_left left a) told (option_map (with_left left) told)
-leaves_alone left None = tt
-leaves_alone left (Some a) = refl
+leaves_alone : (left : FileFlashState) (put : Bool) (told : Told) →
+    BothTell (λ a b. b ≡ with_closed put left a) told (option_map (with_closed put left) told)
+leaves_alone left put None = tt
+leaves_alone left put (Some a) = refl
 
-closing : (its : Config) (s t : FileSession) (before mid now : LineDeskState) (left : FileFlashState) →
-    FaultsLines its before mid s t → left.memory ≡ (flash_in t).memory →
-    ((flash_in t).failed ≡ true → left.failed ≡ true) → now ≡ after (with_left left) mid →
-    FaultsClosing its before now s
-closing its s t before mid now left (inl e) stays frozen leaves =
-    inl (ap (λ (d : LineDeskState). d.faults) leaves ∙ e)
-closing its s t before mid now left (inr (inl failed)) stays frozen leaves =
-    let told = ap (λ (d : LineDeskState). d.told) leaves in
-    inr (
-      left,
-      subst (λ x. IfSome x (λ b. b.left ≡ Some left)) (sym told) (leaves_it left mid.told),
-      inl (frozen failed),
-    )
-closing its s t before mid now left (inr (inr (inl w))) stays frozen leaves =
-    let told = ap (λ (d : LineDeskState). d.told) leaves in
-    let same = ap (λ (d : LineDeskState). option_map (with_left left) d.told) w.1 in
-    inr (
-      left,
-      subst (λ x. IfSome x (λ b. b.left ≡ Some left)) (sym told) (leaves_it left mid.told),
-      inr (inr (inl (
+module _ (flash : FileFlashState) (its config : Config) (s t : FileSession) (before mid now : LineDeskState)
+    (closed : Result (Unit {0}) Stop) (at : flash ≡ flash_in t) (c : ClosesFlash flash mid now closed config) where
+  -- why a flash is left so
+  left_so : FaultsLeft its before.told now.told s c.left → FaultsClosing its before now s
+  left_so why = inr (
+    c.left,
+    subst (λ (x : Told). IfSome x (λ b. b.left ≡ Some c.left)) (sym c.leaves) (leaves_it c.left c.put mid.told),
+    why,
+  )
+
+  closing : FaultsLines its before mid s t → FaultsClosing its before now s
+  closing (inl e) = inl (c.faults ∙ e)
+  closing (inr (inl failed)) = left_so (inl (c.frozen (ap (λ (f : FileFlashState). f.failed) at ∙ failed)))
+  closing (inr (inr (inl w))) =
+      let same = ap (λ (d : LineDeskState). option_map (with_closed c.put c.left) d.told) w.1 in
+      left_so (inr (inr (inl (
         w.0,
-        subst (BothTell (λ a b. b ≡ with_left left a) before.told) (sym (told ∙ same)) (leaves_alone left before.told),
-        stays ∙ ap (λ (x : FileSession). (flash_in {F = FileFlashState} x).memory) w.2,
-      ))),
-    )
-closing its s t before mid now left (inr (inr (inr w))) stays frozen leaves =
-    let told = ap (λ (d : LineDeskState). d.told) leaves in
-    inr (
-      left,
-      subst (λ x. IfSome x (λ b. b.left ≡ Some left)) (sym told) (leaves_it left mid.told),
-      inr (inr (inr w)),
-    )
+        (
+          c.put,
+          subst (BothTell (λ a b. b ≡ with_closed c.put c.left a) before.told) (sym (c.leaves ∙ same))
+              (leaves_alone c.left c.put before.told),
+        ),
+        c.stays ∙ ap (λ (f : FileFlashState). f.memory) at
+            ∙ ap (λ (x : FileSession). (flash_in {F = FileFlashState} x).memory) w.2,
+      ))))
+  closing (inr (inr (inr w))) = left_so (inr (inr (inr w)))
 
-pub closing_fault : (its : Config) (s t : FileSession) (before mid now : LineDeskState) (left : FileFlashState)
-    (answered : Result Bool Stop) (closed : Result (Unit {0}) NotDurable) (same : Bool) (Q : Type 0) →
-    IfErr answered (WhereFault (FaultsLines its before mid s t)) → left.memory ≡ (flash_in t).memory →
-    is_err closed ≡ left.failed → (left.config ≡ its → same ≡ true) →
-    ((flash_in t).failed ≡ true → left.failed ≡ true) → now ≡ after (with_left left) mid →
+pub closing_fault : (flash : FileFlashState) (its config : Config) (s t : FileSession) (before mid now : LineDeskState)
+    (answered : Result Bool Stop) (closed : Result (Unit {0}) Stop) (same : Bool) (Q : Type 0) →
+    IfErr answered (WhereFault (FaultsLines its before mid s t)) → flash ≡ flash_in t →
+    (config ≡ its → same ≡ true) → ClosesFlash flash mid now closed config →
     WhereFailed (FaultsClosing its before now s) Q (ending_after answered closed same)
-closing_fault its s t before mid now left (Err stop.Fault) closed same Q h stays answer is frozen leaves =
-    closing its s t before mid now left h stays frozen leaves
-closing_fault its s t before mid now left (Err stop.Memory) closed same Q h stays answer is frozen leaves = tt
-closing_fault its s t before mid now left (Ok good) (Err why) same Q h stays answer is frozen leaves =
-    let told = ap (λ (d : LineDeskState). d.told) leaves in
-    inr (
-      left,
-      subst (λ x. IfSome x (λ b. b.left ≡ Some left)) (sym told) (leaves_it left mid.told),
-      inl (sym answer),
-    )
-closing_fault its s t before mid now left (Ok good) (Ok done) false Q h stays answer is frozen leaves =
-    let told = ap (λ (d : LineDeskState). d.told) leaves in
-    inr (
-      left,
-      subst (λ x. IfSome x (λ b. b.left ≡ Some left)) (sym told) (leaves_it left mid.told),
-      inr (inl (λ config. false≢true (is config))),
-    )
-closing_fault its s t before mid now left (Ok true) (Ok done) true Q h stays answer is frozen leaves = tt
-closing_fault its s t before mid now left (Ok false) (Ok done) true Q h stays answer is frozen leaves = tt
+closing_fault flash its config s t before mid now (Err stop.Memory) closed same Q h at is c = tt
+closing_fault flash its config s t before mid now (Err stop.Fault) (Ok done) same Q h at is c =
+    closing flash its config s t before mid now (Ok done) at c h
+closing_fault flash its config s t before mid now (Err stop.Fault) (Err stop.Fault) same Q h at is c =
+    closing flash its config s t before mid now (Err stop.Fault) at c h
+closing_fault flash its config s t before mid now (Err stop.Fault) (Err stop.Memory) same Q h at is c = tt
+closing_fault flash its config s t before mid now (Ok good) (Err stop.Fault) same Q h at is c =
+    left_so flash its config s t before mid now (Err stop.Fault) at c (inl (c.fails refl))
+closing_fault flash its config s t before mid now (Ok good) (Err stop.Memory) same Q h at is c = tt
+closing_fault flash its config s t before mid now (Ok good) (Ok done) false Q h at is c =
+    left_so flash its config s t before mid now (Ok done) at c
+    (inr (inl (λ other. false≢true (is (sym c.same ∙ other)))))
+closing_fault flash its config s t before mid now (Ok true) (Ok done) true Q h at is c = tt
+closing_fault flash its config s t before mid now (Ok false) (Ok done) true Q h at is c = tt
 
 -- ---- the session of a flash
 
@@ -233,7 +223,7 @@ rose_at flash left s (session.Unmounted met) e opens down stays live =
     (subst (λ x. first.MountsFirst shown (MountsIn shown flash.config) flash x) (sym e) opens.first.mounts) stays live
 
 told_fault : (old new : Told) (flash left : FileFlashState) (s : ServerState FileFlashState) →
-    OpensServer shown flash.config flash s → BothTell (StopsAndCloses flash.config s.session) old new →
+    OpensServer shown flash.config flash s → BothTell (StopsAndCloses IsClosed flash.config s.session) old new →
     IfSome new (λ b. b.left ≡ Some left) → FaultsLeft flash.config old new s.session left →
     BothTell (FailsFlash flash) old new
 told_fault None None flash left s opens h leaves w = tt
@@ -244,14 +234,14 @@ told_fault (Some a) (Some b) flash left s opens h leaves (inr (inl other)) = (le
 told_fault (Some a) (Some b) flash left s opens h leaves (inr (inr (inl w))) = (
   left,
   leaves,
-  inr (inr (ap (λ (d : DeskTold). d.input) w.1, rose_at flash left s s.session refl opens w.0 w.2)),
+  inr (inr (ap (λ (d : DeskTold). d.input) w.1.1, rose_at flash left s s.session refl opens w.0 w.2)),
 )
 told_fault (Some a) (Some b) flash left s opens h leaves (inr (inr (inr w))) =
     absurd (w.1 (shown flash) (opens.served (opens.mounted w.0)))
 
 stopped_fault : (before now : LineDeskState) (flash : FileFlashState) (s : ServerState FileFlashState) →
     OpensServer shown flash.config flash s →
-    BothTell (StopsAndCloses flash.config s.session) before.told now.told →
+    BothTell (StopsAndCloses IsClosed flash.config s.session) before.told now.told →
     FaultsClosing flash.config before now s.session → FaultsSession flash before now
 stopped_fault before now flash s opens h (inl e) = inl e
 stopped_fault before now flash s opens h (inr w) =
@@ -259,65 +249,73 @@ stopped_fault before now flash s opens h (inr w) =
 
 with_config : (before now : LineDeskState) (flash : FileFlashState) (s : ServerState FileFlashState) (it : LiveEnding) →
     OpensServer shown flash.config flash s →
-    WhereStopped (λ breach. ⊥) (BothTell (StopsAndCloses flash.config s.session) before.told now.told) it →
+    WhereStopped (λ breach. ⊥) (BothTell (StopsAndCloses IsClosed flash.config s.session) before.told now.told)
+    (BothTell (StopsAndCloses IsLeft flash.config s.session) before.told now.told) it →
     WhereFailed (FaultsClosing flash.config before now s.session) (now.faults ≡ before.faults) it →
     WhereFailed (FaultsSession flash before now) (now.faults ≡ before.faults) it
 with_config before now flash s Closed opens stops h = tt
 with_config before now flash s BadLine opens stops h = tt
 with_config before now flash s (Refused why) opens stops h = h
+with_config before now flash s (BadCount at) opens stops h = h
 with_config before now flash s InUse opens stops h = h
 with_config before now flash s Fault opens stops h = stopped_fault before now flash s opens stops h
 with_config before now flash s Starved opens stops h = tt
 
 pub session_fault : (before now : LineDeskState) (flash : FileFlashState) (its : Config)
     (s : ServerState FileFlashState) (it : LiveEnding) → its ≡ flash.config → OpensServer shown its flash s →
-    WhereStopped (λ breach. ⊥) (BothTell (StopsAndCloses s.config s.session) before.told now.told) it →
+    WhereStopped (λ breach. ⊥) (BothTell (StopsAndCloses IsClosed s.config s.session) before.told now.told)
+    (BothTell (StopsAndCloses IsLeft s.config s.session) before.told now.told) it →
     WhereFailed (FaultsClosing s.config before now s.session) (now.faults ≡ before.faults) it →
     WhereFailed (FaultsSession flash before now) (now.faults ≡ before.faults) it
 session_fault before now flash its s it same opens stops h =
     let opened : OpensServer shown flash.config flash s = subst (λ x. OpensServer shown x flash s) same opens in
     with_config before now flash s it opened
     (subst
-    (λ x. WhereStopped (λ breach. ⊥) (BothTell (StopsAndCloses x s.session) before.told now.told) it)
+    (λ x. WhereStopped (λ breach. ⊥) (BothTell (StopsAndCloses IsClosed x s.session) before.told now.told)
+    (BothTell (StopsAndCloses IsLeft x s.session) before.told now.told) it)
     opened.config stops)
     (subst
     (λ x. WhereFailed (FaultsClosing x before now s.session) (now.faults ≡ before.faults) it)
     opened.config h)
 
 -- a flash that could not be served was closed
-pub unopened_fault : (P : Type 0) (why : ServeError) (left : FileFlashState) (old new : LineDeskState) →
-    new ≡ after (with_left left) old → WhereFailed P (new.faults ≡ old.faults) (ending_unmounted why)
-unopened_fault P (ended.Unsound law slot) left old new leaves = ap (λ (d : LineDeskState). d.faults) leaves
-unopened_fault P ended.Memory left old new leaves = tt
+pub unopened_fault : (P : Type 0) (why : ServeError) (closed : Result (Unit {0}) Stop) (old new : LineDeskState) →
+    new.faults ≡ old.faults → WhereFailed P (new.faults ≡ old.faults) (ending_unmounted why closed)
+unopened_fault P (ended.Unsound law slot) (Ok done) old new same = same
+unopened_fault P (ended.Unsound law slot) (Err stop.Fault) old new same = same
+unopened_fault P (ended.Unsound law slot) (Err stop.Memory) old new same = tt
+unopened_fault P ended.Memory closed old new same = tt
 
 -- ---- the file
 
 fails_told : (path : List ℕ) (flash : FileFlashState) (old new : Told) → IfSome old (OpensFile path flash) →
-    BothTell (FailsFlash flash) (option_map (with_claim path) old) new → BothTell (FailsFile (Some path)) old new
+    BothTell (FailsFlash flash) (option_map (with_put (live_bytes flash)) (option_map (with_claim path) old)) new →
+    BothTell (FailsFile (Some path)) old new
 fails_told path flash None None opens h = tt
 fails_told path flash None (Some b) opens h = absurd h
 fails_told path flash (Some a) None opens h = absurd h
 fails_told path flash (Some a) (Some b) opens h = (path, refl, inr (flash, opens, h))
 
 held_fault : (path : List ℕ) (flash : FileFlashState) (old new : LineDeskState) →
-    IfSome old.told (OpensFile path flash) → FaultsSession flash (claimed path old) new → IsFaulted (Some path) old new
+    IfSome old.told (OpensFile path flash) → FaultsSession flash (begun path flash old) new → IsFaulted (Some path) old new
 held_fault path flash old new opens (inl e) = let same : new.faults ≡ counted old.faults = e in inl (omega arith)
 held_fault path flash old new opens (inr h) = inr (fails_told path flash old.told new.told opens h)
 
 held_failed : (path : List ℕ) (flash : FileFlashState) (it : LiveEnding) (old new : LineDeskState) →
     IfSome old.told (OpensFile path flash) →
-    WhereFailed (FaultsSession flash (claimed path old) new) (new.faults ≡ (claimed path old).faults) it →
+    WhereFailed (FaultsSession flash (begun path flash old) new) (new.faults ≡ (begun path flash old).faults) it →
     WhereFailed (IsFaulted (Some path) old new) (new.faults ≡ old.faults) it
 held_failed path flash Closed old new opens h = tt
 held_failed path flash BadLine old new opens h = tt
 held_failed path flash (Refused why) old new opens h = h
+held_failed path flash (BadCount at) old new opens h = h
 held_failed path flash InUse old new opens h = h
 held_failed path flash Fault old new opens h = held_fault path flash old new opens h
 held_failed path flash Starved old new opens h = tt
 
 -- a session was held on the flash of the file
 pub file_fault : (old mid new : LineDeskState) (name : Option (List ℕ)) (path : List ℕ) (flash : FileFlashState)
-    (it : LiveEnding) → name ≡ Some path → mid ≡ claimed path old → IfSome old.told (OpensFile path flash) →
+    (it : LiveEnding) → name ≡ Some path → mid ≡ begun path flash old → IfSome old.told (OpensFile path flash) →
     WhereFailed (FaultsSession flash mid new) (new.faults ≡ mid.faults) it →
     WhereFailed (IsFaulted name old new) (new.faults ≡ old.faults) it
 file_fault old mid new name path flash it named same opens h =
@@ -330,6 +328,12 @@ store_failed : (path : List ℕ) (told : Told) →
 store_failed path None = tt
 store_failed path (Some a) = (path, refl, inl (refl, refl))
 
+-- also where a live file was to be put there
+put_failed : (path bytes : List ℕ) (told : Told) →
+    BothTell (FailsFile (Some path)) told (option_map (with_put bytes) (option_map (with_claim path) told))
+put_failed path bytes None = tt
+put_failed path bytes (Some a) = (path, refl, inl (refl, refl))
+
 not_opened_at : (path : List ℕ) (it : LiveEnding) (old new : LineDeskState) → IsNotOpened path it old new →
     WhereFailed (IsFaulted (Some path) old new) (new.faults ≡ old.faults) it
 not_opened_at path Closed old new h = tt
@@ -339,12 +343,16 @@ not_opened_at path (Refused (refusal.Missing name)) old new h = ap (λ (d : Line
 not_opened_at path (Refused (refusal.TooLong name)) old new h = ap (λ (d : LineDeskState). d.faults) h.1
 not_opened_at path (Refused (refusal.BadImage rule)) old new h = ap (λ (d : LineDeskState). d.faults) h.0
 not_opened_at path (Refused (refusal.Unsound breach)) old new h = absurd h
+not_opened_at path (BadCount at) old new h = ap (λ (d : LineDeskState). d.faults) h.0
 not_opened_at path InUse old new h = ap (λ (d : LineDeskState). d.faults) h.0
 not_opened_at path Fault old new (inl h) =
     let same : new.faults ≡ counted old.faults = ap (λ (d : LineDeskState). d.faults) h in inl (omega arith)
-not_opened_at path Fault old new (inr h) =
+not_opened_at path Fault old new (inr (inl h)) =
     inr (subst (BothTell (FailsFile (Some path)) old.told) (sym (ap (λ (d : LineDeskState). d.told) h))
     (store_failed path old.told))
+not_opened_at path Fault old new (inr (inr h)) =
+    inr (subst (BothTell (FailsFile (Some path)) old.told) (sym (ap (λ (d : LineDeskState). d.told) h.1))
+    (put_failed path (live_bytes h.0) old.told))
 not_opened_at path Starved old new h = tt
 
 -- the file was not opened
@@ -431,6 +439,9 @@ ends_fault name BadLine old mid new answer e h five = absurd (omega (arith, e.0,
 ends_fault name (Refused why) old mid new answer (inl e) h five =
     speaks_fault name old mid new (image_line why) (image_status why) answer (image_not_five why) h e five
 ends_fault name (Refused why) old mid new answer (inr e) h five = absurd (omega (arith, e.0, five))
+ends_fault name (BadCount at) old mid new answer (inl e) h five =
+    speaks_fault name old mid new (count_line at.0) 3 answer (λ z. absurd (omega (arith, z))) h e five
+ends_fault name (BadCount at) old mid new answer (inr e) h five = absurd (omega (arith, e.0, five))
 ends_fault name InUse old mid new answer e h five = in_use_fault name old mid new answer h e five
 ends_fault name Fault old mid new answer e h five = faulted_tried name old mid new (line (codes "desk fault")) h e.1
 ends_fault name Starved old mid new answer e h five = absurd (omega (arith, e.0, five))

@@ -2,7 +2,9 @@ pub mod Durably
 pub mod Flushed
 pub mod Closing
 pub mod Opened
+pub mod Putting
 pub mod OneLine
+pub mod RealDesk
 pub mod Reading
 pub mod Talking
 pub mod Stopping

@@ -1,5 +1,5 @@
 -- What was said where a session was stopped.
-use Rattle.std.proofs.Common.{◌≡◌, ℕ, ◌+◌, Bool, true, false, ◌&&◌, List, [], ◌∷◌, Option, None, Some, Result, Ok, Err, IfSome, IfOk, OnErr, OnOk, MatchBool, is_err, refl, sym, subst, ap, ◌∙◌, option_map, inl, inr, ◌⊎◌, ◌++◌, slice_get}
+use Rattle.std.proofs.Common.{◌≡◌, ℕ, ◌+◌, Bool, true, false, ◌&&◌, List, [], ◌∷◌, Option, None, Some, Result, Ok, Err, IfSome, IfOk, OnErr, OnOk, MatchBool, refl, sym, subst, ap, ◌∙◌, option_map, inl, inr, ◌⊎◌, ◌++◌, slice_get}
 use Rattle.std.proofs.lemmas.Bool.{false≢true}
 use denote.Enum.Bare.{sameb}
 use Rattle.tx_types.specs.Config.{shape_of}
@@ -33,7 +33,6 @@ use Rattle.cut_replay.specs.declared.serving.ServeError.TheVariants as ended
 use Rattle.cut_replay.proofs.Flushes.{flushed_ends}
 use Rattle.program_base.specs.Refusals as refusal
 use Rattle.file_flash.specs.FileFlashState.{FileFlashState, untold}
-use Rattle.file_flash.specs.Losing.{LeavesSpelling}
 use Rattle.live_session.specs.declared.answering.Stop.{Stop}
 use Rattle.live_session.specs.declared.answering.Stop.TheVariants as stop
 use Rattle.live_session.specs.declared.desk.CallError.{CallError}
@@ -41,10 +40,11 @@ use Rattle.live_session.specs.declared.desk.CallError.TheVariants as call
 use Rattle.live_session.specs.contracts.desk.Next.{the_type}
 use Rattle.live_session.specs.declared.desk.Next.{Next}
 use Rattle.live_session.specs.declared.desk.Next.TheVariants as next
-use Rattle.live_session.specs.Endings.{LiveEnding, Closed, BadLine, Refused, InUse, Fault, Starved}
-use Rattle.live_session.specs.LineDesk.{BothTell, DeskTold, LineDeskState, ReadsLine, Saying, Says, after, claimed, with_input, with_left, with_saying}
-use Rattle.live_session.specs.Opening.{OpensFile}
-use Rattle.live_session.specs.Saying.{IsClosed}
+use Rattle.live_session.specs.Endings.{LiveEnding, Closed, BadLine, Refused, BadCount, InUse, Fault, Starved}
+use Rattle.live_session.specs.LineDesk.{BothTell, DeskTold, LineDeskState, ReadsLine, Saying, Says, after, with_input, with_saying}
+use Rattle.live_session.specs.Closing.{ClosesFlash}
+use Rattle.live_session.specs.Opening.{OpensFile, begun}
+use Rattle.live_session.specs.Saying.{IsClosed, IsLeft, put_if, with_closed}
 use Rattle.live_session.specs.Sessions.{ending_after, ending_unmounted}
 use Rattle.live_session.specs.Talks.{IsHeld, IsSession, IsStoppedOrNone, IsUnbegun, IsUnsound, Rests, begins, plain, bad_line, serving, shorter, shown}
 use Rattle.live_session.specs.Hearing.{AnswersCommand, AnswersFirst, AnswersLine, FileSession, Hears, HearsAll, HearsPartOrNone, IsCutOff, RestsBy, StopsAndCloses, StopsCommand, StopsLine, StopsPiece, StopsSaying, WhereClosed, WhereStopped}
@@ -180,7 +180,7 @@ stops_bad its it line n told told' old new none stays (inr cut) =
 
 none_said : (its : Config) (s : FileSession) (told : Told) → BothTell (HearsPartOrNone its s s) told told
 none_said its s None = tt
-none_said its s (Some a) = inl (refl, refl, refl)
+none_said its s (Some a) = inl (refl, refl, refl, refl)
 
 pub part_none : (its : Config) (s : FileSession) (old new : Told) → new ≡ old →
     BothTell (HearsPartOrNone its s s) old new
@@ -194,10 +194,11 @@ part_begun its s (Some a) n up = inr (record {
   good = true;
   end = s;
   reached = with_saying serving a;
-  hears = record { cs = []; rs = []; ps = []; talk = begins; claims = refl; runs = λ init h. h };
+  hears = record { cs = []; rs = []; ps = []; talk = begins; claims = refl; puts = refl; runs = λ init h. h };
   mounted = up;
   said = inr (a.sayings, serving, n, refl, inr refl);
   claims = refl;
+  puts = refl;
   rests = inl refl;
 })
 
@@ -222,6 +223,7 @@ part_at its good s t u n (Some a) (Some b) up h rests = inr (record {
   mounted = up;
   said = inl refl;
   claims = h.claims;
+  puts = h.puts;
   rests = rests;
 })
 
@@ -240,39 +242,25 @@ part_read its s t (Some a) (Some b) rest (inr h) = inr (record {
   mounted = h.mounted;
   said = h.said;
   claims = h.claims;
+  puts = h.puts;
   rests = h.rests;
 })
 
-part_left : (its : Config) (s t : FileSession) (old a : Told) (left : FileFlashState) →
-    left.memory ≡ (flash_in t).memory → IsClosed left → BothTell (HearsPartOrNone its s t) old a →
-    BothTell (StopsAndCloses its s) old (option_map (with_left left) a)
-part_left its s t None None left stays closed h = tt
-part_left its s t None (Some b) left stays closed h = absurd h
-part_left its s t (Some a) None left stays closed h = absurd h
-part_left its s t (Some a) (Some b) left stays closed (inl same) = record {
+part_left : (IsShut : FileFlashState → Type 0) (its : Config) (s t : FileSession) (old a : Told)
+    (left : FileFlashState) (put : Bool) → left.memory ≡ (flash_in t).memory → IsShut left →
+    BothTell (HearsPartOrNone its s t) old a →
+    BothTell (StopsAndCloses IsShut its s) old (option_map (with_closed put left) a)
+part_left IsShut its s t None None left put stays closed h = tt
+part_left IsShut its s t None (Some b) left put stays closed h = absurd h
+part_left IsShut its s t (Some a) None left put stays closed h = absurd h
+part_left IsShut its s t (Some a) (Some b) left put stays closed h = record {
   end = t;
   left = left;
-  part = inl same;
+  reached = b;
+  part = h;
+  put = put;
+  closes = refl;
   stays = stays;
-  leaves = refl;
-  closed = closed;
-}
-part_left its s t (Some a) (Some b) left stays closed (inr h) = record {
-  end = t;
-  left = left;
-  part = inr (record {
-    number = h.number;
-    good = h.good;
-    end = h.end;
-    reached = h.reached;
-    hears = h.hears;
-    mounted = h.mounted;
-    said = h.said;
-    claims = h.claims;
-    rests = h.rests;
-  });
-  stays = stays;
-  leaves = refl;
   closed = closed;
 }
 
@@ -292,6 +280,7 @@ part_cut_at its good s u n k (Some a) (Some m) it up h = inr (record {
   mounted = up;
   said = inr (m.sayings, it, k, refl, inr refl);
   claims = h.claims;
+  puts = h.puts;
   rests = inl refl;
 })
 
@@ -357,63 +346,89 @@ all_part its good s t (Some a) (Some b) h = inr (record {
   mounted = h.mounted;
   said = inl refl;
   claims = h.hears.claims;
+  puts = h.hears.puts;
   rests = inl refl;
 })
 
--- a close that failed leaves a file that has
-pub is_closed : (f : FileFlashState) (closed : Result (Unit {0}) NotDurable) → is_err closed ≡ f.failed →
-    OnOk closed (IfSome f.file (LeavesSpelling f.config f.memory.image f.memory.extras)) → IsClosed f
-is_closed f (Ok done) answer spelled = λ live. spelled
-is_closed f (Err why) answer spelled = λ live. absurd (false≢true (sym live ∙ sym answer))
+closed_part : (IsShut : FileFlashState → Type 0) (flash : FileFlashState) (old : Told) (its config : Config)
+    (s t : FileSession) (closed : Result (Unit {0}) Stop) (mid new : LineDeskState) → flash ≡ flash_in t →
+    (c : ClosesFlash flash mid new closed config) → IsShut c.left → BothTell (HearsPartOrNone its s t) old mid.told →
+    BothTell (StopsAndCloses IsShut its s) old new.told
+closed_part IsShut flash old its config s t closed mid new at c shut h =
+    subst (BothTell (StopsAndCloses IsShut its s) old) (sym c.leaves)
+    (part_left IsShut its s t old mid.told c.left c.put (c.stays ∙ ap (λ (f : FileFlashState). f.memory) at) shut h)
 
-closed_part : (old : Told) (its : Config) (s t : FileSession) (left : FileFlashState) (mid new : LineDeskState) →
-    left.memory ≡ (flash_in t).memory → IsClosed left → new ≡ after (with_left left) mid →
-    BothTell (HearsPartOrNone its s t) old mid.told → BothTell (StopsAndCloses its s) old new.told
-closed_part old its s t left mid new stays closed leaves h =
-    subst (BothTell (StopsAndCloses its s) old) (sym (ap (λ d. d.told) leaves))
-    (part_left its s t old mid.told left stays closed h)
+-- no call was stopped for want of memory
+not_starved : (closed : Result (Unit {0}) Stop) → closed ≡ Ok tt ⊎ closed ≡ Err stop.Fault → closed ≡ Err stop.Memory → ⊥
+not_starved closed (inl e) h = absurd (cc)
+not_starved closed (inr e) h = absurd (cc)
 
-pub heard_part : (old : Told) (its : Config) (s t : FileSession) (left : FileFlashState)
-    (answered : Result Bool Stop) (closed : Result (Unit {0}) NotDurable) (same : Bool) (mid new : LineDeskState) →
+pub heard_part : (flash : FileFlashState) (old : Told) (its config : Config) (s t : FileSession)
+    (answered : Result Bool Stop) (closed : Result (Unit {0}) Stop) (same : Bool) (mid new : LineDeskState) →
     IfOk answered (λ good. BothTell (HearsAll its good s t) old mid.told) →
-    OnErr answered (BothTell (HearsPartOrNone its s t) old mid.told) → left.memory ≡ (flash_in t).memory →
-    IsClosed left → new ≡ after (with_left left) mid →
-    WhereStopped (λ breach. ⊥) (BothTell (StopsAndCloses its s) old new.told) (ending_after answered closed same)
-heard_part old its s t left (Err stop.Fault) closed same mid new h stops stays shut leaves =
-    closed_part old its s t left mid new stays shut leaves stops
-heard_part old its s t left (Err stop.Memory) closed same mid new h stops stays shut leaves =
-    closed_part old its s t left mid new stays shut leaves stops
-heard_part old its s t left (Ok good) (Err why) same mid new h stops stays shut leaves =
-    closed_part old its s t left mid new stays shut leaves (all_part its good s t old mid.told h)
-heard_part old its s t left (Ok good) (Ok done) false mid new h stops stays shut leaves =
-    closed_part old its s t left mid new stays shut leaves (all_part its good s t old mid.told h)
-heard_part old its s t left (Ok true) (Ok done) true mid new h stops stays shut leaves = tt
-heard_part old its s t left (Ok false) (Ok done) true mid new h stops stays shut leaves = tt
+    OnErr answered (BothTell (HearsPartOrNone its s t) old mid.told) → flash ≡ flash_in t →
+    ClosesFlash flash mid new closed config →
+    WhereStopped (λ breach. ⊥) (BothTell (StopsAndCloses IsClosed its s) old new.told)
+    (BothTell (StopsAndCloses IsLeft its s) old new.told) (ending_after answered closed same)
+heard_part flash old its config s t (Err stop.Memory) closed same mid new h stops at c =
+    closed_part IsLeft flash old its config s t closed mid new at c c.kept stops
+heard_part flash old its config s t (Err stop.Fault) (Ok done) same mid new h stops at c =
+    closed_part IsClosed flash old its config s t (Ok done) mid new at c (c.closed (not_starved (Ok done) (inl refl)))
+    stops
+heard_part flash old its config s t (Err stop.Fault) (Err stop.Fault) same mid new h stops at c =
+    closed_part IsClosed flash old its config s t (Err stop.Fault) mid new at c
+    (c.closed (not_starved (Err stop.Fault) (inr refl))) stops
+heard_part flash old its config s t (Err stop.Fault) (Err stop.Memory) same mid new h stops at c =
+    closed_part IsLeft flash old its config s t (Err stop.Memory) mid new at c c.kept stops
+heard_part flash old its config s t (Ok good) (Err stop.Fault) same mid new h stops at c =
+    closed_part IsClosed flash old its config s t (Err stop.Fault) mid new at c
+    (c.closed (not_starved (Err stop.Fault) (inr refl))) (all_part its good s t old mid.told h)
+heard_part flash old its config s t (Ok good) (Err stop.Memory) same mid new h stops at c =
+    closed_part IsLeft flash old its config s t (Err stop.Memory) mid new at c c.kept
+    (all_part its good s t old mid.told h)
+heard_part flash old its config s t (Ok good) (Ok done) false mid new h stops at c =
+    closed_part IsClosed flash old its config s t (Ok done) mid new at c (c.closed (not_starved (Ok done) (inl refl)))
+    (all_part its good s t old mid.told h)
+heard_part flash old its config s t (Ok true) (Ok done) true mid new h stops at c = tt
+heard_part flash old its config s t (Ok false) (Ok done) true mid new h stops at c = tt
 
 -- ---- the session of a flash
 
-where_stopped_too : (U V : Breach → Type 0) (P Q : Type 0) → ((breach : Breach) → U breach → V breach) → (P → Q) →
-    (it : LiveEnding) → WhereStopped U P it → WhereStopped V Q it
-where_stopped_too U V P Q at to Closed h = tt
-where_stopped_too U V P Q at to BadLine h = tt
-where_stopped_too U V P Q at to (Refused refusal.BadWords) h = absurd h
-where_stopped_too U V P Q at to (Refused (refusal.Missing name)) h = absurd h
-where_stopped_too U V P Q at to (Refused (refusal.TooLong name)) h = absurd h
-where_stopped_too U V P Q at to (Refused (refusal.BadImage rule)) h = absurd h
-where_stopped_too U V P Q at to (Refused (refusal.Unsound breach)) h = at breach h
-where_stopped_too U V P Q at to InUse h = absurd h
-where_stopped_too U V P Q at to Fault h = to h
-where_stopped_too U V P Q at to Starved h = to h
+where_stopped_too : (U V : Breach → Type 0) (P Q R S : Type 0) → ((breach : Breach) → U breach → V breach) →
+    (P → R) → (Q → S) → (it : LiveEnding) → WhereStopped U P Q it → WhereStopped V R S it
+where_stopped_too U V P Q R S at to too Closed h = tt
+where_stopped_too U V P Q R S at to too BadLine h = tt
+where_stopped_too U V P Q R S at to too (Refused refusal.BadWords) h = absurd h
+where_stopped_too U V P Q R S at to too (Refused (refusal.Missing name)) h = absurd h
+where_stopped_too U V P Q R S at to too (Refused (refusal.TooLong name)) h = absurd h
+where_stopped_too U V P Q R S at to too (Refused (refusal.BadImage rule)) h = absurd h
+where_stopped_too U V P Q R S at to too (Refused (refusal.Unsound breach)) h = at breach h
+where_stopped_too U V P Q R S at to too (BadCount slot) h = absurd h
+where_stopped_too U V P Q R S at to too InUse h = absurd h
+where_stopped_too U V P Q R S at to too Fault h = to h
+where_stopped_too U V P Q R S at to too Starved h = too h
 
 -- and no line was read
-abbrev IsUnread : FileFlashState → DeskTold → DeskTold → Type 0
-IsUnread flash old new = IsUnbegun flash old new × (new.input ≡ old.input)
+abbrev IsUnread : (FileFlashState → Type 0) → FileFlashState → DeskTold → DeskTold → Type 0
+IsUnread IsShut flash old new = IsUnbegun IsShut flash old new × (new.input ≡ old.input)
 
-unbegun_at : (flash left : FileFlashState) (old : Told) → moment_of (shown left) ≡ moment_of (shown flash) →
-    IsClosed left → BothTell (IsUnread flash) old (option_map (with_left left) old)
-unbegun_at flash left None rests closed = tt
-unbegun_at flash left (Some a) rests closed =
-    (record { said = refl; left = left; leaves = refl; rests = rests; closed = closed; claims = refl }, refl)
+unbegun_at : (IsShut : FileFlashState → Type 0) (flash left : FileFlashState) (put : Bool) (old : Told) →
+    moment_of (shown left) ≡ moment_of (shown flash) → IsShut left →
+    BothTell (IsUnread IsShut flash) old (option_map (with_closed put left) old)
+unbegun_at IsShut flash left put None rests closed = tt
+unbegun_at IsShut flash left put (Some a) rests closed = (
+  record {
+    said = refl;
+    left = left;
+    leaves = refl;
+    rests = rests;
+    closed = closed;
+    claims = refl;
+    put = put;
+    puts = refl;
+  },
+  refl,
+)
 
 also_told : (P Q : DeskTold → DeskTold → Type 0) (old new : Told) →
     ((a b : DeskTold) → P a b → Q a b) → BothTell P old new → BothTell Q old new
@@ -427,36 +442,51 @@ refused_still : (its : Config) (flash met : FileFlashState) (why : ServeError) �
 refused_still its flash met (ended.Unsound law slot) h = h.0.still.moment
 refused_still its flash met ended.Memory h = h.still.moment
 
-unmounted_ends : (its : Config) (flash met : FileFlashState) (why : ServeError) (old new : Told) →
-    its ≡ flash.config → Unmounted shown its flash met why → BothTell (IsUnread flash) old new →
-    WhereStopped (λ breach. BothTell (IsUnsound flash breach) old new) (BothTell (IsStoppedOrNone flash) old new)
-    (ending_unmounted why)
-unmounted_ends its flash met (ended.Unsound law slot) old new same h unbegun =
-    let breach : Breach = record { law = law; slot = slot } in
-    also_told (IsUnread flash) (IsUnsound flash breach) old new
-    (λ a b u. (
-      u.0,
-      u.1,
-      subst (λ x. IsLeastImageBreach x.protocol x.logical (shape_of x) flash.memory.image breach) same h.1,
-    ))
-    unbegun
-unmounted_ends its flash met ended.Memory old new same h unbegun =
-    also_told (IsUnread flash) (IsStoppedOrNone flash) old new (λ a b u. inl u.0) unbegun
+module _ (its : Config) (flash met : FileFlashState) (old : LineDeskState) (same : its ≡ flash.config) where
+  unread : (IsShut : FileFlashState → Type 0) (why : ServeError) (closed : Result (Unit {0}) Stop) (config : Config)
+      (new : LineDeskState) → Unmounted shown its flash met why → (c : ClosesFlash met old new closed config) →
+      IsShut c.left → BothTell (IsUnread IsShut flash) old.told new.told
+  unread IsShut why closed config new unmounted c shut =
+      subst (BothTell (IsUnread IsShut flash) old.told) (sym c.leaves)
+      (unbegun_at IsShut flash c.left c.put old.told
+      (ap (λ m. moment_of (untold m)) c.stays ∙ refused_still its flash met why unmounted) shut)
 
--- a flash that could not be served was closed, and nothing was said
-pub unopened_said : (its : Config) (flash met left : FileFlashState) (why : ServeError)
-    (closed : Result (Unit {0}) NotDurable) (old new : LineDeskState) → its ≡ flash.config →
-    Unmounted shown its flash met why → left.memory ≡ met.memory → is_err closed ≡ left.failed →
-    OnOk closed (IfSome left.file (LeavesSpelling left.config left.memory.image left.memory.extras)) →
-    new ≡ after (with_left left) old →
-    WhereStopped (λ breach. BothTell (IsUnsound flash breach) old.told new.told)
-    (BothTell (IsStoppedOrNone flash) old.told new.told) (ending_unmounted why)
-unopened_said its flash met left why closed old new same unmounted stays answer spelled leaves =
-    unmounted_ends its flash met why old.told new.told same unmounted
-    (subst (BothTell (IsUnread flash) old.told) (sym (ap (λ d. d.told) leaves))
-    (unbegun_at flash left old.told
-    (ap (λ m. moment_of (untold m)) stays ∙ refused_still its flash met why unmounted)
-    (is_closed left closed answer spelled)))
+  unsound : (law : ℕ) (slot : Slot) (new : Told) → Unmounted shown its flash met (ended.Unsound law slot) →
+      BothTell (IsUnread IsClosed flash) old.told new →
+      BothTell (IsUnsound flash (record { law = law; slot = slot })) old.told new
+  unsound law slot new h begun =
+      let breach : Breach = record { law = law; slot = slot } in
+      also_told (IsUnread IsClosed flash) (IsUnsound flash breach) old.told new
+      (λ a b u. (
+        u.0,
+        u.1,
+        subst (λ x. IsLeastImageBreach x.protocol x.logical (shape_of x) flash.memory.image breach) same h.1,
+      ))
+      begun
+
+  none : (IsShut : FileFlashState → Type 0) (new : Told) → BothTell (IsUnread IsShut flash) old.told new →
+      BothTell (IsStoppedOrNone IsShut flash) old.told new
+  none IsShut new begun =
+      also_told (IsUnread IsShut flash) (IsStoppedOrNone IsShut flash) old.told new (λ a b u. inl u.0) begun
+
+  -- a flash that could not be served was closed, and nothing was said
+  pub unopened_said : (why : ServeError) (closed : Result (Unit {0}) Stop) (config : Config) (new : LineDeskState) →
+      Unmounted shown its flash met why → ClosesFlash met old new closed config →
+      WhereStopped (λ breach. BothTell (IsUnsound flash breach) old.told new.told)
+      (BothTell (IsStoppedOrNone IsClosed flash) old.told new.told)
+      (BothTell (IsStoppedOrNone IsLeft flash) old.told new.told) (ending_unmounted why closed)
+  unopened_said (ended.Unsound law slot) (Ok done) config new h c =
+      unsound law slot new.told h
+      (unread IsClosed (ended.Unsound law slot) (Ok done) config new h c
+      (c.closed (not_starved (Ok done) (inl refl))))
+  unopened_said (ended.Unsound law slot) (Err stop.Fault) config new h c =
+      unsound law slot new.told h
+      (unread IsClosed (ended.Unsound law slot) (Err stop.Fault) config new h c
+      (c.closed (not_starved (Err stop.Fault) (inr refl))))
+  unopened_said (ended.Unsound law slot) (Err stop.Memory) config new h c =
+      none IsLeft new.told (unread IsLeft (ended.Unsound law slot) (Err stop.Memory) config new h c c.kept)
+  unopened_said ended.Memory closed config new h c =
+      none IsLeft new.told (unread IsLeft ended.Memory closed config new h c c.kept)
 
 -- ---- what is left
 
@@ -539,18 +569,21 @@ rests_at its flash left cs rs ps s t served stays (inr (inr w)) = inr (inr (reco
       (ends_for its w.0 s (flash_in t) w.1 w.2.cause));
 }))
 
-stopped_part : (old new : DeskTold) (flash left : FileFlashState) (s : ServerState FileFlashState) (t : FileSession) →
-    OpensServer shown flash.config flash s → left.memory ≡ (flash_in t).memory → new.left ≡ Some left →
-    IsClosed left → HearsPartOrNone flash.config s.session t old new → IsStoppedOrNone flash old new
-stopped_part old new flash left s t opens stays leaves closed (inl none) = inl (record {
+stopped_part : (IsShut : FileFlashState → Type 0) (old mid : DeskTold) (flash left : FileFlashState) (put : Bool)
+    (s : ServerState FileFlashState) (t : FileSession) → OpensServer shown flash.config flash s →
+    left.memory ≡ (flash_in t).memory → IsShut left → HearsPartOrNone flash.config s.session t old mid →
+    IsStoppedOrNone IsShut flash old (with_closed put left mid)
+stopped_part IsShut old mid flash left put s t opens stays closed (inl none) = inl (record {
   said = none.0;
   left = left;
-  leaves = leaves;
+  leaves = refl;
   rests = ap (λ m. moment_of (untold m)) stays ∙ moment_opened flash s t none.2 opens;
   closed = closed;
   claims = none.1;
+  put = put;
+  puts = ap (put_if put left) none.3;
 })
-stopped_part old new flash left s t opens stays leaves closed (inr h) =
+stopped_part IsShut old mid flash left put s t opens stays closed (inr h) =
     let heard = h.hears in
     let served = heard.runs (shown flash) (opens.served (opens.mounted h.mounted)) in
     inr (record {
@@ -563,39 +596,52 @@ stopped_part old new flash left s t opens stays leaves closed (inr h) =
       talk = heard.talk;
       said = h.said;
       left = left;
-      leaves = leaves;
+      leaves = refl;
       rests = rests_at flash.config flash left heard.cs heard.rs heard.ps h.end t served stays h.rests;
       closed = closed;
       claims = h.claims;
+      put = put;
+      puts = ap (put_if put left) h.puts;
     })
 
-stopped_told : (old new : Told) (flash : FileFlashState) (s : ServerState FileFlashState) →
-    OpensServer shown flash.config flash s → BothTell (StopsAndCloses flash.config s.session) old new →
-    BothTell (IsStoppedOrNone flash) old new
-stopped_told None None flash s opens h = tt
-stopped_told None (Some b) flash s opens h = absurd h
-stopped_told (Some a) None flash s opens h = absurd h
-stopped_told (Some a) (Some b) flash s opens h =
-    stopped_part a b flash h.left s h.end opens h.stays h.leaves h.closed h.part
+stopped_told : (IsShut : FileFlashState → Type 0) (old new : Told) (flash : FileFlashState)
+    (s : ServerState FileFlashState) → OpensServer shown flash.config flash s →
+    BothTell (StopsAndCloses IsShut flash.config s.session) old new → BothTell (IsStoppedOrNone IsShut flash) old new
+stopped_told IsShut None None flash s opens h = tt
+stopped_told IsShut None (Some b) flash s opens h = absurd h
+stopped_told IsShut (Some a) None flash s opens h = absurd h
+stopped_told IsShut (Some a) (Some b) flash s opens h =
+    subst (IsStoppedOrNone IsShut flash a) (sym h.closes)
+    (stopped_part IsShut a h.reached flash h.left h.put s h.end opens h.stays h.closed h.part)
+
+stopped_as : (IsShut : FileFlashState → Type 0) (old new : Told) (flash : FileFlashState)
+    (s : ServerState FileFlashState) → OpensServer shown flash.config flash s → s.config ≡ flash.config →
+    BothTell (StopsAndCloses IsShut s.config s.session) old new → BothTell (IsStoppedOrNone IsShut flash) old new
+stopped_as IsShut old new flash s opens same w =
+    stopped_told IsShut old new flash s opens
+    (subst (λ x. BothTell (StopsAndCloses IsShut x s.session) old new) same w)
 
 pub is_stopped : (old new : Told) (flash : FileFlashState) (its : Config) (s : ServerState FileFlashState)
     (it : LiveEnding) → its ≡ flash.config → OpensServer shown its flash s →
-    WhereStopped (λ breach. ⊥) (BothTell (StopsAndCloses s.config s.session) old new) it →
-    WhereStopped (λ breach. BothTell (IsUnsound flash breach) old new) (BothTell (IsStoppedOrNone flash) old new) it
+    WhereStopped (λ breach. ⊥) (BothTell (StopsAndCloses IsClosed s.config s.session) old new)
+    (BothTell (StopsAndCloses IsLeft s.config s.session) old new) it →
+    WhereStopped (λ breach. BothTell (IsUnsound flash breach) old new)
+    (BothTell (IsStoppedOrNone IsClosed flash) old new) (BothTell (IsStoppedOrNone IsLeft flash) old new) it
 is_stopped old new flash its s it same opens h =
     let opened : OpensServer shown flash.config flash s = subst (λ x. OpensServer shown x flash s) same opens in
     where_stopped_too (λ breach. ⊥) (λ breach. BothTell (IsUnsound flash breach) old new)
-    (BothTell (StopsAndCloses s.config s.session) old new) (BothTell (IsStoppedOrNone flash) old new)
-    (λ breach w. absurd w)
-    (λ w. stopped_told old new flash s opened
-    (subst (λ x. BothTell (StopsAndCloses x s.session) old new) opened.config w))
-    it h
+    (BothTell (StopsAndCloses IsClosed s.config s.session) old new)
+    (BothTell (StopsAndCloses IsLeft s.config s.session) old new)
+    (BothTell (IsStoppedOrNone IsClosed flash) old new) (BothTell (IsStoppedOrNone IsLeft flash) old new)
+    (λ breach w. absurd w) (λ w. stopped_as IsClosed old new flash s opened opened.config w)
+    (λ w. stopped_as IsLeft old new flash s opened opened.config w) it h
 
 -- ---- the call
 
 is_held : (flash : FileFlashState) (it : LiveEnding) (old new : Told) →
     WhereClosed (λ good. BothTell (IsSession flash good) old new) it →
-    WhereStopped (λ breach. BothTell (IsUnsound flash breach) old new) (BothTell (IsStoppedOrNone flash) old new) it →
+    WhereStopped (λ breach. BothTell (IsUnsound flash breach) old new)
+    (BothTell (IsStoppedOrNone IsClosed flash) old new) (BothTell (IsStoppedOrNone IsLeft flash) old new) it →
     IsHeld flash it old new
 is_held flash Closed old new h stops = h
 is_held flash BadLine old new h stops = h
@@ -604,15 +650,17 @@ is_held flash (Refused (refusal.Missing name)) old new h stops = absurd stops
 is_held flash (Refused (refusal.TooLong name)) old new h stops = absurd stops
 is_held flash (Refused (refusal.BadImage rule)) old new h stops = absurd stops
 is_held flash (Refused (refusal.Unsound breach)) old new h stops = stops
+is_held flash (BadCount at) old new h stops = absurd stops
 is_held flash InUse old new h stops = absurd stops
 is_held flash Fault old new h stops = stops
 is_held flash Starved old new h stops = stops
 
 pub calls_held : (old mid new : LineDeskState) (name : Option (List ℕ)) (path : List ℕ) (flash : FileFlashState)
-    (it : LiveEnding) → name ≡ Some path → mid ≡ claimed path old → IfSome old.told (OpensFile path flash) →
+    (it : LiveEnding) → name ≡ Some path → mid ≡ begun path flash old → IfSome old.told (OpensFile path flash) →
     WhereClosed (λ good. BothTell (IsSession flash good) mid.told new.told) it →
     WhereStopped (λ breach. BothTell (IsUnsound flash breach) mid.told new.told)
-    (BothTell (IsStoppedOrNone flash) mid.told new.told) it → Calls name old new it
+    (BothTell (IsStoppedOrNone IsClosed flash) mid.told new.told)
+    (BothTell (IsStoppedOrNone IsLeft flash) mid.told new.told) it → Calls name old new it
 calls_held old mid new name path flash it named same opens h stops =
     held path flash it named opens
     (subst (λ (x : LineDeskState). IsHeld flash it x.told new.told) same

@@ -4,7 +4,6 @@ use Rattle.std.proofs.lemmas.Bool.{false≢true}
 use denote.Enum.Bare.{sameb}
 use Rattle.tx_types.specs.declared.config.Config.{Config}
 use Rattle.flash_model.specs.Flash.{FlashState}
-use Rattle.flash_model.specs.declared.cached.NotDurable.{NotDurable}
 use Rattle.host_protocol.specs.Files.{IsFile}
 use Rattle.host_protocol.specs.Replies.{text_of}
 use Rattle.host_protocol.specs.declared.command.Command.{Command}
@@ -24,10 +23,12 @@ use Rattle.live_session.specs.declared.answering.Stop.TheVariants as stop
 use Rattle.live_session.specs.contracts.desk.Next.{the_type}
 use Rattle.live_session.specs.declared.desk.Next.{Next}
 use Rattle.live_session.specs.declared.desk.Next.TheVariants as next
-use Rattle.live_session.specs.Endings.{LiveEnding, Closed, BadLine, Refused, InUse, Fault, Starved}
-use Rattle.live_session.specs.LineDesk.{BothTell, DeskTold, LineDeskState, ReadsLine, TakesNext, after, claimed, with_claim, with_input, with_left, with_saying}
-use Rattle.live_session.specs.Opening.{IsNotOpened, OpensFile}
-use Rattle.live_session.specs.Sessions.{ending_after, ending_of_stop, ending_unmounted}
+use Rattle.live_session.specs.Endings.{LiveEnding, Closed, BadLine, Refused, BadCount, InUse, Fault, Starved}
+use Rattle.live_session.specs.LineDesk.{BothTell, DeskTold, LineDeskState, ReadsLine, TakesNext, after, with_claim, with_input, with_put, with_saying}
+use Rattle.live_session.specs.Closing.{ClosesFlash}
+use Rattle.live_session.specs.Opening.{IsNotOpened, OpensFile, begun}
+use Rattle.live_session.specs.Saying.{live_bytes, put_if, with_closed}
+use Rattle.live_session.specs.Sessions.{ending_after, ending_unmounted}
 use Rattle.live_session.specs.Talks.{IsBad, IsSession, LeadsTo, ServesFile, bad_line, begins, complains, passes, plain, replies, reply_said, serving, shown}
 use Rattle.live_session.specs.Hearing.{AnswersCommand, AnswersFirst, AnswersPiece, FileSession, GoesOn, Hears, HearsAll, HearsAndCloses, WhereClosed}
 use Rattle.live_session.proofs.OneLine.{one_command}
@@ -80,7 +81,7 @@ answers_command its kept c old mid new served reply text flash before said same 
 
 pub hears_none : (told : Told) (its : Config) (s : FileSession) → BothTell (Hears its true s s 1) told told
 hears_none None its s = tt
-hears_none (Some c) its s = record { cs = []; rs = []; ps = []; talk = begins; claims = refl; runs = λ init h. h }
+hears_none (Some c) its s = record { cs = []; rs = []; ps = []; talk = begins; claims = refl; puts = refl; runs = λ init h. h }
 
 -- ---- a line
 
@@ -96,6 +97,7 @@ heard_passes (Some a) (Some b) its good s t n line rest h takes file = record {
   ps = h.ps;
   talk = passes b n good h.cs h.rs h.ps line rest h.talk takes file;
   claims = h.claims;
+  puts = h.puts;
   runs = h.runs;
 }
 
@@ -120,6 +122,7 @@ heard_replies (Some a) (Some b) its good s t u n line rest c more mid told h tak
       ps = h.ps ++ w.point ∷ [];
       talk = replies b n good h.cs h.rs h.ps line rest h.talk takes c one w.reply w.point w.flash w.shows;
       claims = h.claims;
+      puts = h.puts;
       runs = λ init begun. w.runs init h.cs h.rs h.ps (h.runs init begun);
     })
 
@@ -137,6 +140,7 @@ heard_complains (Some a) (Some b) its good s t n it line rest h takes bad = reco
   ps = h.ps;
   talk = complains b n good h.cs h.rs h.ps line rest h.talk it takes bad;
   claims = h.claims;
+  puts = h.puts;
   runs = h.runs;
 }
 
@@ -232,42 +236,54 @@ heard_all old first a now its good s t n line up begun h reads =
 
 closed_told : (old a : Told) (its : Config) (good : Bool) (s t : FileSession) (left : FileFlashState) →
     BothTell (HearsAll its good s t) old a → left.memory ≡ (flash_in t).memory → left.config ≡ its →
-    BothTell (HearsAndCloses its good s) old (option_map (with_left left) a)
+    BothTell (HearsAndCloses its good s) old (option_map (with_closed true left) a)
 closed_told None None its good s t left h stays config = tt
 closed_told None (Some b) its good s t left h stays config = absurd h
 closed_told (Some a) None its good s t left h stays config = absurd h
 closed_told (Some a) (Some b) its good s t left h stays config =
     record { end = t; ended = b; left = left; all = h; stays = stays; config = config; closes = refl }
 
-pub heard_and_closed : (old : Told) (its : Config) (s t : FileSession) (left : FileFlashState)
-    (answered : Result Bool Stop) (closed : Result (Unit {0}) NotDurable) (same : Bool) (mid new : LineDeskState) →
-    IfOk answered (λ good. BothTell (HearsAll its good s t) old mid.told) → left.memory ≡ (flash_in t).memory →
-    (same ≡ true → left.config ≡ its) → new ≡ after (with_left left) mid →
+closed_at : (old : Told) (its : Config) (good : Bool) (s t : FileSession) (left : FileFlashState) (put : Bool)
+    (mid new : LineDeskState) → BothTell (HearsAll its good s t) old mid.told → left.memory ≡ (flash_in t).memory →
+    left.config ≡ its → put ≡ true → new.told ≡ option_map (with_closed put left) mid.told →
+    BothTell (HearsAndCloses its good s) old new.told
+closed_at old its good s t left put mid new h stays config is leaves =
+    subst (BothTell (HearsAndCloses its good s) old)
+    (sym (leaves ∙ ap (λ b. option_map (with_closed b left) mid.told) is))
+    (closed_told old mid.told its good s t left h stays config)
+
+pub heard_and_closed : (flash : FileFlashState) (old : Told) (its config : Config) (s t : FileSession)
+    (answered : Result Bool Stop) (closed : Result (Unit {0}) Stop) (same : Bool) (mid new : LineDeskState) →
+    IfOk answered (λ good. BothTell (HearsAll its good s t) old mid.told) → flash ≡ flash_in t →
+    (same ≡ true → config ≡ its) → ClosesFlash flash mid new closed config →
     WhereClosed (λ good. BothTell (HearsAndCloses its good s) old new.told) (ending_after answered closed same)
-heard_and_closed old its s t left (Err stop.Fault) closed same mid new h stays is leaves = tt
-heard_and_closed old its s t left (Err stop.Memory) closed same mid new h stays is leaves = tt
-heard_and_closed old its s t left (Ok good) (Err why) same mid new h stays is leaves = tt
-heard_and_closed old its s t left (Ok good) (Ok done) false mid new h stays is leaves = tt
-heard_and_closed old its s t left (Ok true) (Ok done) true mid new h stays is leaves =
-    subst (BothTell (HearsAndCloses its true s) old) (sym (ap (λ d. d.told) leaves))
-    (closed_told old mid.told its true s t left h stays (is refl))
-heard_and_closed old its s t left (Ok false) (Ok done) true mid new h stays is leaves =
-    subst (BothTell (HearsAndCloses its false s) old) (sym (ap (λ d. d.told) leaves))
-    (closed_told old mid.told its false s t left h stays (is refl))
+heard_and_closed flash old its config s t (Err stop.Memory) closed same mid new h at is c = tt
+heard_and_closed flash old its config s t (Err stop.Fault) (Ok done) same mid new h at is c = tt
+heard_and_closed flash old its config s t (Err stop.Fault) (Err stop.Fault) same mid new h at is c = tt
+heard_and_closed flash old its config s t (Err stop.Fault) (Err stop.Memory) same mid new h at is c = tt
+heard_and_closed flash old its config s t (Ok good) (Err stop.Fault) same mid new h at is c = tt
+heard_and_closed flash old its config s t (Ok good) (Err stop.Memory) same mid new h at is c = tt
+heard_and_closed flash old its config s t (Ok good) (Ok done) false mid new h at is c = tt
+heard_and_closed flash old its config s t (Ok true) (Ok done) true mid new h at is c =
+    closed_at old its true s t c.left c.put mid new h (c.stays ∙ ap (λ (f : FileFlashState). f.memory) at)
+    (c.same ∙ is refl) c.done.0 c.leaves
+heard_and_closed flash old its config s t (Ok false) (Ok done) true mid new h at is c =
+    closed_at old its false s t c.left c.put mid new h (c.stays ∙ ap (λ (f : FileFlashState). f.memory) at)
+    (c.same ∙ is refl) c.done.0 c.leaves
 
-pub where_stopped : (P : Bool → Type 0) (why : Stop) → WhereClosed P (ending_of_stop why)
-where_stopped P stop.Fault = tt
-where_stopped P stop.Memory = tt
-
-pub where_unmounted : (P : Bool → Type 0) (why : ServeError) → WhereClosed P (ending_unmounted why)
-where_unmounted P (ended.Unsound law slot) = tt
-where_unmounted P ended.Memory = tt
+pub where_unmounted : (P : Bool → Type 0) (why : ServeError) (closed : Result (Unit {0}) Stop) →
+    WhereClosed P (ending_unmounted why closed)
+where_unmounted P (ended.Unsound law slot) (Ok done) = tt
+where_unmounted P (ended.Unsound law slot) (Err stop.Fault) = tt
+where_unmounted P (ended.Unsound law slot) (Err stop.Memory) = tt
+where_unmounted P ended.Memory closed = tt
 
 pub where_weaker : (P Q : Bool → Type 0) → ((good : Bool) → P good → Q good) → (it : LiveEnding) → WhereClosed P it →
     WhereClosed Q it
 where_weaker P Q to Closed h = to true h
 where_weaker P Q to BadLine h = to false h
 where_weaker P Q to (Refused why) h = tt
+where_weaker P Q to (BadCount at) h = tt
 where_weaker P Q to InUse h = tt
 where_weaker P Q to Fault h = tt
 where_weaker P Q to Starved h = tt
@@ -303,6 +319,7 @@ session_told (Some a) (Some b) flash good s opens h =
       closes = h.closes;
       config = h.config;
       claims = ap (λ d. d.claims) h.closes ∙ heard.claims;
+      puts = ap (λ d. d.puts) h.closes ∙ ap (put_if true h.left) heard.puts;
     }
 
 pub is_session : (old new : Told) (flash : FileFlashState) (its : Config) (s : ServerState FileFlashState)
@@ -319,7 +336,8 @@ is_session old new flash its s it same opens h =
 -- ---- the call
 
 file_told : (old new : Told) (path : List ℕ) (flash : FileFlashState) (good : Bool) →
-    IfSome old (OpensFile path flash) → BothTell (IsSession flash good) (option_map (with_claim path) old) new →
+    IfSome old (OpensFile path flash) →
+    BothTell (IsSession flash good) (option_map (with_put (live_bytes flash)) (option_map (with_claim path) old)) new →
     BothTell (ServesFile (Some path) good) old new
 file_told None None path flash good opens h = tt
 file_told None (Some b) path flash good opens h = absurd h
@@ -328,12 +346,12 @@ file_told (Some a) (Some b) path flash good opens h =
     record { path = path; named = refl; flash = flash; opens = opens; session = h }
 
 pub serves_file : (old mid new : LineDeskState) (name : Option (List ℕ)) (path : List ℕ) (flash : FileFlashState)
-    (it : LiveEnding) → name ≡ Some path → mid ≡ claimed path old → IfSome old.told (OpensFile path flash) →
+    (it : LiveEnding) → name ≡ Some path → mid ≡ begun path flash old → IfSome old.told (OpensFile path flash) →
     WhereClosed (λ good. BothTell (IsSession flash good) mid.told new.told) it →
     WhereClosed (λ good. BothTell (ServesFile name good) old.told new.told) it
 serves_file old mid new name path flash it named same opens h =
     subst (λ x. WhereClosed (λ good. BothTell (ServesFile x good) old.told new.told) it) (sym named)
-    (where_weaker (λ good. BothTell (IsSession flash good) (claimed path old).told new.told)
+    (where_weaker (λ good. BothTell (IsSession flash good) (begun path flash old).told new.told)
     (λ good. BothTell (ServesFile (Some path) good) old.told new.told)
     (λ good w. file_told old.told new.told path flash good opens w) it
     (subst (λ x. WhereClosed (λ good. BothTell (IsSession flash good) x.told new.told) it) same h))
@@ -343,6 +361,7 @@ pub where_not_opened : (P : Bool → Type 0) (name : List ℕ) (it : LiveEnding)
 where_not_opened P name Closed old new h = absurd h
 where_not_opened P name BadLine old new h = absurd h
 where_not_opened P name (Refused why) old new h = tt
+where_not_opened P name (BadCount at) old new h = tt
 where_not_opened P name InUse old new h = tt
 where_not_opened P name Fault old new h = tt
 where_not_opened P name Starved old new h = tt

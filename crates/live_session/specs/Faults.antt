@@ -1,5 +1,5 @@
 -- Why a call ends with status 5: what failed.
-use Rattle.std.specs.Prelude.{◌≡◌, ◌⊎◌, ℕ, true, false, List, [], Option, Some, IfSome, OnSome}
+use Rattle.std.specs.Prelude.{◌≡◌, ◌⊎◌, ℕ, Bool, true, false, List, [], Option, Some, IfSome, OnSome}
 use Rattle.tx_types.specs.declared.config.Config.{Config}
 use Rattle.flash_model.specs.Flash.{FlashState}
 use Rattle.host_protocol.specs.declared.command.Command.{Command}
@@ -12,10 +12,11 @@ use Rattle.desk_io.specs.Desk.{Rose, counted}
 use Rattle.file_flash.specs.FileFlashState.{FileFlashState}
 use Rattle.live_session.specs.declared.answering.Stop.{Stop}
 use Rattle.live_session.specs.declared.answering.Stop.TheVariants as stop
-use Rattle.live_session.specs.Endings.{LiveEnding, Refused, InUse, Fault}
+use Rattle.live_session.specs.Endings.{LiveEnding, Refused, BadCount, InUse, Fault}
 use Rattle.live_session.specs.Hearing.{FileSession}
-use Rattle.live_session.specs.LineDesk.{BothTell, DeskTold, LineDeskState, with_left}
+use Rattle.live_session.specs.LineDesk.{BothTell, DeskTold, LineDeskState}
 use Rattle.live_session.specs.Opening.{OpensFile}
+use Rattle.live_session.specs.Saying.{with_closed}
 use Rattle.live_session.specs.Talks.{shown}
 
 -- this is so where a fault stopped a session
@@ -27,6 +28,7 @@ WhereFault P stop.Memory = Unit {0}
 abbrev pub WhereFailed : (P Q : Type 0) → LiveEnding → Type 0
 WhereFailed P Q Fault = P
 WhereFailed P Q (Refused why) = Q
+WhereFailed P Q (BadCount at) = Q
 WhereFailed P Q InUse = Q
 WhereFailed P Q _ = Unit {0}
 
@@ -58,7 +60,7 @@ FaultsLines its before now old new =
 abbrev pub FaultsLeft : Config → (before now : Option DeskTold) → FileSession → FileFlashState → Type 0
 FaultsLeft its before now s left =
     (left.failed ≡ true) ⊎ ((left.config ≡ its → ⊥)
-    ⊎ (((is_mounted s ≡ false) × BothTell (λ a b. b ≡ with_left left a) before now
+    ⊎ (((is_mounted s ≡ false) × ((put : Bool) × BothTell (λ a b. b ≡ with_closed put left a) before now)
     × (left.memory ≡ (flash_in s).memory))
     ⊎ ((is_mounted s ≡ true) × OnSome before (IsUnstarted its s))))
 

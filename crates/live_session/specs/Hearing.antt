@@ -17,8 +17,8 @@ use Rattle.file_flash.specs.FileFlashState.{FileFlashState}
 use Rattle.live_session.specs.declared.desk.Next.{Next}
 use Rattle.live_session.specs.declared.desk.Next.TheVariants as next
 use Rattle.live_session.specs.Endings.{LiveEnding, Closed, BadLine, Refused, Fault, Starved}
-use Rattle.live_session.specs.LineDesk.{DeskTold, Saying, with_left, with_saying}
-use Rattle.live_session.specs.Saying.{IsClosed}
+use Rattle.live_session.specs.LineDesk.{DeskTold, Saying, with_saying}
+use Rattle.live_session.specs.Saying.{with_closed}
 use Rattle.live_session.specs.Talks.{IsSaidOf, IsTalk, bad_line, plain, reply_said, serving, shorter, shown}
 
 -- the session of a server whose flash is a file
@@ -108,6 +108,7 @@ pub record Hears (its : Config) (good : Bool) (old new : FileSession) (number : 
   pub ps : List Point
   pub talk : IsTalk its.page_bytes first now number good cs rs ps
   pub claims : now.claims ≡ first.claims
+  pub puts : now.puts ≡ first.puts
   pub runs : (init : FlashState) → IsServed shown its init [] [] [] old → IsServed shown its init cs rs ps new
 
 -- All lines of the input were answered, on a flash that is mounted.
@@ -126,21 +127,26 @@ pub record HearsPart (its : Config) (old new : FileSession) (first now : DeskTol
   pub mounted : is_mounted old ≡ true
   pub said : IsSaidOf reached.sayings now.sayings
   pub claims : now.claims ≡ first.claims
+  pub puts : now.puts ≡ first.puts
   pub rests : RestsBy its end new
 
 -- the same, or nothing was said or done
 abbrev pub HearsPartOrNone : Config → (old new : FileSession) → DeskTold → DeskTold → Type 0
 HearsPartOrNone its old new first now =
-    ((now.sayings ≡ first.sayings) × (now.claims ≡ first.claims) × (new ≡ old)) ⊎ HearsPart its old new first now
+    ((now.sayings ≡ first.sayings) × (now.claims ≡ first.claims) × (new ≡ old) × (now.puts ≡ first.puts))
+    ⊎ HearsPart its old new first now
 
--- and the file was closed with the flash that was left
-pub record StopsAndCloses (its : Config) (old : FileSession) (first now : DeskTold) : Type 0 where
+-- and the file was closed so, with the flash that was left
+pub record StopsAndCloses (IsShut : FileFlashState → Type 0) (its : Config) (old : FileSession) (first now : DeskTold) :
+    Type 0 where
   pub end : FileSession
   pub left : FileFlashState
-  pub part : HearsPartOrNone its old end first now
+  pub reached : DeskTold
+  pub part : HearsPartOrNone its old end first reached
+  pub put : Bool
+  pub closes : now ≡ with_closed put left reached
   pub stays : left.memory ≡ (flash_in end).memory
-  pub leaves : now.left ≡ Some left
-  pub closed : IsClosed left
+  pub closed : IsShut left
 
 -- and the file was closed with the flash that was left
 pub record HearsAndCloses (its : Config) (good : Bool) (old : FileSession) (first now : DeskTold) : Type 0 where
@@ -150,17 +156,17 @@ pub record HearsAndCloses (its : Config) (good : Bool) (old : FileSession) (firs
   pub all : HearsAll its good old end first ended
   pub stays : left.memory ≡ (flash_in end).memory
   pub config : left.config ≡ its
-  pub closes : now ≡ with_left left ended
+  pub closes : now ≡ with_closed true left ended
 
--- Where a session ended otherwise, the second is so, or the first of the breach of an image that is not sound. It was
--- no other refusal.
-abbrev pub WhereStopped : (Breach → Type 0) → Type 0 → LiveEnding → Type 0
-WhereStopped U P Closed = Unit {0}
-WhereStopped U P BadLine = Unit {0}
-WhereStopped U P (Refused (Unsound breach)) = U breach
-WhereStopped U P Fault = P
-WhereStopped U P Starved = P
-WhereStopped U P _ = ⊥
+-- Where a session ended otherwise, the second is so after a fault, the third for want of memory, and the first of the
+-- breach of an image that is not sound. It was no other refusal.
+abbrev pub WhereStopped : (Breach → Type 0) → (P Q : Type 0) → LiveEnding → Type 0
+WhereStopped U P Q Closed = Unit {0}
+WhereStopped U P Q BadLine = Unit {0}
+WhereStopped U P Q (Refused (Unsound breach)) = U breach
+WhereStopped U P Q Fault = P
+WhereStopped U P Q Starved = Q
+WhereStopped U P Q _ = ⊥
 
 -- This is so of whether all lines were good, where a session ended so that the file was closed.
 abbrev pub WhereClosed : (Bool → Type 0) → LiveEnding → Type 0

@@ -9,4 +9,5 @@ pub mod Sessions
 pub mod Talks
 pub mod Hearing
 pub mod Faults
+pub mod Closing
 pub mod Top

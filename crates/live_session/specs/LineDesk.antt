@@ -1,9 +1,11 @@
 -- What a desk of lines is, and what its calls do.
-use Rattle.std.specs.Prelude.{◌≡◌, ℕ, List, [], ◌∷◌, ◌++◌, take, Option, None, Some, IfSome, Result, Ok, Err}
+use Rattle.std.specs.Prelude.{◌≡◌, ℕ, true, List, [], ◌∷◌, ◌++◌, take, Option, None, Some, IfSome, Result, Ok, Err}
 use Rattle.std.specs.Option.{option_map}
 use Rattle.desk_io.specs.Desk.{counted}
+use Rattle.file_flash.specs.Files as store
 use Rattle.file_flash.specs.Files.{FileState}
 use Rattle.file_flash.specs.FileFlashState.{FileFlashState}
+use Rattle.file_flash.specs.Opening.{IsDurable}
 use Rattle.live_session.specs.declared.desk.CallError.{CallError}
 use Rattle.live_session.specs.declared.desk.CallError.TheVariants as call
 use Rattle.live_session.specs.declared.desk.ClaimError.{ClaimError}
@@ -23,11 +25,13 @@ pub data Place : Type 0 where
   Held : Place
   Free : (file : FileState) → Place
 
--- What a desk tells: what is at each name, the names that were claimed, in order, the bytes of its input that were not
--- read, all that was said, in order, and the flash of the file that was closed last.
+-- What a desk tells: what is at each name; the names that were claimed, in order, and the bytes that were to be put at
+-- the name that is held, in order, done or not; the bytes of its input that were not read; all that was said, in order;
+-- and the flash of the file that was closed last.
 pub record DeskTold : Type 0 where
   pub place : List ℕ → Place
   pub claims : List (List ℕ)
+  pub puts : List (List ℕ)
   pub input : List ℕ
   pub sayings : List Saying
   pub left : Option FileFlashState
@@ -50,6 +54,9 @@ closed_desk faults = record { told = None; faults = faults }
 
 abbrev pub with_claim : List ℕ → DeskTold → DeskTold
 with_claim name c = record c { claims = c.claims ++ name ∷ [] }
+
+abbrev pub with_put : List ℕ → DeskTold → DeskTold
+with_put bytes c = record c { puts = c.puts ++ bytes ∷ [] }
 
 abbrev pub with_input : List ℕ → DeskTold → DeskTold
 with_input rest c = record c { input = rest }
@@ -87,6 +94,25 @@ Claims told old new name (Err claim.TooLong) =
 Claims told old new name (Err claim.InUse) = (new ≡ claimed name old) × IfSome old.told (λ c. c.place name ≡ Held)
 Claims told old new name (Err claim.Failed) = new ≡ after_fault (with_claim name) old
 Claims told old new name (Err claim.Memory) = new ≡ claimed name old
+
+-- A file with these bytes takes the place of the one that is held, and is held in its stead: a loss leaves these bytes
+-- of it, and no others. It tells if the other one did. That they are to be put there is told, whatever comes of it. A
+-- failure is one of the file, and is not counted.
+abbrev pub Replaces : (held now : Option FileState) → LineDeskState → LineDeskState → List ℕ →
+    Result (Unit {0}) CallError → Type 0
+Replaces held now old new bytes (Ok done) =
+    (new ≡ after (with_put bytes) old) × store.BothTell (λ before. IsDurable bytes) held now
+Replaces held now old new bytes (Err why) = new ≡ after (with_put bytes) old
+
+-- A file with these bytes takes the place of that of a flash, so, and is closed. Where that failed so has the flash.
+abbrev pub Closes : FileFlashState → LineDeskState → LineDeskState → List ℕ → Result (Unit {0}) CallError → Type 0
+Closes flash old new bytes (Ok done) =
+    (file : Option FileState) × (new ≡ after (λ c. with_left (record flash { file = file }) (with_put bytes c)) old)
+    × store.BothTell (λ before. IsDurable bytes) flash.file file
+Closes flash old new bytes (Err call.Failed) =
+    (file : Option FileState)
+    × (new ≡ after (λ c. with_left (record flash { failed = true; file = file }) (with_put bytes c)) old)
+Closes flash old new bytes (Err call.Memory) = new ≡ after (λ c. with_left flash (with_put bytes c)) old
 
 -- a piece of the input is gone, and these are the bytes of its line
 abbrev pub TakesNext : Next → (line rest : List ℕ) → DeskTold → Type 0

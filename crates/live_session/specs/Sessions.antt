@@ -1,6 +1,5 @@
 -- How a session stops, and how it ends.
 use Rattle.std.specs.Prelude.{Bool, true, false, Result, Ok, Err}
-use Rattle.flash_model.specs.declared.cached.NotDurable.{NotDurable}
 use Rattle.cut_replay.specs.declared.server.NextError.{NextError}
 use Rattle.cut_replay.specs.declared.server.NextError.TheVariants as unserved
 use Rattle.cut_replay.specs.declared.serving.ServeError.{ServeError}
@@ -21,21 +20,22 @@ stop_of_serving unserved.NotDurable = stop.Fault
 stop_of_serving (unserved.Ended (serving.Unsound law slot)) = stop.Fault
 stop_of_serving (unserved.Ended serving.Memory) = stop.Memory
 
--- how a session ends that was stopped
-abbrev pub ending_of_stop : Stop → LiveEnding
-ending_of_stop stop.Fault = Fault
-ending_of_stop stop.Memory = Starved
-
--- how a session ends whose flash was not mounted
-abbrev pub ending_unmounted : ServeError → LiveEnding
-ending_unmounted (serving.Unsound law slot) = Refused (Unsound (record { law = law; slot = slot }))
-ending_unmounted serving.Memory = Starved
+-- how a session ends whose flash was not mounted, and was closed
+abbrev pub ending_unmounted : ServeError → Result (Unit {0}) Stop → LiveEnding
+ending_unmounted (serving.Unsound law slot) (Ok done) = Refused (Unsound (record { law = law; slot = slot }))
+ending_unmounted (serving.Unsound law slot) (Err stop.Fault) = Refused (Unsound (record { law = law; slot = slot }))
+ending_unmounted (serving.Unsound law slot) (Err stop.Memory) = Starved
+ending_unmounted serving.Memory closed = Starved
 
 -- how it ends after its lines were answered, and the file was closed, with the configuration that was opened or not:
--- the first thing that failed decides
-abbrev pub ending_after : Result Bool Stop → Result (Unit {0}) NotDurable → Bool → LiveEnding
-ending_after (Err why) closed same = ending_of_stop why
-ending_after (Ok good) (Err failed) same = Fault
+-- want of memory decides, and else a fault
+abbrev pub ending_after : Result Bool Stop → Result (Unit {0}) Stop → Bool → LiveEnding
+ending_after (Err stop.Memory) closed same = Starved
+ending_after (Err stop.Fault) (Ok done) same = Fault
+ending_after (Err stop.Fault) (Err stop.Fault) same = Fault
+ending_after (Err stop.Fault) (Err stop.Memory) same = Starved
+ending_after (Ok good) (Err stop.Fault) same = Fault
+ending_after (Ok good) (Err stop.Memory) same = Starved
 ending_after (Ok good) (Ok done) false = Fault
 ending_after (Ok true) (Ok done) true = Closed
 ending_after (Ok false) (Ok done) true = BadLine

@@ -20,9 +20,9 @@ use Rattle.file_flash.specs.FileFlashState.{FileFlashState, untold}
 use Rattle.live_session.specs.declared.desk.Next.{Next}
 use Rattle.live_session.specs.declared.desk.Next.TheVariants as next
 use Rattle.live_session.specs.Endings.{LiveEnding, Closed, BadLine, Refused, Fault, Starved}
-use Rattle.live_session.specs.LineDesk.{BothTell, DeskTold, Saying, TakesNext, with_claim, with_input, with_left, with_saying}
+use Rattle.live_session.specs.LineDesk.{BothTell, DeskTold, Saying, TakesNext, with_claim, with_input, with_put, with_saying}
 use Rattle.live_session.specs.Opening.{OpensFile}
-use Rattle.live_session.specs.Saying.{IsClosed}
+use Rattle.live_session.specs.Saying.{IsClosed, IsLeft, live_bytes, put_if, with_closed}
 
 -- the flash of a file, as a run sees it
 abbrev pub shown : FileFlashState → FlashState
@@ -84,7 +84,7 @@ pub record LeadsTo (its : Config) (opened left : FlashState) (cs : List Command)
 
 -- A session on a flash: `serving` was said, then lines of the input were read and answered, in order, by a run over the
 -- commands that were read; and the file was closed with the flash that the run left, in its configuration. No file
--- was claimed in it.
+-- was claimed in it, and its image file was put at its name at the end, and nothing else.
 pub record IsSession (flash : FileFlashState) (good : Bool) (old new : DeskTold) : Type 0 where
   pub number : ℕ
   pub cs : List Command
@@ -94,9 +94,10 @@ pub record IsSession (flash : FileFlashState) (good : Bool) (old new : DeskTold)
   pub left : FileFlashState
   pub talk : IsTalk flash.config.page_bytes (with_saying serving old) ended number good cs rs ps
   pub run : LeadsTo flash.config (shown flash) (shown left) cs rs ps
-  pub closes : new ≡ with_left left ended
+  pub closes : new ≡ with_closed true left ended
   pub config : left.config ≡ flash.config
   pub claims : new.claims ≡ old.claims
+  pub puts : new.puts ≡ put_if true left old.puts
 
 -- what was said of a text of which the last bytes were not
 abbrev pub shorter : ℕ → Saying → Saying
@@ -134,8 +135,9 @@ Rests its opened left cs rs ps =
     LeadsTo its opened left cs rs ps ⊎ (LeadsOn its opened left cs rs ps ⊎ StopsIn its opened left cs rs ps)
 
 -- A session that was stopped: up to then it is one. What it was about to say may be missing, or its last bytes. The
--- flash that is left is as its run or one command more left it, and the file was closed. No file was claimed.
-pub record IsStopped (flash : FileFlashState) (old new : DeskTold) : Type 0 where
+-- flash that is left is as its run or one command more left it, and the file was closed so. No file was claimed, and
+-- nothing but its image file was to be put at its name.
+pub record IsStopped (IsShut : FileFlashState → Type 0) (flash : FileFlashState) (old new : DeskTold) : Type 0 where
   pub number : ℕ
   pub good : Bool
   pub cs : List Command
@@ -147,41 +149,47 @@ pub record IsStopped (flash : FileFlashState) (old new : DeskTold) : Type 0 wher
   pub left : FileFlashState
   pub leaves : new.left ≡ Some left
   pub rests : Rests flash.config (shown flash) (shown left) cs rs ps
-  pub closed : IsClosed left
+  pub closed : IsShut left
   pub claims : new.claims ≡ old.claims
+  pub put : Bool
+  pub puts : new.puts ≡ put_if put left old.puts
 
--- A session that did not begin: nothing was said, the flash that is left is as it was opened, and the file was closed.
-pub record IsUnbegun (flash : FileFlashState) (old new : DeskTold) : Type 0 where
+-- A session that did not begin: nothing was said, the flash that is left is as it was opened, and the file was closed
+-- so.
+pub record IsUnbegun (IsShut : FileFlashState → Type 0) (flash : FileFlashState) (old new : DeskTold) : Type 0 where
   pub said : new.sayings ≡ old.sayings
   pub left : FileFlashState
   pub leaves : new.left ≡ Some left
   pub rests : moment_of (shown left) ≡ moment_of (shown flash)
-  pub closed : IsClosed left
+  pub closed : IsShut left
   pub claims : new.claims ≡ old.claims
+  pub put : Bool
+  pub puts : new.puts ≡ put_if put left old.puts
 
 -- a session that did not begin, since the image of the flash is not sound: this breach is its first
 abbrev pub IsUnsound : FileFlashState → Breach → DeskTold → DeskTold → Type 0
 IsUnsound flash breach old new =
-    IsUnbegun flash old new × (new.input ≡ old.input)
+    IsUnbegun IsClosed flash old new × (new.input ≡ old.input)
     × IsLeastImageBreach flash.config.protocol flash.config.logical (shape_of flash.config) flash.memory.image breach
 
 -- a session that was stopped, or did not begin
-abbrev pub IsStoppedOrNone : FileFlashState → DeskTold → DeskTold → Type 0
-IsStoppedOrNone flash old new = IsUnbegun flash old new ⊎ IsStopped flash old new
+abbrev pub IsStoppedOrNone : (FileFlashState → Type 0) → FileFlashState → DeskTold → DeskTold → Type 0
+IsStoppedOrNone IsShut flash old new = IsUnbegun IsShut flash old new ⊎ IsStopped IsShut flash old new
 
--- How a session ends on the flash of a file that was opened.
+-- How a session ends on the flash of a file that was opened. For want of memory it may leave the live file.
 abbrev pub IsHeld : FileFlashState → LiveEnding → Option DeskTold → Option DeskTold → Type 0
 IsHeld flash Closed old new = BothTell (IsSession flash true) old new
 IsHeld flash BadLine old new = BothTell (IsSession flash false) old new
 IsHeld flash (Refused (Unsound breach)) old new = BothTell (IsUnsound flash breach) old new
-IsHeld flash Fault old new = BothTell (IsStoppedOrNone flash) old new
-IsHeld flash Starved old new = BothTell (IsStoppedOrNone flash) old new
+IsHeld flash Fault old new = BothTell (IsStoppedOrNone IsClosed flash) old new
+IsHeld flash Starved old new = BothTell (IsStoppedOrNone IsLeft flash) old new
 IsHeld flash _ old new = ⊥
 
--- The file that the words name was claimed and opened, and a session was held on its flash.
+-- The file that the words name was claimed and opened, its live file was put at its name, and a session was held on its
+-- flash.
 pub record ServesFile (name : Option (List ℕ)) (good : Bool) (old new : DeskTold) : Type 0 where
   pub path : List ℕ
   pub named : name ≡ Some path
   pub flash : FileFlashState
   pub opens : OpensFile path flash old
-  pub session : IsSession flash good (with_claim path old) new
+  pub session : IsSession flash good (with_put (live_bytes flash) (with_claim path old)) new

@@ -14,9 +14,10 @@ ghost use Rattle.live_session.specs.declared.lines.TheConstants.{MAX_LINE_BYTES}
 
 use crate::{CallError, LineDesk, Next};
 use cut_replay::{NextError, ServeError, Server};
-use file_flash::{FileFlash, Store};
+use file_flash::Store;
 use flash_model::NotDurable;
 use host_protocol::{Command, TextError, parse, reply_text};
+use live_flash::LiveFlash;
 use record_list::CommitRule;
 use std::alloc::{AllocError, Global};
 use tx_types::Memory;
@@ -79,10 +80,10 @@ impl From<AllocError> for Stop {
 }
 
 /// Says that the session begins, and answers the lines of the input to its end. The answer is whether none was bad.
-pub fn answer_lines<S: Store + Drop, D: LineDesk<S, FileFlash<S>>, R: CommitRule>(
+pub fn answer_lines<S: Store + Drop, D: LineDesk<S, LiveFlash<S>>, R: CommitRule>(
     alloc: Global,
     desk: &mut D,
-    server: &mut Server<FileFlash<S>, R>,
+    server: &mut Server<LiveFlash<S>, R>,
 ) -> Result<bool, Stop>
     ensures durable { SaidDurably (D.state desk.old) → SaidDurably (D.state desk.new) }
     ensures ended { OnOk result (HasNoInput (D.state desk.new)) }
@@ -113,10 +114,10 @@ pub fn answer_lines<S: Store + Drop, D: LineDesk<S, FileFlash<S>>, R: CommitRule
 }
 
 /// Answers what came next of the input, or says that the line of this number is bad. The answer is whether it is good.
-fn answer_piece<S: Store + Drop, D: LineDesk<S, FileFlash<S>>, R: CommitRule>(
+fn answer_piece<S: Store + Drop, D: LineDesk<S, LiveFlash<S>>, R: CommitRule>(
     alloc: Global,
     desk: &mut D,
-    server: &mut Server<FileFlash<S>, R>,
+    server: &mut Server<LiveFlash<S>, R>,
     next: Next,
     line: &[u8],
     number: u64,
@@ -140,10 +141,10 @@ fn answer_piece<S: Store + Drop, D: LineDesk<S, FileFlash<S>>, R: CommitRule>(
 }
 
 /// Does what a line asks for, and answers it, if it asks for anything. The answer is whether the line is good.
-fn answer_line<S: Store + Drop, D: LineDesk<S, FileFlash<S>>, R: CommitRule>(
+fn answer_line<S: Store + Drop, D: LineDesk<S, LiveFlash<S>>, R: CommitRule>(
     alloc: Global,
     desk: &mut D,
-    server: &mut Server<FileFlash<S>, R>,
+    server: &mut Server<LiveFlash<S>, R>,
     line: &[u8],
 ) -> Result<bool, Stop>
     requires { length line.now ≤ MAX_LINE_BYTES }
@@ -171,10 +172,10 @@ fn answer_line<S: Store + Drop, D: LineDesk<S, FileFlash<S>>, R: CommitRule>(
 }
 
 /// Does a command, makes durable what was done, and says its reply.
-fn answer_command<S: Store + Drop, D: LineDesk<S, FileFlash<S>>, R: CommitRule>(
+fn answer_command<S: Store + Drop, D: LineDesk<S, LiveFlash<S>>, R: CommitRule>(
     alloc: Global,
     desk: &mut D,
-    server: &mut Server<FileFlash<S>, R>,
+    server: &mut Server<LiveFlash<S>, R>,
     command: &Command,
 ) -> Result<(), Stop>
     requires { Suits server.old.config.page_bytes command.now }
@@ -200,7 +201,7 @@ fn answer_command<S: Store + Drop, D: LineDesk<S, FileFlash<S>>, R: CommitRule>(
 }
 
 /// Says that the line of this number is bad.
-fn say_bad_line<S: Store + Drop, D: LineDesk<S, FileFlash<S>>>(
+fn say_bad_line<S: Store + Drop, D: LineDesk<S, LiveFlash<S>>>(
     alloc: Global,
     desk: &mut D,
     number: u64,

@@ -13,15 +13,17 @@ use crate::ending::{Ending, end};
 use crate::opening::open_flash;
 use crate::session::serve_flash;
 use crate::words::parse_words;
-use file_flash::{FileFlash, Store};
+use file_flash::Store;
+use live_flash::LiveFlash;
 use program_base::ImageRefusal;
 use std::alloc::Global;
 
 /// Serves the lines of the input on the image file that the words name, and answers the status: 0 where the input ended
 /// and no line was bad, 4 where one was, 1 for words that are not those of the program, 2 for a file that is missing, 3
-/// for bytes that are no image file in use, 5 where a call of the desk or of the file failed, 6 for want of memory, 7
-/// for an image that is not sound, 9 for a file that is too long, and 15 for one that another program holds.
-pub fn top<S: Store + Drop, D: LineDesk<S, FileFlash<S>>>(
+/// for bytes that are neither an image file in use nor a live file, 5 where a call of the desk or of the file failed, 6
+/// for want of memory, 7 for an image that is not sound, 9 for a file that is too long, and 15 for one that another
+/// program holds.
+pub fn top<S: Store + Drop, D: LineDesk<S, LiveFlash<S>>>(
     alloc: Global,
     words: &[String],
     desk: &mut D,
@@ -40,7 +42,7 @@ pub fn top<S: Store + Drop, D: LineDesk<S, FileFlash<S>>>(
 }
 
 /// Does what the words ask for.
-fn serve<'a, S: Store + Drop, D: LineDesk<S, FileFlash<S>>>(
+fn serve<'a, S: Store + Drop, D: LineDesk<S, LiveFlash<S>>>(
     alloc: Global,
     words: &'a [String],
     desk: &mut D,

@@ -1,9 +1,11 @@
 ghost use Rattle.std.specs.Prelude.{◌≡◌, ◌≤◌, length, OnOk, Some, None};
 ghost use Rattle.file_flash.specs.FileFlashState.{FileFlashState};
-ghost use Rattle.live_session.specs.LineDesk.{LineDeskState, Claims, ReadsLine, Says, after, with_left};
+ghost use Rattle.live_session.specs.LineDesk.{LineDeskState, Claims, Closes, ReadsLine, Replaces, Says};
+ghost use Rattle.live_session.specs.LineDesk.{after, with_left};
 ghost use Rattle.live_session.specs.declared.lines.TheConstants.{MAX_LINE_BYTES};
 
-use file_flash::{FileFlash, Store};
+use file_flash::Store;
+use live_flash::LiveFlash;
 
 /// Why a call of a desk was not done.
 #[derive(Clone, Copy, PartialEq, Eq)]
@@ -48,7 +50,7 @@ pub trait Shown {
     ghost seen: { Self → FileFlashState };
 }
 
-impl<S: Store + Drop> Shown for FileFlash<S> {
+impl<S: Store + Drop> Shown for LiveFlash<S> {
     ghost seen = { λ f. f };
 }
 
@@ -76,6 +78,15 @@ pub trait LineDesk<S: Store + Drop, F: Shown + Drop> {
     /// a session is thus a clause on the list of what was said.
     fn answer(&mut self, flash: &F, bytes: &[u8]) -> Result<(), CallError>
         ensures { Says (Some (F.seen flash.now)) (state self.old) (state self.new) bytes.now result };
+
+    /// Puts a new file with these bytes at the name of the one that is held, and holds it in the other's stead, without
+    /// letting go in between. Once this is done the bytes are durable, and so is that they are at the name.
+    fn replace(&mut self, file: &mut S, bytes: &[u8]) -> Result<(), CallError>
+        ensures { Replaces (S.told file.old) (S.told file.new) (state self.old) (state self.new) bytes.now result };
+
+    /// Puts a new file with these bytes at the name of that of a flash, in the same way, and closes it.
+    fn close(&mut self, flash: F, bytes: &[u8]) -> Result<(), CallError>
+        ensures { Closes (F.seen flash) (state self.old) (state self.new) bytes.now result };
 
     /// Closes a file, whose flash the session leaves as it stands.
     fn release(&mut self, flash: F)

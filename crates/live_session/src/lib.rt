@@ -1,5 +1,5 @@
-//! A live device: the lines of an input are served one by one on the flash of an image file, which stays open, and each
-//! is answered once what was done is durable.
+//! A live device: the lines of an input are served one by one on the flash of an image file, which has its live format
+//! meanwhile, and each is answered once what was done is durable.
 #![tactic(auto)]
 
 mod answering;

@@ -6,14 +6,24 @@ ghost use Rattle.live_session.specs.RealDesk.{claim_faults, call_faults};
 
 use crate::lines::next_line;
 use crate::{CallError, ClaimError, LineDesk, Next, Shown};
-use desk_io::{LockFile, MAX_FILE_BYTES};
-use durable_folder::Lock;
+use desk_io::{LockFile, RealFolder};
+use durable_folder::{Lock, save_locked};
 use file_flash::RealStore;
 use std::fs::{File, OpenOptions};
-use std::io::{BufRead, ErrorKind, Write};
+use std::io::{BufRead, Error, ErrorKind, Write};
 use std::os::unix::fs::MetadataExt;
 use std::rt::HostRuntime;
 use std::{fs, io};
+
+/// The most bytes of a file that is served: as many as a live file has at most.
+const MAX_LIVE_BYTES: u64 = 134414336;
+
+/// The file that is held: its name, at the end of any link, and the file once more, which shares its lock.
+#[derive(Drop)]
+struct Held {
+    name: String,
+    file: File,
+}
 
 /// A desk whose lines come from a reader, and whose bytes go to a writer. It tells nothing but how many of its calls
 /// failed.
@@ -22,6 +32,7 @@ pub struct RealLineDesk<'a, I: BufRead + Drop, O: Write + Drop> {
     rt: &'a HostRuntime,
     input: I,
     output: O,
+    held: Option<Held>,
     faults: u64,
 }
 
@@ -32,6 +43,7 @@ impl<'a, I: BufRead + Drop, O: Write + Drop> RealLineDesk<'a, I, O> {
             rt,
             input,
             output,
+            held: None,
             faults: 0,
         }
     }
@@ -42,7 +54,7 @@ impl<'a, F: Shown + Drop, I: BufRead + Drop, O: Write + Drop> LineDesk<RealStore
     ghost state = { λ d. closed_desk d.faults };
 
     fn claim(&mut self, name: &str) -> Result<RealStore, ClaimError> {
-        answer_claim(claim(self.rt, name), &mut self.faults)
+        answer_claim(claim(self.rt, name, &mut self.held), &mut self.faults)
     }
 
     fn next_line(&mut self, line: &mut Vec<u8>) -> Result<Next, CallError> {
@@ -57,10 +69,29 @@ impl<'a, F: Shown + Drop, I: BufRead + Drop, O: Write + Drop> LineDesk<RealStore
         answer_say(self.output.write_all(bytes), &mut self.faults)
     }
 
+    /// The new file is open for writing alone: a session reads its file once, when it is opened.
+    fn replace(&mut self, file: &mut RealStore, bytes: &[u8]) -> Result<(), CallError> {
+        match renew(self.rt, &mut self.held, bytes) {
+            Ok(new) => {
+                *file = RealStore::new(new);
+                Ok(())
+            }
+            Err(_) => Err(CallError::Failed),
+        }
+    }
+
+    fn close(&mut self, flash: F, bytes: &[u8]) -> Result<(), CallError> {
+        let renewed = renew(self.rt, &mut self.held, bytes);
+        drop(flash);
+        self.held = None;
+        answer_close(renewed)
+    }
+
     fn release(&mut self, flash: F)
         ensures { closed_desk self.new.faults ≡ after (with_left (F.seen flash)) (closed_desk self.old.faults) }
     {
         drop(flash);
+        self.held = None;
     }
 }
 
@@ -102,20 +133,36 @@ fn answer_say(done: io::Result<()>, faults: &mut u64) -> Result<(), CallError>
     Ok(())
 }
 
+/// The answer to a closing, whose new file is let go.
+fn answer_close(renewed: io::Result<File>) -> Result<(), CallError>
+    ensures { result ≡ Err CallError.Memory → ⊥ }
+{
+    match renewed {
+        Ok(new) => {
+            drop(new);
+            Ok(())
+        }
+        Err(_) => Err(CallError::Failed),
+    }
+}
+
 /// Opens the file to which a name leads, and takes its lock, as a save does. A file that another one took the place of
 /// in between is in use by who put that there.
-fn claim(rt: &HostRuntime, name: &str) -> Result<RealStore, ClaimError> {
+fn claim(rt: &HostRuntime, name: &str, held: &mut Option<Held>) -> Result<RealStore, ClaimError> {
     let file = open(rt, name).map_err(claim_error)?;
     if matches!(file.take_lock(), Ok(Lock::Elsewhere)) {
         return Err(ClaimError::InUse);
     }
-    if !leads_to(rt, name, &file).map_err(claim_error)? {
+    let name = end_of(rt, name).map_err(claim_error)?;
+    if !leads_to(rt, &name, &file).map_err(claim_error)? {
         return Err(ClaimError::InUse);
     }
     let length = file.metadata().map_err(claim_error)?.len();
-    if length > MAX_FILE_BYTES as u64 {
+    if length > MAX_LIVE_BYTES {
         return Err(ClaimError::TooLong);
     }
+    let again = file.try_clone().map_err(claim_error)?;
+    *held = Some(Held { name, file: again });
     Ok(RealStore::new(file))
 }
 
@@ -124,11 +171,39 @@ fn open(rt: &HostRuntime, name: &str) -> io::Result<File> {
     OpenOptions::new().read(true).write(true).open(rt, name)
 }
 
+/// The name at the end of a link, or this name where it is none.
+fn end_of(rt: &HostRuntime, name: &str) -> io::Result<String> {
+    if !fs::symlink_metadata(rt, name)?.is_symlink() {
+        return Ok(format!(in rt.alloc(); "{name}")?);
+    }
+    let end = fs::canonicalize(rt, name)?;
+    let name = end.as_str();
+    Ok(format!(in rt.alloc(); "{name}")?)
+}
+
 /// Whether a name leads to this open file.
 fn leads_to(rt: &HostRuntime, name: &str, file: &File) -> io::Result<bool> {
     let named = fs::metadata(rt, name)?;
     let opened = file.metadata()?;
     Ok(named.dev() == opened.dev() && named.ino() == opened.ino())
+}
+
+/// Puts a new file with these bytes at the name of the one that is held, and holds it in the other's stead.
+fn renew(rt: &HostRuntime, held: &mut Option<Held>, bytes: &[u8]) -> io::Result<File> {
+    let Some(held) = held else {
+        return Err(Error::from(ErrorKind::NotFound));
+    };
+    let new = save(rt, held, bytes)?;
+    held.file = new.try_clone()?;
+    Ok(new)
+}
+
+/// Puts a new file with these bytes at the name of the one that is held, as a save does. It is locked. Where the system
+/// gives no leave for a new file, or the old one has several names, this is an error: nothing is written in place.
+fn save(rt: &HostRuntime, held: &Held, bytes: &[u8]) -> io::Result<File> {
+    let mut folder = RealFolder { rt };
+    let saved = save_locked(&mut folder, rt.alloc(), &held.name, &held.file, bytes)?;
+    saved.ok_or(Error::from(ErrorKind::Other))
 }
 
 /// Why a file was not opened, by the kind of the error.

@@ -1,7 +1,8 @@
 -- What a loss of power may leave, where a write is kept or a part of it.
-use Rattle.lossy_store.proofs.Common.{◌≡◌, ℕ, zero, suc, ◌<◌, Bool, List, [], ◌∷◌, length, get_or, set, Option, Some, None, Contains, refl, sym, subst, ◌∙◌, inl, inr, arith, cases_eq, unwrap_or, FileState, values_at, LeavesBytes, byte_in, byte_over, in_front, values_from, file_of, Write}
+use Rattle.lossy_store.proofs.Common.{◌≡◌, ℕ, zero, suc, ◌<◌, Bool, false, List, [], ◌∷◌, length, get_or, set, Option, Some, None, Contains, refl, sym, subst, ◌∙◌, inl, inr, arith, cases_eq, unwrap_or, FileState, values_at, LeavesBytes, byte_in, byte_over, in_front, values_from, file_of, Write}
 use Rattle.std.proofs.lemmas.List.{length-set, get_or-set_same, get_or-set_other}
 use Rattle.std.proofs.lemmas.List.Elements.{Contains-append_right}
+use Rattle.file_flash.specs.Opening.{IsDurable}
 use Rattle.lossy_store.proofs.Places.{long, at_place}
 
 contains_first : (x : ℕ) (xs : List ℕ) → Contains (x ∷ xs) x
@@ -72,3 +73,7 @@ module _ (durable : List ℕ) (ws : List Write) (copies : Bool) where
       (subst (λ values. Contains values (byte_over (get_or ws i d) at (get_or left at 0))) (sym place)
       (contains_over ws i d at (get_or durable at 0 ∷ []) (get_or left at 0) number
       (subst (λ values. Contains values (get_or left at 0)) place (l.each at within))))
+
+-- a file of which all bytes are durable, and no copies are held
+pub all_durable : (bytes : List ℕ) → IsDurable bytes (file_of bytes [] false)
+all_durable bytes = record { long = long bytes [] false; copies = refl; each = at_place bytes [] false }

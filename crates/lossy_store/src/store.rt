@@ -1,5 +1,6 @@
 ghost use Rattle.std.specs.Prelude.{◌≡◌, [], length, true, false};
 ghost use Rattle.file_flash.specs.Files.{LeavesBytes};
+ghost use Rattle.file_flash.specs.Opening.{IsDurable};
 ghost use Rattle.lossy_store.specs.Writes.{file_of, bytes_in};
 
 use crate::write::{Write, lay_all, note};
@@ -49,6 +50,20 @@ impl LossyStore {
             durable: bytes,
             writes: Vec::new(alloc),
             copies: true,
+            calls: 0,
+            failure,
+        }
+    }
+
+    /// A new file of these bytes, which are durable, and of which the system holds no copies.
+    pub fn new_durable(alloc: Global, bytes: Vec<u8>, failure: Option<Failure>) -> LossyStore
+        ensures { IsDurable bytes.items (file_of result.durable.items result.writes.items result.copies) }
+    {
+        LossyStore {
+            alloc,
+            durable: bytes,
+            writes: Vec::new(alloc),
+            copies: false,
             calls: 0,
             failure,
         }

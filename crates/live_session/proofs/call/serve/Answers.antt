@@ -2,7 +2,7 @@ use Rattle.std.proofs.Common.{◌≡◌, ℕ, List, Option, None, Some, Bor, opt
 use Rattle.live_session.specs.Endings.{ending_of}
 use Rattle.live_session.specs.Top.{not_named, not_opened}
 use Rattle.live_session.specs.Words.{name_by}
-use Rattle.live_session.proofs.Durably.{claims_durably, not_opened_durably}
+use Rattle.live_session.proofs.Durably.{begins_durably, not_opened_durably}
 use Rattle.live_session.proofs.Faulting.{file_fault, not_opened_fault}
 use Rattle.live_session.proofs.Stopping.{calls_held}
 use Rattle.live_session.proofs.Talking.{serves_file}
@@ -37,8 +37,8 @@ returns-in-Ok-clause-calls g c =
 pub returns-in-Ok-clause-durable : goal.returns-in-Ok-clause-durable
 returns-in-Ok-clause-durable g c = λ said.
     c.serve_flash.ensures.durable
-    (claims_durably c.in-Some.name.now (g.D.LineDesk.state c.args.desk.now) (g.D.LineDesk.state c.open_flash.new.desk)
-    c.in-Ok.ensures.0 said)
+    (begins_durably c.in-Some.name.now c.in-Ok.flash (g.D.LineDesk.state c.args.desk.now)
+    (g.D.LineDesk.state c.open_flash.new.desk) c.in-Ok.ensures.0 said)
 
 pub returns-in-Err-clause-durable : goal.returns-in-Err-clause-durable
 returns-in-Err-clause-durable g c = λ said.

@@ -1,0 +1,12 @@
+mod Common
+pub mod Places
+pub mod Turning
+pub mod Losing
+pub mod Following
+pub mod Clearing
+pub mod Calls
+pub mod OfTold
+pub mod Kept
+pub mod Spelled
+pub mod Leaving
+mod Apart

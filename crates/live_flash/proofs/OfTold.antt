@@ -1,0 +1,243 @@
+-- What holds of the file that is told, after each call of the follower.
+use Rattle.live_flash.proofs.Common.{◌≡◌, ℕ, suc, ◌<◌, ◌≤◌, ◌+◌, ◌==◌, true, false, List, [], ◌∷◌, ◌++◌, length, take, get_or, Option, Result, Ok, Err, OnOk, IfSome, refl, ap, subst, ◌∙◌, inr, ⊎_elim, arith, slots_of, Shape, Slot, Contents, blank, slot_at, IsImage, StoreError, FileState, values_at, Syncs, SyncsFile, BothTell, slots_in, AreProgrammed, IsOpened, IsLiveFile, IsTurning, TurnsSlot, Follows, LosesOnly, LosesBetween, Tears, sym, inl, ◌||◌, LeavesCounted}
+use Rattle.std.proofs.lemmas.Bool.{cases_Bool, both_ways, or_left, or_right}
+use Rattle.std.proofs.lemmas.List.Folds.{list_any-append}
+use Rattle.file_flash.specs.Clearing.{IsCleared}
+use Rattle.file_flash.proofs.Programming.{Starts, in_front, only_front}
+use Rattle.file_flash.proofs.Told.{carry, carry_both, weaken, weaken_both}
+use Rattle.file_flash.proofs.Writing.{values_stay}
+use Rattle.live_flash.proofs.Losing.{follows_lose, same_left}
+use Rattle.live_flash.proofs.Following.{front_here, waits_now, lose_but, skip_follows, starts_follow, flushed}
+use Rattle.live_flash.proofs.Clearing.{none_torn, torn_next, torn_loses, tears_lose, cleared, cleared_loses}
+
+-- ---- lists of slots
+
+pub in_left : (xs ys : List Slot) (k : ℕ) → slots_in xs k ≡ true → slots_in (xs ++ ys) k ≡ true
+in_left xs ys k e = list_any-append (λ a. a.0 == k) xs ys ∙ or_left (slots_in xs k) (slots_in ys k) e
+
+pub in_right : (xs ys : List Slot) (k : ℕ) → slots_in ys k ≡ true → slots_in (xs ++ ys) k ≡ true
+in_right xs ys k e = list_any-append (λ a. a.0 == k) xs ys ∙ or_right (slots_in xs k) (slots_in ys k) e
+
+pub none_in : (slots : List Slot) (k : ℕ) → slots_in [] k ≡ true → slots_in slots k ≡ true
+none_in slots k e = absurd (both_ways false refl e)
+
+-- ---- a write of a slot
+
+module _ (shape : Shape) (at : ℕ) (c d : Contents) (r : Result (Unit {0}) StoreError) (old new : Option FileState)
+    (told : BothTell (TurnsSlot shape at c d r) old new) where
+  pub opened_turned : IfSome old (IsOpened shape) → IfSome new (IsOpened shape)
+  opened_turned o = carry (IsOpened shape) (IsOpened shape) (TurnsSlot shape at c d r) old new told o
+      (λ a b t it. record { long = t.long ∙ it.long; copies = t.copies it.copies })
+
+  pub kept_turned : (head : List ℕ) → IfSome old (IsLiveFile shape head) → IfSome new (IsLiveFile shape head)
+  kept_turned head f = carry (IsLiveFile shape head) (IsLiveFile shape head) (TurnsSlot shape at c d r) old new told f
+      (λ a b t it. record { long = t.long ∙ it.long; header = λ k inside. t.header k inside ∙ it.header k inside })
+
+-- ---- a sync
+
+module _ (shape : Shape) (old new : Option FileState) where
+  pub opened_synced : (r : Result (Unit {0}) StoreError) → BothTell (SyncsFile r) old new →
+      IfSome old (IsOpened shape) → OnOk r (IfSome new (IsOpened shape))
+  opened_synced (Err e) told o = tt
+  opened_synced (Ok u) told o = carry (IsOpened shape) (IsOpened shape) (SyncsFile (Ok u)) old new told o
+      (λ a b s it. record { long = s.long ∙ it.long; copies = s.copies it.copies })
+
+  pub kept_synced : (head : List ℕ) (r : Result (Unit {0}) StoreError) → BothTell (SyncsFile r) old new →
+      IfSome old (IsLiveFile shape head) → IfSome new (IsLiveFile shape head)
+  kept_synced head (Err e) told f = carry (IsLiveFile shape head) (IsLiveFile shape head) (SyncsFile (Err e)) old new
+      told f
+      (λ a b s it. record {
+        long = ap length s ∙ it.long;
+        header = λ k inside. values_stay a b s k ∙ it.header k inside;
+      })
+  kept_synced head (Ok u) told f = carry (IsLiveFile shape head) (IsLiveFile shape head) (SyncsFile (Ok u)) old new
+      told f
+      (λ a b s it. record {
+        long = s.long ∙ it.long;
+        header = λ k inside. header_synced a b k (get_head k) s (it.header k inside);
+      })
+    where
+      get_head : ℕ → ℕ
+      get_head k = get_or head k 0
+
+      header_synced : (a b : FileState) (k value : ℕ) → Syncs a b → values_at a k ≡ value ∷ [] →
+          values_at b k ≡ value ∷ []
+      header_synced a b k value s is = ⊎_elim
+          (λ one. one ∙ ap (take 1) is)
+          (λ same. same ∙ is)
+          (s.each k)
+
+-- ---- a program
+
+module _ (shape : Shape) (image : List Contents) (waiting due : List Slot) (at : Slot) (is : IsImage shape image)
+    (exists : at.0 < slots_of shape) (r : Result (Unit {0}) StoreError) (old new : Option FileState)
+    (told : BothTell (TurnsSlot shape at.0 blank (slot_at image at.0) r) old new)
+    (f : IfSome old (Follows shape image waiting (at ∷ due))) where
+  low : at.0 < length image
+  low = omega (arith, is.slots, exists)
+
+  pub put_loses : IfSome old (IsOpened shape) → IfSome new (LosesOnly shape image (waiting ++ at ∷ due))
+  put_loses o = carry_both (IsOpened shape) (Follows shape image waiting (at ∷ due))
+      (LosesOnly shape image (waiting ++ at ∷ due)) (TurnsSlot shape at.0 blank (slot_at image at.0) r) old new told o f
+      (λ a b t it follows. lose_but shape image waiting due at a b is exists t.others follows (waiting ++ at ∷ due)
+      (t.long ∙ it.long) (t.either (follows.due at.0 low (front_here at due)))
+      (in_left waiting (at ∷ due)) (in_right waiting (at ∷ due)))
+
+pub put_waits : (shape : Shape) (image : List Contents) (waiting due : List Slot) (at : Slot) → IsImage shape image →
+    at.0 < slots_of shape → (r : Result (Unit {0}) StoreError) (old new : Option FileState) →
+    BothTell (TurnsSlot shape at.0 blank (slot_at image at.0) r) old new →
+    IfSome old (Follows shape image waiting (at ∷ due)) → slots_in due at.0 ≡ false →
+    OnOk r (IfSome new (Follows shape image (waiting ++ at ∷ []) due))
+put_waits shape image waiting due at is exists (Err e) old new told f apart = tt
+put_waits shape image waiting due at is exists (Ok u) old new told f apart =
+    carry (Follows shape image waiting (at ∷ due)) (Follows shape image (waiting ++ at ∷ []) due)
+    (TurnsSlot shape at.0 blank (slot_at image at.0) (Ok u)) old new told f
+    (λ a b t it. waits_now shape image waiting due at a b is exists t.others it apart
+    (t.turns (it.due at.0 (omega (arith, is.slots, exists)) (front_here at due))))
+
+-- a slot that is blank still, and one that could not be noted
+pub put_skips : (shape : Shape) (image : List Contents) (waiting due : List Slot) (at : Slot)
+    (file : Option FileState) → AreProgrammed image waiting → slot_at image at.0 ≡ blank →
+    IfSome file (Follows shape image waiting (at ∷ due)) → IfSome file (Follows shape image waiting due)
+put_skips shape image waiting due at file all empty f =
+    weaken (Follows shape image waiting (at ∷ due)) (Follows shape image waiting due) file f
+    (λ a it. skip_follows shape image waiting due at a all empty it)
+
+pub loses_now : (shape : Shape) (image : List Contents) (waiting due slots : List Slot) (file : Option FileState) →
+    IsImage shape image → ((k : ℕ) → slots_in waiting k ≡ true → slots_in slots k ≡ true) →
+    ((k : ℕ) → slots_in due k ≡ true → slots_in slots k ≡ true) → IfSome file (IsOpened shape) →
+    IfSome file (Follows shape image waiting due) → IfSome file (LosesOnly shape image slots)
+loses_now shape image waiting due slots file is waits dues o f =
+    weaken_both (IsOpened shape) (Follows shape image waiting due) (LosesOnly shape image slots) file o f
+    (λ a it follows. follows_lose shape image waiting due slots a is it.long follows waits dues)
+
+-- ---- a flush
+
+pub flush_follows : (shape : Shape) (image : List Contents) (waiting : List Slot) (r : Result (Unit {0}) StoreError)
+    (old new : Option FileState) → BothTell (SyncsFile r) old new → IfSome old (IsOpened shape) →
+    IfSome old (Follows shape image waiting []) → OnOk r (IfSome new (Follows shape image [] []))
+flush_follows shape image waiting (Err e) old new told o f = tt
+flush_follows shape image waiting (Ok u) old new told o f =
+    carry_both (IsOpened shape) (Follows shape image waiting []) (Follows shape image [] []) (SyncsFile (Ok u))
+    old new told o f
+    (λ a b s it follows. flushed shape image waiting a b it s follows)
+
+pub flush_loses : (shape : Shape) (image : List Contents) (waiting : List Slot) (r : Result (Unit {0}) StoreError)
+    (old new : Option FileState) → IsImage shape image → BothTell (SyncsFile r) old new →
+    IfSome old (IsOpened shape) → IfSome old (Follows shape image waiting []) →
+    IfSome new (LosesOnly shape image waiting)
+flush_loses shape image waiting (Err e) old new is told o f =
+    carry_both (IsOpened shape) (Follows shape image waiting []) (LosesOnly shape image waiting) (SyncsFile (Err e))
+    old new told o f
+    (λ a b s it follows left l. follows_lose shape image waiting [] waiting a is it.long follows (λ k e'. e')
+    (none_in waiting) left (same_left a b left s l))
+flush_loses shape image waiting (Ok u) old new is told o f =
+    carry_both (IsOpened shape) (Follows shape image waiting []) (LosesOnly shape image waiting) (SyncsFile (Ok u))
+    old new told o f
+    (λ a b s it follows. follows_lose shape image [] [] waiting b is (s.long ∙ it.long)
+    (flushed shape image waiting a b it s follows) (none_in waiting) (none_in waiting))
+
+-- ---- a block that is written anew
+
+module _ (shape : Shape) (was image : List Contents) (first : ℕ) where
+  pub none_torn_told : (file : Option FileState) → IfSome file (Follows shape was [] []) →
+      IfSome file (Tears shape was image first first)
+  none_torn_told file f = weaken (Follows shape was [] []) (Tears shape was image first first) file f
+      (λ a it. none_torn shape was image first a it)
+
+  module _ (at : ℕ) (from : first ≤ at) (r : Result (Unit {0}) StoreError) (old new : Option FileState)
+      (told : BothTell (TurnsSlot shape at (slot_at was at) (slot_at image at) r) old new)
+      (t : IfSome old (Tears shape was image first at)) where
+    pub torn_next_told : r ≡ Ok tt → IfSome new (Tears shape was image first (suc at))
+    torn_next_told ok = carry (Tears shape was image first at) (Tears shape was image first (suc at))
+        (TurnsSlot shape at (slot_at was at) (slot_at image at) r) old new told t
+        (λ a b turns it. torn_next shape was image first at a b from turns.others it
+        (λ low. done b (turns.turns (it.outside at low (inr (omega arith))))))
+      where
+        done : (b : FileState) → OnOk r (IsTurning shape (slot_at was at) (slot_at image at) b at) →
+            IsTurning shape (slot_at was at) (slot_at image at) b at
+        done b x = subst (λ y. OnOk y (IsTurning shape (slot_at was at) (slot_at image at) b at)) ok x
+
+    pub torn_loses_told : IsImage shape was → IfSome old (IsOpened shape) → IfSome new (LosesBetween shape was image)
+    torn_loses_told is o = carry_both (IsOpened shape) (Tears shape was image first at) (LosesBetween shape was image)
+        (TurnsSlot shape at (slot_at was at) (slot_at image at) r) old new told o t
+        (λ a b turns it tears. torn_loses shape was image first at a b from turns.others tears is
+        (turns.long ∙ it.long) (λ low. turns.either (tears.outside at low (inr (omega arith)))))
+
+  pub tears_told : (upto : ℕ) (file : Option FileState) → IsImage shape was → IfSome file (IsOpened shape) →
+      IfSome file (Tears shape was image first upto) → IfSome file (LosesBetween shape was image)
+  tears_told upto file is o t = weaken_both (IsOpened shape) (Tears shape was image first upto)
+      (LosesBetween shape was image) file o t
+      (λ a it tears. tears_lose shape was image first upto a is it.long tears)
+
+  pub cleared_told : (count : ℕ) → IsCleared was image first count → (r : Result (Unit {0}) StoreError)
+      (old new : Option FileState) → BothTell (SyncsFile r) old new → IfSome old (IsOpened shape) →
+      IfSome old (Tears shape was image first (first + count)) → OnOk r (IfSome new (Follows shape image [] []))
+  cleared_told count c (Err e) old new told o t = tt
+  cleared_told count c (Ok u) old new told o t =
+      carry_both (IsOpened shape) (Tears shape was image first (first + count)) (Follows shape image [] [])
+      (SyncsFile (Ok u)) old new told o t
+      (λ a b s it tears. cleared shape was image first count a b it s c tears)
+
+  pub cleared_loses_told : (count : ℕ) → IsImage shape was → IsCleared was image first count →
+      (r : Result (Unit {0}) StoreError) (old new : Option FileState) → BothTell (SyncsFile r) old new →
+      IfSome old (IsOpened shape) → IfSome old (Tears shape was image first (first + count)) →
+      IfSome new (LosesBetween shape was image)
+  cleared_loses_told count is c (Err e) old new told o t =
+      carry_both (IsOpened shape) (Tears shape was image first (first + count)) (LosesBetween shape was image)
+      (SyncsFile (Err e)) old new told o t
+      (λ a b s it tears left l. tears_lose shape was image first (first + count) a is it.long tears left
+      (same_left a b left s l))
+  cleared_loses_told count is c (Ok u) old new told o t =
+      carry_both (IsOpened shape) (Tears shape was image first (first + count)) (LosesBetween shape was image)
+      (SyncsFile (Ok u)) old new told o t
+      (λ a b s it tears. cleared_loses shape was image b is c.lengths (s.long ∙ it.long)
+      (cleared shape was image first count a b it s c tears))
+
+-- ---- a program in memory
+
+pub follows_but : (told : Option FileState) (old_shape shape : Shape) (old new : List Contents)
+    (waiting due : List Slot) → shape ≡ old_shape →
+    AreProgrammed old waiting → Starts old new due → IfSome told (Follows old_shape old waiting []) →
+    IfSome told (Follows shape new waiting due)
+follows_but told old_shape shape old new waiting due same all st f =
+    weaken (Follows old_shape old waiting []) (Follows shape new waiting due) told f (λ a it.
+    starts_follow shape old new waiting due a all st (subst (λ s. Follows s old waiting [] a) (sym same) it))
+
+-- the slots that may be lost are the same in another order
+pub lose_more : (shape : Shape) (image : List Contents) (slots more : List Slot) (file : Option FileState) →
+    ((k : ℕ) → slots_in slots k ≡ true → slots_in more k ≡ true) → IfSome file (LosesOnly shape image slots) →
+    IfSome file (LosesOnly shape image more)
+lose_more shape image slots more file all loses =
+    weaken (LosesOnly shape image slots) (LosesOnly shape image more) file loses
+    (λ a it left l. let r = it left l in (
+      r.0,
+      λ k inside. ⊎_elim (λ same. inl same) (λ none. inr (all k none.0, none.1)) (r.1 k inside),
+    ))
+
+front_back : (waiting : List Slot) (at : Slot) (k : ℕ) → slots_in (waiting ++ at ∷ []) k ≡ true →
+    slots_in (at ∷ waiting) k ≡ true
+front_back waiting at k e = elim (cases_Bool (slots_in waiting k)) [
+  | inl wait ↦ in_front at waiting k wait
+  | inr not ↦ only_front at waiting k
+      (sym (list_any-append (λ a. a.0 == k) waiting (at ∷ [])
+      ∙ ap (λ b. b || slots_in (at ∷ []) k) not) ∙ e)
+]
+
+pub loses_front : (shape : Shape) (image : List Contents) (waiting : List Slot) (at : Slot)
+    (file : Option FileState) → IfSome file (LosesOnly shape image (waiting ++ at ∷ [])) →
+    IfSome file (LosesOnly shape image (at ∷ waiting))
+loses_front shape image waiting at file loses =
+    lose_more shape image (waiting ++ at ∷ []) (at ∷ waiting) file (front_back waiting at) loses
+
+-- ---- what is left is counted
+
+pub only_counted : (shape : Shape) (image : List Contents) (slots : List Slot) (file : Option FileState) →
+    IfSome file (LosesOnly shape image slots) → IfSome file (LeavesCounted shape)
+only_counted shape image slots file loses =
+    weaken (LosesOnly shape image slots) (LeavesCounted shape) file loses (λ a it left l. (it left l).0)
+
+pub between_counted : (shape : Shape) (old new : List Contents) (file : Option FileState) →
+    IfSome file (LosesBetween shape old new) → IfSome file (LeavesCounted shape)
+between_counted shape old new file loses =
+    weaken (LosesBetween shape old new) (LeavesCounted shape) file loses (λ a it left l. (it left l).0)

@@ -1,0 +1,34 @@
+use Rattle.live_flash.proofs.Common.{[], ◌≡◌, subst, Result, Ok, OnOk, IfSome, StoreError, Follows}
+use Rattle.live_flash.proofs.OfTold.{none_in, loses_now, flush_follows, flush_loses}
+use Rattle.live_flash.proofs.follower.Follower.flush.Goals as goal
+
+-- what comes after an Ok
+on_done : (P : Type 0) (r : Result (Unit {0}) StoreError) → r ≡ Ok tt → OnOk r P → P
+on_done P r ok here = subst (λ x. OnOk x P) ok here
+
+pub returns-then-is_empty-clause-loses : goal.returns-then-is_empty-clause-loses
+returns-then-is_empty-clause-loses g c =
+    let m = c.args.memory.now in
+    let waiting = c.args.self.now.waiting.items in
+    loses_now m.shape m.image waiting [] waiting (g.S.Store.told c.args.self.now.store) c.shape.ensures.whole
+    (λ k e. e) (none_in waiting) c.requires.opened c.requires.follows
+
+pub returns-in_err-sync-clause-loses : goal.returns-in_err-sync-clause-loses
+returns-in_err-sync-clause-loses g c =
+    let m = c.args.memory.now in
+    flush_loses m.shape m.image c.args.self.now.waiting.items c.sync.result (g.S.Store.told c.args.self.now.store)
+    (g.S.Store.told c.sync.new.self) c.shape.ensures.whole c.sync.ensures c.requires.opened c.requires.follows
+
+pub returns-clause-follows : goal.returns-clause-follows
+returns-clause-follows g c =
+    let m = c.args.memory.now in
+    let new = g.S.Store.told c.sync.new.self in
+    on_done (IfSome new (Follows m.shape m.image [] [])) c.sync.result c.in_ok-sync.was
+    (flush_follows m.shape m.image c.args.self.now.waiting.items c.sync.result (g.S.Store.told c.args.self.now.store)
+    new c.sync.ensures c.requires.opened c.requires.follows)
+
+pub returns-clause-loses : goal.returns-clause-loses
+returns-clause-loses g c =
+    let m = c.args.memory.now in
+    flush_loses m.shape m.image c.args.self.now.waiting.items c.sync.result (g.S.Store.told c.args.self.now.store)
+    (g.S.Store.told c.sync.new.self) c.shape.ensures.whole c.sync.ensures c.requires.opened c.requires.follows

@@ -1,0 +1,5 @@
+pub mod Following
+pub mod Losing
+pub mod Flushes
+pub mod LiveFlash
+pub mod Loads

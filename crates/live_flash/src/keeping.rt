@@ -1,0 +1,138 @@
+//! How the file follows the calls of the flash in memory.
+ghost use Rattle.std.specs.Prelude.{◌≡◌, ◌≤◌, ◌<◌, ◌+◌, ◌⊎◌, ◌∷◌, ◌++◌, [], ℕ, List, length, OnOk, IfSome, true, false};
+ghost use Rattle.tx_types.specs.Config.{slots_of};
+ghost use Rattle.tx_types.specs.declared.config.Slot.{Slot};
+ghost use Rattle.flash_model.specs.Flash.{Contents, slot_at, IsImage};
+ghost use Rattle.flash_model.specs.Calls.{seen_of};
+ghost use Rattle.flash_model.specs.Readings.{reads_blank};
+ghost use Rattle.file_flash.specs.Clearing.{IsCleared};
+ghost use Rattle.file_flash.specs.Following.{AreProgrammed, slots_in};
+ghost use Rattle.live_image.specs.Slots.{slot_bytes};
+ghost use Rattle.live_flash.specs.Following.{IsOpened, IsLiveFile, Follows};
+ghost use Rattle.live_flash.specs.Losing.{LosesOnly, LosesBetween, Tears};
+
+use crate::Follower;
+use file_flash::{Store, StoreError};
+use flash_model::{Flash, Seen};
+use mem_flash::MemFlash;
+use tx_types::Slot;
+
+/// Whether a slot is blank in memory.
+fn is_blank(memory: &MemFlash, at: Slot) -> bool
+    requires { at.0 < slots_of memory.now.shape }
+    ensures { result ≡ reads_blank (seen_of (slot_at memory.now.image at.0)) }
+{
+    match memory.seen(at) {
+        Seen::Blank => true,
+        Seen::Complete | Seen::Damaged => false,
+    }
+}
+
+impl<S: Store + Drop> Follower<S> {
+    /// Follows a program of the slot in memory: where it is not blank it is written over the erased one of the file, by
+    /// one write, and waits for a flush. Slots may be due still, and where this fails so is this one.
+    pub fn put(&mut self, memory: &MemFlash, at: Slot) -> Result<(), StoreError>
+        requires exists { at.0 < slots_of memory.now.shape }
+        requires room { length self.old.room.items ≡ slot_bytes memory.now.shape.page_bytes }
+        requires opened { IfSome (S.told self.old.store) (IsOpened memory.now.shape) }
+        requires programmed { AreProgrammed memory.now.image self.old.waiting.items }
+        ensures room { length self.new.room.items ≡ length self.old.room.items }
+        ensures programmed { OnOk result (AreProgrammed memory.now.image self.new.waiting.items) }
+        ensures opened { IfSome (S.told self.new.store) (IsOpened memory.now.shape) }
+        ensures kept { (head : List ℕ) → IfSome (S.told self.old.store) (IsLiveFile memory.now.shape head) →
+            IfSome (S.told self.new.store) (IsLiveFile memory.now.shape head) }
+        ensures waits { (self.new.waiting.items ≡ self.old.waiting.items)
+            ⊎ (self.new.waiting.items ≡ self.old.waiting.items ++ at ∷ []) }
+        ensures follows { (due : List Slot) → slots_in due at.0 ≡ false →
+            IfSome (S.told self.old.store)
+            (Follows memory.now.shape memory.now.image self.old.waiting.items (at ∷ due)) →
+            OnOk result (IfSome (S.told self.new.store)
+            (Follows memory.now.shape memory.now.image self.new.waiting.items due)) }
+        ensures loses { (due : List Slot) →
+            IfSome (S.told self.old.store)
+            (Follows memory.now.shape memory.now.image self.old.waiting.items (at ∷ due)) →
+            IfSome (S.told self.new.store)
+            (LosesOnly memory.now.shape memory.now.image (self.old.waiting.items ++ at ∷ due)) }
+    {
+        let _ = memory.shape();
+        if is_blank(memory, at) {
+            return Ok(());
+        }
+        self.waiting.push(at).map_err(|_| StoreError)?;
+        self.program_slot(memory, at)
+    }
+
+    /// Makes durable the slots that wait, by one sync.
+    pub fn flush(&mut self, memory: &MemFlash) -> Result<(), StoreError>
+        requires opened { IfSome (S.told self.old.store) (IsOpened memory.now.shape) }
+        requires follows { IfSome (S.told self.old.store)
+            (Follows memory.now.shape memory.now.image self.old.waiting.items []) }
+        ensures none { OnOk result (self.new.waiting.items ≡ []) }
+        ensures room { self.new.room ≡ self.old.room }
+        ensures opened { OnOk result (IfSome (S.told self.new.store) (IsOpened memory.now.shape)) }
+        ensures kept { (head : List ℕ) → IfSome (S.told self.old.store) (IsLiveFile memory.now.shape head) →
+            IfSome (S.told self.new.store) (IsLiveFile memory.now.shape head) }
+        ensures follows { OnOk result (IfSome (S.told self.new.store)
+            (Follows memory.now.shape memory.now.image [] [])) }
+        ensures loses { IfSome (S.told self.new.store)
+            (LosesOnly memory.now.shape memory.now.image self.old.waiting.items) }
+    {
+        let _ = memory.shape();
+        if self.waiting.is_empty() {
+            return Ok(());
+        }
+        self.store.sync()?;
+        self.waiting.clear();
+        Ok(())
+    }
+
+    /// Writes anew slots that follow each other, of which an erase took what they held, and makes them durable. No slot
+    /// waits.
+    pub fn rewrite(&mut self, memory: &MemFlash, first: u32, count: u32) -> Result<(), StoreError>
+        requires exist { first + count ≤ slots_of memory.now.shape }
+        requires room { length self.old.room.items ≡ slot_bytes memory.now.shape.page_bytes }
+        requires opened { IfSome (S.told self.old.store) (IsOpened memory.now.shape) }
+        ensures same { self.new.waiting ≡ self.old.waiting }
+        ensures room { length self.new.room.items ≡ length self.old.room.items }
+        ensures opened { OnOk result (IfSome (S.told self.new.store) (IsOpened memory.now.shape)) }
+        ensures kept { (head : List ℕ) → IfSome (S.told self.old.store) (IsLiveFile memory.now.shape head) →
+            IfSome (S.told self.new.store) (IsLiveFile memory.now.shape head) }
+        ensures follows { (old : List Contents) → IsCleared old memory.now.image first count →
+            IfSome (S.told self.old.store) (Follows memory.now.shape old [] []) →
+            OnOk result (IfSome (S.told self.new.store) (Follows memory.now.shape memory.now.image [] [])) }
+        ensures loses { (old : List Contents) → IsImage memory.now.shape old →
+            IsCleared old memory.now.image first count →
+            IfSome (S.told self.old.store) (Follows memory.now.shape old [] []) →
+            IfSome (S.told self.new.store) (LosesBetween memory.now.shape old memory.now.image) }
+    {
+        let _ = memory.shape();
+        self.tear(memory, first, count)?;
+        self.store.sync()
+    }
+
+    /// Writes them anew.
+    fn tear(&mut self, memory: &MemFlash, first: u32, count: u32) -> Result<(), StoreError>
+        requires exist { first + count ≤ slots_of memory.now.shape }
+        requires room { length self.old.room.items ≡ slot_bytes memory.now.shape.page_bytes }
+        requires opened { IfSome (S.told self.old.store) (IsOpened memory.now.shape) }
+        ensures same { self.new.waiting ≡ self.old.waiting }
+        ensures room { length self.new.room.items ≡ length self.old.room.items }
+        ensures opened { IfSome (S.told self.new.store) (IsOpened memory.now.shape) }
+        ensures kept { (head : List ℕ) → IfSome (S.told self.old.store) (IsLiveFile memory.now.shape head) →
+            IfSome (S.told self.new.store) (IsLiveFile memory.now.shape head) }
+        ensures tears { (old : List Contents) → IsCleared old memory.now.image first count →
+            IfSome (S.told self.old.store) (Follows memory.now.shape old [] []) →
+            OnOk result (IfSome (S.told self.new.store)
+            (Tears memory.now.shape old memory.now.image first (first + count))) }
+        ensures loses { (old : List Contents) → IsImage memory.now.shape old →
+            IsCleared old memory.now.image first count →
+            IfSome (S.told self.old.store) (Follows memory.now.shape old [] []) →
+            IfSome (S.told self.new.store) (LosesBetween memory.now.shape old memory.now.image) }
+    {
+        let _ = memory.shape();
+        for number in first..first + count {
+            self.clear_slot(memory, Slot(number))?;
+        }
+        Ok(())
+    }
+}

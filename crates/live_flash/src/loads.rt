@@ -1,0 +1,112 @@
+//! The slots of the programs that are loaded in the registers of the dies.
+ghost use Rattle.std.specs.Prelude.{◌≡◌, ◌++◌, ◌<◌, ◌∷◌, ℕ, List, [], length, true, replicate, Option, None, IfOk, IfSome, OnOk};
+ghost use Rattle.tx_types.specs.Config.{slots_of, IsShape};
+ghost use Rattle.tx_types.specs.declared.config.Slot.{Slot};
+ghost use Rattle.flash_model.specs.Operations.{die_of};
+ghost use Rattle.file_flash.specs.Following.{AreProgrammed, slots_in};
+ghost use Rattle.file_flash.specs.Loads.{slots_loaded, IsLoaded, AreLoaded};
+ghost use Rattle.live_image.specs.Slots.{slot_bytes};
+ghost use Rattle.live_flash.specs.Following.{IsOpened, IsLiveFile, Follows};
+ghost use Rattle.live_flash.specs.Loads.{AreApart};
+ghost use Rattle.live_flash.specs.Losing.{LosesOnly};
+
+use crate::Follower;
+use file_flash::{Store, StoreError};
+use flash_model::Flash;
+use mem_flash::MemFlash;
+use std::alloc::{AllocError, Global};
+use tx_types::{Shape, Slot};
+
+/// A place for each die, with no slot.
+pub(crate) fn no_slots(alloc: Global, dies: u32) -> Result<Vec<Option<Slot>>, AllocError>
+    ensures { IfOk result (λ slots. slots.items ≡ replicate dies None) }
+{
+    let mut slots = Vec::new(alloc);
+    for _ in 0..dies {
+        slots.push(None)?;
+    }
+    Ok(slots)
+}
+
+/// Empties all places.
+pub(crate) fn clear_slots(slots: &mut [Option<Slot>])
+    ensures { slots.new ≡ replicate (length slots.old) None }
+{
+    slots.fill(None);
+}
+
+/// The die that a slot lies in.
+pub(crate) fn die_of(shape: Shape, at: Slot) -> usize
+    requires shape { IsShape shape }
+    requires exists { at.0 < slots_of shape }
+    ensures die { result ≡ die_of shape at.0 }
+    ensures within { result < shape.dies }
+{
+    (at.0 / shape.pages_per_block / shape.blocks_per_die) as usize
+}
+
+/// Follows the program of this slot in memory, if there is one. Other slots may be due still.
+fn follow_slot<S: Store + Drop>(
+    follower: &mut Follower<S>,
+    memory: &MemFlash,
+    slot: Option<Slot>,
+) -> Result<(), StoreError>
+    requires exists { IsLoaded memory.now.shape slot }
+    requires room { length follower.old.room.items ≡ slot_bytes memory.now.shape.page_bytes }
+    requires opened { IfSome (S.told follower.old.store) (IsOpened memory.now.shape) }
+    requires programmed { AreProgrammed memory.now.image follower.old.waiting.items }
+    ensures room { length follower.new.room.items ≡ length follower.old.room.items }
+    ensures programmed { OnOk result (AreProgrammed memory.now.image follower.new.waiting.items) }
+    ensures opened { IfSome (S.told follower.new.store) (IsOpened memory.now.shape) }
+    ensures kept { (head : List ℕ) → IfSome (S.told follower.old.store) (IsLiveFile memory.now.shape head) →
+        IfSome (S.told follower.new.store) (IsLiveFile memory.now.shape head) }
+    ensures waits { (k : ℕ) → slots_in follower.new.waiting.items k ≡ true →
+        slots_in (follower.old.waiting.items ++ slots_loaded (slot ∷ [])) k ≡ true }
+    ensures follows { (rest : List (Option Slot)) → AreApart (slot ∷ rest) → IfSome (S.told follower.old.store)
+        (Follows memory.now.shape memory.now.image follower.old.waiting.items (slots_loaded (slot ∷ rest))) →
+        OnOk result (IfSome (S.told follower.new.store)
+        (Follows memory.now.shape memory.now.image follower.new.waiting.items (slots_loaded rest))) }
+    ensures loses { (rest : List (Option Slot)) → IfSome (S.told follower.old.store)
+        (Follows memory.now.shape memory.now.image follower.old.waiting.items (slots_loaded (slot ∷ rest))) →
+        IfSome (S.told follower.new.store)
+        (LosesOnly memory.now.shape memory.now.image (follower.old.waiting.items ++ slots_loaded (slot ∷ rest))) }
+{
+    let _ = memory.shape();
+    match slot {
+        Some(at) => follower.put(memory, at),
+        None => Ok(()),
+    }
+}
+
+/// Follows the programs of these slots in memory, one after another. No slot is there twice. Where this fails, some
+/// wait and some are due still.
+pub(crate) fn follow_slots<S: Store + Drop>(
+    follower: &mut Follower<S>,
+    memory: &MemFlash,
+    slots: &[Option<Slot>],
+) -> Result<(), StoreError>
+    requires exist { AreLoaded memory.now.shape slots.now }
+    requires apart { AreApart slots.now }
+    requires room { length follower.old.room.items ≡ slot_bytes memory.now.shape.page_bytes }
+    requires opened { IfSome (S.told follower.old.store) (IsOpened memory.now.shape) }
+    requires programmed { AreProgrammed memory.now.image follower.old.waiting.items }
+    ensures room { length follower.new.room.items ≡ length follower.old.room.items }
+    ensures programmed { OnOk result (AreProgrammed memory.now.image follower.new.waiting.items) }
+    ensures opened { IfSome (S.told follower.new.store) (IsOpened memory.now.shape) }
+    ensures kept { (head : List ℕ) → IfSome (S.told follower.old.store) (IsLiveFile memory.now.shape head) →
+        IfSome (S.told follower.new.store) (IsLiveFile memory.now.shape head) }
+    ensures follows { IfSome (S.told follower.old.store)
+        (Follows memory.now.shape memory.now.image follower.old.waiting.items (slots_loaded slots.now)) →
+        OnOk result (IfSome (S.told follower.new.store)
+        (Follows memory.now.shape memory.now.image follower.new.waiting.items [])) }
+    ensures loses { IfSome (S.told follower.old.store)
+        (Follows memory.now.shape memory.now.image follower.old.waiting.items (slots_loaded slots.now)) →
+        IfSome (S.told follower.new.store)
+        (LosesOnly memory.now.shape memory.now.image (follower.old.waiting.items ++ slots_loaded slots.now)) }
+{
+    let _ = memory.shape();
+    for slot in slots {
+        follow_slot(follower, memory, *slot)?;
+    }
+    Ok(())
+}
