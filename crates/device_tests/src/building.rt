@@ -6,7 +6,7 @@ ghost use Rattle.flash_model.specs.Operations.{CanProgram};
 ghost use Rattle.page_record.specs.Spelling.{CanBeSpelled, IsBack};
 ghost use Rattle.record_list.specs.Records.{IsScanned};
 
-use crate::texts::{link, number_of, number_or_zero, word};
+use crate::texts::{link, number_of, number_or_zero, outcome, word};
 use flash_model::{Arms, Flash, Outcome, SPARE_BYTES};
 use mem_flash::MemFlash;
 use page_record::write_spare;
@@ -195,14 +195,22 @@ pub fn put_record(flash: &mut MemFlash, protocol: Protocol, at: Slot, rec: Rec, 
     program(flash, at, fill, &spare_area) == Some(true)
 }
 
-/// Has a read from now on, the one of this number, be broken. Returns whether it is one.
-fn arm_bad_read(flash: &mut MemFlash, count: u32) -> bool
-    ensures { flash.new.shape ≡ flash.old.shape }
+/// Sets the arm that a text says, with its count from 1: `cut 1 bad`, `fault 2 all`, `badread 1`. Returns whether it
+/// says one.
+pub fn is_armed(flash: &mut MemFlash, text: &str) -> bool
+    ensures shape { flash.new.shape ≡ flash.old.shape }
+    ensures image { flash.new.image ≡ flash.old.image }
 {
+    let count = number_or_zero(text, 1);
     if count == 0 {
         return false;
     }
-    flash.arm_bad_read(count);
+    match word(text, 0) {
+        "cut" => flash.arm_cut(count, outcome(text, 2)),
+        "fault" => flash.arm_fault(count, outcome(text, 2)),
+        "badread" => flash.arm_bad_read(count),
+        _ => return false,
+    }
     true
 }
 
@@ -233,7 +241,7 @@ fn put(flash: &mut MemFlash, protocol: Protocol, text: &str) -> bool
 {
     match word(text, 0) {
         "nothing" => true,
-        "badread" => arm_bad_read(flash, number_or_zero(text, 1)),
+        "badread" => is_armed(flash, text),
         slot => put_slot(flash, protocol, Slot(number_of(slot)), text),
     }
 }

@@ -1,8 +1,6 @@
 //! Collections on small flashes, as tables of steps.
 
-mod blank;
+pub mod flashes;
 mod pictures;
-mod records;
 mod rows;
 mod steps;
-mod sweep;

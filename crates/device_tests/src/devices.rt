@@ -1,11 +1,11 @@
 //! Devices over small flashes: lines of calls and their answers.
 
-mod batches;
+pub mod batches;
 mod calls;
-mod doubts;
-mod full;
-mod lines;
+pub mod doubts;
+pub mod full;
+pub mod lines;
 mod mounting;
-mod retired;
-mod rows;
+pub mod retired;
+pub mod rows;
 mod telling;

@@ -2,5 +2,5 @@
 
 mod changing;
 pub mod lines;
-mod numbers;
+pub mod rows;
 pub mod tables;

@@ -13,9 +13,9 @@ mod indexing;
 #[cfg(test)]
 mod keys;
 #[cfg(test)]
-mod recovering;
+mod lines;
 #[cfg(test)]
-mod scripts;
+mod recovering;
 #[cfg(test)]
 mod serving;
 #[cfg(test)]

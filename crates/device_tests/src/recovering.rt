@@ -1,5 +1,5 @@
 //! Recovery of flashes with a few records.
 
-mod flashes;
-mod lists;
-mod tables;
+pub mod flashes;
+pub mod lists;
+pub mod tables;

@@ -2,11 +2,15 @@
 
 use flash_model::Outcome;
 use std::alloc::{AllocError, Global};
-use std::process::Abort;
 use tx_types::{Link, Slot};
 
 /// What is read where a word is no number, as `-`: no page, slot or block has it.
 const NO_NUMBER: u32 = u32::MAX;
+
+/// The text before the first place of a sign and the one behind it, which is empty where the sign is not there.
+pub fn halves<'a>(text: &'a str, sign: &str) -> (&'a str, &'a str) {
+    text.split_once(sign).unwrap_or((text, ""))
+}
 
 /// The word of a text at a place, counted from 0, or an empty one.
 pub fn word(text: &str, at: usize) -> &str {
@@ -63,17 +67,11 @@ pub fn is_like(text: &str, wanted: &str) -> bool {
     }
 }
 
-/// The lines of a text that stand one behind another with a `;` between them.
-pub fn lines_of(alloc: Global, text: &str) -> Result<Vec<u8>, AllocError> {
-    let mut lines = Vec::new(alloc);
-    for line in text.split(';') {
-        lines.extend_from_slice(line.as_bytes())?;
-        lines.push(b'\n')?;
+/// The bytes of a text in which `;` stands for a line feed.
+pub fn bytes_of(alloc: Global, text: &str) -> Result<Vec<u8>, AllocError> {
+    let mut bytes = Vec::new(alloc);
+    for byte in text.bytes() {
+        bytes.push(if byte == b';' { b'\n' } else { byte })?;
     }
-    Ok(lines)
-}
-
-/// Asserts that there is no line that is wrong.
-pub fn assert_none(rt: &impl Abort, wrong: &str) {
-    assert!(rt; wrong.is_empty(), "{wrong}");
+    Ok(bytes)
 }

@@ -1,6 +1,10 @@
 -- Texts that grow, and words with spaces between them.
-use Rattle.flash_picture.proofs.Common.{◌≡◌, ℕ, ◌+◌, List, [], ◌∷◌, ◌++◌, sym, ap, ◌∙◌, append-nil, append_assoc, codes, flat_map, join_with_byte, range_with_len, name_of, Cell, Blank, Damaged, Holds, cell_words, name_word, word_if}
+use Rattle.flash_picture.proofs.Common.{◌≡◌, ℕ, ◌+◌, List, [], ◌∷◌, ◌++◌, sym, ap, ◌∙◌, append-nil, append_assoc, codes, flat_map, join_with_byte, range_with_len, name_of, Cell, Blank, Damaged, Holds, cell_words, name_word, word_if, on_ok_weaker}
+use mathlib.Core.Path.{subst}
 use Rattle.std.proofs.lemmas.List.Concat.{flat_map-append}
+use Rattle.std.specs.Result.{OnOk, result_and}
+use Rattle.std.specs.declared.result.Result.{Result}
+use Rattle.std.specs.declared.result.Result.TheVariants.{Ok, Err}
 use Rattle.list_lemmas.proofs.Ranges.{flat_more}
 use Rattle.flash_picture.specs.Cells.{after_spaces, rank_word}
 
@@ -28,6 +32,42 @@ cell_joined (Holds rec rank held) more =
 -- a text that has grown by a piece, and grows by one more
 pub then : (old piece text more all : List ℕ) → text ≡ old ++ piece → all ≡ text ++ more → all ≡ old ++ (piece ++ more)
 then old piece text more all before after = after ∙ ap (λ t. t ++ more) before ∙ append_assoc old piece more
+
+module _ {E : Type 0} where
+  -- what holds where each of two calls is well, where what became of them is joined
+  pub both : (A B : Type 0) (first second all : Result (Unit {0}) E) → OnOk first A → OnOk second B →
+      all ≡ result_and first second → OnOk all (A × B)
+  both A B first second all before after is = subst (λ r. OnOk r (A × B)) (sym is) (joined_by first before)
+    where
+      joined_by : (r : Result (Unit {0}) E) → OnOk r A → OnOk (result_and r second) (A × B)
+      joined_by (Ok _) a = on_ok_weaker second (λ b. (a, b)) after
+      joined_by (Err _) a = tt
+
+  -- a text that has grown by a piece, and grows by one more, where what became of both is joined
+  pub and_then : (old piece text more all : List ℕ) (first second whole : Result (Unit {0}) E) →
+      OnOk first (text ≡ old ++ piece) → OnOk second (all ≡ text ++ more) → whole ≡ result_and first second →
+      OnOk whole (all ≡ old ++ (piece ++ more))
+  and_then old piece text more all first second whole before after is =
+      on_ok_weaker whole (λ (p : (text ≡ old ++ piece) × (all ≡ text ++ more)). then old piece text more all p.0 p.1)
+      (both (text ≡ old ++ piece) (all ≡ text ++ more) first second whole before after is)
+
+  -- a piece in other words
+  pub with_piece : (old new piece other : List ℕ) (r : Result (Unit {0}) E) → piece ≡ other →
+      OnOk r (new ≡ old ++ piece) → OnOk r (new ≡ old ++ other)
+  with_piece old new piece other r same said =
+      on_ok_weaker r (λ (end : new ≡ old ++ piece). end ∙ ap (λ t. old ++ t) same) said
+
+-- what is within a group and ends with a piece of its own
+pub closed_both : (begun within end close : List ℕ) →
+    (begun ++ within) ++ (end ++ close) ≡ (begun ++ (within ++ end)) ++ close
+closed_both begun within end close =
+    sym (append_assoc (begun ++ within) end close) ∙ ap (λ t. t ++ close) (append_assoc begun within end)
+
+-- the same where the last of what is within ends so
+pub closed_last : (begun first last end close : List ℕ) →
+    (begun ++ (first ++ last)) ++ (end ++ close) ≡ (begun ++ (first ++ (last ++ end))) ++ close
+closed_last begun first last end close =
+    closed_both begun (first ++ last) end close ∙ ap (λ t. (begun ++ t) ++ close) (append_assoc first last end)
 
 -- a text grows by that of one number more
 pub text_more : (f : ℕ → List ℕ) (k : ℕ) (old text new : List ℕ) → text ≡ old ++ flat_map f (range_with_len 0 k) →

@@ -11,16 +11,16 @@ use std::alloc::AllocError;
 pub fn write_head(width: u64, height: u64, text: &mut Vec<u8>) -> Result<(), AllocError>
     ensures { OnOk result (text.new.items ≡ text.old.items ++ head width height) }
 {
-    add(b"<svg xmlns='http://www.w3.org/2000/svg'", text)?;
-    add_attribute(b"width", width, text)?;
-    add_attribute(b"height", height, text)?;
-    add(b" viewBox='0 0 ", text)?;
-    add_number(width, text)?;
-    add(b" ", text)?;
-    add_number(height, text)?;
-    add(b"'>\n", text)?;
-    add(style(), text)?;
-    add(tip(), text)
+    add(b"<svg xmlns='http://www.w3.org/2000/svg'", text)
+        .and(add_attribute(b"width", width, text))
+        .and(add_attribute(b"height", height, text))
+        .and(add(b" viewBox='0 0 ", text))
+        .and(add_number(width, text))
+        .and(add(b" ", text))
+        .and(add_number(height, text))
+        .and(add(b"'>\n", text))
+        .and(add(style(), text))
+        .and(add(tip(), text))
 }
 
 /// How the classes look. A cell's words are also the names of its class, by which this style colours it.
@@ -57,26 +57,26 @@ fn tip() -> &'static [u8]
 pub fn write_legend(text: &mut Vec<u8>) -> Result<(), AllocError>
     ensures { OnOk result (text.new.items ≡ text.old.items ++ legend) }
 {
-    write_entry(b"current", 8, 34, b"current: the version that counts", text)?;
-    write_entry(b"loose", 8, 56, b"loose: above the current version", text)?;
-    write_entry(b"stale", 8, 78, b"stale: below the current version", text)?;
-    write_entry(b"held", 8, 100, b"held: a loose record needs it", text)?;
-    write_entry(
-        b"discard",
-        308,
-        34,
-        b"discard: written to empty its page",
-        text,
-    )?;
-    write_entry(
-        b"damaged",
-        308,
-        56,
-        b"damaged: nothing that can be read",
-        text,
-    )?;
-    write_entry(b"!", 308, 78, b"!: a broken law names the slot", text)?;
-    write_link_entry(text)
+    write_entry(b"current", 8, 34, b"current: the version that counts", text)
+        .and(write_entry(b"loose", 8, 56, b"loose: above the current version", text))
+        .and(write_entry(b"stale", 8, 78, b"stale: below the current version", text))
+        .and(write_entry(b"held", 8, 100, b"held: a loose record needs it", text))
+        .and(write_entry(
+            b"discard",
+            308,
+            34,
+            b"discard: written to empty its page",
+            text,
+        ))
+        .and(write_entry(
+            b"damaged",
+            308,
+            56,
+            b"damaged: nothing that can be read",
+            text,
+        ))
+        .and(write_entry(b"!", 308, 78, b"!: a broken law names the slot", text))
+        .and(write_link_entry(text))
 }
 
 /// Appends what the legend says of a class.
@@ -93,10 +93,9 @@ fn write_entry(
     ensures { OnOk result (text.new.items ≡ text.old.items ++ entry class.now left top says.now) }
 {
     let spot = Spot { left, top };
-    open_group(class, text)?;
-    add_rectangle(spot, 16, 12, text)?;
-    add_words(spot.beside(22, 10), says, text)?;
-    add(b"</g>\n", text)
+    open_group(class, text)
+        .and(add_rectangle(spot, 16, 12, text).and(add_words(spot.beside(22, 10), says, text)))
+        .and(add(b"</g>\n", text))
 }
 
 /// Appends what the legend says of arrows.
@@ -104,15 +103,15 @@ fn write_entry(
 fn write_link_entry(text: &mut Vec<u8>) -> Result<(), AllocError>
     ensures { OnOk result (text.new.items ≡ text.old.items ++ link_entry) }
 {
-    open_group(b"link", text)?;
     let spot = Spot {
         left: 308,
         top: 110,
     };
-    add_words(
-        spot,
-        b"arrow: to the record of a link; a pointer shows others",
-        text,
-    )?;
-    add(b"</g>\n", text)
+    open_group(b"link", text)
+        .and(add_words(
+            spot,
+            b"arrow: to the record of a link; a pointer shows others",
+            text,
+        ))
+        .and(add(b"</g>\n", text))
 }

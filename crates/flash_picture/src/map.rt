@@ -6,7 +6,7 @@ ghost use Rattle.flash_picture.specs.Map.{before_cell, block_text, cell_text, ce
 
 use crate::cell::{Cell, write_flag};
 use crate::marks::Marks;
-use crate::text::{add_number, add_spaces, pad};
+use crate::text::{add, add_number, add_spaces, pad};
 use std::alloc::{AllocError, Global};
 use tx_types::{Block, Memory, Shape, Slot};
 
@@ -65,9 +65,9 @@ impl Map<'_> {
         ensures { let m = self.now in OnOk result (text.new.items
             ≡ text.old.items ++ block_text m.shape m.cells.now m.marks width block.0) }
     {
-        write_die(self.shape, block, text)?;
-        self.write_cells(width, block, text)?;
-        text.extend_from_slice(b"|\n")
+        write_die(self.shape, block, text)
+            .and(self.write_cells(width, block, text))
+            .and(add(b"|\n", text))
     }
 
     /// Appends the cells of a block, with its label and the ends of all lines but the last.
@@ -143,9 +143,10 @@ impl Map<'_> {
         ensures { OnOk result (text.new.items
             ≡ text.old.items ++ join_with_byte 32 (label_words self.now.marks block.0)) }
     {
-        text.extend_from_slice(label_word(self.is_spare(block)))?;
-        text.extend_from_slice(b" ")?;
-        add_number(u64::from(block.0), text)
+        add(label_word(self.is_spare(block)), text).and(add(b" ", text).and(add_number(
+            u64::from(block.0),
+            text,
+        )))
     }
 
     /// Whether a block is the spare.

@@ -140,9 +140,9 @@ impl Map<'_> {
         ensures { let m = self.now in OnOk result (text.new.items
             ≡ text.old.items ++ row_text m.shape m.cells.now m.marks block.0) }
     {
-        write_die(self.shape, block, text)?;
-        self.write_signs(block, text)?;
-        add(b"\n", text)
+        write_die(self.shape, block, text)
+            .and(self.write_signs(block, text))
+            .and(add(b"\n", text))
     }
 
     /// Appends the letters of a block, with its label and the ends of all lines but the last.
@@ -215,11 +215,11 @@ impl Map<'_> {
         ensures { let m = self.now in OnOk result (text.new.items
             ≡ text.old.items ++ count_text m.shape m.cells.now kind) }
     {
-        add(kind.letters(), text)?;
-        add(kind.word(), text)?;
-        add(b" ", text)?;
-        add_number(self.count(kind, 0, self.shape.slots()), text)?;
-        add(b"\n", text)
+        add(kind.letters(), text)
+            .and(add(kind.word(), text))
+            .and(add(b" ", text))
+            .and(add_number(self.count(kind, 0, self.shape.slots()), text))
+            .and(add(b"\n", text))
     }
 
     /// How many of this many slots, from the first one on, are of a kind.

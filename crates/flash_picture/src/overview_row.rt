@@ -26,9 +26,9 @@ impl Map<'_> {
         ensures { let m = self.now in OnOk result (text.new.items
             ≡ text.old.items ++ row_svg m.shape m.cells.now m.marks block.0) }
     {
-        self.open_row(block, text)?;
-        self.write_row_inside(block, text)?;
-        add(b"</g>\n", text)
+        self.open_row(block, text)
+            .and(self.write_row_inside(block, text))
+            .and(add(b"</g>\n", text))
     }
 
     /// Begins what is drawn under the label of a block as its class.
@@ -37,9 +37,9 @@ impl Map<'_> {
         ensures { OnOk result (text.new.items
             ≡ text.old.items ++ group_begin (label_of self.now.marks block.0)) }
     {
-        add(b"<g class='", text)?;
-        self.write_label_words(block, text)?;
-        add(b"'>", text)
+        add(b"<g class='", text)
+            .and(self.write_label_words(block, text))
+            .and(add(b"'>", text))
     }
 
     /// Appends what the row of a block has in it.
@@ -49,10 +49,10 @@ impl Map<'_> {
         ensures { let m = self.now in OnOk result (text.new.items
             ≡ text.old.items ++ row_inside m.shape m.cells.now m.marks block.0) }
     {
-        self.write_row_title(block, text)?;
-        self.write_row_label(block, text)?;
-        self.write_kinds(block, text)?;
-        self.write_pointed_slots(block, text)
+        self.write_row_title(block, text)
+            .and(self.write_row_label(block, text))
+            .and(self.write_kinds(block, text))
+            .and(self.write_pointed_slots(block, text))
     }
 
     /// Appends what a pointer shows at a row.
@@ -62,9 +62,9 @@ impl Map<'_> {
         ensures { let m = self.now in OnOk result (text.new.items
             ≡ text.old.items ++ title (row_title m.shape m.cells.now m.marks block.0)) }
     {
-        add(b"<title>", text)?;
-        self.write_row_words(block, text)?;
-        add(b"</title>", text)
+        add(b"<title>", text)
+            .and(self.write_row_words(block, text))
+            .and(add(b"</title>", text))
     }
 
     /// Appends the label of a block, and how many of its slots are of each kind.
@@ -74,8 +74,8 @@ impl Map<'_> {
         ensures { let m = self.now in OnOk result (text.new.items
             ≡ text.old.items ++ row_title m.shape m.cells.now m.marks block.0) }
     {
-        self.write_label_words(block, text)?;
-        self.write_block_counts(block, text)
+        self.write_label_words(block, text)
+            .and(self.write_block_counts(block, text))
     }
 
     /// Appends how many slots of a block are of each kind.
@@ -104,10 +104,10 @@ impl Map<'_> {
         ensures { let m = self.now in OnOk result (text.new.items
             ≡ text.old.items ++ count_words m.shape m.cells.now block.0 kind) }
     {
-        add(b" ", text)?;
-        add(kind.word(), text)?;
-        add(b" ", text)?;
-        add_number(self.count_in(block, kind), text)
+        add(b" ", text)
+            .and(add(kind.word(), text))
+            .and(add(b" ", text))
+            .and(add_number(self.count_in(block, kind), text))
     }
 
     /// How many slots of a block are of a kind.
@@ -127,9 +127,9 @@ impl Map<'_> {
         ensures { let m = self.now in OnOk result (text.new.items
             ≡ text.old.items ++ words_at (label_spot m.shape block.0) (label_of m.marks block.0)) }
     {
-        open_words(label_spot(self.shape, block.0), text)?;
-        self.write_label_words(block, text)?;
-        add(b"</text>", text)
+        open_words(label_spot(self.shape, block.0), text)
+            .and(self.write_label_words(block, text))
+            .and(add(b"</text>", text))
     }
 
     /// Appends the lines of all kinds of the slots of a block.
@@ -153,11 +153,11 @@ impl Map<'_> {
         ensures { let m = self.now in OnOk result (text.new.items
             ≡ text.old.items ++ kind_svg m.shape m.cells.now block.0 kind) }
     {
-        add(b"<path class='", text)?;
-        add(kind.word(), text)?;
-        add(b"' d='", text)?;
-        self.write_dashes(block, kind, text)?;
-        add(b"'/>", text)
+        add(b"<path class='", text)
+            .and(add(kind.word(), text))
+            .and(add(b"' d='", text))
+            .and(self.write_dashes(block, kind, text))
+            .and(add(b"'/>", text))
     }
 
     /// Appends a line in the square of each slot of a block that is of a kind.
@@ -207,8 +207,7 @@ impl Map<'_> {
             ≡ text.old.items ++ dash self.now.shape block.0 kind at) }
     {
         let square = square_in(self.shape, block.0, at);
-        add_point(b"M", square.beside(0, kind.below_top()), text)?;
-        add(b"h5", text)
+        add_point(b"M", square.beside(0, kind.below_top()), text).and(add(b"h5", text))
     }
 
     /// Appends what a pointer shows at the slots of a block, where a flash has few.
@@ -246,9 +245,9 @@ impl Map<'_> {
         ensures { let m = self.now in OnOk result (text.new.items
             ≡ text.old.items ++ pointed m.shape m.cells.now m.marks block.0 at) }
     {
-        open_group(b"slot", text)?;
-        self.write_pointed_inside(block, at, text)?;
-        add(b"</g>\n", text)
+        open_group(b"slot", text)
+            .and(self.write_pointed_inside(block, at, text))
+            .and(add(b"</g>\n", text))
     }
 
     /// Appends the title of the square of this number in a block, and a rectangle that a pointer finds.
@@ -264,7 +263,11 @@ impl Map<'_> {
         ensures { let m = self.now in OnOk result (text.new.items
             ≡ text.old.items ++ pointed_inside m.shape m.cells.now m.marks block.0 at) }
     {
-        self.write_title(slot_in(self.shape, block, at), text)?;
-        add_rectangle(square_in(self.shape, block.0, at), 6, 8, text)
+        self.write_title(slot_in(self.shape, block, at), text).and(add_rectangle(
+            square_in(self.shape, block.0, at),
+            6,
+            8,
+            text,
+        ))
     }
 }

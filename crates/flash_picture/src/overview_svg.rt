@@ -72,10 +72,10 @@ impl Map<'_> {
             ≡ text.old.items ++ overview_above config m.shape m.cells.now lines) }
     {
         let shape = self.shape;
-        write_head(overview_width(shape), overview_height(shape, lines), text)?;
-        add(overview_style(), text)?;
-        write_first(config, text)?;
-        self.write_entries(text)
+        write_head(overview_width(shape), overview_height(shape, lines), text)
+            .and(add(overview_style(), text))
+            .and(write_first(config, text))
+            .and(self.write_entries(text))
     }
 
     /// Appends the legend.
@@ -97,9 +97,9 @@ impl Map<'_> {
         ensures { let m = self.now in OnOk result (text.new.items
             ≡ text.old.items ++ entry_svg m.shape m.cells.now kind) }
     {
-        open_group(kind.word(), text)?;
-        self.write_entry_inside(kind, text)?;
-        add(b"</g>\n", text)
+        open_group(kind.word(), text)
+            .and(self.write_entry_inside(kind, text))
+            .and(add(b"</g>\n", text))
     }
 
     /// Appends a rectangle that looks like a kind, and what the legend says of the kind.
@@ -109,8 +109,11 @@ impl Map<'_> {
             ≡ text.old.items ++ entry_inside m.shape m.cells.now kind) }
     {
         let spot = kind.entry_spot();
-        add_rectangle(spot, 16, 12, text)?;
-        self.write_entry_words(kind, spot.beside(22, 10), text)
+        add_rectangle(spot, 16, 12, text).and(self.write_entry_words(
+            kind,
+            spot.beside(22, 10),
+            text,
+        ))
     }
 
     /// Appends what the legend says of a kind, at a place.
@@ -124,9 +127,9 @@ impl Map<'_> {
         ensures { let m = self.now in OnOk result (text.new.items
             ≡ text.old.items ++ words_at spot (entry_text m.shape m.cells.now kind)) }
     {
-        open_words(spot, text)?;
-        self.write_entry_text(kind, text)?;
-        add(b"</text>", text)
+        open_words(spot, text)
+            .and(self.write_entry_text(kind, text))
+            .and(add(b"</text>", text))
     }
 
     /// Appends how many slots are of a kind.
@@ -135,10 +138,10 @@ impl Map<'_> {
         ensures { let m = self.now in OnOk result (text.new.items
             ≡ text.old.items ++ entry_text m.shape m.cells.now kind) }
     {
-        add(kind.word(), text)?;
-        add(kind.drawn(), text)?;
-        add(b": ", text)?;
-        add_number(self.count(kind, 0, self.shape.slots()), text)
+        add(kind.word(), text)
+            .and(add(kind.drawn(), text))
+            .and(add(b": ", text))
+            .and(add_number(self.count(kind, 0, self.shape.slots()), text))
     }
 
     /// Appends the headings of dies, the rows, and a frame around the slot that a broken law names.
@@ -147,9 +150,9 @@ impl Map<'_> {
         ensures { let m = self.now in OnOk result (text.new.items
             ≡ text.old.items ++ squares m.shape m.cells.now m.marks) }
     {
-        write_dies(self.shape, text)?;
-        self.write_square_rows(text)?;
-        write_named(self.shape, self.marks.breach, text)
+        write_dies(self.shape, text)
+            .and(self.write_square_rows(text))
+            .and(write_named(self.shape, self.marks.breach, text))
     }
 
     /// Appends the rows of all blocks.
@@ -170,9 +173,9 @@ fn write_first(config: Config, text: &mut Vec<u8>) -> Result<(), AllocError>
     ensures { OnOk result (text.new.items
         ≡ text.old.items ++ words_at (record { left = 8; top = 20 }) (heading config)) }
 {
-    open_words(Spot { left: 8, top: 20 }, text)?;
-    write_heading(config, text)?;
-    add(b"</text>", text)
+    open_words(Spot { left: 8, top: 20 }, text)
+        .and(write_heading(config, text))
+        .and(add(b"</text>", text))
 }
 
 /// Appends the headings of all dies.
@@ -192,26 +195,25 @@ fn write_die(shape: Shape, die: u32, text: &mut Vec<u8>) -> Result<(), AllocErro
     requires { IsShape shape }
     ensures { OnOk result (text.new.items ≡ text.old.items ++ die_svg shape die) }
 {
-    open_group(b"die", text)?;
-    write_die_at(die_spot(shape, die), die, text)?;
-    add(b"</g>\n", text)
+    open_group(b"die", text)
+        .and(write_die_at(die_spot(shape, die), die, text))
+        .and(add(b"</g>\n", text))
 }
 
 /// Appends the words of the heading of a die, at a place.
 fn write_die_at(spot: Spot, die: u32, text: &mut Vec<u8>) -> Result<(), AllocError>
     ensures { OnOk result (text.new.items ≡ text.old.items ++ words_at spot (die_words die)) }
 {
-    open_words(spot, text)?;
-    write_die_words(die, text)?;
-    add(b"</text>", text)
+    open_words(spot, text)
+        .and(write_die_words(die, text))
+        .and(add(b"</text>", text))
 }
 
 /// Appends the words of the heading of a die.
 fn write_die_words(die: u32, text: &mut Vec<u8>) -> Result<(), AllocError>
     ensures { OnOk result (text.new.items ≡ text.old.items ++ die_words die) }
 {
-    add(b"die ", text)?;
-    add_count(die, text)
+    add(b"die ", text).and(add_count(die, text))
 }
 
 /// Appends a frame around the slot that a broken law names, if one does.
@@ -222,9 +224,9 @@ fn write_named(shape: Shape, breach: Option<Breach>, text: &mut Vec<u8>) -> Resu
     match breach {
         None => Ok(()),
         Some(breach) => {
-            open_group(b"!", text)?;
-            add_rectangle(square_of(shape, breach.slot), 6, 8, text)?;
-            add(b"</g>\n", text)
+            open_group(b"!", text)
+                .and(add_rectangle(square_of(shape, breach.slot), 6, 8, text))
+                .and(add(b"</g>\n", text))
         }
     }
 }

@@ -9,7 +9,7 @@ ghost use Rattle.flash_picture.specs.Picture.{breach_line, heading, parts, pictu
 use crate::cells::cells;
 use crate::map::Map;
 use crate::marks::Marks;
-use crate::text::{add_number, append};
+use crate::text::{add, add_number, append};
 use crate::walk::write_walks;
 use judged_records::Note;
 use record_list::{Breach, Found};
@@ -160,11 +160,11 @@ fn keep(slot: Slot, note: Note, list: &mut Vec<Found>) -> Result<(), Memory>
 pub fn write_heading(config: Config, text: &mut Vec<u8>) -> Result<(), AllocError>
     ensures { OnOk result (text.new.items ≡ text.old.items ++ heading config) }
 {
-    text.extend_from_slice(protocol_word(config.protocol))?;
-    text.extend_from_slice(b", ")?;
-    write_count(config.logical, b" pages, dies of ", text)?;
-    write_count(config.blocks_per_die, b" blocks of ", text)?;
-    write_count(config.pages_per_block, b" slots\n", text)
+    add(protocol_word(config.protocol), text)
+        .and(add(b", ", text))
+        .and(write_count(config.logical, b" pages, dies of ", text))
+        .and(write_count(config.blocks_per_die, b" blocks of ", text))
+        .and(write_count(config.pages_per_block, b" slots\n", text))
 }
 
 /// Appends the line of a law that is broken.
@@ -181,17 +181,16 @@ pub fn write_breach(breach: Option<Breach>, text: &mut Vec<u8>) -> Result<(), Al
 pub fn write_law(breach: Breach, text: &mut Vec<u8>) -> Result<(), AllocError>
     ensures { OnOk result (text.new.items ≡ text.old.items ++ breach_line (Some breach)) }
 {
-    text.extend_from_slice(b"unsound law ")?;
-    write_count(u32::from(breach.law), b" slot ", text)?;
-    write_count(breach.slot.0, b"\n", text)
+    add(b"unsound law ", text)
+        .and(write_count(u32::from(breach.law), b" slot ", text))
+        .and(write_count(breach.slot.0, b"\n", text))
 }
 
 /// Appends a number and what stands behind it.
 fn write_count(count: u32, behind: &[u8], text: &mut Vec<u8>) -> Result<(), AllocError>
     ensures { OnOk result (text.new.items ≡ text.old.items ++ (decimal count ++ behind.now)) }
 {
-    add_number(u64::from(count), text)?;
-    text.extend_from_slice(behind)
+    add_number(u64::from(count), text).and(add(behind, text))
 }
 
 /// The word of a protocol.

@@ -12,11 +12,11 @@ use std::alloc::AllocError;
 pub fn add_attribute(name: &[u8], value: u64, text: &mut Vec<u8>) -> Result<(), AllocError>
     ensures { OnOk result (text.new.items ≡ text.old.items ++ attribute name.now value) }
 {
-    add(b" ", text)?;
-    add(name, text)?;
-    add(b"='", text)?;
-    add_number(value, text)?;
-    add(b"'", text)
+    add(b" ", text)
+        .and(add(name, text))
+        .and(add(b"='", text))
+        .and(add_number(value, text))
+        .and(add(b"'", text))
 }
 
 /// Appends the place of what is drawn.
@@ -24,8 +24,7 @@ pub fn add_attribute(name: &[u8], value: u64, text: &mut Vec<u8>) -> Result<(), 
 fn add_place(spot: Spot, text: &mut Vec<u8>) -> Result<(), AllocError>
     ensures { OnOk result (text.new.items ≡ text.old.items ++ place spot) }
 {
-    add_attribute(b"x", spot.left, text)?;
-    add_attribute(b"y", spot.top, text)
+    add_attribute(b"x", spot.left, text).and(add_attribute(b"y", spot.top, text))
 }
 
 /// Appends a rectangle.
@@ -38,11 +37,11 @@ pub fn add_rectangle(
 ) -> Result<(), AllocError>
     ensures { OnOk result (text.new.items ≡ text.old.items ++ rectangle spot width height) }
 {
-    add(b"<rect", text)?;
-    add_place(spot, text)?;
-    add_attribute(b"width", width, text)?;
-    add_attribute(b"height", height, text)?;
-    add(b"/>", text)
+    add(b"<rect", text)
+        .and(add_place(spot, text))
+        .and(add_attribute(b"width", width, text))
+        .and(add_attribute(b"height", height, text))
+        .and(add(b"/>", text))
 }
 
 /// Begins words at a place.
@@ -50,18 +49,18 @@ pub fn add_rectangle(
 pub fn open_words(spot: Spot, text: &mut Vec<u8>) -> Result<(), AllocError>
     ensures { OnOk result (text.new.items ≡ text.old.items ++ words_begin spot) }
 {
-    add(b"<text", text)?;
-    add_place(spot, text)?;
-    add(b">", text)
+    add(b"<text", text)
+        .and(add_place(spot, text))
+        .and(add(b">", text))
 }
 
 /// Appends words at a place.
 pub fn add_words(spot: Spot, words: &[u8], text: &mut Vec<u8>) -> Result<(), AllocError>
     ensures { OnOk result (text.new.items ≡ text.old.items ++ words_at spot words.now) }
 {
-    open_words(spot, text)?;
-    add(words, text)?;
-    add(b"</text>", text)
+    open_words(spot, text)
+        .and(add(words, text))
+        .and(add(b"</text>", text))
 }
 
 /// Begins what is drawn under a class.
@@ -69,9 +68,9 @@ pub fn add_words(spot: Spot, words: &[u8], text: &mut Vec<u8>) -> Result<(), All
 pub fn open_group(class: &[u8], text: &mut Vec<u8>) -> Result<(), AllocError>
     ensures { OnOk result (text.new.items ≡ text.old.items ++ group_begin class.now) }
 {
-    add(b"<g class='", text)?;
-    add(class, text)?;
-    add(b"'>", text)
+    add(b"<g class='", text)
+        .and(add(class, text))
+        .and(add(b"'>", text))
 }
 
 /// Appends a place as a path names it, behind some words.
@@ -79,10 +78,9 @@ pub fn open_group(class: &[u8], text: &mut Vec<u8>) -> Result<(), AllocError>
 pub fn add_point(words: &[u8], spot: Spot, text: &mut Vec<u8>) -> Result<(), AllocError>
     ensures { OnOk result (text.new.items ≡ text.old.items ++ words.now ++ point spot) }
 {
-    add(words, text)?;
-    add_number(spot.left, text)?;
-    add(b",", text)?;
-    add_number(spot.top, text)
+    add(words, text).and(add_number(spot.left, text).and(add(b",", text).and(add_number(
+        spot.top, text,
+    ))))
 }
 
 /// Appends a curve from a cell to a cell.
@@ -94,9 +92,9 @@ pub fn add_curve(from: Spot, to: Spot, text: &mut Vec<u8>) -> Result<(), AllocEr
     requires to_top { to.top < 2 ^ 49 }
     ensures { OnOk result (text.new.items ≡ text.old.items ++ curve from to) }
 {
-    add_point(b"<path d='M", from.beside(28, 10), text)?;
-    add_point(b"C", from.beside(28, 0), text)?;
-    add_point(b" ", to.beside(12, 0), text)?;
-    add_point(b" ", to.beside(12, 10), text)?;
-    add(b"'/>", text)
+    add_point(b"<path d='M", from.beside(28, 10), text)
+        .and(add_point(b"C", from.beside(28, 0), text))
+        .and(add_point(b" ", to.beside(12, 0), text))
+        .and(add_point(b" ", to.beside(12, 10), text))
+        .and(add(b"'/>", text))
 }

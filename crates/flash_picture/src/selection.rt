@@ -186,10 +186,10 @@ impl Map<'_> {
             ≡ text.old.items ++ slot_line m.shape m.cells.now m.marks slot.0) }
     {
         let block = Block(slot.0 / self.shape.pages_per_block);
-        self.write_label_words(block, text)?;
-        add(b" ", text)?;
-        self.write_slot_title(slot, text)?;
-        add(b"\n", text)
+        self.write_label_words(block, text)
+            .and(add(b" ", text))
+            .and(self.write_slot_title(slot, text))
+            .and(add(b"\n", text))
     }
 }
 

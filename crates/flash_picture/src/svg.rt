@@ -133,11 +133,13 @@ fn write_above(
 ) -> Result<(), AllocError>
     ensures { OnOk result (text.new.items ≡ text.old.items ++ above config width height) }
 {
-    write_head(width, height, text)?;
-    open_words(Spot { left: 8, top: 20 }, text)?;
-    write_heading(config, text)?;
-    add(b"</text>", text)?;
-    write_legend(text)
+    write_head(width, height, text)
+        .and(
+            open_words(Spot { left: 8, top: 20 }, text)
+                .and(write_heading(config, text))
+                .and(add(b"</text>", text)),
+        )
+        .and(write_legend(text))
 }
 
 /// Appends the lines below the map, with these of walks.

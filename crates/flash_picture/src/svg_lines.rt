@@ -156,12 +156,12 @@ pub fn write_below(
 ) -> Result<(), AllocError>
     ensures { OnOk result (text.new.items ≡ text.old.items ++ lines_at top walks.now breach) }
 {
-    add(b"<text", text)?;
-    add_attribute(b"y", top, text)?;
-    add(b">", text)?;
-    add(walks, text)?;
-    write_breach(breach, text)?;
-    add(b"</text>\n", text)
+    add(b"<text", text)
+        .and(add_attribute(b"y", top, text))
+        .and(add(b">", text))
+        .and(add(walks, text))
+        .and(write_breach(breach, text))
+        .and(add(b"</text>\n", text))
 }
 
 /// Appends the law that is broken, if one is.
@@ -171,9 +171,9 @@ fn write_breach(breach: Option<Breach>, text: &mut Vec<u8>) -> Result<(), AllocE
     match breach {
         None => Ok(()),
         Some(breach) => {
-            open_line(b"unsound", text)?;
-            write_law(breach, text)?;
-            add(b"</tspan>\n", text)
+            open_line(b"unsound", text)
+                .and(write_law(breach, text))
+                .and(add(b"</tspan>\n", text))
         }
     }
 }
@@ -183,7 +183,7 @@ fn open_line(class: &[u8], text: &mut Vec<u8>) -> Result<(), AllocError>
     ensures { OnOk result (text.new.items ≡ text.old.items
         ++ (codes "<tspan class='" ++ class.now ++ codes "' x='8' dy='20'>")) }
 {
-    add(b"<tspan class='", text)?;
-    add(class, text)?;
-    add(b"' x='8' dy='20'>", text)
+    add(b"<tspan class='", text)
+        .and(add(class, text))
+        .and(add(b"' x='8' dy='20'>", text))
 }

@@ -32,10 +32,10 @@ impl Plan<'_> {
         ensures { let p = self.now in OnOk result (text.new.items
             ≡ text.old.items ++ map_svg p.grid chart.now p.map.cells.now p.map.marks) }
     {
-        self.write_dies(text)?;
-        self.write_labels(text)?;
-        self.write_views(chart, text)?;
-        self.write_cells(chart, text)
+        self.write_dies(text)
+            .and(self.write_labels(text))
+            .and(self.write_views(chart, text))
+            .and(self.write_cells(chart, text))
     }
 
     /// Appends the headings of all dies.
@@ -57,17 +57,13 @@ impl Plan<'_> {
         ensures { OnOk result (text.new.items ≡ text.old.items ++ die_heading self.now.grid die) }
     {
         let top = self.grid.top_of_block(die * self.grid.shape.blocks_per_die);
-        open_group(b"die", text)?;
-        open_words(
-            Spot {
-                left: 8,
-                top: top + 24,
-            },
-            text,
-        )?;
-        add(b"die ", text)?;
-        add_count(die, text)?;
-        add(b"</text></g>\n", text)
+        let spot = Spot {
+            left: 8,
+            top: top + 24,
+        };
+        open_group(b"die", text)
+            .and(open_words(spot, text).and(add(b"die ", text).and(add_count(die, text))))
+            .and(add(b"</text></g>\n", text))
     }
 
     /// Appends the labels of all blocks.
@@ -89,16 +85,13 @@ impl Plan<'_> {
             ≡ text.old.items ++ label_svg p.grid p.map.marks block.0) }
     {
         let top = self.grid.top_of_block(block.0);
-        self.open_label(block, text)?;
-        open_words(
-            Spot {
-                left: 8,
-                top: top + 58,
-            },
-            text,
-        )?;
-        self.map.write_label_words(block, text)?;
-        add(b"</text></g>\n", text)
+        let spot = Spot {
+            left: 8,
+            top: top + 58,
+        };
+        self.open_label(block, text)
+            .and(open_words(spot, text).and(self.map.write_label_words(block, text)))
+            .and(add(b"</text></g>\n", text))
     }
 
     /// Begins what is drawn under the label of a block as its class.
@@ -107,9 +100,9 @@ impl Plan<'_> {
         ensures { let marks = self.now.map.marks in OnOk result (text.new.items
             ≡ text.old.items ++ group_begin (join_with_byte 32 (label_words marks block.0))) }
     {
-        add(b"<g class='", text)?;
-        self.map.write_label_words(block, text)?;
-        add(b"'>", text)
+        add(b"<g class='", text)
+            .and(self.map.write_label_words(block, text))
+            .and(add(b"'>", text))
     }
 
     /// Appends the cells of all slots.
@@ -136,13 +129,15 @@ impl Plan<'_> {
             ≡ text.old.items ++ cell_svg p.grid chart.now p.map.cells.now p.map.marks slot.0) }
     {
         let spot = self.grid.spot(slot);
-        self.open_group(slot, text)?;
-        self.map.write_title(slot, text)?;
-        self.write_arrow(chart, slot, text)?;
-        add_rectangle(spot.beside(0, 10), self.grid.cell_width(), 24, text)?;
-        open_words(spot.beside(8, 26), text)?;
-        self.map.write_slot(slot, text)?;
-        add(b"</text></g>\n", text)
+        self.open_group(slot, text)
+            .and(
+                self.map
+                    .write_title(slot, text)
+                    .and(self.write_arrow(chart, slot, text))
+                    .and(add_rectangle(spot.beside(0, 10), self.grid.cell_width(), 24, text))
+                    .and(open_words(spot.beside(8, 26), text).and(self.map.write_slot(slot, text))),
+            )
+            .and(add(b"</text></g>\n", text))
     }
 
     /// Begins what is drawn under the words of a slot as its class.
@@ -151,9 +146,9 @@ impl Plan<'_> {
         ensures { let m = self.now.map in OnOk result (text.new.items
             ≡ text.old.items ++ group_begin (slot_text m.cells.now m.marks slot.0)) }
     {
-        add(b"<g class='", text)?;
-        self.map.write_slot(slot, text)?;
-        add(b"'>", text)
+        add(b"<g class='", text)
+            .and(self.map.write_slot(slot, text))
+            .and(add(b"'>", text))
     }
 
     /// Appends the arrows that are in view.
@@ -196,9 +191,9 @@ impl Plan<'_> {
         match target {
             None => Ok(()),
             Some(to) => {
-                self.open_view(slot, text)?;
-                add_curve(self.grid.spot(slot), self.grid.spot(to), text)?;
-                add(b"</g>\n", text)
+                self.open_view(slot, text)
+                    .and(add_curve(self.grid.spot(slot), self.grid.spot(to), text))
+                    .and(add(b"</g>\n", text))
             }
         }
     }
@@ -209,10 +204,9 @@ impl Plan<'_> {
         ensures { let m = self.now.map in OnOk result (text.new.items
             ≡ text.old.items ++ group_begin (codes "arrow " ++ slot_text m.cells.now m.marks slot.0)) }
     {
-        add(b"<g class='", text)?;
-        add(b"arrow ", text)?;
-        self.map.write_slot(slot, text)?;
-        add(b"'>", text)
+        add(b"<g class='arrow ", text)
+            .and(self.map.write_slot(slot, text))
+            .and(add(b"'>", text))
     }
 
     /// Appends the arrow from the cell of a slot.

@@ -1,3 +1,5 @@
+//! Texts that grow. Pieces that follow one another are joined by `and`: behind a piece for which memory is wanting the
+//! others are tried too, and what stands then counts only where none failed.
 ghost use Rattle.std.specs.Prelude.{◌≡◌, [], ◌≤◌, ◌-◌, ◌∷◌, ◌++◌, OnErr, OnOk, length, replicate};
 ghost use Rattle.std.specs.Fmt.{decimal};
 ghost use Rattle.flash_picture.specs.Cells.{name_word};
@@ -52,9 +54,7 @@ pub fn add_count(count: u32, text: &mut Vec<u8>) -> Result<(), AllocError>
 pub fn add_name(name: Link, text: &mut Vec<u8>) -> Result<(), AllocError>
     ensures { OnOk result (text.new.items ≡ text.old.items ++ name_word name) }
 {
-    add_number(u64::from(name.page), text)?;
-    text.extend_from_slice(b".")?;
-    add_number(name.version, text)
+    add_number(u64::from(name.page), text).and(add(b".", text).and(add_number(name.version, text)))
 }
 
 /// Appends this many spaces.

@@ -15,9 +15,9 @@ impl Map<'_> {
         ensures { let m = self.now in OnOk result (text.new.items
             ≡ text.old.items ++ title (slot_title m.cells.now m.marks slot.0)) }
     {
-        add(b"<title>", text)?;
-        self.write_slot_title(slot, text)?;
-        add(b"</title>", text)
+        add(b"<title>", text)
+            .and(self.write_slot_title(slot, text))
+            .and(add(b"</title>", text))
     }
 
     /// Appends the number of a slot, the words of its cell, and what its record links to.
@@ -25,11 +25,11 @@ impl Map<'_> {
         ensures { OnOk result (text.new.items
             ≡ text.old.items ++ slot_title self.now.cells.now self.now.marks slot.0) }
     {
-        add(b"slot ", text)?;
-        add_count(slot.0, text)?;
-        add(b": ", text)?;
-        self.write_slot(slot, text)?;
-        write_links(self.cell(slot), text)
+        add(b"slot ", text)
+            .and(add_count(slot.0, text))
+            .and(add(b": ", text))
+            .and(self.write_slot(slot, text))
+            .and(write_links(self.cell(slot), text))
     }
 }
 
@@ -41,10 +41,10 @@ fn write_links(cell: Cell, text: &mut Vec<u8>) -> Result<(), AllocError>
         Cell::Blank => Ok(()),
         Cell::Damaged => Ok(()),
         Cell::Holds { rec, .. } => {
-            add(b", link ", text)?;
-            add_name(rec.next, text)?;
-            add(b", back ", text)?;
-            add_number(rec.back, text)
+            add(b", link ", text)
+                .and(add_name(rec.next, text))
+                .and(add(b", back ", text))
+                .and(add_number(rec.back, text))
         }
     }
 }

@@ -43,10 +43,7 @@ impl Step {
         ensures { OnOk result (text.new.items ≡ text.old.items ++ step_text self) }
     {
         match self {
-            Step::To(link) => {
-                text.extend_from_slice(b" -> ")?;
-                add_name(link, text)
-            }
+            Step::To(link) => add(b" -> ", text).and(add_name(link, text)),
             Step::Dots => text.extend_from_slice(b" .."),
         }
     }
@@ -75,8 +72,7 @@ impl End {
         match self {
             End::Absent => text.extend_from_slice(b" absent"),
             End::Straddled(version) => {
-                text.extend_from_slice(b" straddled by ")?;
-                add_number(version, text)
+                add(b" straddled by ", text).and(add_number(version, text))
             }
             End::TooLong => text.extend_from_slice(b" too long"),
         }
@@ -273,18 +269,17 @@ pub fn write_walk(
 fn write_line(start: Link, steps: &[Step], end: End, text: &mut Vec<u8>) -> Result<(), AllocError>
     ensures { OnOk result (text.new.items ≡ text.old.items ++ line_text start steps.now end) }
 {
-    write_start(start, text)?;
-    write_steps(steps, text)?;
-    end.write(text)?;
-    add(b"\n", text)
+    write_start(start, text)
+        .and(write_steps(steps, text))
+        .and(end.write(text))
+        .and(add(b"\n", text))
 }
 
 /// Appends the record at which a walk begins.
 pub fn write_start(start: Link, text: &mut Vec<u8>) -> Result<(), AllocError>
     ensures { OnOk result (text.new.items ≡ text.old.items ++ start_text start) }
 {
-    text.extend_from_slice(b"walk ")?;
-    add_name(start, text)
+    add(b"walk ", text).and(add_name(start, text))
 }
 
 /// Appends steps.

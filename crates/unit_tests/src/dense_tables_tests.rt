@@ -2,7 +2,7 @@ ghost use Rattle.std.specs.Prelude.{◌≡◌, ℕ, ◌<◌, ◌≤◌, length, 
 ghost use Rattle.std.specs.List.{Contains};
 ghost use Rattle.dense_tables.specs.LinkedLists.{IsListed, list_of};
 
-use crate::samples::{LineTest, assert_lines, has_number, sides, three, word_count};
+use crate::samples::{has_number, sides, three, word_count};
 use dense_tables::{LinkedLists, MaxTree, Reciprocal};
 use std::alloc::{AllocError, Global};
 
@@ -199,23 +199,6 @@ fn are_linked(alloc: Global, chains: &mut LinkedLists) -> bool
     true
 }
 
-/// Whether they do so on new lists.
-fn are_new_linked(alloc: Global) -> bool {
-    match LinkedLists::new(alloc, KEYS, PLACES) {
-        Ok(mut chains) => {
-            let is_so = are_linked(alloc, &mut chains);
-            drop(chains);
-            is_so
-        }
-        Err(_) => false,
-    }
-}
-
-#[test]
-fn lists_are_linked_anew(rt: HostRuntime) {
-    assert!(rt; are_new_linked(rt.alloc()));
-}
-
 /// Lists with nothing in them.
 fn no_lists(alloc: Global) -> Result<Vec<Vec<u32>>, AllocError>
     ensures { IfOk result (λ v. vec_len v ≡ KEYS) }
@@ -304,20 +287,20 @@ fn follow_new_lists(alloc: Global, chains: &mut LinkedLists) -> bool
     }
 }
 
-fn is_history(alloc: Global) -> bool {
+/// Whether new lists do the steps of `STEPS`, or 2000 steps as plain ones do them.
+fn are_lists_right(alloc: Global, kind: &str) -> bool {
     match LinkedLists::new(alloc, KEYS, PLACES) {
         Ok(mut chains) => {
-            let is_so = follow_new_lists(alloc, &mut chains);
+            let is_so = if kind == "steps" {
+                are_linked(alloc, &mut chains)
+            } else {
+                follow_new_lists(alloc, &mut chains)
+            };
             drop(chains);
             is_so
         }
         Err(_) => false,
     }
-}
-
-#[test]
-fn a_random_history_is_that_of_plain_lists(rt: HostRuntime) {
-    assert!(rt; is_history(rt.alloc()));
 }
 
 /// How many numbers the test of `MaxTree` has: the single cell, two levels of cells, and some of the third.
@@ -404,42 +387,41 @@ fn are_followed(alloc: Global, made: Result<MaxTree, AllocError>) -> bool
     }
 }
 
-/// Whether peaks of both kinds follow.
-fn are_both_followed(alloc: Global) -> bool {
-    are_followed(alloc, MaxTree::new(alloc, COUNT))
-        && are_followed(alloc, MaxTree::for_changes(alloc, COUNT))
-}
+/// Divisors, numbers below 65536, and how many times the one goes into the other; and histories of linked lists and of
+/// trees of both kinds.
+pub const DENSE: &str = "\
+    quotient 1 65535 65535\n\
+    quotient 3 65535 21845\n\
+    quotient 7 48 6\n\
+    quotient 7 49 7\n\
+    quotient 255 65534 256\n\
+    quotient 65536 65535 0\n\
+    quotient 65537 65535 0\n\
+    lists steps\n\
+    lists history\n\
+    tree new\n\
+    tree changes";
 
-#[test]
-fn the_first_greatest_number_is_known(rt: HostRuntime) {
-    assert!(rt; are_both_followed(rt.alloc()));
-}
-
-/// Divisors, numbers below 65536, and how many times the one goes into the other.
-const QUOTIENTS: &str = "\
-    1 65535 65535\n\
-    3 65535 21845\n\
-    7 48 6\n\
-    7 49 7\n\
-    255 65534 256\n\
-    65536 65535 0\n\
-    65537 65535 0";
-
-/// How many times a divisor goes into a number.
-struct Quotients;
-
-impl LineTest for Quotients {
-    fn is_right(_: Global, line: &str) -> bool {
-        match three(line) {
-            Some((by, of, want)) => by > 0
-                && of < 65536
-                && Reciprocal::new(by).quotient(of) == want,
-            None => false,
-        }
+/// Whether a divisor goes so many times into a number.
+fn is_quotient(line: &str) -> bool {
+    match three(line) {
+        Some((by, of, want)) => { by > 0 && of < 65536 && Reciprocal::new(by).quotient(of) == want }
+        None => false,
     }
 }
 
-#[test]
-fn a_number_is_divided_by_the_reciprocal(rt: HostRuntime) {
-    assert_lines::<Quotients>(&rt, rt.alloc(), QUOTIENTS);
+/// Whether a line is right of dense tables.
+pub fn is_dense_right(alloc: Global, kind: &str, line: &str) -> bool {
+    match kind {
+        "quotient" => is_quotient(line),
+        "lists" => are_lists_right(alloc, line),
+        _ => are_followed(
+            alloc,
+            if line == "new" {
+                MaxTree::new(alloc, COUNT)
+            } else {
+                MaxTree::for_changes(alloc, COUNT)
+            },
+        ),
+    }
 }

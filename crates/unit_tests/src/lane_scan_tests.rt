@@ -1,8 +1,7 @@
 ghost use Rattle.std.specs.Prelude.{◌<◌, ◌≤◌};
 
-use crate::samples::{LineTest, assert_lines, number_at};
+use crate::samples::number_at;
 use lane_scan::{all_equal, first_difference};
-use std::alloc::Global;
 
 /// As many bytes as the longest case has.
 const SEVENS: [u8; 129] = [7; 129];
@@ -40,13 +39,6 @@ fn are_counted(len: usize) -> bool
         && first_difference(sevens, sevens).is_none()
 }
 
-#[test]
-fn each_byte_counts_at_every_length(rt: HostRuntime) {
-    for len in [0, 1, 31, 32, 33, 64, 100, 129] {
-        assert!(rt; are_counted(len), "{len} bytes");
-    }
-}
-
 /// Whether the lesser of two places is found where zeros and these bytes differ.
 fn finds(least: usize, other: usize) -> bool
     requires least { least < 129 }
@@ -58,29 +50,6 @@ fn finds(least: usize, other: usize) -> bool
         && first_difference(&bytes, &zeros) == Some(least)
 }
 
-/// Two places that differ, the lesser one first: in one vector, in two, and behind the vectors.
-const PLACES: &str = "\
-    0 31\n\
-    5 6\n\
-    31 32\n\
-    40 127\n\
-    100 128\n\
-    127 128";
-
-/// The lesser of the two places.
-struct Differing;
-
-impl LineTest for Differing {
-    fn is_right(_: Global, line: &str) -> bool {
-        match (number_at(line, 0), number_at(line, 1)) {
-            (Some(least), Some(other)) => {
-                least < 129 && other < 129 && finds(least as usize, other as usize)
-            }
-            _ => false,
-        }
-    }
-}
-
 /// Whether a last byte that is another one is found.
 fn finds_last() -> bool {
     let zeros = [0; 129];
@@ -88,8 +57,32 @@ fn finds_last() -> bool {
     !all_equal(&last, 0) && first_difference(&last, &zeros) == Some(128)
 }
 
-#[test]
-fn the_least_difference_is_found(rt: HostRuntime) {
-    assert!(rt; finds_last());
-    assert_lines::<Differing>(&rt, rt.alloc(), PLACES);
+/// How many bytes there are, of which each counts; two places that differ, the lesser one first: in one vector, in two,
+/// and behind the vectors; and the last place.
+pub const SCANS: &str = "\
+    each 0\n\
+    each 1\n\
+    each 31\n\
+    each 32\n\
+    each 33\n\
+    each 64\n\
+    each 100\n\
+    each 129\n\
+    places 0 31\n\
+    places 5 6\n\
+    places 31 32\n\
+    places 40 127\n\
+    places 100 128\n\
+    places 127 128\n\
+    last";
+
+/// Whether a line is right of scans.
+pub fn is_scan_right(kind: &str, line: &str) -> bool {
+    let first = number_at(line, 0).unwrap_or(u32::MAX);
+    let other = number_at(line, 1).unwrap_or(u32::MAX);
+    match kind {
+        "each" => first <= 129 && are_counted(first as usize),
+        "places" => first < 129 && other < 129 && finds(first as usize, other as usize),
+        _ => finds_last(),
+    }
 }

@@ -4,9 +4,7 @@ ghost use Rattle.std.specs.Prelude.{◌≡◌};
 ghost use Rattle.flash_model.specs.Firing.{no_loads};
 
 use crate::mem_flash_tests::{PAGE, SHAPE, SPARE_AREA};
-use crate::samples::{
-    LineTest, assert_lines, has_number, has_version, has_word, number_at, sides, word,
-};
+use crate::samples::{has_number, has_version, has_word, number_at, sides, word};
 use flash_model::{Arms, Flash, Outcome, Power, Retire, Seen, Wide};
 use mem_flash::MemFlash;
 use std::alloc::Global;
@@ -16,65 +14,65 @@ use tx_types::{Block, Slot};
 /// whether it was answered (`+`) or broken (`-`), each slot (`.` blank, `C` complete, `X` damaged), whether power is
 /// on, the counts of programs, erases, reads and faults, the blocks retired, and all that was started, with the three
 /// from before. `fire` starts nothing together, or slot 4 alone, or the slots 1 and 4, which lie in the two dies.
-const ROWS: &str = "\
-    => none C.CC.... on 3 0 0 0 0 3\n\
-    program 1 => + CCCC.... on 4 0 0 0 0 4\n\
-    erase 1 => + C....... on 3 1 0 0 0 4\n\
-    read 0 => + C.CC.... on 3 0 1 0 0 3\n\
-    cut 1 none, program 1 => - C.CC.... off 3 0 0 1 0 4 -- each outcome of each operation\n\
-    cut 1 all, program 1 => - CCCC.... off 3 0 0 1 0 4\n\
-    cut 1 bad, program 1 => - CXCC.... off 3 0 0 1 0 4\n\
-    cut 1 none, erase 1 => - C.CC.... off 3 0 0 1 0 4\n\
-    cut 1 all, erase 1 => - C....... off 3 0 0 1 0 4\n\
-    cut 1 bad, erase 1 => - C.XX.... off 3 0 0 1 0 4\n\
-    fault 1 none, program 1 => - C.CC.... on 3 0 0 1 0 4\n\
-    fault 1 all, program 1 => - CCCC.... on 3 0 0 1 0 4\n\
-    fault 1 bad, program 1 => - CXCC.... on 3 0 0 1 0 4\n\
-    fault 1 none, erase 1 => - C.CC.... on 3 0 0 1 0 4\n\
-    fault 1 all, erase 1 => - C....... on 3 0 0 1 0 4\n\
-    fault 1 bad, erase 1 => - C.XX.... on 3 0 0 1 0 4\n\
-    badread 2, read 0, program 1, read 0, read 0 => ++-+ CCCC.... on 4 0 3 1 0 4 \
+pub const ROWS: &str = "\
+    steps => none C.CC.... on 3 0 0 0 0 3\n\
+    steps program 1 => + CCCC.... on 4 0 0 0 0 4\n\
+    steps erase 1 => + C....... on 3 1 0 0 0 4\n\
+    steps read 0 => + C.CC.... on 3 0 1 0 0 3\n\
+    steps cut 1 none, program 1 => - C.CC.... off 3 0 0 1 0 4 -- each outcome of each operation\n\
+    steps cut 1 all, program 1 => - CCCC.... off 3 0 0 1 0 4\n\
+    steps cut 1 bad, program 1 => - CXCC.... off 3 0 0 1 0 4\n\
+    steps cut 1 none, erase 1 => - C.CC.... off 3 0 0 1 0 4\n\
+    steps cut 1 all, erase 1 => - C....... off 3 0 0 1 0 4\n\
+    steps cut 1 bad, erase 1 => - C.XX.... off 3 0 0 1 0 4\n\
+    steps fault 1 none, program 1 => - C.CC.... on 3 0 0 1 0 4\n\
+    steps fault 1 all, program 1 => - CCCC.... on 3 0 0 1 0 4\n\
+    steps fault 1 bad, program 1 => - CXCC.... on 3 0 0 1 0 4\n\
+    steps fault 1 none, erase 1 => - C.CC.... on 3 0 0 1 0 4\n\
+    steps fault 1 all, erase 1 => - C....... on 3 0 0 1 0 4\n\
+    steps fault 1 bad, erase 1 => - C.XX.... on 3 0 0 1 0 4\n\
+    steps badread 2, read 0, program 1, read 0, read 0 => ++-+ CCCC.... on 4 0 3 1 0 4 \
     -- reads, and what each arm counts\n\
-    fault 2 bad, program 1, read 0, program 4, program 5 => ++-+ CCCCXC.. on 5 0 1 1 0 6\n\
-    fault 1 bad, fault 2 none, program 1, program 4 => +- CCCC.... on 4 0 0 1 0 5 \
+    steps fault 2 bad, program 1, read 0, program 4, program 5 => ++-+ CCCCXC.. on 5 0 1 1 0 6\n\
+    steps fault 1 bad, fault 2 none, program 1, program 4 => +- CCCC.... on 4 0 0 1 0 5 \
     -- a newer arm replaces an older one\n\
-    cut 1 none, fault 1 bad, program 1, on, program 1 => -+ CCCC.... on 4 0 0 1 0 5 \
+    steps cut 1 none, fault 1 bad, program 1, on, program 1 => -+ CCCC.... on 4 0 0 1 0 5 \
     -- where both come due the cut decides, and both are spent\n\
-    fault 1 none, cut 2 bad, program 1, program 1, on, program 4 => --+ CXCCC... on 4 0 0 2 0 6 \
+    steps fault 1 none, cut 2 bad, program 1, program 1, on, program 4 => --+ CXCCC... on 4 0 0 2 0 6 \
     -- the cut counts the call in which the fault comes due,\n\
-    cut 1 none, fault 2 all, program 1, erase 0, read 0, on, program 1 => ---- CCCC.... on 3 0 0 4 0 5 \
+    steps cut 1 none, fault 2 all, program 1, erase 0, read 0, on, program 1 => ---- CCCC.... on 3 0 0 4 0 5 \
     -- and the fault that of the cut. It counts no call without power, and is armed still when power is on \
     again\n\
-    badread 1, cut 1 none, program 1, read 0, on, read 0, read 0 => ---+ C.CC.... on 3 0 2 3 0 4\n\
-    cut 3 all, erase 0, program 0, erase 1, read 2 => ++-- C....... off 4 1 0 2 0 6\n\
-    cut 3 bad, program 1, read 0, program 4, program 5 => +++- CCCCCX.. off 5 0 1 1 0 6 \
+    steps badread 1, cut 1 none, program 1, read 0, on, read 0, read 0 => ---+ C.CC.... on 3 0 2 3 0 4\n\
+    steps cut 3 all, erase 0, program 0, erase 1, read 2 => ++-- C....... off 4 1 0 2 0 6\n\
+    steps cut 3 bad, program 1, read 0, program 4, program 5 => +++- CCCCCX.. off 5 0 1 1 0 6 \
     -- the third of these operations is cut\n\
-    retire 1 => + C....... on 3 0 0 0 1 4 \
+    steps retire 1 => + C....... on 3 0 0 0 1 4 \
     -- a block is retired whole or not at all, and is counted for the arms alone\n\
-    cut 1 none, retire 1 => - C.CC.... off 3 0 0 1 0 4\n\
-    cut 1 all, retire 1 => - C....... off 3 0 0 1 1 4\n\
-    cut 1 bad, retire 1 => - C....... off 3 0 0 1 1 4\n\
-    fault 1 none, retire 1 => - C.CC.... on 3 0 0 1 0 4\n\
-    fault 1 all, retire 1 => - C....... on 3 0 0 1 1 4\n\
-    fault 1 bad, retire 1 => - C....... on 3 0 0 1 1 4\n\
-    fault 2 bad, retire 1, retire 0 => +- ........ on 3 0 0 1 2 5\n\
-    cut 1 none, program 1, retire 1, on, retire 0, erase 1 => --++ ........ on 3 1 0 2 1 6\n\
-    fire both => + CCCCC... on 5 0 0 0 0 4 \
+    steps cut 1 none, retire 1 => - C.CC.... off 3 0 0 1 0 4\n\
+    steps cut 1 all, retire 1 => - C....... off 3 0 0 1 1 4\n\
+    steps cut 1 bad, retire 1 => - C....... off 3 0 0 1 1 4\n\
+    steps fault 1 none, retire 1 => - C.CC.... on 3 0 0 1 0 4\n\
+    steps fault 1 all, retire 1 => - C....... on 3 0 0 1 1 4\n\
+    steps fault 1 bad, retire 1 => - C....... on 3 0 0 1 1 4\n\
+    steps fault 2 bad, retire 1, retire 0 => +- ........ on 3 0 0 1 2 5\n\
+    steps cut 1 none, program 1, retire 1, on, retire 0, erase 1 => --++ ........ on 3 1 0 2 1 6\n\
+    steps fire both => + CCCCC... on 5 0 0 0 0 4 \
     -- programs that are started together are one call for the arms, and each is counted. The one of the \
     lowest die is damaged\n\
-    fire one => + C.CCC... on 4 0 0 0 0 4\n\
-    cut 1 none, fire both => - C.CC.... off 3 0 0 1 0 4\n\
-    cut 1 all, fire both => - CCCCC... off 3 0 0 1 0 4\n\
-    cut 1 bad, fire both => - CXCCC... off 3 0 0 1 0 4\n\
-    fault 1 none, fire both => - C.CC.... on 3 0 0 1 0 4\n\
-    fault 1 all, fire both => - CCCCC... on 3 0 0 1 0 4\n\
-    fault 1 bad, fire both => - CXCCC... on 3 0 0 1 0 4\n\
-    fault 1 bad, fire one => - C.CCX... on 3 0 0 1 0 4\n\
-    fault 2 bad, fire both, program 5 => +- CCCCCX.. on 5 0 0 1 0 5\n\
-    fault 1 bad, fire none, program 1 => +- CXCC.... on 3 0 0 1 0 4 \
+    steps fire one => + C.CCC... on 4 0 0 0 0 4\n\
+    steps cut 1 none, fire both => - C.CC.... off 3 0 0 1 0 4\n\
+    steps cut 1 all, fire both => - CCCCC... off 3 0 0 1 0 4\n\
+    steps cut 1 bad, fire both => - CXCCC... off 3 0 0 1 0 4\n\
+    steps fault 1 none, fire both => - C.CC.... on 3 0 0 1 0 4\n\
+    steps fault 1 all, fire both => - CCCCC... on 3 0 0 1 0 4\n\
+    steps fault 1 bad, fire both => - CXCCC... on 3 0 0 1 0 4\n\
+    steps fault 1 bad, fire one => - C.CCX... on 3 0 0 1 0 4\n\
+    steps fault 2 bad, fire both, program 5 => +- CCCCCX.. on 5 0 0 1 0 5\n\
+    steps fault 1 bad, fire none, program 1 => +- CXCC.... on 3 0 0 1 0 4 \
     -- where nothing is loaded no arm counts the call, and after a broken one nothing is loaded\n\
-    fault 1 none, fire both, fire none => -+ C.CC.... on 3 0 0 1 0 4\n\
-    cut 1 none, fire none, program 1, fire both, fire none, on, fire both => +---+ CCCCC... on 5 0 0 3 0 5";
+    steps fault 1 none, fire both, fire none => -+ C.CC.... on 3 0 0 1 0 4\n\
+    steps cut 1 none, fire none, program 1, fire both, fire none, on, fire both => +---+ CCCCC... on 5 0 0 3 0 5";
 
 /// The outcome of a name.
 fn outcome(name: &str) -> Outcome {
@@ -313,25 +311,16 @@ fn comes_to(flash: &mut MemFlash, steps: &str, want: &str) -> bool
         && counts(flash, want)
 }
 
-/// What steps on a new flash come to, of which two blocks may be retired.
-struct Steps;
-
-impl LineTest for Steps {
-    fn is_right(alloc: Global, line: &str) -> bool {
-        let (steps, want) = sides(line);
-        match MemFlash::new(alloc, SHAPE) {
-            Ok(mut flash) => {
-                flash.set_extras(2, 0);
-                let is_so = comes_to(&mut flash, steps, want);
-                drop(flash);
-                is_so
-            }
-            Err(_) => false,
+/// Whether steps on a new flash, of which two blocks may be retired, come to what the line says.
+pub fn is_row_right(alloc: Global, line: &str) -> bool {
+    let (steps, want) = sides(line);
+    match MemFlash::new(alloc, SHAPE) {
+        Ok(mut flash) => {
+            flash.set_extras(2, 0);
+            let is_so = comes_to(&mut flash, steps, want);
+            drop(flash);
+            is_so
         }
+        Err(_) => false,
     }
-}
-
-#[test]
-fn calls_break_where_an_arm_comes_due(rt: HostRuntime) {
-    assert_lines::<Steps>(&rt, rt.alloc(), ROWS);
 }

@@ -42,18 +42,6 @@ fn reads_back(flash: &mut MemFlash) -> bool
         && reads(flash, Seen::Blank, [0xff; 16], [0xff; 64])
 }
 
-/// Whether a new flash reads back.
-fn is_read_back(alloc: Global) -> bool {
-    match MemFlash::new(alloc, SHAPE) {
-        Ok(mut flash) => {
-            let is_so = reads_back(&mut flash);
-            drop(flash);
-            is_so
-        }
-        Err(_) => false,
-    }
-}
-
 /// Whether an erase of block 1 meets a fault that damages it.
 fn breaks_erase(flash: &mut MemFlash) -> bool
     requires { flash.old.shape ≡ SHAPE }
@@ -61,11 +49,6 @@ fn breaks_erase(flash: &mut MemFlash) -> bool
 {
     flash.arm_fault(1, Outcome::Bad);
     flash.erase(Block(1)).is_err()
-}
-
-#[test]
-fn a_slot_reads_as_it_was_programmed(rt: HostRuntime) {
-    assert!(rt; is_read_back(rt.alloc()));
 }
 
 /// Cells of this size, each of whose bytes is the cell's number.
@@ -142,12 +125,6 @@ const LARGEST: Shape = Shape {
     dies: 2,
 };
 
-#[test]
-fn slots_come_back_as_they_were_given(rt: HostRuntime) {
-    let come_back = comes_back(rt.alloc(), SHAPE) && comes_back(rt.alloc(), LARGEST);
-    assert!(rt; come_back);
-}
-
 /// On any flash: retires a block if it may, and tells how many may be retired and how many are.
 fn retire_one<F: Retire>(flash: &mut F, block: Block) -> (u32, u32)
     requires { block.0 < blocks_of (F.state flash.old).shape }
@@ -189,23 +166,6 @@ fn answers(flash: &mut MemFlash) -> bool
     fire_alone(flash, Slot(6), &PAGE, &SPARE_AREA) && erase_twice(flash, Block(3)) == (true, true)
 }
 
-/// Whether a new one does so.
-fn is_answered(alloc: Global) -> bool {
-    match MemFlash::new(alloc, SHAPE) {
-        Ok(mut flash) => {
-            let is_so = answers(&mut flash);
-            drop(flash);
-            is_so
-        }
-        Err(_) => false,
-    }
-}
-
-#[test]
-fn a_flash_in_memory_is_a_flash(rt: HostRuntime) {
-    assert!(rt; is_answered(rt.alloc()));
-}
-
 /// Whether no more blocks are retired than may be.
 fn keeps_allowance(flash: &mut MemFlash) -> bool
     requires { flash.old.shape ≡ SHAPE }
@@ -217,11 +177,15 @@ fn keeps_allowance(flash: &mut MemFlash) -> bool
     retire_one(flash, Block(3)) == (1024, 1024) && retire_one(flash, Block(3)) == (1024, 1024)
 }
 
-/// Whether none are of a new flash.
-fn is_allowance_kept(alloc: Global) -> bool {
+/// Whether a new flash reads back, answers as any flash, or keeps its allowance.
+fn is_new_right(alloc: Global, kind: &str) -> bool {
     match MemFlash::new(alloc, SHAPE) {
         Ok(mut flash) => {
-            let is_so = keeps_allowance(&mut flash);
+            let is_so = match kind {
+                "reads" => reads_back(&mut flash),
+                "answers" => answers(&mut flash),
+                _ => keeps_allowance(&mut flash),
+            };
             drop(flash);
             is_so
         }
@@ -229,7 +193,18 @@ fn is_allowance_kept(alloc: Global) -> bool {
     }
 }
 
-#[test]
-fn blocks_are_retired_up_to_the_allowance(rt: HostRuntime) {
-    assert!(rt; is_allowance_kept(rt.alloc()));
+/// What a new flash does, and flashes whose slots come back as they were given.
+pub const FLASHES: &str = "\
+    flash reads\n\
+    flash answers\n\
+    flash keeps\n\
+    slots small\n\
+    slots large";
+
+/// Whether a line is right of flashes in memory.
+pub fn is_flash_right(alloc: Global, kind: &str, line: &str) -> bool {
+    if kind == "flash" {
+        return is_new_right(alloc, line);
+    }
+    comes_back(alloc, if line == "small" { SHAPE } else { LARGEST })
 }

@@ -19,30 +19,13 @@ fn are_kept(cache: &mut PageCache, pages: u8) -> bool
     true
 }
 
-/// Whether a page is kept at a version, each of its bytes this one.
-fn is_kept(cache: &mut PageCache, at: Link, byte: u8) -> bool
-    requires { cache.old.page_bytes ≡ 4 }
-    ensures { cache.new.page_bytes ≡ 4 }
-{
-    cache.keep(at.page, at.version, &[byte; 4]).is_ok()
-}
-
-/// Whether a page is found at a version, each of its bytes this one.
-fn is_found(cache: &mut PageCache, at: Link, byte: u8) -> bool
+/// Whether a page is found at a version, each of its bytes this one, or is not found and nothing is copied.
+fn is_found(cache: &mut PageCache, at: Link, is_there: bool, byte: u8) -> bool
     requires { cache.old.page_bytes ≡ 4 }
     ensures { cache.new.page_bytes ≡ 4 }
 {
     let mut into = [0xee; 4];
-    cache.find(at.page, at.version, &mut into) && into == [byte; 4]
-}
-
-/// Whether a page is not found at a version, and nothing is copied.
-fn is_missed(cache: &mut PageCache, at: Link) -> bool
-    requires { cache.old.page_bytes ≡ 4 }
-    ensures { cache.new.page_bytes ≡ 4 }
-{
-    let mut into = [0xee; 4];
-    !cache.find(at.page, at.version, &mut into) && into == [0xee; 4]
+    cache.find(at.page, at.version, &mut into) == is_there && into == [byte; 4]
 }
 
 /// The byte at a place of a text, 0 where there is none.
@@ -58,9 +41,9 @@ fn is_done(cache: &mut PageCache, line: &str) -> bool
 {
     let byte = byte_at(line, 2);
     match (word(line, 0), link(word(line, 1))) {
-        ("keep", Some(at)) => is_kept(cache, at, byte),
-        ("find", Some(at)) => is_found(cache, at, byte),
-        ("miss", Some(at)) => is_missed(cache, at),
+        ("keep", Some(at)) => cache.keep(at.page, at.version, &[byte; 4]).is_ok(),
+        ("find", Some(at)) => is_found(cache, at, true, byte),
+        ("miss", Some(at)) => is_found(cache, at, false, 0xee),
         ("below", _) => are_kept(cache, byte_at(line, 1)),
         ("clear", _) => {
             cache.clear();
@@ -126,7 +109,7 @@ fn are_done(cache: &mut PageCache, steps: &str) -> bool
 }
 
 /// Whether the steps of both texts are done by a new cache.
-fn is_held(alloc: Global) -> bool {
+pub fn is_held(alloc: Global) -> bool {
     match PageCache::new(alloc, 4) {
         Ok(mut cache) => {
             let is_so = are_done(&mut cache, NAMES) && are_done(&mut cache, ORDER);
@@ -135,9 +118,4 @@ fn is_held(alloc: Global) -> bool {
         }
         Err(_) => false,
     }
-}
-
-#[test]
-fn the_pages_that_were_used_last_are_held(rt: HostRuntime) {
-    assert!(rt; is_held(rt.alloc()));
 }

@@ -1,8 +1,6 @@
 ghost use Rattle.page_record.specs.Spelling.{CanBeSpelled};
 
-use crate::samples::{
-    LineTest, assert_lines, change, halves, has_word, protocol_of, rec, sides, word,
-};
+use crate::samples::{change, halves, has_word, protocol_of, rec, sides, word};
 use page_record::{SpareError, read_spare, write_spare};
 use std::alloc::Global;
 use tx_types::Protocol::{Bpcc, Scc};
@@ -117,70 +115,66 @@ fn writes_all(area: &mut [u8; 64]) -> bool {
         && writes(EMPTY, Scc, area, &DISCARD)
 }
 
-#[test]
-fn writes_over_what_stood_there(rt: HostRuntime) {
-    let mut area = [0xff; 64];
-    assert!(rt; writes_all(&mut area));
-}
-
-/// Spare areas, the protocol that each is read for, what is changed in it, as `PLACE=BYTE` with the byte in hex, and
-/// the rule that is broken.
-const BROKEN: &str = "\
-    scc scc 3=0 4=0 5=3 7=1 31=80 32=1 63=1 => mark \
-    -- every rule is broken, and then one rule fewer at each line\n\
-    scc scc 4=0 5=3 7=1 31=80 32=1 63=1 => format\n\
-    scc scc 5=3 7=1 31=80 32=1 63=1 => protocol\n\
-    scc scc 7=1 31=80 32=1 63=1 => flags\n\
-    scc scc 31=80 32=1 63=1 => version\n\
-    scc scc 32=1 63=1 => back\n\
-    scc scc 63=1 => rest\n\
-    discard scc 6=2 31=80 32=1 40=0 63=1 => flags \
-    -- the same in format 2, where the count comes before the rest\n\
-    discard scc 31=80 32=1 40=0 63=1 => version\n\
-    discard scc 32=1 40=0 63=1 => back\n\
-    discard scc 40=0 63=1 => count\n\
-    discard scc 63=1 => rest\n\
-    scc scc 4=2 => count -- counts 0, one above the greatest, and one far above; each end of the rest\n\
-    discard scc 40=1 41=1 => count\n\
-    discard scc 43=1 => count\n\
-    discard scc 44=1 => rest\n\
-    discard scc 4=1 40=0 => flags -- a flag without a count, another flag, and one in the second byte\n\
-    discard scc 6=3 => flags\n\
-    discard scc 7=1 => flags\n\
-    scc scc 0=74 => mark -- the mark in lower case, another format, flags\n\
-    scc scc 4=3 => format\n\
-    scc scc 6=1 => flags\n\
-    scc bpcc => protocol -- the other protocol, and none\n\
-    bpcc scc => protocol\n\
-    scc scc 5=0 => protocol\n\
-    scc scc 16=0 => version -- versions 0, and one above the greatest\n\
-    scc scc 23=40 => version\n\
-    scc scc 24=0 => version\n\
-    scc scc 31=40 => version\n\
-    scc scc 32=1 => back -- back versions\n\
-    scc scc 39=1 => back\n\
-    scc bpcc 5=2 32=1 => back\n\
-    bpcc bpcc 32=3 => back\n\
-    bpcc bpcc 39=1 => back\n\
-    scc scc 40=1 => rest -- each end of the rest\n\
-    bpcc bpcc 63=80 => rest\n\
-    scc scc 0=ff 1=ff 2=ff 3=ff => mark -- nothing was programmed, or all bits were\n\
-    scc scc 0=0 1=0 2=0 3=0 => mark";
-
-/// Spare areas, and the record that is read from each. The record of `wide` is `FAR`.
-const READ: &str = "\
-    scc scc => 0.1>1.1\n\
-    bpcc bpcc => 1.3>1.3/2\n\
-    wide bpcc => 16909060.1230066625199609624>4126603256.2387509390608836392/1167051552766441272\n\
-    discard scc => 0.1>0.1#1 discard \
-    -- a discard, and pages that are none, of transactions of one page, of two and of the most\n\
-    discard scc 6=0 => 0.1>0.1#1\n\
-    scc scc 4=2 40=2 => 0.1>1.1#2\n\
-    bpcc bpcc 4=2 6=1 41=1 => 1.3>1.3/2#256 discard\n\
-    scc scc 16=0 23=40 => 0.4611686018427387904>1.1 -- the greatest versions\n\
-    scc scc 24=0 31=40 => 0.1>1.4611686018427387904\n\
-    bpcc bpcc 32=0 => 1.3>1.3 -- no back version, and any page and link page\n\
-    scc scc 8=ff 11=ff 12=ff 15=ff => 4278190335.1>4278190335.1";
+/// Spare areas that are read or written.
+pub const AREAS: &str = "\
+    # Areas, the protocol that each is read for, what is changed in it, as `PLACE=BYTE` with the byte in hex, and \
+    the rule that is broken.\n\
+    area scc scc 3=0 4=0 5=3 7=1 31=80 32=1 63=1 => mark -- every rule is broken, and then one rule fewer at each \
+    line\n\
+    area scc scc 4=0 5=3 7=1 31=80 32=1 63=1 => format\n\
+    area scc scc 5=3 7=1 31=80 32=1 63=1 => protocol\n\
+    area scc scc 7=1 31=80 32=1 63=1 => flags\n\
+    area scc scc 31=80 32=1 63=1 => version\n\
+    area scc scc 32=1 63=1 => back\n\
+    area scc scc 63=1 => rest\n\
+    area discard scc 6=2 31=80 32=1 40=0 63=1 => flags -- the same in format 2, where the count comes before the \
+    rest\n\
+    area discard scc 31=80 32=1 40=0 63=1 => version\n\
+    area discard scc 32=1 40=0 63=1 => back\n\
+    area discard scc 40=0 63=1 => count\n\
+    area discard scc 63=1 => rest\n\
+    area scc scc 4=2 => count -- counts 0, one above the greatest, and one far above; each end of the rest\n\
+    area discard scc 40=1 41=1 => count\n\
+    area discard scc 43=1 => count\n\
+    area discard scc 44=1 => rest\n\
+    area discard scc 4=1 40=0 => flags -- a flag without a count, another flag, and one in the second byte\n\
+    area discard scc 6=3 => flags\n\
+    area discard scc 7=1 => flags\n\
+    area scc scc 0=74 => mark -- the mark in lower case, another format, flags\n\
+    area scc scc 4=3 => format\n\
+    area scc scc 6=1 => flags\n\
+    area scc bpcc => protocol -- the other protocol, and none\n\
+    area bpcc scc => protocol\n\
+    area scc scc 5=0 => protocol\n\
+    area scc scc 16=0 => version -- versions 0, and one above the greatest\n\
+    area scc scc 23=40 => version\n\
+    area scc scc 24=0 => version\n\
+    area scc scc 31=40 => version\n\
+    area scc scc 32=1 => back -- back versions\n\
+    area scc scc 39=1 => back\n\
+    area scc bpcc 5=2 32=1 => back\n\
+    area bpcc bpcc 32=3 => back\n\
+    area bpcc bpcc 39=1 => back\n\
+    area scc scc 40=1 => rest -- each end of the rest\n\
+    area bpcc bpcc 63=80 => rest\n\
+    area scc scc 0=ff 1=ff 2=ff 3=ff => mark -- nothing was programmed, or all bits were\n\
+    area scc scc 0=0 1=0 2=0 3=0 => mark\n\
+    # Areas, and the record that is read from each.\n\
+    area scc scc => 0.1>1.1\n\
+    area bpcc bpcc => 1.3>1.3/2\n\
+    area wide bpcc => 16909060.1230066625199609624>4126603256.2387509390608836392/1167051552766441272\n\
+    area discard scc => 0.1>0.1#1 discard -- a discard, and pages that are none, of transactions of one page, of \
+    two and of the most\n\
+    area discard scc 6=0 => 0.1>0.1#1\n\
+    area scc scc 4=2 40=2 => 0.1>1.1#2\n\
+    area bpcc bpcc 4=2 6=1 41=1 => 1.3>1.3/2#256 discard\n\
+    area scc scc 16=0 23=40 => 0.4611686018427387904>1.1 -- the greatest versions\n\
+    area scc scc 24=0 31=40 => 0.1>1.4611686018427387904\n\
+    area bpcc bpcc 32=0 => 1.3>1.3 -- no back version, and any page and link page\n\
+    area scc scc 8=ff 11=ff 12=ff 15=ff => 4278190335.1>4278190335.1\n\
+    # Each record is written over the one before it; and the rules as they are printed.\n\
+    written\n\
+    broken names";
 
 /// The spare area of a name.
 fn area(name: &str) -> [u8; 64] {
@@ -223,29 +217,6 @@ fn is_answer(read: Result<Rec, SpareError>, want: &str) -> bool {
     }
 }
 
-/// The record that is read of the area of a line, or the rule that it breaks.
-struct Areas;
-
-impl LineTest for Areas {
-    fn is_right(_: Global, line: &str) -> bool {
-        let (left, want) = sides(line);
-        let (name, rest) = halves(left, " ");
-        let (protocol, changes) = halves(rest, " ");
-        let mut area = area(name);
-        change(&mut area, changes) && is_answer(read_spare(&area, protocol_of(protocol)), want)
-    }
-}
-
-#[test]
-fn names_the_first_broken_rule(rt: HostRuntime) {
-    assert_lines::<Areas>(&rt, rt.alloc(), BROKEN);
-}
-
-#[test]
-fn reads_the_record(rt: HostRuntime) {
-    assert_lines::<Areas>(&rt, rt.alloc(), READ);
-}
-
 /// Whether a rule is printed as its name.
 fn is_named(alloc: Global, rule: SpareError) -> bool {
     match rule.to_string(alloc) {
@@ -254,18 +225,29 @@ fn is_named(alloc: Global, rule: SpareError) -> bool {
     }
 }
 
-#[test]
-fn errors_are_named(rt: HostRuntime) {
-    for rule in [
-        SpareError::Mark,
-        SpareError::Format,
-        SpareError::Protocol,
-        SpareError::Flags,
-        SpareError::Version,
-        SpareError::Back,
-        SpareError::Count,
-        SpareError::Rest,
-    ] {
-        assert!(rt; is_named(rt.alloc(), rule));
+/// Whether each rule is printed as its name.
+fn are_named(alloc: Global) -> bool {
+    is_named(alloc, SpareError::Mark)
+        && is_named(alloc, SpareError::Format)
+        && is_named(alloc, SpareError::Protocol)
+        && is_named(alloc, SpareError::Flags)
+        && is_named(alloc, SpareError::Version)
+        && is_named(alloc, SpareError::Back)
+        && is_named(alloc, SpareError::Count)
+        && is_named(alloc, SpareError::Rest)
+}
+
+/// Whether a line is right of spare areas: the record that is read, or the rule that is broken.
+pub fn is_area_right(alloc: Global, kind: &str, line: &str) -> bool {
+    if kind == "broken" {
+        return are_named(alloc);
     }
+    let (left, want) = sides(line);
+    let (name, rest) = halves(left, " ");
+    let (protocol, changes) = halves(rest, " ");
+    let mut area = area(name);
+    if kind == "written" {
+        return writes_all(&mut area);
+    }
+    change(&mut area, changes) && is_answer(read_spare(&area, protocol_of(protocol)), want)
 }

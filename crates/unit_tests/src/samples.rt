@@ -6,50 +6,10 @@ ghost use Rattle.std.specs.Prelude.{IsTrue, All};
 ghost use Rattle.record_list.specs.Records.{IsScanned};
 ghost use Rattle.record_list.specs.SoundList.{OwnPageExists};
 
+use crate::cycles::cycle_of;
 use record_list::{Breach, Found};
 use std::alloc::Global;
-use std::process::Abort;
 use tx_types::{Link, Protocol, Rec, Slot};
-
-/// What is asked of each line of a text.
-pub trait LineTest {
-    /// Whether a line is right.
-    fn is_right(alloc: Global, line: &str) -> bool;
-}
-
-/// What is asked of each list of a text.
-pub trait ListTest {
-    /// Whether the right side of a line is right of the list on its left side.
-    fn is_right(alloc: Global, list: &[Found], want: &str) -> bool;
-}
-
-/// Asserts that each line of a text is right.
-pub fn assert_lines<T: LineTest>(rt: &impl Abort, alloc: Global, text: &str) {
-    for line in text.split('\n') {
-        assert_line(rt, line, T::is_right(alloc, line));
-    }
-}
-
-/// Asserts that a line is right.
-fn assert_line(rt: &impl Abort, line: &str, is_right: bool) {
-    assert!(rt; is_right, "{line}");
-}
-
-/// Asserts that the right side of each line is right of the list on its left side.
-pub fn assert_lists<T: ListTest>(rt: &impl Abort, alloc: Global, text: &str) {
-    for line in text.split('\n') {
-        assert_line(rt, line, is_list_right::<T>(alloc, line));
-    }
-}
-
-/// Whether the right side of a line is right of the list on its left side.
-fn is_list_right<T: ListTest>(alloc: Global, line: &str) -> bool {
-    let (list, want) = sides(line);
-    match records(alloc, list) {
-        Some(list) => T::is_right(alloc, &list, want),
-        None => false,
-    }
-}
 
 /// The text before the first place of a sign and the one behind it, which is empty where the sign is not there.
 pub fn halves<'a>(text: &'a str, sign: &str) -> (&'a str, &'a str) {
@@ -162,20 +122,24 @@ pub fn change(bytes: &mut [u8], text: &str) -> bool {
     true
 }
 
+/// Makes one change, of a byte or of those from one place to another, as `192-255=54`.
 fn change_one(bytes: &mut [u8], text: &str) -> bool {
-    let (place, byte) = parts(text, '=');
-    match (number(place), u8::from_str_radix(byte, 16)) {
-        (Some(place), Ok(byte)) => set(bytes, place as usize, byte),
+    let (places, byte) = parts(text, '=');
+    let (first, last) = places.split_once('-').unwrap_or((places, places));
+    match (number(first), number(last), u8::from_str_radix(byte, 16)) {
+        (Some(first), Some(last), Ok(byte)) => set_all(bytes, first, last, byte),
         _ => false,
     }
 }
 
-/// Sets the byte at a place, where there is one.
-fn set(bytes: &mut [u8], at: usize, byte: u8) -> bool {
-    if at >= bytes.len() {
-        return false;
+/// Sets the bytes from a place to another, where there are so many.
+fn set_all(bytes: &mut [u8], first: u32, last: u32, byte: u8) -> bool {
+    for at in first as usize..last as usize + 1 {
+        if at >= bytes.len() {
+            return false;
+        }
+        bytes[at] = byte;
     }
-    bytes[at] = byte;
     true
 }
 
@@ -223,8 +187,11 @@ fn found(text: &str) -> Option<Found> {
     })
 }
 
-/// The records of a text, in its order.
+/// The records of a text, in its order, or of a transaction over some pages, as `cycle 17`.
 pub fn records(alloc: Global, text: &str) -> Option<Vec<Found>> {
+    if let Some(pages) = text.strip_prefix("cycle ") {
+        return cycle_of(alloc, number(pages).unwrap_or(0)).ok();
+    }
     let mut list = Vec::new(alloc);
     if add_records(&mut list, text) {
         Some(list)

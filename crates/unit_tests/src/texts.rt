@@ -1,5 +1,4 @@
 //! Texts in which single characters stand for bytes that a line of a text can't have.
-use crate::samples::is_number;
 use std::alloc::{AllocError, Global};
 
 /// The byte that a byte of a text stands for.
@@ -24,36 +23,36 @@ pub fn bytes_of(alloc: Global, text: &str) -> Result<Vec<u8>, AllocError> {
     Ok(bytes)
 }
 
-/// Whether these are the bytes of the text.
-pub fn are_bytes_of(alloc: Global, text: &str, bytes: &[u8]) -> bool {
-    match bytes_of(alloc, text) {
-        Ok(wanted) => wanted.as_slice() == bytes,
-        Err(_) => false,
-    }
-}
-
-/// Whether the bytes of the text stand somewhere in these.
-pub fn stands_in(alloc: Global, text: &str, bytes: &[u8]) -> bool {
-    match bytes_of(alloc, text) {
-        Ok(wanted) => is_part(&wanted, bytes),
-        Err(_) => false,
-    }
-}
-
-/// Whether a part of some bytes is this one.
-fn is_part(part: &[u8], bytes: &[u8]) -> bool {
-    for at in 0..bytes.len() {
-        if bytes[at..].starts_with(part) {
-            return true;
+/// Whether some bytes begin with those of the text.
+fn begin(text: &str, bytes: &[u8]) -> bool {
+    let mut at = 0;
+    for byte in text.bytes() {
+        if at >= bytes.len() || bytes[at] != meant(byte) {
+            return false;
         }
+        at += 1;
     }
-    false
+    true
 }
 
-/// Whether the text is `bad line N` for this N.
-pub fn names_bad_line(text: &str, line: u32) -> bool {
-    match text.strip_prefix("bad line ") {
-        Some(digits) => is_number(digits, line),
-        None => false,
+/// Whether some bytes end with those of the text.
+pub fn end(text: &str, bytes: &[u8]) -> bool {
+    text.len() <= bytes.len() && begin(text, &bytes[bytes.len() - text.len()..])
+}
+
+/// Whether these are the bytes of the text, or those before and behind a `..` in it are the first and the last ones.
+pub fn are_bytes_of(text: &str, bytes: &[u8]) -> bool {
+    match text.split_once(" .. ") {
+        Some((first, last)) => begin(first, bytes) && end(last, bytes),
+        None => text.len() == bytes.len() && begin(text, bytes),
     }
+}
+
+/// At how many places of some bytes those of the text stand.
+pub fn times(text: &str, bytes: &[u8]) -> u64 {
+    let mut count: u64 = 0;
+    for at in 0..bytes.len() {
+        count = count.wrapping_add(u64::from(begin(text, &bytes[at..])));
+    }
+    count
 }

@@ -1,61 +1,68 @@
 ghost use Rattle.std.specs.Prelude.{◌≡◌};
 
-use crate::samples::{LineTest, assert_lines, is_number, number_at, protocol_of, sides, word};
+use crate::samples::{is_number, number_at, protocol_of, sides, word};
 use std::alloc::Global;
 use tx_types::Protocol::Scc;
 use tx_types::{Batch, Bytes, Config, ConfigError, Shape};
 
-/// Configurations, each with the slots of its flash or the rule that it breaks.
-const CONFIGURATIONS: &str = "\
-    scc 16 4 4 2 20 7 => 32 -- a small device and one of ordinary use, under either protocol\n\
-    bpcc 16 4 4 2 20 7 => 32\n\
-    bpcc 512 64 64 4 8000 64 => 16384\n\
-    scc 0 4 4 2 20 7 => page -- the bytes of a page\n\
-    scc 15 4 4 2 20 7 => page\n\
-    scc 24 4 4 2 20 7 => page\n\
-    scc 4096 4 4 2 20 7 => 32\n\
-    scc 4112 4 4 2 20 7 => page\n\
-    scc 16 1 16 2 20 7 => pages -- the slots of a block\n\
-    scc 16 2 16 2 20 7 => 64\n\
-    scc 16 256 4 2 20 7 => 2048\n\
-    scc 16 257 4 2 20 7 => pages\n\
-    scc 16 28 0 2 20 7 => blocks -- the blocks of a die\n\
-    scc 16 28 1 2 20 7 => 56\n\
-    scc 16 2 32768 1 20 7 => 65536\n\
-    scc 16 2 32769 1 20 7 => blocks\n\
-    scc 16 4 8 0 20 7 => dies -- the dies\n\
-    scc 16 4 8 1 20 7 => 32\n\
-    scc 16 4 4 16 20 7 => 256\n\
-    scc 16 4 4 17 20 7 => dies\n\
-    scc 16 256 256 1 20 7 => 65536 -- the slots of the flash, and the bytes of its image file\n\
-    scc 16 256 257 1 20 7 => slots\n\
-    scc 16 256 32768 16 20 7 => slots\n\
-    scc 1968 256 256 1 60000 256 => 65536\n\
-    scc 1984 256 256 1 60000 256 => slots\n\
-    scc 2048 256 256 1 60000 256 => slots\n\
-    scc 4096 256 126 1 20 7 => 32256\n\
-    scc 4096 254 127 1 20 7 => slots\n\
-    scc 16 4 4 2 0 7 => logical -- the logical pages\n\
-    scc 16 4 4 2 1 7 => 32\n\
-    scc 16 4 4 2 20 0 => pending -- the pages that may be pending\n\
-    scc 16 4 4 2 20 1 => 32\n\
-    scc 512 64 64 4 8000 256 => 16384\n\
-    scc 512 64 64 4 8000 257 => pending\n\
-    scc 16 4 4 2 21 7 => space -- the slots outside one block\n\
-    bpcc 16 4 4 2 20 8 => space\n\
-    scc 16 4 4 2 4294967295 7 => space\n\
-    scc 16 2 2 1 1 1 => space\n\
-    scc 16 3 2 1 1 1 => 6\n\
-    scc 16 256 1 1 1 1 => space\n\
-    scc 17 0 0 0 0 0 => page -- every rule is broken, and then one rule fewer at each line\n\
-    scc 16 0 0 0 0 0 => pages\n\
-    scc 16 256 0 0 0 0 => blocks\n\
-    scc 16 256 257 0 0 0 => dies\n\
-    scc 16 256 257 1 0 0 => slots\n\
-    scc 16 256 1 1 0 0 => logical\n\
-    scc 16 256 1 1 1 0 => pending\n\
-    scc 16 256 1 1 1 1 => space\n\
-    scc 4294967295 4294967295 4294967295 4294967295 4294967295 4294967295 => page";
+/// Numbers and bytes.
+pub const TYPES: &str = "\
+    # Configurations, each with the slots of its flash or the rule that it breaks.\n\
+    config scc 16 4 4 2 20 7 => 32 -- a small device and one of ordinary use, under either protocol\n\
+    config bpcc 16 4 4 2 20 7 => 32\n\
+    config bpcc 512 64 64 4 8000 64 => 16384\n\
+    config scc 0 4 4 2 20 7 => page -- the bytes of a page\n\
+    config scc 15 4 4 2 20 7 => page\n\
+    config scc 24 4 4 2 20 7 => page\n\
+    config scc 4096 4 4 2 20 7 => 32\n\
+    config scc 4112 4 4 2 20 7 => page\n\
+    config scc 16 1 16 2 20 7 => pages -- the slots of a block\n\
+    config scc 16 2 16 2 20 7 => 64\n\
+    config scc 16 256 4 2 20 7 => 2048\n\
+    config scc 16 257 4 2 20 7 => pages\n\
+    config scc 16 28 0 2 20 7 => blocks -- the blocks of a die\n\
+    config scc 16 28 1 2 20 7 => 56\n\
+    config scc 16 2 32768 1 20 7 => 65536\n\
+    config scc 16 2 32769 1 20 7 => blocks\n\
+    config scc 16 4 8 0 20 7 => dies -- the dies\n\
+    config scc 16 4 8 1 20 7 => 32\n\
+    config scc 16 4 4 16 20 7 => 256\n\
+    config scc 16 4 4 17 20 7 => dies\n\
+    config scc 16 256 256 1 20 7 => 65536 -- the slots of the flash, and the bytes of its image file\n\
+    config scc 16 256 257 1 20 7 => slots\n\
+    config scc 16 256 32768 16 20 7 => slots\n\
+    config scc 1968 256 256 1 60000 256 => 65536\n\
+    config scc 1984 256 256 1 60000 256 => slots\n\
+    config scc 2048 256 256 1 60000 256 => slots\n\
+    config scc 4096 256 126 1 20 7 => 32256\n\
+    config scc 4096 254 127 1 20 7 => slots\n\
+    config scc 16 4 4 2 0 7 => logical -- the logical pages\n\
+    config scc 16 4 4 2 1 7 => 32\n\
+    config scc 16 4 4 2 20 0 => pending -- the pages that may be pending\n\
+    config scc 16 4 4 2 20 1 => 32\n\
+    config scc 512 64 64 4 8000 256 => 16384\n\
+    config scc 512 64 64 4 8000 257 => pending\n\
+    config scc 16 4 4 2 21 7 => space -- the slots outside one block\n\
+    config bpcc 16 4 4 2 20 8 => space\n\
+    config scc 16 4 4 2 4294967295 7 => space\n\
+    config scc 16 2 2 1 1 1 => space\n\
+    config scc 16 3 2 1 1 1 => 6\n\
+    config scc 16 256 1 1 1 1 => space\n\
+    config scc 17 0 0 0 0 0 => page -- every rule is broken, and then one rule fewer at each line\n\
+    config scc 16 0 0 0 0 0 => pages\n\
+    config scc 16 256 0 0 0 0 => blocks\n\
+    config scc 16 256 257 0 0 0 => dies\n\
+    config scc 16 256 257 1 0 0 => slots\n\
+    config scc 16 256 1 1 0 0 => logical\n\
+    config scc 16 256 1 1 1 0 => pending\n\
+    config scc 16 256 1 1 1 1 => space\n\
+    config scc 4294967295 4294967295 4294967295 4294967295 4294967295 4294967295 => page\n\
+    # A configuration whose numbers all differ has a shape with its numbers; rules are printed; bytes are added at \
+    the end; and a batch fills its pages up.\n\
+    types shape\n\
+    types names\n\
+    types bytes\n\
+    types batch";
 
 /// The configuration of a text: its protocol, and its numbers in the order of its fields.
 fn config(text: &str) -> Option<Config> {
@@ -99,24 +106,6 @@ fn is_checked(config: Config, want: &str) -> bool {
     }
 }
 
-/// The slots of a configuration, or the rule that it breaks.
-struct Checked;
-
-impl LineTest for Checked {
-    fn is_right(_: Global, line: &str) -> bool {
-        let (text, want) = sides(line);
-        match config(text) {
-            Some(config) => is_checked(config, want),
-            None => false,
-        }
-    }
-}
-
-#[test]
-fn a_configuration_has_slots_or_breaks_a_rule(rt: HostRuntime) {
-    assert_lines::<Checked>(&rt, rt.alloc(), CONFIGURATIONS);
-}
-
 /// A configuration whose numbers all differ.
 const APART: Config = Config {
     protocol: Scc,
@@ -142,11 +131,6 @@ fn has_shape() -> bool {
     }
 }
 
-#[test]
-fn a_shape_has_the_numbers_of_its_configuration(rt: HostRuntime) {
-    assert!(rt; has_shape());
-}
-
 /// Whether a rule is printed as its name.
 fn is_named(alloc: Global, rule: ConfigError) -> bool {
     match rule.to_string(alloc) {
@@ -155,20 +139,16 @@ fn is_named(alloc: Global, rule: ConfigError) -> bool {
     }
 }
 
-#[test]
-fn rules_are_named(rt: HostRuntime) {
-    for rule in [
-        ConfigError::Page,
-        ConfigError::Pages,
-        ConfigError::Blocks,
-        ConfigError::Dies,
-        ConfigError::Slots,
-        ConfigError::Logical,
-        ConfigError::Pending,
-        ConfigError::Space,
-    ] {
-        assert!(rt; is_named(rt.alloc(), rule));
-    }
+/// Whether each rule is printed as its name.
+fn are_named(alloc: Global) -> bool {
+    is_named(alloc, ConfigError::Page)
+        && is_named(alloc, ConfigError::Pages)
+        && is_named(alloc, ConfigError::Blocks)
+        && is_named(alloc, ConfigError::Dies)
+        && is_named(alloc, ConfigError::Slots)
+        && is_named(alloc, ConfigError::Logical)
+        && is_named(alloc, ConfigError::Pending)
+        && is_named(alloc, ConfigError::Space)
 }
 
 /// Whether bytes that are added in three parts, of which the second is empty, stand one behind the other.
@@ -178,12 +158,6 @@ fn are_added(bytes: &mut Bytes) -> bool {
         && bytes.extend(b"").is_ok()
         && bytes.extend(b" 2").is_ok()
         && bytes.as_slice() == b"open 1 2".as_slice()
-}
-
-#[test]
-fn bytes_are_added_at_the_end(rt: HostRuntime) {
-    let mut bytes = Bytes::new(rt.alloc());
-    assert!(rt; are_added(&mut bytes));
 }
 
 /// Adds three pages of four bytes, two of them not full, and a discard. Returns whether there is memory.
@@ -222,8 +196,19 @@ fn fills_up(batch: &mut Batch) -> bool
     batch.is_empty() && fill(batch) && is_filled(batch)
 }
 
-#[test]
-fn a_batch_fills_its_pages_up(rt: HostRuntime) {
-    let mut batch = Batch::new(rt.alloc(), 4);
-    assert!(rt; fills_up(&mut batch));
+/// Whether a line is right of the types.
+pub fn is_type_right(alloc: Global, kind: &str, line: &str) -> bool {
+    if kind == "config" {
+        let (text, want) = sides(line);
+        return match config(text) {
+            Some(config) => is_checked(config, want),
+            None => false,
+        };
+    }
+    match line {
+        "shape" => has_shape(),
+        "names" => are_named(alloc),
+        "bytes" => are_added(&mut Bytes::new(alloc)),
+        _ => fills_up(&mut Batch::new(alloc, 4)),
+    }
 }

@@ -96,28 +96,13 @@ fn is_so<R: CommitRule>(
     is_so
 }
 
-/// Whether the steps of a line, on a flash with these items, come to what it says behind `=>`: how they are answered,
-/// and how the flash is then.
-fn is_right(alloc: Global, config: Config, items: &str, line: &str) -> bool
+/// Whether steps on a flash with these items come to what is wanted under the protocol of a configuration.
+pub fn is_on(alloc: Global, config: Config, items: &str, steps: &str, wanted: &str) -> bool
     requires check { checked config ≡ Ok (shape_of config) }
     requires page { config.page_bytes ≡ 16 }
 {
-    let (steps, wanted) = line.split_once(" => ").unwrap_or((line, ""));
     match config.protocol {
         Protocol::Scc => is_so::<Scc>(alloc, config, items, steps, wanted),
         Protocol::Bpcc => is_so::<Bpcc>(alloc, config, items, steps, wanted),
     }
-}
-
-/// The first of the lines that is not right on a flash with these items, or nothing.
-pub fn wrong_line(alloc: Global, config: Config, items: &str, lines: &'static str) -> &'static str
-    requires check { checked config ≡ Ok (shape_of config) }
-    requires page { config.page_bytes ≡ 16 }
-{
-    for line in lines.split('\n') {
-        if !is_right(alloc, config, items, line) {
-            return line;
-        }
-    }
-    ""
 }

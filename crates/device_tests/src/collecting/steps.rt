@@ -8,11 +8,11 @@ ghost use Rattle.die_alloc.specs.BlocksState.{BlocksState};
 ghost use Rattle.collector.specs.Collecting.{HasUnneeded};
 ghost use Rattle.collector.specs.Matches.{Matches, CanTake};
 
-use crate::building::has_block;
-use crate::texts::{number, number_or_zero, outcome, word};
+use crate::building::{has_block, is_armed};
+use crate::texts::{number, word};
 use collector::{Settled, Unsure, clean_spare, collect, settle, theorems, victim};
 use die_alloc::Blocks;
-use flash_model::{Arms, Flash, Power};
+use flash_model::{Flash, Power};
 use mem_flash::MemFlash;
 use record_list::CommitRule;
 use scan_recovery::recover;
@@ -91,25 +91,6 @@ const IMPOSSIBLE: char = '?';
 /// What is told of a call that was answered or broken.
 fn told(answered: bool) -> char {
     if answered { '+' } else { '-' }
-}
-
-/// Sets the arm that a step says, with its count from 1: `cut 1 bad`, `fault 2 all`, `badread 1`. Returns whether it
-/// says one.
-fn is_armed(flash: &mut MemFlash, step: &str) -> bool
-    ensures shape { flash.new.shape ≡ flash.old.shape }
-    ensures image { flash.new.image ≡ flash.old.image }
-{
-    let count = number_or_zero(step, 1);
-    if count == 0 {
-        return false;
-    }
-    match word(step, 0) {
-        "cut" => flash.arm_cut(count, outcome(step, 2)),
-        "fault" => flash.arm_fault(count, outcome(step, 2)),
-        "badread" => flash.arm_bad_read(count),
-        _ => return false,
-    }
-    true
 }
 
 /// Makes the call that a step says: `clean` makes the spare blank, `collect 0 1` collects a block of which a slot is

@@ -6,7 +6,7 @@ ghost use Rattle.tx_types.specs.Config.{checked, shape_of};
 use super::mounting::{mounted, serve};
 use super::telling::Answers;
 use crate::building::{BACK_POINTER, SIMPLE, SMALL, blank_flash};
-use crate::texts::{number_or_zero, word};
+use crate::texts::{halves, number_or_zero, word};
 use bpcc_commit::Bpcc;
 use flash_model::MAX_ALLOWANCE;
 use mem_flash::MemFlash;
@@ -38,14 +38,10 @@ fn is_served<R: CommitRule>(
     }
 }
 
-/// Whether the calls of a line, of a device over a new flash that allows this many blocks to be retired, are answered
-/// as it says behind `=>`.
-fn are_answered(alloc: Global, config: Config, allowance: u32, line: &str) -> bool
+/// Whether calls of a device over a new flash that allows this many blocks to be retired are answered as it is wanted.
+fn are_answered(alloc: Global, config: Config, allowance: u32, calls: &str, wanted: &str) -> bool
     requires { checked config ≡ Ok (shape_of config) }
 {
-    let Some((calls, wanted)) = line.split_once(" => ") else {
-        return false;
-    };
     let mut answers = Answers::new(alloc);
     let is_served = match config.protocol {
         Protocol::Scc => is_served::<Scc>(alloc, config, allowance, calls, &mut answers),
@@ -54,27 +50,19 @@ fn are_answered(alloc: Global, config: Config, allowance: u32, line: &str) -> bo
     is_served && answers.are(wanted)
 }
 
-/// Whether the calls of a line are answered as it says. First stands the device, `simple`, `back_pointer` or `small`,
-/// and how many blocks may be retired if any may.
-pub fn is_right(alloc: Global, line: &str) -> bool {
-    let Some((device, line)) = line.split_once(": ") else {
-        return false;
-    };
+/// Whether the calls of a line are answered as it is wanted. First stands the device, `simple`, `back_pointer`, `both`
+/// of them or `small`, and how many blocks may be retired if any may.
+pub fn are_calls_right(alloc: Global, line: &str, wanted: &str) -> bool {
+    let (device, calls) = halves(line, ": ");
     let allowance = number_or_zero(device, 1);
     match word(device, 0) {
-        "simple" => are_answered(alloc, SIMPLE, allowance, line),
-        "back_pointer" => are_answered(alloc, BACK_POINTER, allowance, line),
-        "small" => are_answered(alloc, SMALL, allowance, line),
+        "simple" => are_answered(alloc, SIMPLE, allowance, calls, wanted),
+        "back_pointer" => are_answered(alloc, BACK_POINTER, allowance, calls, wanted),
+        "both" => {
+            are_answered(alloc, SIMPLE, allowance, calls, wanted)
+                && are_answered(alloc, BACK_POINTER, allowance, calls, wanted)
+        }
+        "small" => are_answered(alloc, SMALL, allowance, calls, wanted),
         _ => false,
     }
-}
-
-/// The first of the lines that is not right, or nothing.
-pub fn wrong_line(alloc: Global, lines: &'static str) -> &'static str {
-    for line in lines.split('\n') {
-        if !is_right(alloc, line) {
-            return line;
-        }
-    }
-    ""
 }

@@ -99,16 +99,6 @@ fn are_blanks<R: CommitRule>(index: &Index<R>, words: &str) -> bool {
     true
 }
 
-/// The block with the most garbage: `most 2`.
-fn most_is<R: CommitRule>(index: &Index<R>, words: &str) -> bool {
-    is_block(index.most_garbage(), words, 0)
-}
-
-/// The block with the most garbage as the blocks are, and how much all have: `now 2 5`.
-fn now_is<R: CommitRule>(index: &Index<R>, words: &str) -> bool {
-    is_block(index.most_garbage_now(), words, 0) && index.all_garbage() == number(words, 1)
-}
-
 /// The most garbage among sixteen blocks: `among 1 2`.
 fn among_is<R: CommitRule>(index: &Index<R>, words: &str) -> bool {
     let sixteen = number(words, 0);
@@ -191,7 +181,8 @@ fn going_are<R: CommitRule>(alloc: Global, index: &Index<R>, words: &str) -> boo
     }
 }
 
-/// Whether the tables are as words say.
+/// Whether the tables are as words say. Of all blocks `most 2` says which one has the most garbage, and `now 2 5` which
+/// one has it as the blocks are, and how much all have.
 fn is_said<R: CommitRule>(alloc: Global, index: &Index<R>, name: &str, words: &str) -> bool {
     match name {
         "page" => page_is(index, words),
@@ -200,8 +191,10 @@ fn is_said<R: CommitRule>(alloc: Global, index: &Index<R>, name: &str, words: &s
         "needed" => needed_are(index, words),
         "garbage" => garbage_is(index, words),
         "blanks" => are_blanks(index, words),
-        "most" => most_is(index, words),
-        "now" => now_is(index, words),
+        "most" => is_block(index.most_garbage(), words, 0),
+        "now" => {
+            is_block(index.most_garbage_now(), words, 0) && index.all_garbage() == number(words, 1)
+        }
         "among" => among_is(index, words),
         "must_go" => must_go_is(index, words),
         "going" => going_are(alloc, index, words),
@@ -216,25 +209,11 @@ fn is_part_right<R: CommitRule>(alloc: Global, index: &mut Index<R>, part: &str)
 }
 
 /// Makes the changes of a line to the tables. Returns whether they are at each place as the line says there.
-fn is_right<R: CommitRule>(alloc: Global, index: &mut Index<R>, line: &str) -> bool {
+pub fn is_right<R: CommitRule>(alloc: Global, index: &mut Index<R>, line: &str) -> bool {
     for part in line.split("; ") {
         if !is_part_right(alloc, index, part) {
             return false;
         }
     }
     true
-}
-
-/// Makes the changes of lines to the tables. Gives the first line that is not right, or nothing.
-pub fn wrong_line<'a, R: CommitRule>(
-    alloc: Global,
-    index: &mut Index<R>,
-    lines: &'a str,
-) -> &'a str {
-    for line in lines.split('\n') {
-        if !is_right(alloc, index, line) {
-            return line;
-        }
-    }
-    ""
 }

@@ -6,9 +6,8 @@ ghost use Rattle.judged_records.specs.IndexState.{IsNextRecord, IsCompleteCycle}
 ghost use Rattle.judged_records.specs.Notes.{note_at, found_in, complete_slots};
 ghost use Rattle.judged_records.specs.declared.note.Note.TheVariants as note;
 
-use super::lines::wrong_line;
+use super::lines::is_right;
 use crate::building::{BACK_POINTER, found, has_slot, is_scanned, rec, slot_count};
-use crate::texts::assert_none;
 use bpcc_commit::Bpcc;
 use flash_model::Seen;
 use flash_model::Seen::{Blank, Complete, Damaged};
@@ -30,7 +29,7 @@ const CONFIG: Config = Config {
 };
 
 /// The tables of slots that read so and hold these records, which keep the laws.
-pub fn opened<R: CommitRule>(
+fn opened<R: CommitRule>(
     alloc: Global,
     config: Config,
     seen: &[Seen],
@@ -50,18 +49,16 @@ pub fn opened<R: CommitRule>(
     }
 }
 
-/// The first of the lines that is not right of tables, which end then.
-pub fn wrong_in<R: CommitRule>(
-    alloc: Global,
-    tables: Option<Index<R>>,
-    lines: &'static str,
-) -> &'static str {
-    let Some(mut index) = tables else {
-        return "no tables";
-    };
-    let wrong = wrong_line(alloc, &mut index, lines);
-    drop(index);
-    wrong
+/// Whether tables, which end then, are right at each part of a line.
+pub fn are_right<R: CommitRule>(alloc: Global, tables: Option<Index<R>>, line: &str) -> bool {
+    match tables {
+        Some(mut index) => {
+            let is_so = is_right(alloc, &mut index, line);
+            drop(index);
+            is_so
+        }
+        None => false,
+    }
 }
 
 /// Whether a slot exists and is blank.
@@ -148,7 +145,7 @@ fn placed(slot: u32, name: (u32, u64), next: (u32, u64), back: u64) -> Found
 }
 
 /// A record of page 0 with a copy in each of the blocks 0 to 2, a damaged slot, and an aborted record.
-pub fn doubled(alloc: Global) -> Option<Index<Scc>> {
+fn doubled(alloc: Global) -> Option<Index<Scc>> {
     let seen = [
         Blank, Complete, Blank, Damaged, Complete, Blank, Complete, Complete, Blank, Blank, Blank,
         Blank,
@@ -160,34 +157,6 @@ pub fn doubled(alloc: Global) -> Option<Index<Scc>> {
         placed(7, (0, 1), (0, 1), 0),
     ];
     opened::<Scc>(alloc, CONFIG, &seen, &list)
-}
-
-/// Block 0 is the spare. The home is outside the spare, and outside block 1 the copy in the spare is the lowest. The
-/// aborted record goes by its own mention and by its link's.
-const DOUBLED: &str = "\
-    spare 0\n\
-    page 0 1 1 4; off 0 1 1; page 1 0 3 -; off 1 1 -; page 2 0 7 -; off 2 1 -; page 3 0 0 -; off 3 1 -\n\
-    needed 12: 4\n\
-    garbage 0 0 0; garbage 1 1 2; garbage 2 2 3; garbage 3 0 3\n\
-    must_go 1 4 2; must_go 1 3 -; must_go 2 8 2; must_go 2 7 -; must_go 0 9 -";
-
-#[test]
-fn a_doubled_record(rt: HostRuntime) {
-    assert_none(&rt, wrong_in(rt.alloc(), doubled(rt.alloc()), DOUBLED));
-}
-
-/// While it is pinned the aborted record is needed. A copy of it raises no mention, and is garbage like the slot that
-/// is damaged.
-const CHANGED: &str = "\
-    spare 0\n\
-    pin 1 2; pin 1 3; needed 12: 4 6; unpin 1; needed 12: 4\n\
-    slot 6 holds 1.3 2.7 0; copy 6 9; damage 10; slot 9 holds 1.3 2.7 0; slot 10 damaged\n\
-    page 1 0 3 -; off 1 1 -; page 2 0 7 -; off 2 1 -\n\
-    garbage 2 2 3; garbage 3 2 3";
-
-#[test]
-fn changes_beside_it(rt: HostRuntime) {
-    assert_none(&rt, wrong_in(rt.alloc(), doubled(rt.alloc()), CHANGED));
 }
 
 /// Takes a record into the array that is the only one. Returns whether that could be.
@@ -221,44 +190,16 @@ fn is_written(alloc: Global, index: &mut Index<Scc>, discard: bool) -> bool {
 }
 
 /// A block of a blank flash that is lost and erased.
-const CLEARED: &str = "\
-    lost 3; garbage 2 0 3; garbage 3 3 3\n\
-    erased 3; garbage 3 0 3";
-
-/// A first record of a blank flash.
-const FIRST: &str = "\
-    page 0 0 0 -; off 0 1 -; page 2 5 5 9; off 2 1 9\n\
-    needed 12: 9\n\
-    garbage 2 0 3; garbage 3 0 2";
-
-/// A first record that discards its page: it is needed, and its page is read nowhere.
-const FIRST_DISCARD: &str = "\
-    page 0 0 0 -; off 0 1 -; page 2 5 5 -; off 2 1 9\n\
-    needed 12: 9\n\
-    garbage 2 0 3; garbage 3 0 2";
+const CLEARED: &str = "lost 3; garbage 2 0 3; garbage 3 3 3; erased 3; garbage 3 0 3";
 
 /// The tables of a blank flash of which a block is lost and erased, and into which a first record is written then.
 fn first(alloc: Global, discard: bool) -> Option<Index<Scc>> {
     let mut index = opened::<Scc>(alloc, CONFIG, &[Blank; 12], &[])?;
-    let wrong = wrong_line(alloc, &mut index, CLEARED);
-    if wrong.is_empty() && is_written(alloc, &mut index, discard) {
+    if is_right(alloc, &mut index, CLEARED) && is_written(alloc, &mut index, discard) {
         return Some(index);
     }
     drop(index);
     None
-}
-
-#[test]
-fn a_first_record(rt: HostRuntime) {
-    assert_none(&rt, wrong_in(rt.alloc(), first(rt.alloc(), false), FIRST));
-}
-
-#[test]
-fn a_first_discard(rt: HostRuntime) {
-    assert_none(
-        &rt,
-        wrong_in(rt.alloc(), first(rt.alloc(), true), FIRST_DISCARD),
-    );
 }
 
 /// Under Back Pointer Cyclic Commit: an aborted record of page 0, a superseded one of page 1 that
@@ -282,15 +223,30 @@ fn held(alloc: Global) -> Option<Index<Bpcc>> {
     opened::<Bpcc>(alloc, BACK_POINTER, &seen, &list)
 }
 
-/// The superseded record is needed while the aborted one stands.
-const HELD: &str = "\
-    spare 7\n\
-    page 0 0 1 -; off 0 1 -; page 1 3 3 1; off 1 1 1; page 2 3 3 19; off 2 1 19\n\
-    needed 32: 1 2 3 16 19\n\
-    garbage 0 1 1; garbage 4 2 2; garbage 5 0 4; garbage 7 0 0\n\
-    must_go 1 9 -; going 1 9:";
+/// Seventeen blocks: one of them is alone in the second sixteen.
+const SEVENTEEN: Config = Config {
+    protocol: Protocol::Scc,
+    page_bytes: 16,
+    pages_per_block: 2,
+    blocks_per_die: 17,
+    dies: 1,
+    logical: 4,
+    pending: 1,
+};
 
-#[test]
-fn a_held_record(rt: HostRuntime) {
-    assert_none(&rt, wrong_in(rt.alloc(), held(rt.alloc()), HELD));
+/// The tables of seventeen blank blocks.
+fn seventeen(alloc: Global) -> Option<Index<Scc>> {
+    opened::<Scc>(alloc, SEVENTEEN, &[Blank; 34], &[])
+}
+
+/// Whether the tables of a name are right at each part of a line.
+pub fn is_table_right(alloc: Global, name: &str, line: &str) -> bool {
+    match name {
+        "doubled" => are_right(alloc, doubled(alloc), line),
+        "first" => are_right(alloc, first(alloc, false), line),
+        "discard" => are_right(alloc, first(alloc, true), line),
+        "held" => are_right(alloc, held(alloc), line),
+        "seventeen" => are_right(alloc, seventeen(alloc), line),
+        _ => false,
+    }
 }

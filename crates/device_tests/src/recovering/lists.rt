@@ -295,15 +295,6 @@ fn is_judged(
     agrees(alloc, config, items, refusal)
 }
 
-/// Places records: as they come, or in blocks that are mostly full. Returns whether there was memory.
-fn are_placed(seed: &mut u64, protocol: Protocol, is_full: bool, items: &mut Vec<Placed>) -> bool {
-    if is_full {
-        place_full(seed, protocol, items).is_ok()
-    } else {
-        place_any(seed, protocol, items).is_ok()
-    }
-}
-
 /// Whether recovery agrees with the plain audit in a round: of records as they come, or of blocks that are mostly
 /// full.
 fn is_round_right(
@@ -317,7 +308,12 @@ fn is_round_right(
     requires page { config.page_bytes ≡ 16 }
 {
     let mut items = Vec::new(alloc);
-    if !are_placed(seed, config.protocol, is_full, &mut items) {
+    let placed = if is_full {
+        place_full(seed, config.protocol, &mut items)
+    } else {
+        place_any(seed, config.protocol, &mut items)
+    };
+    if placed.is_err() {
         return false;
     }
     match blank_flash(alloc, config) {
@@ -344,15 +340,8 @@ fn right_rounds(alloc: Global, refusals: &mut Refusals) -> u32 {
     200
 }
 
-#[test]
-fn recovery_agrees_with_the_plain_audit(rt: HostRuntime) {
+/// Whether recovery agrees with the plain audit in each round, over flashes of all kinds.
+pub fn is_audited(alloc: Global) -> bool {
     let mut refusals = Refusals { all: 0, full: 0 };
-    let rounds = right_rounds(rt.alloc(), &mut refusals);
-    assert!(rt; rounds == 200, "round {rounds}");
-    assert!(rt;
-        refusals.are_varied(),
-        "{} of {}",
-        refusals.full,
-        refusals.all
-    );
+    right_rounds(alloc, &mut refusals) == 200 && refusals.are_varied()
 }

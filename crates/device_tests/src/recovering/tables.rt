@@ -4,9 +4,9 @@ ghost use Rattle.std.specs.Prelude.{◌≡◌};
 ghost use Rattle.tx_types.specs.Config.{shape_of};
 
 use crate::building::{BACK_POINTER, SIMPLE, written};
-use crate::indexing::lines::wrong_line;
-use crate::indexing::tables::wrong_in;
-use crate::texts::{assert_none, number, word};
+use crate::indexing::lines::is_right;
+use crate::indexing::tables::are_right;
+use crate::texts::{number, word};
 use bpcc_commit::Bpcc;
 use die_alloc::Blocks;
 use flash_model::Flash;
@@ -25,12 +25,12 @@ const KEPT: &str = "0 0.1 0.1 0 1, 1 0.2 0.2 1 2, 4 1.1 1.1 0 3, 9 1.1 1.1 0 3, 
 /// No slot is needed that holds a stale or a loose record, or one that stands in a lower slot too. Under Back Pointer
 /// Cyclic Commit nothing must go. The spare is known to the tables: it has no garbage.
 const TABLES: &str = "\
-    page 0 2 3 1; page 1 1 1 4; page 2 0 1 -; page 3 1 1 28; page 4 0 0 -\n\
-    slot 0 holds 0.1 0.1 0; slot 1 holds 0.2 0.2 1; slot 2 blank; slot 4 holds 1.1 1.1 0\n\
-    slot 9 holds 1.1 1.1 0; slot 10 holds 0.3 2.1 2; slot 11 damaged; slot 28 holds 3.1 3.1 0\n\
-    needed 32: 1 4 28\n\
-    off 0 0 -; off 0 1 1; off 1 1 9; off 1 2 4; off 2 0 -; off 3 7 -\n\
-    must_go 2 9 -\n\
+    page 0 2 3 1; page 1 1 1 4; page 2 0 1 -; page 3 1 1 28; page 4 0 0 -; \
+    slot 0 holds 0.1 0.1 0; slot 1 holds 0.2 0.2 1; slot 2 blank; slot 4 holds 1.1 1.1 0; \
+    slot 9 holds 1.1 1.1 0; slot 10 holds 0.3 2.1 2; slot 11 damaged; slot 28 holds 3.1 3.1 0; \
+    needed 32: 1 4 28; \
+    off 0 0 -; off 0 1 1; off 1 1 9; off 1 2 4; off 2 0 -; off 3 7 -; \
+    must_go 2 9 -; \
     garbage 6 0 0; garbage 5 0 4";
 
 /// Of each block its state and how many slots are used.
@@ -77,53 +77,37 @@ fn are_counts_right(flash: &MemFlash) -> bool {
     flash.reads() == 34 && flash.programs() == 6 && flash.erases() == 0
 }
 
-/// What is wrong of a flash, and of the tables that were made of it.
-fn wrong_in_kept(
-    alloc: Global,
-    flash: &MemFlash,
-    index: &mut Index<Bpcc>,
-    blocks: &mut Blocks,
-) -> &'static str
+/// Whether a flash is right, and the tables that were made of it.
+fn are_kept(alloc: Global, flash: &MemFlash, index: &mut Index<Bpcc>, blocks: &mut Blocks) -> bool
     requires { blocks.old.shape ≡ shape_of BACK_POINTER }
 {
-    if !are_counts_right(flash) {
-        "the counts"
-    } else if !are_blocks_right(blocks) {
-        "the blocks"
-    } else {
-        wrong_line(alloc, index, TABLES)
-    }
+    are_counts_right(flash) && are_blocks_right(blocks) && is_right(alloc, index, TABLES)
 }
 
-/// What is wrong of a flash that is sound.
-fn wrong_in_sound(alloc: Global, flash: &mut MemFlash) -> &'static str
+/// Whether a flash is sound and gives its tables.
+fn gives_tables(alloc: Global, flash: &mut MemFlash) -> bool
     requires { flash.old.shape ≡ shape_of BACK_POINTER }
 {
     match recover::<MemFlash, Bpcc>(alloc, flash, BACK_POINTER) {
         Ok((mut index, mut blocks)) => {
-            let wrong = wrong_in_kept(alloc, flash, &mut index, &mut blocks);
+            let is_so = are_kept(alloc, flash, &mut index, &mut blocks);
             drop((index, blocks));
-            wrong
+            is_so
         }
-        Err(_) => "refused",
+        Err(_) => false,
     }
 }
 
-/// What is wrong of the flash with the items above.
-fn wrong_of_kept(alloc: Global) -> &'static str {
+/// Whether the flash with the items above gives its tables.
+pub fn is_kept(alloc: Global) -> bool {
     match written(alloc, BACK_POINTER, KEPT) {
         Some(mut flash) => {
-            let wrong = wrong_in_sound(alloc, &mut flash);
+            let is_so = gives_tables(alloc, &mut flash);
             drop(flash);
-            wrong
+            is_so
         }
-        None => "no flash",
+        None => false,
     }
-}
-
-#[test]
-fn a_sound_flash_gives_its_tables(rt: HostRuntime) {
-    assert_none(&rt, wrong_of_kept(rt.alloc()));
 }
 
 /// A page at version 1; its version 2 in two slots, and a page at version 1, whose transactions did not
@@ -134,32 +118,27 @@ const LOOSE: &str = "0 0.1 0.1 0 1, 4 0.2 1.1 0 2, 8 3.1 2.1 0 3, 12 0.2 1.1 0 2
 const GOING: &str = "\
     must_go 0 2 -; must_go 0 3 1; must_go 1 1 -; must_go 1 2 1; must_go 2 2 2; must_go 3 2 2; must_go 4 9 -";
 
-/// What is wrong of the tables of a flash with loose records.
-fn wrong_in_loose(alloc: Global, flash: &mut MemFlash) -> &'static str
+/// Whether loose records of a flash must go.
+fn must_go(alloc: Global, flash: &mut MemFlash) -> bool
     requires { flash.old.shape ≡ shape_of SIMPLE }
 {
     match recover::<MemFlash, Scc>(alloc, flash, SIMPLE) {
         Ok((index, blocks)) => {
             drop(blocks);
-            wrong_in(alloc, Some(index), GOING)
+            are_right(alloc, Some(index), GOING)
         }
-        Err(_) => "refused",
+        Err(_) => false,
     }
 }
 
-/// What is wrong of the flash with the items above.
-fn wrong_of_loose(alloc: Global) -> &'static str {
+/// Whether the loose records of the flash with the items above must go.
+pub fn is_loose(alloc: Global) -> bool {
     match written(alloc, SIMPLE, LOOSE) {
         Some(mut flash) => {
-            let wrong = wrong_in_loose(alloc, &mut flash);
+            let is_so = must_go(alloc, &mut flash);
             drop(flash);
-            wrong
+            is_so
         }
-        None => "no flash",
+        None => false,
     }
-}
-
-#[test]
-fn loose_records_must_go(rt: HostRuntime) {
-    assert_none(&rt, wrong_of_loose(rt.alloc()));
 }

@@ -1,24 +1,21 @@
-use Rattle.flash_picture.proofs.Common.{on_ok_weaker}
 use Rattle.flash_picture.specs.Svg.{legend}
-use Rattle.flash_picture.proofs.Texts.{then}
+use Rattle.flash_picture.proofs.Texts.{and_then}
 use Rattle.flash_picture.proofs.legend.write_legend.Goals as goal
 
 pub returns : goal.returns
 unfolding legend
 returns c =
     let old = c.args.text.now.items in
-    on_ok_weaker c.write_link_entry.result
-    (λ end. then old _ _ _ _
-    (then old _ _ _ _
-    (then old _ _ _ _
-    (then old _ _ _ _
-    (then old _ _ _ _
-    (then old _ _ _ _
-    (then old _ _ _ _ c.in_ok-write_entry.ensures c.in_ok-write_entry-2.ensures)
-    c.in_ok-write_entry-3.ensures)
-    c.in_ok-write_entry-4.ensures)
-    c.in_ok-write_entry-5.ensures)
-    c.in_ok-write_entry-6.ensures)
-    c.in_ok-write_entry-7.ensures)
-    end)
-    c.write_link_entry.ensures
+    and_then old _ _ _ _ _ _ _
+    (and_then old _ _ _ _ _ _ _
+    (and_then old _ _ _ _ _ _ _
+    (and_then old _ _ _ _ _ _ _
+    (and_then old _ _ _ _ _ _ _
+    (and_then old _ _ _ _ _ _ _
+    (and_then old _ _ _ _ _ _ _ c.write_entry.ensures c.write_entry-2.ensures c.and.ensures)
+    c.write_entry-3.ensures c.and-2.ensures)
+    c.write_entry-4.ensures c.and-3.ensures)
+    c.write_entry-5.ensures c.and-4.ensures)
+    c.write_entry-6.ensures c.and-5.ensures)
+    c.write_entry-7.ensures c.and-6.ensures)
+    c.write_link_entry.ensures c.and-7.ensures
