@@ -1,5 +1,5 @@
 #!/usr/bin/env python3
-"""How long flash_serve takes to answer a line, and to open an image, as two tables.
+"""How long flash_serve takes to answer a line, and to open and to close an image, as two tables.
 
     sessions.py EXE [--rounds N] [--openings N] [--folder FOLDER]..
 
@@ -10,11 +10,13 @@ A line is given through a pipe, and its reply is taken from another one. A time 
 that 99 of 100 stay below, in microseconds by the clock. It has what this script and two changes of process take, which
 the row of `cat` has alone. The last column is the median of the processor time that the program took for a line, its
 calls of the system with it, by the system's count (`/proc/PID/schedstat`). The row of the calls alone has what a
-`finish` of one page asks of the file, twice a write and a sync, made by this script on a file beside it, in turn with
-the lines. `taskset` and `chrt` before all this keep other work away.
+`finish` of one page asks of the file, a write and a sync, made by this script on a file beside it, in turn with the
+lines. The rows of 16 pages of 4096 bytes are a line of 131 KB and its `finish`, and what that asks of the file.
+`taskset` and `chrt` before all this keep other work away.
 
-An opening is from the start of the program to `serving`, of images of 128 MB. Beside it is how long this script takes
-to read the file, and to write it back and sync. Each is the least of N, in seconds, with the file in memory.
+An opening is from the start of the program to `serving`, of images of 128 MB, and a closing from the end of the input
+to that of the program. Beside them is how long this script takes to read the file, and to save it: to write a new file,
+to sync and to rename it, and to sync the folder. Each is the least of N, in seconds, with the file in memory.
 """
 from __future__ import annotations
 
@@ -31,6 +33,9 @@ Numbers = Tuple[int, int, int, int, int, int]
 # Bytes of a page, slots of a block, blocks of a die, dies, logical pages, and pages that may be pending.
 SMALL: Numbers = (16, 4, 4, 2, 20, 7)
 MANY: Numbers = (16, 4, 4096, 4, 32768, 256)
+WIDE: Numbers = (4096, 64, 8, 2, 256, 64)
+# How many pages a line of whole pages writes.
+PAGES = 16
 LARGE: Numbers = (2048, 64, 248, 4, 60000, 256)
 PROTOCOLS = {"scc": 1, "bpcc": 2}
 
@@ -112,14 +117,38 @@ def replies(exe: str, where: str, folder: str, name: str, image: bytes, rounds: 
     os.close(bare)
 
 
-def bare_calls(file: int, number: int, size: int) -> Taken:
-    """What a `finish` of a page of 16 bytes asks of a file of this size: own bytes and a state byte, each synced."""
-    slots = (size - 64) // 81
+def bare_calls(file: int, number: int, size: int, page: int = 16, pages: int = 1) -> Taken:
+    """What a `finish` of pages asks of a file of about this size: a write of each slot, and a sync."""
+    own = page + SPARE + 4
+    slots = (size - 64) // own
+    places = [64 + own * ((number * pages + it) % slots) for it in range(pages)]
+    data = bytes([number % 256]) * own
     before, begun = time.thread_time_ns(), time.perf_counter_ns()
-    for place, data in ((64 + slots + 80 * (number % slots), bytes([number % 256]) * 80), (64 + number % slots, b"\1")):
+    for place in places:
         os.pwrite(file, data, place)
-        os.fdatasync(file)
+    os.fdatasync(file)
     return Taken((time.perf_counter_ns() - begun) / 1000, (time.thread_time_ns() - before) / 1000)
+
+
+def whole_pages(exe: str, where: str, folder: str, rounds: int) -> None:
+    """The times of a write of 16 whole pages of 4096 bytes, and of its finish."""
+    path, beside = os.path.join(folder, "device.img"), os.path.join(folder, "beside.img")
+    image = blank("scc", WIDE)
+    for it in (path, beside):
+        with open(it, "wb") as file:
+            file.write(image)
+    served, bare = Served([exe, path]), os.open(beside, os.O_RDWR)
+    times: Dict[str, List[Taken]] = {"`write`": [], "`finish`": [], "the calls alone": []}
+    served.hear()
+    for number in range(rounds):
+        pages = ["%d=%s" % (page, ("%02x%02x" % (page, number % 256)) * (WIDE[0] // 2)) for page in range(PAGES)]
+        times["`write`"].append(served.ask(("write 1 %s\n" % " ".join(pages)).encode()))
+        times["`finish`"].append(served.ask(b"finish 1\n"))
+        times["the calls alone"].append(bare_calls(bare, number, len(image), WIDE[0], PAGES))
+    for what, found in times.items():
+        print_row("%s, %d pages of %d bytes" % (what, PAGES, WIDE[0]), where, found)
+    served.end()
+    os.close(bare)
 
 
 def echoes(where: str, rounds: int) -> None:
@@ -143,13 +172,18 @@ def least(work: Callable[[], float], count: int) -> float:
     return min(work() for _ in range(count))
 
 
-def opening(exe: str, path: str) -> float:
+def least_of_both(exe: str, path: str, count: int) -> List[float]:
+    return [min(it) for it in zip(*(session(exe, path) for _ in range(count)))]
+
+
+def session(exe: str, path: str) -> Tuple[float, float]:
+    """What an opening and a closing take."""
     begun = time.perf_counter()
     served = Served([exe, path])
     served.hear()
-    taken = time.perf_counter() - begun
+    opened = time.perf_counter()
     served.end()
-    return taken
+    return opened - begun, time.perf_counter() - opened
 
 
 def reading(path: str) -> float:
@@ -160,14 +194,18 @@ def reading(path: str) -> float:
     return time.perf_counter() - begun
 
 
-def writing_back(path: str) -> float:
+def saving(path: str) -> float:
     with open(path, "rb") as file:
         data = file.read()
     begun = time.perf_counter()
-    out = os.open(path, os.O_RDWR)
-    os.pwrite(out, data, 0)
-    os.fdatasync(out)
-    os.close(out)
+    with open(path + ".new", "wb", buffering=0) as out:
+        for place in range(0, len(data), 1 << 16):
+            out.write(data[place:place + (1 << 16)])
+        os.fsync(out.fileno())
+    os.rename(path + ".new", path)
+    folder = os.open(os.path.dirname(path), os.O_RDONLY)
+    os.fsync(folder)
+    os.close(folder)
     return time.perf_counter() - begun
 
 
@@ -179,9 +217,9 @@ def openings(exe: str, where: str, folder: str, count: int) -> None:
                 file.write(blank(protocol, LARGE))
             if how == "full":
                 fill(exe, path, LARGE[4])
-            took, read = least(lambda: opening(exe, path), count), least(lambda: reading(path), count)
-            wrote = least(lambda: writing_back(path), count)
-            told = protocol, how, where, took, read, wrote, took - read - wrote
+            opened, closed = least_of_both(exe, path, count)
+            read, saved = least(lambda: reading(path), count), least(lambda: saving(path), count)
+            told = protocol, how, where, opened, closed, read, saved
             print("| %s, %s | %s | %.3f | %.3f | %.3f | %.3f |" % told, flush=True)
             os.remove(path)
 
@@ -202,7 +240,8 @@ def main() -> None:
         for where, room in rooms:
             for name, numbers in (("32 slots", SMALL), ("65536 slots", MANY)):
                 replies(exe, where, room, name, blank("scc", numbers), said.rounds)
-        print("\n| Image | Folder | to `serving` | to read it | to write it back | the rest |")
+            whole_pages(exe, where, room, said.rounds)
+        print("\n| Image | Folder | to `serving` | to close it | to read it | to save it |")
         print("|---|---|---|---|---|---|")
         for where, room in rooms:
             openings(exe, where, room, said.openings)

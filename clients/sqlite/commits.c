@@ -8,13 +8,10 @@
  *
  * WAY is `device`, `log` or `journal`. The status is 3 where SQLite refuses something. */
 
+#include "measuring.h"
+
 #include <sqlite3.h>
-#include <stdint.h>
-#include <stdio.h>
-#include <stdlib.h>
 #include <string.h>
-#include <time.h>
-#include <unistd.h>
 
 int txflash_vfs_register(void);
 
@@ -22,12 +19,6 @@ int txflash_vfs_register(void);
 #define ROWS 400
 
 static sqlite3 *db;
-static uint64_t draws;
-
-static int draw(int below) {
-    draws = draws * 6364136223846793005u + 1442695040888963407u;
-    return (int)((draws >> 33) % (uint64_t)below);
-}
 
 /* Ends with the words of SQLite, which the connection has. */
 static void check(int code) {
@@ -52,6 +43,7 @@ static void open_file(const char *way, const char *file) {
     snprintf(uri, sizeof uri, "file:%s%s", file, is_device ? "?vfs=txflash" : "");
     check(txflash_vfs_register());
     check(sqlite3_open_v2(uri, &db, SQLITE_OPEN_READWRITE | SQLITE_OPEN_CREATE | SQLITE_OPEN_URI, 0));
+    run("PRAGMA locking_mode=exclusive");
     if (is_device) return;
     run(strcmp(way, "log") ? "PRAGMA journal_mode=delete" : "PRAGMA journal_mode=wal");
     run("PRAGMA synchronous=full");
@@ -152,46 +144,6 @@ static int fill(const char *way, const char *file) {
     return 0;
 }
 
-/* The process that serves the image, or 0. */
-static int server(void) {
-    char path[64];
-    int process = 0;
-    snprintf(path, sizeof path, "/proc/self/task/%d/children", (int)getpid());
-    FILE *file = fopen(path, "r");
-    if (!file) exit(2);
-    if (fscanf(file, "%d", &process) != 1) process = 0;
-    fclose(file);
-    return process;
-}
-
-/* Adds how many bytes a process has given to the system, and how many of them are for the disk. */
-static void add_written(int process, long long *given, long long *to_disk) {
-    char path[64], line[100];
-    long long number;
-    snprintf(path, sizeof path, "/proc/%d/io", process);
-    FILE *file = fopen(path, "r");
-    if (!file) exit(2);
-    while (fgets(line, sizeof line, file)) {
-        if (sscanf(line, "wchar: %lld", &number) == 1) *given += number;
-        if (sscanf(line, "write_bytes: %lld", &number) == 1) *to_disk += number;
-    }
-    fclose(file);
-}
-
-/* The same of this process and the one that serves the image. */
-static void read_written(long long *given, long long *to_disk) {
-    int process = server();
-    *given = *to_disk = 0;
-    add_written((int)getpid(), given, to_disk);
-    if (process) add_written(process, given, to_disk);
-}
-
-static double now(void) {
-    struct timespec time;
-    clock_gettime(CLOCK_MONOTONIC, &time);
-    return (double)time.tv_sec * 1e6 + (double)time.tv_nsec / 1e3;
-}
-
 /* One commit of rows in different pages, in microseconds. */
 static double commit_rows(sqlite3_stmt *change, int rows) {
     double begun = now();
@@ -212,20 +164,15 @@ static void scan(void) {
 }
 
 static int measure(const char *way, const char *file, int rows, int count) {
-    long long given, to_disk, given_before, to_disk_before;
     open_file(way, file);
     scan();
     draws = (uint64_t)getpid();
     sqlite3_stmt *change = prepare("UPDATE t SET v = v + ?2 WHERE n = ?1");
-    double *taken = malloc((size_t)count * sizeof *taken);
-    if (!taken) return 2;
+    struct measured all;
     commit_rows(change, rows);
-    read_written(&given_before, &to_disk_before);
-    for (int i = 0; i < count; i++) taken[i] = commit_rows(change, rows);
-    read_written(&given, &to_disk);
-    for (int i = 0; i < count; i++) printf("%.1f\n", taken[i]);
-    printf("written %lld %lld\n", given - given_before, to_disk - to_disk_before);
-    free(taken);
+    begin_measuring(&all, count);
+    for (int i = 0; i < count; i++) add_time(&all, commit_rows(change, rows));
+    end_measuring(&all);
     check(sqlite3_finalize(change));
     check(sqlite3_close(db));
     return 0;

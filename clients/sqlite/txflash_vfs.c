@@ -201,12 +201,19 @@ static int read_digits(const char *text, unsigned char *out, uint32_t bytes) {
     return *text == 0;
 }
 
-static char *write_digits(char *text, const unsigned char *from, uint32_t bytes) {
-    for (uint32_t i = 0; i < bytes; i++) {
-        *text++ = "0123456789abcdef"[from[i] >> 4];
-        *text++ = "0123456789abcdef"[from[i] & 15];
+/* The two digits of each byte. */
+static char digits[256][2];
+
+static void make_digits(void) {
+    for (int byte = 0; byte < 256; byte++) {
+        digits[byte][0] = "0123456789abcdef"[byte >> 4];
+        digits[byte][1] = "0123456789abcdef"[byte & 15];
     }
-    return text;
+}
+
+static char *write_digits(char *text, const unsigned char *from, uint32_t bytes) {
+    for (uint32_t i = 0; i < bytes; i++) memcpy(text + 2 * i, digits[from[i]], 2);
+    return text + 2 * bytes;
 }
 
 /* A page of the device, zeros where it is blank. */
@@ -629,6 +636,7 @@ static sqlite3_vfs txflash_vfs;
  * the VFS of the system does it. */
 int txflash_vfs_register(void) {
     if (sqlite3_vfs_find(VFS_NAME)) return SQLITE_OK;
+    make_digits();
     system_vfs = sqlite3_vfs_find("unix");
     memory_vfs = sqlite3_vfs_find("memdb");
     if (!system_vfs || !memory_vfs) return tell(SQLITE_ERROR, "SQLite 3.36 or later is needed");

@@ -1,0 +1,139 @@
+/* Transactions of a device without SQLite, for cost.py.
+ *
+ *     bare fill WAY FILE             writes each page that `measure` changes
+ *     bare measure WAY FILE N COUNT  how long each of COUNT transactions of N pages took, as `commits measure` says it
+ *
+ * WAY is `lines`: FLASH_SERVE_PROGRAM serves the image FILE, and is given the lines that the VFS makes of a commit; or
+ * `calls`: this makes the calls that flash_serve makes for it, N writes of a slot and one sync, on FILE. */
+
+#include "measuring.h"
+
+#include <fcntl.h>
+#include <string.h>
+#include <sys/wait.h>
+
+#define PAGES 400
+#define PAGE_BYTES 4096
+#define SLOT_BYTES (PAGE_BYTES + 68)
+
+static int to_device, from_device, bare_file;
+static char text[64 + 256 * (2 * PAGE_BYTES + 12)];
+
+static void check(int is_right, const char *what) {
+    if (is_right) return;
+    perror(what);
+    exit(2);
+}
+
+static void start_device(const char *image) {
+    int to[2], from[2];
+    const char *program = getenv("FLASH_SERVE_PROGRAM");
+    check(pipe2(to, O_CLOEXEC) == 0 && pipe2(from, O_CLOEXEC) == 0, "pipe");
+    if (fork() == 0) {
+        dup2(to[0], 0);
+        dup2(from[1], 1);
+        execl(program ? program : TXFLASH_SERVE, "flash_serve", image, (char *)0);
+        _exit(2);
+    }
+    close(to[0]);
+    close(from[1]);
+    to_device = to[1];
+    from_device = from[0];
+}
+
+/* Hears replies to the end of this one. */
+static void hear(const char *last) {
+    char said[256];
+    size_t heard = 0, length = strlen(last);
+    while (heard < length || memcmp(said + heard - length, last, length)) {
+        ssize_t came = read(from_device, said + heard, sizeof said - heard);
+        check(came > 0 && heard + (size_t)came < sizeof said, "the device");
+        heard += (size_t)came;
+    }
+}
+
+static char digits[256][3];
+
+static char *add_page(char *end, int page, const unsigned char *bytes) {
+    end += sprintf(end, " %d=", page);
+    for (int i = 0; i < PAGE_BYTES; i++) memcpy(end + 2 * i, digits[bytes[i]], 2);
+    return end + 2 * PAGE_BYTES;
+}
+
+static void give_lines(const int *pages, const unsigned char *bytes, int count) {
+    char *end = text + sprintf(text, "write 1");
+    for (int i = 0; i < count; i++) end = add_page(end, pages[i], bytes);
+    end += sprintf(end, "\nfinish 1\n");
+    for (const char *at = text; at < end;) {
+        ssize_t sent = write(to_device, at, (size_t)(end - at));
+        check(sent > 0, "the device");
+        at += sent;
+    }
+    hear("done 1\n");
+}
+
+static void make_calls(const int *pages, const unsigned char *bytes, int count) {
+    static unsigned char slot[SLOT_BYTES];
+    memcpy(slot, bytes, PAGE_BYTES);
+    for (int i = 0; i < count; i++) {
+        check(pwrite(bare_file, slot, SLOT_BYTES, 64 + (off_t)SLOT_BYTES * pages[i]) == SLOT_BYTES, "the file");
+    }
+    check(fdatasync(bare_file) == 0, "the file");
+}
+
+/* A transaction of drawn pages that differ, in microseconds. */
+static double change_pages(int is_device, int count) {
+    int pages[256];
+    unsigned char bytes[PAGE_BYTES];
+    for (int i = 0; i < PAGE_BYTES; i++) bytes[i] = (unsigned char)draw(256);
+    for (int i = 0, page = draw(PAGES); i < count; i++) {
+        pages[i] = page;
+        page = (page + 1 + draw(PAGES / count - 1)) % PAGES;
+    }
+    double begun = now();
+    if (is_device) give_lines(pages, bytes, count);
+    else make_calls(pages, bytes, count);
+    return now() - begun;
+}
+
+static void open_way(int is_device, const char *file) {
+    if (is_device) {
+        start_device(file);
+        hear("serving\n");
+    } else {
+        bare_file = open(file, O_RDWR | O_CREAT | O_CLOEXEC, 0666);
+        check(bare_file >= 0, file);
+    }
+}
+
+static void fill(int is_device) {
+    unsigned char bytes[PAGE_BYTES] = {0};
+    for (int page = 0; page < PAGES; page++) {
+        if (is_device) give_lines(&page, bytes, 1);
+        else make_calls(&page, bytes, 1);
+    }
+}
+
+static void measure(int is_device, int pages, int count) {
+    struct measured all;
+    draws = (uint64_t)getpid();
+    puts("read 0");
+    change_pages(is_device, pages);
+    begin_measuring(&all, count);
+    for (int i = 0; i < count; i++) add_time(&all, change_pages(is_device, pages));
+    end_measuring(&all);
+}
+
+int main(int count, char **words) {
+    if (count < 4) return 2;
+    for (int byte = 0; byte < 256; byte++) sprintf(digits[byte], "%02x", byte);
+    int is_device = strcmp(words[2], "lines") == 0, status = 0;
+    open_way(is_device, words[3]);
+    if (count == 6) measure(is_device, atoi(words[4]), atoi(words[5]));
+    else fill(is_device);
+    if (is_device) {
+        close(to_device);
+        wait(&status);
+    }
+    return WIFEXITED(status) ? WEXITSTATUS(status) : 2;
+}
