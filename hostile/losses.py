@@ -11,7 +11,7 @@ file that a session opens, with the array of a state in which a run over what wa
 or not. Some are opened by the program. Sessions begin on some, and on what a session had written that was killed, of
 which a loss may still take what was not synced.
 
-Then each session is laid out again with every N-th sync left out (7), from each of the first N on. That must be noticed
+Then each session is laid out again with every N-th sync left out (3), from each of the first N on. That must be noticed
 where eight syncs or more are left out: of a few each may be one that nothing needed. The status is 1 where a loss left
 something else, or where that was not noticed."""
 import argparse
@@ -367,7 +367,7 @@ def main() -> int:
     parser.add_argument("--losses", type=int, default=20000)
     parser.add_argument("--seed", type=int, default=1)
     parser.add_argument("--room")
-    parser.add_argument("--leave-out", type=int, default=7, metavar="N")
+    parser.add_argument("--leave-out", type=int, default=3, metavar="N")
     args = parser.parse_args()
     if not shutil.which("strace"):
         raise SystemExit("losses: there is no strace: apt-get install strace")

@@ -92,8 +92,15 @@ fn hold(
     requires checks { checked config ≡ Ok (shape_of config) }
     requires memory { memory ≡ loaded (shape_of config) memory.image memory.extras }
     requires spells { bytes.items ≡ live_spelling config memory.image memory.extras }
-    requires bytes { All (λ b. b < 256) bytes.items }
 {
+    are_bytes(&bytes);
     let file = LossyStore::new_durable(alloc, bytes, failure);
     LiveFlash::hold(alloc, config, memory, file).ok()
+}
+
+/// Nothing is done: this is there for what it ensures.
+fn are_bytes(bytes: &[u8])
+    ensures { All (λ b. b < 256) bytes.now }
+{
+    let _ = bytes;
 }

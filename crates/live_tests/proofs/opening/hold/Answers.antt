@@ -1,4 +1,4 @@
-use Rattle.std.proofs.Common.{◌≡◌, ◌<◌, List, All, subst}
+use Rattle.std.proofs.Common.{◌<◌, ◌∙◌, List, All, subst}
 use Rattle.std.specs.Prelude.{ℕ}
 use Rattle.file_flash.specs.Opening.{IsDurable}
 use Rattle.lossy_store.specs.Writes.{file_of}
@@ -11,4 +11,5 @@ hold-requires-clause-held c =
     c.requires.spells c.new_durable-file.ensures
 
 pub hold-requires-clause-bytes : goal.hold-requires-clause-bytes
-hold-requires-clause-bytes c = subst (All (λ b. b < 256)) c.requires.spells c.requires.bytes
+hold-requires-clause-bytes c =
+    subst (All (λ b. b < 256)) (c.deref.ensures.value ∙ c.requires.spells) c.are_bytes.ensures

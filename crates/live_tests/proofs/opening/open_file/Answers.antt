@@ -1,4 +1,4 @@
-use Rattle.std.proofs.Common.{◌≡◌, ap, ◌∙◌, Ok}
+use Rattle.std.proofs.Common.{ap, ◌∙◌, Ok}
 use Rattle.mem_flash.specs.MemFlashState.{MemFlashState}
 use Rattle.live_tests.proofs.opening.open_file.Goals as goal
 
