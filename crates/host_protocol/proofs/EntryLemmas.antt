@@ -9,7 +9,7 @@ use Rattle.hex.specs.declared.error.FromHexError.{FromHexError}
 use Rattle.std.specs.Prelude.{IfOk}
 use Rattle.std.specs.Option.{unwrap_or}
 use Rattle.std.specs.Result.{result_ok}
-use Rattle.host_protocol.specs.Reading.{AnswersAs, Fails}
+use Rattle.host_protocol.specs.Reading.{AnswersAs, Fails, IsWhole}
 use Rattle.tx_types.specs.Batch.{padded}
 use Rattle.host_protocol.specs.Commands.{page_contents, contents_from, page_write_from, write_of_texts, is_equals}
 use Rattle.host_protocol.proofs.PartLemmas.{parts, split_some, split_none}
@@ -143,6 +143,25 @@ pub value_contents : (size : ℕ) (text : List ℕ) → bytes_eq text (codes "~"
     page_value size text ≡ option_map Some (page_contents size text)
 unfolding page_value
 value_contents size text h = rw h refl
+
+long_other : (text one : List ℕ) → length text ≢ length one → bytes_eq text one ≡ false
+long_other text one longer =
+    false_from_ne_true (bytes_eq text one) (λ same. longer (ap length ((bytes_eq-Decides text one).0 same)))
+
+-- the value of the digits of a whole page, and how many bytes it has
+pub whole_value : (size : ℕ) (text bytes : List ℕ) → IsWhole size text bytes →
+    page_value size text ≡ Some (Some (padded size bytes))
+whole_value size text bytes whole =
+    let some = whole.some in
+    let twice = whole.twice in
+    value_contents size text (long_other text (codes "~") (λ same. absurd (omega (arith, same))))
+    ∙ ap (option_map Some) (contents_ok size text bytes
+    (long_other text (codes "-") (λ same. absurd (omega (arith, same)))) whole.digits
+    (λ none. absurd (omega (arith, none))) (omega arith))
+
+pub whole_within : (size : ℕ) (text bytes : List ℕ) → IsWhole size text bytes → length bytes ≤ size
+whole_within size text bytes whole =
+    let twice = whole.twice in contents_length size text bytes whole.digits (omega arith)
 
 -- what is no contents is no value
 pub value_fails : (size : ℕ) (text : List ℕ) (e : LineError) → bytes_eq text (codes "~") ≡ false →

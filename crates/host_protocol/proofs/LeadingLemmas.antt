@@ -1,5 +1,5 @@
 -- The entry at the beginning of a line.
-use Rattle.host_protocol.proofs.Common.{◌≡◌, ◌≢◌, ℕ, ◌+◌, ◌-◌, ◌<◌, ◌≤◌, true, false, not, ◌⊎◌, inl, inr, List, length, take, drop, get_or, slice_index, refl, ap, sym, ◌∙◌, arith, Option, Some, None, length-drop, unwrap_or, position, position_or_len, option_map, cases_lt, eqb-true, get_or-take, passes_at_first, prefix_len-le-length, position_some, page_value, page_write_of, words_of, is_space_or_tab, number_of, is_digit, digits_in}
+use Rattle.host_protocol.proofs.Common.{◌≡◌, ◌≢◌, ℕ, ◌+◌, ◌-◌, ◌*◌, ◌<◌, ◌≤◌, true, false, not, ◌⊎◌, inl, inr, List, length, take, drop, get_or, slice_index, refl, ap, sym, ◌∙◌, arith, Option, Some, None, length-drop, unwrap_or, position, position_or_len, option_map, cases_lt, eqb-true, get_or-take, passes_at_first, prefix_len-le-length, position_some, page_value, page_write_of, words_of, is_space_or_tab, number_of, is_digit, digits_in}
 use Rattle.std.proofs.Common.{subst}
 use Rattle.std.proofs.Common.{take-take, drop-drop, get_or-drop, length-take}
 use Rattle.std.proofs.lemmas.List.{drop-take}
@@ -7,7 +7,9 @@ use Rattle.std.proofs.lemmas.List.Sums.{position_or_len_is, fails_before_first, 
 use Rattle.std.proofs.lemmas.List.Sums.{AllPass-from_list_all}
 use Rattle.list_lemmas.proofs.Positions.{position-at, position_end}
 use Rattle.host_protocol.specs.Commands.{is_equals}
-use Rattle.host_protocol.specs.Reading.{BeginsWithPage, BeginsWithEntry, BeginsWithOther}
+use Rattle.hex.specs.Hex.{is_hex_digit}
+use Rattle.hex.proofs.HexLemmas.{decode_of-ok}
+use Rattle.host_protocol.specs.Reading.{BeginsWithPage, BeginsWithEntry, BeginsWithOther, IsWhole}
 use Rattle.host_protocol.proofs.EntryLemmas.{entry_around, entry_none}
 use Rattle.host_protocol.proofs.NumberLemmas.{number_digits}
 use Rattle.host_protocol.proofs.PartLemmas.{rest_from}
@@ -156,3 +158,22 @@ other_first whole line start at same none =
           rw front (none' place (omega (arith, inside, long))
           (sym (get_or-take end (rest_from start whole) place 0 before) ∙ sign)));
     }
+
+-- ---- the digits of a whole page
+
+hex_fills : (b : ℕ) → is_hex_digit b ≡ true → is_space_or_tab b ≡ false
+hex_fills b h = grind (arith)
+
+-- where a blank or the end is behind the digits, they end there
+pub whole_end : (size : ℕ) (behind bytes : List ℕ) → IsWhole size (take (2 * size) behind) bytes →
+    2 * size ≤ length behind →
+    (2 * size < length behind → is_space_or_tab (slice_index behind (2 * size)) ≡ true) →
+    unwrap_or (position is_space_or_tab behind) (length behind) ≡ 2 * size
+whole_end size behind bytes whole inside blank =
+    let digits = (decode_of-ok (take (2 * size) behind) bytes whole.digits).1 in
+    position_end is_space_or_tab behind
+    ∙ position_or_len_is is_space_or_tab behind (2 * size) 0 inside
+    (λ k before. hex_fills (get_or behind k 0)
+    (subst (λ b. is_hex_digit b ≡ true) (get_or-take (2 * size) behind k 0 before)
+    (digits k 0 (omega (arith, before, whole.twice)))))
+    blank

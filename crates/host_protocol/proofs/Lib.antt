@@ -7,6 +7,7 @@ mod LaneLemmas
 mod LeadingLemmas
 pub mod LineLemmas
 pub mod NumberLemmas
+mod OneLine
 pub mod PartLemmas
 mod SearchLemmas
 mod WordLemmas

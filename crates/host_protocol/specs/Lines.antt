@@ -1,10 +1,14 @@
 -- The lines of a file and the words of a line.
-use Rattle.std.specs.Prelude.{ℕ, ◌==◌, Bool, ◌||◌, true, false, List, [], ◌∷◌, filter, map, if◌then◌else◌}
+use Rattle.std.specs.Prelude.{ℕ, ◌≢◌, ◌==◌, Bool, ◌||◌, true, false, List, [], ◌∷◌, filter, map, if◌then◌else◌, All}
 use Rattle.std.specs.List.{slice_split}
 use Rattle.std.specs.Str.Lines.{strip_carriage_return}
 
 abbrev pub is_line_feed : ℕ → Bool
 is_line_feed b = b == 10
+
+-- no byte of these is a line feed
+abbrev pub HasNoFeed : List ℕ → Type 0
+HasNoFeed bytes = All (λ b. b ≢ 10) bytes
 
 -- a space or a tab
 abbrev pub is_space_or_tab : ℕ → Bool

@@ -1,6 +1,7 @@
 -- What reading a part of a line gave.
-use Rattle.std.specs.Prelude.{◌≡◌, ◌<◌, ◌≤◌, ◌+◌, true, ℕ, List, ◌∷◌, length, take, drop, slice_index, map, Option, Some, None, Result, Ok, Err}
+use Rattle.std.specs.Prelude.{◌≡◌, ◌<◌, ◌≤◌, ◌+◌, ◌*◌, true, ℕ, List, ◌∷◌, length, take, drop, slice_index, map, Option, Some, None, Result, Ok, Err}
 use Rattle.std.specs.Option.{option_map}
+use Rattle.hex.specs.Hex.{decode_of}
 use Rattle.tx_types.specs.Batch.{PageWrite, Writes}
 use Rattle.host_protocol.specs.Lines.{words_of}
 use Rattle.host_protocol.specs.Numbers.{digits_in, number_of}
@@ -106,6 +107,12 @@ pub record BeginsWithOther (line : List ℕ) : Type 0 where
   pub others : List (List ℕ)
   pub words : words_of line ≡ word ∷ others
   pub none : (size : ℕ) → page_write_of size word ≡ None
+
+-- the text is the digits of all bytes of a page, which are these
+pub record IsWhole (size : ℕ) (text bytes : List ℕ) : Type 0 where
+  pub some : 1 ≤ size
+  pub twice : length text ≡ 2 * size
+  pub digits : decode_of text ≡ Ok bytes
 
 -- where a file's reading ended
 abbrev pub EndsAt : ℕ → List ℕ → TextError → Type 0

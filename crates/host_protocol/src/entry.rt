@@ -1,26 +1,32 @@
-ghost use Rattle.std.specs.Prelude.{◌≡◌, ◌≢◌, ◌≤◌, ◌<◌, ◌∷◌, [], ℕ, List, length, take, slice_index, position, IfOk, IfSome, IfNone, IsErr};
+ghost use Rattle.std.specs.Prelude.{◌≡◌, ◌≢◌, ◌≤◌, ◌<◌, ◌*◌, ◌∷◌, [], true, ℕ, List, length, take, slice_index, position, IfOk, IfSome, IfNone, IsErr};
 ghost use Rattle.std.specs.List.{slice_split};
-ghost use Rattle.std.specs.Option.{option_map};
+ghost use Rattle.std.specs.Option.{option_map, unwrap_or};
 ghost use Rattle.tx_types.specs.Batch.{padded};
 ghost use Rattle.host_protocol.specs.Commands.{page_contents, page_value, is_equals};
-ghost use Rattle.host_protocol.specs.Lines.{words_of};
+ghost use Rattle.host_protocol.specs.Lines.{is_space_or_tab, words_of};
 ghost use Rattle.host_protocol.specs.Numbers.{number_of};
-ghost use Rattle.host_protocol.specs.Reading.{AnswersAs, BeginsWithEntry, BeginsWithOther, BeginsWithPage};
+ghost use Rattle.host_protocol.specs.Reading.{AnswersAs, BeginsWithEntry, BeginsWithOther, BeginsWithPage, IsWhole};
 
 use crate::error::LineError;
-use crate::hexadecimal::decode;
+use crate::hexadecimal::{decode, decode_digits};
 use crate::numbers::leading_number;
-use crate::words::{first_blank, first_filled};
+use crate::words::{ends_at, first_blank, first_filled};
 use memchr::memchr;
 
-/// The first entry of a line: its page, the text of what the page is to hold, and what is behind it on the line. None
-/// where the line has no word. The digits are read first, and then an equals sign is expected: no digit is a blank, so
-/// neither the sign nor the end of the word is searched for before.
+/// The first entry of a line: its page, the text of what the page is to hold, what is behind it on the line, and whether
+/// the text is the digits of a whole page, whose bytes are in the room then. None where the line has no word. No digit is
+/// a blank: so the page's number is read before an equals sign is expected, and a whole page before its end is.
 #[inline(always)]
-pub fn first_entry(line: &[u8]) -> Result<Option<(u32, &[u8], &[u8])>, LineError>
+pub fn first_entry<'a>(
+    line: &'a [u8],
+    page_bytes: u32,
+    room: &mut Vec<u8>,
+) -> Result<Option<(u32, &'a [u8], &'a [u8], bool)>, LineError>
     ensures entry { IfOk result (λ found. IfSome found (λ e.
         BeginsWithEntry line.now e.0 e.1.now e.2.now)) }
     ensures shorter { IfOk result (λ found. IfSome found (λ e. length e.2.now < length line.now)) }
+    ensures whole { IfOk result (λ found. IfSome found (λ e.
+        e.3 ≡ true → IsWhole page_bytes e.1.now room.new.items)) }
     ensures none { IfOk result (λ found. IfNone found (words_of line.now ≡ [])) }
     ensures bad { IsErr result → BeginsWithOther line.now }
 {
@@ -29,9 +35,39 @@ pub fn first_entry(line: &[u8]) -> Result<Option<(u32, &[u8], &[u8])>, LineError
     };
     let line = &line[start..];
     let (page, behind) = leading_page(line).ok_or(LineError::Bad)?;
-    let end = first_blank(behind).unwrap_or(behind.len());
+    let (end, is_whole) = find_end(behind, page_bytes, room);
     let (text, behind) = behind.split_at(end);
-    Ok(Some((page, text, behind)))
+    Ok(Some((page, text, behind, is_whole)))
+}
+
+/// Where the text behind an equals sign ends, and whether it is the digits of a whole page, whose bytes are in the room
+/// then. Their end is not searched for.
+#[inline(always)]
+fn find_end(behind: &[u8], page_bytes: u32, room: &mut Vec<u8>) -> (usize, bool)
+    ensures end { result.0 ≡ unwrap_or (position is_space_or_tab behind.now) (length behind.now) }
+    ensures whole { result.1 ≡ true →
+        IsWhole page_bytes (take result.0 behind.now) room.new.items }
+{
+    let most = 2 * page_bytes as usize;
+    if read_whole(behind, page_bytes, room) {
+        return (most, true);
+    }
+    (first_blank(behind).unwrap_or(behind.len()), false)
+}
+
+/// Reads the text behind an equals sign into the room, and says whether it is the digits of a whole page.
+#[inline(always)]
+fn read_whole(behind: &[u8], page_bytes: u32, room: &mut Vec<u8>) -> bool
+    ensures whole { result ≡ true →
+        IsWhole page_bytes (take (2 * page_bytes) behind.now) room.new.items }
+    ensures end { result ≡ true →
+        unwrap_or (position is_space_or_tab behind.now) (length behind.now) ≡ 2 * page_bytes }
+{
+    let most = 2 * page_bytes as usize;
+    if most == 0 || !ends_at(behind, most) {
+        return false;
+    }
+    decode_digits(&behind[..most], room)
 }
 
 /// The page before an equals sign at the beginning of a line, and what is behind the sign.
@@ -85,6 +121,24 @@ pub fn value<'a>(
         return Ok(None);
     }
     Ok(Some(contents(text, page_bytes, room)?))
+}
+
+/// The same, by a text whose bytes are in the room already where it is the digits of a whole page.
+pub fn value_by_room<'a>(
+    text: &[u8],
+    is_whole: bool,
+    page_bytes: u32,
+    room: &'a mut Vec<u8>,
+) -> Result<Option<&'a [u8]>, LineError>
+    requires { is_whole ≡ true → IsWhole page_bytes text.now room.old.items }
+    ensures value { AnswersAs (λ o. option_map (λ v. padded page_bytes v.now) o)
+        result (page_value page_bytes text.now) }
+    ensures within { IfOk result (λ o. IfSome o (λ v. length v.now ≤ page_bytes)) }
+{
+    if is_whole {
+        return Ok(Some(room));
+    }
+    value(text, page_bytes, room)
 }
 
 /// The bytes of a page, by their text: none for a dash, else one to all of them by hexadecimal digits.

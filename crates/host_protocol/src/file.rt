@@ -1,14 +1,15 @@
-ghost use Rattle.std.specs.Prelude.{◌≡◌, ◌+◌, ◌≤◌, ◌++◌, ◌⊎◌, [], ℕ, List, length, sum_by, IfOk, IfErr, OnOk, MatchResult, All};
+ghost use Rattle.std.specs.Prelude.{◌≡◌, ◌+◌, ◌≤◌, ◌++◌, ◌⊎◌, [], ℕ, List, length, sum_by, IfOk, IfErr, IfSome, OnOk, MatchResult, All};
 ghost use Rattle.std.specs.Option.{option_to_list};
 ghost use Rattle.host_protocol.specs.Commands.{Suits};
 ghost use Rattle.host_protocol.specs.Files.{entries_in, IsFile, IsFirstBad};
+ghost use Rattle.host_protocol.specs.Lines.{HasNoFeed};
 ghost use Rattle.host_protocol.specs.Reading.{EndsAt};
 ghost use Rattle.host_protocol.specs.declared.command.Command.{Command};
 
 use crate::command::Command;
 use crate::error::TextError;
 use crate::line::line_command;
-use crate::lines::first_line;
+use crate::lines::{first_line, without_return};
 use std::alloc::Global;
 use tx_types::Memory;
 
@@ -42,6 +43,34 @@ pub fn parse(alloc: Global, bytes: &[u8], page_bytes: u32) -> Result<Vec<Command
     let mut room = Vec::new(alloc);
     add_commands(alloc, bytes, page_bytes, &mut room, &mut commands)?;
     Ok(commands)
+}
+
+/// The command of a file that is one line without a line feed, for pages of this many bytes; none for a blank line or a
+/// comment. The room is used for the bytes of a page.
+pub fn parse_line(
+    alloc: Global,
+    bytes: &[u8],
+    page_bytes: u32,
+    room: &mut Vec<u8>,
+) -> Result<Option<Command>, TextError>
+    requires { HasNoFeed bytes.now }
+
+    // What is read is the file.
+    ensures file { IfOk result (λ found. IsFile page_bytes bytes.now (option_to_list found)) }
+    ensures suits { IfOk result (λ found. IfSome found (Suits page_bytes)) }
+    ensures line { IfErr result (EndsAt page_bytes bytes.now) }
+
+    // What is in the grammar is read, and a line that is not is named, unless memory runs out.
+    ensures only { (commands : List Command) → IsFile page_bytes bytes.now commands
+        → MatchResult result (λ found. option_to_list found ≡ commands) (λ e. e ≡ TextError.Memory) }
+    ensures first { (n : ℕ) → IsFirstBad page_bytes bytes.now n
+        → MatchResult result (λ found. ⊥) (λ e. (e ≡ TextError.Line n) ⊎ (e ≡ TextError.Memory)) }
+{
+    let line = without_return(bytes);
+    match line_command(alloc, line, page_bytes, 0, MAX_ENTRIES, room) {
+        Ok(found) => Ok(found),
+        Err(e) => Err(e.at(1)),
+    }
 }
 
 /// Adds the commands of a file to a list that has none. The room is used for the bytes of a page.
@@ -103,7 +132,7 @@ fn keep(
 }
 
 /// How many entries a command has.
-fn entry_count(command: &Command) -> usize
+pub fn entry_count(command: &Command) -> usize
     ensures { result ≡ entries_in command.now }
 {
     match command {

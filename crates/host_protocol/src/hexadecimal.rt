@@ -29,6 +29,16 @@ pub fn decode<'a>(text: &[u8], room: &'a mut Vec<u8>) -> Result<&'a [u8], LineEr
     }
 }
 
+/// Reads a text of digits into the room, and says whether it is one, and there is memory for the bytes that it tells.
+pub fn decode_digits(text: &[u8], room: &mut Vec<u8>) -> bool
+    ensures { result ≡ true → decode_of text.now ≡ Ok room.new.items }
+{
+    if text.len() % 2 != 0 || make_long(room, text.len() / 2).is_err() {
+        return false;
+    }
+    decode_into(text, room)
+}
+
 /// Makes the room as long as this.
 fn make_long(room: &mut Vec<u8>, count: usize) -> Result<(), Memory>
     ensures { OnOk result (length room.new.items ≡ count) }

@@ -21,7 +21,10 @@ mod words;
 pub use command::Command;
 pub use entry::around_equals;
 pub use error::{LineError, TextError};
-pub use file::{MAX_COMMANDS, MAX_ENTRIES, MAX_FILE_BYTES, no_commands, parse};
+pub use file::{
+    MAX_COMMANDS, MAX_ENTRIES, MAX_FILE_BYTES, entry_count, no_commands, parse, parse_line,
+};
+pub use line::line_command;
 pub use lines::first_line;
 pub use numbers::number;
 pub use numbers_line::add_line;

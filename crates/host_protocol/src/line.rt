@@ -4,7 +4,7 @@ ghost use Rattle.host_protocol.specs.Lines.{words_of};
 ghost use Rattle.host_protocol.specs.Reading.{AddsCommand, AddsNone, HasEntries, HasNoEntries, IsWritePast, IsWriteWithin, MakesCommand, MakesNone, MakesPlain};
 
 use crate::command::Command;
-use crate::entry::{first_entry, value};
+use crate::entry::{first_entry, value_by_room};
 use crate::error::LineError;
 use crate::file::MAX_COMMANDS;
 use crate::numbers::number;
@@ -16,7 +16,7 @@ use tx_types::Batch;
 
 /// The command of a line, none for a blank line or a comment. There are `before` commands before
 /// it, and a write may have at most `entries_left` entries. The room is used for the bytes of a page.
-pub(crate) fn line_command(
+pub fn line_command(
     alloc: Global,
     line: &[u8],
     page_bytes: u32,
@@ -162,11 +162,11 @@ fn add_entries(
         HasNoEntries page_bytes (words_of words.now) entries_left }
 {
     let mut rest = words;
-    while let Some((page, text, behind)) = first_entry(rest)? {
+    while let Some((page, text, behind, is_whole)) = first_entry(rest, page_bytes, room)? {
         if batch.len() >= entries_left {
             return Err(LineError::Bad);
         }
-        match value(text, page_bytes, room)? {
+        match value_by_room(text, is_whole, page_bytes, room)? {
             Some(bytes) => batch.add(page, bytes)?,
             None => batch.add_discard(page)?,
         }

@@ -29,7 +29,7 @@ fn first_line_feed(bytes: &[u8]) -> Option<usize>
 }
 
 /// The line without a carriage return at its end.
-fn without_return(line: &[u8]) -> &[u8]
+pub fn without_return(line: &[u8]) -> &[u8]
     ensures { result.now ≡ strip_carriage_return line.now }
 {
     match line {

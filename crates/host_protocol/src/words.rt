@@ -1,4 +1,4 @@
-ghost use Rattle.std.specs.Prelude.{◌≡◌, ◌<◌, [], ◌∷◌, length, not, position, IfSome, IfNone};
+ghost use Rattle.std.specs.Prelude.{◌≡◌, ◌≤◌, ◌<◌, true, [], ◌∷◌, length, not, position, slice_index, IfSome, IfNone};
 ghost use Rattle.std.specs.Str.{bytes_eq};
 ghost use Rattle.host_protocol.specs.Lines.{words_of, is_space_or_tab};
 
@@ -48,6 +48,19 @@ pub fn first_blank(line: &[u8]) -> Option<usize>
         return found;
     }
     far_blank(line)
+}
+
+/// Whether a space or a tab stands at this place of a line, or the line ends there.
+#[inline(always)]
+pub fn ends_at(line: &[u8], place: usize) -> bool
+    ensures inside { result ≡ true → place ≤ length line.now }
+    ensures blank { result ≡ true → place < length line.now →
+        is_space_or_tab (slice_index line.now place) ≡ true }
+{
+    if place < line.len() {
+        return line[place] == b' ' || line[place] == b'\t';
+    }
+    place == line.len()
 }
 
 /// Where the first space or tab stands, byte by byte.

@@ -1,4 +1,4 @@
-use Rattle.host_protocol.proofs.Common.{◌≡◌, ℕ, Option, Some, None, sym, refl, ap, ◌∙◌, unwrap_or, length}
+use Rattle.host_protocol.proofs.Common.{◌≡◌, ℕ, Option, Some, None, sym, refl, ◌∙◌}
 use Rattle.host_protocol.proofs.LeadingLemmas.{entry_first, other_first}
 use Rattle.host_protocol.proofs.WordLemmas.{word_none}
 use Rattle.host_protocol.proofs.entry.first_entry.Goals as goal
@@ -19,8 +19,6 @@ returns-in_err-page-clause-bad c = λ _.
 pub returns-clause-entry : goal.returns-clause-entry
 returns-clause-entry c =
     let begins = rw c.in_ok-page.ensures.ok_part at c.leading_page.ensures.some in
-    let ended = c.unwrap_or-end.ensures ∙ ap (λ o. unwrap_or o (length c.in_ok-page.behind.now))
-    c.first_blank.ensures in
     rw (c.split_at.ensures.front, c.split_at.ensures.back)
     (entry_first _ c.in_ok-page.page c.in_ok-page.behind.now begins c.args.line.now c.in-Some.start
-    c.unwrap_or-end.result (sym c.in-Some.ensures) refl ended)
+    c.find_end-end.result.0 (sym c.in-Some.ensures) refl c.find_end-end.ensures.end)
