@@ -5,6 +5,7 @@ ghost use Rattle.dense_tables.specs.Levels.{under, IsTop};
 
 use std::alloc::{AllocError, Global};
 use std::marker::Model;
+use std::simd::prelude::*;
 
 /// Numbers of which the greatest is known.
 ///
@@ -213,9 +214,28 @@ fn greatest(numbers: &[u32]) -> u32
     most
 }
 
-/// The first place of a number.
+/// The first place of a number. A whole sixteen of numbers is looked at at once.
 fn place_of(numbers: &[u32], number: u32) -> Option<usize>
     ensures { result ≡ position (λ x. x == number) numbers.now }
 {
+    if numbers.len() == 16 {
+        return place_of_sixteen(numbers, number);
+    }
     numbers.iter().position(|x| *x == number)
+}
+
+/// The first place of a number among sixteen.
+#[inline(always)]
+fn place_of_sixteen(numbers: &[u32], number: u32) -> Option<usize>
+    requires { length numbers.now ≡ 16 }
+    ensures { result ≡ position (λ x. x == number) numbers.now }
+{
+    let found = u32x16::from_slice(numbers)
+        .simd_eq(u32x16::splat(number))
+        .to_bitmask();
+    if found == 0 {
+        None
+    } else {
+        Some(found.trailing_zeros() as usize)
+    }
 }

@@ -1,12 +1,12 @@
-ghost use Rattle.std.specs.Prelude.{◌≡◌, ℕ, ◌<◌, ◌↔◌, length, replicate, slice_index, slice_set, Some, None, false, IfOk, IfSome, IsSomeAnd};
+ghost use Rattle.std.specs.Prelude.{◌≡◌, ℕ, ◌<◌, ◌↔◌, length, replicate, slice_index, slice_set, Option, Some, None, true, false, IfOk, IfSome, IsSomeAnd};
 ghost use Rattle.std.specs.Option.{option_map, option_and_then};
 ghost use Rattle.tx_types.specs.Config.{blocks_of};
 ghost use Rattle.tx_types.specs.declared.record.Rec.{Rec};
 ghost use Rattle.record_list.specs.Written.{is_slot};
-ghost use Rattle.slot_tables.specs.BaseTables.{tables_state, refreshed, is_same_slot, marked, home_marked, moved_refreshed, IsSized, IsRefreshedFrom};
+ghost use Rattle.slot_tables.specs.BaseTables.{tables_state, refreshed, is_same_slot, marked, home_marked, moved_refreshed, block_refreshed, IsSized, IsRefreshedFrom};
 ghost use Rattle.slot_tables.specs.Counts.{is_marked};
 ghost use Rattle.slot_tables.specs.Tables.{AreBlanks, AreMarked};
-ghost use Rattle.slot_tables.specs.TablesState.{home, home_in, is_wanted, is_needed, first_below, links_below, record_at};
+ghost use Rattle.slot_tables.specs.TablesState.{use_at, number_in, home, home_in, is_wanted, is_needed, first_below, links_below, record_at};
 ghost use Rattle.slot_tables.specs.Versions.{Names};
 
 use crate::block_counts::BlockCounts;
@@ -314,8 +314,41 @@ impl BaseTables {
     {
         let first = block.0 * self.shape.pages_per_block;
         for at in first..first + self.shape.pages_per_block {
-            let number = number_in(self.slots.get(at));
-            self.refresh_moved(live, self.home_by(older, number), number);
+            self.refresh_slot(live, older, at);
+        }
+    }
+
+    /// Where another slot than by an older spare is the home of the record of a slot, refreshes whether each of the two
+    /// is needed.
+    #[inline(always)]
+    fn refresh_slot(&self, live: &mut LiveSlots, older: Option<Block>, at: u32)
+        requires sized { IsSized self.now }
+        requires slot { at < length self.now.slots }
+        requires live { length live.old.needed ≡ length self.now.slots }
+        ensures { live.new ≡ record live.old {
+          needed = block_refreshed (tables_state self.now) (option_map (λ b. b.0) older)
+              live.old.needed (number_in (use_at self.now.slots at));
+        } }
+    {
+        let number = number_in(self.slots.get(at));
+        if self.stands_once(number) {
+            return;
+        }
+        self.refresh_moved(live, self.home_by(older, number), number);
+    }
+
+    /// Whether the record of a number, if there is one, has one copy at most: then its home is the same by any spare.
+    #[inline(always)]
+    fn stands_once(&self, number: Option<u32>) -> bool
+        requires sized { IsSized self.now }
+        requires number { IfSome number (λ number. number < length self.now.slots) }
+        ensures { result ≡ true → (older : Option ℕ) →
+            option_and_then (home_in self.now.shape older self.now.slots) number
+            ≡ option_and_then (home (tables_state self.now)) number }
+    {
+        match number {
+            None => true,
+            Some(number) => self.slots.is_single(number),
         }
     }
 }

@@ -1,4 +1,4 @@
-ghost use Rattle.std.specs.Prelude.{◌≡◌, ℕ, ◌+◌, ◌*◌, ◌/◌, ◌<◌, ◌≤◌, ◌++◌, nat_eq, length, map, replicate, slice_set, find, vec_len, vec_capacity, Some, IfOk};
+ghost use Rattle.std.specs.Prelude.{◌≡◌, ℕ, ◌+◌, ◌*◌, ◌/◌, ◌<◌, ◌≤◌, ◌++◌, nat_eq, length, map, replicate, slice_set, find, vec_len, vec_capacity, Some, true, IfOk};
 ghost use Rattle.std.specs.List.{insert, remove, position_or_len, slice_get};
 ghost use Rattle.std.specs.Option.{option_map};
 ghost use Rattle.tx_types.specs.Config.{IsShape};
@@ -99,6 +99,18 @@ impl Slots {
             slot = self.copies.next(at);
         }
         None
+    }
+
+    /// Whether one slot at most holds the record of a number.
+    #[inline(always)]
+    pub fn is_single(&self, number: u32) -> bool
+        requires { number < length self.now }
+        ensures { result ≡ true → length (copies_of self.now number) ≤ 1 }
+    {
+        match self.copies.first(number) {
+            None => true,
+            Some(at) => self.copies.next(at).is_none(),
+        }
     }
 
     /// Appends the block of each slot that holds the record of a number, where a block has this many slots.

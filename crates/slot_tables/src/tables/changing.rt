@@ -66,7 +66,8 @@ impl Tables {
         }
     }
 
-    /// Sets what a slot holds, and looks at the homes of the record that leaves it and of the one that comes.
+    /// Sets what a slot holds, and looks at the homes of the record that leaves it and of the one that comes. The slot
+    /// is needed before it stops to be blank, so that in most blocks the number of garbage slots does not change.
     fn fill_slot(&mut self, at: Slot, to: SlotUse)
         requires slot { at.0 < slots_of self.old.shape }
         requires number { NumbersBelow (slots_of self.old.shape) to }
@@ -77,9 +78,9 @@ impl Tables {
         let old = self.base.home_of(left);
         let other = self.base.home_of(joined);
         self.base.slots.set(at.0, to);
-        self.live.set_blank(at.0, to.is_blank());
         self.base.refresh_moved(&mut self.live, old, left);
         self.base.refresh_moved(&mut self.live, other, joined);
+        self.live.set_blank(at.0, to.is_blank());
     }
 
     /// Sets which record of a page is current.

@@ -1,21 +1,14 @@
 -- One slot after the other.
 use Rattle.slot_tables.proofs.Common.{◌≡◌, ◌+◌, ◌*◌, arith, option_map, tables_state}
-use Rattle.slot_tables.proofs.OfLiveSlots.Needing.{home_lies}
 use Rattle.slot_tables.proofs.base_tables.BaseTables.refresh_block.Invariants.SpareSetting.{none_refreshed, more_refreshed, all_refreshed}
 use Rattle.slot_tables.proofs.base_tables.BaseTables.refresh_block.Goals as goal
-
-pub refresh_moved-requires-clause-before : goal.refresh_moved-requires-clause-before
-refresh_moved-requires-clause-before c =
-    rw c.home_by.ensures (home_lies (record (tables_state c.args.self.now) {
-      spare = option_map (λ b. b.0) c.args.older;
-    }) c.number_in-number.result)
 
 pub loop-at-init : goal.loop-at-init
 loop-at-init c = none_refreshed _ _ _ c.args.live.now
 
 pub loop-at-preserved : goal.loop-at-preserved
 loop-at-preserved c =
-    rw (c.refresh_moved.ensures, c.home_by.ensures, c.number_in-number.ensures, c.get.ensures)
+    rw c.refresh_slot.ensures
     (more_refreshed (tables_state c.args.self.now) (option_map
     (λ b. b.0) c.args.older) _ c.loop-at.at c.args.live.now c.loop-at.live c.loop-at.invariant c.requires.live)
 

@@ -43,9 +43,9 @@ invariant_of-self c =
     let low : c.args.at.0 < length t.base.slots = rw h.sized.kept.slots (rw (← c.self.view_is) at c.requires.slot) in
     let numbered = rw (← c.self.view_is) at c.requires.number in
     rw (
+      c.set_blank.ensures,
       c.refresh_moved-2.ensures,
       c.refresh_moved.ensures,
-      c.set_blank.ensures,
       c.home_of-other.ensures,
       c.home_of-old.ensures,
       c.set.ensures,
