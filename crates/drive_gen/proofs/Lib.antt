@@ -1,3 +1,4 @@
 mod Common
 pub mod DrawLemmas
 pub mod HexLemmas
+pub mod Texts

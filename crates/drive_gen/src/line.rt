@@ -1,4 +1,5 @@
-ghost use Rattle.std.specs.Prelude.{◌≡◌, ◌++◌, length, IfOk, OnOk, OnErr};
+ghost use Rattle.std.specs.Prelude.{◌≡◌, ◌∷◌, [], ◌++◌, length, OnOk, OnErr};
+ghost use Rattle.std.specs.Fmt.{decimal};
 ghost use Rattle.host_protocol.specs.Replies.{line_of};
 ghost use Rattle.drive_gen.specs.Summary.{asked_words, flash_words, sum_words, summary_line, protocol_word, spaced};
 ghost use Rattle.drive_gen.specs.Tally.{tally_words};
@@ -6,7 +7,8 @@ ghost use Rattle.drive_gen.specs.Tally.{tally_words};
 use crate::tally::{Tally, count_lines};
 use crate::words::word_at;
 use host_protocol::Command;
-use std::alloc::Global;
+use itoa::Buffer;
+use std::alloc::{AllocError, Global};
 use tx_types::{Memory, Protocol};
 
 /// Appends the line that sums up the replies to a generated list, with its line feed. What the
@@ -26,85 +28,109 @@ pub fn summary(
         OnOk result (out.new.items ≡ out.old.items ++ line) }
     ensures err { OnErr result (out.new.items ≡ out.old.items) }
 {
-    let (tally, stats) = count_lines(replies);
-    let mut line = line_start(alloc, start, count, protocol, list.len())?;
-    add_counted(alloc, &tally, stats, &mut line)?;
+    let mut line = Vec::new(alloc);
+    add_summary(start, count, protocol, list.len(), replies, &mut line)?;
     out.extend_from_slice(&line)?;
     Ok(())
 }
 
-/// What was asked for: the beginning of the line.
-fn line_start(
-    alloc: Global,
+/// Adds the line. Behind a part for which memory is wanting the others are tried too.
+fn add_summary(
     start: u64,
     count: u32,
     protocol: Protocol,
     commands: usize,
-) -> Result<Vec<u8>, Memory>
-    ensures { let words = asked_words start count protocol commands in
-        IfOk result (λ line. line.items ≡ spaced words) }
+    replies: &[u8],
+    line: &mut Vec<u8>,
+) -> Result<(), AllocError>
+    ensures { OnOk result (line.new.items
+        ≡ line.old.items ++ summary_line start count protocol commands replies.now) }
 {
-    let name = protocol_name(protocol);
-    let text = format!(in alloc; "drive {name} start {start} count {count} commands {commands} ")?;
-    Ok(Vec::from_slice(alloc, text.as_bytes())?)
+    let (tally, stats) = count_lines(replies);
+    add_asked(start, count, protocol, commands, line)
+        .and(add_counts(&tally, line))
+        .and(add_flash(stats, line))
+        .and(add_sum(tally.sum, line))
+}
+
+/// Adds what was asked for: the beginning of the line.
+fn add_asked(
+    start: u64,
+    count: u32,
+    protocol: Protocol,
+    commands: usize,
+    line: &mut Vec<u8>,
+) -> Result<(), AllocError>
+    ensures { OnOk result (line.new.items
+        ≡ line.old.items ++ spaced (asked_words start count protocol commands)) }
+{
+    add_word(b"drive", line)
+        .and(add_word(protocol_name(protocol), line))
+        .and(add_count(b"start", start, line))
+        .and(add_count(b"count", u64::from(count), line))
+        .and(add_count(b"commands", commands as u64, line))
 }
 
 /// The word of a protocol.
-fn protocol_name(protocol: Protocol) -> &'static str
+fn protocol_name(protocol: Protocol) -> &'static [u8]
     ensures { result.now ≡ protocol_word protocol }
 {
     match protocol {
-        Protocol::Scc => "scc",
-        Protocol::Bpcc => "bpcc",
+        Protocol::Scc => b"scc",
+        Protocol::Bpcc => b"bpcc",
     }
 }
 
-/// Adds what the replies count to, and ends the line.
-fn add_counted(alloc: Global, tally: &Tally, stats: &[u8], line: &mut Vec<u8>) -> Result<(), Memory>
-    ensures { OnOk result (line.new.items ≡ line.old.items ++ spaced (tally_words tally.now)
-        ++ spaced (flash_words stats.now) ++ line_of (sum_words tally.now.sum)) }
-{
-    add_counts(alloc, tally, line)?;
-    add_flash(stats, line)?;
-    add_sum(alloc, tally.sum, line)
-}
-
 /// Adds how many replies of each kind there were.
-fn add_counts(alloc: Global, tally: &Tally, line: &mut Vec<u8>) -> Result<(), Memory>
+fn add_counts(tally: &Tally, line: &mut Vec<u8>) -> Result<(), AllocError>
     ensures { OnOk result (line.new.items ≡ line.old.items ++ spaced (tally_words tally.now)) }
 {
-    let Tally {
-        done,
-        aborted,
-        cut,
-        refused,
-        unknown,
-        ..
-    } = tally;
-    let text = format!(in alloc;
-        "done {done} aborted {aborted} cut {cut} refused {refused} unknown {unknown} "
-    )?;
-    line.extend_from_slice(text.as_bytes())?;
-    Ok(())
+    add_count(b"done", tally.done, line)
+        .and(add_count(b"aborted", tally.aborted, line))
+        .and(add_count(b"cut", tally.cut, line))
+        .and(add_count(b"refused", tally.refused, line))
+        .and(add_count(b"unknown", tally.unknown, line))
 }
 
 /// Adds the numbers of the flash, which stand in the line of the numbers of the device.
-fn add_flash(stats: &[u8], line: &mut Vec<u8>) -> Result<(), Memory>
+fn add_flash(stats: &[u8], line: &mut Vec<u8>) -> Result<(), AllocError>
     ensures { OnOk result (line.new.items ≡ line.old.items ++ spaced (flash_words stats.now)) }
 {
-    line.extend_from_slice(b"programs ")?;
-    line.extend_from_slice(word_at(stats, 8, b"0"))?;
-    line.extend_from_slice(b" erases ")?;
-    line.extend_from_slice(word_at(stats, 10, b"0"))?;
-    line.extend_from_slice(b" ")?;
-    Ok(())
+    add_word(b"programs", line)
+        .and(add_word(word_at(stats, 8, b"0"), line))
+        .and(add_word(b"erases", line))
+        .and(add_word(word_at(stats, 10, b"0"), line))
 }
 
 /// Adds the sum of the bytes of all pages, and ends the line.
-fn add_sum(alloc: Global, sum: u128, line: &mut Vec<u8>) -> Result<(), Memory>
+fn add_sum(sum: u128, line: &mut Vec<u8>) -> Result<(), AllocError>
     ensures { OnOk result (line.new.items ≡ line.old.items ++ line_of (sum_words sum)) }
 {
-    let text = format!(in alloc; "sum {sum}\n")?;
-    line.extend_from_slice(text.as_bytes())?;
-    Ok(())
+    let mut digits = Buffer::new();
+    add_word(b"sum", line).and(add_last(digits.format(sum).as_bytes(), line))
+}
+
+/// Adds a word and a number, with a space behind each.
+fn add_count(word: &[u8], count: u64, line: &mut Vec<u8>) -> Result<(), AllocError>
+    ensures { OnOk result (line.new.items
+        ≡ line.old.items ++ spaced (word.now ∷ decimal count ∷ [])) }
+{
+    let mut digits = Buffer::new();
+    add_word(word, line).and(add_word(digits.format(count).as_bytes(), line))
+}
+
+/// Adds a word with a space behind it.
+fn add_word(word: &[u8], line: &mut Vec<u8>) -> Result<(), AllocError>
+    ensures { OnOk result (line.new.items ≡ line.old.items ++ spaced (word.now ∷ [])) }
+{
+    line.extend_from_slice(word)?;
+    line.extend_from_slice(b" ")
+}
+
+/// Adds the last word of a line, and ends it.
+fn add_last(word: &[u8], line: &mut Vec<u8>) -> Result<(), AllocError>
+    ensures { OnOk result (line.new.items ≡ line.old.items ++ line_of (word.now ∷ [])) }
+{
+    line.extend_from_slice(word)?;
+    line.extend_from_slice(b"\n")
 }

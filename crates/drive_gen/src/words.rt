@@ -1,4 +1,5 @@
-ghost use Rattle.std.specs.Prelude.{◌≡◌, [], slice_index_or};
+ghost use Rattle.std.specs.Prelude.{◌≡◌, ◌||◌, [], slice_index_or, codes};
+ghost use Rattle.std.specs.Str.{bytes_eq};
 ghost use Rattle.host_protocol.specs.Lines.{words_of};
 ghost use Rattle.drive_gen.specs.Summary.{word_or};
 
@@ -21,16 +22,22 @@ pub fn word_at<'a>(line: &'a [u8], place: usize, other: &'a [u8]) -> &'a [u8]
     }
 }
 
-/// The first word of a line, empty where the line has none. The lines that come most often are known by their first
+/// The first word of a line, empty where the line has none. The words that come most often are known by their first
 /// bytes.
 pub fn leading_word(line: &[u8]) -> &[u8]
     ensures { result.now ≡ word_or line.now 0 [] }
 {
-    if line == b"done".as_slice() {
-        line
-    } else if line.len() > 5 && &line[..5] == b"open ".as_slice() {
+    if line.len() > 5 && line[4] == b' ' && is_frequent(&line[..4]) {
         &line[..4]
     } else {
         word_at(line, 0, b"")
     }
+}
+
+/// Whether a word is one of the two that come most often.
+#[inline(always)]
+fn is_frequent(word: &[u8]) -> bool
+    ensures { result ≡ (bytes_eq word.now (codes "open") || bytes_eq word.now (codes "done")) }
+{
+    word == b"open".as_slice() || word == b"done".as_slice()
 }

@@ -1,6 +1,7 @@
 -- Texts that grow, and words with spaces between them.
-use Rattle.flash_picture.proofs.Common.{◌≡◌, ℕ, ◌+◌, List, [], ◌∷◌, ◌++◌, sym, ap, ◌∙◌, append-nil, append_assoc, codes, flat_map, join_with_byte, range_with_len, name_of, Cell, Blank, Damaged, Holds, cell_words, name_word, word_if, on_ok_weaker}
+use Rattle.flash_picture.proofs.Common.{◌≡◌, ℕ, ◌+◌, ◌<◌, ◌≤◌, List, length, get_or, take, [], ◌∷◌, ◌++◌, sym, ap, ◌∙◌, append-nil, append_assoc, codes, flat_map, join_with_byte, range_with_len, name_of, Cell, Blank, Damaged, Holds, cell_words, name_word, word_if, on_ok_weaker}
 use mathlib.Core.Path.{subst}
+use Rattle.std.proofs.lemmas.List.{take_all, take_more}
 use Rattle.std.proofs.lemmas.List.Concat.{flat_map-append}
 use Rattle.std.specs.Result.{OnOk, result_and}
 use Rattle.std.specs.declared.result.Result.{Result}
@@ -76,3 +77,29 @@ pub text_more : (f : ℕ → List ℕ) (k : ℕ) (old text new : List ℕ) → t
 text_more f k old text new before after =
     after ∙ ap (λ t. t ++ f k) before ∙ append_assoc old (flat_map f (range_with_len 0 k)) (f k)
     ∙ ap (λ t. old ++ t) (sym (flat_more f k))
+
+-- a text grows by that of one item more
+pub items_more : {X : Type 0} (f : X → List ℕ) (items : List X) (i : ℕ) (none : X) (old text new : List ℕ) →
+    i < length items → text ≡ old ++ flat_map f (take i items) → new ≡ text ++ f (get_or items i none) →
+    new ≡ old ++ flat_map f (take (i + 1) items)
+items_more f items i none old text new within before after =
+    let one = get_or items i none in
+    after ∙ ap (λ t. t ++ f one) before ∙ append_assoc old (flat_map f (take i items)) (f one)
+    ∙ ap (λ t. old ++ t)
+    (sym (ap (flat_map f) (take_more items i none within) ∙ flat_map-append f (take i items) (one ∷ [])
+    ∙ ap (λ t. flat_map f (take i items) ++ t) (append-nil (f one))))
+
+-- no text yet, and all of them
+pub text_none : (f : ℕ → List ℕ) (old : List ℕ) → old ≡ old ++ flat_map f (range_with_len 0 0)
+text_none f old = sym (append-nil old)
+
+pub text_all : (f : ℕ → List ℕ) (k n : ℕ) (old new : List ℕ) → new ≡ old ++ flat_map f (range_with_len 0 k) → k ≡ n →
+    new ≡ old ++ flat_map f (range_with_len 0 n)
+text_all f k n old new all is = all ∙ ap (λ n. old ++ flat_map f (range_with_len 0 n)) is
+
+pub items_none : {X : Type 0} (f : X → List ℕ) (items : List X) (old : List ℕ) → old ≡ old ++ flat_map f (take 0 items)
+items_none f items old = sym (append-nil old)
+
+pub items_all : {X : Type 0} (f : X → List ℕ) (items : List X) (i : ℕ) (old new : List ℕ) →
+    new ≡ old ++ flat_map f (take i items) → length items ≤ i → new ≡ old ++ flat_map f items
+items_all f items i old new all whole = all ∙ ap (λ l. old ++ flat_map f l) (take_all i items whole)

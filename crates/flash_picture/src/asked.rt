@@ -5,14 +5,14 @@ ghost use Rattle.record_list.specs.Current.{is_held};
 ghost use Rattle.flash_picture.specs.Held.{AreAsked, asked_in_bpcc, asked_name, place_of_name, raised};
 
 use sorted_records::CurrentVersions;
-use std::alloc::Global;
-use tx_types::{Link, Memory, Protocol, Rec};
+use std::alloc::{AllocError, Global};
+use tx_types::{Link, Protocol, Rec};
 
 /// For the first record of each name the greatest version at which a loose record links that asks for the name,
 /// 0 where none does. Under Simple Cyclic Commit none does. A record of the name is held if its back version is below
 /// this one. A mark for the name would not do: where law 2 is broken, two records of one name may have different back
 /// versions.
-pub fn asked_versions(alloc: Global, standing: &CurrentVersions) -> Result<Vec<u64>, Memory>
+pub fn asked_versions(alloc: Global, standing: &CurrentVersions) -> Result<Vec<u64>, AllocError>
     ensures { IfOk result (λ asked. AreAsked standing.now standing.now.list asked.items) }
 {
     let records = standing.sorted_records().records();

@@ -1,4 +1,5 @@
-ghost use Rattle.std.specs.Prelude.{◌≡◌, ℕ, ◌+◌, ◌*◌, ◌^◌, ◌<◌, ◌++◌, ◌∷◌, [], IfOk, OnOk, length};
+ghost use Rattle.std.specs.Prelude.{◌≡◌, ℕ, ◌+◌, ◌*◌, ◌^◌, ◌<◌, ◌++◌, ◌∷◌, [], IfOk, OnOk, codes, length};
+ghost use Rattle.std.specs.Fmt.{decimal};
 ghost use Rattle.std.specs.List.{flat_map, join_with_byte, range_with_len};
 ghost use Rattle.tx_types.specs.Config.{IsShape, blocks_of, slots_of};
 ghost use Rattle.flash_picture.specs.Cells.{cell_at, is_named, slot_text};
@@ -6,9 +7,9 @@ ghost use Rattle.flash_picture.specs.Map.{before_cell, block_text, cell_text, ce
 
 use crate::cell::{Cell, write_flag};
 use crate::marks::Marks;
-use crate::text::{add, add_number, add_spaces, pad};
+use crate::text::{add, add_count, add_number, add_spaces, pad};
 use std::alloc::{AllocError, Global};
-use tx_types::{Block, Memory, Shape, Slot};
+use tx_types::{Block, Shape, Slot};
 
 /// The columns of the label before the row of a block.
 pub const LABEL_COLUMNS: usize = 11;
@@ -27,7 +28,7 @@ pub struct Map<'a> {
 
 impl Map<'_> {
     /// Appends the map.
-    pub fn write(&self, alloc: Global, text: &mut Vec<u8>) -> Result<(), Memory>
+    pub fn write(&self, alloc: Global, text: &mut Vec<u8>) -> Result<(), AllocError>
         requires shape { IsShape self.now.shape }
         requires cells { length self.now.cells.now ≡ slots_of self.now.shape }
         ensures { let m = self.now in OnOk result (text.new.items
@@ -41,20 +42,41 @@ impl Map<'_> {
     }
 
     /// The greatest length of the text of a slot.
-    pub fn width(&self, alloc: Global) -> Result<usize, Memory>
+    pub fn width(&self, alloc: Global) -> Result<usize, AllocError>
+        requires { IsShape self.now.shape }
+        ensures width { let m = self.now in
+            IfOk result (λ width. width ≡ widest m.cells.now m.marks (slots_of m.shape)) }
+        ensures few { IfOk result (λ width. width < 2 ^ 63) }
+    {
+        let mut text = Vec::new(alloc);
+        let width = self.widest(&mut text);
+        drop(text);
+        width
+    }
+
+    /// The same. Each text takes the place of what stands in `text`.
+    fn widest(&self, text: &mut Vec<u8>) -> Result<usize, AllocError>
         requires { IsShape self.now.shape }
         ensures width { let m = self.now in
             IfOk result (λ width. width ≡ widest m.cells.now m.marks (slots_of m.shape)) }
         ensures few { IfOk result (λ width. width < 2 ^ 63) }
     {
         let mut width = 0;
-        let mut text = Vec::new(alloc);
         for slot in 0..self.shape.slots() {
-            text.clear();
-            self.write_slot(Slot(slot), &mut text)?;
-            width = width.max(text.len());
+            width = width.max(self.slot_width(Slot(slot), text)?);
         }
         Ok(width)
+    }
+
+    /// The length of the text of a slot, which takes the place of what stands in `text`.
+    fn slot_width(&self, slot: Slot, text: &mut Vec<u8>) -> Result<usize, AllocError>
+        ensures width { let m = self.now in
+            IfOk result (λ width. width ≡ length (slot_text m.cells.now m.marks slot.0)) }
+        ensures few { IfOk result (λ width. width < 2 ^ 63) }
+    {
+        text.clear();
+        self.write_slot(slot, text)?;
+        Ok(text.len())
     }
 
     /// Appends the row of a block, with the heading of its die where it is the first of that.
@@ -99,10 +121,18 @@ impl Map<'_> {
         ensures { let m = self.now in OnOk result (text.new.items
             ≡ text.old.items ++ cell_text m.shape m.cells.now m.marks width block.0 at) }
     {
-        self.write_before(width, block, at, text)?;
-        text.extend_from_slice(b"|")?;
+        let slot = slot_in(self.shape, block, at);
+        self.write_before(width, block, at, text)
+            .and(add(b"|", text).and(self.write_padded(width, slot, text)))
+    }
+
+    /// Appends the text of a slot, padded to a width.
+    fn write_padded(&self, width: usize, slot: Slot, text: &mut Vec<u8>) -> Result<(), AllocError>
+        ensures { let m = self.now in OnOk result (text.new.items
+            ≡ text.old.items ++ padded width (slot_text m.cells.now m.marks slot.0)) }
+    {
         let start = text.len();
-        self.write_slot(slot_in(self.shape, block, at), text)?;
+        self.write_slot(slot, text)?;
         pad(start, width, text)
     }
 
@@ -199,11 +229,19 @@ pub fn write_die(shape: Shape, block: Block, text: &mut Vec<u8>) -> Result<(), A
     ensures { OnOk result (text.new.items ≡ text.old.items ++ die_text shape block.0) }
 {
     if block.0.is_multiple_of(shape.blocks_per_die) {
-        text.extend_from_slice(b"die ")?;
-        add_number(u64::from(block.0 / shape.blocks_per_die), text)?;
-        text.extend_from_slice(b"\n")?;
+        write_heading(block.0 / shape.blocks_per_die, text)
+    } else {
+        Ok(())
     }
-    Ok(())
+}
+
+/// Appends the heading of a die.
+fn write_heading(die: u32, text: &mut Vec<u8>) -> Result<(), AllocError>
+    ensures { OnOk result (text.new.items ≡ text.old.items ++ (codes "die " ++ decimal die ++ 10 ∷ [])) }
+{
+    add(b"die ", text)
+        .and(add_count(die, text))
+        .and(add(b"\n", text))
 }
 
 /// The slot of this number in a block.

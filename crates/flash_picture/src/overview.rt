@@ -7,12 +7,12 @@ ghost use Rattle.flash_picture.specs.Overview.{before_sign, count_text, counts_t
 ghost use Rattle.flash_picture.specs.OverviewSvg.{overview, overview_by};
 
 use crate::cell::{Cell, Rank};
-use crate::cells::cells;
+use crate::cells::NotedCells;
 use crate::kind::{Kind, all_kinds};
 use crate::map::{LABEL_COLUMNS, Map, slot_in, write_die};
 use crate::marks::Marks;
 use crate::overview_svg::write_svg;
-use crate::picture::{current_versions_of, shape, write_breach, write_heading};
+use crate::picture::{shape, write_breach, write_heading};
 use crate::text::{add, add_byte, add_number, add_spaces, append};
 use crate::walk::write_walks;
 use judged_records::Note;
@@ -56,29 +56,21 @@ fn write_overview(
     marks: Marks,
     in_svg: bool,
     text: &mut Vec<u8>,
-) -> Result<(), Memory>
+) -> Result<(), AllocError>
     requires check { checked config ≡ Ok (shape_of config) }
     requires whole { length notes.now ≡ slots_of (shape_of config) }
     ensures { OnOk result (text.new.items ≡ text.old.items ++ overview in_svg config notes.now marks) }
 {
-    let standing = current_versions_of(alloc, config, notes)?;
-    match cells(alloc, &standing, notes) {
-        Ok(cells) => {
-            let map = Map {
-                shape: shape(config),
-                cells: &cells,
-                marks,
-            };
-            let chart = standing.sorted_records();
-            let outcome = write_by(alloc, config, chart, &map, in_svg, text);
-            drop(standing);
-            outcome
-        }
-        Err(error) => {
-            drop(standing);
-            Err(error)
-        }
-    }
+    let noted = NotedCells::of(alloc, config, notes)?;
+    let map = Map {
+        shape: shape(config),
+        cells: &noted.cells,
+        marks,
+    };
+    let chart = noted.standing.sorted_records();
+    let outcome = write_by(alloc, config, chart, &map, in_svg, text);
+    drop(noted);
+    outcome
 }
 
 /// Appends the overview of records with these cells.
@@ -89,7 +81,7 @@ fn write_by(
     map: &Map<'_>,
     in_svg: bool,
     text: &mut Vec<u8>,
-) -> Result<(), Memory>
+) -> Result<(), AllocError>
     requires { IsShape map.now.shape }
     ensures { let m = map.now in OnOk result (text.new.items ≡ text.old.items
         ++ overview_by in_svg config m.shape chart.now m.cells.now m.marks) }
@@ -108,16 +100,16 @@ fn write_text(
     chart: &SortedRecords,
     map: &Map<'_>,
     text: &mut Vec<u8>,
-) -> Result<(), Memory>
+) -> Result<(), AllocError>
     requires { IsShape map.now.shape }
     ensures { let m = map.now in OnOk result (text.new.items ≡ text.old.items
         ++ overview_text config m.shape chart.now m.cells.now m.marks) }
 {
-    write_heading(config, text)?;
-    map.write_rows(text)?;
-    map.write_counts(text)?;
-    write_walks(alloc, chart, config.protocol, config.logical, text)?;
-    Ok(write_breach(map.marks.breach, text)?)
+    write_heading(config, text)
+        .and(map.write_rows(text))
+        .and(map.write_counts(text))
+        .and(write_walks(alloc, chart, config.protocol, config.logical, text))
+        .and(write_breach(map.marks.breach, text))
 }
 
 impl Map<'_> {

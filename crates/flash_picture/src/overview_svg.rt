@@ -19,7 +19,7 @@ use crate::text::{add, add_count, add_number};
 use record_list::Breach;
 use sorted_records::SortedRecords;
 use std::alloc::{AllocError, Global};
-use tx_types::{Block, Config, Memory, Shape};
+use tx_types::{Block, Config, Shape};
 
 /// Appends the overview of records with these cells.
 pub fn write_svg(
@@ -28,13 +28,15 @@ pub fn write_svg(
     chart: &SortedRecords,
     map: &Map<'_>,
     text: &mut Vec<u8>,
-) -> Result<(), Memory>
+) -> Result<(), AllocError>
     requires { IsShape map.now.shape }
     ensures { let m = map.now in OnOk result (text.new.items ≡ text.old.items
         ++ overview_svg config m.shape chart.now m.cells.now m.marks) }
 {
     let mut walks = Vec::new(alloc);
-    write_drawing(alloc, config, chart, map, &mut walks, text)
+    let outcome = write_drawing(alloc, config, chart, map, &mut walks, text);
+    drop(walks);
+    outcome
 }
 
 /// Appends the same. The lines of walks go to a text that is empty before.
@@ -45,22 +47,22 @@ fn write_drawing(
     map: &Map<'_>,
     walks: &mut Vec<u8>,
     text: &mut Vec<u8>,
-) -> Result<(), Memory>
+) -> Result<(), AllocError>
     requires shape { IsShape map.now.shape }
     requires empty { walks.old.items ≡ [] }
     ensures { let m = map.now in OnOk result (text.new.items ≡ text.old.items
         ++ overview_svg config m.shape chart.now m.cells.now m.marks) }
 {
     let lines = write_walks(alloc, chart, config.protocol, config.logical, walks)?;
-    map.write_above(config, lines, text)?;
-    map.write_squares(text)?;
-    write_below(
-        overview_bottom(map.shape),
-        walks.as_slice(),
-        map.marks.breach,
-        text,
-    )?;
-    Ok(add(b"</svg>\n", text)?)
+    map.write_above(config, lines, text)
+        .and(map.write_squares(text))
+        .and(write_below(
+            overview_bottom(map.shape),
+            walks.as_slice(),
+            map.marks.breach,
+            text,
+        ))
+        .and(add(b"</svg>\n", text))
 }
 
 impl Map<'_> {

@@ -1,4 +1,4 @@
-ghost use Rattle.std.specs.Prelude.{◌≡◌, ◌^◌, ◌<◌, [], ◌++◌, Some, Ok, IfOk, OnErr, OnOk, length};
+ghost use Rattle.std.specs.Prelude.{◌≡◌, ◌^◌, ◌+◌, ◌<◌, ◌≤◌, [], ◌++◌, Some, Ok, IfOk, OnErr, OnOk, length, vec_len, vec_capacity};
 ghost use Rattle.std.specs.Fmt.{decimal};
 ghost use Rattle.std.specs.List.{cons_option};
 ghost use Rattle.tx_types.specs.Config.{IsShape, checked, shape_of, slots_of};
@@ -6,7 +6,7 @@ ghost use Rattle.sorted_records.specs.SortedRecords.{Sorts};
 ghost use Rattle.judged_records.specs.Notes.{found_at, found_in};
 ghost use Rattle.flash_picture.specs.Picture.{breach_line, heading, parts, picture, protocol_word};
 
-use crate::cells::cells;
+use crate::cells::NotedCells;
 use crate::map::Map;
 use crate::marks::Marks;
 use crate::text::{add, add_number, append};
@@ -56,28 +56,20 @@ fn write_picture(
     notes: &[Note],
     marks: Marks,
     text: &mut Vec<u8>,
-) -> Result<(), Memory>
+) -> Result<(), AllocError>
     requires check { checked config ≡ Ok (shape_of config) }
     requires whole { length notes.now ≡ slots_of (shape_of config) }
     ensures { OnOk result (text.new.items ≡ text.old.items ++ picture config notes.now marks) }
 {
-    let standing = current_versions_of(alloc, config, notes)?;
-    match cells(alloc, &standing, notes) {
-        Ok(cells) => {
-            let map = Map {
-                shape: shape(config),
-                cells: &cells,
-                marks,
-            };
-            let outcome = write_parts(alloc, config, standing.sorted_records(), &map, text);
-            drop(standing);
-            outcome
-        }
-        Err(error) => {
-            drop(standing);
-            Err(error)
-        }
-    }
+    let noted = NotedCells::of(alloc, config, notes)?;
+    let map = Map {
+        shape: shape(config),
+        cells: &noted.cells,
+        marks,
+    };
+    let outcome = write_parts(alloc, config, noted.standing.sorted_records(), &map, text);
+    drop(noted);
+    outcome
 }
 
 /// Appends the picture of records with these cells.
@@ -87,16 +79,16 @@ fn write_parts(
     chart: &SortedRecords,
     map: &Map<'_>,
     text: &mut Vec<u8>,
-) -> Result<(), Memory>
+) -> Result<(), AllocError>
     requires shape { IsShape map.now.shape }
     requires cells { length map.now.cells.now ≡ slots_of map.now.shape }
     ensures { let m = map.now in OnOk result (text.new.items ≡ text.old.items
         ++ parts config m.shape chart.now m.cells.now m.marks) }
 {
-    write_heading(config, text)?;
-    map.write(alloc, text)?;
-    write_walks(alloc, chart, config.protocol, config.logical, text)?;
-    Ok(write_breach(map.marks.breach, text)?)
+    write_heading(config, text)
+        .and(map.write(alloc, text))
+        .and(write_walks(alloc, chart, config.protocol, config.logical, text))
+        .and(write_breach(map.marks.breach, text))
 }
 
 /// The shape of a device's flash.
@@ -116,44 +108,49 @@ pub fn current_versions_of(
     alloc: Global,
     config: Config,
     notes: &[Note],
-) -> Result<CurrentVersions, Memory>
+) -> Result<CurrentVersions, AllocError>
     requires { length notes.now < 2 ^ 32 }
     ensures sorts { IfOk result (λ s. Sorts (found_in notes.now) s.list) }
     ensures standing { IfOk result (λ s.
         s ≡ record { protocol = config.protocol; logical = config.logical; list = s.list }) }
 {
     let chart = sort_notes(alloc, notes)?;
-    Ok(CurrentVersions::new(alloc, chart, config.protocol, config.logical)?)
+    CurrentVersions::new(alloc, chart, config.protocol, config.logical)
 }
 
 /// The records that are noted, in order of their names.
-fn sort_notes(alloc: Global, notes: &[Note]) -> Result<SortedRecords, Memory>
+fn sort_notes(alloc: Global, notes: &[Note]) -> Result<SortedRecords, AllocError>
     requires { length notes.now < 2 ^ 32 }
     ensures { IfOk result (λ chart. Sorts (found_in notes.now) chart) }
 {
-    Ok(SortedRecords::of(alloc, &noted_records(alloc, notes)?)?)
+    let list = noted_records(alloc, notes)?;
+    let sorted = SortedRecords::of(alloc, &list);
+    drop(list);
+    sorted
 }
 
 /// The records that are noted, in the order of their slots.
-fn noted_records(alloc: Global, notes: &[Note]) -> Result<Vec<Found>, Memory>
+fn noted_records(alloc: Global, notes: &[Note]) -> Result<Vec<Found>, AllocError>
     requires { length notes.now < 2 ^ 32 }
     ensures { IfOk result (λ list. list.items ≡ found_in notes.now) }
 {
     let mut list = Vec::with_capacity(alloc, notes.len())?;
-    for (at, note) in notes.iter().enumerate() {
-        keep(Slot(at as u32), *note, &mut list)?;
+    for at in 0..notes.len() {
+        keep(Slot(at as u32), notes[at], &mut list);
     }
     Ok(list)
 }
 
 /// Adds a slot with its record, where one is noted.
-fn keep(slot: Slot, note: Note, list: &mut Vec<Found>) -> Result<(), Memory>
-    ensures { OnOk result (list.new.items ≡ list.old.items ++ cons_option (found_at slot.0 note) []) }
+fn keep(slot: Slot, note: Note, list: &mut Vec<Found>)
+    requires { vec_len list.old < vec_capacity list.old }
+    ensures items { list.new.items ≡ list.old.items ++ cons_option (found_at slot.0 note) [] }
+    ensures len { vec_len list.new ≤ vec_len list.old + 1 }
+    ensures room { vec_capacity list.new ≡ vec_capacity list.old }
 {
     if let Note::Holds(rec) = note {
-        list.push(Found { slot, rec })?;
+        list.push_reserved(Found { slot, rec });
     }
-    Ok(())
 }
 
 /// Appends the first line.

@@ -6,10 +6,10 @@ ghost use Rattle.flash_picture.specs.Cells.{cell_at};
 ghost use Rattle.flash_picture.specs.Selection.{is_of_page, is_selected, line_if, selected, selected_line, selected_lines, selected_parts, selected_walks, slot_line};
 
 use crate::cell::Cell;
-use crate::cells::cells;
+use crate::cells::NotedCells;
 use crate::map::Map;
 use crate::marks::Marks;
-use crate::picture::{current_versions_of, shape, write_breach, write_heading};
+use crate::picture::{shape, write_breach, write_heading};
 use crate::svg_map::is_in_view;
 use crate::text::{add, append};
 use crate::walk::{End, write_walk, write_walks};
@@ -61,29 +61,21 @@ fn write_selected(
     marks: Marks,
     selection: Selection,
     text: &mut Vec<u8>,
-) -> Result<(), Memory>
+) -> Result<(), AllocError>
     requires check { checked config ≡ Ok (shape_of config) }
     requires whole { length notes.now ≡ slots_of (shape_of config) }
     ensures { OnOk result (text.new.items ≡ text.old.items ++ selected config notes.now marks selection) }
 {
-    let standing = current_versions_of(alloc, config, notes)?;
-    match cells(alloc, &standing, notes) {
-        Ok(cells) => {
-            let map = Map {
-                shape: shape(config),
-                cells: &cells,
-                marks,
-            };
-            let chart = standing.sorted_records();
-            let outcome = write_parts(alloc, config, chart, &map, selection, text);
-            drop(standing);
-            outcome
-        }
-        Err(error) => {
-            drop(standing);
-            Err(error)
-        }
-    }
+    let noted = NotedCells::of(alloc, config, notes)?;
+    let map = Map {
+        shape: shape(config),
+        cells: &noted.cells,
+        marks,
+    };
+    let chart = noted.standing.sorted_records();
+    let outcome = write_parts(alloc, config, chart, &map, selection, text);
+    drop(noted);
+    outcome
 }
 
 /// Appends what is said of records with these cells.
@@ -94,15 +86,15 @@ fn write_parts(
     map: &Map<'_>,
     selection: Selection,
     text: &mut Vec<u8>,
-) -> Result<(), Memory>
+) -> Result<(), AllocError>
     requires { IsShape map.now.shape }
     ensures { let m = map.now in OnOk result (text.new.items ≡ text.old.items
         ++ selected_parts config m.shape chart.now m.cells.now m.marks selection) }
 {
-    write_heading(config, text)?;
-    map.write_selected(selection, text)?;
-    write_selected_walks(alloc, config, chart, selection, text)?;
-    Ok(write_breach(map.marks.breach, text)?)
+    write_heading(config, text)
+        .and(map.write_selected(selection, text))
+        .and(write_selected_walks(alloc, config, chart, selection, text))
+        .and(write_breach(map.marks.breach, text))
 }
 
 /// Appends the walks of a selection.
@@ -112,7 +104,7 @@ fn write_selected_walks(
     chart: &SortedRecords,
     selection: Selection,
     text: &mut Vec<u8>,
-) -> Result<(), Memory>
+) -> Result<(), AllocError>
     ensures { OnOk result (text.new.items
         ≡ text.old.items ++ selected_walks config.protocol chart.now config.logical selection) }
 {

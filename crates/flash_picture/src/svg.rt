@@ -3,12 +3,12 @@ ghost use Rattle.tx_types.specs.Config.{IsShape, checked, shape_of, slots_of};
 ghost use Rattle.flash_picture.specs.Grid.{IsGrid};
 ghost use Rattle.flash_picture.specs.Svg.{above, drawing, grid_of, lines_svg, svg};
 
-use crate::cells::cells;
+use crate::cells::NotedCells;
 use crate::grid::{Grid, Spot};
 use crate::legend::{write_head, write_legend};
 use crate::map::Map;
 use crate::marks::Marks;
-use crate::picture::{current_versions_of, shape, write_heading};
+use crate::picture::{shape, write_heading};
 use crate::pieces::open_words;
 use crate::svg_lines::{write_below, write_walks};
 use crate::svg_map::Plan;
@@ -46,28 +46,20 @@ fn write_svg(
     notes: &[Note],
     marks: Marks,
     text: &mut Vec<u8>,
-) -> Result<(), Memory>
+) -> Result<(), AllocError>
     requires check { checked config ≡ Ok (shape_of config) }
     requires whole { length notes.now ≡ slots_of (shape_of config) }
     ensures { OnOk result (text.new.items ≡ text.old.items ++ svg config notes.now marks) }
 {
-    let standing = current_versions_of(alloc, config, notes)?;
-    match cells(alloc, &standing, notes) {
-        Ok(cells) => {
-            let map = Map {
-                shape: shape(config),
-                cells: &cells,
-                marks,
-            };
-            let outcome = write_map(alloc, config, &map, standing.sorted_records(), text);
-            drop(standing);
-            outcome
-        }
-        Err(error) => {
-            drop(standing);
-            Err(error)
-        }
-    }
+    let noted = NotedCells::of(alloc, config, notes)?;
+    let map = Map {
+        shape: shape(config),
+        cells: &noted.cells,
+        marks,
+    };
+    let outcome = write_map(alloc, config, &map, noted.standing.sorted_records(), text);
+    drop(noted);
+    outcome
 }
 
 /// Appends the picture of records with the cells of a map.
@@ -77,7 +69,7 @@ fn write_map(
     map: &Map<'_>,
     chart: &SortedRecords,
     text: &mut Vec<u8>,
-) -> Result<(), Memory>
+) -> Result<(), AllocError>
     requires { IsShape map.now.shape }
     ensures { let m = map.now in OnOk result (text.new.items ≡ text.old.items
         ++ drawing config (grid_of m.shape m.cells.now m.marks) chart.now m.cells.now m.marks) }
@@ -85,11 +77,13 @@ fn write_map(
     let grid = grid(alloc, map)?;
     let plan = Plan { map: *map, grid };
     let mut walks = Vec::new(alloc);
-    write_drawing(alloc, config, &plan, chart, &mut walks, text)
+    let outcome = write_drawing(alloc, config, &plan, chart, &mut walks, text);
+    drop(walks);
+    outcome
 }
 
 /// How the cells of a map stand.
-fn grid(alloc: Global, map: &Map<'_>) -> Result<Grid, Memory>
+fn grid(alloc: Global, map: &Map<'_>) -> Result<Grid, AllocError>
     requires { IsShape map.now.shape }
     ensures grid { let m = map.now in
         IfOk result (λ grid. grid ≡ grid_of m.shape m.cells.now m.marks) }
@@ -110,17 +104,17 @@ fn write_drawing(
     chart: &SortedRecords,
     walks: &mut Vec<u8>,
     text: &mut Vec<u8>,
-) -> Result<(), Memory>
+) -> Result<(), AllocError>
     requires grid { IsGrid plan.now.grid }
     requires empty { walks.old.items ≡ [] }
     ensures { let p = plan.now in OnOk result (text.new.items ≡ text.old.items
         ++ drawing config p.grid chart.now p.map.cells.now p.map.marks) }
 {
     let lines = write_walks(alloc, chart, config.protocol, config.logical, walks)?;
-    write_above(config, plan.grid.width(), plan.grid.height(lines), text)?;
-    plan.write(chart, text)?;
-    write_lines(plan, walks.as_slice(), text)?;
-    Ok(add(b"</svg>\n", text)?)
+    write_above(config, plan.grid.width(), plan.grid.height(lines), text)
+        .and(plan.write(chart, text))
+        .and(write_lines(plan, walks.as_slice(), text))
+        .and(add(b"</svg>\n", text))
 }
 
 /// Appends what stands above the map of a picture of this width and height.

@@ -11,7 +11,7 @@ use crate::walk::{End, Step, newest_name, steps, write_start};
 use record_list::Breach;
 use sorted_records::SortedRecords;
 use std::alloc::{AllocError, Global};
-use tx_types::{Link, Memory, Protocol};
+use tx_types::{Link, Protocol};
 
 /// A line of a walk is full with this many columns: a step behind more stands in the next line, so the place of each is
 /// known before it is written.
@@ -25,7 +25,7 @@ pub fn write_walks(
     protocol: Protocol,
     logical: u32,
     text: &mut Vec<u8>,
-) -> Result<u64, Memory>
+) -> Result<u64, AllocError>
     ensures text { OnOk result (text.new.items ≡ text.old.items ++ walks_svg protocol chart.now logical) }
     ensures lines { IfOk result (λ lines. lines ≡ walks_take protocol chart.now logical logical) }
     ensures few { IfOk result (λ lines. lines ≤ 19 * logical) }
@@ -45,7 +45,7 @@ fn write_lines(
     logical: u32,
     led: &[bool],
     text: &mut Vec<u8>,
-) -> Result<u64, Memory>
+) -> Result<u64, AllocError>
     requires { AreLedTo protocol chart.now logical logical led.now }
     ensures text { OnOk result (text.new.items ≡ text.old.items ++ walks_svg protocol chart.now logical) }
     ensures lines { IfOk result (λ lines. lines ≡ walks_take protocol chart.now logical logical) }
@@ -67,7 +67,7 @@ fn write_walk(
     page: u32,
     end: Option<End>,
     text: &mut Vec<u8>,
-) -> Result<u64, Memory>
+) -> Result<u64, AllocError>
     ensures text { OnOk result (text.new.items ≡ text.old.items ++ walk_rows chart.now logical page end) }
     ensures lines { IfOk result (λ lines. lines ≡ walk_takes chart.now logical page end) }
     ensures few { IfOk result (λ lines. lines ≤ 19) }
@@ -76,7 +76,9 @@ fn write_walk(
         None => Ok(0),
         Some(end) => {
             let steps = steps(alloc, chart, logical, page)?;
-            Ok(write_rows(newest_name(chart, page), &steps, end, text)?)
+            let outcome = write_rows(newest_name(chart, page), &steps, end, text);
+            drop(steps);
+            outcome
         }
     }
 }

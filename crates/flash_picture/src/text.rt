@@ -19,7 +19,7 @@ pub fn add(bytes: &[u8], text: &mut Vec<u8>) -> Result<(), AllocError>
 pub fn add_byte(byte: u8, text: &mut Vec<u8>) -> Result<(), AllocError>
     ensures { OnOk result (text.new.items ≡ text.old.items ++ byte ∷ []) }
 {
-    text.push(byte).map_err(|_| AllocError)
+    text.extend_from_slice(&[byte])
 }
 
 /// Appends a text. Where it would stand alone it is not copied.
@@ -62,7 +62,7 @@ pub fn add_spaces(count: usize, text: &mut Vec<u8>) -> Result<(), AllocError>
     ensures { OnOk result (text.new.items ≡ text.old.items ++ replicate count 32) }
 {
     for _space in 0..count {
-        text.push(b' ').map_err(|_| AllocError)?;
+        add(b" ", text)?;
     }
     Ok(())
 }

@@ -1,6 +1,6 @@
 //! The walks that decide that the newest version of a page does not count: which links of them are shown, and how
 //! they end.
-ghost use Rattle.std.specs.Prelude.{◌≡◌, suc, ◌<◌, ◌≤◌, ◌++◌, IfOk, IfSome, OnOk, length};
+ghost use Rattle.std.specs.Prelude.{◌≡◌, suc, ◌+◌, ◌<◌, ◌≤◌, [], ◌++◌, IfOk, IfSome, OnOk, length, vec_capacity};
 ghost use Rattle.std.specs.List.{flat_map};
 ghost use Rattle.record_list.specs.Verdict.{link_of, newest_name};
 ghost use Rattle.sorted_records.specs.SortedRecords.{EndsBelow};
@@ -12,7 +12,7 @@ use crate::text::{add, add_name, add_number};
 use record_list::Why;
 use sorted_records::{Orbit, SortedRecords};
 use std::alloc::{AllocError, Global};
-use tx_types::{Link, Memory, Protocol};
+use tx_types::{Link, Protocol};
 
 /// How many links of a walk are shown before its last one.
 const MOST_LINKS: u32 = 16;
@@ -139,7 +139,7 @@ pub fn steps(
     chart: &SortedRecords,
     logical: u32,
     page: u32,
-) -> Result<Vec<Step>, Memory>
+) -> Result<Vec<Step>, AllocError>
     ensures steps { IfOk result (λ steps. steps.items ≡ steps_of chart.now logical page) }
     ensures few { IfOk result (λ steps. length steps.items ≤ 18) }
 {
@@ -160,35 +160,52 @@ fn steps_from(
     logical: u32,
     start: Link,
     last: Option<Link>,
-) -> Result<Vec<Step>, Memory>
+) -> Result<Vec<Step>, AllocError>
     ensures steps { let list = chart.now in IfOk result (λ steps. steps.items
         ≡ steps_over (walk_links list start (suc logical) (link_of list start)) last) }
     ensures few { IfOk result (λ steps. length steps.items ≤ 18) }
 {
     let mut steps = Vec::with_capacity(alloc, 18)?;
+    push_steps(chart, logical, start, last, &mut steps);
+    Ok(steps)
+}
+
+/// Adds the same steps to a list that has none, and room for all.
+fn push_steps(
+    chart: &SortedRecords,
+    logical: u32,
+    start: Link,
+    last: Option<Link>,
+    steps: &mut Vec<Step>,
+)
+    requires empty { steps.old.items ≡ [] }
+    requires room { vec_capacity steps.old ≡ 18 }
+    ensures steps { let list = chart.now in steps.new.items
+        ≡ steps_over (walk_links list start (suc logical) (link_of list start)) last }
+    ensures few { length steps.new.items ≤ 18 }
+{
     let mut link = chart.link_of(start);
     for _turn in 0..logical.saturating_add(1).min(MOST_LINKS) {
-        steps.push(Step::To(link))?;
+        steps.push_reserved(Step::To(link));
         if is_end(chart, start, link) {
-            return Ok(steps);
+            return;
         }
         link = chart.link_of(link);
     }
     if logical >= MOST_LINKS {
-        push_last(last, &mut steps)?;
+        push_last(last, steps);
     }
-    Ok(steps)
 }
 
 /// Adds what stands for the links that are not shown, and the last one, if there is one.
-fn push_last(last: Option<Link>, steps: &mut Vec<Step>) -> Result<(), Memory>
-    ensures { OnOk result (steps.new.items ≡ steps.old.items ++ last_steps last) }
+fn push_last(last: Option<Link>, steps: &mut Vec<Step>)
+    requires { length steps.old.items + 2 ≤ vec_capacity steps.old }
+    ensures { steps.new.items ≡ steps.old.items ++ last_steps last }
 {
-    steps.push(Step::Dots)?;
+    steps.push_reserved(Step::Dots);
     if let Some(link) = last {
-        steps.push(Step::To(link))?;
+        steps.push_reserved(Step::To(link));
     }
-    Ok(())
 }
 
 /// Whether a walk from the record `start` ends at this link.
@@ -215,7 +232,7 @@ pub fn write_walks(
     protocol: Protocol,
     logical: u32,
     text: &mut Vec<u8>,
-) -> Result<(), Memory>
+) -> Result<(), AllocError>
     ensures { OnOk result (text.new.items
         ≡ text.old.items ++ walks_text protocol chart.now logical) }
 {
@@ -233,7 +250,7 @@ fn write_lines(
     logical: u32,
     led: &[bool],
     text: &mut Vec<u8>,
-) -> Result<(), Memory>
+) -> Result<(), AllocError>
     requires { AreLedTo protocol chart.now logical logical led.now }
     ensures { OnOk result (text.new.items
         ≡ text.old.items ++ walks_text protocol chart.now logical) }
@@ -253,14 +270,16 @@ pub fn write_walk(
     page: u32,
     end: Option<End>,
     text: &mut Vec<u8>,
-) -> Result<(), Memory>
+) -> Result<(), AllocError>
     ensures { OnOk result (text.new.items ≡ text.old.items ++ walk_line chart.now logical page end) }
 {
     match end {
         None => Ok(()),
         Some(end) => {
             let steps = steps(alloc, chart, logical, page)?;
-            Ok(write_line(newest_name(chart, page), &steps, end, text)?)
+            let outcome = write_line(newest_name(chart, page), &steps, end, text);
+            drop(steps);
+            outcome
         }
     }
 }

@@ -1,6 +1,7 @@
 -- Why a call for an image file is refused, with which status, and the line that is said.
-use Rattle.std.specs.Prelude.{ℕ, List, [], ◌∷◌, ◌++◌, codes}
+use Rattle.std.specs.Prelude.{ℕ, Option, Some, None, List, [], ◌∷◌, ◌++◌, codes}
 use Rattle.std.specs.Fmt.{decimal}
+use Rattle.tx_types.specs.declared.config.Slot.{Slot}
 use Rattle.record_list.specs.declared.found.Breach.{Breach}
 use Rattle.image_file.specs.declared.error.ImageError.{ImageError}
 use Rattle.image_file.specs.declared.error.ImageError.TheVariants as image
@@ -38,6 +39,11 @@ image_words image.Length = codes "length"
 image_words (image.SlotState at) = codes "state " ++ decimal at.0
 image_words (image.SlotBytes at) = codes "bytes " ++ decimal at.0
 image_words image.Memory = codes "memory"
+
+-- a word, and the slot that stands behind it
+abbrev pub with_slot : List ℕ → Option Slot → List ℕ
+with_slot word None = word
+with_slot word (Some slot) = word ++ 32 ∷ decimal slot.0
 
 -- the line that is said
 abbrev pub image_line : ImageEnding → List ℕ

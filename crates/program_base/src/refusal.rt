@@ -1,13 +1,14 @@
-ghost use Rattle.std.specs.Prelude.{◌≡◌, ◌++◌, IfOk, codes};
+ghost use Rattle.std.specs.Prelude.{◌≡◌, ◌∷◌, ◌++◌, IfOk, codes};
 ghost use Rattle.std.specs.Fmt.{decimal};
 ghost use Rattle.std.specs.String.{string_bytes};
-ghost use Rattle.program_base.specs.Refusals.{image_line, image_refused, image_status, image_words, line};
+ghost use Rattle.program_base.specs.Refusals.{image_line, image_refused, image_status, image_words, line, with_slot};
 ghost use Rattle.program_base.specs.Statuses.{code};
 
 use crate::status::Status;
 use image_file::ImageError;
 use record_list::Breach;
 use std::alloc::{AllocError, Global};
+use tx_types::Slot;
 
 /// Why a call for an image file is refused: its program says one line, and returns a status.
 #[derive(Clone, Copy)]
@@ -44,20 +45,30 @@ impl ImageRefusal<'_> {
     {
         match self {
             ImageRefusal::BadWords => String::from_str(alloc, "bad words\n"),
-            ImageRefusal::Missing(name) => format!(in alloc; "no file {name}\n"),
-            ImageRefusal::TooLong(name) => format!(in alloc; "file too long {name}\n"),
+            ImageRefusal::Missing(name) => line_of(alloc, "no file", name),
+            ImageRefusal::TooLong(name) => line_of(alloc, "file too long", name),
             ImageRefusal::BadImage(rule) => bad_image_line(alloc, *rule),
             ImageRefusal::Unsound(breach) => unsound_line(alloc, breach.law, breach.slot.0),
         }
     }
 }
 
+/// The line of some words, and of what stands behind them.
+fn line_of(alloc: Global, words: &str, behind: &str) -> Result<String, AllocError>
+    ensures { IfOk result (λ said. string_bytes said ≡ line (words.now ++ 32 ∷ behind.now)) }
+{
+    format!(in alloc; "{words} {behind}\n")
+}
+
 /// The line for bytes that break this rule of an image file.
 fn bad_image_line(alloc: Global, rule: ImageError) -> Result<String, AllocError>
     ensures { IfOk result (λ words. string_bytes words ≡ line (codes "bad image: " ++ image_words rule)) }
 {
-    let words = image_words(alloc, rule)?;
-    format!(in alloc; "bad image: {words}\n")
+    let (word, slot) = image_word(rule);
+    match slot {
+        None => line_of(alloc, "bad image:", word),
+        Some(slot) => format!(in alloc; "bad image: {word} {}\n", slot.0),
+    }
 }
 
 /// The line for an image that breaks this law, which names this slot.
@@ -68,20 +79,20 @@ fn unsound_line(alloc: Global, law: u8, slot: u32) -> Result<String, AllocError>
     format!(in alloc; "unsound law {law} slot {slot}\n")
 }
 
-/// The words for a rule of an image file.
-fn image_words(alloc: Global, rule: ImageError) -> Result<String, AllocError>
-    ensures { IfOk result (λ words. string_bytes words ≡ image_words rule) }
+/// The word for a rule of an image file, and the slot that stands behind it.
+fn image_word(rule: ImageError) -> (&'static str, Option<Slot>)
+    ensures { image_words rule ≡ with_slot result.0.now result.1 }
 {
     match rule {
-        ImageError::Short => String::from_str(alloc, "short"),
-        ImageError::Magic => String::from_str(alloc, "magic"),
-        ImageError::Protocol => String::from_str(alloc, "protocol"),
-        ImageError::Reserved => String::from_str(alloc, "reserved"),
-        ImageError::Allowance => String::from_str(alloc, "allowance"),
-        ImageError::Config(_) => String::from_str(alloc, "config"),
-        ImageError::Length => String::from_str(alloc, "length"),
-        ImageError::SlotState(slot) => format!(in alloc; "state {}", slot.0),
-        ImageError::SlotBytes(slot) => format!(in alloc; "bytes {}", slot.0),
-        ImageError::Memory => String::from_str(alloc, "memory"),
+        ImageError::Short => ("short", None),
+        ImageError::Magic => ("magic", None),
+        ImageError::Protocol => ("protocol", None),
+        ImageError::Reserved => ("reserved", None),
+        ImageError::Allowance => ("allowance", None),
+        ImageError::Config(_) => ("config", None),
+        ImageError::Length => ("length", None),
+        ImageError::SlotState(slot) => ("state", Some(slot)),
+        ImageError::SlotBytes(slot) => ("bytes", Some(slot)),
+        ImageError::Memory => ("memory", None),
     }
 }

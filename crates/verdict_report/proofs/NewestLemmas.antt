@@ -196,6 +196,16 @@ module _ (xs : List Found) (f : Found) (page : ℕ) where
         (sym (cond-false (eqb f.rec.page page) (newer kept f.rec) kept off)) (page_else kept was off)
   ]
 
+-- an empty table keeps the records of an empty list
+pub keeps_none : (records : List (Option Rec)) → records ≡ [] → KeepsNewest [] records
+keeps_none records none page = rw none (record {
+  found = refl;
+  present = refl;
+  version = refl;
+  link = refl;
+  back = refl;
+})
+
 -- a table goes on with one record more
 pub keeps_more : (xs : List Found) (i : ℕ) (before after : List (Option Rec)) → i < length xs →
     KeepsNewest (take i xs) before →

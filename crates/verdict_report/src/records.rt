@@ -1,4 +1,4 @@
-ghost use Rattle.std.specs.Prelude.{◌≡◌, ℕ, ◌+◌, ◌^◌, ◌<◌, ◌==◌, if◌then◌else◌, length, Some, None, IfOk, OnOk};
+ghost use Rattle.std.specs.Prelude.{◌≡◌, ℕ, ◌+◌, ◌^◌, ◌<◌, ◌==◌, if◌then◌else◌, [], length, Some, None, IfOk, OnOk};
 ghost use Rattle.record_list.specs.Current.{fallback};
 ghost use Rattle.record_list.specs.Records.{newest};
 ghost use Rattle.record_list.specs.Verdict.{newest_name, link_of, why, is_committed};
@@ -8,8 +8,8 @@ ghost use Rattle.verdict_report.specs.Walks.{is_end, stays_at, links_of};
 
 use record_list::{Found, Verdict, Why};
 use sorted_records::{Orbit, SortedRecords};
-use std::alloc::Global;
-use tx_types::{Link, Memory, Protocol, Rec};
+use std::alloc::{AllocError, Global};
+use tx_types::{Link, Protocol, Rec};
 
 /// The sorted records of a list, with the newest record of each page at hand: where that stands in several slots, the
 /// one in the lowest.
@@ -22,12 +22,17 @@ pub struct Records {
 
 impl Records {
     /// Sorts the records, and looks at each once.
-    pub fn new(alloc: Global, list: &[Found]) -> Result<Records, Memory>
+    pub fn new(alloc: Global, list: &[Found]) -> Result<Records, AllocError>
         ensures { IfOk result (λ r. Sorts list.now r.chart) }
     {
         let chart = SortedRecords::of(alloc, list)?;
-        let newest = newest_records(alloc, chart.records())?;
-        Ok(Records { chart, newest })
+        match newest_records(alloc, chart.records()) {
+            Ok(newest) => Ok(Records { chart, newest }),
+            Err(error) => {
+                drop(chart);
+                Err(error)
+            }
+        }
     }
 
     /// The newest record of a page.
@@ -133,19 +138,33 @@ impl Records {
 }
 
 /// The newest record of each page that has one, by page.
-fn newest_records(alloc: Global, list: &[Found]) -> Result<Vec<Option<Rec>>, Memory>
+fn newest_records(alloc: Global, list: &[Found]) -> Result<Vec<Option<Rec>>, AllocError>
     ensures { IfOk result (λ v. KeepsNewest list.now v.items) }
 {
     let mut newest = Vec::new(alloc);
-    for found in list {
-        keep(&mut newest, found.rec)?;
+    match keep_all(list, &mut newest) {
+        Ok(()) => Ok(newest),
+        Err(error) => {
+            drop(newest);
+            Err(error)
+        }
     }
-    Ok(newest)
+}
+
+/// Keeps the newest record of each page where none is kept before.
+fn keep_all(list: &[Found], newest: &mut Vec<Option<Rec>>) -> Result<(), AllocError>
+    requires { newest.old.items ≡ [] }
+    ensures { OnOk result (KeepsNewest list.now newest.new.items) }
+{
+    for found in list {
+        keep(newest, found.rec)?;
+    }
+    Ok(())
 }
 
 /// Keeps a record where it is newer than the one that is kept of its page.
 #[tactic(auto, using(crate::proofs::NewestLemmas::kept_after))]
-fn keep(newest: &mut Vec<Option<Rec>>, rec: Rec) -> Result<(), Memory>
+fn keep(newest: &mut Vec<Option<Rec>>, rec: Rec) -> Result<(), AllocError>
     ensures { OnOk result ((page : ℕ) → kept_at newest.new.items page
         ≡ (if rec.page == page then newer (kept_at newest.old.items page) rec
         else kept_at newest.old.items page)) }
@@ -157,7 +176,7 @@ fn keep(newest: &mut Vec<Option<Rec>>, rec: Rec) -> Result<(), Memory>
 }
 
 /// Makes room for what is kept of a page.
-fn make_room(newest: &mut Vec<Option<Rec>>, page: usize) -> Result<(), Memory>
+fn make_room(newest: &mut Vec<Option<Rec>>, page: usize) -> Result<(), AllocError>
     requires { page + 1 < 2 ^ 64 }
     ensures room { OnOk result (page < length newest.new.items) }
     ensures same { (p : ℕ) → kept_at newest.new.items p ≡ kept_at newest.old.items p }

@@ -62,13 +62,15 @@ fn write_report(
     list: &[Found],
     logical: u32,
     text: &mut Vec<u8>,
-) -> Result<u32, Memory>
+) -> Result<u32, AllocError>
     ensures count { IfOk result (λ n. n ≡ length (pages list.now logical)) }
     ensures text { OnOk result (text.new.items
         ≡ text.old.items ++ report protocol list.now logical) }
 {
     let records = Records::new(alloc, list)?;
-    write_lines(alloc, protocol, &records, logical, text)
+    let outcome = write_lines(alloc, protocol, &records, logical, text);
+    drop(records);
+    outcome
 }
 
 /// Appends the lines of the report, and returns the number of pages.
@@ -78,7 +80,7 @@ fn write_lines(
     records: &Records,
     logical: u32,
     text: &mut Vec<u8>,
-) -> Result<u32, Memory>
+) -> Result<u32, AllocError>
     ensures count { IfOk result (λ n. n ≡ length (pages records.now.chart logical)) }
     ensures text { OnOk result (text.new.items
         ≡ text.old.items ++ report protocol records.now.chart logical) }
@@ -113,7 +115,7 @@ fn explain_page(
     logical: u32,
     page: u32,
     rec: &Rec,
-) -> Result<Line, Memory>
+) -> Result<Line, AllocError>
     requires { IsNewestRecord records.now.chart page (Some rec.now) }
     ensures text { IfOk result (λ l. line_text l ≡ verdict_line protocol records.now.chart logical page) }
     ensures few { IfOk result (λ l. length l.walk.shown.items ≤ most_links) }

@@ -1,11 +1,11 @@
-ghost use Rattle.std.specs.Prelude.{◌≡◌, take, length, IfOk};
+ghost use Rattle.std.specs.Prelude.{◌≡◌, [], take, length, vec_capacity, IfOk};
 ghost use Rattle.verdict_report.specs.Lines.{IsWalk};
 ghost use Rattle.verdict_report.specs.Report.{most_links};
 ghost use Rattle.verdict_report.specs.Walks.{links_of};
 
 use crate::records::Records;
-use std::alloc::Global;
-use tx_types::{Link, Memory};
+use std::alloc::{AllocError, Global};
+use tx_types::Link;
 
 /// How many links of a walk a report shows.
 pub const SHOWN_LINKS: u32 = 16;
@@ -26,7 +26,7 @@ impl Walk {
         records: &Records,
         logical: u32,
         page: u32,
-    ) -> Result<Walk, Memory>
+    ) -> Result<Walk, AllocError>
         ensures { IfOk result (λ w. IsWalk w (links_of records.now.chart logical page)) }
     {
         let shown = first_links(alloc, records, logical, page)?;
@@ -53,20 +53,29 @@ fn first_links(
     records: &Records,
     logical: u32,
     page: u32,
-) -> Result<Vec<Link>, Memory>
+) -> Result<Vec<Link>, AllocError>
     ensures { IfOk result (λ links. links.items
         ≡ take most_links (links_of records.now.chart logical page)) }
 {
+    let mut links = Vec::with_capacity(alloc, SHOWN_LINKS as usize)?;
+    push_links(records, logical, page, &mut links);
+    Ok(links)
+}
+
+/// Adds the same to a list that has none, and room for all.
+fn push_links(records: &Records, logical: u32, page: u32, links: &mut Vec<Link>)
+    requires empty { links.old.items ≡ [] }
+    requires room { vec_capacity links.old ≡ most_links }
+    ensures { links.new.items ≡ take most_links (links_of records.now.chart logical page) }
+{
     let start = records.newest_name(page);
     let mut last = records.newest_link(page);
-    let mut links = Vec::with_capacity(alloc, SHOWN_LINKS as usize)?;
-    links.push(last)?;
+    links.push_reserved(last);
     for _turn in 0..logical.min(SHOWN_LINKS - 1) {
         let Some(link) = records.next_link(start, last) else {
             break;
         };
-        links.push(link)?;
+        links.push_reserved(link);
         last = link;
     }
-    Ok(links)
 }

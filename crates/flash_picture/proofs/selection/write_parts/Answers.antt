@@ -1,11 +1,11 @@
-use Rattle.flash_picture.proofs.Texts.{then}
+use Rattle.flash_picture.proofs.Texts.{and_then}
 use Rattle.flash_picture.proofs.selection.write_parts.Goals as goal
 
 pub returns : goal.returns
 returns c =
     let old = c.args.text.now.items in
-    then old _ _ _ _
-    (then old _ _ _ _
-    (then old _ _ _ _ c.in_ok-write_heading.ensures c.in_ok-write_selected.ensures)
-    c.in_ok-write_selected_walks.ensures)
-    c.in_ok-write_breach.ensures
+    and_then old _ _ _ _ _ _ _
+    (and_then old _ _ _ _ _ _ _
+    (and_then old _ _ _ _ _ _ _ c.write_heading.ensures c.write_selected.ensures c.and.ensures)
+    c.write_selected_walks.ensures c.and-2.ensures)
+    c.write_breach.ensures c.and-3.ensures

@@ -15,3 +15,6 @@ returns-clause-text c =
     columns in
     let words = then begun _ _ _ _ (then begun _ _ _ _ c.in_ok-write_start.ensures rows) c.in_ok-write.ensures in
     then old _ _ _ _ (then old _ _ _ _ c.in_ok-open_line.ensures words) c.in_ok-add.ensures
+
+pub returns-clause-few : goal.returns-clause-few
+returns-clause-few c = omega (arith, c.in_ok-begun.ensures.few)

@@ -1,6 +1,12 @@
-use Rattle.flash_picture.proofs.Common.{view_svg}
-use Rattle.flash_picture.proofs.Texts.{text_more}
+use Rattle.flash_picture.proofs.Common.{arith, view_svg}
+use Rattle.tx_types.specs.Config.{slots_of}
+use Rattle.flash_picture.proofs.Texts.{text_all, text_more, text_none}
 use Rattle.flash_picture.proofs.svg_map.Plan.write_views.Goals as goal
+
+pub loop-slot-init : goal.loop-slot-init
+loop-slot-init c =
+    let p = c.args.self.now in
+    text_none (view_svg p.grid c.args.chart.now p.map.cells.now p.map.marks) c.args.text.now.items
 
 pub loop-slot-preserved : goal.loop-slot-preserved
 loop-slot-preserved c =
@@ -8,3 +14,10 @@ loop-slot-preserved c =
     text_more (view_svg p.grid c.args.chart.now p.map.cells.now p.map.marks) c.loop-slot.slot c.args.text.now.items
     c.loop-slot.text.items _
     c.loop-slot.invariant c.in_ok-write_view.ensures
+
+pub returns : goal.returns
+returns c =
+    let p = c.args.self.now in
+    text_all (view_svg p.grid c.args.chart.now p.map.cells.now p.map.marks) c.loop-slot.slot (slots_of p.grid.shape)
+    c.args.text.now.items c.loop-slot.text.items
+    c.loop-slot.invariant (omega arith)

@@ -1,0 +1,25 @@
+use Rattle.flash_picture.proofs.Common.{◌∙◌, ◌++◌, ap, arith, flat_map}
+use Rattle.flash_picture.specs.OverviewSvg.{entry_svg}
+use Rattle.flash_picture.proofs.Texts.{items_all, items_more, items_none}
+use Rattle.flash_picture.proofs.map.Map.write_entries.Goals as goal
+
+pub loop-kind-init : goal.loop-kind-init
+loop-kind-init c =
+    let m = c.args.self.now in
+    items_none (entry_svg m.shape m.cells.now) c.all_kinds-kinds.result.now c.args.text.now.items
+
+pub loop-kind-preserved : goal.loop-kind-preserved
+loop-kind-preserved c =
+    let m = c.args.self.now in
+    items_more (entry_svg m.shape m.cells.now) c.all_kinds-kinds.result.now c.loop-kind.kind-index _
+    c.args.text.now.items c.loop-kind.text.items _ c.loop-kind-test.true c.loop-kind.invariant
+    c.in_ok-write_entry.ensures
+
+pub returns : goal.returns
+returns c =
+    let m = c.args.self.now in
+    let old = c.args.text.now.items in
+    items_all (entry_svg m.shape m.cells.now) c.all_kinds-kinds.result.now c.loop-kind.kind-index
+    old c.loop-kind.text.items
+    c.loop-kind.invariant (omega arith)
+    ∙ ap (λ kinds. old ++ flat_map (entry_svg m.shape m.cells.now) kinds) c.all_kinds-kinds.ensures
