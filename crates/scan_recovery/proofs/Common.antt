@@ -28,10 +28,11 @@ pub use Rattle.record_list.specs.declared.found.Found.{Found}
 pub use Rattle.scan_recovery.specs.Opening.{FindsHighest}
 pub use Rattle.scan_recovery.specs.Reading.{ReadsAll, ReadsSome}
 pub use Rattle.scan_recovery.specs.Scans.{IsScanOf}
-pub use Rattle.scan_recovery.specs.Searches.{IsLowestSharer, NextDiffers}
+pub use Rattle.scan_recovery.specs.Searches.{IsLowestSharer}
 pub use Rattle.scan_recovery.specs.Twins.{bytes_shown, AgreesWithLowest, is_compared, compared_to}
 unfoldable pub use Rattle.scan_recovery.specs.Twins.{compared}
 pub use Rattle.sorted_records.proofs.OfWalk.WalkOrbits.{absent_at}
+pub use Rattle.sorted_records.specs.Names.{NextDiffers}
 pub use Rattle.sorted_records.specs.SortedRecords.{Sorts, list_of}
 pub use Rattle.tx_types.specs.Config.{IsShape, slots_of, blocks_of}
 pub use Rattle.tx_types.specs.declared.config.Block.{Block}

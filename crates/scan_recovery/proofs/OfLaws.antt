@@ -2,3 +2,4 @@ pub mod LawTwo
 pub mod LawsAlike
 pub mod LeastBreaches
 pub mod TwinsAlike
+pub mod CountsAlike

@@ -6,6 +6,7 @@ use Rattle.tx_types.specs.declared.config.Slot.{Slot}
 use Rattle.tx_types.specs.declared.record.Link.{Link}
 use Rattle.tx_types.specs.declared.record.Rec.{Rec}
 use Rattle.record_list.specs.declared.found.Found.{Found}
+use Rattle.record_list.specs.Counts.{KeepsCount}
 use Rattle.record_list.specs.Records.{name_of, has_name, is_same, is_present, record_at, nothing}
 use Rattle.record_list.specs.SoundList.{follow, CurrentIsPresent, LinkHasCounted, LooseIsShown, LooseEnds}
 use Rattle.sorted_records.specs.SortedRecords.{is_below}
@@ -13,6 +14,7 @@ use Rattle.sorted_records.specs.CurrentVersions.{CurrentVersionsState}
 use Rattle.sorted_records.specs.declared.orbit.Orbit.{Orbit}
 use Rattle.sorted_records.specs.Orbits.{AreOrbits}
 use Rattle.sorted_records.specs.NameGraph.{name_graph}
+use Rattle.scan_recovery.specs.declared.own_links.AbsentLinks.{AbsentLinks}
 
 -- the lowest slot of a record of which the fact does not hold, nothing where it holds of each
 abbrev pub FindsLowest : (Found → Type 0) → List Found → Option Slot → Type 0
@@ -40,10 +42,6 @@ next_slot list k = (slice_index_or list (suc k) nothing).slot
 -- the lowest slot, up to this place, of a record that has the link of the one before it, and another name
 abbrev pub IsLowestSharer : List Found → ℕ → Option Slot → Type 0
 IsLowestSharer list end lowest = IsLowestBelow (end - 1) (NextShares list) (next_slot list) lowest
-
--- the record after this place has another name
-abbrev pub NextDiffers : List Found → ℕ → Type 0
-NextDiffers list k = has_name (name_of (record_at list (suc k))) (record_at list k) ≡ false
 
 -- the links from a name lead to an absent one
 abbrev pub LeadsOut : List Found → Link → Type 0
@@ -102,6 +100,11 @@ IsUpTo (Some top) link = is_below top link ≡ false
 abbrev pub IsTop : List Found → ℕ → Option Link → Type 0
 IsTop list n top = (k : ℕ) → k < n → slice_index_or (name_graph list) k None ≡ None → IsUpTo top (record_at list k).next
 
+-- so are the links of the first records that lead to no record, if they rise
+pub record AreAbsentTo (list : List Found) (n : ℕ) (absent : AbsentLinks) : Type 0 where
+  pub top : absent.rise ≡ true → IsTop list n absent.top
+  pub once : absent.rise ≡ true → AreAbsentOnce list n
+
 -- among these are those of the first records whose link leads to no record
 abbrev pub HasAbsent : List Found → ℕ → List Found → Type 0
 HasAbsent list n absent = (k : ℕ) → k < n → slice_index_or (name_graph list) k None ≡ None →
@@ -117,3 +120,18 @@ pub record KeepsLaws (s : CurrentVersionsState) (f : Found) : Type 0 where
 -- each of these records does
 abbrev pub KeepLaws : CurrentVersionsState → List Found → Type 0
 KeepLaws s records = All (KeepsLaws s) records
+
+-- a record keeps law 9, or has no count, where no orbits are known
+abbrev pub HasCountKept : Option (List Orbit) → List Found → Found → Type 0
+HasCountKept None list f = f.rec.count ≡ 0
+HasCountKept (Some _) list f = KeepsCount list f
+
+-- each record does
+abbrev pub KeepCounts : Option (List Orbit) → List Found → Type 0
+KeepCounts orbits list = All (HasCountKept orbits list) list
+
+-- the records keep laws 3 to 7 and 9
+pub record AreLawful (s : CurrentVersionsState) (orbits : Option (List Orbit)) : Type 0 where
+  pub laws : KeepLaws s s.list
+  pub counts : KeepCounts orbits s.list
+  pub links : HaveOwnLinks s.list

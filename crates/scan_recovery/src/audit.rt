@@ -1,18 +1,21 @@
-//! Laws 3 to 7 of a list that keeps laws 1 and 2, by its records in order of their names. Laws 4 to 7 are tried
-//! of the records in that order, in which what is looked up for one lies near that for the next, and only where
-//! one is broken of them in the order of their slots.
-ghost use Rattle.std.specs.Prelude.{◌≡◌, ◌↔◌, true, IsTrue, All, IfOk, length};
+//! Laws 3 to 7 and 9 of a list that keeps laws 1 and 2, by its records in order of their names. They are tried of the
+//! records in that order, in which what is looked up for one lies near that for the next, and only where one is broken
+//! of them in the order of their slots.
+ghost use Rattle.std.specs.Prelude.{◌≡◌, ◌<◌, ◌↔◌, true, IsTrue, All, IfOk, IfSome, length, slice_index_or};
 ghost use Rattle.tx_types.specs.declared.config.Protocol.TheVariants.{Bpcc};
-ghost use Rattle.record_list.specs.Records.{IsScanned};
+ghost use Rattle.record_list.specs.Records.{IsScanned, nothing};
 ghost use Rattle.record_list.specs.Search.{FindsFirst};
 ghost use Rattle.record_list.specs.SoundList.{PagesExist, CopiesAgree, LinksDiffer, CurrentIsPresent, LinkHasCounted, LooseIsShown, IsFirstBreach};
+ghost use Rattle.sorted_records.specs.NameGraph.{name_graph, NamesakesAgree};
+ghost use Rattle.sorted_records.specs.Orbits.{AreOrbits};
 ghost use Rattle.sorted_records.specs.SortedRecords.{Sorts};
-ghost use Rattle.scan_recovery.specs.Searches.{KnowsOrbits, KeepsLaws, KeepLaws};
+ghost use Rattle.scan_recovery.specs.Searches.{KnowsOrbits, KeepsLaws, KeepLaws, AreLinkedOnce, AreAbsentTo, HasCountKept, KeepCounts, AreLawful};
 
 use crate::endings::{endless, is_ending};
+use crate::own_links::{AbsentLinks, are_absent_once, is_linked_once, note_absent};
 use crate::shared_links::lowest_shared_link;
 use record_list::{Breach, Found, breach_at};
-use sorted_records::{CurrentVersions, Orbits};
+use sorted_records::{CurrentVersions, Orbits, SortedRecords, keeps_count_at};
 use std::alloc::{AllocError, Global};
 use tx_types::{Link, Protocol};
 
@@ -24,28 +27,110 @@ struct Near {
     responsible: usize,
 }
 
-/// The first of laws 3 to 7 that is broken, and the slot that it names. The list keeps laws 1 and 2. Laws 4 to 7 are
-/// tried of each record in one pass in the order of names, and of a current record laws 4 and 5 alone. Only where one
-/// is broken the list is gone through law by law in the order of slots, to find the law and the slot that are named.
+/// Whether the records keep laws 3 to 7 and 9, tried of each in one pass in the order of names, and of a current record
+/// laws 3, 4, 5 and 9 alone. Those of one name are equal. Links that lead to no record are put in order only if they do
+/// not rise in the order of names.
+pub fn keep_laws(
+    alloc: Global,
+    standing: &CurrentVersions,
+    orbits: &Option<Orbits>,
+) -> Result<bool, AllocError>
+    requires namesakes { NamesakesAgree standing.now.list }
+    requires orbits { KnowsOrbits standing.now orbits.now }
+    ensures { IfOk result (λ kept. kept ≡ true → AreLawful standing.now orbits.now) }
+{
+    let chart = standing.sorted_records();
+    let mut linked = vec![in alloc; false; chart.records().len()]?;
+    let mut absent = AbsentLinks {
+        top: None,
+        rise: true,
+    };
+    if !all_keep_laws(standing, orbits, &mut linked, &mut absent) {
+        return Ok(false);
+    }
+    if absent.rise {
+        return Ok(true);
+    }
+    let once = are_absent_once(alloc, chart)?;
+    Ok(once)
+}
+
+/// Whether each record keeps laws 4 to 7 and 9, and has the name of those before whose links lead to the same place.
+/// The links that lead to no record are noted.
+fn all_keep_laws(
+    standing: &CurrentVersions,
+    orbits: &Option<Orbits>,
+    linked: &mut Vec<bool>,
+    absent: &mut AbsentLinks,
+) -> bool
+    requires namesakes { NamesakesAgree standing.now.list }
+    requires orbits { KnowsOrbits standing.now orbits.now }
+    requires size { length linked.old.items ≡ length standing.now.list }
+    requires absent { AreAbsentTo standing.now.list 0 absent.old }
+    ensures laws { result ≡ true → KeepLaws standing.now standing.now.list }
+    ensures counts { result ≡ true → KeepCounts orbits.now standing.now.list }
+    ensures links { result ≡ true → AreLinkedOnce standing.now.list (length standing.now.list) }
+    ensures absent { result ≡ true → AreAbsentTo standing.now.list (length standing.now.list) absent.new }
+{
+    let chart = standing.sorted_records();
+    let mut near = Near {
+        link: 0,
+        responsible: 0,
+    };
+    for at in 0..chart.records().len() {
+        if !is_linked_once(chart, linked, at) {
+            return false;
+        }
+        if !keeps_laws(standing, orbits, &chart.records()[at], &mut near) {
+            return false;
+        }
+        if !keeps_count(chart, orbits, at) {
+            return false;
+        }
+        note_absent(chart, absent, at);
+    }
+    true
+}
+
+/// Whether the record at a place keeps law 9. Where no orbits are known, none may have a count.
+#[inline(always)]
+fn keeps_count(chart: &SortedRecords, orbits: &Option<Orbits>, at: usize) -> bool
+    requires namesakes { NamesakesAgree chart.now }
+    requires orbits { IfSome orbits.now (AreOrbits (name_graph chart.now)) }
+    requires within { at < length chart.now }
+    ensures { result ≡ true → HasCountKept orbits.now chart.now (slice_index_or chart.now at nothing) }
+{
+    let rec = &chart.records()[at].rec;
+    match orbits {
+        None => rec.count == 0,
+        Some(orbits) => keeps_count_at(chart, orbits, at as u32),
+    }
+}
+
+/// The first of laws 3 to 7 that is broken, and the slot that it names. The list keeps laws 1 and 2. Only where it was
+/// not found before that the records keep them all it is gone through law by law in the order of slots, to find the law
+/// and the slot that are named.
 pub fn first_breach(
     alloc: Global,
     standing: &CurrentVersions,
     orbits: &Option<Orbits>,
     list: &[Found],
+    kept: bool,
 ) -> Result<Option<Breach>, AllocError>
     requires scanned { IsScanned list.now }
     requires sorts { Sorts list.now standing.now.list }
     requires pages { All (PagesExist standing.now.logical) list.now }
     requires copies { All (CopiesAgree list.now) list.now }
     requires orbits { KnowsOrbits standing.now orbits.now }
+    requires kept { kept ≡ true → AreLawful standing.now orbits.now }
     ensures { let s = standing.now in
         IfOk result (IsFirstBreach s.protocol list.now s.logical) }
 {
-    if let Some(slot) = lowest_shared_link(alloc, standing.sorted_records(), list)? {
-        return Ok(Some(Breach { law: 3, slot }));
-    }
-    if keep_laws(standing, orbits, standing.sorted_records().records()) {
+    if kept {
         return Ok(None);
+    }
+    if let Some(slot) = lowest_shared_link(alloc, list)? {
+        return Ok(Some(Breach { law: 3, slot }));
     }
     Ok(first_of_slots(standing, orbits, list))
 }
@@ -77,23 +162,6 @@ fn first_of_slots(
         return Some(breach_at(list, 7, at));
     }
     None
-}
-
-/// Whether each of these records keeps laws 4 to 7.
-fn keep_laws(standing: &CurrentVersions, orbits: &Option<Orbits>, records: &[Found]) -> bool
-    requires { KnowsOrbits standing.now orbits.now }
-    ensures { result ≡ true → KeepLaws standing.now records.now }
-{
-    let mut near = Near {
-        link: 0,
-        responsible: 0,
-    };
-    for found in records {
-        if !keeps_laws(standing, orbits, found, &mut near) {
-            return false;
-        }
-    }
-    true
 }
 
 /// Whether a record keeps laws 4 to 7. What is searched for may well be near what was found for the one before.

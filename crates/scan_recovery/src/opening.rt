@@ -1,4 +1,4 @@
-ghost use Rattle.std.specs.Prelude.{◌≡◌, ◌+◌, ◌*◌, ◌<◌, ◌≤◌, All, List, map, length, Ok, OnOk, IfOk, IfErr, IsNone, false};
+ghost use Rattle.std.specs.Prelude.{◌≡◌, ◌+◌, ◌*◌, ◌<◌, ◌≤◌, All, List, map, length, Ok, OnOk, IfOk, IfErr, IsNone, true, false};
 ghost use Rattle.tx_types.specs.Config.{IsShape, checked, shape_of, slots_of, blocks_of};
 ghost use Rattle.record_list.specs.Counts.{HasCounts, IsFirstMiscount};
 ghost use Rattle.record_list.specs.Records.{IsScanned};
@@ -13,10 +13,10 @@ ghost use Rattle.die_alloc.specs.BlocksState.{IsBlocksState};
 ghost use Rattle.die_alloc.specs.Opening.{used_in, opening_table, with_slots};
 ghost use Rattle.scan_recovery.specs.Opening.{IsOpenedFrom, IsBroken};
 ghost use Rattle.scan_recovery.specs.Recovered.{IfUnsound, is_read_failure};
-ghost use Rattle.scan_recovery.specs.Searches.{KnowsOrbits};
+ghost use Rattle.scan_recovery.specs.Searches.{KnowsOrbits, AreLawful};
 
 use crate::RecoverError;
-use crate::audit::first_breach;
+use crate::audit::{first_breach, keep_laws};
 use crate::spare::{chosen_spare, slots_in};
 use die_alloc::Blocks;
 use flash_model::Seen;
@@ -185,7 +185,8 @@ fn spare_by_orbits(
         IfErr result (λ e. IfUnsound e (IsBroken s.protocol list.now s.logical shape)) }
     ensures no_fault { is_read_failure result ≡ false }
 {
-    if let Some(Breach { law, slot }) = first_breach(alloc, standing, orbits, list)? {
+    let kept = keep_laws(alloc, standing, orbits)?;
+    if let Some(Breach { law, slot }) = first_breach(alloc, standing, orbits, list, kept)? {
         return Err(RecoverError::Unsound { law, slot });
     }
     let Some(spare) = chosen_spare(alloc, seen, list, standing, shape)? else {
@@ -194,7 +195,7 @@ fn spare_by_orbits(
             slot: Slot(0),
         });
     };
-    match miscount(standing, orbits, list) {
+    match miscount(standing, orbits, list, kept) {
         None => Ok(spare),
         Some(Breach { law, slot }) => Err(RecoverError::Unsound { law, slot }),
     }
@@ -217,15 +218,25 @@ fn orbits_if_asked(
     Ok(Some(name_orbits(alloc, standing.sorted_records())?))
 }
 
-/// The slot that law 9 names, where it is broken, of a list that keeps law 2.
-fn miscount(standing: &CurrentVersions, orbits: &Option<Orbits>, list: &[Found]) -> Option<Breach>
+/// The slot that law 9 names, where it is broken, of a list that keeps law 2. It is looked for only where it was not
+/// found before that the records keep all these laws.
+fn miscount(
+    standing: &CurrentVersions,
+    orbits: &Option<Orbits>,
+    list: &[Found],
+    kept: bool,
+) -> Option<Breach>
     requires scanned { IsScanned list.now }
     requires sorts { Sorts list.now standing.now.list }
     requires copies { All (CopiesAgree list.now) list.now }
     requires known { KnowsOrbits standing.now orbits.now }
     requires counted { IsNone orbits.now → All (λ f. f.rec.count ≡ 0) list.now }
+    requires kept { kept ≡ true → AreLawful standing.now orbits.now }
     ensures { IsFirstMiscount list.now result }
 {
+    if kept {
+        return None;
+    }
     match orbits {
         None => None,
         Some(orbits) => counts(standing.sorted_records(), orbits, list),

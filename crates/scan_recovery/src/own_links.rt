@@ -1,10 +1,10 @@
 //! Whether each link is that of one name, by the places to which the links of sorted records lead: those of one place
 //! have one link. Only links that lead to no record may have to be put in order.
 
-ghost use Rattle.std.specs.Prelude.{◌≡◌, ℕ, ◌<◌, true, false, length, slice_index_or, slice_set, Some, None, IsNone, IfOk, Contains};
+ghost use Rattle.std.specs.Prelude.{◌≡◌, ℕ, ◌+◌, ◌<◌, true, false, length, slice_index_or, slice_set, Some, None, IsNone, IfOk, Contains};
 ghost use Rattle.record_list.specs.Records.{name_of, record_at};
 ghost use Rattle.sorted_records.specs.NameGraph.{name_graph};
-ghost use Rattle.scan_recovery.specs.Searches.{HaveOwnLinks, HasAbsent, AreLinkedOnce, AreAbsentOnce, IsAsBefore, NotesLink, is_above};
+ghost use Rattle.scan_recovery.specs.Searches.{HasAbsent, AreMarked, AreLinkedOnce, AreAbsentOnce, AreAbsentTo, IsAsBefore, NotesLink, is_above};
 
 use crate::held::mark;
 use crate::shared_links::lowest_sharer;
@@ -13,41 +13,58 @@ use sorted_records::{SortedRecords, sort_by_link};
 use std::alloc::{AllocError, Global};
 use tx_types::Link;
 
-/// Whether any two records with one link have one name. Each place to which a record leads is marked. If it is marked
-/// already, the record before is looked at, since copies stand side by side. Links that lead to no record are put in
-/// order only if they do not rise in the order of names.
-pub fn have_own_links(alloc: Global, chart: &SortedRecords) -> Result<bool, AllocError>
-    ensures { IfOk result (λ own. own ≡ true → HaveOwnLinks chart.now) }
+/// The links of the records so far that lead to no record: the last of them, and whether they rise.
+#[derive(Clone, Copy)]
+pub struct AbsentLinks {
+    pub top: Option<Link>,
+    pub rise: bool,
+}
+
+/// Whether the record at a place has the name of those before whose links lead to the same place. That place is marked.
+/// If it is marked already, the record before is looked at, since copies stand side by side.
+#[inline(always)]
+pub fn is_linked_once(chart: &SortedRecords, linked: &mut Vec<bool>, at: usize) -> bool
+    requires within { at < length chart.now }
+    requires size { length linked.old.items ≡ length chart.now }
+    requires marked { AreMarked chart.now linked.old.items at }
+    requires once { AreLinkedOnce chart.now at }
+    ensures size { length linked.new.items ≡ length chart.now }
+    ensures marked { result ≡ true → AreMarked chart.now linked.new.items (at + 1) }
+    ensures once { result ≡ true → AreLinkedOnce chart.now (at + 1) }
 {
-    if !are_linked_once(alloc, chart)? {
-        return Ok(false);
+    match chart.targets()[at] {
+        None => true,
+        Some(place) => links_there(chart.records(), chart.targets(), linked, place, at),
     }
-    if are_absent_once(chart) {
-        return Ok(true);
+}
+
+/// Notes the link of the record at a place, if it leads to no record.
+#[inline(always)]
+pub fn note_absent(chart: &SortedRecords, absent: &mut AbsentLinks, at: usize)
+    requires within { at < length chart.now }
+    requires before { AreAbsentTo chart.now at absent.old }
+    ensures { AreAbsentTo chart.now (at + 1) absent.new }
+{
+    if chart.targets()[at].is_none() {
+        let link = chart.records()[at].rec.next;
+        if !is_above(absent.top, link) {
+            absent.rise = false;
+        }
+        absent.top = Some(link);
     }
+}
+
+/// Whether any two records with one link, which leads to no record, have one name. These links are put in order.
+#[cold]
+pub fn are_absent_once(alloc: Global, chart: &SortedRecords) -> Result<bool, AllocError>
+    ensures { IfOk result (λ once. once ≡ true → AreAbsentOnce chart.now (length chart.now)) }
+{
     let mut absent = with_absent_links(alloc, chart)?;
     sort_by_link(&mut absent)?;
     match lowest_sharer(&absent) {
         None => Ok(true),
         Some(_) => Ok(false),
     }
-}
-
-/// Whether any two records whose links lead to one place have one name.
-fn are_linked_once(alloc: Global, chart: &SortedRecords) -> Result<bool, AllocError>
-    ensures { IfOk result (λ once. once ≡ true → AreLinkedOnce chart.now (length chart.now)) }
-{
-    let records = chart.records();
-    let targets = chart.targets();
-    let mut linked = vec![in alloc; false; records.len()]?;
-    for at in 0..records.len() {
-        if let Some(place) = targets[at] {
-            if !links_there(records, targets, &mut linked, place, at) {
-                return Ok(false);
-            }
-        }
-    }
-    Ok(true)
 }
 
 /// Notes that the link of a record leads to a place. Where one is noted already, whether it is that of the record
@@ -86,25 +103,6 @@ fn is_as_before(records: &[Found], targets: &[Option<u32>], place: u32, at: usiz
         Some(before) => before == place,
         None => false,
     }
-}
-
-/// Whether links that lead to no record rise in the order of names, so that no two of them are one.
-fn are_absent_once(chart: &SortedRecords) -> bool
-    ensures { result ≡ true → AreAbsentOnce chart.now (length chart.now) }
-{
-    let records = chart.records();
-    let targets = chart.targets();
-    let mut top = None;
-    for at in 0..records.len() {
-        if targets[at].is_none() {
-            let link = records[at].rec.next;
-            if !is_above(top, link) {
-                return false;
-            }
-            top = Some(link);
-        }
-    }
-    true
 }
 
 /// Whether a link is above another one, if there is one.

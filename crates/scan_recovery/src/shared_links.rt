@@ -2,29 +2,18 @@
 ghost use Rattle.std.specs.Prelude.{◌≡◌, IfOk, length};
 ghost use Rattle.record_list.specs.Records.{IsScanned};
 ghost use Rattle.record_list.specs.SoundList.{LinksDiffer};
-ghost use Rattle.sorted_records.specs.SortedRecords.{Sorts};
 ghost use Rattle.scan_recovery.specs.Searches.{FindsLowest, IsLowestSharer, share_link};
 
-use crate::own_links::have_own_links;
 use record_list::Found;
-use sorted_records::{SortedRecords, sort_by_link};
+use sorted_records::sort_by_link;
 use std::alloc::{AllocError, Global};
 use tx_types::{Rec, Slot};
 
 /// The lowest slot whose record breaks law 3: a record in a lower slot has its link and another name.
-/// The records are in order of their names too.
-pub fn lowest_shared_link(
-    alloc: Global,
-    chart: &SortedRecords,
-    list: &[Found],
-) -> Result<Option<Slot>, AllocError>
-    requires scanned { IsScanned list.now }
-    requires sorts { Sorts list.now chart.now }
+pub fn lowest_shared_link(alloc: Global, list: &[Found]) -> Result<Option<Slot>, AllocError>
+    requires { IsScanned list.now }
     ensures { IfOk result (FindsLowest (LinksDiffer list.now) list.now) }
 {
-    if have_own_links(alloc, chart)? {
-        return Ok(None);
-    }
     let mut by_link = list.to_vec(alloc)?;
     sort_by_link(&mut by_link)?;
     Ok(lowest_sharer(&by_link))

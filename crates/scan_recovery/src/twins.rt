@@ -1,11 +1,10 @@
-ghost use Rattle.std.specs.Prelude.{◌≡◌, ℕ, suc, ◌*◌, ◌<◌, ◌↔◌, true, IsTrue, All, length, IfOk, MatchResult, if◌then◌else◌};
+ghost use Rattle.std.specs.Prelude.{◌≡◌, ◌*◌, ◌<◌, ◌↔◌, true, IsTrue, All, length, IfOk, MatchResult, if◌then◌else◌};
 ghost use Rattle.tx_types.specs.Config.{slots_of};
 ghost use Rattle.flash_model.specs.Calls.{page_of};
 ghost use Rattle.flash_model.specs.Flash.{slot_at};
 ghost use Rattle.record_list.specs.Search.{FindsFirst};
 ghost use Rattle.sorted_records.specs.SortedRecords.{Sorts};
 ghost use Rattle.scan_recovery.specs.Reading.{ReadsAll, ReadsSome};
-ghost use Rattle.scan_recovery.specs.Searches.{NextDiffers};
 ghost use Rattle.scan_recovery.specs.Twins.{lowest_of, is_compared, compared, AgreesWithLowest, compared_to};
 
 use flash_model::{Broken, Flash};
@@ -35,7 +34,7 @@ pub fn first_contradiction<F: Flash>(
         ReadsAll (F.state flash.old) (F.state flash.new) (2 * compared_to list.now found))
         (λ _. ReadsSome (F.state flash.old) (F.state flash.new) true (2 * compared list.now)) }
 {
-    if names_differ(chart.records()) {
+    if chart.names_differ() {
         return Ok(None);
     }
     for at in 0..list.len() {
@@ -44,19 +43,6 @@ pub fn first_contradiction<F: Flash>(
         }
     }
     Ok(None)
-}
-
-/// Whether no record has the name of the one before it. Of records in order of their names no two have
-/// one then.
-fn names_differ(records: &[Found]) -> bool
-    ensures { IsTrue result ↔ ((k : ℕ) → suc k < length records.now → NextDiffers records.now k) }
-{
-    for at in 1..records.len() {
-        if records[at - 1].rec.has_name(records[at].rec.name()) {
-            return false;
-        }
-    }
-    true
 }
 
 /// Whether a record is equal to the lowest one of its name, and so are the bytes of the two slots.

@@ -8,3 +8,4 @@ pub mod Orbits
 pub mod Seen
 pub mod CurrentVersions
 pub mod Starts
+pub mod Names

@@ -64,9 +64,9 @@ fn all_keep_count(chart: &SortedRecords, orbits: &Orbits) -> bool
     true
 }
 
-/// Whether the record at this place keeps law 9.
+/// Whether the record at this place keeps law 9, where those of one name are equal.
 #[inline]
-fn keeps_count_at(chart: &SortedRecords, orbits: &Orbits, at: u32) -> bool
+pub fn keeps_count_at(chart: &SortedRecords, orbits: &Orbits, at: u32) -> bool
     requires namesakes { NamesakesAgree chart.now }
     requires orbits { AreOrbits (name_graph chart.now) orbits.now }
     requires within { at < length chart.now }

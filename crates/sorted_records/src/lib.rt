@@ -9,6 +9,7 @@ mod follow;
 mod group;
 mod in_order;
 mod minima;
+mod names;
 mod orbit;
 mod orbits;
 mod path_end;
@@ -19,7 +20,7 @@ mod seen;
 mod theorems;
 mod walks;
 
-pub use count_law::{counts, has_count, name_orbits};
+pub use count_law::{counts, has_count, keeps_count_at, name_orbits};
 pub use current_versions::CurrentVersions;
 pub use in_order::sort_by_link;
 pub use orbit::Orbit;

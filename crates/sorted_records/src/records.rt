@@ -1,10 +1,11 @@
-ghost use Rattle.std.specs.Prelude.{◌≡◌, ◌<◌, ◌^◌, [], Some, position, filter, IfOk, IfSome, length, slice_index_or};
+ghost use Rattle.std.specs.Prelude.{◌≡◌, ℕ, suc, ◌<◌, ◌^◌, true, [], Some, position, filter, IfOk, IfSome, length, slice_index_or};
 ghost use Rattle.tx_types.specs.declared.config.Protocol.TheVariants.{Bpcc};
 ghost use Rattle.record_list.specs.Current.{cur, responsible, straddling_upto};
 ghost use Rattle.record_list.specs.Records.{greatest, name_of, record_at, has_name, is_present, newest, next_older};
 ghost use Rattle.record_list.specs.Verdict.{link_of, back_of, straddling, why};
 ghost use Rattle.sorted_records.specs.Minima.{AreMinima};
 ghost use Rattle.sorted_records.specs.NameGraph.{name_graph};
+ghost use Rattle.sorted_records.specs.Names.{AreNames, NextDiffers};
 ghost use Rattle.sorted_records.specs.Orbits.{IsGraph, AreOrbits};
 ghost use Rattle.sorted_records.specs.SortedRecords.{IsInOrder, Sorts, list_of, link_graph, IsOrbitOfNewest};
 ghost use Rattle.sorted_records.specs.Starts.{AreStarts};
@@ -15,8 +16,9 @@ use crate::in_order::{
     back_of, find, find_near, first_namesake, link_of, newest, next_older, with_name,
 };
 use crate::minima::minima_of_many;
+use crate::names::Names;
 use crate::search::page_starts;
-use crate::walks::{orbits_of_newest, targets, why_from_orbit};
+use crate::walks::{targets_and_orbits, why_from_orbit};
 use crate::{Orbit, Orbits};
 use record_list::{Found, Verdict, Why};
 use std::alloc::{AllocError, Global};
@@ -28,9 +30,18 @@ use tx_types::{Link, Protocol};
 pub struct SortedRecords {
     records: Vec<Found>,
     starts: Vec<u32>,
+    names: Names,
     least: Option<Vec<u64>>,
     targets: Vec<Option<u32>>,
     orbits: Orbits,
+}
+
+/// Where the pages of records begin, what their names are, and the least back versions of many.
+#[derive(Drop)]
+struct Outline {
+    starts: Vec<u32>,
+    names: Names,
+    least: Option<Vec<u64>>,
 }
 
 /// The sorted records of a list, and the list where it is not in order: a list in order is their own.
@@ -53,42 +64,30 @@ impl Model for SortedRecords {
     ghost invariant = { SortedRecordsInvariant };
 }
 
-/// Where the pages of records begin that are in order, and, under Back Pointer Cyclic Commit alone, the least back
-/// versions of many.
+/// Where the pages of records begin that are in order, what their names are, and, under Back Pointer Cyclic Commit
+/// alone, the least back versions of many.
 fn starts_and_minima(
     alloc: Global,
     records: &[Found],
     protocol: Protocol,
-) -> Result<(Vec<u32>, Option<Vec<u64>>), AllocError>
+) -> Result<Outline, AllocError>
     requires order { IsInOrder records.now }
     requires few { length records.now < 2 ^ 32 }
-    ensures starts { IfOk result (λ r. AreStarts records.now r.0.items) }
-    ensures minima { IfOk result (λ r.
-        IfSome r.1 (λ least. AreMinima records.now [] least.items)) }
+    ensures starts { IfOk result (λ o. AreStarts records.now o.starts.items) }
+    ensures names { IfOk result (λ o. AreNames records.now (length records.now) o.names) }
+    ensures minima { IfOk result (λ o.
+        IfSome o.least (λ least. AreMinima records.now [] least.items)) }
 {
-    let starts = page_starts(alloc, records)?;
+    let (starts, names) = page_starts(alloc, records)?;
     let least = match protocol {
         Protocol::Scc => None,
         Protocol::Bpcc => minima_of_many(alloc, records, &starts, &[])?,
     };
-    Ok((starts, least))
-}
-
-/// The places that the links of records name, and where the links lead.
-fn targets_and_orbits(
-    alloc: Global,
-    records: &[Found],
-    starts: &[u32],
-) -> Result<(Vec<Option<u32>>, Orbits), AllocError>
-    requires order { IsInOrder records.now }
-    requires starts { AreStarts records.now starts.now }
-    requires few { length records.now < 2 ^ 32 }
-    ensures targets { IfOk result (λ r. r.0.items ≡ name_graph records.now) }
-    ensures orbits { IfOk result (λ r. AreOrbits (link_graph records.now) r.1) }
-{
-    let targets = targets(alloc, records, starts)?;
-    let orbits = orbits_of_newest(alloc, records, starts, &targets)?;
-    Ok((targets, orbits))
+    Ok(Outline {
+        starts,
+        names,
+        least,
+    })
 }
 
 impl SortedRecords {
@@ -148,11 +147,22 @@ impl SortedRecords {
         requires few { length records.items < 2 ^ 32 }
         ensures { IfOk result (λ chart. chart ≡ records.items) }
     {
-        let (starts, least) = starts_and_minima(alloc, &records, protocol)?;
-        let (targets, orbits) = targets_and_orbits(alloc, &records, &starts)?;
+        let outline = starts_and_minima(alloc, &records, protocol)?;
+        let (targets, orbits) = targets_and_orbits(
+            alloc,
+            &records,
+            &outline.starts,
+            outline.names,
+        )?;
+        let Outline {
+            starts,
+            names,
+            least,
+        } = outline;
         Ok(SortedRecords {
             records,
             starts,
+            names,
             least,
             targets,
             orbits,
@@ -177,6 +187,14 @@ impl SortedRecords {
         ensures few { length result.now < 2 ^ 32 }
     {
         self.records.as_slice()
+    }
+
+    /// Whether no record has the name of the one before it, so that no two have one.
+    #[inline]
+    pub fn names_differ(&self) -> bool
+        ensures { result ≡ true → (k : ℕ) → suc k < length self.now → NextDiffers self.now k }
+    {
+        self.names.differ
     }
 
     /// For each record the place of the first record that its link names.

@@ -1,21 +1,24 @@
 //! Where the records of a page begin and end among records in order of their names, and a search among
 //! those of a page.
-ghost use Rattle.std.specs.Prelude.{◌≡◌, ℕ, ◌<◌, ◌≤◌, ◌^◌, ◌-◌, ◌++◌, true, false, length, replicate, IfOk, OnOk};
+ghost use Rattle.std.specs.Prelude.{◌≡◌, ℕ, ◌+◌, ◌<◌, ◌≤◌, ◌^◌, ◌-◌, ◌++◌, true, false, length, replicate, IfOk, OnOk};
 ghost use Rattle.std.specs.List.Sorted.{IsPartitionPoint};
 ghost use Rattle.record_list.specs.Records.{name_of, record_at};
 ghost use Rattle.sorted_records.specs.SortedRecords.{is_below, IsInOrder};
+ghost use Rattle.sorted_records.specs.Names.{AreNames};
 ghost use Rattle.sorted_records.specs.Starts.{AreStarts};
 
+use crate::names::Names;
 use record_list::Found;
 use std::alloc::{AllocError, Global};
 use tx_types::Link;
 
-/// For each page up to the last one how many records stand before its own. Where that would be more
-/// than four numbers for a record, the rest is left out: there a search finds them.
-pub fn page_starts(alloc: Global, records: &[Found]) -> Result<Vec<u32>, AllocError>
+/// For each page up to the last one how many records stand before its own, and what their names are. Where that would
+/// be more than four numbers for a record, the rest is left out: there a search finds them.
+pub fn page_starts(alloc: Global, records: &[Found]) -> Result<(Vec<u32>, Names), AllocError>
     requires order { IsInOrder records.now }
     requires few { length records.now < 2 ^ 32 }
-    ensures { IfOk result (λ starts. AreStarts records.now starts.items) }
+    ensures starts { IfOk result (λ r. AreStarts records.now r.0.items) }
+    ensures names { IfOk result (λ r. AreNames records.now (length records.now) r.1) }
 {
     let pages = match records.last() {
         None => 0,
@@ -23,13 +26,37 @@ pub fn page_starts(alloc: Global, records: &[Found]) -> Result<Vec<u32>, AllocEr
     };
     let size = pages.min(records.len().saturating_mul(4));
     let mut starts = Vec::with_capacity(alloc, size)?;
+    let mut names = Names {
+        differ: true,
+        one_version: true,
+    };
     for at in 0..records.len() {
+        note_name(records, at, &mut names);
         let end = size.min(records[at].rec.page as usize + 1);
         if starts.len() < end {
             fill(&mut starts, end, at as u32)?;
         }
     }
-    Ok(starts)
+    Ok((starts, names))
+}
+
+/// Notes how the name of the record at a place differs from that of the one before, if there is one.
+#[inline(always)]
+fn note_name(records: &[Found], at: usize, names: &mut Names)
+    requires within { at < length records.now }
+    requires before { AreNames records.now at names.old }
+    ensures { AreNames records.now (at + 1) names.new }
+{
+    if at == 0 {
+        return;
+    }
+    let before = &records[at - 1].rec;
+    let rec = &records[at].rec;
+    if before.has_name(rec.name()) {
+        names.differ = false;
+    } else if before.page == rec.page {
+        names.one_version = false;
+    }
 }
 
 /// Adds a number as often as it takes to have this many.

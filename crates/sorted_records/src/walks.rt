@@ -3,24 +3,29 @@ ghost use Rattle.std.specs.Prelude.{◌≡◌, ◌<◌, ◌^◌, true, [], IfOk,
 ghost use Rattle.record_list.specs.Records.{has_name, record_at};
 ghost use Rattle.record_list.specs.Verdict.{why_below_newest};
 ghost use Rattle.sorted_records.specs.Minima.{AreMinima};
+ghost use Rattle.sorted_records.specs.Names.{AreNames};
 ghost use Rattle.sorted_records.specs.NameGraph.{name_graph};
 ghost use Rattle.sorted_records.specs.Orbits.{AreOrbits};
-ghost use Rattle.sorted_records.specs.SortedRecords.{IsInOrder, HaveOneVersion, EndsBelow, newest_target, link_graph, ending, why_from_orbit};
+ghost use Rattle.sorted_records.specs.SortedRecords.{IsInOrder, EndsBelow, newest_target, link_graph, ending, why_from_orbit};
 ghost use Rattle.sorted_records.specs.Starts.{AreStarts};
 
 use crate::group::straddling;
 use crate::in_order::{find_near, first_namesake, newest};
+use crate::names::Names;
 use crate::{Orbit, Orbits};
 use record_list::{Found, Why};
 use std::alloc::{AllocError, Global};
 use tx_types::{Link, Protocol};
 
+/// The places that links name, and those to which they lead.
+#[derive(Drop)]
+struct Graphs {
+    targets: Vec<Option<u32>>,
+    links: Vec<Option<u32>>,
+}
+
 /// For each record the place of the first record that its link names.
-pub fn targets(
-    alloc: Global,
-    records: &[Found],
-    starts: &[u32],
-) -> Result<Vec<Option<u32>>, AllocError>
+fn targets(alloc: Global, records: &[Found], starts: &[u32]) -> Result<Vec<Option<u32>>, AllocError>
     requires order { IsInOrder records.now }
     requires starts { AreStarts records.now starts.now }
     requires few { length records.now < 2 ^ 32 }
@@ -76,58 +81,49 @@ fn target(records: &[Found], starts: &[u32], at: u32, near: &mut usize) -> Optio
     }
 }
 
-/// The orbits of the links of newest records, by the places that links name: these are those to which links lead,
-/// where each record is of the newest version of its page.
-pub fn orbits_of_newest(
+/// The places that the links of records name, and the orbits of the links of newest records: the links lead to these
+/// places, where each record there is of the newest version of its page.
+pub fn targets_and_orbits(
     alloc: Global,
     records: &[Found],
     starts: &[u32],
-    targets: &[Option<u32>],
-) -> Result<Orbits, AllocError>
+    names: Names,
+) -> Result<(Vec<Option<u32>>, Orbits), AllocError>
     requires order { IsInOrder records.now }
     requires starts { AreStarts records.now starts.now }
     requires few { length records.now < 2 ^ 32 }
-    requires targets { targets.now ≡ name_graph records.now }
-    ensures { IfOk result (AreOrbits (link_graph records.now)) }
+    requires names { AreNames records.now (length records.now) names }
+    ensures targets { IfOk result (λ r. r.0.items ≡ name_graph records.now) }
+    ensures orbits { IfOk result (λ r. AreOrbits (link_graph records.now) r.1) }
 {
-    if have_one_version(records) {
-        return Orbits::new(alloc, targets);
+    if names.one_version {
+        let targets = targets(alloc, records, starts)?;
+        let orbits = Orbits::new(alloc, &targets)?;
+        return Ok((targets, orbits));
     }
-    let links = links(alloc, records, starts, targets)?;
-    Orbits::new(alloc, &links)
+    let found = find_graphs(alloc, records, starts)?;
+    let orbits = Orbits::new(alloc, &found.links)?;
+    Ok((found.targets, orbits))
 }
 
-/// Whether the records of each page have one version.
-fn have_one_version(records: &[Found]) -> bool
-    requires { IsInOrder records.now }
-    ensures { result ≡ true → HaveOneVersion records.now }
-{
-    for at in 1..records.len() {
-        let before = &records[at - 1].rec;
-        let rec = &records[at].rec;
-        if before.page == rec.page && before.version != rec.version {
-            return false;
-        }
-    }
-    true
-}
-
-/// For each record the place to which its link leads, by the place that it names: this, where it is that of
-/// a record of the newest version of its page.
-fn links(
-    alloc: Global,
-    records: &[Found],
-    starts: &[u32],
-    targets: &[Option<u32>],
-) -> Result<Vec<Option<u32>>, AllocError>
+/// For each record the place of the first record that its link names, and where the link leads: there, where that
+/// record is of the newest version of its page.
+fn find_graphs(alloc: Global, records: &[Found], starts: &[u32]) -> Result<Graphs, AllocError>
     requires order { IsInOrder records.now }
     requires starts { AreStarts records.now starts.now }
-    ensures { IfOk result (λ links. links.items ≡ map (newest_target records.now) targets.now) }
+    requires few { length records.now < 2 ^ 32 }
+    ensures targets { IfOk result (λ g. g.targets.items ≡ name_graph records.now) }
+    ensures links { IfOk result (λ g. g.links.items ≡ map (newest_target records.now) g.targets.items) }
 {
-    targets
-        .iter()
-        .map(|target| newest_target(records, starts, *target))
-        .collect(alloc)
+    let mut targets = Vec::with_capacity(alloc, records.len())?;
+    let mut links = Vec::with_capacity(alloc, records.len())?;
+    let mut near = 0;
+    for at in 0..records.len() {
+        let target = next_target(records, starts, &targets, at as u32, &mut near);
+        targets.push_reserved(target);
+        links.push_reserved(newest_target(records, starts, target));
+    }
+    Ok(Graphs { targets, links })
 }
 
 /// A place, where it is that of a record of the newest version of its page.

@@ -1,5 +1,5 @@
 -- Tables that are filled with the records of a scan.
-use Rattle.std.specs.Prelude.{◌≡◌, ◌≢◌, ℕ, replicate, true, ◌<◌, ◌≤◌, ◌⊎◌, List, length, map, slice_index, slice_index_or, Option, Some, None, option_and_then}
+use Rattle.std.specs.Prelude.{◌≡◌, ◌≢◌, ℕ, ◌==◌, if◌then◌else◌, max, replicate, true, ◌<◌, ◌≤◌, ◌⊎◌, List, length, map, slice_index, slice_index_or, Option, Some, None, option_and_then}
 use Rattle.std.specs.Prelude.{position, Contains}
 use Rattle.std.specs.Option.{option_map}
 use Rattle.tx_types.specs.declared.record.Link.{Link}
@@ -123,6 +123,17 @@ pub record ArePut (list : List Found) (numbers : List ℕ) (how : List Seen) (co
     (uses : List SlotUse) : Type 0 where
   pub size : length uses ≡ length how
   pub each : (at : ℕ) → at < length how → IsPut list numbers how count at (use_at uses at)
+
+-- the greatest mentions of the pages that a record names are raised, where they exist
+pub record IsMentioned (old new : List ℕ) (rec : Rec) : Type 0 where
+  pub once : List ℕ
+  pub size_once : length once ≡ length old
+  pub size_new : length new ≡ length once
+  pub own : (page : ℕ) → page < length old →
+      slice_index_or once page 0 ≡ max (slice_index_or old page 0) (if rec.page == page then rec.version else 0)
+  pub linked : (page : ℕ) → page < length once →
+      slice_index_or new page 0
+      ≡ max (slice_index_or once page 0) (if rec.next.page == page then rec.next.version else 0)
 
 -- the number at the place of a name
 abbrev pub number_by : List Found → List ℕ → Option Link → Option ℕ

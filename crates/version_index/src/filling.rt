@@ -1,6 +1,8 @@
 ghost use Rattle.std.specs.Prelude.{◌≡◌, ◌<◌, ◌≤◌, All, List, length, map, IfOk, OnOk};
+ghost use Rattle.std.specs.List.{range_with_len};
 ghost use Rattle.tx_types.specs.Config.{IsShape, slots_of, blocks_of};
 ghost use Rattle.flash_model.specs.Readings.{reads_blank_block};
+ghost use Rattle.record_list.specs.Records.{mention};
 ghost use Rattle.record_list.specs.SoundList.{PagesExist};
 ghost use Rattle.record_list.specs.declared.found.Found.{Found};
 ghost use Rattle.sorted_records.specs.SortedRecords.{Sorts};
@@ -12,14 +14,21 @@ ghost use Rattle.version_index.specs.Scanned.{CanFill};
 ghost use Rattle.version_index.specs.Tables.{notes_in};
 
 use crate::deciding::{decide_current, decide_records};
-use crate::holding::{hold_uses, slot_uses};
-use crate::numbering::number_records;
+use crate::holding::hold_uses;
+use crate::numbering::place_records;
 use flash_model::Seen;
 use record_list::Found;
 use slot_tables::{Tables, TablesBuilder};
 use sorted_records::{CurrentVersions, SortedRecords};
 use std::alloc::{AllocError, Global};
 use tx_types::{Block, Memory, Protocol, Shape};
+
+/// Tables that are filled, and the greatest version at which the records mention each page.
+#[derive(Drop)]
+pub struct Filled {
+    pub tables: TablesBuilder,
+    pub mentions: Vec<u64>,
+}
 
 /// Tables of slots that read so and hold the records of a list, in the order of their slots. Of the records it is known
 /// where their pages stand.
@@ -29,7 +38,7 @@ pub fn build_tables(
     logical: u32,
     seen: &[Seen],
     standing: &CurrentVersions,
-) -> Result<TablesBuilder, Memory>
+) -> Result<Filled, Memory>
     requires shape { IsShape shape }
     requires pages { logical ≤ slots_of shape }
     requires fills { (list : List Found) ×
@@ -37,31 +46,34 @@ pub fn build_tables(
     requires logical { standing.now.logical ≡ logical }
     requires exist { All (PagesExist logical) standing.now.list }
     requires few { length standing.now.list ≤ slots_of shape }
-    ensures reads { IfOk result (λ t. map seen_as (notes_in t) ≡ seen.now) }
+    ensures reads { IfOk result (λ f. map seen_as (notes_in f.tables) ≡ seen.now) }
     ensures found { (list : List Found) →
         CanFill logical seen.now list standing.now.list (blank_tables shape logical) →
-        IfOk result (λ t. found_in (notes_in t) ≡ list) }
-    ensures filled { IfOk result (AreFilled standing.now.protocol standing.now.list shape logical) }
+        IfOk result (λ f. found_in (notes_in f.tables) ≡ list) }
+    ensures filled { IfOk result (λ f.
+        AreFilled standing.now.protocol standing.now.list shape logical f.tables) }
+    ensures mentions { IfOk result (λ f.
+        f.mentions.items ≡ map (mention standing.now.list) (range_with_len 0 logical)) }
 {
-    let mut filling = TablesBuilder::new(alloc, shape, logical)?;
-    match fill(alloc, &mut filling, logical, seen, standing) {
-        Ok(()) => Ok(filling),
+    let mut tables = TablesBuilder::new(alloc, shape, logical)?;
+    match fill(alloc, &mut tables, logical, seen, standing) {
+        Ok(mentions) => Ok(Filled { tables, mentions }),
         Err(error) => {
-            drop(filling);
+            drop(tables);
             Err(error)
         }
     }
 }
 
 /// Fills tables of blank slots with slots that read so and hold the records of a list, in the order of their slots.
-/// Of the records it is known where their pages stand.
+/// Of the records it is known where their pages stand. The greatest version at which they mention each page is told.
 fn fill(
     alloc: Global,
     tables: &mut TablesBuilder,
     logical: u32,
     seen: &[Seen],
     standing: &CurrentVersions,
-) -> Result<(), Memory>
+) -> Result<Vec<u64>, Memory>
     requires fills { (list : List Found) × CanFill logical seen.now list standing.now.list tables.old }
     requires logical { standing.now.logical ≡ logical }
     requires exist { All (PagesExist logical) standing.now.list }
@@ -71,14 +83,15 @@ fn fill(
         OnOk result (found_in (notes_in tables.new) ≡ list) }
     ensures filled { OnOk result
         (AreFilled standing.now.protocol standing.now.list tables.old.shape logical tables.new) }
+    ensures mentions { IfOk result (λ mentions.
+        mentions.items ≡ map (mention standing.now.list) (range_with_len 0 logical)) }
 {
     let chart = standing.sorted_records();
-    let numbers = number_records(alloc, tables, chart.records())?;
-    let uses = slot_uses(alloc, chart.records(), &numbers, seen)?;
-    hold_uses(tables, &uses);
-    decide_current(tables, logical, standing, &numbers);
-    decide_records(tables, logical, standing, &numbers);
-    Ok(())
+    let placed = place_records(alloc, tables, logical, chart.records(), seen)?;
+    hold_uses(tables, &placed.uses);
+    decide_current(tables, logical, standing, &placed.numbers);
+    decide_records(tables, logical, standing, &placed.numbers);
+    Ok(placed.mentions)
 }
 
 /// Closes each block with a slot that is not blank, and no other one.

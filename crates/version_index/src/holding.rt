@@ -1,38 +1,18 @@
-ghost use Rattle.std.specs.Prelude.{◌≡◌, ◌<◌, ℕ, All, length, map, slice_set, IfOk};
+ghost use Rattle.std.specs.Prelude.{◌≡◌, ◌<◌, ℕ, length, map, slice_set, IfOk};
 ghost use Rattle.tx_types.specs.Config.{slots_of};
 ghost use Rattle.slot_tables.specs.Copies.{NumbersBelow};
 ghost use Rattle.slot_tables.specs.TablesState.{use_at};
 ghost use Rattle.slot_tables.specs.declared.slots.SlotUse.TheVariants as slot;
-ghost use Rattle.version_index.specs.Filling.{first_use, ArePut};
+ghost use Rattle.version_index.specs.Filling.{first_use};
 
 use flash_model::Seen;
-use record_list::Found;
 use slot_tables::{SlotUse, TablesBuilder};
 use std::alloc::{AllocError, Global};
-use tx_types::{Memory, Slot};
-
-/// How each slot is used that reads so, where these records with these numbers stand. Each record is put where it
-/// stands, without a search for its number.
-pub fn slot_uses(
-    alloc: Global,
-    records: &[Found],
-    numbers: &[u32],
-    seen: &[Seen],
-) -> Result<Vec<SlotUse>, Memory>
-    requires whole { length numbers.now ≡ length records.now }
-    requires within { All (λ f. f.slot.0 < length seen.now) records.now }
-    ensures { IfOk result (λ uses. ArePut records.now numbers.now seen.now
-        (length records.now) uses.items) }
-{
-    let mut uses = first_uses(alloc, seen)?;
-    for place in 0..records.len() {
-        put(&mut uses, records[place].slot, numbers[place]);
-    }
-    Ok(uses)
-}
+use tx_types::Slot;
 
 /// Sets that a slot holds the record of a number.
-fn put(uses: &mut Vec<SlotUse>, at: Slot, number: u32)
+#[inline(always)]
+pub fn put(uses: &mut Vec<SlotUse>, at: Slot, number: u32)
     requires { at.0 < length uses.old.items }
     ensures { uses.new.items ≡ slice_set uses.old.items at.0 (slot.Holds number) }
 {
@@ -40,7 +20,7 @@ fn put(uses: &mut Vec<SlotUse>, at: Slot, number: u32)
 }
 
 /// How each slot is used where no record stands.
-fn first_uses(alloc: Global, seen: &[Seen]) -> Result<Vec<SlotUse>, AllocError>
+pub fn first_uses(alloc: Global, seen: &[Seen]) -> Result<Vec<SlotUse>, AllocError>
     ensures { IfOk result (λ uses. uses.items ≡ map first_use seen.now) }
 {
     seen.iter().map(|how| first_use(*how)).collect(alloc)

@@ -12,7 +12,6 @@ mod reading;
 
 use crate::counting::count_written;
 use crate::filling::{build_tables, close_used, current_versions_of};
-use crate::mentioning::first_mentions;
 use flash_model::Seen;
 use record_list::{CommitRule, Found};
 use slot_tables::Tables;
@@ -87,9 +86,9 @@ impl<R: CommitRule> Index<R> {
         let Ok(shape) = config.check() else {
             unreachable!();
         };
-        let mentions = first_mentions(alloc, standing.sorted_records().records(), config.logical)?;
-        let filling = build_tables(alloc, shape, config.logical, seen, standing)?;
-        let mut tables = filling.finish(alloc)?;
+        let filled = build_tables(alloc, shape, config.logical, seen, standing)?;
+        let mentions = filled.mentions;
+        let mut tables = filled.tables.finish(alloc)?;
         close_used(&mut tables, seen);
         let written = count_written(&tables, config.logical);
         Ok(Index {

@@ -1,32 +1,20 @@
-ghost use Rattle.std.specs.Prelude.{◌≡◌, ℕ, ◌<◌, ◌==◌, if◌then◌else◌, max, length, slice_index_or, map, IfOk};
-ghost use Rattle.std.specs.List.{range_with_len};
-ghost use Rattle.record_list.specs.Records.{mention};
+ghost use Rattle.std.specs.Prelude.{◌≡◌, ℕ, ◌<◌, ◌==◌, if◌then◌else◌, max, length, slice_index_or};
 ghost use Rattle.judged_records.specs.IndexState.{raised, raised_to};
+ghost use Rattle.version_index.specs.Filling.{IsMentioned};
 
-use record_list::Found;
-use std::alloc::Global;
-use tx_types::{Link, Memory, Rec};
+use tx_types::{Link, Rec};
 
-/// The greatest version at which the records mention each page.
-pub fn first_mentions(alloc: Global, list: &[Found], logical: u32) -> Result<Vec<u64>, Memory>
-    ensures { IfOk result (λ mentions.
-        mentions.items ≡ map (mention list.now) (range_with_len 0 logical)) }
+/// Raises the greatest mentions of the pages that a record names, where they exist.
+#[inline(always)]
+pub fn mention(mentions: &mut Vec<u64>, rec: &Rec)
+    ensures { IsMentioned mentions.old.items mentions.new.items rec.now }
 {
-    let mut mentions = vec![in alloc; 0; logical as usize]?;
-    for found in list {
-        let Rec {
-            page,
-            version,
-            next,
-            ..
-        } = found.rec;
-        raise_existing(&mut mentions, Link { page, version });
-        raise_existing(&mut mentions, next);
-    }
-    Ok(mentions)
+    raise_existing(mentions, rec.name());
+    raise_existing(mentions, rec.next);
 }
 
 /// Raises the greatest mention of a page to that of a name, where the page exists.
+#[inline(always)]
 fn raise_existing(mentions: &mut Vec<u64>, name: Link)
     ensures size { length mentions.new.items ≡ length mentions.old.items }
     ensures raised { (page : ℕ) → page < length mentions.old.items →

@@ -1,5 +1,5 @@
 -- One reading of slots after another.
-use Rattle.scan_recovery.proofs.Common.{◌≡◌, ℕ, zero, suc, ◌+◌, ◌≤◌, Bool, false, refl, ◌∙◌, sym, ap, arith, FlashState, ReadsAll, ReadsSome}
+use Rattle.scan_recovery.proofs.Common.{ℕ, zero, suc, ◌+◌, ◌≤◌, Bool, false, refl, ◌∙◌, ap, arith, FlashState, ReadsAll, ReadsSome}
 use Rattle.flash_model.specs.Flash.{counted_times}
 use Rattle.flash_model.proofs.CallLemmas.{Carries-then, Carries-nothing}
 use Rattle.flash_model.proofs.ComingLemmas.{counted_times-then}

@@ -9,7 +9,7 @@ use Rattle.judged_records.proofs.OfNotes.FoundIn.{found}
 use Rattle.judged_records.proofs.OfReadings.LowestSlots.{lowest_to_go, none_to_go}
 use Rattle.judged_records.proofs.OfReadings.NumberedReadings.{waiting_number}
 use Rattle.judged_records.proofs.OfReadings.Readings.{going_reading, none_goes}
-use Rattle.version_index.specs.Going.{IsLowestOf, IsLowestIn}
+use Rattle.version_index.specs.Going.{IsLowestIn}
 use Rattle.version_index.proofs.OfReadings.KeptHomes.{holds_use, use_holds}
 use Rattle.version_index.proofs.OfTables.KeptNotes.{note_held, held_number, kept_found, numbering}
 use Rattle.version_index.proofs.OfCommit.Newest.{newest_number, no_number}

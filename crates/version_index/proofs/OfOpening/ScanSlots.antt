@@ -1,6 +1,8 @@
 -- The slots of a scan hold the numbers of their records.
-use Rattle.version_index.proofs.Common.{◌≡◌, ℕ, ◌+◌, ◌<◌, ◌≤◌, true, eqb, List, length, map, set, get_or, All, Contains, Some, None, refl, sym, ap, ◌∙◌, subst, inl, inr, arith, eq-eqb, option_map_or, position, get_or-map, false≢true, cases_eq, cases_lt, and_from, length-map, length-set, get_or-set_same, get_or-set_other, get_or_past, ext_get_or, at_from_Contains, Contains-get_or, none-some, all_from, slots_of, Link, Rec, Found, name_of, has_name, is_present, nothing, found_named, present_in, has_name_true, SlotUse, TablesState, record_at, use_at, Note, NamesAgree, AreNumbered, Seen, note_at, note_in, notes_in}
+use Rattle.version_index.proofs.Common.{◌≡◌, ℕ, ◌+◌, ◌<◌, ◌≤◌, true, eqb, List, [], ◌∷◌, ◌++◌, length, map, set, get_or, All, Contains, Some, None, refl, sym, ap, ◌∙◌, subst, inl, inr, arith, eq-eqb, option_map_or, position, get_or-map, false≢true, cases_eq, cases_lt, and_from, length-map, length-set, get_or-set_same, get_or-set_other, get_or_past, ext_get_or, at_from_Contains, Contains-get_or, none-some, all_from, slots_of, Link, Rec, Found, name_of, has_name, is_present, nothing, found_named, present_in, has_name_true, SlotUse, TablesState, record_at, use_at, Note, NamesAgree, AreNumbered, Seen, note_at, note_in, notes_in}
 use Rattle.std.proofs.Common.{subst₂}
+use Rattle.std.proofs.Math.ListN.{get_or-append}
+use Rattle.std.proofs.Math.Seq.{get_or-append_seam}
 use Rattle.list_lemmas.proofs.Positions.{position-all}
 use Rattle.record_list.specs.Records as records
 use Rattle.record_list.proofs.OfFacts.Names.{has_own_name}
@@ -224,6 +226,34 @@ put_more list numbers all count uses put low =
             ]
       ];
     }
+
+-- where the numbers go on, those so far are put as before
+put_on : (list : List Found) (numbers : List ℕ) (x : ℕ) (all : List Seen) (count : ℕ) (uses : List SlotUse) →
+    length numbers ≡ count → ArePut list numbers all count uses → ArePut list (numbers ++ x ∷ []) all count uses
+put_on list numbers x all count uses long put = record {
+  size = put.size;
+  each = λ at within. elim (put.each at within) [
+    | inl (j, less, stands, is) ↦ inl (
+      j,
+      less,
+      stands,
+      is ∙ ap slot.Holds (sym (get_or-append numbers (x ∷ []) 0 j
+          (omega arith))),
+    )
+    | inr none ↦ inr none
+  ];
+}
+
+-- one record more is put where it stands, with a number of its own
+pub put_next : (list : List Found) (numbers : List ℕ) (all : List Seen) (count : ℕ) (uses : List SlotUse) (x : ℕ) →
+    length numbers ≡ count → ArePut list numbers all count uses →
+    (get_or list count nothing).slot.0 < length uses →
+    ArePut list (numbers ++ x ∷ []) all (count + 1) (set uses (get_or list count nothing).slot.0 (slot.Holds x))
+put_next list numbers all count uses x long put low =
+    subst (λ n. ArePut list (numbers ++ x ∷ []) all (count + 1) (set uses (get_or list count nothing).slot.0
+    (slot.Holds n)))
+    (ap (λ i. get_or (numbers ++ x ∷ []) i 0) (sym long) ∙ get_or-append_seam numbers x [] 0)
+    (put_more list (numbers ++ x ∷ []) all count uses (put_on list numbers x all count uses long put) low)
 
 -- at first none is
 pub none_put : (list : List Found) (numbers : List ℕ) (all : List Seen) (uses : List SlotUse) →

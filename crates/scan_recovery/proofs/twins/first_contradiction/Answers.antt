@@ -1,5 +1,5 @@
 mod LoneNames
-use Rattle.scan_recovery.proofs.Common.{ℕ, suc, length, ◌<◌, ◌*◌, ◌∙◌, All, true, get_or, cond, sym, subst, arith, false≢true, get_or_default, slots_of, Found, nothing, ReadsAll, ReadsSome, NextDiffers, AgreesWithLowest}
+use Rattle.scan_recovery.proofs.Common.{ℕ, ◌<◌, ◌*◌, ◌∙◌, All, true, get_or, cond, sym, subst, arith, false≢true, get_or_default, slots_of, Found, nothing, ReadsAll, ReadsSome, AgreesWithLowest}
 use Rattle.std.proofs.lemmas.Result.{err_from_is_err_and}
 use Rattle.scan_recovery.proofs.twins.first_contradiction.Answers.LoneNames.{all_agree, none_read}
 use Rattle.scan_recovery.proofs.OfScan.ReadingSteps.{reads_nothing}
@@ -11,15 +11,13 @@ pub returns-then-names_differ-clause-first : goal.returns-then-names_differ-clau
 returns-then-names_differ-clause-first g c =
     let old = g.F.Flash.state c.args.flash.now in
     all_agree c.args.list.now c.args.chart.now c.requires.sorts
-    (subst (λ l. (k : ℕ) → suc k < length l → NextDiffers l k) c.records.ensures.records
-    (c.names_differ.ensures.0 c.if-names_differ.true))
+    (c.names_differ.ensures c.if-names_differ.true)
     old.shape.page_bytes old.image
 
 pub returns-then-names_differ-clause-reads : goal.returns-then-names_differ-clause-reads
 returns-then-names_differ-clause-reads g c =
     none_read c.args.list.now c.args.chart.now c.requires.sorts
-    (subst (λ l. (k : ℕ) → suc k < length l → NextDiffers l k) c.records.ensures.records
-    (c.names_differ.ensures.0 c.if-names_differ.true))
+    (c.names_differ.ensures c.if-names_differ.true)
     (g.F.Flash.state c.args.flash.now)
 
 pub loop-at-init : goal.loop-at-init

@@ -1,6 +1,10 @@
 pub mod Starts
+use Rattle.sorted_records.specs.Names.{AreNames}
 use Rattle.sorted_records.proofs.search.page_starts.Invariants.Starts.{HaveStarts}
 use Rattle.sorted_records.proofs.search.page_starts.Given as goal
 
 abbrev pub invariant-loop-at : goal.invariant-loop-at
-invariant-loop-at l = HaveStarts l.records l.size l.at l.starts.items
+invariant-loop-at l = record {
+  starts : HaveStarts l.records l.size l.at l.starts.items;
+  names : AreNames l.records l.at l.names;
+}

@@ -33,19 +33,19 @@ close_used-requires g c =
     ap (λ r. result_unwrap_or r (shape_of c.args.config)) (sym c.in-Ok.is ∙ c.check.ensures.exact ∙ c.requires.check) in
     c.requires.scan.1.reads
     ∙ sym (ap (λ (k : TablesState). slots_of k.shape) c.in_ok-tables.ensures
-    ∙ ap slots_of (c.in_ok-filling.ensures.filled.shape ∙ same))
+    ∙ ap slots_of (c.in_ok-filled.ensures.filled.shape ∙ same))
 
 pub count_written-written-requires : goal.count_written-written-requires
 count_written-written-requires g c =
     ap (λ (k : TablesState). length k.pages) (c.close_used.ensures
     ∙ ap (λ (k : TablesState). record k { closed = used_blocks k.shape c.args.seen.now }) c.in_ok-tables.ensures)
-    ∙ c.in_ok-filling.ensures.filled.pages
+    ∙ c.in_ok-filled.ensures.filled.pages
 
 pub invariant_of-result : goal.invariant_of-result
 invariant_of-result g c =
-    let t : TablesState = c.in_ok-filling.filling in
+    let t : TablesState = c.in_ok-filled.filled.tables in
     let its = c.args.config in
-    let m = c.in_ok-mentions.mentions.items in
+    let m = c.in_ok-filled.filled.mentions.items in
     let closed = used_blocks (shape_of its) c.args.seen.now in
     let t' : TablesState = record t { closed = closed } in
     let same : c.in-Ok.shape ≡ shape_of its =
@@ -53,25 +53,24 @@ invariant_of-result g c =
     let is : c.close_used.new.tables ≡ t' =
     c.close_used.ensures
     ∙ ap (λ (k : TablesState). record k { closed = used_blocks k.shape c.args.seen.now }) c.in_ok-tables.ensures
-    ∙ ap (λ s. record t { closed = used_blocks s c.args.seen.now }) (c.in_ok-filling.ensures.filled.shape ∙ same) in
+    ∙ ap (λ s. record t { closed = used_blocks s c.args.seen.now }) (c.in_ok-filled.ensures.filled.shape ∙ same) in
     let can = can_fill g.R.CommitRule.protocol its c.in-Ok.shape c.args.seen.now c.requires.scan.0 c.args.standing.now
     same c.requires.scan.1 in
-    let found = c.in_ok-filling.ensures.found c.requires.scan.0 can in
+    let found = c.in_ok-filled.ensures.found c.requires.scan.0 can in
     let filled = subst (λ p. AreFilled p c.args.standing.now.list (shape_of its) its.logical t) c.requires.protocol
     (subst (λ s. AreFilled c.args.standing.now.protocol c.args.standing.now.list s its.logical t) same
-    c.in_ok-filling.ensures.filled) in
+    c.in_ok-filled.ensures.filled) in
     let noted = fresh_noted _ its c.args.seen.now c.requires.scan.0 (noted_by its m t') c.requires.check
     c.in-Ok.ensures.bounds c.requires.rule
     c.requires.scan.1.reads c.requires.scan.1.slots c.requires.scan.1.sound (record {
       config = refl;
-      reads = c.in_ok-filling.ensures.reads;
+      reads = c.in_ok-filled.ensures.reads;
       found = found;
       pins = filled.pins;
       spare = filled.spare;
-      mentions = c.in_ok-mentions.ensures
-          ∙ mentions_sorted c.requires.scan.0 c.args.standing.now.list c.records.result.now c.requires.scan.1.sorts
-          (c.records.ensures.records ∙
-          c.sorted_records.ensures) (range_with_len 0 its.logical);
+      mentions = c.in_ok-filled.ensures.mentions
+          ∙ mentions_sorted c.requires.scan.0 c.args.standing.now.list c.requires.scan.1.sorts
+          (range_with_len 0 its.logical);
       closed = refl;
     }) in
     record {
@@ -86,12 +85,12 @@ invariant_of-result g c =
 pub returns : goal.returns
 returns g c own scan =
     let its = c.args.config in
-    let m = c.in_ok-mentions.mentions.items in
+    let m = c.in_ok-filled.filled.mentions.items in
     let same : c.in-Ok.shape ≡ shape_of its =
     ap (λ r. result_unwrap_or r (shape_of its)) (sym c.in-Ok.is ∙ c.check.ensures.exact ∙ c.requires.check) in
     let can = can_fill g.R.CommitRule.protocol its c.in-Ok.shape c.args.seen.now own c.args.standing.now same scan in
-    let filled = c.in_ok-filling.ensures.filled in
-    let t : TablesState = c.in_ok-filling.filling in
+    let filled = c.in_ok-filled.ensures.filled in
+    let t : TablesState = c.in_ok-filled.filled.tables in
     let is : c.close_used.new.tables ≡ record t { closed = used_blocks (shape_of its) c.args.seen.now } =
     c.close_used.ensures
     ∙ ap (λ (k : TablesState). record k { closed = used_blocks k.shape c.args.seen.now }) c.in_ok-tables.ensures
@@ -99,13 +98,12 @@ returns g c own scan =
     subst (λ (k : TablesState). IsNotedFrom its c.args.seen.now own (noted_by its m k))
     (sym is) (record {
       config = refl;
-      reads = c.in_ok-filling.ensures.reads;
-      found = c.in_ok-filling.ensures.found own can;
+      reads = c.in_ok-filled.ensures.reads;
+      found = c.in_ok-filled.ensures.found own can;
       pins = filled.pins;
       spare = filled.spare;
-      mentions = c.in_ok-mentions.ensures
-          ∙ mentions_sorted own c.args.standing.now.list c.records.result.now scan.sorts (c.records.ensures.records ∙
-          c.sorted_records.ensures) (range_with_len 0 its.logical);
+      mentions = c.in_ok-filled.ensures.mentions
+          ∙ mentions_sorted own c.args.standing.now.list scan.sorts (range_with_len 0 its.logical);
       closed = refl;
     })
 

@@ -1,0 +1,76 @@
+-- One record after the other gets its number, is put where it stands, and raises the mentions.
+use Rattle.version_index.proofs.Common.{◌<◌, ◌+◌, length, get_or, nothing, take, take_all, arith, ap, ◌∙◌, ◌≡◌, subst, sym}
+use Rattle.std.proofs.Common.{rules}
+use Rattle.std.proofs.lemmas.List.{get_or-replicate}
+use Rattle.version_index.specs.Filling.{ArePut}
+use Rattle.judged_records.proofs.OfChanges.Mentions.{mentions_more, mentions_are}
+use Rattle.version_index.proofs.OfOpening.ScanNumbers.{IsNumberingSo, start_numbering, its_page, its_free, its_order, number_more}
+use Rattle.version_index.proofs.OfOpening.ScanSlots.{none_put, put_next}
+use Rattle.version_index.proofs.numbering.place_records.Goals as goal
+
+pub loop-found-init : goal.loop-found-init
+loop-found-init c =
+    let k = c.args.tables.now in
+    record {
+      numbering = subst (λ n. IsNumberingSo k.shape (length k.pages) c.args.records.now n k 0)
+          (sym c.in_ok-numbers.ensures.items)
+          (start_numbering k.shape (length k.pages) c.args.records.now k c.requires.blank);
+      room = search rules;
+      put = none_put c.args.records.now c.in_ok-numbers.numbers.items c.args.seen.now
+          c.in_ok-uses.uses.items c.in_ok-uses.ensures;
+      mentions = record {
+        size = search rules;
+        each = λ page low.
+            ap (λ l. get_or l page 0) (c.in_ok-mentions.ensures.items_if_clones_equal (λ y same. same))
+            ∙ get_or-replicate c.args.logical page 0 0 low;
+      };
+    }
+
+pub number_of-number-requires-clause-page : goal.number_of-number-requires-clause-page
+number_of-number-requires-clause-page c = its_page _ _ _ _ _ _ c.loop-found.invariant.numbering
+    c.loop-found-test.true c.requires.pages
+
+pub number_of-number-requires-clause-free : goal.number_of-number-requires-clause-free
+number_of-number-requires-clause-free c = its_free _ _ _ _ _ _ c.loop-found.invariant.numbering
+    c.loop-found-test.true c.requires.few
+
+pub number_of-number-requires-clause-order : goal.number_of-number-requires-clause-order
+number_of-number-requires-clause-order c = its_order _ _ _ _ _ _ c.loop-found.invariant.numbering
+    c.loop-found-test.true c.requires.order
+
+pub loop-found-preserved : goal.loop-found-preserved
+loop-found-preserved c =
+    let k = c.args.tables.now in
+    let t = c.number_of-number.new.tables in
+    let records = c.args.records.now in
+    let at = c.loop-found.found-index in
+    let before = c.loop-found.invariant in
+    let low : (get_or records at nothing).slot.0 < length c.loop-found.uses.items =
+    rw before.put.size (c.requires.within at nothing c.loop-found-test.true) in
+    let said = c.mention.ensures in
+    record {
+      numbering = subst (λ n. IsNumberingSo k.shape (length k.pages) records n t (at + 1))
+          (sym c.push_reserved.ensures.items)
+          (number_more _ _ _ _ _ _ before.numbering c.loop-found-test.true c.requires.agree t
+          c.number_of-number.result c.number_of-number.ensures.number);
+      room = rw c.push_reserved.ensures.capacity before.room;
+      put = rw (c.push_reserved.ensures.items, c.put.ensures) (put_next records c.loop-found.numbers.items
+          c.args.seen.now at c.loop-found.uses.items c.number_of-number.result before.numbering.long before.put low);
+      mentions = mentions_more records at c.args.logical c.loop-found.mentions.items said.once
+          c.mention.new.mentions.items c.loop-found-test.true before.mentions said.size_once said.size_new said.own
+          said.linked;
+    }
+
+pub returns-clause-mentions : goal.returns-clause-mentions
+returns-clause-mentions c =
+    mentions_are c.args.records.now (take c.loop-found.found-index c.args.records.now) c.args.logical
+    c.loop-found.mentions.items
+    (take_all c.loop-found.found-index c.args.records.now (omega arith)) c.loop-found.invariant.mentions
+
+pub returns-clause-put : goal.returns-clause-put
+returns-clause-put c =
+    let end = c.loop-found-test.false in
+    let most = c.loop-found.auto.found-index-end in
+    let all : c.loop-found.found-index ≡ length c.args.records.now = omega arith in
+    subst (λ n. ArePut c.args.records.now c.loop-found.numbers.items c.args.seen.now n c.loop-found.uses.items) all
+    c.loop-found.invariant.put
