@@ -1,5 +1,5 @@
 -- Programs that are loaded are of different slots, since they are of different dies.
-use Rattle.live_flash.proofs.Common.{◌≡◌, ◌≢◌, ℕ, zero, suc, ◌==◌, ◌||◌, ◌++◌, true, false, List, [], ◌∷◌, drop, map, Option, Some, None, All, refl, sym, ap, subst, ◌∙◌, inl, inr, arith, Shape, Slot, slots_in}
+use Rattle.live_flash.proofs.Common.{◌≡◌, ◌≢◌, ℕ, zero, suc, ◌||◌, ◌++◌, true, false, List, [], ◌∷◌, drop, map, Option, Some, None, All, refl, sym, ap, subst, ◌∙◌, inl, inr, arith, Shape, Slot, slots_in}
 use Rattle.std.specs.Prelude.{AllPairs}
 use Rattle.std.proofs.lemmas.Bool.{ne_eqb, or_cases}
 use Rattle.std.proofs.lemmas.List.Elements.{All-head, All-tail}

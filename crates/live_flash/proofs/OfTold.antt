@@ -215,7 +215,7 @@ lose_more shape image slots more file all loses =
       λ k inside. ⊎_elim (λ same. inl same) (λ none. inr (all k none.0, none.1)) (r.1 k inside),
     ))
 
-front_back : (waiting : List Slot) (at : Slot) (k : ℕ) → slots_in (waiting ++ at ∷ []) k ≡ true →
+pub front_back : (waiting : List Slot) (at : Slot) (k : ℕ) → slots_in (waiting ++ at ∷ []) k ≡ true →
     slots_in (at ∷ waiting) k ≡ true
 front_back waiting at k e = elim (cases_Bool (slots_in waiting k)) [
   | inl wait ↦ in_front at waiting k wait

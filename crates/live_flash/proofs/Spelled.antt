@@ -1,9 +1,9 @@
 -- A file that was written wholly and is durable follows the flash that it spells.
-use Rattle.live_flash.proofs.Common.{◌≡◌, ℕ, zero, suc, ◌+◌, ◌-◌, ◌*◌, ◌<◌, ◌≤◌, false, List, [], ◌∷◌, ◌++◌, length, get_or, All, refl, ap, subst, ◌∙◌, inl, inr, arith, slots_of, Shape, Contents, blank, damaged, complete, slot_at, IsWhole, IsImage, cell_bytes, FileState, zeros, erased, slot_bytes, IsSlot, Holds, Follows, IsOpened, IsLiveFile, LeavesCounted}
+use Rattle.live_flash.proofs.Common.{◌≡◌, ℕ, ◌+◌, ◌*◌, ◌<◌, ◌≤◌, false, List, [], ◌∷◌, ◌++◌, length, get_or, All, refl, ap, subst, ◌∙◌, inl, inr, arith, slots_of, Contents, blank, damaged, complete, slot_at, IsWhole, IsImage, cell_bytes, FileState, zeros, erased, slot_bytes, IsSlot, Holds, Follows, IsOpened, IsLiveFile, LeavesCounted}
 use Rattle.std.specs.List.{flat_map}
 use Rattle.std.specs.Int.{w32, to_le_bytes}
 use Rattle.std.proofs.lemmas.Bool.{cases_lt, both_ways}
-use Rattle.std.proofs.lemmas.List.{get_or_past, length-append, length-replicate, get_or_append_left, get_or-append-add}
+use Rattle.std.proofs.lemmas.List.{get_or_past, get_or_append_left, get_or-append-add}
 use Rattle.std.proofs.lemmas.List.Elements.{All-get_or}
 use Rattle.list_lemmas.proofs.Bytes.{IsBytes}
 use Rattle.list_lemmas.proofs.Chunks.{chunk_end}
@@ -11,8 +11,6 @@ use Rattle.tx_types.specs.Config.{shape_of}
 use Rattle.tx_types.specs.declared.config.Config.{Config}
 use Rattle.flash_model.specs.Flash.{Extras}
 use Rattle.file_flash.specs.Opening.{IsDurable}
-use Rattle.image_file.proofs.ImageLemmas.{length-cell_of}
-use Rattle.zero_count.proofs.WholeLemmas.{length_counted}
 use Rattle.live_image.specs.Slots.{live_slot}
 use Rattle.live_image.proofs.Reading.{damaged_by_last}
 use Rattle.live_file.specs.Spelling.{live_header, live_spelling}

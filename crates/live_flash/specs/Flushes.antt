@@ -9,6 +9,7 @@ use Rattle.live_flash.specs.Losing.{LosesOnly}
 -- each slot as it is; where it failed, a loss leaves each slot as it is, or blank where it waited.
 pub record Flushes (old new : FileFlashState) (result : Result (Unit {0}) NotDurable) : Type 0 where
   pub stays : new.memory ≡ old.memory
+  pub config : new.config ≡ old.config
   pub answer : is_err result ≡ new.failed
   pub none : OnOk result (new.waiting ≡ [])
   pub durable : OnOk result (IfSome new.file (LosesOnly new.memory.shape new.memory.image []))

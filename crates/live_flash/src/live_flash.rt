@@ -1,11 +1,13 @@
-ghost use Rattle.std.specs.Prelude.{◌≡◌, ◌<◌, ◌⊎◌, length, true, false, [], ◌∷◌, ◌++◌, Ok, IfOk, IfSome, OnOk};
+ghost use Rattle.std.specs.Prelude.{◌≡◌, ◌<◌, ◌≤◌, ◌⊎◌, ℕ, length, true, false, [], ◌∷◌, ◌++◌, Some, Ok, IfOk, IfSome, OnOk};
 ghost use Rattle.std.specs.Result.{is_err};
 ghost use Rattle.tx_types.specs.Config.{checked, shape_of, slots_of, blocks_of};
 ghost use Rattle.flash_model.specs.Operations.{CanProgram, CanDo, program, erase, fire};
 ghost use Rattle.flash_model.specs.Calls.{Reads, ReadsSpareArea, Programs, Erases, Operates};
+ghost use Rattle.flash_model.specs.Arms.{TurnsOn, ArmsCut, ArmsFault, ArmsBadRead};
 ghost use Rattle.flash_model.specs.Firing.{no_loads, loads_in, IsFreeAt, with_load};
 ghost use Rattle.mem_flash.specs.Breaking.{broken_by, fire_broken_by, answered, operated, fired, after_read};
 ghost use Rattle.file_flash.specs.FileFlashState.{untold, slots_of_loads, IsFrozen, LosesPower};
+ghost use Rattle.file_flash.specs.Following.{slots_in};
 ghost use Rattle.image_file.specs.Spelling.{Spells};
 ghost use Rattle.live_flash.specs.Losing.{LosesOnly, LosesBetween, LeavesLive};
 ghost use Rattle.live_flash.specs.Flushes.{Flushes};
@@ -114,6 +116,7 @@ impl<S: Store + Drop> Flash for LiveFlash<S> {
             at.0 into.new spare_area.new result }
         ensures next { self.old.failed ≡ false → self.new ≡ record self.old { memory = after_read self.old.memory } }
         ensures failed { self.old.failed ≡ true → (is_err result ≡ true) × IsFrozen self.old self.new }
+        ensures config { self.new.config ≡ self.old.config }
     {
         if self.failed {
             self.memory.arm_bad_read(1);
@@ -134,6 +137,7 @@ impl<S: Store + Drop> Flash for LiveFlash<S> {
             at.0 spare_area.new result }
         ensures next { self.old.failed ≡ false → self.new ≡ record self.old { memory = after_read self.old.memory } }
         ensures failed { self.old.failed ≡ true → (is_err result ≡ true) × IsFrozen self.old self.new }
+        ensures config { self.new.config ≡ self.old.config }
     {
         if self.failed {
             self.memory.arm_bad_read(1);
@@ -156,6 +160,8 @@ impl<S: Store + Drop> Flash for LiveFlash<S> {
         ensures answer { self.new.failed ≡ false → result ≡ answered (broken_by self.old.memory) }
         ensures loses { self.old.failed ≡ false → IfSome self.new.file
             (LosesOnly self.new.memory.shape self.new.memory.image (at ∷ self.old.waiting)) }
+        ensures waits { (k : ℕ) → slots_in self.new.waiting k ≡ true → slots_in (at ∷ self.old.waiting) k ≡ true }
+        ensures config { self.new.config ≡ self.old.config }
         ensures power { LosesPower self.new result }
         ensures frozen { self.old.failed ≡ true → IsFrozen self.old self.new }
     {
@@ -185,6 +191,7 @@ impl<S: Store + Drop> Flash for LiveFlash<S> {
         ensures loses { self.old.failed ≡ false → IfSome self.new.file (λ file.
             LosesOnly self.old.memory.shape self.old.memory.image self.old.waiting file
             ⊎ LosesBetween self.old.memory.shape self.old.memory.image self.new.memory.image file) }
+        ensures config { self.new.config ≡ self.old.config }
         ensures power { LosesPower self.new result }
         ensures frozen { self.old.failed ≡ true → IsFrozen self.old self.new }
     {
@@ -212,22 +219,47 @@ impl<S: Store + Drop> Flash for LiveFlash<S> {
 }
 
 impl<S: Store + Drop> Power for LiveFlash<S> {
-    fn power_on(&mut self) {
+    fn power_on(&mut self)
+        ensures exact { self.new ≡ record self.old { memory = record self.old.memory { live = true } } }
+        ensures power { TurnsOn (untold self.old.memory) (untold self.new.memory) }
+    {
         self.memory.power_on();
     }
 }
 
 /// What is armed breaks the flash in memory, and the file follows.
 impl<S: Store + Drop> Arms for LiveFlash<S> {
-    fn arm_cut(&mut self, count: u32, outcome: Outcome) {
+    fn arm_cut(&mut self, count: u32, outcome: Outcome)
+        requires { 1 ≤ count }
+        ensures exact { self.new ≡ record self.old {
+          memory = record self.old.memory {
+            armed = record self.old.memory.armed { cut = Some (record { count = count; outcome = outcome }) };
+          };
+        } }
+        ensures arms { ArmsCut (untold self.old.memory) (untold self.new.memory) count outcome }
+    {
         self.memory.arm_cut(count, outcome);
     }
 
-    fn arm_fault(&mut self, count: u32, outcome: Outcome) {
+    fn arm_fault(&mut self, count: u32, outcome: Outcome)
+        requires { 1 ≤ count }
+        ensures exact { self.new ≡ record self.old {
+          memory = record self.old.memory {
+            armed = record self.old.memory.armed { fault = Some (record { count = count; outcome = outcome }) };
+          };
+        } }
+        ensures arms { ArmsFault (untold self.old.memory) (untold self.new.memory) count outcome }
+    {
         self.memory.arm_fault(count, outcome);
     }
 
-    fn arm_bad_read(&mut self, count: u32) {
+    fn arm_bad_read(&mut self, count: u32)
+        requires { 1 ≤ count }
+        ensures exact { self.new ≡ record self.old {
+          memory = record self.old.memory { armed = record self.old.memory.armed { bad_read = Some count } };
+        } }
+        ensures arms { ArmsBadRead (untold self.old.memory) (untold self.new.memory) count }
+    {
         self.memory.arm_bad_read(count);
     }
 }
@@ -292,6 +324,9 @@ impl<S: Store + Drop> Wide for LiveFlash<S> {
         ensures loses { self.old.failed ≡ false → IfSome self.new.file
             (LosesOnly self.new.memory.shape self.new.memory.image
             (self.old.waiting ++ slots_of_loads (loads_in self.old.memory.registers))) }
+        ensures waits { (k : ℕ) → slots_in self.new.waiting k ≡ true →
+            slots_in (self.old.waiting ++ slots_of_loads (loads_in self.old.memory.registers)) k ≡ true }
+        ensures config { self.new.config ≡ self.old.config }
         ensures power { LosesPower self.new result }
         ensures frozen { self.old.failed ≡ true → IsFrozen self.old self.new }
     {

@@ -95,6 +95,8 @@ pub(crate) fn follow_slots<S: Store + Drop>(
     ensures opened { IfSome (S.told follower.new.store) (IsOpened memory.now.shape) }
     ensures kept { (head : List ℕ) → IfSome (S.told follower.old.store) (IsLiveFile memory.now.shape head) →
         IfSome (S.told follower.new.store) (IsLiveFile memory.now.shape head) }
+    ensures waits { (k : ℕ) → slots_in follower.new.waiting.items k ≡ true →
+        slots_in (follower.old.waiting.items ++ slots_loaded slots.now) k ≡ true }
     ensures follows { IfSome (S.told follower.old.store)
         (Follows memory.now.shape memory.now.image follower.old.waiting.items (slots_loaded slots.now)) →
         OnOk result (IfSome (S.told follower.new.store)

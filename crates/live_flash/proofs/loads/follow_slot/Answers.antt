@@ -1,4 +1,4 @@
-use Rattle.live_flash.proofs.Common.{◌≡◌, ◌++◌, ◌∷◌}
+use Rattle.live_flash.proofs.Common.{◌++◌, ◌∷◌}
 use Rattle.file_flash.specs.Loads.{slots_loaded}
 use Rattle.live_flash.proofs.OfTold.{in_left, in_right, loses_now}
 use Rattle.live_flash.proofs.loads.follow_slot.Goals as goal

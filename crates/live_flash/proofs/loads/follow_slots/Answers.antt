@@ -1,4 +1,4 @@
-use Rattle.live_flash.proofs.Common.{◌≡◌, ◌++◌, ℕ, ◌<◌, ◌+◌, ◌∷◌, List, [], true, drop, length, get_or, IfSome, arith, sym, subst, ◌∙◌, Slot, None, Follows, LosesOnly}
+use Rattle.live_flash.proofs.Common.{◌≡◌, ◌++◌, ◌<◌, ◌+◌, ◌∷◌, [], drop, length, get_or, IfSome, arith, sym, subst, ◌∙◌, None, Follows, LosesOnly}
 use Rattle.std.proofs.lemmas.List.{drop_more, drop_all}
 use Rattle.file_flash.specs.Loads.{slots_loaded}
 use Rattle.file_flash.proofs.Loading.{within_more}
@@ -24,6 +24,14 @@ returns-in_err-follow_slot-clause-loses g c = λ f.
     lose_more m.shape m.image (now ++ slots_loaded (drop n slots)) (waiting ++ slots_loaded slots) new
     (more_lost now waiting slots n c.loop-slot.invariant.within)
     (subst (λ xs. IfSome new (LosesOnly m.shape m.image (now ++ slots_loaded xs))) (sym rest) loses)
+
+pub returns-in_err-follow_slot-clause-waits : goal.returns-in_err-follow_slot-clause-waits
+returns-in_err-follow_slot-clause-waits g c =
+    let slots = c.args.slots.now in
+    let n = c.loop-slot.slot-index in
+    let low : n < length slots = omega arith in
+    within_more c.loop-slot.follower.waiting.items c.follow_slot.new.follower.waiting.items
+    c.args.follower.now.waiting.items slots n None low c.loop-slot.invariant.within c.in_err-follow_slot.ensures.waits
 
 pub loop-slot-preserved : goal.loop-slot-preserved
 loop-slot-preserved g c =

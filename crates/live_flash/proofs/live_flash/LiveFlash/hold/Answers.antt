@@ -1,4 +1,4 @@
-use Rattle.live_flash.proofs.Common.{◌≡◌, ◌<◌, [], length, map, replicate, None, IfSome, sym, ap, subst, ◌∙◌, rules, Shape, FileState, IsImage, AreProgrammed, IsProgrammed, slot_bytes, IsOpened, IsLiveFile, Follows, LeavesCounted}
+use Rattle.live_flash.proofs.Common.{◌≡◌, [], length, map, replicate, None, IfSome, sym, ap, subst, ◌∙◌, rules, Shape, IsImage, AreProgrammed, IsProgrammed, slot_bytes, IsOpened, IsLiveFile, Follows, LeavesCounted}
 use Rattle.std.proofs.lemmas.List.{length-replicate}
 use Rattle.std.proofs.lemmas.List.Elements.{All-nil}
 use Rattle.list_lemmas.proofs.Bytes.{IsBytes-all}

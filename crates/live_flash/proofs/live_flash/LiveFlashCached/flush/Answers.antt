@@ -16,6 +16,7 @@ returns-clause-flushes g c =
     let ok = sym c.is_err.ensures.value ∙ c.if-is_err.false in
     rw (← c.self.view_is) (record {
       stays = refl;
+      config = refl;
       answer = search rules;
       none = on_ok (c.flush-flushed.new.self.waiting.items ≡ []) c.flush-flushed.result ok c.flush-flushed.ensures.none;
       durable = loses_now m.shape m.image [] [] [] new c.shape.ensures.whole (none_in []) (none_in [])

@@ -1,4 +1,4 @@
-use Rattle.live_flash.proofs.Common.{◌≡◌, ◌++◌, [], length, map, IfSome, refl, sym, ap, subst, ◌∙◌, arith, Shape, IsLiveFile, AreProgrammed, Follows, LosesOnly, LeavesCounted, slot_bytes}
+use Rattle.live_flash.proofs.Common.{◌≡◌, ◌++◌, [], length, map, IfSome, refl, sym, ap, subst, ◌∙◌, arith, Shape, IsLiveFile, AreProgrammed, Follows, LosesOnly, LeavesCounted, slot_bytes, slots_in, true}
 use Rattle.std.proofs.Common.{replicate, None}
 use Rattle.std.specs.Result.{is_err}
 use Rattle.std.proofs.lemmas.List.{with_items_is, length-replicate}
@@ -147,6 +147,14 @@ returns-then-is_err-clause-loses g c = λ live.
     (subst (λ (x : MemFlashState). IfSome new (LosesOnly x.shape x.image (waiting ++ due))) (sym lost)
     (subst (λ d. IfSome new (LosesOnly m.shape m.image (waiting ++ d))) slots loses))
 
+pub returns-then-is_err-clause-waits : goal.returns-then-is_err-clause-waits
+returns-then-is_err-clause-waits g c =
+    let waiting = c.self.inside.follower.waiting.items in
+    let slots : slots_loaded c.deref.result.now ≡ slots_of_loads (loads_in c.self.inside.memory.registers) =
+    ap slots_loaded (c.deref.ensures.value ∙ c.self.invariant.loaded) ∙ loaded_slots c.self.inside.memory.registers in
+    rw (← c.self.view_is)
+    (λ k e. subst (λ d. slots_in (waiting ++ d) k ≡ true) slots (c.follow_slots-followed.ensures.waits k e))
+
 pub returns-then-is_err-clause-power : goal.returns-then-is_err-clause-power
 returns-then-is_err-clause-power g c = λ failed.
     let s = c.self.inside.memory in
@@ -198,6 +206,14 @@ invariant_of-self-else-is_err g c =
     (λ x. on_ok (AreProgrammed m.image c.follow_slots-followed.new.follower.waiting.items)
     c.follow_slots-followed.result ok
     c.follow_slots-followed.ensures.programmed)
+
+pub returns-clause-waits : goal.returns-clause-waits
+returns-clause-waits g c =
+    let waiting = c.self.inside.follower.waiting.items in
+    let slots : slots_loaded c.deref.result.now ≡ slots_of_loads (loads_in c.self.inside.memory.registers) =
+    ap slots_loaded (c.deref.ensures.value ∙ c.self.invariant.loaded) ∙ loaded_slots c.self.inside.memory.registers in
+    rw (← c.self.view_is)
+    (λ k e. subst (λ d. slots_in (waiting ++ d) k ≡ true) slots (c.follow_slots-followed.ensures.waits k e))
 
 pub returns-clause-loses : goal.returns-clause-loses
 returns-clause-loses g c = λ live.
