@@ -1,5 +1,5 @@
 -- How a file is opened, and why it is not.
-use Rattle.std.proofs.Common.{◌≡◌, ◌⊎◌, ℕ, List, [], Bool, true, false, nat_eq, Option, None, Some, Result, Ok, Err, IfSome, IfOk, refl, sym, ap, subst, subst₂, ◌∙◌, inl, inr, String, Global, string_bytes}
+use Rattle.std.proofs.Common.{◌≡◌, ◌⊎◌, ℕ, List, [], true, false, nat_eq, Option, None, Some, Result, Ok, Err, IfSome, IfOk, refl, sym, ap, subst, subst₂, ◌∙◌, inl, inr, String, Global, string_bytes}
 use Rattle.std.specs.List.{starts_with}
 use Rattle.std.specs.declared.alloc.AllocError.{AllocError}
 use Rattle.tx_types.specs.Config.{shape_of}

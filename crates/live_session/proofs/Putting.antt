@@ -1,5 +1,5 @@
 -- An image file takes the place of a live file when a session is closed.
-use Rattle.std.proofs.Common.{◌≡◌, ℕ, ◌<◌, true, false, List, [], length, Option, None, Some, Result, Ok, Err, IfSome, OnOk, is_err, refl, sym, ap, subst, ◌∙◌, option_map, inl, inr, arith}
+use Rattle.std.proofs.Common.{◌≡◌, ℕ, true, false, List, [], Option, None, Some, Result, Ok, Err, IfSome, OnOk, is_err, refl, sym, ap, subst, ◌∙◌, option_map, inl, inr, arith}
 use Rattle.std.proofs.lemmas.Bool.{false≢true}
 use Rattle.std.proofs.lemmas.List.{ext_get_or}
 use Rattle.tx_types.specs.declared.config.Config.{Config}

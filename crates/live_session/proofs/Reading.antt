@@ -123,6 +123,13 @@ with_feed a b c old new front before is now =
 feeds_none : (old new front : List ℕ) → HasNoFeed old → HasNoFeed front → new ≡ old ++ front → HasNoFeed new
 feeds_none old new front h k is = subst HasNoFeed (sym is) (All-append (λ b. b ≢ 10) old front h k)
 
+-- of what was taken, none is a line feed
+pub taken_feeds : (b c : Option (List ℕ)) (old new : List ℕ) (it : Taken) → HasNoFeed old →
+    TakesBuffered b c it old new → HasNoFeed new
+taken_feeds b c old new taken.WithFeed before takes = feeds_none old new takes.0 before takes.2 takes.1
+taken_feeds b c old new taken.WithoutFeed before takes = feeds_none old new takes.0 before takes.2 takes.1
+taken_feeds b c old new taken.Nothing before takes = subst HasNoFeed (sym takes.0) before
+
 pub takes_line : (a b c : Option (List ℕ)) (old new : List ℕ) (it : Taken) → IsUnended a b old →
     TakesBuffered b c it old new → it ≡ taken.WithFeed → length new ≤ MAX_LINE_BYTES → TakesPiece a c next.Line new
 takes_line a b c old new it before takes is most =

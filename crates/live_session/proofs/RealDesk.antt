@@ -1,5 +1,5 @@
 -- What is so of a desk that tells nothing.
-use Rattle.std.proofs.Common.{◌≡◌, ℕ, false, List, [], ◌∷◌, map, Option, None, Some, Result, Ok, Err, refl, option_map}
+use Rattle.std.proofs.Common.{ℕ, false, List, [], ◌∷◌, map, Option, None, Some, Result, Ok, Err, refl, option_map}
 use Rattle.std.proofs.lemmas.List.{length-map, get_or-map}
 use Rattle.file_flash.specs.Files as store
 use Rattle.file_flash.specs.Files.{FileState}

@@ -1,5 +1,5 @@
 -- What was said where a session was stopped.
-use Rattle.std.proofs.Common.{◌≡◌, ℕ, ◌+◌, Bool, true, false, ◌&&◌, List, [], ◌∷◌, Option, None, Some, Result, Ok, Err, IfSome, IfOk, OnErr, OnOk, MatchBool, refl, sym, subst, ap, ◌∙◌, option_map, inl, inr, ◌⊎◌, ◌++◌, slice_get}
+use Rattle.std.proofs.Common.{◌≡◌, ℕ, ◌+◌, Bool, true, false, ◌&&◌, List, [], ◌∷◌, Option, None, Some, Result, Ok, Err, IfSome, IfOk, OnErr, MatchBool, refl, sym, subst, ap, ◌∙◌, option_map, inl, inr, ◌⊎◌, ◌++◌, slice_get}
 use Rattle.std.proofs.lemmas.Bool.{false≢true}
 use denote.Enum.Bare.{sameb}
 use Rattle.tx_types.specs.Config.{shape_of}

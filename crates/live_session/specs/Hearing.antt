@@ -1,5 +1,5 @@
 -- What answering a line comes to, and all lines, while a server goes on.
-use Rattle.std.specs.Prelude.{◌≡◌, ℕ, Bool, true, false, List, [], ◌∷◌, ◌++◌, ◌⊎◌, Option, Some}
+use Rattle.std.specs.Prelude.{◌≡◌, ℕ, Bool, true, false, List, [], ◌∷◌, ◌++◌, ◌⊎◌, Option}
 use Rattle.std.specs.Option.{option_map}
 use Rattle.tx_types.specs.declared.config.Config.{Config}
 use Rattle.flash_model.specs.Flash.{FlashState}

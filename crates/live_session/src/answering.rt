@@ -5,6 +5,7 @@ ghost use Rattle.live_session.specs.Faults.{FaultsCommand, FaultsLines, WhereFau
 ghost use Rattle.live_session.specs.Hearing.{AnswersCommand, AnswersLine, AnswersPiece, HearsAll, HearsPartOrNone};
 ghost use Rattle.live_session.specs.Hearing.{StopsCommand, StopsLine, StopsPiece, StopsSaying};
 ghost use Rattle.live_session.specs.LineDesk.{BothTell, after, with_saying};
+ghost use Rattle.live_session.specs.Lines.{HasNoFeed};
 ghost use Rattle.live_session.specs.Saying.{SaidDurably, HasNoInput};
 ghost use Rattle.live_session.specs.Sessions.{stop_of_call, stop_of_serving};
 ghost use Rattle.live_session.specs.Talks.{bad_line, plain};
@@ -16,7 +17,7 @@ use crate::{CallError, LineDesk, Next};
 use cut_replay::{NextError, ServeError, Server};
 use file_flash::Store;
 use flash_model::NotDurable;
-use host_protocol::{Command, TextError, parse, reply_text};
+use host_protocol::{Command, TextError, parse_line, reply_text};
 use live_flash::LiveFlash;
 use record_list::CommitRule;
 use std::alloc::{AllocError, Global};
@@ -79,11 +80,31 @@ impl From<AllocError> for Stop {
     }
 }
 
+/// Room that a session keeps from line to line.
+#[derive(Drop)]
+pub struct Rooms {
+    /// For the bytes of a page.
+    page: Vec<u8>,
+    /// For the text of a reply.
+    reply: Vec<u8>,
+}
+
+impl Rooms {
+    /// Without any memory.
+    pub fn new(alloc: Global) -> Rooms {
+        Rooms {
+            page: Vec::new(alloc),
+            reply: Vec::new(alloc),
+        }
+    }
+}
+
 /// Says that the session begins, and answers the lines of the input to its end. The answer is whether none was bad.
 pub fn answer_lines<S: Store + Drop, D: LineDesk<S, LiveFlash<S>>, R: CommitRule>(
     alloc: Global,
     desk: &mut D,
     server: &mut Server<LiveFlash<S>, R>,
+    rooms: &mut Rooms,
 ) -> Result<bool, Stop>
     ensures durable { SaidDurably (D.state desk.old) → SaidDurably (D.state desk.new) }
     ensures ended { OnOk result (HasNoInput (D.state desk.new)) }
@@ -106,7 +127,7 @@ pub fn answer_lines<S: Store + Drop, D: LineDesk<S, LiveFlash<S>>, R: CommitRule
         if next == Next::End {
             return Ok(are_good);
         }
-        let is_good = answer_piece(alloc, desk, server, next, &line, number)?;
+        let is_good = answer_piece(alloc, desk, server, rooms, next, &line, number)?;
         are_good = is_good && are_good;
     }
     // No machine comes to this line.
@@ -118,11 +139,12 @@ fn answer_piece<S: Store + Drop, D: LineDesk<S, LiveFlash<S>>, R: CommitRule>(
     alloc: Global,
     desk: &mut D,
     server: &mut Server<LiveFlash<S>, R>,
+    rooms: &mut Rooms,
     next: Next,
     line: &[u8],
     number: u64,
 ) -> Result<bool, Stop>
-    requires { length line.now ≤ MAX_LINE_BYTES }
+    requires { HasNoFeed line.now }
     ensures durable { SaidDurably (D.state desk.old) → SaidDurably (D.state desk.new) }
     ensures config { OnOk result (server.new.config ≡ server.old.config) }
     ensures answers { IfOk result (λ good. AnswersPiece server.old.config next line.now number good
@@ -133,7 +155,7 @@ fn answer_piece<S: Store + Drop, D: LineDesk<S, LiveFlash<S>>, R: CommitRule>(
     ensures fault { IfErr result (WhereFault (FaultsCommand server.old.config
         (D.state desk.old) (D.state desk.new) server.old.session server.new.session)) }
 {
-    if next == Next::Line && answer_line(alloc, desk, server, line)? {
+    if next == Next::Line && answer_line(alloc, desk, server, rooms, line)? {
         return Ok(true);
     }
     say_bad_line(alloc, desk, number)?;
@@ -145,9 +167,10 @@ fn answer_line<S: Store + Drop, D: LineDesk<S, LiveFlash<S>>, R: CommitRule>(
     alloc: Global,
     desk: &mut D,
     server: &mut Server<LiveFlash<S>, R>,
+    rooms: &mut Rooms,
     line: &[u8],
 ) -> Result<bool, Stop>
-    requires { length line.now ≤ MAX_LINE_BYTES }
+    requires { HasNoFeed line.now }
     ensures durable { SaidDurably (D.state desk.old) → SaidDurably (D.state desk.new) }
     ensures config { OnOk result (server.new.config ≡ server.old.config) }
     ensures answers { IfOk result (λ good. AnswersLine server.old.config line.now good
@@ -159,11 +182,12 @@ fn answer_line<S: Store + Drop, D: LineDesk<S, LiveFlash<S>>, R: CommitRule>(
         (D.state desk.old) (D.state desk.new) server.old.session server.new.session)) }
 {
     let page_bytes = server.config().page_bytes;
-    match parse(alloc, line, page_bytes) {
-        Ok(commands) => {
-            if let Some(command) = commands.first() {
-                answer_command(alloc, desk, server, command)?;
-            }
+    match parse_line(alloc, line, page_bytes, &mut rooms.page) {
+        Ok(None) => Ok(true),
+        Ok(Some(command)) => {
+            let answered = answer_command(alloc, desk, server, &mut rooms.reply, &command);
+            drop(command);
+            answered?;
             Ok(true)
         }
         Err(TextError::Line(_)) => Ok(false),
@@ -171,11 +195,12 @@ fn answer_line<S: Store + Drop, D: LineDesk<S, LiveFlash<S>>, R: CommitRule>(
     }
 }
 
-/// Does a command, makes durable what was done, and says its reply.
+/// Does a command, makes durable what was done, and says its reply, for whose text there is room.
 fn answer_command<S: Store + Drop, D: LineDesk<S, LiveFlash<S>>, R: CommitRule>(
     alloc: Global,
     desk: &mut D,
     server: &mut Server<LiveFlash<S>, R>,
+    text: &mut Vec<u8>,
     command: &Command,
 ) -> Result<(), Stop>
     requires { Suits server.old.config.page_bytes command.now }
@@ -191,12 +216,12 @@ fn answer_command<S: Store + Drop, D: LineDesk<S, LiveFlash<S>>, R: CommitRule>(
 {
     let unflushed = server.serve_next(alloc, command)?;
     let reply = server.flush(unflushed)?;
-    let mut text = Vec::new(alloc);
-    reply_text(alloc, &reply, &mut text)?;
+    text.clear();
+    reply_text(alloc, &reply, text)?;
     let flash = server.flash();
     // It tells what a loss leaves of the file, which the desk may rest on.
     let _ = flash.has_failed();
-    desk.answer(flash, &text)?;
+    desk.answer(flash, text)?;
     Ok(())
 }
 

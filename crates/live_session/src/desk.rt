@@ -2,6 +2,7 @@ ghost use Rattle.std.specs.Prelude.{◌≡◌, ◌≤◌, length, OnOk, Some, No
 ghost use Rattle.file_flash.specs.FileFlashState.{FileFlashState};
 ghost use Rattle.live_session.specs.LineDesk.{LineDeskState, Claims, Closes, ReadsLine, Replaces, Says};
 ghost use Rattle.live_session.specs.LineDesk.{after, with_left};
+ghost use Rattle.live_session.specs.Lines.{HasNoFeed};
 ghost use Rattle.live_session.specs.declared.lines.TheConstants.{MAX_LINE_BYTES};
 
 use file_flash::Store;
@@ -68,7 +69,8 @@ pub trait LineDesk<S: Store + Drop, F: Shown + Drop> {
     /// Waits for the next line of the input, and puts its bytes there, without its line feed.
     fn next_line(&mut self, line: &mut Vec<u8>) -> Result<Next, CallError>
         ensures reads { ReadsLine (state self.old) (state self.new) line.new.items result }
-        ensures most { OnOk result (length line.new.items ≤ MAX_LINE_BYTES) };
+        ensures most { OnOk result (length line.new.items ≤ MAX_LINE_BYTES) }
+        ensures feeds { OnOk result (HasNoFeed line.new.items) };
 
     /// Says bytes that claim nothing of what was done, after all that was said before.
     fn say(&mut self, bytes: &[u8]) -> Result<(), CallError>

@@ -1,6 +1,6 @@
 //! The lines of an input.
 ghost use Rattle.std.specs.Prelude.{◌≡◌, ◌≤◌, [], length, IfOk, OnOk};
-ghost use Rattle.live_session.specs.Lines.{FindsFeed, ReadsOver, TakesBuffered, TakesPiece};
+ghost use Rattle.live_session.specs.Lines.{FindsFeed, HasNoFeed, ReadsOver, TakesBuffered, TakesPiece};
 ghost use Rattle.live_session.specs.declared.desk.Next.TheVariants as next;
 
 use crate::Next;
@@ -27,6 +27,7 @@ enum Taken {
 /// comment, so that one rule is enough.
 pub fn next_line<B: BufRead>(input: &mut B, line: &mut Vec<u8>) -> io::Result<Next>
     ensures most { OnOk result (length line.new.items ≤ MAX_LINE_BYTES) }
+    ensures feeds { OnOk result (HasNoFeed line.new.items) }
     ensures takes { IfOk result (λ it.
         TakesPiece (B.remaining input.old) (B.remaining input.new) it line.new.items) }
 {

@@ -10,7 +10,7 @@ ghost use Rattle.live_session.specs.Sessions.{ending_after, ending_unmounted};
 ghost use Rattle.live_session.specs.Talks.{IsSession, IsStoppedOrNone, IsUnsound};
 
 use crate::LineDesk;
-use crate::answering::{Stop, answer_lines};
+use crate::answering::{Rooms, Stop, answer_lines};
 use crate::ending::Ending;
 use bpcc_commit::Bpcc;
 use cut_replay::{ServeError, Server};
@@ -102,7 +102,9 @@ fn serve_lines<S: Store + Drop, D: LineDesk<S, LiveFlash<S>>, R: CommitRule>(
 {
     let mut server = server;
     let config = server.config();
-    let answered = answer_lines(alloc, desk, &mut server);
+    let mut rooms = Rooms::new(alloc);
+    let answered = answer_lines(alloc, desk, &mut server, &mut rooms);
+    drop(rooms);
     let flash = server.close();
     let (closed, left) = close_flash(alloc, desk, flash);
     ending_of(answered, closed, is_same(left, config))

@@ -37,7 +37,7 @@ returns-clause-answers g c =
     (g.D.LineDesk.state c.answer.new.self) c.serve_next.ensures.config c.in_ok-unflushed.ensures.served
     c.flush.ensures.stays.served c.flush.ensures.stays.shows c.in_ok-reply.ensures.opens c.flash-flash.ensures
     (c.deref.ensures.value ∙ (c.in_ok-reply_text.ensures.ok
-    ∙ ap (λ l. l ++ text_of c.in_ok-reply.reply) c.new-text.ensures.items))
+    ∙ ap (λ l. l ++ text_of c.in_ok-reply.reply) c.clear.ensures.items))
     c.in_ok-answer.ensures
 
 pub returns-in_err-answer-clause-stops : goal.returns-in_err-answer-clause-stops
@@ -52,7 +52,7 @@ returns-in_err-answer-clause-stops g c =
     c.in_ok-unflushed.ensures.served c.flush.ensures.stays.served c.flush.ensures.stays.shows
     c.in_ok-reply.ensures.opens c.flash-flash.ensures
     (c.deref.ensures.value ∙ (c.in_ok-reply_text.ensures.ok
-    ∙ ap (λ l. l ++ text_of c.in_ok-reply.reply) c.new-text.ensures.items))
+    ∙ ap (λ l. l ++ text_of c.in_ok-reply.reply) c.clear.ensures.items))
     c.in_err-answer.ensures)
 
 pub returns-in_err-unflushed-clause-stops : goal.returns-in_err-unflushed-clause-stops

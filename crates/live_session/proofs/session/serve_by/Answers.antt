@@ -1,4 +1,3 @@
-use Rattle.std.proofs.Common.{◌≡◌}
 use Rattle.live_session.specs.Endings.{ending_of}
 use Rattle.live_session.specs.Faults.{FaultsSession}
 use Rattle.live_session.proofs.Closing.{unmounted_open}
