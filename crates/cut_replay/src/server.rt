@@ -109,12 +109,9 @@ impl<F: Power, R: CommitRule> Server<F, R> {
 }
 
 impl<F: Power + Arms + Wide, R: CommitRule> Server<F, R> {
-    /// Serves the next command. After an error the flash is alone, and nothing is to be served any more.
-    pub(crate) fn answer_next(
-        &mut self,
-        alloc: Global,
-        command: &Command,
-    ) -> Result<Reply, ServeError>
+    /// Serves the next command. After an error the flash is alone, and nothing is to be served any more. Where programs
+    /// wait (`Cached`), the reply comes before they are durable: such a flash is served by `serve_next`.
+    pub fn answer_next(&mut self, alloc: Global, command: &Command) -> Result<Reply, ServeError>
         requires { Suits self.old.config.page_bytes command.now }
         ensures { ServesNext F.state self.old.config command.now self.old result self.new }
     {
@@ -166,7 +163,7 @@ impl<F: Power + Arms + Wide + Cached, R: CommitRule> Server<F, R> {
 
     /// Makes durable all that was done, and opens a reply: it may be said then. The run is as before, and the flash
     /// shows what it showed, also where this fails. Then no reply may be said any more, and nothing more is to be
-    /// served: what keeps the flash has failed. Of a `FileFlash` each later flush fails too.
+    /// served: what keeps the flash has failed. Of a `LiveFlash` each later flush fails too.
     pub fn flush(&mut self, unflushed: Unflushed) -> Result<Reply, NotDurable>
         ensures opens { IfOk result (λ reply. reply ≡ unflushed) }
         ensures stays { FlushesServer F.state self.old.config self.old self.new }

@@ -1,5 +1,7 @@
 mod Common
 pub mod RunLemmas
+pub mod CommandReading
+pub mod FileServing
 pub mod Sound
 pub mod Weakening
 pub mod Works

@@ -11,5 +11,7 @@ pub mod Differences
 pub mod Steps
 pub mod TwoFiles
 pub mod Stops
+pub mod CommandReading
+pub mod FileServing
 pub mod Keeping
 pub mod KeptEntries

@@ -1,22 +1,20 @@
-ghost use Rattle.std.specs.Prelude.{◌≡◌, ◌≤◌, false, All, Ok, IfOk, IfErr, OnOk, length};
+ghost use Rattle.std.specs.Prelude.{◌≡◌, false, All, Ok, IfOk, IfErr, OnOk};
 ghost use Rattle.tx_types.specs.Config.{checked, shape_of};
 ghost use Rattle.flash_model.specs.Flash.{IsSteady};
 ghost use Rattle.judged_records.specs.Notes.{found_in};
 ghost use Rattle.mem_flash.specs.MemFlashState.{fresh, loaded, state_of};
 ghost use Rattle.tx_engine.specs.Opens.{Mounts};
 ghost use Rattle.host_protocol.specs.Commands.{Suits};
-ghost use Rattle.host_protocol.specs.Files.{IsFile};
-ghost use Rattle.host_protocol.specs.declared.file.TheConstants.{MAX_FILE_BYTES};
 ghost use Rattle.judged_records.specs.Images.{IsSoundImage, records_in};
 ghost use Rattle.verdict_report.specs.Report.{report};
 ghost use Rattle.desk_tasks.specs.Runs.{IsRun, blank_image, default_config};
-ghost use Rattle.desk_tasks.specs.Stops.{RefusesDevice, RefusesLine, StopsBy};
+ghost use Rattle.desk_tasks.specs.Stops.{RefusesDevice, StopsBy};
 
 use crate::output::Failure;
 use bpcc_commit::Bpcc;
 use cut_replay::{Lines, serve};
 use flash_model::steady_stays;
-use host_protocol::{Command, parse};
+use host_protocol::Command;
 use mem_flash::MemFlash;
 use record_list::{Breach, CommitRule, Found};
 use scc_commit::Scc;
@@ -57,21 +55,6 @@ pub fn blank_flash(alloc: Global, config: Config) -> Result<MemFlash, Memory>
         unreachable!();
     };
     MemFlash::new(alloc, shape)
-}
-
-/// The commands of a file.
-pub fn read_commands(
-    alloc: Global,
-    bytes: &[u8],
-    page_bytes: u32,
-) -> Result<Vec<Command>, Failure<'static>>
-    requires { length bytes.now ≤ MAX_FILE_BYTES }
-    ensures file { IfOk result (λ list. IsFile page_bytes bytes.now list.items) }
-    ensures suits { IfOk result (λ list. All (Suits page_bytes) list.items) }
-    ensures err { IfErr result (StopsBy (RefusesLine page_bytes bytes.now)) }
-{
-    let list = parse(alloc, bytes, page_bytes)?;
-    Ok(list)
 }
 
 /// Serves commands on the device of a flash.

@@ -11,8 +11,10 @@ mod keying;
 mod loading;
 mod numbers;
 mod output;
+mod reading;
 mod refusal;
 mod retiring;
+mod serving;
 mod tasks;
 
 pub use checking::do_check;

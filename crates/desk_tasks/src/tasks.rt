@@ -8,18 +8,18 @@ ghost use Rattle.host_protocol.specs.Commands.{Suits};
 ghost use Rattle.program_base.specs.Refusals.{line};
 ghost use Rattle.desk_tasks.specs.Ending.{Driven, Ran};
 ghost use Rattle.desk_tasks.specs.Runs.{RepliesFresh, default_config};
-ghost use Rattle.desk_tasks.specs.Steps.{Explaining, OpensAndServes, Running, Trying, formatting};
+ghost use Rattle.desk_tasks.specs.Steps.{Explaining, OpensAndServes, Parsing, Running, Trying, formatting};
 ghost use Rattle.desk_tasks.specs.Stops.{Works, WorksTo};
 ghost use Rattle.desk_tasks.specs.Request.{Drive, Explain, Format, Run, Try};
 ghost use Rattle.mem_flash.specs.MemFlashState.{loaded};
 ghost use Rattle.tx_types.specs.Config.{checked, shape_of};
 
-use crate::devices::{
-    ServedFlash, blank_flash, default_config, explain_flash, read_commands, serve_flash,
-};
+use crate::devices::{ServedFlash, blank_flash, default_config, explain_flash, serve_flash};
 use crate::loading::load_both;
 use crate::output::{Failure, File, Output, Text};
+use crate::reading::check_commands;
 use crate::refusal::Refusal;
+use crate::serving::serve_lines;
 use cut_replay::Lines;
 use desk_io::Desk;
 use drive_gen::{commands, summary};
@@ -80,13 +80,13 @@ fn try_from_bytes<'a>(alloc: Global, lines: &[u8]) -> Result<Output<'a>, Failure
     requires { length lines.now ≤ max_file_bytes }
     ensures { WorksTo (Trying lines.now) result }
 {
-    let protocol = Protocol::Scc;
-    let list = read_commands(alloc, lines, default_config(protocol).page_bytes)?;
-    let replies = serve_fresh(alloc, protocol, &list);
-    leak_at_exit(list);
+    let config = default_config(Protocol::Scc);
+    let blank = blank_flash(alloc, config)?;
+    let ServedFlash { flash, replies } = serve_lines(alloc, blank, config, lines)?;
+    drop(flash);
     Ok(Output {
         saved: None,
-        text: Text::Replies(replies?),
+        text: Text::Replies(replies),
     })
 }
 
@@ -101,39 +101,38 @@ fn run_from_bytes<'a>(
     ensures { WorksTo (Running name.now bytes.items lines.now) result }
 {
     let (config, flash) = open_image(alloc, bytes)?;
-    match read_commands(alloc, lines, config.page_bytes) {
-        Ok(list) => {
-            let product = run_commands(alloc, name, config, flash, &list);
-            leak_at_exit(list);
-            product
-        }
-        Err(stop) => {
-            drop(flash);
-            Err(stop)
-        }
-    }
+    run_lines(alloc, name, config, flash, lines)
 }
 
-/// Serves commands on the device of a flash, whose image is then saved under this name.
-fn run_commands<'a>(
+/// Serves the commands of a file on the device of a flash, whose image is then saved under this name. A bad line comes
+/// before an image that is not sound: so where serving stops, the whole file is read for one.
+fn run_lines<'a>(
     alloc: Global,
     name: &'a str,
     config: Config,
     flash: MemFlash,
-    list: &[Command],
+    lines: &[u8],
 ) -> Result<Output<'a>, Failure<'a>>
     requires check { checked config ≡ Ok (shape_of config) }
     requires ready { flash ≡ loaded (shape_of config) flash.image flash.extras }
-    requires suits { All (Suits config.page_bytes) list.now }
-    ensures { WorksTo (OpensAndServes config flash.image
-        (Ran name.now config flash.image flash.extras list.now)) result }
+    requires length { length lines.now ≤ max_file_bytes }
+    ensures { WorksTo (Parsing config.page_bytes lines.now (λ commands. OpensAndServes config flash.image
+        (Ran name.now config flash.image flash.extras commands))) result }
 {
-    let ServedFlash { flash, replies } = serve_flash(alloc, flash, config, list)?;
-    let saved = into_image(alloc, &config, flash)?;
-    Ok(Output {
-        saved: Some(File { name, bytes: saved }),
-        text: Text::Replies(replies),
-    })
+    match serve_lines(alloc, flash, config, lines) {
+        Ok(served) => {
+            let ServedFlash { flash, replies } = served;
+            let saved = into_image(alloc, &config, flash)?;
+            Ok(Output {
+                saved: Some(File { name, bytes: saved }),
+                text: Text::Replies(replies),
+            })
+        }
+        Err(stop) => {
+            check_commands(alloc, lines, config.page_bytes)?;
+            Err(stop)
+        }
+    }
 }
 
 /// What an explanation gives, from the bytes of its image on.
