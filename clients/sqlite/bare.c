@@ -6,6 +6,7 @@
  * WAY is `lines`: FLASH_SERVE_PROGRAM serves the image FILE, and is given the lines that the VFS makes of a commit; or
  * `calls`: this makes the calls that flash_serve makes for it, N writes of a slot and one sync, on FILE. */
 
+#include "pieces.h"
 #include "measuring.h"
 
 #include <fcntl.h>
@@ -38,6 +39,8 @@ static void start_device(const char *image) {
     }
     close(to[0]);
     close(from[1]);
+    /* A pipe holds 65536 bytes else, and a transaction of eight pages has more. */
+    check(fcntl(to[1], F_SETPIPE_SZ, 1 << 20) >= 0, "pipe");
     to_device = to[1];
     from_device = from[0];
 }
@@ -53,18 +56,15 @@ static void hear(const char *last) {
     }
 }
 
-static char digits[256][3];
-
 static char *add_page(char *end, int page, const unsigned char *bytes) {
-    end += sprintf(end, " %d=", page);
-    for (int i = 0; i < PAGE_BYTES; i++) memcpy(end + 2 * i, digits[bytes[i]], 2);
-    return end + 2 * PAGE_BYTES;
+    end = write_word(write_number(write_word(end, " "), (uint32_t)page), "=");
+    return write_digits(end, bytes, PAGE_BYTES);
 }
 
 static void give_lines(const int *pages, const unsigned char *bytes, int count) {
-    char *end = text + sprintf(text, "write 1");
+    char *end = write_word(text, "write 1");
     for (int i = 0; i < count; i++) end = add_page(end, pages[i], bytes);
-    end += sprintf(end, "\nfinish 1\n");
+    end = write_word(end, "\nfinish 1\n");
     for (const char *at = text; at < end;) {
         ssize_t sent = write(to_device, at, (size_t)(end - at));
         check(sent > 0, "the device");
@@ -129,7 +129,6 @@ static void measure(int is_device, int pages, int count) {
 
 int main(int count, char **words) {
     if (count < 4) return 2;
-    for (int byte = 0; byte < 256; byte++) sprintf(digits[byte], "%02x", byte);
     int is_device = strcmp(words[2], "lines") == 0, status = 0;
     open_way(is_device, words[3]);
     if (count == 6) measure(is_device, atoi(words[4]), atoi(words[5]));

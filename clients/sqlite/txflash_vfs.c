@@ -18,6 +18,8 @@
 #include <sys/wait.h>
 #include <unistd.h>
 
+#include "pieces.h"
+
 #ifdef TXFLASH_LINKED
 #include <sqlite3.h>
 #else
@@ -52,6 +54,8 @@ struct database {
     struct session session;
     unsigned char *first; /* its first page on the device */
     unsigned char *page; /* room for one */
+    char *text; /* room for the lines of a transaction */
+    sqlite3_uint64 text_bytes; /* of that room */
     unsigned char **waiting; /* of each page of the device what no transaction has taken yet, or 0 */
     uint32_t count; /* how many pages wait */
     int is_again; /* whether some of them may be as they are on the device */
@@ -187,35 +191,6 @@ static uint32_t told_size(const unsigned char *first) {
     return big(first + 28);
 }
 
-static int digit(char c) {
-    return c >= '0' && c <= '9' ? c - '0' : c >= 'a' && c <= 'f' ? c - 'a' + 10 : -1;
-}
-
-/* Whether there are digits for so many bytes, and nothing behind them. */
-static int read_digits(const char *text, unsigned char *out, uint32_t bytes) {
-    for (uint32_t i = 0; i < bytes; i++, text += 2) {
-        int high = digit(text[0]), low = high < 0 ? -1 : digit(text[1]);
-        if (low < 0) return 0;
-        out[i] = (unsigned char)(high << 4 | low);
-    }
-    return *text == 0;
-}
-
-/* The two digits of each byte. */
-static char digits[256][2];
-
-static void make_digits(void) {
-    for (int byte = 0; byte < 256; byte++) {
-        digits[byte][0] = "0123456789abcdef"[byte >> 4];
-        digits[byte][1] = "0123456789abcdef"[byte & 15];
-    }
-}
-
-static char *write_digits(char *text, const unsigned char *from, uint32_t bytes) {
-    for (uint32_t i = 0; i < bytes; i++) memcpy(text + 2 * i, digits[from[i]], 2);
-    return text + 2 * bytes;
-}
-
 /* A page of the device, zeros where it is blank. */
 static int load_page(struct session *it, uint32_t page, unsigned char *out, int *is_blank) {
     char line[32], begin[32];
@@ -321,22 +296,35 @@ static int drop_unchanged(struct database *it) {
     return SQLITE_OK;
 }
 
+/* Room for a text of so many bytes, which stays for the next one, or 0. */
+static char *text_room(struct database *it, sqlite3_uint64 bytes) {
+    if (bytes > it->text_bytes) {
+        char *text = sqlite3_realloc64(it->text, bytes);
+        if (!text) return 0;
+        it->text = text;
+        it->text_bytes = bytes;
+    }
+    return it->text;
+}
+
 /* The transaction of all that waits, and its end. Pages that the database has no more are discarded with it, as far as
  * a transaction has room for them. */
 static char *transaction_text(struct database *it, uint32_t size, size_t *length) {
     uint32_t bytes = it->session.page_bytes, room = it->session.pending - it->count;
     uint32_t gone = it->kept > size ? it->kept - size : 0;
     if (gone > room) gone = room;
-    char *text = sqlite3_malloc64(64 + (sqlite3_uint64)it->count * (2 * bytes + 12) + (sqlite3_uint64)gone * 14);
+    char *text = text_room(it, 64 + (sqlite3_uint64)it->count * (2 * bytes + 12) + (sqlite3_uint64)gone * 14);
     if (!text) return 0;
-    char *end = text + sprintf(text, "write 1");
+    char *end = write_word(text, "write 1");
     for (uint32_t page = 0; page < size; page++) {
         if (!it->waiting[page]) continue;
-        end += sprintf(end, " %u=", page);
+        end = write_word(write_number(write_word(end, " "), page), "=");
         end = write_digits(end, it->waiting[page], bytes);
     }
-    for (uint32_t page = size; page < size + gone; page++) end += sprintf(end, " %u=~", page);
-    end += sprintf(end, "\nfinish 1\n");
+    for (uint32_t page = size; page < size + gone; page++) {
+        end = write_word(write_number(write_word(end, " "), page), "=~");
+    }
+    end = write_word(end, "\nfinish 1\n");
     *length = (size_t)(end - text);
     return text;
 }
@@ -359,9 +347,7 @@ static int commit(struct session *it, const char *text, size_t length) {
 static int commit_all(struct database *it, uint32_t size) {
     size_t length;
     char *text = transaction_text(it, size, &length);
-    int code = text ? commit(&it->session, text, length) : SQLITE_IOERR_NOMEM;
-    sqlite3_free(text);
-    return code;
+    return text ? commit(&it->session, text, length) : SQLITE_IOERR_NOMEM;
 }
 
 static int other_pages(struct database *it, uint32_t bytes) {
@@ -408,6 +394,7 @@ static int database_close(sqlite3_file *file) {
     sqlite3_free(it->waiting);
     sqlite3_free(it->first);
     sqlite3_free(it->page);
+    sqlite3_free(it->text);
     int status = end_session(&it->session);
     if (status == 0) return SQLITE_OK;
     return tell(SQLITE_IOERR_CLOSE, "flash_serve ended with status %d: what was committed is there", status);
@@ -636,7 +623,6 @@ static sqlite3_vfs txflash_vfs;
  * the VFS of the system does it. */
 int txflash_vfs_register(void) {
     if (sqlite3_vfs_find(VFS_NAME)) return SQLITE_OK;
-    make_digits();
     system_vfs = sqlite3_vfs_find("unix");
     memory_vfs = sqlite3_vfs_find("memdb");
     if (!system_vfs || !memory_vfs) return tell(SQLITE_ERROR, "SQLite 3.36 or later is needed");
