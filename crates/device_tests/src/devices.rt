@@ -5,7 +5,7 @@ mod calls;
 pub mod doubts;
 pub mod full;
 pub mod lines;
-mod mounting;
+pub mod mounting;
 pub mod retired;
 pub mod rows;
 mod telling;

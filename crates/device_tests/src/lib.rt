@@ -20,3 +20,5 @@ mod recovering;
 mod serving;
 #[cfg(test)]
 mod texts;
+#[cfg(test)]
+mod worn;

@@ -15,6 +15,7 @@ use crate::recovering::lists::is_audited;
 use crate::recovering::tables::{is_kept, is_loose};
 use crate::serving::{SERVED, are_moments, are_reads, is_answered};
 use crate::texts::halves;
+use crate::worn::{WORN, are_right};
 use std::alloc::Global;
 use std::process::Abort;
 
@@ -27,6 +28,7 @@ fn are_commands_right(alloc: Global, kind: &str, commands: &str, wanted: &str) -
         "served" => is_answered(alloc, commands, wanted),
         "reads" => are_reads(alloc, commands, wanted),
         "moments" => are_moments(alloc, commands, wanted),
+        "same" | "worn" => are_right(alloc, kind, commands),
         _ => false,
     }
 }
@@ -84,5 +86,6 @@ fn recovery_agrees_with_the_plain_audit(rt: HostRuntime) {
 #[test]
 fn commands_are_answered(rt: HostRuntime) {
     assert_lines(&rt, rt.alloc(), SERVED);
+    assert_lines(&rt, rt.alloc(), WORN);
     assert_lines(&rt, rt.alloc(), KEYS);
 }

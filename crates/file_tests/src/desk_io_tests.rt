@@ -1,7 +1,6 @@
 //! What desks answer, in memory and over the files of the system.
-mod leave;
-mod memory;
-mod real;
+pub mod desks;
+pub mod memory;
 mod recording;
-mod saves;
+pub mod saves;
 mod steps;

@@ -6,6 +6,10 @@ mod desk_io_tests;
 #[cfg(test)]
 mod durable_folder_tests;
 #[cfg(test)]
+mod folder_steps;
+#[cfg(test)]
 mod lines;
 #[cfg(test)]
 mod mem_folder_tests;
+#[cfg(test)]
+mod words;

@@ -1,13 +1,14 @@
 //! The program on real files, in a folder of the test's own. What it says is written to a file there.
-use crate::calls::{lines_of, status_of};
+use crate::calls::status_of;
+use crate::words::{halves, line_at};
 use desk_io::{RealDesk, RealFolder};
-use std::alloc::{AllocError, Global};
+use std::alloc::Global;
 use std::fmt::Display;
 use std::fs::OpenOptions;
-use std::io::Write;
+use std::io::{Error, ErrorKind, Write};
 use std::{fs, io};
 
-/// A runtime whose standard output is a file.
+/// A runtime whose standard output is a file, for bytes, which are all that a desk says.
 #[derive(Drop)]
 struct Printing<'a> {
     rt: &'a HostRuntime,
@@ -23,14 +24,12 @@ impl Alloc for Printing<'_> {
 }
 
 impl Print for Printing<'_> {
-    fn print<D: Display + Drop>(&self, value: D) -> io::Result<()> {
-        let text = format!(in self.rt.alloc(); "{value}")?;
-        self.write_all(text.as_bytes())
+    fn print<D: Display + Drop>(&self, _value: D) -> io::Result<()> {
+        Err(Error::from(ErrorKind::Unsupported))
     }
 
-    fn println<D: Display + Drop>(&self, value: D) -> io::Result<()> {
-        let text = format!(in self.rt.alloc(); "{value}\n")?;
-        self.write_all(text.as_bytes())
+    fn println<D: Display + Drop>(&self, _value: D) -> io::Result<()> {
+        Err(Error::from(ErrorKind::Unsupported))
     }
 
     fn write_all(&self, bytes: &[u8]) -> io::Result<()> {
@@ -44,21 +43,22 @@ impl Print for Printing<'_> {
 const SAID: &str = "test_files/said.txt";
 
 /// The status of a call of txflash on the files of the system, with what it says at the end of a file.
-fn ended(rt: &HostRuntime, output: &str, text: &str) -> Result<u8, AllocError> {
+fn ended(rt: &HostRuntime, output: &str, text: &str) -> u8 {
     let printing = Printing { rt, output };
     let mut desk = RealDesk::new(&printing, RealFolder { rt });
-    status_of(rt.alloc(), text, &mut desk)
+    let status = status_of(rt.alloc(), text, &mut desk);
+    drop(desk);
+    status
 }
 
-/// A line for each call, one after the other: the status, what is said, and the words. First a
-/// device is made and used; then a folder stands in place of a file, or there is no such file or
-/// folder.
+/// A line for each call, one after the other: the status, the lines that are said, and the words. First a device is made
+/// and used; then a folder stands in place of a file, or there is no such file or folder.
 const CALLS: &str = "\
     0|formatted test_files/d.img 32|format test_files/d.img scc 16 4 4 2 20 7\n\
     0|blank 0|run test_files/d.img test_files/read.txt\n\
-    0|open 1 1; done 1|run test_files/d.img test_files/write.txt\n\
-    0|page 0 41..|run test_files/d.img test_files/read.txt\n\
-    0|verdict 0 newest 1 committed cycle current 1 walk 0:1; explained 1|explain test_files/d.img\n\
+    0|open 1 1;done 1|run test_files/d.img test_files/write.txt\n\
+    0|page 0 41000000000000000000000000000000|run test_files/d.img test_files/read.txt\n\
+    0|verdict 0 newest 1 committed cycle current 1 walk 0:1;explained 1|explain test_files/d.img\n\
     0|blank 0|try test_files/read.txt\n\
     5|desk fault|run test_files test_files/read.txt\n\
     5|desk fault|run test_files/d.img test_files\n\
@@ -70,35 +70,45 @@ const CALLS: &str = "\
     2|no file test_files/no/d.img|run test_files/no/d.img test_files/no.txt\n\
     3|bad image: short|explain test_files/read.txt\n\
     1|bad words|run test_files/d.img\n\
-    0|page 0 41..|run test_files/d.img test_files/read.txt";
+    0|page 0 41000000000000000000000000000000|run test_files/d.img test_files/read.txt";
 
-/// All that was said, nothing where the file is not there.
-fn said(rt: &HostRuntime) -> Vec<u8> {
-    fs::read(rt, SAID).unwrap_or(Vec::new(rt.alloc()))
+/// What is read of the image that was saved where nothing could be said.
+const UNSAID: &str = "\
+    0|page 0 42000000000000000000000000000000|run test_files/d.img test_files/read.txt";
+
+/// Whether a text has these lines, with a `;` between them.
+fn are_lines(text: &str, lines: &str) -> bool {
+    let mut at: usize = 0;
+    for line in lines.split(';') {
+        if line_at(text, at) != line {
+            return false;
+        }
+        at = at.saturating_add(1);
+    }
+    text.ends_with('\n') && text.split('\n').count() == at.saturating_add(1)
 }
 
-/// Whether these lines and no more were said behind this many bytes.
-fn is_said(rt: &HostRuntime, before: usize, text: &str) -> bool {
-    match lines_of(rt.alloc(), text) {
-        Ok(lines) => said(rt).get(before..) == Some(lines.as_slice()),
+/// Whether these lines and no more were said.
+fn are_said(rt: &HostRuntime, lines: &str) -> bool {
+    match fs::read(rt, SAID) {
+        Ok(said) => are_lines(str::from_utf8(said.as_slice()).unwrap_or(""), lines),
         Err(_) => false,
     }
 }
 
 /// Whether a call is answered as its line says.
 fn is_answered(rt: &HostRuntime, line: &str) -> bool {
-    let mut parts = line.split('|');
-    let status = parts.next().unwrap_or("").parse::<u8>().unwrap_or(255);
-    let text = parts.next().unwrap_or("");
-    let before = said(rt).len();
-    ended(rt, SAID, parts.next().unwrap_or("")) == Ok(status) && is_said(rt, before, text)
+    let (status, rest) = halves(line, "|");
+    let (lines, text) = halves(rest, "|");
+    fs::write(rt, SAID, b"").is_ok()
+        && status.parse() == Ok(ended(rt, SAID, text))
+        && are_said(rt, lines)
 }
 
 /// Whether an image is saved before replies that cannot be said, and the folder of the test could be removed then.
 fn is_saved_unsaid(rt: &HostRuntime) -> bool {
-    let status = ended(rt, "/dev/full", "run test_files/d.img test_files/other.txt");
-    status == Ok(5)
-        && is_answered(rt, "0|page 0 42..|run test_files/d.img test_files/read.txt")
+    ended(rt, "/dev/full", "run test_files/d.img test_files/other.txt") == 5
+        && is_answered(rt, UNSAID)
         && fs::remove_dir_all(rt, "test_files").is_ok()
 }
 

@@ -1,224 +1,180 @@
-//! Which devices are possible after the replies to some commands.
-use crate::moves::{Arm, Kind, Move, move_of};
-use crate::worlds::{Mark, Open, World, page_of};
-use std::alloc::{AllocError, Global};
+//! Which devices are possible after the replies to some commands. A command has a verb, mostly a tag, and entries.
+use crate::words::{begins_with, digit, halves, has_words, word};
+use crate::worlds::{BLANK, Mark, NONE, Open, World};
+use std::alloc::Global;
+
+/// Of a page all digits but the first two.
+const ZEROS: &str = "000000000000000000000000000000";
 
 /// The devices that a reply leaves possible, and what it was given under.
 #[derive(Drop)]
 struct Fitting<'a, 'r> {
-    alloc: Global,
     reply: &'r str,
-    arm: Option<Arm>,
+    /// The command that set the arm, if one is set.
+    arm: &'a str,
     worlds: Vec<World<'a>>,
+    /// Whether there was no memory for a device.
+    is_short: bool,
 }
 
 impl<'a, 'r> Fitting<'a, 'r> {
-    /// Takes a device in where the reply is this one.
-    fn offer(&mut self, reply: &str, world: World<'a>) -> Result<(), AllocError> {
-        if self.reply == reply {
-            self.worlds.push(world)?;
-        }
-        Ok(())
+    /// Takes a device in.
+    fn keep(&mut self, world: World<'a>) {
+        self.is_short |= self.worlds.push(world).is_err();
     }
 
-    /// Takes a device in where the reply is this one, which was made if there was memory for it.
-    fn offer_made(
-        &mut self,
-        reply: Result<String, AllocError>,
-        world: World<'a>,
-    ) -> Result<(), AllocError> {
-        let reply = reply?;
-        self.offer(reply.as_str(), world)
-    }
-
-    /// Takes a device in where the reply is a word and a tag.
-    fn offer_of(&mut self, word: &str, tag: &str, world: World<'a>) -> Result<(), AllocError> {
-        self.offer_made(format!(in self.alloc; "{word} {tag}"), world)
-    }
-
-    /// Takes the devices of a command in that the arm came due in, which left one of these.
-    fn break_in(&mut self, left: &[World<'a>]) -> Result<(), AllocError> {
-        match self.arm {
-            Some(arm) => {
-                for world in left {
-                    self.broken(arm.kind, *world)?;
-                }
-                Ok(())
-            }
-            None => Ok(()),
+    /// Takes a device in where the reply has these words.
+    fn offer(&mut self, words: &[&str], world: World<'a>) {
+        if has_words(self.reply, words) {
+            self.keep(world);
         }
     }
 
-    /// Takes in one of the devices of a command in which the arm came due.
-    fn broken(&mut self, kind: Kind, world: World<'a>) -> Result<(), AllocError> {
-        if kind == Kind::Cut {
-            self.offer("cut", world.reopened())
-        } else {
-            self.offer("fault", world)
+    /// Takes in a device of a command in that the arm came due, if there is one.
+    fn break_in(&mut self, world: World<'a>) {
+        if self.arm.starts_with("cut") {
+            self.offer(&["cut"], world.reopened());
+        } else if !self.arm.is_empty() {
+            self.offer(&["fault"], world);
         }
     }
 
     /// Takes in what a command may leave of a device.
-    fn answer(&mut self, command: Move<'a>, world: World<'a>) -> Result<(), AllocError> {
-        match command {
-            Move::Write(tag, pages) => self.write(tag, pages, world),
-            Move::Step(tag) | Move::Finish(tag) | Move::Abort(tag) => {
-                match world.settled().find(tag) {
-                    Some(open) => self.go_on(command, open, world.settled()),
-                    None => self.offer_of("unknown", tag, world),
-                }
-            }
-            Move::Read(page) => self.read(page, world),
-            Move::Collect => self.collect(world.settled()),
-            Move::Stats => self.count(world),
-            Move::Arm(_) => self.offer("armed", world),
+    fn answer(&mut self, line: &'a str, world: World<'a>) {
+        let (verb, rest) = halves(line, " ");
+        match verb {
+            "write" => self.write(rest, world),
+            "step" | "finish" | "abort" => self.go_on(verb, rest, world),
+            "read" => self.read(rest, world),
+            "collect" => self.collect(world.settled()),
+            "stats" => self.count(world),
+            _ if line == self.arm => self.offer(&["armed"], world),
+            _ => {}
         }
     }
 
     /// Takes in what a collection leaves of a device.
-    fn collect(&mut self, world: World<'a>) -> Result<(), AllocError> {
-        self.offer("collected", world)?;
-        self.offer("nothing", world)?;
-        self.break_in(&[world])
+    fn collect(&mut self, world: World<'a>) {
+        self.offer(&["collected"], world);
+        self.offer(&["nothing"], world);
+        self.break_in(world);
     }
 
     /// Takes a device in where the reply is its numbers, of which the first three are known.
-    fn count(&mut self, world: World<'a>) -> Result<(), AllocError> {
-        let written = world.written();
+    fn count(&mut self, world: World<'a>) {
         let (tags, pages) = world.pending();
-        let front = format!(in self.alloc; "stats written {written} open {tags} pending {pages} ");
-        self.offer_front(front, world)
-    }
-
-    /// Takes a device in where the reply begins so, if there is memory for that.
-    fn offer_front(
-        &mut self,
-        front: Result<String, AllocError>,
-        world: World<'a>,
-    ) -> Result<(), AllocError> {
-        let front = front?;
-        if self.reply.starts_with(front.as_str()) {
-            self.worlds.push(world)?;
+        let is_so = begins_with(
+            self.reply,
+            &[
+                "stats",
+                "written",
+                digit(world.written()),
+                "open",
+                digit(tags),
+                "pending",
+                digit(pages),
+                "programs",
+            ],
+        );
+        if is_so {
+            self.keep(world);
         }
-        Ok(())
     }
 
     /// Takes a device in where the reply is that of a read of a page.
-    fn read(&mut self, page: &str, world: World<'a>) -> Result<(), AllocError> {
+    fn read(&mut self, page: &str, world: World<'a>) {
         let digits = world.digits(page);
         if digits.is_empty() {
-            return self.offer_of("blank", page, world);
+            return self.offer(&["blank", page], world);
         }
-        let reply = format!(in self.alloc; "page {page} {digits}000000000000000000000000000000");
-        self.offer_made(reply, world)?;
-        if self.is_read_bad() {
-            self.break_in(&[world])
-        } else {
-            Ok(())
+        let bytes = word(self.reply, 2);
+        if bytes.strip_prefix(digits) == Some(ZEROS) {
+            self.offer(&["page", page, bytes], world);
+        }
+        if self.arm.starts_with("badread") {
+            self.break_in(world);
         }
     }
 
     /// Takes in what a write may leave of a device.
-    fn write(&mut self, tag: &'a str, pages: &'a str, world: World<'a>) -> Result<(), AllocError> {
+    fn write(&mut self, rest: &'a str, world: World<'a>) {
+        let (tag, pages) = halves(rest, " ");
         if world.find(tag).is_some() {
-            return self.offer_of("refused tag", tag, world);
+            return self.offer(&["refused", "tag", tag], world);
         }
         for entry in pages.split(' ') {
-            let (page, _) = page_of(entry);
-            if let Some(owner) = world.owner(page) {
-                let reply = format!(in self.alloc; "refused overlap {page} {}", owner.tag);
-                return self.offer_made(reply, world);
+            let (page, _) = halves(entry, "=");
+            let owner = world.owner(page);
+            if !owner.is_empty() {
+                return self.offer(&["refused", "overlap", page, owner], world);
             }
         }
-        self.open(tag, pages, world)
+        self.open(Open { tag, pages, ..NONE }, world);
     }
 
     /// Takes in what a write of pages that no other transaction has may leave of a device.
-    fn open(&mut self, tag: &'a str, pages: &'a str, world: World<'a>) -> Result<(), AllocError> {
-        let count = pages.split(' ').count();
+    fn open(&mut self, open: Open<'a>, world: World<'a>) {
+        let count = open.len();
         let free = 3usize.saturating_sub(world.pending().1);
         if count > free {
-            return self.offer_made(format!(in self.alloc; "refused full {free}"), world);
+            self.offer(&["refused", "full", digit(free)], world);
+        } else {
+            let (tag, count): (&'a str, &'a str) = (open.tag, digit(count));
+            self.offer(&["open", tag, count], world.changed("", open));
         }
-        let open = Open {
-            tag,
-            pages,
-            written: 0,
-            mark: Mark::Plain,
-        };
-        let reply = format!(in self.alloc; "open {tag} {count}");
-        self.offer_made(reply, world.opened(open))
     }
 
-    /// Takes in what a step, a finish or an abort of an open transaction may leave of a device.
-    fn go_on(
-        &mut self,
-        command: Move<'a>,
-        open: Open<'a>,
-        world: World<'a>,
-    ) -> Result<(), AllocError> {
-        let gone = world.changed(open.tag, None);
-        match command {
-            Move::Abort(tag) if open.mark == Mark::Whole => self.offer_of("late", tag, gone),
-            Move::Abort(tag) => self.offer_of("aborted", tag, gone),
+    /// Takes in what a step, a finish or an abort may leave of a device. It finds what a fault left, where it knows the
+    /// transaction.
+    fn go_on(&mut self, verb: &str, tag: &'a str, world: World<'a>) {
+        match world.settled().find(tag) {
+            Some(open) => self.move_on(verb, open, world.settled()),
+            None => self.offer(&["unknown", tag], world),
+        }
+    }
+
+    /// Takes in what it may leave where the transaction is open.
+    fn move_on(&mut self, verb: &str, open: Open<'a>, world: World<'a>) {
+        let tag = open.tag;
+        let gone = world.changed(tag, NONE);
+        let is_whole = matches!(open.mark, Mark::Whole);
+        match verb {
+            "abort" if is_whole => self.offer(&["late", tag], gone),
+            "abort" => self.offer(&["aborted", tag], gone),
+            _ if is_whole => self.offer(&["done", tag], gone),
             _ => {
-                self.write_on(command, open, world, gone)?;
-                self.break_off(matches!(command, Move::Finish(_)), open, world)
+                self.write_on(verb, open, world);
+                self.break_off(verb, open, world);
             }
         }
     }
 
     /// Takes in what a step or a finish that nothing breaks leaves of a device.
-    fn write_on(
-        &mut self,
-        command: Move<'a>,
-        open: Open<'a>,
-        world: World<'a>,
-        gone: World<'a>,
-    ) -> Result<(), AllocError> {
+    fn write_on(&mut self, verb: &str, open: Open<'a>, world: World<'a>) {
         let tag = open.tag;
         let count = open.len();
         let written = open.written.saturating_add(1);
-        if open.mark == Mark::Whole {
-            return self.offer_of("done", tag, gone);
+        if written < count && verb == "step" {
+            let (now, all): (&'a str, &'a str) = (digit(written), digit(count));
+            let next = world.changed(tag, open.with(written, Mark::Plain));
+            self.offer(&["wrote", tag, now, all], next);
+        } else {
+            self.offer(&["done", tag], world.changed(tag, NONE).put(open.pages));
         }
-        if open.mark == Mark::Plain && written < count && matches!(command, Move::Step(_)) {
-            let next = world.changed(tag, Some(open.with(written, Mark::Plain)));
-            let reply = format!(in self.alloc; "wrote {tag} {written} {count}");
-            return self.offer_made(reply, next);
-        }
-        self.offer_of("done", tag, gone.put(open.pages))
     }
 
     /// Takes in what a step that breaks may leave of a device, or a finish, which goes the whole way, where one of its
     /// operations breaks. The last page may be there only where that operation was done all the same.
-    fn break_off(
-        &mut self,
-        whole_way: bool,
-        open: Open<'a>,
-        world: World<'a>,
-    ) -> Result<(), AllocError> {
-        for written in open.written..open.len() {
-            if open.mark == Mark::Plain && (whole_way || written == open.written) {
-                let left = open.with(written, Mark::Plain);
-                self.break_in(&[world.changed(open.tag, Some(left))])?;
-                if written.saturating_add(1) == open.len() && self.is_done() {
-                    let left = open.with(written, Mark::Unseen);
-                    self.break_in(&[world.changed(open.tag, Some(left))])?;
+    fn break_off(&mut self, verb: &str, open: Open<'a>, world: World<'a>) {
+        let count = open.len();
+        for written in open.written..count {
+            if verb == "finish" || written == open.written {
+                self.break_in(world.changed(open.tag, open.with(written, Mark::Plain)));
+                if written.saturating_add(1) == count && self.arm.ends_with(" all") {
+                    self.break_in(world.changed(open.tag, open.with(written, Mark::Unseen)));
                 }
             }
         }
-        Ok(())
-    }
-
-    /// Whether the arm is that of a read.
-    fn is_read_bad(&self) -> bool {
-        matches!(self.arm, Some(arm) if arm.kind == Kind::BadRead)
-    }
-
-    /// Whether an operation in which the arm comes due is done all the same.
-    fn is_done(&self) -> bool {
-        matches!(self.arm, Some(arm) if arm.is_done)
     }
 }
 
@@ -226,62 +182,53 @@ impl<'a, 'r> Fitting<'a, 'r> {
 #[derive(Drop)]
 pub struct Known<'a> {
     alloc: Global,
-    arm: Option<Arm>,
+    arm: &'a str,
     worlds: Vec<World<'a>>,
 }
 
 impl<'a> Known<'a> {
-    /// A blank device.
-    pub fn new(alloc: Global) -> Result<Known<'a>, AllocError> {
-        let worlds = vec![in alloc; World::blank()]?;
-        Ok(Known {
-            alloc,
-            arm: None,
-            worlds,
-        })
+    /// A blank device, where there is memory for it.
+    pub fn new(alloc: Global) -> Option<Known<'a>> {
+        match vec![in alloc; BLANK] {
+            Ok(worlds) => Some(Known {
+                alloc,
+                arm: "",
+                worlds,
+            }),
+            Err(_) => None,
+        }
     }
 
     /// The device is opened anew, without an arm.
     pub fn reopen(&mut self) {
-        self.arm = None;
+        self.arm = "";
         for world in &mut self.worlds {
             *world = world.reopened();
         }
     }
 
     /// Takes the line of a command and its reply in. Returns whether the reply is possible.
-    pub fn take(&mut self, line: &'a str, reply: &str) -> Result<bool, AllocError> {
-        match move_of(line) {
-            Some(command) => self.take_move(command, reply),
-            None => Ok(false),
-        }
-    }
-
-    /// Takes a command and its reply in. Returns whether the reply is possible.
-    fn take_move(&mut self, command: Move<'a>, reply: &str) -> Result<bool, AllocError> {
-        if let Move::Arm(arm) = command {
-            self.arm = Some(arm);
+    pub fn take(&mut self, line: &'a str, reply: &str) -> bool {
+        let verb = halves(line, " ").0;
+        if verb == "cut" || verb == "fault" || verb == "badread" {
+            self.arm = line;
         }
         let mut fitting = Fitting {
-            alloc: self.alloc,
             reply,
             arm: self.arm,
             worlds: Vec::new(self.alloc),
+            is_short: false,
         };
-        answer_all(command, &self.worlds, &mut fitting)?;
+        answer_all(line, &self.worlds, &mut fitting);
+        let is_possible = !fitting.is_short && !fitting.worlds.is_empty();
         self.worlds = fitting.worlds;
-        Ok(!self.worlds.is_empty())
+        is_possible
     }
 }
 
 /// Takes in what a command may leave of each of these devices.
-fn answer_all<'a>(
-    command: Move<'a>,
-    worlds: &[World<'a>],
-    fitting: &mut Fitting<'a, '_>,
-) -> Result<(), AllocError> {
+fn answer_all<'a>(line: &'a str, worlds: &[World<'a>], fitting: &mut Fitting<'a, '_>) {
     for world in worlds {
-        fitting.answer(command, *world)?;
+        fitting.answer(line, *world);
     }
-    Ok(())
 }

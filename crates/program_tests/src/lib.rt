@@ -13,8 +13,8 @@ mod known;
 #[cfg(test)]
 mod moments;
 #[cfg(test)]
-mod moves;
-#[cfg(test)]
 mod starved;
+#[cfg(test)]
+mod words;
 #[cfg(test)]
 mod worlds;

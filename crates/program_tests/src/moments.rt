@@ -16,6 +16,11 @@ const CELL: &str = "\
     0100000000000000000000000000000054584652020100000000000001000000010000000000000001000000000000000000000000000000\
     020000000000000000000000000000000000000000000000";
 
+/// What it shows where nothing was programmed.
+const NOTHING: &str = "\
+    ffffffffffffffffffffffffffffffffffffffffffffffffffffffffffffffffffffffffffffffffffffffffffffffffffffffffffffffff\
+    ffffffffffffffffffffffffffffffffffffffffffffffff";
+
 /// How many slots were complete when a reply was given.
 fn complete_slots(kept: &Kept, i: usize) -> usize {
     let mut count: usize = 0;
@@ -29,29 +34,14 @@ fn complete_slots(kept: &Kept, i: usize) -> usize {
     count
 }
 
-/// Whether nothing was programmed in a slot with these bytes.
-fn is_blank(cell: &[u8]) -> bool {
-    for byte in cell {
-        if *byte != 0xff {
-            return false;
-        }
-    }
-    true
-}
-
 /// Whether the first slot had what it is to have when a reply was given: nothing before the second.
 fn is_cell_right(alloc: Global, kept: &Kept, i: usize) -> bool {
     if i >= kept.len() || kept.slots(i) == 0 {
         return false;
     }
-    let cell = kept.cell(i, Slot(0));
-    if i == 0 {
-        is_blank(cell)
-    } else {
-        match hex::encode(alloc, cell) {
-            Ok(digits) => digits.as_str() == CELL,
-            Err(_) => false,
-        }
+    match hex::encode(alloc, kept.cell(i, Slot(0))) {
+        Ok(digits) => digits.as_str() == if i == 0 { NOTHING } else { CELL },
+        Err(_) => false,
     }
 }
 

@@ -3,6 +3,7 @@ ghost use Rattle.std.specs.Prelude.{◌≡◌, None};
 ghost use Rattle.desk_io.specs.System.{closed_desk};
 
 use crate::calls::{is_done, status_of, words_of};
+use crate::words::halves;
 use desk_io::{Desk, LoadError, MemDesk, SinkError};
 use std::alloc::{AllocError, Global};
 
@@ -98,18 +99,20 @@ fn unsound_image(alloc: Global, desk: &MemDesk) -> Result<Vec<u8>, AllocError> {
     Ok(image)
 }
 
+/// The status of a call of flash_view with the words of a text, and 255 where there is no memory for them.
+fn view_status(alloc: Global, text: &str, desk: &mut StarvedDesk) -> u8 {
+    match words_of(alloc, text) {
+        Ok(words) => view_command_line::top(alloc, &words, desk),
+        Err(_) => 255,
+    }
+}
+
 /// The status of a call of a program with the words of a text.
-fn ended(
-    alloc: Global,
-    program: &str,
-    text: &str,
-    desk: &mut StarvedDesk,
-) -> Result<u8, AllocError> {
+fn ended(alloc: Global, program: &str, text: &str, desk: &mut StarvedDesk) -> u8 {
     if program == "txflash" {
         status_of(alloc, text, desk)
     } else {
-        let words = words_of(alloc, text)?;
-        Ok(view_command_line::top(alloc, &words, desk))
+        view_status(alloc, text, desk)
     }
 }
 
@@ -120,17 +123,19 @@ fn is_starved(alloc: Global, line: &str) -> bool {
         calls: 0,
         starved: 0,
     };
-    is_filled(alloc, &mut desk.desk) && is_answered(alloc, line, &mut desk)
+    let is_starved = is_filled(alloc, &mut desk.desk) && is_answered(alloc, line, &mut desk);
+    drop(desk);
+    is_starved
 }
 
 /// Whether a call on a desk that has its files is starved as its line says.
 fn is_answered(alloc: Global, line: &str, desk: &mut StarvedDesk) -> bool {
-    let mut parts = line.splitn(4, ' ');
-    let program = parts.next().unwrap_or("");
-    desk.starved = parts.next().unwrap_or("").parse::<u32>().unwrap_or(0);
-    let left = parts.next().unwrap_or("");
+    let (program, rest) = halves(line, " ");
+    let (number, rest) = halves(rest, " ");
+    let (left, text) = halves(rest, " ");
+    desk.starved = number.parse().unwrap_or(0);
     let before = desk.desk.said().len();
-    ended(alloc, program, parts.next().unwrap_or(""), desk) == Ok(6)
+    ended(alloc, program, text, desk) == 6
         && desk.desk.said().get(before..) == Some(b"no memory\n".as_slice())
         && desk.desk.file("d.img") == desk.desk.file(left)
 }

@@ -1,8 +1,9 @@
 //! What a device may be, as far as its replies tell: a small array of pages in which a transaction changes all its
 //! pages at once.
+use crate::words::{halves, number_of};
 
 /// What the device knows of the last page of a transaction.
-#[derive(Clone, Copy, PartialEq)]
+#[derive(Clone, Copy)]
 pub enum Mark {
     /// It is not written.
     Plain,
@@ -12,7 +13,8 @@ pub enum Mark {
     Whole,
 }
 
-/// A transaction that is open: its entries, how many of its pages were written, and what is known of the last.
+/// A transaction that is open: its tag, which is empty where there is none, its entries as `0=11 1=12`, a page and two
+/// digits each, how many of its pages were written, and what is known of the last.
 #[derive(Clone, Copy)]
 pub struct Open<'a> {
     pub tag: &'a str,
@@ -21,33 +23,34 @@ pub struct Open<'a> {
     pub mark: Mark,
 }
 
+/// No transaction.
+pub const NONE: Open = Open {
+    tag: "",
+    pages: "",
+    written: 0,
+    mark: Mark::Plain,
+};
+
 impl<'a> Open<'a> {
     /// How many pages it has.
     pub fn len(&self) -> usize {
         self.pages.split(' ').count()
     }
 
-    /// This transaction, with all its pages changed.
-    pub fn whole(self) -> Open<'a> {
-        Open {
-            mark: Mark::Whole,
-            ..self
-        }
-    }
-
     /// This transaction, with this many of its pages written.
     pub fn with(self, written: usize, mark: Mark) -> Open<'a> {
         Open {
+            tag: self.tag,
+            pages: self.pages,
             written,
             mark,
-            ..self
         }
     }
 
     /// Whether it has a page.
-    pub fn has(&self, page: &str) -> bool {
+    fn has(&self, page: &str) -> bool {
         for entry in self.pages.split(' ') {
-            if page_of(entry).0 == page {
+            if halves(entry, "=").0 == page {
                 return true;
             }
         }
@@ -55,36 +58,24 @@ impl<'a> Open<'a> {
     }
 }
 
-/// The page of an entry, and the two digits of its first byte.
-pub fn page_of(entry: &str) -> (&str, &str) {
-    entry.split_once('=').unwrap_or((entry, ""))
-}
-
-/// Where a page lies in the array.
-fn place_of(page: &str) -> usize {
-    page.parse::<usize>().unwrap_or(usize::MAX)
-}
-
 /// A device of four pages, of which three may be pending: of each page the two digits of its first byte, none where
-/// it is blank, and the open transactions.
+/// it is blank, and the transactions that are open.
 #[derive(Clone, Copy)]
 pub struct World<'a> {
-    pub array: [&'a str; 4],
-    pub open: [Option<Open<'a>>; 3],
+    array: [&'a str; 4],
+    open: [Open<'a>; 3],
 }
 
-impl<'a> World<'a> {
-    /// A blank device.
-    pub fn blank() -> World<'a> {
-        World {
-            array: [""; 4],
-            open: [None; 3],
-        }
-    }
+/// A blank device.
+pub const BLANK: World = World {
+    array: [""; 4],
+    open: [NONE; 3],
+};
 
+impl<'a> World<'a> {
     /// The open transaction with this tag.
     pub fn find(&self, tag: &str) -> Option<Open<'a>> {
-        for open in self.open.iter().flatten() {
+        for open in &self.open {
             if open.tag == tag {
                 return Some(*open);
             }
@@ -92,23 +83,25 @@ impl<'a> World<'a> {
         None
     }
 
-    /// The open transaction that a page belongs to.
-    pub fn owner(&self, page: &str) -> Option<Open<'a>> {
-        for open in self.open.iter().flatten() {
+    /// The tag of the open transaction that a page belongs to.
+    pub fn owner(&self, page: &str) -> &'a str {
+        for open in &self.open {
             if open.has(page) {
-                return Some(*open);
+                return open.tag;
             }
         }
-        None
+        ""
     }
 
     /// How many transactions are open, and how many pages they have.
     pub fn pending(&self) -> (usize, usize) {
         let mut tags: usize = 0;
         let mut pages: usize = 0;
-        for open in self.open.iter().flatten() {
-            tags = tags.saturating_add(1);
-            pages = pages.saturating_add(open.len());
+        for open in &self.open {
+            if !open.tag.is_empty() {
+                tags = tags.saturating_add(1);
+                pages = pages.saturating_add(open.len());
+            }
         }
         (tags, pages)
     }
@@ -126,25 +119,18 @@ impl<'a> World<'a> {
 
     /// The digits of a page.
     pub fn digits(&self, page: &str) -> &'a str {
-        self.array.get(place_of(page)).copied().unwrap_or("")
-    }
-
-    /// The device with a transaction more.
-    pub fn opened(mut self, open: Open<'a>) -> World<'a> {
-        for place in &mut self.open {
-            if place.is_none() {
-                *place = Some(open);
-                break;
-            }
+        match self.array.get(number_of(page)) {
+            Some(digits) => *digits,
+            None => "",
         }
-        self
     }
 
-    /// The device with another state of a transaction, or without it.
-    pub fn changed(mut self, tag: &str, to: Option<Open<'a>>) -> World<'a> {
+    /// The device with another in the place of the first transaction with this tag.
+    pub fn changed(mut self, tag: &str, to: Open<'a>) -> World<'a> {
         for place in &mut self.open {
-            if matches!(place, Some(open) if open.tag == tag) {
+            if place.tag == tag {
                 *place = to;
+                break;
             }
         }
         self
@@ -153,8 +139,8 @@ impl<'a> World<'a> {
     /// The device after all pages of a transaction have changed.
     pub fn put(mut self, pages: &'a str) -> World<'a> {
         for entry in pages.split(' ') {
-            let (page, digits) = page_of(entry);
-            if let Some(place) = self.array.get_mut(place_of(page)) {
+            let (page, digits) = halves(entry, "=");
+            if let Some(place) = self.array.get_mut(number_of(page)) {
                 *place = digits;
             }
         }
@@ -164,9 +150,10 @@ impl<'a> World<'a> {
     /// The device after it has found what a fault left.
     pub fn settled(self) -> World<'a> {
         let mut next = self;
-        for open in self.open.iter().flatten() {
-            if open.mark == Mark::Unseen {
-                next = next.put(open.pages).changed(open.tag, Some(open.whole()));
+        for open in &self.open {
+            if matches!(open.mark, Mark::Unseen) {
+                let whole = open.with(open.written, Mark::Whole);
+                next = next.put(open.pages).changed(open.tag, whole);
             }
         }
         next
@@ -175,7 +162,7 @@ impl<'a> World<'a> {
     /// The device that is opened anew from the same flash.
     pub fn reopened(self) -> World<'a> {
         let mut next = self.settled();
-        next.open = [None; 3];
+        next.open = [NONE; 3];
         next
     }
 }

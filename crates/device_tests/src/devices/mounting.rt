@@ -12,7 +12,7 @@ use tx_engine::{Device, MountError};
 use tx_types::Config;
 
 /// Whether a flash has the shape of a configuration, whose protocol is that of the rule.
-fn is_fit<F: Flash, R: CommitRule>(flash: &F, config: Config) -> bool
+pub fn is_fit<F: Flash, R: CommitRule>(flash: &F, config: Config) -> bool
     ensures check { IsTrue result → checked config ≡ Ok (F.state flash.now).shape }
     ensures rule { IsTrue result → config.protocol ≡ R.protocol }
 {

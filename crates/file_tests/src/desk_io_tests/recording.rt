@@ -27,7 +27,7 @@ fn last_part(path: &str) -> &'static str {
 #[derive(Drop)]
 pub struct Log {
     /// Each call with the last part of its name.
-    text: RefCell<String>,
+    pub text: RefCell<String>,
     /// How many calls are made until one fails; 0 where none does.
     left: Cell<u32>,
     /// How it fails.
@@ -47,22 +47,6 @@ impl Log {
     /// Whether the call that fails was made.
     pub fn has_failed(&self) -> bool {
         self.left.get() == 0
-    }
-
-    /// Whether these calls were made.
-    pub fn has(&self, calls: &str) -> bool {
-        match self.text.try_borrow() {
-            Ok(text) => text.as_str().trim_ascii_end() == calls,
-            Err(_) => false,
-        }
-    }
-
-    /// What was called, where there is memory for it.
-    pub fn text(&self, alloc: Global) -> Option<String> {
-        match self.text.try_borrow() {
-            Ok(text) => String::from_str(alloc, text.as_str()).ok(),
-            Err(_) => None,
-        }
     }
 
     /// Adds a call to the text, where there is memory for it.

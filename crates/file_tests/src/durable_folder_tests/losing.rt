@@ -3,16 +3,32 @@ mod mixes;
 
 use durable_folder::Found;
 use mixes::may_mixes_be;
-use std::alloc::{AllocError, Global};
+use std::alloc::Global;
 use std::fs::Permissions;
-use std::io;
 use std::io::{Error, ErrorKind};
 use std::os::unix::fs::PermissionsExt;
+use std::{io, mem};
 
 /// What a loss of power may leave at a name.
-pub trait Judge {
-    /// Whether these bytes may be left, or nothing.
-    fn may_be(&self, left: Option<&[u8]>) -> bool;
+#[derive(Drop)]
+pub struct Wanted<'a> {
+    /// These bytes.
+    pub one: &'a [u8],
+    /// Or these.
+    pub other: &'a [u8],
+    /// Or no file.
+    pub is_none: bool,
+    /// Or a file that was torn: its first block at most, or nothing in this.
+    pub is_torn: bool,
+}
+
+impl Wanted<'_> {
+    /// Whether these bytes may be left.
+    fn may_be(&self, left: &[u8]) -> bool {
+        left == self.one
+            || left == self.other
+            || (self.is_torn && (left.len() <= 64 || left.first() == Some(&0)))
+    }
 }
 
 /// An open file.
@@ -22,52 +38,31 @@ pub struct Opened {
     offset: usize,
 }
 
-/// A name, and the files that it had since its folder was synced, the newest last.
-#[derive(Drop)]
-pub struct Name {
-    text: String,
-    files: Vec<Option<usize>>,
-}
-
-/// What is special of a folder and of the file `f` in it.
-#[derive(Clone, Copy, PartialEq, Eq)]
-pub enum Setting {
-    Plain,
-    /// The file has a second name elsewhere.
-    TwoNames,
-    /// The file stands on another device than its folder.
-    MountPoint,
-    /// The folder may not be opened.
-    ClosedFolder,
-    /// A new file may not be given to the owner of the old one.
-    OwnerRefused,
-    /// The system cannot sync folders.
-    NoFolderSync,
-    /// Where a link leads can't be told.
-    Unresolved,
-    /// A file can't have a second name.
-    NoLinks,
-    /// Another program makes a file of a name just before a new one is linked there.
-    Overtaken,
-    /// Another program puts a file in the place of `f` while a file is synced.
-    OvertakenInFilling,
-    /// It does so while a folder is synced.
-    OvertakenInSyncing,
-    /// Another program holds the lock of each file.
-    LockedElsewhere,
-    /// No file is a plain one.
-    Special,
-}
-
-/// A folder in memory that loses power. It keeps what each name and each file had since they were
-/// synced. The name `link` is a link to `f`.
+/// A folder in memory that loses power. It keeps what each name and each file had since they were synced. The name `link`
+/// is a link to `f`.
 #[derive(Drop)]
 pub struct CrashingFolder {
     alloc: Global,
-    names: Vec<Name>,
+    /// The file that each name has now.
+    names: [Option<usize>; 5],
+    /// The files that names had since the folder was synced.
+    lost: Vec<(usize, Option<usize>)>,
     /// The contents of each file, the newest last.
     files: Vec<Vec<Vec<u8>>>,
-    setting: Setting,
+    /// What is special of the folder and of the file `f` in it:
+    /// - `two-names`: the file has a second name elsewhere
+    /// - `mount-point`: it stands on another device than its folder
+    /// - `closed-folder`: the folder may not be opened
+    /// - `owner-refused`: a new file may not be given to the owner of the old one
+    /// - `no-folder-sync`: the system cannot sync folders
+    /// - `unresolved`: where a link leads can't be told
+    /// - `no-links`: a file can't have a second name
+    /// - `overtaken`: another program makes a file of a name just before a new one is linked there
+    /// - `overtaken-in-filling`: it puts a file in the place of `f` while a file is synced
+    /// - `overtaken-in-syncing`: it does so while a folder is synced
+    /// - `locked-elsewhere`: another program holds the lock of each file
+    /// - `special`: no file is a plain one
+    pub setting: &'static str,
     /// How many calls were made.
     pub calls: u32,
     /// The number of the call that fails.
@@ -80,6 +75,27 @@ pub struct CrashingFolder {
     pub is_in_place: bool,
     /// Whether it was said that a folder can't be synced, or may not be opened.
     pub is_unsynced: bool,
+    /// Whether there was no memory for what is kept.
+    is_short: bool,
+}
+
+/// Where a name stands.
+fn place_of(name: &str) -> usize {
+    match name {
+        "f" => 0,
+        "other" => 1,
+        "f.saving" => 2,
+        "link" => 3,
+        _ => 4,
+    }
+}
+
+/// Has the oldest contents read, and the newest kept in their place.
+fn turn_back(versions: &mut Vec<Vec<u8>>) {
+    let count = versions.len();
+    if count > 0 {
+        versions.swap(0, count - 1);
+    }
 }
 
 impl CrashingFolder {
@@ -87,14 +103,15 @@ impl CrashingFolder {
     /// is lost.
     pub fn new(
         alloc: Global,
-        setting: Setting,
+        setting: &'static str,
         fails: u32,
         kind: ErrorKind,
         is_cut: bool,
     ) -> CrashingFolder {
         CrashingFolder {
             alloc,
-            names: Vec::new(alloc),
+            names: [None; 5],
+            lost: Vec::new(alloc),
             files: Vec::new(alloc),
             setting,
             calls: 0,
@@ -103,51 +120,30 @@ impl CrashingFolder {
             is_cut,
             is_in_place: false,
             is_unsynced: false,
+            is_short: false,
         }
     }
 
-    /// Adds a file that is durably there.
-    pub fn put(&mut self, name: &str, bytes: &[u8]) -> Result<(), AllocError> {
-        let file = self.add_file(bytes)?;
-        self.add_name(name, &[Some(file)])
-    }
-
-    /// Adds a name that had these files.
-    fn add_name(&mut self, name: &str, files: &[Option<usize>]) -> Result<(), AllocError> {
-        let name = Name {
-            text: String::from_str(self.alloc, name)?,
-            files: files.to_vec(self.alloc)?,
-        };
-        self.names.push(name)?;
-        Ok(())
-    }
-
-    /// Adds a file of these bytes. Gives its number.
-    fn add_file(&mut self, bytes: &[u8]) -> Result<usize, AllocError> {
+    /// Gives a name a new file of these bytes. Returns its number.
+    pub fn replace(&mut self, name: &str, bytes: &[u8]) -> usize {
         let file = self.files.len();
-        self.files.push(Vec::new(self.alloc))?;
-        self.change(file, bytes.to_vec(self.alloc)?, true)?;
-        Ok(file)
-    }
-
-    /// Gives a name another file of these bytes.
-    pub fn replace(&mut self, name: &str, bytes: &[u8]) -> Result<(), AllocError> {
-        let file = self.add_file(bytes)?;
-        self.set(name, Some(file))
+        self.is_short |= self.files.push(Vec::new(self.alloc)).is_err();
+        self.change(file, bytes, true);
+        self.set(name, Some(file));
+        file
     }
 
     /// Gives the file of a name these bytes.
-    pub fn rewrite(&mut self, name: &str, bytes: &[u8]) -> Result<(), AllocError> {
+    pub fn rewrite(&mut self, name: &str, bytes: &[u8]) {
         match self.file(name) {
-            Some(file) => self.change(file, bytes.to_vec(self.alloc)?, true),
-            None => Ok(()),
+            Some(file) => self.change(file, bytes, true),
+            None => self.is_short = true,
         }
     }
 
-    /// Gives a name what is no plain file, of these bytes.
-    pub fn replace_by_special(&mut self, name: &str, bytes: &[u8]) -> Result<(), AllocError> {
-        self.setting = Setting::Special;
-        self.replace(name, bytes)
+    /// Makes the file that each name has now the only one that it had.
+    pub fn keep_names(&mut self) {
+        self.lost.clear();
     }
 
     /// Counts a call, and fails where it is to fail.
@@ -159,33 +155,31 @@ impl CrashingFolder {
         Ok(())
     }
 
-    /// A name that has or had files.
-    fn find_name(&self, name: &str) -> Option<&Name> {
-        for it in &self.names {
-            if it.text.as_str() == name {
-                return Some(it);
-            }
+    /// Makes a call that such a folder denies.
+    fn call_in(&mut self, denied: &str) -> io::Result<()> {
+        let answer = self.call();
+        if answer.is_ok() && self.setting == denied {
+            Err(Error::from(ErrorKind::PermissionDenied))
+        } else {
+            answer
         }
-        None
     }
 
     /// The file that a name has now.
     fn file(&self, name: &str) -> Option<usize> {
-        match self.find_name(name) {
-            Some(found) => found.files.last().copied().unwrap_or(None),
+        match self.names.get(place_of(name)) {
+            Some(file) => *file,
             None => None,
         }
     }
 
     /// Gives a name another file.
-    fn set(&mut self, name: &str, file: Option<usize>) -> Result<(), AllocError> {
-        for it in self.names.iter_mut() {
-            if it.text.as_str() == name {
-                it.files.push(file)?;
-                return Ok(());
-            }
+    fn set(&mut self, name: &str, file: Option<usize>) {
+        let at = place_of(name);
+        if let Some(place) = self.names.get_mut(at) {
+            let before = mem::replace(place, file);
+            self.is_short |= self.lost.push((at, before)).is_err();
         }
-        self.add_name(name, &[None, file])
     }
 
     /// What is read of a file.
@@ -200,38 +194,35 @@ impl CrashingFolder {
     }
 
     /// Gives a file new contents, which are read from then on where the call did not fail.
-    fn change(&mut self, file: usize, bytes: Vec<u8>, is_read: bool) -> Result<(), AllocError> {
-        if let Some(versions) = self.files.get_mut(file) {
-            versions.push(bytes)?;
-            let last = versions.len().saturating_sub(1);
-            if !is_read && last > 0 {
-                versions.swap(0, last);
+    fn change(&mut self, file: usize, bytes: &[u8], is_read: bool) {
+        match (self.files.get_mut(file), bytes.to_vec(self.alloc)) {
+            (Some(versions), Ok(bytes)) => {
+                self.is_short |= versions.push(bytes).is_err();
+                if !is_read {
+                    turn_back(versions);
+                }
             }
+            _ => self.is_short = true,
         }
-        Ok(())
     }
 
     /// Makes a call that gives a file new contents. One that fails gives them all the same, and so does one in which
     /// power is lost. But they are not read.
-    fn call_and_change(&mut self, file: usize, bytes: Vec<u8>) -> io::Result<()> {
+    fn call_and_change(&mut self, file: usize, bytes: &[u8]) -> io::Result<()> {
         let answer = self.call();
         if answer.is_ok() || self.calls == self.fails {
-            self.change(file, bytes, answer.is_ok())?;
+            self.change(file, bytes, answer.is_ok());
         }
         answer
     }
 
-    /// What is told of a file of this number.
-    fn facts(&self, file: usize) -> Found {
+    /// What is told of a file of this number on a device, or of a link.
+    fn facts(&self, file: usize, device: u64, is_link: bool) -> Found {
         Found {
-            is_file: self.setting != Setting::Special,
-            is_link: false,
-            names: if self.setting == Setting::TwoNames {
-                2
-            } else {
-                1
-            },
-            device: 1,
+            is_file: !is_link && self.setting != "special",
+            is_link,
+            names: if self.setting == "two-names" { 2 } else { 1 },
+            device,
             inode: file as u64,
             user: 0,
             group: 0,
@@ -243,31 +234,22 @@ impl CrashingFolder {
     }
 
     /// Whether all that a loss of power may leave of a file may be left, or nothing where there is none.
-    fn may_file_be<J: Judge>(&self, file: Option<usize>, judge: &J) -> bool {
-        let Some(file) = file else {
-            return judge.may_be(None);
-        };
-        match self.files.get(file) {
-            Some(versions) => may_mixes_be(self.alloc, versions, judge),
-            None => true,
+    fn may_file_be(&self, file: Option<usize>, wanted: &Wanted) -> bool {
+        match file {
+            Some(file) => match self.files.get(file) {
+                Some(versions) => may_mixes_be(self.alloc, versions, wanted),
+                None => false,
+            },
+            None => wanted.is_none,
         }
-    }
-
-    /// The same of all files that a name had.
-    fn may_files_be<J: Judge>(&self, name: &Name, judge: &J) -> bool {
-        for file in &name.files {
-            if !self.may_file_be(*file, judge) {
-                return false;
-            }
-        }
-        true
     }
 
     /// Whether all that a loss of power may leave at a name may be left, where files have two blocks at most.
-    pub fn may_be_left<J: Judge>(&self, name: &str, judge: &J) -> bool {
-        match self.find_name(name) {
-            Some(found) => self.may_files_be(found, judge),
-            None => judge.may_be(None),
+    pub fn may_be_left(&self, name: &str, wanted: &Wanted) -> bool {
+        let mut may_be = !self.is_short && self.may_file_be(self.file(name), wanted);
+        for (at, file) in &self.lost {
+            may_be = may_be && (*at != place_of(name) || self.may_file_be(*file, wanted));
         }
+        may_be
     }
 }

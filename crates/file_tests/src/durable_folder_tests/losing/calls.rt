@@ -1,8 +1,7 @@
 //! The calls of a folder that loses power.
 use super::mixes::add_mix;
-use super::{CrashingFolder, Opened, Setting};
+use super::{CrashingFolder, Opened, turn_back};
 use durable_folder::{Folder, Found, Lock};
-use std::alloc::AllocError;
 use std::fs::Permissions;
 use std::io;
 use std::io::{Error, ErrorKind};
@@ -24,47 +23,22 @@ fn add_overwritten(seen: &[u8], offset: usize, bytes: &[u8], written: &mut Vec<u
 }
 
 impl CrashingFolder {
-    /// Adds an empty file of this name, which is not durably there. Gives its number.
-    fn add_named_file(&mut self, name: &str) -> Result<usize, AllocError> {
-        let file = self.add_file(&[])?;
-        self.set(name, Some(file))?;
-        Ok(file)
-    }
-
     /// Makes what is read of a file all that it had, or after a failure an older version what is read.
-    fn keep_one(&mut self, file: usize, is_synced: bool) -> Result<(), AllocError> {
-        let seen = self.contents(file).to_vec(self.alloc)?;
-        let Some(versions) = self.files.get_mut(file) else {
-            return Ok(());
-        };
-        if is_synced {
-            versions.clear();
-            versions.push(seen)?;
-        } else if versions.len() > 1 {
-            let last = versions.len() - 1;
-            versions.swap(0, last);
-        }
-        Ok(())
-    }
-
-    /// Another program puts a file in the place of `f`, in such a folder.
-    fn overtake_in(&mut self, setting: Setting) -> Result<(), AllocError> {
-        if self.setting == setting {
-            self.replace("f", b"meanwhile")?;
-            self.keep_names()?;
-        }
-        Ok(())
-    }
-
-    /// Makes the file that each name has now the only one that it had.
-    fn keep_names(&mut self) -> Result<(), AllocError> {
-        for it in self.names.iter_mut() {
-            if let Some(last) = it.files.last().copied() {
-                it.files.clear();
-                it.files.push(last)?;
+    fn keep_one(&mut self, file: usize, is_synced: bool) {
+        if let Some(versions) = self.files.get_mut(file) {
+            turn_back(versions);
+            if is_synced {
+                versions.truncate(1);
             }
         }
-        Ok(())
+    }
+
+    /// Another program puts a file at a name, in such a folder.
+    fn overtake_in(&mut self, setting: &str, name: &str) {
+        if self.setting == setting {
+            self.replace(name, b"meanwhile");
+            self.keep_names();
+        }
     }
 }
 
@@ -82,51 +56,38 @@ impl Folder for CrashingFolder {
     ghost place = { λ _. [] };
 
     fn find(&mut self, name: &str) -> io::Result<Found> {
-        self.call()?;
         let is_link = name == "link";
         let file = self.file(follow_link(name));
-        if file.is_none() && !is_link {
-            return Err(Error::from(ErrorKind::NotFound));
-        }
-        Ok(Found {
-            is_file: !is_link && self.setting != Setting::Special,
-            is_link,
-            ..self.facts(file.unwrap_or(0))
-        })
+        let found = if is_link || file.is_some() {
+            Ok(self.facts(file.unwrap_or(0), 1, is_link))
+        } else {
+            Err(Error::from(ErrorKind::NotFound))
+        };
+        self.call().and(found)
     }
 
     fn find_open(&mut self, file: &Opened) -> io::Result<Found> {
-        self.call()?;
-        Ok(self.facts(file.file))
+        self.call().and(Ok(self.facts(file.file, 1, false)))
     }
 
     fn find_folder(&mut self, _folder: &bool) -> io::Result<Found> {
-        self.call()?;
-        let device = if self.setting == Setting::MountPoint {
-            2
-        } else {
-            1
-        };
-        Ok(Found {
-            device,
-            ..self.facts(0)
-        })
+        let device = if self.setting == "mount-point" { 2 } else { 1 };
+        self.call().and(Ok(self.facts(0, device, false)))
     }
 
     fn resolve(&mut self, name: &str) -> io::Result<PathBuf> {
-        self.call()?;
-        if self.setting == Setting::Unresolved {
-            return Err(Error::from(ErrorKind::PermissionDenied));
+        match PathBuf::from_str(self.alloc, follow_link(name)) {
+            Ok(path) => self.call_in("unresolved").and(Ok(path)),
+            Err(_) => Err(Error::from(ErrorKind::OutOfMemory)),
         }
-        Ok(PathBuf::from_str(self.alloc, follow_link(name))?)
     }
 
     fn open(&mut self, name: &str) -> io::Result<Opened> {
-        self.call()?;
-        match self.file(follow_link(name)) {
+        let opened = match self.file(follow_link(name)) {
             Some(file) => Ok(Opened { file, offset: 0 }),
             None => Err(Error::from(ErrorKind::NotFound)),
-        }
+        };
+        self.call().and(opened)
     }
 
     fn open_to_read(&mut self, name: &str) -> io::Result<Opened> {
@@ -134,18 +95,21 @@ impl Folder for CrashingFolder {
     }
 
     fn read(&mut self, file: &mut Opened, most: usize) -> io::Result<Vec<u8>> {
-        self.call()?;
         let seen = self.contents(file.file);
         let rest = seen.get(file.offset..).unwrap_or(&[]);
-        Ok(rest.get(..most).unwrap_or(rest).to_vec(self.alloc)?)
+        match rest.get(..most).unwrap_or(rest).to_vec(self.alloc) {
+            Ok(bytes) => self.call().and(Ok(bytes)),
+            Err(_) => Err(Error::from(ErrorKind::OutOfMemory)),
+        }
     }
 
     fn try_lock(&mut self, _file: &mut Opened) -> io::Result<Lock> {
-        self.call()?;
-        if self.setting == Setting::LockedElsewhere {
-            return Ok(Lock::Elsewhere);
-        }
-        Ok(Lock::Held)
+        let lock = if self.setting == "locked-elsewhere" {
+            Lock::Elsewhere
+        } else {
+            Lock::Held
+        };
+        self.call().and(Ok(lock))
     }
 
     fn open_or_create(&mut self, name: &str) -> io::Result<Opened> {
@@ -160,27 +124,19 @@ impl Folder for CrashingFolder {
         if self.file(name).is_some() {
             return Err(Error::from(ErrorKind::AlreadyExists));
         }
-        let file = self.add_named_file(name)?;
+        let file = self.replace(name, b"");
         self.is_in_place = self.is_in_place || name == "f";
         Ok(Opened { file, offset: 0 })
     }
 
     fn open_folder(&mut self, _folder: &str) -> io::Result<bool> {
-        let mut answer = self.call();
-        if answer.is_ok() && self.setting == Setting::ClosedFolder {
-            answer = Err(Error::from(ErrorKind::PermissionDenied));
-        }
+        let answer = self.call_in("closed-folder");
         self.is_unsynced = self.is_unsynced || answer.is_err();
-        answer?;
-        Ok(true)
+        answer.and(Ok(true))
     }
 
     fn set_owner(&mut self, _name: &str, _user: u32, _group: u32) -> io::Result<()> {
-        self.call()?;
-        if self.setting == Setting::OwnerRefused {
-            return Err(Error::from(ErrorKind::PermissionDenied));
-        }
-        Ok(())
+        self.call_in("owner-refused")
     }
 
     fn set_permissions(&mut self, _file: &Opened, _permissions: Permissions) -> io::Result<()> {
@@ -190,77 +146,77 @@ impl Folder for CrashingFolder {
     fn write(&mut self, file: &mut Opened, bytes: &[u8]) -> io::Result<()> {
         let mut written = Vec::new(self.alloc);
         let seen = self.contents(file.file);
-        if !add_overwritten(seen, file.offset, bytes, &mut written) {
-            return Err(Error::from(ErrorKind::OutOfMemory));
-        }
-        let answer = self.call_and_change(file.file, written);
+        self.is_short |= !add_overwritten(seen, file.offset, bytes, &mut written);
+        let answer = self.call_and_change(file.file, &written);
         self.is_in_place = self.is_in_place || self.file("f") == Some(file.file);
         file.offset = file.offset.saturating_add(bytes.len());
         answer
     }
 
     fn seek(&mut self, file: &mut Opened, offset: u64) -> io::Result<()> {
-        self.call()?;
-        file.offset = usize::try_from(offset).unwrap_or(0);
-        Ok(())
+        let answer = self.call();
+        if answer.is_ok() {
+            file.offset = usize::try_from(offset).unwrap_or(0);
+        }
+        answer
     }
 
     fn set_length(&mut self, file: &Opened, length: u64) -> io::Result<()> {
+        let length = usize::try_from(length).unwrap_or(0);
         let mut resized = Vec::new(self.alloc);
         let seen = self.contents(file.file);
-        if !add_mix(
-            seen,
-            seen,
-            usize::try_from(length).unwrap_or(0),
-            &mut resized,
-        ) {
-            return Err(Error::from(ErrorKind::OutOfMemory));
-        }
-        self.call_and_change(file.file, resized)
+        self.is_short |= !add_mix(seen, seen, length, &mut resized);
+        self.call_and_change(file.file, &resized)
     }
 
     /// A sync that fails makes nothing durable, and what is read then is an older one.
     fn sync(&mut self, file: &Opened) -> io::Result<()> {
         let answer = self.call();
-        self.keep_one(file.file, answer.is_ok())?;
-        self.overtake_in(Setting::OvertakenInFilling)?;
+        self.keep_one(file.file, answer.is_ok());
+        self.overtake_in("overtaken-in-filling", "f");
         answer
     }
 
     fn rename(&mut self, from: &str, to: &str) -> io::Result<()> {
-        self.call()?;
-        let file = self.file(from);
-        self.set(to, file)?;
-        Ok(self.set(from, None)?)
+        let answer = self.call();
+        if answer.is_ok() {
+            self.set(to, self.file(from));
+            self.set(from, None);
+        }
+        answer
     }
 
     fn link(&mut self, from: &str, to: &str) -> io::Result<()> {
-        self.call()?;
-        if self.setting == Setting::NoLinks {
-            return Err(Error::from(ErrorKind::PermissionDenied));
+        self.overtake_in("overtaken", to);
+        let free = match self.file(to) {
+            Some(_) => Err(Error::from(ErrorKind::AlreadyExists)),
+            None => Ok(()),
+        };
+        let answer = self.call_in("no-links").and(free);
+        if answer.is_ok() {
+            self.set(to, self.file(from));
         }
-        if self.setting == Setting::Overtaken {
-            self.put(to, b"meanwhile")?;
-        }
-        if self.file(to).is_some() {
-            return Err(Error::from(ErrorKind::AlreadyExists));
-        }
-        let file = self.file(from);
-        Ok(self.set(to, file)?)
+        answer
     }
 
     fn sync_folder(&mut self, _folder: &bool) -> io::Result<()> {
-        self.call()?;
-        if self.setting == Setting::NoFolderSync {
+        let answer = self.call();
+        if answer.is_ok() && self.setting == "no-folder-sync" {
             self.is_unsynced = true;
             return Err(Error::from(ErrorKind::InvalidInput));
         }
-        self.overtake_in(Setting::OvertakenInSyncing)?;
-        Ok(self.keep_names()?)
+        if answer.is_ok() {
+            self.overtake_in("overtaken-in-syncing", "f");
+            self.keep_names();
+        }
+        answer
     }
 
     fn remove(&mut self, name: &str) -> io::Result<()> {
-        self.call()?;
-        Ok(self.set(name, None)?)
+        let answer = self.call();
+        if answer.is_ok() {
+            self.set(name, None);
+        }
+        answer
     }
 }

@@ -1,5 +1,5 @@
 //! What a file with several contents may hold.
-use super::Judge;
+use super::Wanted;
 use std::alloc::Global;
 
 /// Where the disk tears a file: bytes that are written at once.
@@ -18,29 +18,23 @@ pub fn add_mix(first: &[u8], second: &[u8], length: usize, bytes: &mut Vec<u8>) 
 }
 
 /// Whether a mix of this length may be left.
-fn may_mix_be<J: Judge>(
-    alloc: Global,
-    first: &[u8],
-    second: &[u8],
-    length: usize,
-    judge: &J,
-) -> bool {
+fn may_mix_be(alloc: Global, first: &[u8], second: &[u8], length: usize, wanted: &Wanted) -> bool {
     let mut bytes = Vec::new(alloc);
-    add_mix(first, second, length, &mut bytes) && judge.may_be(Some(bytes.as_slice()))
+    add_mix(first, second, length, &mut bytes) && wanted.may_be(bytes.as_slice())
 }
 
 /// Whether each mix of two files may be left: with the length of one version, of another, or one between them.
-fn may_lengths_be<J: Judge>(
+fn may_lengths_be(
     alloc: Global,
     versions: &[Vec<u8>],
     first: &[u8],
     second: &[u8],
-    judge: &J,
+    wanted: &Wanted,
 ) -> bool {
     for one in versions {
         for other in versions {
             let length = one.len().midpoint(other.len());
-            if !may_mix_be(alloc, first, second, length, judge) {
+            if !may_mix_be(alloc, first, second, length, wanted) {
                 return false;
             }
         }
@@ -50,10 +44,10 @@ fn may_lengths_be<J: Judge>(
 
 /// Whether each mix may be left of the first block of one version and the second of another, with the length of a
 /// third or one between it and that of a fourth.
-pub fn may_mixes_be<J: Judge>(alloc: Global, versions: &[Vec<u8>], judge: &J) -> bool {
+pub fn may_mixes_be(alloc: Global, versions: &[Vec<u8>], wanted: &Wanted) -> bool {
     for first in versions {
         for second in versions {
-            if !may_lengths_be(alloc, versions, first, second, judge) {
+            if !may_lengths_be(alloc, versions, first, second, wanted) {
                 return false;
             }
         }
