@@ -1,6 +1,0 @@
-use Rattle.verdict_report.proofs.Common.{take}
-use Rattle.verdict_report.specs.Newest.{KeepsNewest}
-use Rattle.verdict_report.proofs.records.newest_records.Given as goal
-
-abbrev pub invariant-loop-found : goal.invariant-loop-found
-invariant-loop-found l = KeepsNewest (take l.found-index l.list) l.newest.items
