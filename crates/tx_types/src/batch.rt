@@ -1,4 +1,4 @@
-ghost use Rattle.std.specs.Prelude.{◌≡◌, true, ◌<◌, ◌+◌, ◌*◌, ◌≤◌, ◌↔◌, [], ◌++◌, length, take, drop, is_none, IsTrue, IfOk, OnOk, OnErr};
+ghost use Rattle.std.specs.Prelude.{◌≡◌, true, ◌<◌, ◌+◌, ◌*◌, ◌≤◌, ◌↔◌, [], ◌++◌, length, is_none, IsTrue, IfOk, OnOk, OnErr};
 ghost use Rattle.std.specs.Fork.{slice_chunk};
 ghost use Rattle.tx_types.specs.Batch.{with_entry, with_discard, entry_at, bytes_in};
 ghost use Rattle.tx_types.specs.Entries.{head_of, cell_of, with_write};
@@ -169,29 +169,23 @@ fn add_cell(
     ensures ok { OnOk result (cells.new.items ≡ cells.old.items ++ cell_of target page_bytes bytes.now) }
     ensures err { OnErr result (cells.new.items ≡ cells.old.items) }
 {
-    let start = cells.len();
-    cells.resize(start + cell_bytes(page_bytes), 0)?;
-    fill_from(cells, start, target, bytes);
+    let size = cell_bytes(page_bytes);
+    let end = cells.len() + size;
+    cells.reserve(size)?;
+    cells.extend_from_slice(&head_of(target)).unwrap();
+    cells.extend_from_slice(bytes).unwrap();
+    cells.resize(end, 0).unwrap();
     Ok(())
 }
 
-/// Writes the head of an entry and its bytes from a place on. What is before it and behind them stays.
-fn fill_from(cells: &mut [u8], start: usize, target: Target, bytes: &[u8])
-    requires { start + HEAD_BYTES + length bytes.now ≤ length cells.old }
-    ensures { cells.new ≡ take start cells.old ++ head_of target ++ bytes.now
-        ++ drop (HEAD_BYTES + length bytes.now) (drop start cells.old) }
+/// The head of an entry.
+fn head_of(target: Target) -> [u8; HEAD_BYTES]
+    ensures { result ≡ head_of target }
 {
-    fill_cell(&mut cells[start..], target, bytes);
-}
-
-/// Writes the head of an entry and its bytes. What is behind them stays.
-fn fill_cell(cell: &mut [u8], target: Target, bytes: &[u8])
-    requires { HEAD_BYTES + length bytes.now ≤ length cell.old }
-    ensures { cell.new ≡ head_of target ++ bytes.now ++ drop (HEAD_BYTES + length bytes.now) cell.old }
-{
-    LittleEndian::write_u32(cell, target.page);
-    cell[PAGE_BYTES] = u8::from(target.discard);
-    cell[HEAD_BYTES..HEAD_BYTES + bytes.len()].copy_from_slice(bytes);
+    let mut head = [0; HEAD_BYTES];
+    LittleEndian::write_u32(&mut head, target.page);
+    head[PAGE_BYTES] = u8::from(target.discard);
+    head
 }
 
 /// The entry at this index, for pages of this many bytes.
