@@ -1,4 +1,4 @@
-ghost use Rattle.std.specs.Prelude.{◌≡◌, ℕ, ◌+◌, ◌-◌, ◌*◌, ◌/◌, ◌<◌, ◌≤◌, ◌^◌, ◌↔◌, ◌==◌, length, replicate, slice_index, slice_set, IfOk, IfSome, IsNone};
+ghost use Rattle.std.specs.Prelude.{◌≡◌, true, ℕ, ◌+◌, ◌-◌, ◌*◌, ◌/◌, ◌<◌, ◌≤◌, ◌^◌, ◌↔◌, ◌==◌, length, replicate, slice_index, slice_set, IfOk, IfSome, IsNone};
 ghost use Rattle.std.specs.List.{All, position};
 ghost use Rattle.dense_tables.specs.Greatest.{greatest, group_of, IsFirstGreatest};
 ghost use Rattle.dense_tables.specs.Levels.{under, IsTop};
@@ -186,10 +186,35 @@ fn greatest_under(cells: &[u32], cell: usize) -> u32
 {
     let from = 16 * cell + 1;
     if from + 16 <= cells.len() {
-        greatest(&cells[from..from + 16])
+        greatest_of_sixteen(&cells[from..from + 16])
     } else {
         greatest(under(cells, cell))
     }
+}
+
+/// The greatest of sixteen numbers. Most are 0 where few numbers are not, which is seen at once.
+#[inline(always)]
+fn greatest_of_sixteen(numbers: &[u32]) -> u32
+    requires { length numbers.now ≡ 16 }
+    ensures { result ≡ greatest numbers.now }
+{
+    if are_zero(numbers) {
+        0
+    } else {
+        greatest(numbers)
+    }
+}
+
+/// Whether each of sixteen numbers is 0. They are looked at at once.
+#[inline(always)]
+fn are_zero(numbers: &[u32]) -> bool
+    requires { length numbers.now ≡ 16 }
+    ensures { result ≡ true → greatest numbers.now ≡ 0 }
+{
+    let some = u32x16::from_slice(numbers)
+        .simd_gt(u32x16::splat(0))
+        .to_bitmask();
+    some == 0
 }
 
 /// The cells under a cell.

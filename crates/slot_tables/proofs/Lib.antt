@@ -5,3 +5,4 @@ pub mod OfSlots
 pub mod OfAnswerers
 pub mod OfWaitList
 pub mod OfBaseTables
+mod Reaching

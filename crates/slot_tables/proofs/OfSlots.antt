@@ -1,3 +1,4 @@
 pub mod Leaving
 pub mod SlotSetting
+pub mod FirstSlots
 pub mod GatheredSlots

@@ -10,6 +10,7 @@ pub mod SlotMarks
 pub mod LiveSlots
 pub mod Slots
 pub mod LazyTable
+pub mod OptionTable
 pub mod Records
 pub mod Responsibilities
 pub mod WaitList

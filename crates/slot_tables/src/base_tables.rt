@@ -1,12 +1,12 @@
-ghost use Rattle.std.specs.Prelude.{◌≡◌, ℕ, ◌<◌, ◌↔◌, length, replicate, slice_index, slice_set, Option, Some, None, true, false, IfOk, IfSome, IsSomeAnd};
+ghost use Rattle.std.specs.Prelude.{◌≡◌, ℕ, ◌<◌, ◌↔◌, length, replicate, slice_index, slice_set, find, Option, Some, None, true, false, IfOk, IfSome, IsSomeAnd};
 ghost use Rattle.std.specs.Option.{option_map, option_and_then};
 ghost use Rattle.tx_types.specs.Config.{blocks_of};
 ghost use Rattle.tx_types.specs.declared.record.Rec.{Rec};
-ghost use Rattle.record_list.specs.Written.{is_slot};
+ghost use Rattle.record_list.specs.Written.{is_slot, is_outside_spare};
 ghost use Rattle.slot_tables.specs.BaseTables.{tables_state, refreshed, is_same_slot, marked, home_marked, moved_refreshed, block_refreshed, IsSized, IsRefreshedFrom};
 ghost use Rattle.slot_tables.specs.Counts.{is_marked};
 ghost use Rattle.slot_tables.specs.Tables.{AreBlanks, AreMarked};
-ghost use Rattle.slot_tables.specs.TablesState.{use_at, number_in, home, home_in, is_wanted, is_needed, first_below, links_below, record_at};
+ghost use Rattle.slot_tables.specs.TablesState.{use_at, copies_of, number_in, home, home_in, is_wanted, is_needed, first_below, links_below, record_at};
 ghost use Rattle.slot_tables.specs.Versions.{Names};
 
 use crate::block_counts::BlockCounts;
@@ -14,7 +14,7 @@ use crate::current::Current;
 use crate::live_slots::LiveSlots;
 use crate::records::Records;
 use crate::responsibilities::Responsibilities;
-use crate::slots::{Slots, number_in};
+use crate::slots::{Slots, is_outside, number_in};
 use crate::wait_list::WaitList;
 use std::alloc::{AllocError, Global};
 use tx_types::{Block, Shape, Slot};
@@ -220,19 +220,37 @@ impl BaseTables {
         }
     }
 
-    /// A slot is not needed any more, but the home of this record is, if it has one.
+    /// Marks the home of this record as needed, if it has one.
     #[inline(always)]
-    pub fn move_need(&self, live: &mut LiveSlots, at: u32, number: Option<u32>)
+    pub fn need_home(&self, live: &mut LiveSlots, number: Option<u32>)
         requires sized { IsSized self.now }
-        requires slot { at < length self.now.slots }
         requires number { IfSome number (λ number. number < length self.now.slots) }
         requires live { length live.old.needed ≡ length self.now.slots }
         ensures { let home = option_and_then (home (tables_state self.now)) number in
-            live.new ≡ record live.old { needed = marked (slice_set live.old.needed at false) home } }
+            live.new ≡ record live.old { needed = marked live.old.needed home } }
     {
-        live.set(at, false);
         if let Some(home) = self.home_of(number) {
             live.set(home, true);
+        }
+    }
+
+    /// Whether a slot lies in the spare, and a copy of the record of a number outside it.
+    #[inline(always)]
+    pub fn is_aside(&self, at: u32, number: u32) -> bool
+        requires sized { IsSized self.now }
+        requires number { number < length self.now.slots }
+        ensures inside { let spare = option_map (λ b. b.0) self.now.spare in
+            result ≡ true → is_outside_spare self.now.shape spare at ≡ false }
+        ensures copy { let spare = option_map (λ b. b.0) self.now.spare in
+            result ≡ true →
+            find (is_outside_spare self.now.shape spare) (copies_of self.now.slots number) ≡ None → ⊥ }
+    {
+        if is_outside(self.shape, self.spare, at) {
+            return false;
+        }
+        match self.slots.first_off(self.shape, self.spare, number) {
+            None => false,
+            Some(_) => true,
         }
     }
 
@@ -274,7 +292,8 @@ impl BaseTables {
         }
     }
 
-    /// Marks each slot that is needed: the home of each record that is wanted. No slot is marked before.
+    /// Marks each slot that is needed: the home of each record that is wanted. No slot is marked before, and numbers
+    /// that never had a record are left out.
     fn mark_needed(&self, marks: &mut BlockCounts)
         requires sized { IsSized self.now }
         requires slots { length marks.old.marks ≡ length self.now.slots }
@@ -283,7 +302,7 @@ impl BaseTables {
         ensures slots { length marks.new.marks ≡ length self.now.slots }
         ensures needed { (at : ℕ) → is_marked marks.new.marks at ≡ is_needed (tables_state self.now) at }
     {
-        for number in 0..self.shape.slots() {
+        for number in 0..self.records.end() {
             self.mark_home(marks, number);
         }
     }

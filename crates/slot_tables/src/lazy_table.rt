@@ -66,7 +66,7 @@ impl<T: Copy> LazyTable<T> {
 }
 
 /// Adds values of this kind up to this many.
-fn reach<T: Copy>(first: &mut Vec<T>, end: usize, rest: &T)
+pub fn reach<T: Copy>(first: &mut Vec<T>, end: usize, rest: &T)
     requires { end ≤ vec_capacity first.old }
     ensures items { first.new.items
         ≡ first.old.items ++ replicate (end - length first.old.items) rest.now }

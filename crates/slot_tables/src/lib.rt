@@ -9,6 +9,7 @@ mod block_numbers;
 mod current;
 mod lazy_table;
 mod live_slots;
+mod option_table;
 mod records;
 mod responsibilities;
 mod slots;

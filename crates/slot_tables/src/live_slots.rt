@@ -195,6 +195,21 @@ impl LiveSlots {
         recount(&mut self.garbage, &self.marks, block);
     }
 
+    /// Sets whether a slot is needed and whether it is blank. The garbage of its block is counted once for both.
+    #[inline(always)]
+    pub fn mark(&mut self, at: u32, needed: bool, blank: bool)
+        requires { at < length self.old.needed }
+        ensures { self.new ≡ record self.old {
+          needed = slice_set self.old.needed at needed;
+          blanks = slice_set self.old.blanks at blank;
+        } }
+    {
+        self.marks.needed.set(at, needed);
+        self.marks.blanks.set(at, blank);
+        let block = self.marks.needed.group(at);
+        recount(&mut self.garbage, &self.marks, block);
+    }
+
     /// Sets whether a block is closed.
     pub fn set_closed(&mut self, block: Block, closed: bool)
         requires { block.0 < self.old.blocks }

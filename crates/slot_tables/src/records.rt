@@ -5,7 +5,7 @@ ghost use Rattle.dense_tables.specs.LinkedLists.{index_in, next_in};
 ghost use Rattle.slot_tables.specs.TablesState.{record_at, numbers_at, AreVersions, IsNewest};
 ghost use Rattle.slot_tables.specs.Versions.{Names, HasFree, IsTaken};
 
-use crate::lazy_table::LazyTable;
+use crate::option_table::OptionTable;
 use dense_tables::LinkedLists;
 use std::alloc::{AllocError, Global};
 use std::marker::Model;
@@ -15,7 +15,7 @@ use tx_types::Rec;
 /// record are listed, so that new tables need no list of all of them.
 #[derive(Drop)]
 pub struct Records {
-    records: LazyTable<Option<Rec>>,
+    records: OptionTable<Rec>,
     /// Behind the pages a list of the numbers that lost their record.
     lists: LinkedLists,
     /// How many pages there are.
@@ -45,7 +45,7 @@ impl Records {
             r ≡ record { records = replicate count None; pages = replicate pages [] }) }
     {
         Ok(Records {
-            records: LazyTable::new(alloc, count, None)?,
+            records: OptionTable::new(alloc, count)?,
             lists: LinkedLists::new(alloc, pages + 1, count)?,
             pages,
             unused: 0,
@@ -59,6 +59,14 @@ impl Records {
         ensures versions { AreVersions self.now.records self.now.pages }
     {
         self.records.get(number)
+    }
+
+    /// The first of the numbers that never had a record.
+    pub fn end(&self) -> u32
+        ensures within { result ≤ length self.now.records }
+        ensures fresh { (number : ℕ) → result ≤ number → record_at self.now.records number ≡ None }
+    {
+        self.unused
     }
 
     /// The number of the newest record of a page.

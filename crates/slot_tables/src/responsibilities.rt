@@ -2,6 +2,7 @@ ghost use Rattle.std.specs.Prelude.{◌≡◌, ℕ, ◌<◌, ◌≤◌, length, 
 ghost use Rattle.slot_tables.specs.TablesState.{number_at, is_answerer};
 
 use crate::lazy_table::LazyTable;
+use crate::option_table::OptionTable;
 use std::alloc::{AllocError, Global};
 use std::marker::Model;
 
@@ -9,7 +10,7 @@ use std::marker::Model;
 /// as under Simple Cyclic Commit, no room is touched.
 #[derive(Drop)]
 pub struct Responsibilities {
-    answerers: LazyTable<Option<u32>>,
+    answerers: OptionTable<u32>,
     counts: LazyTable<u32>,
 }
 
@@ -32,7 +33,7 @@ impl Responsibilities {
         ensures { IfOk result (λ a. a ≡ replicate count None) }
     {
         Ok(Responsibilities {
-            answerers: LazyTable::new(alloc, count, None)?,
+            answerers: OptionTable::new(alloc, count)?,
             counts: LazyTable::new(alloc, count, 0)?,
         })
     }

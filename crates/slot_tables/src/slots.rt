@@ -129,12 +129,17 @@ impl Slots {
         }
     }
 
-    /// The home of the record of a number, where this is the spare. This goes through the copies in it.
+    /// The home of the record of a number, where this is the spare: the only copy, where there is but one. Else this goes
+    /// through the copies in the spare.
+    #[inline]
     pub fn home(&self, shape: Shape, spare: Option<Block>, number: u32) -> Option<u32>
         requires shape { IsShape shape }
         requires number { number < length self.now }
         ensures { result ≡ home_in shape (option_map (λ b. b.0) spare) self.now number }
     {
+        if self.is_single(number) {
+            return self.first(number);
+        }
         match self.first_off(shape, spare, number) {
             Some(at) => Some(at),
             None => self.first(number),
@@ -173,7 +178,7 @@ impl Slots {
 
 /// Whether a slot lies outside a block, if there is one.
 #[inline(always)]
-fn is_outside(shape: Shape, block: Option<Block>, at: u32) -> bool
+pub fn is_outside(shape: Shape, block: Option<Block>, at: u32) -> bool
     requires { IsShape shape }
     ensures { result ≡ is_outside_spare shape (option_map (λ b. b.0) block) at }
 {

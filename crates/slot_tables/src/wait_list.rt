@@ -2,7 +2,7 @@ ghost use Rattle.std.specs.Prelude.{◌≡◌, ℕ, ◌<◌, ◌≤◌, length, 
 ghost use Rattle.slot_tables.specs.TablesState.{number_at};
 ghost use Rattle.slot_tables.specs.WaitListState.{AreWaiting};
 
-use crate::lazy_table::LazyTable;
+use crate::option_table::OptionTable;
 use dense_tables::LinkedLists;
 use std::alloc::{AllocError, Global};
 use std::marker::Model;
@@ -11,7 +11,7 @@ use std::marker::Model;
 /// any order.
 #[derive(Drop)]
 pub struct WaitList {
-    waits: LazyTable<Option<u32>>,
+    waits: OptionTable<u32>,
     waiting: LinkedLists,
     /// How many records wait.
     count: usize,
@@ -37,7 +37,7 @@ impl WaitList {
         ensures { IfOk result (λ w. w ≡ record { pages = pages; waits = replicate count None }) }
     {
         Ok(WaitList {
-            waits: LazyTable::new(alloc, count, None)?,
+            waits: OptionTable::new(alloc, count)?,
             waiting: LinkedLists::new(alloc, pages, count)?,
             count: 0,
         })

@@ -8,7 +8,7 @@ ghost use Rattle.version_index.specs.Committing.{LinksExist, newest_with_name, w
 ghost use Rattle.version_index.specs.Tables.{discard_at, noted_by, version_at};
 ghost use Rattle.version_index.specs.Written.{pages_written};
 
-use crate::counting::set_current;
+use crate::counting::{fills, is_filled, set_current};
 use crate::losing::release;
 use slot_tables::Tables;
 use tx_types::{Link, Protocol, Rec};
@@ -162,8 +162,9 @@ fn make_all_current(tables: &mut Tables, written: &mut u32, logical: u32, start:
 {
     let mut link = start;
     for _ in 0..logical {
+        let newest = newest_with_name(tables, link);
         make_newest_current(tables, written, link.page);
-        match newest_with_name(tables, link) {
+        match newest {
             None => return,
             Some(rec) => {
                 if rec.next.page == start.page {
@@ -211,9 +212,11 @@ fn make_newest_current(tables: &mut Tables, written: &mut u32, page: u32)
     // For the proof: the sizes of the tables.
     let _ = tables.shape();
     let current = current_version(tables, page);
+    let before = is_filled(tables, page);
     let newest = tables.newest(page);
+    let after = fills(tables, newest);
     release_above(tables, page, current);
-    set_current(tables, written, page, newest);
+    set_current(tables, written, page, newest, before, after);
 }
 
 /// Releases the records of a page above a version: they wait no more, and none answers for them.

@@ -1,11 +1,12 @@
 ghost use Rattle.std.specs.Prelude.{◌≡◌, ◌+◌, ◌<◌, ◌≤◌, length, slice_set, IfSome, if◌then◌else◌};
 ghost use Rattle.tx_types.specs.Config.{slots_of};
+ghost use Rattle.slot_tables.specs.TablesState.{number_at};
 ghost use Rattle.version_index.specs.Written.{fills, pages_written};
 
 use slot_tables::Tables;
 
 /// Whether the record of a number fills its page: there is one, which does not discard it.
-fn fills(tables: &Tables, number: Option<u32>) -> bool
+pub fn fills(tables: &Tables, number: Option<u32>) -> bool
     requires { IfSome number (λ x. x < slots_of tables.now.shape) }
     ensures { result ≡ fills tables.now.records number }
 {
@@ -35,19 +36,35 @@ pub fn count_written(tables: &Tables, logical: u32) -> u32
     count
 }
 
-/// Sets which record of a page is current, and keeps the number of pages that their current records fill.
-pub fn set_current(tables: &mut Tables, written: &mut u32, page: u32, to: Option<u32>)
+/// Whether the current record of a page fills it.
+pub fn is_filled(tables: &Tables, page: u32) -> bool
+    requires { page < length tables.now.pages }
+    ensures { result ≡ fills tables.now.records (number_at tables.now.current page) }
+{
+    fills(tables, tables.current(page))
+}
+
+/// Sets which record of a page is current, and keeps the number of pages that their current records fill. The caller
+/// knows whether the record before fills the page and whether this one does, and so looks at each of them once.
+pub fn set_current(
+    tables: &mut Tables,
+    written: &mut u32,
+    page: u32,
+    to: Option<u32>,
+    before: bool,
+    after: bool,
+)
     requires page { page < length tables.old.pages }
     requires number { IfSome to (λ x. x < slots_of tables.old.shape) }
     requires few { length tables.old.pages ≤ 65536 }
     requires written { written.old ≡ pages_written tables.old }
+    requires before { before ≡ fills tables.old.records (number_at tables.old.current page) }
+    requires after { after ≡ fills tables.old.records to }
     ensures set { tables.new ≡ record tables.old { current = slice_set tables.old.current page to } }
     ensures written { written.new ≡ pages_written tables.new }
 {
     // For the proof: the sizes of the tables.
     let _ = tables.shape();
-    let before = fills(tables, tables.current(page));
-    let after = fills(tables, to);
     tables.set_current(page, to);
     *written = recount(*written, before, after);
 }

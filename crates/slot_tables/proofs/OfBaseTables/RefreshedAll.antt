@@ -1,10 +1,12 @@
 -- The homes of wanted records are marked one after the other, and tables that were filled once all are.
-use Rattle.slot_tables.proofs.Common.{◌≡◌, ℕ, zero, suc, ◌+◌, ◌<◌, Bool, true, false, cond, Option, Some, None, List, map, set, replicate, length, refl, sym, ap, ◌∙◌, inl, inr, arith, eqb-true, length-set, range_with_len, IfSome, cases_eq, cases_lt, false≢true, get_or-set_same, get_or-set_other, get_or_past, blocks_of, slots_of, is_slot, SlotUse, Blank, Damaged, Holds, TablesState, IsTablesState, use_at, number_in, home, is_wanted, is_needed, is_needed_for, LiveSlotsState, is_marked, tables_state, AreMarked, TablesInvariant}
+use Rattle.slot_tables.proofs.Common.{◌≡◌, ℕ, zero, suc, ◌+◌, ◌<◌, ◌≤◌, Bool, true, false, cond, Option, Some, None, List, map, set, replicate, length, refl, sym, ap, ◌∙◌, inl, inr, arith, eqb-true, length-set, range_with_len, IfSome, cases_eq, cases_lt, false≢true, get_or-set_same, get_or-set_other, get_or_past, blocks_of, slots_of, is_slot, SlotUse, Blank, Damaged, Holds, TablesState, IsTablesState, use_at, number_in, record_at, Rec, home, is_wanted, is_needed, is_needed_for, LiveSlotsState, is_marked, tables_state, AreMarked, TablesInvariant}
+use Rattle.std.specs.Option.{option_map_or}
 use Rattle.std.proofs.lemmas.Bool.{and_parts}
 use Rattle.std.proofs.lemmas.Option.{same_Some, none-some}
 use Rattle.std.proofs.lemmas.List.FromFn.{get_or-map-range_with_len, length-map-range_with_len}
 use Rattle.slot_tables.specs.declared.tables_builder.TablesBuilder.TheInside.{Inside}
 use Rattle.slot_tables.specs.declared.tables.Tables.TheInside.{Inside as Whole}
+use Rattle.slot_tables.specs.TablesState.{is_wanted_as}
 use Rattle.slot_tables.specs.TablesBuilder.{TablesBuilderInvariant}
 use Rattle.slot_tables.specs.BaseTables.{marked, home_marked}
 use Rattle.slot_tables.proofs.OfLiveSlots.Needing.{needed_none, home_wanted, home_lies}
@@ -54,6 +56,18 @@ one_more k upto marks h size = by (is_wanted k upto) refl (home k upto) refl (ho
     by false unwanted o is lies = skip (λ at _home wanted. false≢true (sym unwanted ∙ wanted))
     by true wanted None is lies = skip (λ at its_home _wanted. none-some at (sym is ∙ its_home))
     by true wanted (Some at) is lies = marked_more k upto at marks h is wanted (omega arith)
+
+-- numbers without a record have nothing that is marked
+pub homes_past : (k : TablesState) (end upto : ℕ) (marks : List Bool) →
+    ((number : ℕ) → end ≤ number → record_at k.records number ≡ None) → AreHomes k end marks → AreHomes k upto marks
+homes_past k end upto marks fresh h = record {
+  needed = h.needed;
+  homes = λ number at less its_home wanted. elim (cases_lt number end) [
+    | inl low ↦ h.homes number at low its_home wanted
+    | inr past ↦ absurd (false≢true
+        (sym (ap (λ (o : Option Rec). option_map_or (is_wanted_as k number) o false) (fresh number past)) ∙ wanted))
+  ];
+}
 
 pub unmarked : (n at : ℕ) → is_marked (replicate n false) at ≡ false
 unmarked zero at = refl

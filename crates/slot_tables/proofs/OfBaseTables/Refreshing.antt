@@ -2,7 +2,7 @@
 use Rattle.slot_tables.proofs.Common.{◌≡◌, ◌≢◌, ℕ, ◌<◌, ◌⊎◌, Bool, inl, inr, Option, Some, None, List, [], length, get_or, set, refl, sym, ◌∙◌, ap, length-set, IfSome, IsSomeAnd, option_and_then, with_item, cases_eq, cases_lt, get_or-set_same, get_or-set_other, get_or_past, Contains-nil, slots_of, Rec, Inside, BaseTables, TablesState, number_at, record_at, home, copies_of, is_wanted, is_needed, LiveSlotsState, tables_state, refreshed, IsSized, TablesInvariant, AreMarked}
 use Rattle.slot_tables.specs.TablesState.{AreVersions}
 use Rattle.slot_tables.specs.Versions.{RecordsState, Names}
-use Rattle.slot_tables.proofs.OfLiveSlots.Needing.{need_stays, refreshed_at, refreshed_long, home_lies, home_copy, current_wanted, answerer_wanted, pin_wanted}
+use Rattle.slot_tables.proofs.OfLiveSlots.Needing.{need_stays, refreshed_at, refreshed_long, home_lies, home_copy, current_wanted, answerer_wanted, pin_wanted, current_pin_wanted}
 use Rattle.slot_tables.proofs.OfLiveSlots.Needing.{record_wanted}
 
 -- the home of a number, if there is one
@@ -227,6 +227,40 @@ module _ (t : Inside) (h : TablesInvariant t) where
             (λ at off_a off_b. wants_stay k (tables_state g') at old new refl refl refl
             (λ number a b. pin_wanted k page version number low
             (λ r e page_is. ((λ v. a (was number r e (page_is, v))), (λ v. b (is number r e (page_is, v))))))
+            off_a off_b);
+      }
+
+  -- another pin of a page at which no record stands, where the old one names its current record, which is wanted so
+  pub pin_left : (page version : ℕ) → page < length g.pins.items
+      → ((number : ℕ) (r : Rec) → record_at g.records.records number ≡ Some r →
+      Names page (get_or g.pins.items page 0) r → number_at g.current page ≡ Some number)
+      → ((number : ℕ) (r : Rec) → record_at g.records.records number ≡ Some r → Names page version r → ⊥)
+      → let g' = record g { pins = with_item g.pins page version } in TablesInvariant (record t { base = g' })
+  pin_left page version low was none =
+      let g' = record g { pins = with_item g.pins page version } in
+      record {
+        sized = record {
+          kept = record {
+            shape = h.sized.kept.shape;
+            slots = slots_long;
+            records = h.sized.kept.records;
+            answerers = h.sized.kept.answerers;
+            waits = h.sized.kept.waits;
+            current = h.sized.kept.current;
+            pins = length-set g.pins.items page version ∙ h.sized.kept.pins;
+            spare = h.sized.kept.spare;
+            closed = h.sized.kept.closed;
+            held = h.sized.kept.held;
+            counts = h.sized.kept.counts;
+            versions = h.sized.kept.versions;
+          };
+          waits_pages = h.sized.waits_pages;
+        };
+        blanks = record { marks = h.blanks.marks; size = h.blanks.size };
+        live = marked_twice k (tables_state g') t.live None None h.live slots_long refl refl refl
+            (λ at off_a off_b. wants_stay k (tables_state g') at None None refl refl refl
+            (λ number a b. current_pin_wanted k page version number low
+            (λ r e page_is v. was number r e (page_is, v)) (λ r e page_is v. none number r e (page_is, v)))
             off_a off_b);
       }
 

@@ -177,6 +177,41 @@ module _ (n : Inside) (h : LiveSlotsInvariant n) where
         recounted blank_marks n.garbage (at / n.marks.needed.size) (blank_lies at low) refl blank_sized h.spare refl
         (λ k other lies. count_read k lies ∙ sym (blank_others k other))
 
+  -- a slot is marked as needed, or not, and as blank, or not
+  module _ (at : ℕ) (mark blank : Bool) (low : at < length n.marks.needed.marks) where
+    blanks_low : at < length n.marks.blanks.marks
+    blanks_low = omega (arith, h.sized.needed, h.sized.blanks)
+
+    abbrev both_marks : SlotMarks
+    both_marks = record n.marks {
+      needed = record n.marks.needed { marks = set n.marks.needed.marks at mark };
+      blanks = record n.marks.blanks { marks = set n.marks.blanks.marks at blank };
+    }
+
+    pub both_sized : AreSized both_marks (length n.garbage)
+    both_sized = record {
+      size = h.sized.size;
+      needed = length-set n.marks.needed.marks at mark ∙ h.sized.needed;
+      blanks = length-set n.marks.blanks.marks at blank ∙ h.sized.blanks;
+      closed = h.sized.closed;
+    }
+
+    both_others : (k : ℕ) → k ≢ at / n.marks.needed.size → garbage_by both_marks k ≡ garbage_by n.marks k
+    both_others k other =
+        rw (
+          marked_there n.marks.needed.marks n.marks.needed.size at mark h.positive low k other,
+          marked_there n.marks.blanks.marks n.marks.needed.size at blank h.positive blanks_low k other,
+          last_there at blank blanks_low k other,
+        ) refl
+
+    pub both_set : LiveSlotsInvariant (record n {
+      marks = both_marks;
+      garbage = set n.garbage (at / n.marks.needed.size) (garbage_by both_marks (at / n.marks.needed.size));
+    })
+    both_set =
+        recounted both_marks n.garbage (at / n.marks.needed.size) (block_lies at low) refl both_sized h.spare refl
+        (λ k other lies. count_read k lies ∙ sym (both_others k other))
+
   -- a block is closed, or not
   module _ (block : ℕ) (flag : Bool) (low : block < length n.garbage) where
     abbrev closed_marks : SlotMarks

@@ -217,6 +217,34 @@ pin_wanted k page version number low names =
       | inr other ↦ ap (eqb r.version) (get_or-set_other k.pins page r.page version 0 other)
     ]))
 
+-- another pin does not change it where the old one names the current record, and the new one none
+pub current_pin_wanted : (k : TablesState) (page version number : ℕ) → page < length k.pins
+    → ((r : Rec) → record_at k.records number ≡ Some r → r.page ≡ page → r.version ≡ get_or k.pins page 0
+    → number_at k.current page ≡ Some number)
+    → ((r : Rec) → record_at k.records number ≡ Some r → r.page ≡ page → r.version ≢ version)
+    → is_wanted (record k { pins = set k.pins page version }) number ≡ is_wanted k number
+current_pin_wanted k page version number low was none =
+    wanted_by k (record k { pins = set k.pins page version }) number refl (λ r is. elim (cases_eq r.page page) [
+      | inl here ↦ elim (cases_eq r.version (get_or k.pins page 0)) [
+        | inl same ↦
+            let own : eqb number number ≡ true = grind (arith, nat_tests) in
+            let current : is_number number (number_at k.current r.page) ≡ true =
+            ap (λ p. is_number number (number_at k.current p)) here ∙ ap (is_number number) (was r is here same) ∙ own in
+            ap (λ b. b || is_answerer k.answerers number || eqb r.version (get_or (set k.pins page version) r.page 0))
+            current
+            ∙ sym (ap (λ b. b || is_answerer k.answerers number || eqb r.version (get_or k.pins r.page 0)) current)
+        | inr other ↦
+            let off = none r is here in
+            let old : eqb r.version (get_or k.pins page 0) ≡ false = grind (arith, nat_tests) in
+            let new : eqb r.version version ≡ false = grind (arith, nat_tests) in
+            ap (λ b. is_number number (number_at k.current r.page) || is_answerer k.answerers number || b)
+            (rw (here, get_or-set_same k.pins page version 0 low) (new ∙ sym old))
+      ]
+      | inr other ↦
+          ap (λ b. is_number number (number_at k.current r.page) || is_answerer k.answerers number || b)
+          (ap (eqb r.version) (get_or-set_other k.pins page r.page version 0 other))
+    ])
+
 -- another record of a number changes it for that number
 pub record_wanted : (k : TablesState) (x number : ℕ) (to : Option Rec) → number ≢ x
     → is_wanted (record k { records = set k.records x to }) number ≡ is_wanted k number

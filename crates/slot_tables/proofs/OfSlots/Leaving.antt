@@ -1,5 +1,5 @@
 -- What is found in a list from which an item is gone.
-use Rattle.slot_tables.proofs.Common.{◌≡◌, ℕ, ◌⊎◌, Bool, true, inl, inr, Option, Some, None, List, [], ◌∷◌, ◌++◌, refl, sym, ◌∙◌, ap, find, slice_get, cases_Option}
+use Rattle.slot_tables.proofs.Common.{◌≡◌, ℕ, ◌≤◌, ◌⊎◌, Bool, true, false, cond, inl, inr, Option, Some, None, List, [], ◌∷◌, ◌++◌, length, arith, refl, sym, ◌∙◌, ap, find, slice_get, cases_Option}
 use Rattle.std.specs.Option.{option_or}
 use Rattle.std.proofs.lemmas.Bool.{cases_Bool, cond-true, cond-false}
 use Rattle.list_lemmas.proofs.Tests.{find_more}
@@ -58,3 +58,13 @@ chosen_left p at front back off = elim (cases_Bool (p at)) [
         → slice_get (l ++ back) 0 ≡ slice_get (l ++ at ∷ back) 0
     first_left [] other = absurd (other refl)
     first_left (z ∷ zs) other = refl
+
+-- of one item or none it is the first, whatever passes
+pub chosen_first : (p : ℕ → Bool) (xs : List ℕ) → length xs ≤ 1 → chosen p xs ≡ slice_get xs 0
+chosen_first p [] low = refl
+chosen_first p (x ∷ []) low = by (p x)
+  where
+    by : (b : Bool) → option_or (cond b (Some x) None) (Some x) ≡ Some x
+    by true = refl
+    by false = refl
+chosen_first p (x ∷ y ∷ rest) low = absurd (omega (arith, low))

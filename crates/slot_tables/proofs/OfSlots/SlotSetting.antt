@@ -11,7 +11,7 @@ use Rattle.slot_tables.proofs.OfLiveSlots.Needing.{needed_some, needed_none, not
 use Rattle.slot_tables.proofs.OfBaseTables.Refreshing.{home_at}
 
 -- a slot that holds a record of another number, or none
-other_holds : (x : ℕ) (u : SlotUse) → (number_in u ≡ Some x → ⊥) → holds x u ≡ false
+pub other_holds : (x : ℕ) (u : SlotUse) → (number_in u ≡ Some x → ⊥) → holds x u ≡ false
 other_holds x u off = by (holds x u) refl
   where
     by : (b : Bool) → holds x u ≡ b → b ≡ false
@@ -356,5 +356,10 @@ module _ (t : Inside) (h : TablesInvariant t) (at : ℕ) (to : SlotUse) (low : a
       };
     }
 
-    pub emptied_off : is_needed k at ≡ false → (s : ℕ) → is_marked t.live.needed s ≡ is_needed k' s
-    emptied_off off s = h.live.needed s ∙ sym (needs_kept off s)
+    -- and the marks stay, also where that of the slot is taken away again
+    pub emptied_off : is_needed k at ≡ false → (s : ℕ) → is_marked (set t.live.needed at false) s ≡ is_needed k' s
+    emptied_off off s = elim (cases_eq s at) [
+      | inl here ↦ rw here (get_or-set_same t.live.needed at false false (rw h.live.slots (omega arith)) ∙ sym bare)
+      | inr other ↦
+          get_or-set_other t.live.needed at s false false other ∙ h.live.needed s ∙ sym (needs_kept off s)
+    ]

@@ -2,7 +2,9 @@ ghost use Rattle.std.specs.Prelude.{◌≡◌, ℕ, ◌<◌, [], length, slice_s
 ghost use Rattle.tx_types.specs.Config.{slots_of, blocks_of};
 ghost use Rattle.tx_types.specs.declared.record.Rec.{Rec};
 ghost use Rattle.slot_tables.specs.Copies.{HoldsNone, NumbersBelow};
-ghost use Rattle.slot_tables.specs.TablesState.{record_at, added, given_up, with_closed, with_spare, IsNewest, copies_of};
+ghost use Rattle.std.specs.List.{slice_get};
+ghost use Rattle.slot_tables.specs.TablesState.{record_at, use_at, number_in, added, given_up, with_closed, with_spare, IsNewest, copies_of};
+ghost use Rattle.slot_tables.specs.declared.slots.SlotUse.TheVariants as slot;
 ghost use Rattle.slot_tables.specs.Versions.{HasFree};
 
 use crate::Tables;
@@ -44,7 +46,7 @@ impl Tables {
     {
         match to {
             SlotUse::Blank | SlotUse::Damaged => self.empty_slot(at, to),
-            SlotUse::Holds(_) => self.fill_slot(at, to),
+            SlotUse::Holds(number) => self.fill_slot(at, number),
         }
     }
 
@@ -59,16 +61,63 @@ impl Tables {
     {
         let left = number_in(self.base.slots.get(at.0));
         self.base.slots.set(at.0, to);
-        let blank = to.is_blank();
-        self.live.set_blank(at.0, blank);
-        if self.live.is_needed(at.0) {
-            self.base.move_need(&mut self.live, at.0, left);
+        let was_needed = self.live.is_needed(at.0);
+        self.live.mark(at.0, false, to.is_blank());
+        if was_needed {
+            self.base.need_home(&mut self.live, left);
         }
+    }
+
+    /// Sets that a slot holds the record of a number.
+    fn fill_slot(&mut self, at: Slot, number: u32)
+        requires slot { at.0 < slots_of self.old.shape }
+        requires number { number < slots_of self.old.shape }
+        ensures { self.new ≡ record self.old { slots = slice_set self.old.slots at.0 (slot.Holds number) } }
+    {
+        let held = number_in(self.base.slots.get(at.0));
+        let copy = self.base.slots.first(number);
+        match (held, copy) {
+            (None, None) => self.fill_first(at, number),
+            (None, Some(_)) => self.fill_copy(at, number),
+            (Some(_), None) | (Some(_), Some(_)) => self.fill_next(at, SlotUse::Holds(number)),
+        }
+    }
+
+    /// A slot without a record comes to hold another copy of one. In the spare it is not the home where a copy stands
+    /// outside: then each slot is needed as it was.
+    #[inline(always)]
+    fn fill_copy(&mut self, at: Slot, number: u32)
+        requires slot { at.0 < slots_of self.old.shape }
+        requires number { number < slots_of self.old.shape }
+        requires held { number_in (use_at self.old.slots at.0) ≡ None }
+        ensures { self.new ≡ record self.old { slots = slice_set self.old.slots at.0 (slot.Holds number) } }
+    {
+        if self.base.is_aside(at.0, number) {
+            self.base.slots.set(at.0, SlotUse::Holds(number));
+            self.live.set_blank(at.0, false);
+        } else {
+            self.fill_next(at, SlotUse::Holds(number));
+        }
+    }
+
+    /// A slot without a record comes to hold one that no slot holds: it is the home of that record, and so needed where
+    /// the record is wanted.
+    #[inline(always)]
+    fn fill_first(&mut self, at: Slot, number: u32)
+        requires slot { at.0 < slots_of self.old.shape }
+        requires number { number < slots_of self.old.shape }
+        requires held { number_in (use_at self.old.slots at.0) ≡ None }
+        requires copy { slice_get (copies_of self.old.slots number) 0 ≡ None }
+        ensures { self.new ≡ record self.old { slots = slice_set self.old.slots at.0 (slot.Holds number) } }
+    {
+        self.base.slots.set(at.0, SlotUse::Holds(number));
+        let wanted = self.base.is_wanted(number);
+        self.live.mark(at.0, wanted, false);
     }
 
     /// Sets what a slot holds, and looks at the homes of the record that leaves it and of the one that comes. The slot
     /// is needed before it stops to be blank, so that in most blocks the number of garbage slots does not change.
-    fn fill_slot(&mut self, at: Slot, to: SlotUse)
+    fn fill_next(&mut self, at: Slot, to: SlotUse)
         requires slot { at.0 < slots_of self.old.shape }
         requires number { NumbersBelow (slots_of self.old.shape) to }
         ensures { self.new ≡ record self.old { slots = slice_set self.old.slots at.0 to } }
@@ -138,7 +187,7 @@ impl Tables {
         self.base.refresh_home(&mut self.live, now);
     }
 
-    /// Pins a page at no version. None of its records has version 0.
+    /// Pins a page at no version. None of its records has version 0. A record that is current is wanted without the pin.
     #[inline(always)]
     pub fn unpin(&mut self, page: u32)
         requires page { page < length self.old.pages }
@@ -147,8 +196,11 @@ impl Tables {
         ensures { self.new ≡ record self.old { pins = slice_set self.old.pins page 0 } }
     {
         let before = self.base.pinned_number(page);
+        let current = self.base.current.get(page);
         self.base.pins[page as usize] = 0;
-        self.base.refresh_home(&mut self.live, before);
+        if before != current {
+            self.base.refresh_home(&mut self.live, before);
+        }
     }
 
     /// Sets whether a block is closed: no program goes there before it was the spare.

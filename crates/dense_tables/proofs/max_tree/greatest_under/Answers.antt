@@ -6,4 +6,4 @@ unfolding under
 returns-then-from-cells c =
     let from = 16 * c.args.cell + 1 in
     let size : (from + 16) - from ≡ 16 = omega arith in
-    c.greatest.ensures ∙ ap (λ n. greatest (take n (drop from c.args.cells.now))) size
+    c.greatest_of_sixteen.ensures ∙ ap (λ n. greatest (take n (drop from c.args.cells.now))) size

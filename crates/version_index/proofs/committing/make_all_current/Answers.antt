@@ -1,6 +1,11 @@
-use Rattle.version_index.proofs.Common.{sym, ap, length, arith, TablesState}
+use Rattle.version_index.proofs.Common.{◌≡◌, sym, ap, ◌∙◌, length, arith, Link, TablesState, OnlyDerives}
+use Rattle.version_index.specs.Committing.{newest_with_name}
 use Rattle.version_index.proofs.OfCommit.KeptRounds.{start_taking, taking_ends, taking_fails, taking_more, taking_whole}
 use Rattle.version_index.proofs.committing.make_all_current.Goals as goal
+
+-- the newest record of a page stays
+kept_top : (k new : TablesState) (name : Link) → OnlyDerives k new → newest_with_name new name ≡ newest_with_name k name
+kept_top k new name judges = ap (λ (u : TablesState). newest_with_name u name) judges.rest
 
 pub loop-init : goal.loop-init
 loop-init c = record {
@@ -10,6 +15,13 @@ loop-init c = record {
 
 pub make_newest_current-requires-clause-page : goal.make_newest_current-requires-clause-page
 make_newest_current-requires-clause-page c =
+    let h = c.loop.invariant.taking in
+    let same = ap (λ (t : TablesState). length t.pages) h.judges.rest in
+    let page = h.page in
+    omega arith
+
+pub newest_with_name-newest-requires : goal.newest_with_name-newest-requires
+newest_with_name-newest-requires c =
     let h = c.loop.invariant.taking in
     let same = ap (λ (t : TablesState). length t.pages) h.judges.rest in
     let page = h.page in
@@ -27,7 +39,8 @@ loop-preserved c = record {
       taking_more c.args.tables.now c.loop.tables c.make_newest_current.new.tables c.args.start c.loop.link
       c.loop.counter c.loop.invariant.taking
       c.make_newest_current.ensures.judges c.make_newest_current.ensures.taken c.requires.links c.in-Some.rec
-      (sym c.in-Some.ensures) c.if-rec-start.false;
+      (kept_top c.loop.tables c.make_newest_current.new.tables c.loop.link c.make_newest_current.ensures.judges
+      ∙ sym c.newest_with_name-newest.ensures ∙ c.in-Some.is) c.if-rec-start.false;
   written = c.make_newest_current.ensures.written;
 }
 
@@ -35,14 +48,16 @@ pub returns-in-None-clause-takes : goal.returns-in-None-clause-takes
 returns-in-None-clause-takes c =
     taking_fails c.args.tables.now c.loop.tables c.make_newest_current.new.tables c.args.start c.loop.link
     c.loop.counter c.loop.invariant.taking
-    c.make_newest_current.ensures.judges c.make_newest_current.ensures.taken c.args.logical (sym c.in-None.ensures)
+    c.make_newest_current.ensures.judges c.make_newest_current.ensures.taken c.args.logical (kept_top c.loop.tables c.make_newest_current.new.tables c.loop.link c.make_newest_current.ensures.judges
+    ∙ sym c.newest_with_name-newest.ensures ∙ c.in-None.is)
 
 pub returns-then-rec-start-clause-takes : goal.returns-then-rec-start-clause-takes
 returns-then-rec-start-clause-takes c =
     taking_ends c.args.tables.now c.loop.tables c.make_newest_current.new.tables c.args.start c.loop.link c.loop.counter
     c.loop.invariant.taking
     c.make_newest_current.ensures.judges c.make_newest_current.ensures.taken c.args.logical c.in-Some.rec
-    (sym c.in-Some.ensures) c.if-rec-start.true
+    (kept_top c.loop.tables c.make_newest_current.new.tables c.loop.link c.make_newest_current.ensures.judges
+    ∙ sym c.newest_with_name-newest.ensures ∙ c.in-Some.is) c.if-rec-start.true
 
 pub returns-clause-takes : goal.returns-clause-takes
 returns-clause-takes c =

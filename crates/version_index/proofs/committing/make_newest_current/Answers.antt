@@ -1,10 +1,20 @@
-use Rattle.version_index.proofs.Common.{length, arith, set, ap, sym, subst, ◌∙◌, TablesState, OnlyDerives, IsTaken}
-use Rattle.version_index.specs.Written.{pages_written}
+use Rattle.version_index.proofs.Common.{length, arith, set, ap, sym, subst, ◌∙◌, TablesState, number_at, OnlyDerives, IsTaken}
+use Rattle.version_index.specs.Written.{fills, pages_written}
 use Rattle.version_index.proofs.OfCommit.Taking.{taken_then, taken_derives}
 use Rattle.version_index.proofs.committing.make_newest_current.Goals as goal
 
 pub set_current-requires-clause-written : goal.set_current-requires-clause-written
 set_current-requires-clause-written c = c.requires.written ∙ sym (ap pages_written c.release_above.ensures.rest)
+
+pub set_current-requires-clause-before : goal.set_current-requires-clause-before
+set_current-requires-clause-before c =
+    c.is_filled-before.ensures
+    ∙ sym (ap (λ (u : TablesState). fills u.records (number_at u.current c.args.page)) c.release_above.ensures.rest)
+
+pub set_current-requires-clause-after : goal.set_current-requires-clause-after
+set_current-requires-clause-after c =
+    c.fills-after.ensures
+    ∙ sym (ap (λ (u : TablesState). fills u.records c.newest-newest.result) c.release_above.ensures.rest)
 
 pub returns-clause-judges : goal.returns-clause-judges
 returns-clause-judges c =

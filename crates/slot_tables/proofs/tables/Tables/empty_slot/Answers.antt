@@ -1,10 +1,10 @@
 -- Where the slot was needed, the home of its record is so now, and else all is needed as before.
-use Rattle.slot_tables.proofs.Common.{◌≡◌, ◌<◌, true, false, length, ◌∙◌, sym, slots_of, is_needed, tables_state}
+use Rattle.slot_tables.proofs.Common.{◌≡◌, ◌<◌, true, false, length, set, ◌∙◌, sym, length-set, slots_of, is_needed, tables_state}
 use Rattle.slot_tables.proofs.OfSlots.SlotSetting.{set_sized, none_below, slot_emptied, emptied_off, needs_moved, moved_lies}
 use Rattle.slot_tables.proofs.tables.Tables.empty_slot.Goals as goal
 
-pub move_need-requires-clause-sized : goal.move_need-requires-clause-sized
-move_need-requires-clause-sized c =
+pub need_home-requires-clause-sized : goal.need_home-requires-clause-sized
+need_home-requires-clause-sized c =
     let t = c.self.inside in
     let h = c.self.invariant in
     let low : c.args.at.0 < length t.base.slots = rw h.sized.kept.slots (rw (← c.self.view_is) at c.requires.slot) in
@@ -18,23 +18,23 @@ invariant_of-self c =
     let at = c.args.at.0 in
     let low : at < length t.base.slots = rw h.sized.kept.slots (rw (← c.self.view_is) at c.requires.slot) in
     let numbered = none_below (slots_of t.base.shape) c.args.to c.requires.none in
-    let reads = rw c.set_blank.ensures at c.is_needed.ensures in
-    let on : is_needed (tables_state t.base) at ≡ true = sym (h.live.needed at) ∙ sym reads ∙ c.if-is_needed.true in
-    rw (c.move_need.ensures, c.set_blank.ensures, c.set.ensures, c.number_in-left.ensures, c.get.ensures)
-    (slot_emptied t h at c.args.to low numbered c.requires.none c.is_blank-blank.result c.is_blank-blank.ensures _
+    let on : is_needed (tables_state t.base) at ≡ true =
+    sym (h.live.needed at) ∙ sym c.is_needed-was_needed.ensures ∙ c.if-was_needed.true in
+    rw (c.need_home.ensures, c.mark.ensures, c.set.ensures, c.number_in-left.ensures, c.get.ensures)
+    (slot_emptied t h at c.args.to low numbered c.requires.none c.is_blank.result c.is_blank.ensures _
     (moved_lies t h at c.args.to low numbered c.requires.none)
     (needs_moved t h at c.args.to low numbered c.requires.none on))
 
-pub invariant_of-self-else-is_needed : goal.invariant_of-self-else-is_needed
-invariant_of-self-else-is_needed c =
+pub invariant_of-self-else-was_needed : goal.invariant_of-self-else-was_needed
+invariant_of-self-else-was_needed c =
     let t = c.self.inside in
     let h = c.self.invariant in
     let at = c.args.at.0 in
     let low : at < length t.base.slots = rw h.sized.kept.slots (rw (← c.self.view_is) at c.requires.slot) in
     let numbered = none_below (slots_of t.base.shape) c.args.to c.requires.none in
-    let reads = rw c.set_blank.ensures at c.is_needed.ensures in
-    let off : is_needed (tables_state t.base) at ≡ false = sym (h.live.needed at) ∙ sym reads ∙ c.if-is_needed.false in
-    rw (c.set_blank.ensures, c.set.ensures)
-    (slot_emptied t h at c.args.to low numbered c.requires.none c.is_blank-blank.result c.is_blank-blank.ensures
-    t.live.needed h.live.slots
+    let off : is_needed (tables_state t.base) at ≡ false =
+    sym (h.live.needed at) ∙ sym c.is_needed-was_needed.ensures ∙ c.if-was_needed.false in
+    rw (c.mark.ensures, c.set.ensures)
+    (slot_emptied t h at c.args.to low numbered c.requires.none c.is_blank.result c.is_blank.ensures
+    (set t.live.needed at false) (length-set t.live.needed at false ∙ h.live.slots)
     (emptied_off t h at c.args.to low numbered c.requires.none off))
