@@ -114,8 +114,8 @@ fn sound_scan_by<F: Flash>(
     ensures reads { ReadsFor config.protocol (F.state flash.old) (F.state flash.new) result }
 {
     let scanned = scan(alloc, flash, config, one)?;
-    let Scanned { seen, list } = scanned;
-    let charted = SortedRecords::of_own(alloc, list, config.protocol)?;
+    let Scanned { seen, list, counts } = scanned;
+    let charted = SortedRecords::of_own(alloc, list, counts, config.protocol)?;
     match try_law_two(flash, &charted, one, two) {
         Ok(()) => Ok((seen, charted)),
         Err(error) => {

@@ -14,14 +14,16 @@ use flash_model::{Broken, Flash, Seen};
 use judged_records::Note;
 use page_record::read_spare;
 use record_list::Found;
+use sorted_records::PageCounts;
 use std::alloc::Global;
 use tx_types::{Config, Rec, Slot};
 
-/// How the slots of a flash read, and their records, in the order of the slots.
+/// How the slots of a flash read, their records, in the order of the slots, and how many of these each page has.
 #[derive(Drop)]
 pub struct Scanned {
     pub seen: Vec<Seen>,
     pub list: Vec<Found>,
+    pub counts: PageCounts,
 }
 
 /// Reads each slot once, the lowest first, and stops at the first read that fails. Where slots
@@ -44,17 +46,20 @@ pub fn scan<F: Flash>(
     let slots = flash.shape().slots();
     let mut seen = Vec::with_capacity(alloc, slots as usize)?;
     let mut list = Vec::with_capacity(alloc, slots as usize)?;
-    scan_slots(flash, config, page, &mut seen, &mut list)?;
-    Ok(Scanned { seen, list })
+    let mut counts = PageCounts::new(alloc, config.logical as usize)?;
+    scan_slots(flash, config, page, &mut seen, &mut list, &mut counts)?;
+    Ok(Scanned { seen, list, counts })
 }
 
-/// Reads each slot once, the lowest first, and appends how it reads and its record. The lists have room for all.
+/// Reads each slot once, the lowest first, appends how it reads and its record, and counts that of its page. The lists
+/// have room for all.
 fn scan_slots<F: Flash>(
     flash: &mut F,
     config: Config,
     page: &mut [u8],
     seen: &mut Vec<Seen>,
     list: &mut Vec<Found>,
+    counts: &mut PageCounts,
 ) -> Result<(), RecoverError>
     requires page { length page.old ≡ (F.state flash.old).shape.page_bytes }
     requires no_seen { seen.old.items ≡ [] }
@@ -70,9 +75,10 @@ fn scan_slots<F: Flash>(
 {
     let slots = flash.shape().slots();
     let mut unread = None;
+    let mut spare_area = [0; 64];
     for at in 0..slots {
-        match read_note(flash, config, Slot(at), page)? {
-            Some(note) => add(seen, list, Slot(at), note),
+        match read_note(flash, config, Slot(at), page, &mut spare_area)? {
+            Some(note) => add(seen, list, counts, Slot(at), note),
             None => unread = first_of(unread, Slot(at)),
         }
     }
@@ -89,8 +95,8 @@ fn first_of(unread: Option<Slot>, slot: Slot) -> Option<Slot>
     Some(unread.unwrap_or(slot))
 }
 
-/// Adds how a slot reads, and its record.
-fn add(seen: &mut Vec<Seen>, list: &mut Vec<Found>, slot: Slot, note: Note)
+/// Adds how a slot reads, and its record, which is counted.
+fn add(seen: &mut Vec<Seen>, list: &mut Vec<Found>, counts: &mut PageCounts, slot: Slot, note: Note)
     requires seen { vec_len seen.old < vec_capacity seen.old }
     requires list { vec_len list.old < vec_capacity list.old }
     ensures seen { seen.new.items ≡ seen.old.items ++ seen_as note ∷ [] }
@@ -106,16 +112,18 @@ fn add(seen: &mut Vec<Seen>, list: &mut Vec<Found>, slot: Slot, note: Note)
         Note::Holds(rec) => {
             seen.push_reserved(Seen::Complete);
             list.push_reserved(Found { slot, rec });
+            counts.count(rec.page);
         }
     }
 }
 
-/// Reads a slot. What is noted of it, nothing where it breaks law 1.
+/// Reads a slot, with memory to read into. What is noted of it, nothing where it breaks law 1.
 fn read_note<F: Flash>(
     flash: &mut F,
     config: Config,
     at: Slot,
     page: &mut [u8],
+    spare_area: &mut [u8; 64],
 ) -> Result<Option<Note>, Broken>
     requires exists { at.0 < slots_of (F.state flash.old).shape }
     requires page { length page.old ≡ (F.state flash.old).shape.page_bytes }
@@ -125,11 +133,10 @@ fn read_note<F: Flash>(
         (λ _. ReadsAll (F.state flash.old) (F.state flash.new) 1)
         (λ _. ReadsSome (F.state flash.old) (F.state flash.new) true 1) }
 {
-    let mut spare_area = [0; 64];
-    Ok(match flash.read_spare_area(at, page, &mut spare_area)? {
+    Ok(match flash.read_spare_area(at, page, spare_area)? {
         Seen::Blank => Some(Note::Blank),
         Seen::Damaged => Some(Note::Damaged),
-        Seen::Complete => record_in(&spare_area, config).map(Note::Holds),
+        Seen::Complete => record_in(spare_area, config).map(Note::Holds),
     })
 }
 

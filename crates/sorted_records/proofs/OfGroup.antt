@@ -4,3 +4,4 @@ pub mod StraddlerGroups
 pub mod Straddlers
 pub mod Narrowed
 pub mod Readings
+pub mod BarePages

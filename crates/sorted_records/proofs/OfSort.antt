@@ -2,3 +2,4 @@ pub mod Arranged
 pub mod Sorting
 pub mod Order
 pub mod Alike
+pub mod Starts

@@ -65,7 +65,7 @@ fn all_keep_count(chart: &SortedRecords, orbits: &Orbits) -> bool
 }
 
 /// Whether the record at this place keeps law 9, where those of one name are equal.
-#[inline]
+#[inline(always)]
 pub fn keeps_count_at(chart: &SortedRecords, orbits: &Orbits, at: u32) -> bool
     requires namesakes { NamesakesAgree chart.now }
     requires orbits { AreOrbits (name_graph chart.now) orbits.now }

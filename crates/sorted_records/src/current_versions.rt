@@ -1,7 +1,7 @@
-ghost use Rattle.std.specs.Prelude.{◌≡◌, IfOk, IfSome, map};
+ghost use Rattle.std.specs.Prelude.{◌≡◌, ℕ, ◌<◌, IfOk, IfSome, map, length};
 ghost use Rattle.std.specs.List.{range_with_len};
 ghost use Rattle.record_list.specs.Current.{cur, responsible, is_loose, straddling_upto};
-ghost use Rattle.record_list.specs.Records.{greatest};
+ghost use Rattle.record_list.specs.Records.{greatest, record_at};
 ghost use Rattle.sorted_records.specs.CurrentVersions.{CurrentVersionsState};
 ghost use Rattle.sorted_records.specs.Minima.{AreMinima};
 
@@ -162,9 +162,29 @@ fn current_versions(
     ensures { IfOk result (λ v. v.items ≡ map (cur protocol chart.now logical) (range_with_len 0 logical)) }
 {
     let mut versions = Vec::with_capacity(alloc, logical as usize)?;
+    let end = chart.page_end();
     let mut near = 0;
     for page in 0..logical {
-        versions.push_reserved(chart.current_near(protocol, logical, page, &mut near));
+        versions.push_reserved(current_below(chart, protocol, logical, page, end, &mut near));
     }
     Ok(versions)
+}
+
+/// The current version of a page, 0 for none, where no page from an end on has a record.
+#[inline(always)]
+fn current_below(
+    chart: &SortedRecords,
+    protocol: Protocol,
+    logical: u32,
+    page: u32,
+    end: usize,
+    near: &mut usize,
+) -> u64
+    requires { (k : ℕ) → k < length chart.now → (record_at chart.now k).page < end }
+    ensures { result ≡ cur protocol chart.now logical page }
+{
+    if page as usize >= end {
+        return 0;
+    }
+    chart.current_near(protocol, logical, page, near)
 }

@@ -56,19 +56,26 @@ pub fn find_near(records: &[Found], starts: &[u32], name: Link, near: &mut usize
     } else if rec.version == name.version {
         Some(at as u32)
     } else {
-        find_by_search(records, starts, name, near)
+        find_by_search(records, starts, name, at, near)
     }
 }
 
-/// The place of the first record with this name, by a search among the records of its page.
+/// The place of the first record with this name, by a search among the records of its page, of which the second is
+/// tried first.
 #[inline(never)]
-fn find_by_search(records: &[Found], starts: &[u32], name: Link, near: &mut usize) -> Option<u32>
+fn find_by_search(
+    records: &[Found],
+    starts: &[u32],
+    name: Link,
+    first: usize,
+    near: &mut usize,
+) -> Option<u32>
     requires order { IsInOrder records.now }
     requires starts { AreStarts records.now starts.now }
     requires few { length records.now < 2 ^ 32 }
     ensures { result ≡ position (λ f. has_name name f.rec) records.now }
 {
-    let at = names_below_near(records, starts, name, *near);
+    let at = names_below_near(records, starts, name, first, *near);
     *near = at;
     if at < records.len() && records[at].rec.has_name(name) {
         Some(at as u32)

@@ -10,16 +10,15 @@ ghost use Rattle.sorted_records.specs.Orbits.{IsGraph, AreOrbits};
 ghost use Rattle.sorted_records.specs.SortedRecords.{IsInOrder, Sorts, list_of, link_graph, IsOrbitOfNewest};
 ghost use Rattle.sorted_records.specs.Starts.{AreStarts};
 
-use crate::arrange::{is_in_order, sort_by_name};
+use crate::arrange::{Arranged, is_in_order, outline, sort_by_name};
 use crate::group::{straddling, straddling_up_to, straddling_up_to_bound};
 use crate::in_order::{
     back_of, find, find_near, first_namesake, link_of, newest, next_older, with_name,
 };
 use crate::minima::minima_of_many;
 use crate::names::Names;
-use crate::search::page_starts;
 use crate::walks::{targets_and_orbits, why_from_orbit};
-use crate::{Orbit, Orbits};
+use crate::{Orbit, Orbits, PageCounts};
 use record_list::{Found, Verdict, Why};
 use std::alloc::{AllocError, Global};
 use std::marker::Model;
@@ -34,14 +33,6 @@ pub struct SortedRecords {
     least: Option<Vec<u64>>,
     targets: Vec<Option<u32>>,
     orbits: Orbits,
-}
-
-/// Where the pages of records begin, what their names are, and the least back versions of many.
-#[derive(Drop)]
-struct Outline {
-    starts: Vec<u32>,
-    names: Names,
-    least: Option<Vec<u64>>,
 }
 
 /// The sorted records of a list, and the list where it is not in order: a list in order is their own.
@@ -64,30 +55,21 @@ impl Model for SortedRecords {
     ghost invariant = { SortedRecordsInvariant };
 }
 
-/// Where the pages of records begin that are in order, what their names are, and, under Back Pointer Cyclic Commit
-/// alone, the least back versions of many.
-fn starts_and_minima(
+/// The least back versions of records that are in order, of many and under Back Pointer Cyclic Commit alone.
+fn minima_if_asked(
     alloc: Global,
     records: &[Found],
+    starts: &[u32],
     protocol: Protocol,
-) -> Result<Outline, AllocError>
+) -> Result<Option<Vec<u64>>, AllocError>
     requires order { IsInOrder records.now }
-    requires few { length records.now < 2 ^ 32 }
-    ensures starts { IfOk result (λ o. AreStarts records.now o.starts.items) }
-    ensures names { IfOk result (λ o. AreNames records.now (length records.now) o.names) }
-    ensures minima { IfOk result (λ o.
-        IfSome o.least (λ least. AreMinima records.now [] least.items)) }
+    requires starts { AreStarts records.now starts.now }
+    ensures { IfOk result (λ r. IfSome r (λ least. AreMinima records.now [] least.items)) }
 {
-    let (starts, names) = page_starts(alloc, records)?;
-    let least = match protocol {
-        Protocol::Scc => None,
-        Protocol::Bpcc => minima_of_many(alloc, records, &starts, &[])?,
-    };
-    Ok(Outline {
-        starts,
-        names,
-        least,
-    })
+    match protocol {
+        Protocol::Scc => Ok(None),
+        Protocol::Bpcc => minima_of_many(alloc, records, starts, &[]),
+    }
 }
 
 impl SortedRecords {
@@ -96,14 +78,17 @@ impl SortedRecords {
     pub fn of(alloc: Global, list: &[Found]) -> Result<SortedRecords, AllocError>
         ensures { IfOk result (λ chart. Sorts list.now chart) }
     {
-        SortedRecords::of_lent(alloc, list, Protocol::Bpcc)
+        let mut counts = PageCounts::of(alloc, list)?;
+        SortedRecords::of_lent(alloc, list, &mut counts, Protocol::Bpcc)
     }
 
-    /// Puts the records of a list that is handed over in order. A list in order is kept and not copied, any other is
-    /// given back. Straddlers are quick to find under Back Pointer Cyclic Commit alone, which asks for them.
+    /// Puts the records of a list that is handed over in order, of which the pages are counted. A list in order is kept
+    /// and not copied, any other is given back. Straddlers are quick to find under Back Pointer Cyclic Commit alone,
+    /// which asks for them.
     pub fn of_own(
         alloc: Global,
         list: Vec<Found>,
+        mut counts: PageCounts,
         protocol: Protocol,
     ) -> Result<SortedWithList, AllocError>
         ensures sorts { IfOk result (λ charted. Sorts list.items charted.chart) }
@@ -111,20 +96,22 @@ impl SortedRecords {
     {
         if list.len() <= u32::MAX as usize && is_in_order(&list) {
             return Ok(SortedWithList {
-                chart: SortedRecords::of_ordered(alloc, list, protocol)?,
+                chart: SortedRecords::of_ordered(alloc, outline(alloc, list)?, protocol)?,
                 list: None,
             });
         }
         Ok(SortedWithList {
-            chart: SortedRecords::of_lent(alloc, &list, protocol)?,
+            chart: SortedRecords::of_lent(alloc, &list, &mut counts, protocol)?,
             list: Some(list),
         })
     }
 
-    /// Puts the records of a list in order, and finds where their links lead, and what this protocol asks for.
+    /// Puts the records of a list in order, of which the pages are counted, and finds where their links lead, and what
+    /// this protocol asks for.
     fn of_lent(
         alloc: Global,
         list: &[Found],
+        counts: &mut PageCounts,
         protocol: Protocol,
     ) -> Result<SortedRecords, AllocError>
         ensures { IfOk result (λ chart. Sorts list.now chart) }
@@ -132,33 +119,30 @@ impl SortedRecords {
         if list.len() > u32::MAX as usize {
             return Err(AllocError);
         }
-        let records = sort_by_name(alloc, list)?;
-        SortedRecords::of_ordered(alloc, records, protocol)
+        let arranged = sort_by_name(alloc, list, counts)?;
+        SortedRecords::of_ordered(alloc, arranged, protocol)
     }
 
     /// Finds where the links of records lead that are in order, and, under Back Pointer Cyclic Commit alone,
     /// which asks for straddlers, the least back versions of many.
     fn of_ordered(
         alloc: Global,
-        records: Vec<Found>,
+        arranged: Arranged,
         protocol: Protocol,
     ) -> Result<SortedRecords, AllocError>
-        requires order { IsInOrder records.items }
-        requires few { length records.items < 2 ^ 32 }
-        ensures { IfOk result (λ chart. chart ≡ records.items) }
+        requires order { IsInOrder arranged.records.items }
+        requires few { length arranged.records.items < 2 ^ 32 }
+        requires starts { AreStarts arranged.records.items arranged.starts.items }
+        requires names { AreNames arranged.records.items (length arranged.records.items) arranged.names }
+        ensures { IfOk result (λ chart. chart ≡ arranged.records.items) }
     {
-        let outline = starts_and_minima(alloc, &records, protocol)?;
-        let (targets, orbits) = targets_and_orbits(
-            alloc,
-            &records,
-            &outline.starts,
-            outline.names,
-        )?;
-        let Outline {
+        let Arranged {
+            records,
             starts,
             names,
-            least,
-        } = outline;
+        } = arranged;
+        let least = minima_if_asked(alloc, &records, &starts, protocol)?;
+        let (targets, orbits) = targets_and_orbits(alloc, &records, &starts, names)?;
         Ok(SortedRecords {
             records,
             starts,
@@ -187,6 +171,17 @@ impl SortedRecords {
         ensures few { length result.now < 2 ^ 32 }
     {
         self.records.as_slice()
+    }
+
+    /// The page from which on no page has a record.
+    pub(crate) fn page_end(&self) -> usize
+        ensures { (k : ℕ) → k < length self.now → (record_at self.now k).page < result }
+    {
+        let count = self.records.len();
+        if count == 0 {
+            return 0;
+        }
+        self.records[count - 1].rec.page as usize + 1
     }
 
     /// Whether no record has the name of the one before it, so that no two have one.

@@ -1,11 +1,11 @@
 //! Where the records of a page begin and end among records in order of their names, and a search among
 //! those of a page.
-ghost use Rattle.std.specs.Prelude.{◌≡◌, ℕ, ◌+◌, ◌<◌, ◌≤◌, ◌^◌, ◌-◌, ◌++◌, true, false, length, replicate, IfOk, OnOk};
+ghost use Rattle.std.specs.Prelude.{◌≡◌, ℕ, ◌+◌, ◌<◌, ◌≤◌, ◌^◌, ◌-◌, ◌++◌, true, false, length, replicate, vec_capacity, IfOk};
 ghost use Rattle.std.specs.List.Sorted.{IsPartitionPoint};
 ghost use Rattle.record_list.specs.Records.{name_of, record_at};
 ghost use Rattle.sorted_records.specs.SortedRecords.{is_below, IsInOrder};
 ghost use Rattle.sorted_records.specs.Names.{AreNames};
-ghost use Rattle.sorted_records.specs.Starts.{AreStarts};
+ghost use Rattle.sorted_records.specs.Starts.{AreStarts, HaveStarts};
 
 use crate::names::Names;
 use record_list::Found;
@@ -31,13 +31,36 @@ pub fn page_starts(alloc: Global, records: &[Found]) -> Result<(Vec<u32>, Names)
         one_version: true,
     };
     for at in 0..records.len() {
-        note_name(records, at, &mut names);
-        let end = size.min(records[at].rec.page as usize + 1);
-        if starts.len() < end {
-            fill(&mut starts, end, at as u32)?;
-        }
+        note_record(records, at, size, &mut starts, &mut names);
     }
     Ok((starts, names))
+}
+
+/// Notes of the record at a place where the pages up to its own begin, of this many pages, and how its name differs
+/// from that of the one before.
+#[inline(always)]
+pub fn note_record(
+    records: &[Found],
+    at: usize,
+    size: usize,
+    starts: &mut Vec<u32>,
+    names: &mut Names,
+)
+    requires order { IsInOrder records.now }
+    requires few { length records.now < 2 ^ 32 }
+    requires within { at < length records.now }
+    requires room { size ≤ vec_capacity starts.old }
+    requires starts { HaveStarts records.now size at starts.old.items }
+    requires names { AreNames records.now at names.old }
+    ensures starts { HaveStarts records.now size (at + 1) starts.new.items }
+    ensures names { AreNames records.now (at + 1) names.new }
+    ensures room { vec_capacity starts.new ≡ vec_capacity starts.old }
+{
+    note_name(records, at, names);
+    let end = size.min(records[at].rec.page as usize + 1);
+    if starts.len() < end {
+        fill(starts, end, at as u32);
+    }
 }
 
 /// Notes how the name of the record at a place differs from that of the one before, if there is one.
@@ -59,16 +82,17 @@ fn note_name(records: &[Found], at: usize, names: &mut Names)
     }
 }
 
-/// Adds a number as often as it takes to have this many.
-fn fill(numbers: &mut Vec<u32>, size: usize, number: u32) -> Result<(), AllocError>
-    requires { length numbers.old.items ≤ size }
-    ensures { OnOk result (numbers.new.items
-        ≡ numbers.old.items ++ replicate (size - length numbers.old.items) number) }
+/// Adds a number as often as it takes to have this many, for which there is room.
+pub fn fill(numbers: &mut Vec<u32>, size: usize, number: u32)
+    requires few { length numbers.old.items ≤ size }
+    requires room { size ≤ vec_capacity numbers.old }
+    ensures items { numbers.new.items
+        ≡ numbers.old.items ++ replicate (size - length numbers.old.items) number }
+    ensures room { vec_capacity numbers.new ≡ vec_capacity numbers.old }
 {
     while numbers.len() < size {
-        numbers.push(number)?;
+        numbers.push_reserved(number);
     }
-    Ok(())
 }
 
 /// How many of the records are of pages below this one: they are the first.
@@ -138,16 +162,22 @@ pub fn names_below(records: &[Found], starts: &[u32], name: Link) -> usize
     from + count_below(&records[from..to], name)
 }
 
-/// How many of the records have names below this one, where one more than this number, and this number, are tried
-/// first.
-pub fn names_below_near(records: &[Found], starts: &[u32], name: Link, near: usize) -> usize
+/// How many of the records have names below this one, where one more than a first number, one more than a near one, and
+/// the near one are tried before.
+pub fn names_below_near(
+    records: &[Found],
+    starts: &[u32],
+    name: Link,
+    first: usize,
+    near: usize,
+) -> usize
     requires order { IsInOrder records.now }
     requires starts { AreStarts records.now starts.now }
     ensures within { result ≤ length records.now }
     ensures first { IsPartitionPoint (λ f. is_below (name_of f.rec) name ≡ true)
         (λ f. is_below (name_of f.rec) name ≡ false) records.now result }
 {
-    for count in [near.saturating_add(1), near] {
+    for count in [first.saturating_add(1), near.saturating_add(1), near] {
         if are_names_below(records, name, count) {
             return count;
         }

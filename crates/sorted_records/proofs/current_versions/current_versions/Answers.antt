@@ -16,7 +16,7 @@ pub loop-page-preserved : goal.loop-page-preserved
 loop-page-preserved c =
     let page = c.loop-page.page in
     record {
-      versions = (rw (c.loop-page.invariant.versions, c.current_near.ensures) at c.push_reserved.ensures.items)
+      versions = (rw (c.loop-page.invariant.versions, c.current_below.ensures) at c.push_reserved.ensures.items)
           ∙ sym (map-range_with_len_more (cur c.args.protocol c.args.chart.now c.args.logical) 0 page page
           (omega arith));
       room = rw c.push_reserved.ensures.capacity c.loop-page.invariant.room;
