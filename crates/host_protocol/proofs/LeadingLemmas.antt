@@ -1,23 +1,46 @@
 -- The entry at the beginning of a line.
-use Rattle.host_protocol.proofs.Common.{◌≡◌, ◌≢◌, ℕ, ◌+◌, ◌-◌, ◌*◌, ◌<◌, ◌≤◌, true, false, not, ◌⊎◌, inl, inr, List, length, take, drop, get_or, slice_index, refl, ap, sym, ◌∙◌, arith, Option, Some, None, length-drop, unwrap_or, position, position_or_len, option_map, cases_lt, eqb-true, get_or-take, passes_at_first, prefix_len-le-length, position_some, page_value, page_write_of, words_of, is_space_or_tab, number_of, is_digit, digits_in}
+use Rattle.host_protocol.proofs.Common.{◌≡◌, ◌≢◌, ℕ, ◌+◌, ◌-◌, ◌*◌, ◌<◌, ◌≤◌, true, false, not, ◌⊎◌, inl, inr, List, [], ◌∷◌, length, take, drop, get_or, slice_index, refl, ap, sym, ◌∙◌, arith, Option, Some, None, length-drop, unwrap_or, position, position_or_len, option_map, cases_lt, eqb-true, get_or-take, passes_at_first, prefix_len-le-length, position_some, page_value, page_write_of, words_of, is_space_or_tab, number_of, is_digit, digits_in}
 use Rattle.std.proofs.Common.{subst}
 use Rattle.std.proofs.Common.{take-take, drop-drop, get_or-drop, length-take}
 use Rattle.std.proofs.lemmas.List.{drop-take}
 use Rattle.std.proofs.lemmas.List.Sums.{position_or_len_is, fails_before_first, prefix_len_is, prefix_len_passes}
 use Rattle.std.proofs.lemmas.List.Sums.{AllPass-from_list_all}
 use Rattle.list_lemmas.proofs.Positions.{position-at, position_end}
-use Rattle.host_protocol.specs.Commands.{is_equals}
+use Rattle.std.proofs.Math.ListN.{drop_of_length-le}
+use Rattle.std.proofs.Math.Seq.{take-length}
+use Rattle.host_protocol.specs.Commands.{is_equals, alone}
 use Rattle.hex.specs.Hex.{is_hex_digit}
 use Rattle.hex.proofs.HexLemmas.{decode_of-ok}
 use Rattle.host_protocol.specs.Reading.{BeginsWithPage, BeginsWithEntry, BeginsWithOther, IsWhole}
 use Rattle.host_protocol.proofs.EntryLemmas.{entry_around, entry_none}
 use Rattle.host_protocol.proofs.NumberLemmas.{number_digits}
 use Rattle.host_protocol.proofs.PartLemmas.{rest_from}
-use Rattle.host_protocol.proofs.WordLemmas.{word_first}
+use Rattle.host_protocol.proofs.WordLemmas.{word_first, word_take}
 
 -- a digit is neither a blank nor an equals sign
 digit_fills : (b : ℕ) → is_digit b ≡ true → (is_space_or_tab b ≡ false) × (is_equals b ≡ false)
 digit_fills b h = grind (arith)
+
+-- bytes of which each is a digit are one word
+one_word : (word : List ℕ) → 0 < length word → digits_in word ≡ length word → words_of word ≡ word ∷ []
+unfolding words_of
+one_word word some all =
+    let end : position_or_len is_space_or_tab word ≡ length word =
+    position_or_len_is is_space_or_tab word (length word) 0 (omega arith)
+    (λ k before. (digit_fills (get_or word k 0) (prefix_len_passes is_digit word k 0 (rw all before))).0)
+    (λ less. absurd (omega (arith, less))) in
+    let gone : drop (length word) word ≡ [] = drop_of_length-le word (omega arith) in
+    let first = rw end at (word_take word some (rw end some)) in
+    rw (take-length word, gone) at first
+
+-- and their number is that of the only word
+pub alone_whole : (word : List ℕ) (n : ℕ) → Some n ≡ number_of (take (digits_in word) word) →
+    digits_in word ≡ length word → alone number_of (words_of word) ≡ Some n
+unfolding number_of
+alone_whole [] n is all = absurd cc
+alone_whole (b ∷ bs) n is all =
+    let whole : take (digits_in (b ∷ bs)) (b ∷ bs) ≡ b ∷ bs = rw all (take-length (b ∷ bs)) in
+    rw (one_word (b ∷ bs) (omega arith) all) (sym (rw whole at is))
 
 -- a number that ends before an equals sign is all the digits at the beginning
 number_ends : (line : List ℕ) (place n : ℕ) → place < length line → slice_index line place ≡ 61 →

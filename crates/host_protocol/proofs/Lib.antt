@@ -10,4 +10,5 @@ pub mod NumberLemmas
 mod OneLine
 pub mod PartLemmas
 mod SearchLemmas
+mod VerbLemmas
 mod WordLemmas

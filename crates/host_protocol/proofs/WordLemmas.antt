@@ -27,7 +27,7 @@ has_some [] h = absurd (omega arith)
 has_some (x ∷ xs) h = refl
 
 -- a line that does not begin with a blank begins with a word
-word_take : (line : List ℕ) → 0 < length line → 0 < position_or_len is_space_or_tab line
+pub word_take : (line : List ℕ) → 0 < length line → 0 < position_or_len is_space_or_tab line
     → words_of line ≡ take (position_or_len is_space_or_tab line) line
     ∷ words_of (drop (position_or_len is_space_or_tab line) line)
 unfolding words_of
@@ -37,7 +37,7 @@ word_take line filled first =
     has_some (take (position_or_len is_space_or_tab line) line) (omega (arith, length-take {A = ℕ})) in
     rw (h.all, h.behind, some) refl
 
-long_start : (b : ℕ) (bs : List ℕ) → is_space_or_tab b ≡ false → 0 < position_or_len is_space_or_tab (b ∷ bs)
+pub long_start : (b : ℕ) (bs : List ℕ) → is_space_or_tab b ≡ false → 0 < position_or_len is_space_or_tab (b ∷ bs)
 long_start b bs e = rw (e, one_more) (omega arith)
 
 -- a word begins at a byte that is no blank

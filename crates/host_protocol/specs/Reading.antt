@@ -1,10 +1,11 @@
 -- What reading a part of a line gave.
-use Rattle.std.specs.Prelude.{◌≡◌, ◌<◌, ◌≤◌, ◌+◌, ◌*◌, true, ℕ, List, ◌∷◌, length, take, drop, slice_index, map, Option, Some, None, Result, Ok, Err}
+use Rattle.std.specs.Prelude.{◌≡◌, ◌≢◌, ◌<◌, ◌≤◌, ◌+◌, ◌*◌, true, ℕ, List, ◌∷◌, length, take, drop, slice_index, map, Option, Some, None, Result, Ok, Err}
 use Rattle.std.specs.Option.{option_map}
 use Rattle.hex.specs.Hex.{decode_of}
 use Rattle.tx_types.specs.Batch.{PageWrite, Writes}
 use Rattle.host_protocol.specs.Lines.{words_of}
 use Rattle.host_protocol.specs.Numbers.{digits_in, number_of}
+use Rattle.host_protocol.specs.Verbs.{word_of}
 use Rattle.host_protocol.specs.Commands.{page_value, page_write_of, verb_of, AreOperands, IsCommand, AreWriteOperands}
 use Rattle.host_protocol.specs.Files.{entries_in, is_command_line, IsFirstBad}
 use Rattle.host_protocol.specs.declared.file.TheConstants.{MAX_COMMANDS}
@@ -86,6 +87,16 @@ pub record AddsNone (size : ℕ) (line : List ℕ) (before entries_left : ℕ) :
   pub asks : is_command_line line ≡ true
   pub past : (what : Command) → IsCommand size line what → before < MAX_COMMANDS →
       entries_left < entries_in what
+
+-- the line begins with the word of this verb, and goes on with these bytes
+pub record BeginsWithVerb (line : List ℕ) (verb : Verb) (behind : List ℕ) : Type 0 where
+  pub words : words_of line ≡ word_of verb ∷ words_of behind
+  pub asks : is_command_line line ≡ true
+
+-- the line is neither blank nor a comment, and begins with no verb
+pub record BeginsWithNoVerb (line : List ℕ) : Type 0 where
+  pub asks : is_command_line line ≡ true
+  pub none : (verb : Verb) (others : List (List ℕ)) → words_of line ≢ word_of verb ∷ others
 
 -- the line begins with the digits of this page and an equals sign, behind which it goes on with these bytes
 pub record BeginsWithPage (line : List ℕ) (page : ℕ) (behind : List ℕ) : Type 0 where

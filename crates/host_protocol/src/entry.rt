@@ -13,9 +13,10 @@ use crate::numbers::leading_number;
 use crate::words::{ends_at, first_blank, first_filled};
 use memchr::memchr;
 
-/// The first entry of a line: its page, the text of what the page is to hold, what is behind it on the line, and whether
-/// the text is the digits of a whole page, whose bytes are in the room then. None where the line has no word. No digit is
-/// a blank: so the page's number is read before an equals sign is expected, and a whole page before its end is.
+/// The first entry of a line: its page, the text of what the page is to hold, what is behind it on the line, and
+/// whether the text is the digits of a whole page, whose bytes are in the room then. None where the line has no word,
+/// and an error where its first word is no entry. No digit is a blank, so the end of the word is searched for only
+/// where no digits of a whole page lead to it.
 #[inline(always)]
 pub fn first_entry<'a>(
     line: &'a [u8],

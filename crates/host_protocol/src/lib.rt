@@ -7,6 +7,7 @@ mod entry;
 mod error;
 mod file;
 mod hexadecimal;
+mod leading;
 mod line;
 mod lines;
 mod numbers;

@@ -7,6 +7,7 @@ use crate::command::Command;
 use crate::entry::{first_entry, value_by_room};
 use crate::error::LineError;
 use crate::file::MAX_COMMANDS;
+use crate::leading::leading_verb;
 use crate::numbers::number;
 use crate::operands::{arm, lone_count, lone_number, no_word};
 use crate::verb::Verb;
@@ -29,16 +30,12 @@ pub fn line_command(
         (λ found. IfSome found (AddsCommand page_bytes line.now before entries_left)) }
     ensures bad { IsErrOf result LineError.Bad → AddsNone page_bytes line.now before entries_left }
 {
-    let Some((word, words)) = first_word(line) else {
+    let Some((verb, words)) = leading_verb(line)? else {
         return Ok(None);
     };
-    if word.starts_with(b"#") {
-        return Ok(None);
-    }
     if before >= MAX_COMMANDS {
         return Err(LineError::Bad);
     }
-    let verb = Verb::from_word(word).ok_or(LineError::Bad)?;
     let command = command(alloc, verb, words, page_bytes, entries_left, room)?;
     Ok(Some(command))
 }

@@ -18,7 +18,7 @@ pub fn add_line(words: &[u8], numbers: &[u32], out: &mut Vec<u8>) -> Result<(), 
     ensures err { OnErr result (out.new.items ≡ out.old.items) }
 {
     out.reserve(words.len() + NUMBER_BYTES * numbers.len() + 1)?;
-    out.extend_from_slice(words).unwrap();
+    add_words(words, out);
     for number in numbers {
         add_number(*number, out);
     }
@@ -80,6 +80,19 @@ pub fn add_moved(moved: u32, finished: u32, out: &mut Vec<u8>) -> Result<(), Mem
     add_number(finished, out);
     out.push_reserved(b'\n');
     Ok(())
+}
+
+/// Appends words, for which there is room. They are so few bytes that each is appended by itself.
+#[inline(always)]
+fn add_words(words: &[u8], out: &mut Vec<u8>)
+    requires { vec_len out.old + length words.now ≤ vec_capacity out.old }
+    ensures items { out.new.items ≡ out.old.items ++ words.now }
+    ensures len { vec_len out.new ≡ vec_len out.old + length words.now }
+    ensures capacity { vec_capacity out.new ≡ vec_capacity out.old }
+{
+    for byte in words {
+        out.push_reserved(*byte);
+    }
 }
 
 /// Appends a space and a number, for which there is room.

@@ -1,10 +1,10 @@
-ghost use Rattle.std.specs.Prelude.{◌≡◌, ◌≢◌, ◌∷◌, [], ℕ, List, IfSome, IfNone, IsSome, ◌↔◌};
+ghost use Rattle.std.specs.Prelude.{◌≡◌, ◌≢◌, ◌∷◌, [], ℕ, List, Some, IfSome, IfNone, IsSome, ◌↔◌};
 ghost use Rattle.host_protocol.specs.Commands.{alone, IsArm, outcome_word};
 ghost use Rattle.host_protocol.specs.Lines.{words_of};
 ghost use Rattle.host_protocol.specs.Numbers.{number_of, count_of};
 ghost use Rattle.flash_model.specs.declared.outcome.Outcome.{Outcome};
 
-use crate::numbers::{count, number};
+use crate::numbers::{count, leading_number, number};
 use crate::words::{first_word, is_word};
 use flash_model::Outcome;
 
@@ -28,11 +28,28 @@ fn only_word(words: &[u8]) -> Option<&[u8]>
     Some(word)
 }
 
-/// The number that is the only word.
+/// The number that is the only word. Most often nothing else is there.
 pub fn lone_number(words: &[u8]) -> Option<u32>
     ensures { result ≡ alone number_of (words_of words.now) }
 {
+    let whole = whole_number(words);
+    if whole.is_some() {
+        return whole;
+    }
     number(only_word(words)?)
+}
+
+/// The number that all bytes are.
+#[inline(always)]
+fn whole_number(bytes: &[u8]) -> Option<u32>
+    ensures { IfSome result (λ n. alone number_of (words_of bytes.now) ≡ Some n) }
+{
+    let (number, digits) = leading_number(bytes)?;
+    if digits == bytes.len() {
+        Some(number)
+    } else {
+        None
+    }
 }
 
 /// The count that is the only word.

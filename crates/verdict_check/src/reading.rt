@@ -34,6 +34,9 @@ impl<'a> Reading<'a> {
     pub fn then_number(self, number: u64) -> Reading<'a>
         ensures { left result ≡ left_behind (decimal number) (left self.entry) }
     {
+        if number < 10 {
+            return self.then(&[b'0' + number as u8]);
+        }
         self.then(Buffer::new().format(number).as_bytes())
     }
 }

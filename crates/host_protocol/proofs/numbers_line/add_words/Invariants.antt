@@ -1,0 +1,10 @@
+use Rattle.host_protocol.proofs.Common.{◌≡◌, ◌+◌, ◌++◌, take}
+use Rattle.std.proofs.Common.{vec_len, vec_capacity}
+use Rattle.host_protocol.proofs.numbers_line.add_words.Given as goal
+
+abbrev pub invariant-loop-byte : goal.invariant-loop-byte
+invariant-loop-byte l = record {
+  items : l.out.items ≡ l.fn.out.items ++ take l.byte-index l.words;
+  len : vec_len l.out ≡ vec_len l.fn.out + l.byte-index;
+  capacity : vec_capacity l.out ≡ vec_capacity l.fn.out;
+}
