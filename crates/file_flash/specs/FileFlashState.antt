@@ -1,5 +1,5 @@
 -- A flash that is a file, as its callers see it.
-use Rattle.std.specs.Prelude.{◌≡◌, true, false, Bool, List, Option, None, Some, map, Result}
+use Rattle.std.specs.Prelude.{◌≡◌, ℕ, true, false, Bool, List, Option, None, Some, map, Result}
 use Rattle.std.specs.Option.{option_map}
 use Rattle.std.specs.Result.{is_err}
 use Rattle.tx_types.specs.declared.config.Config.{Config}
@@ -11,12 +11,14 @@ use Rattle.mem_flash.specs.MemFlashState.{MemFlashState}
 use Rattle.file_flash.specs.Files.{FileState}
 
 -- The configuration of its device, the flash in memory, the slots that wait to become durable, whether a call of
--- the file has failed, and what a loss of power may leave of the file, where that is told.
+-- the file has failed since it is that of the flash, how many calls of the file failed, and what a loss of power may
+-- leave of it, where that is told.
 pub record FileFlashState : Type 0 where
   pub config : Config
   pub memory : MemFlashState
   pub waiting : List Slot
   pub failed : Bool
+  pub faults : ℕ
   pub file : Option FileState
 
 -- A flash that does not tell what is to come: a call of its file may fail at any time.
@@ -58,8 +60,9 @@ pub record IsCut (old new : MemFlashState) : Type 0 where
   pub extras : new.extras ≡ old.extras
   pub live : new.live ≡ false
 
--- nothing changes in a file that has failed
+-- nothing changes in a file that has failed, and no call of it is made
 pub record IsFrozen (old new : FileFlashState) : Type 0 where
+  pub faults : new.faults ≡ old.faults
   pub file : new.file ≡ old.file
   pub image : new.memory.image ≡ old.memory.image
   pub failed : new.failed ≡ true

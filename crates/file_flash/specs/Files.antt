@@ -1,5 +1,6 @@
 -- An open file of fixed length, and what a loss of power may leave of it.
 use Rattle.std.specs.Prelude.{◌≡◌, ◌⊎◌, ℕ, ◌+◌, ◌<◌, ◌≤◌, Bool, false, List, [], ◌∷◌, length, take, map, slice_index, slice_index_or, Contains, Option, None, Some, Result, Ok, Err}
+use Rattle.flash_model.specs.Flash.{counted}
 use Rattle.file_flash.specs.declared.store.StoreError.{StoreError}
 
 -- Of each byte the values that a loss of power may leave, newest first: the newest is read. But while the system may
@@ -57,6 +58,11 @@ WritesFile offset bytes (Err failed) old new = MayWrite offset bytes old new
 abbrev pub SyncsFile : Result (Unit {0}) StoreError → FileState → FileState → Type 0
 SyncsFile (Ok done) old new = Syncs old new
 SyncsFile (Err failed) old new = new.values ≡ old.values
+
+-- how many calls of a store failed, after one more, by what that answered
+abbrev pub faults_after : {T : Type 0} → Result T StoreError → ℕ → ℕ
+faults_after (Ok value) faults = faults
+faults_after (Err failed) faults = counted faults
 
 -- these are all bytes that are read
 pub record ReadsFile (bytes : List ℕ) (file : FileState) : Type 0 where

@@ -1,5 +1,6 @@
 -- What a call keeps of the invariant of a flash that is a live file.
-use Rattle.live_flash.proofs.Common.{◌≡◌, ◌≤◌, true, false, [], length, map, Option, Ok, IfSome, sym, ap, subst, ◌∙◌, Shape, FileState, AreProgrammed, slot_bytes, IsOpened, IsLiveFile, Follows, LeavesCounted}
+use Rattle.live_flash.proofs.Common.{◌≡◌, ◌≤◌, ◌<◌, ℕ, true, false, [], length, map, Option, Ok, IfSome, sym, ap, subst, ◌∙◌, Shape, FileState, AreProgrammed, slot_bytes, IsOpened, IsLiveFile, Follows, LeavesCounted}
+use Rattle.std.specs.Vec.{vec_capacity}
 use Rattle.std.proofs.lemmas.Bool.{both_ways}
 use Rattle.tx_types.specs.Config.{checked, shape_of}
 use Rattle.flash_model.specs.Flash.{Extras}
@@ -7,10 +8,12 @@ use Rattle.live_file.specs.Spelling.{live_header}
 use Rattle.file_flash.specs.FileFlashState.{slot_loaded}
 use Rattle.file_flash.proofs.Keeping.{Stays}
 use Rattle.live_flash.specs.LiveFlash.{LiveFlashInvariant}
+use Rattle.live_flash.specs.Waiting.{HasRoom}
 use Rattle.live_flash.specs.declared.live_flash.LiveFlash.TheInside.{Inside}
 
 -- with whatever is loaded
-module _ {S : Type 0} (told : S → Option FileState) (f g : Inside S) (i : LiveFlashInvariant told f)
+module _ {S : Type 0} (told : S → Option FileState) (faults : S → ℕ) (f g : Inside S)
+    (i : LiveFlashInvariant told faults f)
     (config : g.config ≡ f.config)
     (shape : g.memory.shape ≡ f.memory.shape) (extras : g.memory.extras ≡ f.memory.extras)
     (loaded : g.loaded.items ≡ map slot_loaded g.memory.registers)
@@ -37,8 +40,11 @@ module _ {S : Type 0} (told : S → Option FileState) (f g : Inside S) (i : Live
       (g.failed ≡ false → IfSome (told g.follower.store) (IsOpened g.memory.shape)) →
       (g.failed ≡ false → IfSome (told g.follower.store)
       (Follows g.memory.shape g.memory.image g.follower.waiting.items [])) →
-      (g.failed ≡ false → AreProgrammed g.memory.image g.follower.waiting.items) → LiveFlashInvariant told g
-  loads_follow counts file opened follows programmed = record {
+      (g.failed ≡ false → AreProgrammed g.memory.image g.follower.waiting.items) →
+      (g.failed ≡ true → 0 < faults g.follower.store) →
+      HasRoom f.memory.shape (vec_capacity g.follower.waiting) g.follower.waiting.items →
+      LiveFlashInvariant told faults g
+  loads_follow counts file opened follows programmed cause places = record {
     checks = subst (λ c. checked c ≡ Ok (shape_of c)) (sym config) i.checks;
     shape = shape ∙ i.shape ∙ ap shape_of (sym config);
     within = subst (λ (e : Extras). e.retired ≤ e.allowance) (sym extras) i.within;
@@ -48,6 +54,8 @@ module _ {S : Type 0} (told : S → Option FileState) (f g : Inside S) (i : Live
     opened = opened;
     follows = follows;
     programmed = programmed;
+    cause = cause;
+    places = subst (λ s. HasRoom s (vec_capacity g.follower.waiting) g.follower.waiting.items) (sym shape) places;
     room = room ∙ i.room ∙ ap (λ (s : Shape). slot_bytes s.page_bytes) (sym shape);
     loaded = loaded;
     dies = dies;
@@ -56,15 +64,16 @@ module _ {S : Type 0} (told : S → Option FileState) (f g : Inside S) (i : Live
   -- or has failed
   pub loads_failed : IfSome (told g.follower.store) (LeavesCounted f.memory.shape) →
       IfSome (told g.follower.store) (IsLiveFile f.memory.shape (live_header f.config f.memory.extras)) →
-      g.failed ≡ true → LiveFlashInvariant told g
-  loads_failed counts file failed = loads_follow counts file (λ e. absurd (both_ways g.failed e failed))
-      (λ e. absurd (both_ways g.failed e failed)) (λ e. absurd (both_ways g.failed e failed))
+      g.failed ≡ true → 0 < faults g.follower.store →
+      HasRoom f.memory.shape (vec_capacity g.follower.waiting) g.follower.waiting.items →
+      LiveFlashInvariant told faults g
+  loads_failed counts file failed cause places = loads_follow counts file (λ e. absurd (both_ways g.failed e failed))
+      (λ e. absurd (both_ways g.failed e failed)) (λ e. absurd (both_ways g.failed e failed)) (λ e. cause) places
 
   -- the slots are as before, and so is the file
-  pub loads_same : g.memory.image ≡ f.memory.image → told g.follower.store ≡ told f.follower.store →
-      g.follower.waiting.items ≡ f.follower.waiting.items → (g.failed ≡ false → f.failed ≡ false) →
-      LiveFlashInvariant told g
-  loads_same image file waiting failed = loads_follow
+  pub loads_same : g.memory.image ≡ f.memory.image → g.follower.store ≡ f.follower.store →
+      g.follower.waiting ≡ f.follower.waiting → g.failed ≡ f.failed → LiveFlashInvariant told faults g
+  loads_same image store wait fails = loads_follow
       (subst (λ t. IfSome t (LeavesCounted f.memory.shape)) (sym file) i.counts)
       (subst (λ t. IfSome t (IsLiveFile f.memory.shape (live_header f.config f.memory.extras))) (sym file) i.file)
       (λ e. subst (λ t. IfSome t (IsOpened g.memory.shape)) (sym file)
@@ -76,9 +85,21 @@ module _ {S : Type 0} (told : S → Option FileState) (f g : Inside S) (i : Live
       (i.follows (failed e))))))
       (λ e. subst (λ w. AreProgrammed g.memory.image w) (sym waiting)
       (subst (λ x. AreProgrammed x f.follower.waiting.items) (sym image) (i.programmed (failed e))))
+      (λ e. subst (λ s. 0 < faults s) (sym store) (i.cause (sym fails ∙ e)))
+      (subst (λ w. HasRoom f.memory.shape (vec_capacity w) w.items) (sym wait) i.places)
+    where
+      file : told g.follower.store ≡ told f.follower.store
+      file = ap told store
+
+      waiting : g.follower.waiting.items ≡ f.follower.waiting.items
+      waiting = ap (λ w. w.items) wait
+
+      failed : g.failed ≡ false → f.failed ≡ false
+      failed e = sym fails ∙ e
 
 -- with what was loaded
-module _ {S : Type 0} (told : S → Option FileState) (f g : Inside S) (i : LiveFlashInvariant told f)
+module _ {S : Type 0} (told : S → Option FileState) (faults : S → ℕ) (f g : Inside S)
+    (i : LiveFlashInvariant told faults f)
     (config : g.config ≡ f.config) (loaded : g.loaded.items ≡ f.loaded.items) (stays : Stays f.memory g.memory)
     (room : length g.follower.room.items ≡ length f.follower.room.items) where
   still_loaded : g.loaded.items ≡ map slot_loaded g.memory.registers
@@ -92,10 +113,15 @@ module _ {S : Type 0} (told : S → Option FileState) (f g : Inside S) (i : Live
       (g.failed ≡ false → IfSome (told g.follower.store) (IsOpened g.memory.shape)) →
       (g.failed ≡ false → IfSome (told g.follower.store)
       (Follows g.memory.shape g.memory.image g.follower.waiting.items [])) →
-      (g.failed ≡ false → AreProgrammed g.memory.image g.follower.waiting.items) → LiveFlashInvariant told g
-  still_follows = loads_follow told f g i config stays.shape stays.extras still_loaded still_dies room
+      (g.failed ≡ false → AreProgrammed g.memory.image g.follower.waiting.items) →
+      (g.failed ≡ true → 0 < faults g.follower.store) →
+      HasRoom f.memory.shape (vec_capacity g.follower.waiting) g.follower.waiting.items →
+      LiveFlashInvariant told faults g
+  still_follows = loads_follow told faults f g i config stays.shape stays.extras still_loaded still_dies room
 
   pub has_failed : IfSome (told g.follower.store) (LeavesCounted f.memory.shape) →
       IfSome (told g.follower.store) (IsLiveFile f.memory.shape (live_header f.config f.memory.extras)) →
-      g.failed ≡ true → LiveFlashInvariant told g
-  has_failed = loads_failed told f g i config stays.shape stays.extras still_loaded still_dies room
+      g.failed ≡ true → 0 < faults g.follower.store →
+      HasRoom f.memory.shape (vec_capacity g.follower.waiting) g.follower.waiting.items →
+      LiveFlashInvariant told faults g
+  has_failed = loads_failed told faults f g i config stays.shape stays.extras still_loaded still_dies room

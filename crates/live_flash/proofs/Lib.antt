@@ -10,3 +10,5 @@ pub mod Kept
 pub mod Spelled
 pub mod Leaving
 mod Apart
+mod Waiting
+mod Counting

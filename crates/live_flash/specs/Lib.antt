@@ -3,3 +3,4 @@ pub mod Losing
 pub mod Flushes
 pub mod LiveFlash
 pub mod Loads
+pub mod Waiting

@@ -4,7 +4,7 @@ ghost use Rattle.tx_types.specs.declared.config.Slot.{Slot};
 ghost use Rattle.flash_model.specs.Flash.{Contents, blank, damaged, slot_at, IsWhole};
 ghost use Rattle.mem_flash.specs.Slots.{cell_bytes, cell_of};
 ghost use Rattle.file_flash.specs.Clearing.{IsBare, IsCleared};
-ghost use Rattle.file_flash.specs.Files.{FileState, BothTell, WritesFile};
+ghost use Rattle.file_flash.specs.Files.{FileState, BothTell, WritesFile, faults_after};
 ghost use Rattle.file_flash.specs.Following.{AreProgrammed, slots_in};
 ghost use Rattle.zero_count.specs.Zeros.{counted, erased};
 ghost use Rattle.live_image.specs.Slots.{slot_bytes, damage_byte};
@@ -77,6 +77,7 @@ impl<S: Store + Drop> Follower<S> {
         ensures writes { BothTell (WritesFile (slot_offset memory.now.shape at.0)
             (counted (cell_of memory.now.shape.page_bytes (slot_at memory.now.image at.0))) result)
             (S.told self.old.store) (S.told self.new.store) }
+        ensures counts { S.faults self.new.store ≡ faults_after result (S.faults self.old.store) }
     {
         let shape = memory.shape();
         fill_counted(&mut self.room, memory.cell(at));
@@ -93,6 +94,7 @@ impl<S: Store + Drop> Follower<S> {
         ensures room { length self.new.room.items ≡ length self.old.room.items }
         ensures writes { BothTell (WritesFile (slot_offset shape at.0) (erased (slot_bytes shape.page_bytes)) result)
             (S.told self.old.store) (S.told self.new.store) }
+        ensures counts { S.faults self.new.store ≡ faults_after result (S.faults self.old.store) }
     {
         self.room.fill(0xff);
         self.store.write_at(slot_offset(shape, at), &self.room)
@@ -107,6 +109,7 @@ impl<S: Store + Drop> Follower<S> {
         ensures room { self.new.room ≡ self.old.room }
         ensures writes { BothTell (WritesFile (slot_offset shape at.0 + (cell_bytes shape.page_bytes + 3))
             (damage_byte ∷ []) result) (S.told self.old.store) (S.told self.new.store) }
+        ensures counts { S.faults self.new.store ≡ faults_after result (S.faults self.old.store) }
     {
         let last = slot_offset(shape, at) + slot_bytes(shape) - 1;
         self.store.write_at(last, &[DAMAGE_BYTE])
@@ -122,6 +125,7 @@ impl<S: Store + Drop> Follower<S> {
         ensures room { length self.new.room.items ≡ length self.old.room.items }
         ensures turns { BothTell (TurnsSlot memory.now.shape at.0 blank (slot_at memory.now.image at.0) result)
             (S.told self.old.store) (S.told self.new.store) }
+        ensures counts { S.faults self.new.store ≡ faults_after result (S.faults self.old.store) }
     {
         let shape = memory.shape();
         match memory.seen(at) {
@@ -142,6 +146,7 @@ impl<S: Store + Drop> Follower<S> {
             (slot_at memory.now.image at.0 ≡ old) ⊎ IsBare (slot_at memory.now.image at.0) →
             BothTell (TurnsSlot memory.now.shape at.0 old (slot_at memory.now.image at.0) result)
             (S.told self.old.store) (S.told self.new.store) }
+        ensures counts { S.faults self.new.store ≡ faults_after result (S.faults self.old.store) }
     {
         let shape = memory.shape();
         match memory.seen(at) {

@@ -1,6 +1,6 @@
 //! A session on a live file begins.
-ghost use Rattle.std.specs.Prelude.{◌≡◌, ◌<◌, [], length, replicate, All, false, None, Ok, IfOk, IfSome};
-ghost use Rattle.tx_types.specs.Config.{checked, shape_of, IsShape};
+ghost use Rattle.std.specs.Prelude.{◌≡◌, ◌<◌, ◌≤◌, [], length, vec_capacity, replicate, All, false, None, Ok, IfOk, IfSome};
+ghost use Rattle.tx_types.specs.Config.{checked, shape_of, slots_of, IsShape};
 ghost use Rattle.file_flash.specs.Opening.{IsDurable};
 ghost use Rattle.live_image.specs.Slots.{slot_bytes};
 ghost use Rattle.live_file.specs.Spelling.{live_spelling};
@@ -21,7 +21,8 @@ const NUMBER_BYTES: usize = 4;
 fn rooms(alloc: Global, shape: Shape) -> Result<(Vec<Slot>, Vec<u8>, Vec<Option<Slot>>), AllocError>
     requires { IsShape shape }
     ensures { IfOk result (λ rooms. (rooms.0.items ≡ [])
-        × (length rooms.1.items ≡ slot_bytes shape.page_bytes) × (rooms.2.items ≡ replicate shape.dies None)) }
+        × (length rooms.1.items ≡ slot_bytes shape.page_bytes) × (rooms.2.items ≡ replicate shape.dies None)
+        × (slots_of shape ≤ vec_capacity rooms.0)) }
 {
     let waiting = Vec::with_capacity(alloc, shape.slots() as usize)?;
     let mut room = Vec::new(alloc);
@@ -48,6 +49,7 @@ impl<S: Store + Drop> LiveFlash<S> {
           memory = memory;
           waiting = [];
           failed = false;
+          faults = S.faults store;
           file = S.told store;
         }) }
     {

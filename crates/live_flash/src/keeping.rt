@@ -1,15 +1,18 @@
 //! How the file follows the calls of the flash in memory.
-ghost use Rattle.std.specs.Prelude.{◌≡◌, ◌≤◌, ◌<◌, ◌+◌, ◌⊎◌, ◌∷◌, ◌++◌, [], ℕ, List, length, OnOk, IfSome, true, false};
+ghost use Rattle.std.specs.Prelude.{◌≡◌, ◌≤◌, ◌<◌, ◌+◌, ◌⊎◌, ◌∷◌, ◌++◌, [], ℕ, List, length, vec_capacity, OnOk, IfSome, true, false};
 ghost use Rattle.tx_types.specs.Config.{slots_of};
+ghost use Rattle.tx_types.specs.declared.config.Shape.{Shape};
 ghost use Rattle.tx_types.specs.declared.config.Slot.{Slot};
 ghost use Rattle.flash_model.specs.Flash.{Contents, slot_at, IsImage};
 ghost use Rattle.flash_model.specs.Calls.{seen_of};
 ghost use Rattle.flash_model.specs.Readings.{reads_blank};
 ghost use Rattle.file_flash.specs.Clearing.{IsCleared};
+ghost use Rattle.file_flash.specs.Files.{faults_after};
 ghost use Rattle.file_flash.specs.Following.{AreProgrammed, slots_in};
 ghost use Rattle.live_image.specs.Slots.{slot_bytes};
 ghost use Rattle.live_flash.specs.Following.{IsOpened, IsLiveFile, Follows};
 ghost use Rattle.live_flash.specs.Losing.{LosesOnly, LosesBetween, Tears};
+ghost use Rattle.live_flash.specs.Waiting.{HasRoom};
 
 use crate::Follower;
 use file_flash::{Store, StoreError};
@@ -30,13 +33,17 @@ fn is_blank(memory: &MemFlash, at: Slot) -> bool
 
 impl<S: Store + Drop> Follower<S> {
     /// Follows a program of the slot in memory: where it is not blank it is written over the erased one of the file, by
-    /// one write, and waits for a flush. Slots may be due still, and where this fails so is this one.
+    /// one write, and waits for a flush. It does not wait yet. Slots may be due still, and where this fails so is this
+    /// one.
     pub fn put(&mut self, memory: &MemFlash, at: Slot) -> Result<(), StoreError>
         requires exists { at.0 < slots_of memory.now.shape }
         requires room { length self.old.room.items ≡ slot_bytes memory.now.shape.page_bytes }
         requires opened { IfSome (S.told self.old.store) (IsOpened memory.now.shape) }
         requires programmed { AreProgrammed memory.now.image self.old.waiting.items }
+        requires places { HasRoom memory.now.shape (vec_capacity self.old.waiting) self.old.waiting.items }
+        requires fresh { slots_in self.old.waiting.items at.0 ≡ false }
         ensures room { length self.new.room.items ≡ length self.old.room.items }
+        ensures places { HasRoom memory.now.shape (vec_capacity self.new.waiting) self.new.waiting.items }
         ensures programmed { OnOk result (AreProgrammed memory.now.image self.new.waiting.items) }
         ensures opened { IfSome (S.told self.new.store) (IsOpened memory.now.shape) }
         ensures kept { (head : List ℕ) → IfSome (S.told self.old.store) (IsLiveFile memory.now.shape head) →
@@ -53,13 +60,29 @@ impl<S: Store + Drop> Follower<S> {
             (Follows memory.now.shape memory.now.image self.old.waiting.items (at ∷ due)) →
             IfSome (S.told self.new.store)
             (LosesOnly memory.now.shape memory.now.image (self.old.waiting.items ++ at ∷ due)) }
+        ensures counts { S.faults self.new.store ≡ faults_after result (S.faults self.old.store) }
     {
         let _ = memory.shape();
         if is_blank(memory, at) {
             return Ok(());
         }
-        self.waiting.push(at).map_err(|_| StoreError)?;
+        self.note(memory, at);
         self.program_slot(memory, at)
+    }
+
+    /// Notes that a slot waits which did not. There is room for it, since none waits twice.
+    fn note(&mut self, memory: &MemFlash, at: Slot)
+        requires exists { at.0 < slots_of memory.now.shape }
+        requires programmed { AreProgrammed memory.now.image self.old.waiting.items }
+        requires places { HasRoom memory.now.shape (vec_capacity self.old.waiting) self.old.waiting.items }
+        requires fresh { slots_in self.old.waiting.items at.0 ≡ false }
+        ensures waits { self.new.waiting.items ≡ self.old.waiting.items ++ at ∷ [] }
+        ensures places { HasRoom memory.now.shape (vec_capacity self.new.waiting) self.new.waiting.items }
+        ensures room { self.new.room ≡ self.old.room }
+        ensures store { self.new.store ≡ self.old.store }
+    {
+        let _ = memory.shape();
+        let _ = self.waiting.push(at);
     }
 
     /// Makes durable the slots that wait, by one sync.
@@ -69,6 +92,8 @@ impl<S: Store + Drop> Follower<S> {
             (Follows memory.now.shape memory.now.image self.old.waiting.items []) }
         ensures none { OnOk result (self.new.waiting.items ≡ []) }
         ensures room { self.new.room ≡ self.old.room }
+        ensures places { (shape : Shape) → HasRoom shape (vec_capacity self.old.waiting) self.old.waiting.items →
+            HasRoom shape (vec_capacity self.new.waiting) self.new.waiting.items }
         ensures opened { OnOk result (IfSome (S.told self.new.store) (IsOpened memory.now.shape)) }
         ensures kept { (head : List ℕ) → IfSome (S.told self.old.store) (IsLiveFile memory.now.shape head) →
             IfSome (S.told self.new.store) (IsLiveFile memory.now.shape head) }
@@ -76,6 +101,7 @@ impl<S: Store + Drop> Follower<S> {
             (Follows memory.now.shape memory.now.image [] [])) }
         ensures loses { IfSome (S.told self.new.store)
             (LosesOnly memory.now.shape memory.now.image self.old.waiting.items) }
+        ensures counts { S.faults self.new.store ≡ faults_after result (S.faults self.old.store) }
     {
         let _ = memory.shape();
         if self.waiting.is_empty() {
@@ -104,6 +130,7 @@ impl<S: Store + Drop> Follower<S> {
             IsCleared old memory.now.image first count →
             IfSome (S.told self.old.store) (Follows memory.now.shape old [] []) →
             IfSome (S.told self.new.store) (LosesBetween memory.now.shape old memory.now.image) }
+        ensures counts { S.faults self.new.store ≡ faults_after result (S.faults self.old.store) }
     {
         let _ = memory.shape();
         self.tear(memory, first, count)?;
@@ -128,6 +155,7 @@ impl<S: Store + Drop> Follower<S> {
             IsCleared old memory.now.image first count →
             IfSome (S.told self.old.store) (Follows memory.now.shape old [] []) →
             IfSome (S.told self.new.store) (LosesBetween memory.now.shape old memory.now.image) }
+        ensures counts { S.faults self.new.store ≡ faults_after result (S.faults self.old.store) }
     {
         let _ = memory.shape();
         for number in first..first + count {

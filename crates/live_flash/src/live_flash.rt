@@ -1,11 +1,12 @@
-ghost use Rattle.std.specs.Prelude.{◌≡◌, ◌<◌, ◌≤◌, ◌⊎◌, ℕ, length, true, false, [], ◌∷◌, ◌++◌, Some, Ok, IfOk, IfSome, OnOk};
+ghost use Rattle.std.specs.Prelude.{◌≡◌, ◌<◌, ◌≤◌, ◌⊎◌, ℕ, length, true, false, if◌then◌else◌, [], ◌∷◌, ◌++◌, Some, Ok, IfOk, IfSome, OnOk};
 ghost use Rattle.std.specs.Result.{is_err};
 ghost use Rattle.tx_types.specs.Config.{checked, shape_of, slots_of, blocks_of};
+ghost use Rattle.flash_model.specs.Flash.{counted};
 ghost use Rattle.flash_model.specs.Operations.{CanProgram, CanDo, program, erase, fire};
 ghost use Rattle.flash_model.specs.Calls.{Reads, ReadsSpareArea, Programs, Erases, Operates};
 ghost use Rattle.flash_model.specs.Arms.{TurnsOn, ArmsCut, ArmsFault, ArmsBadRead};
 ghost use Rattle.flash_model.specs.Firing.{no_loads, loads_in, IsFreeAt, with_load};
-ghost use Rattle.mem_flash.specs.Breaking.{broken_by, fire_broken_by, answered, operated, fired, after_read};
+ghost use Rattle.mem_flash.specs.Breaking.{broken_by, fire_broken_by, answered, operated, fired, is_read_broken, after_read};
 ghost use Rattle.file_flash.specs.FileFlashState.{untold, slots_of_loads, IsFrozen, LosesPower};
 ghost use Rattle.file_flash.specs.Following.{slots_in};
 ghost use Rattle.image_file.specs.Spelling.{Spells};
@@ -23,9 +24,10 @@ use std::alloc::Global;
 use std::marker::Model;
 use tx_types::{Block, Config, Memory, Shape, Slot};
 
-/// A flash that is an image file in its live format: it shows what it has in memory, and the file follows it. At the
-/// first call of the file that fails it loses power, and from then on each call is broken and changes no slot, in
-/// memory or in the file.
+/// A flash that is an image file in its live format: it shows what it has in memory, and the file follows it. The first
+/// call of the file that fails is the last: from then on each call is broken and changes no slot, in memory or in the
+/// file. In a program, an erase or a fire that fails so power is lost at once, and after a flush that does at the next
+/// one of these.
 #[derive(Drop)]
 pub struct LiveFlash<S: Store + Drop> {
     pub(crate) config: Config,
@@ -44,9 +46,9 @@ impl<S: Store + Drop> Model for LiveFlash<S> {
 
     ghost use Rattle.live_flash.specs.LiveFlash.{live_flash_of, LiveFlashInvariant};
 
-    ghost view = { live_flash_of S.told };
+    ghost view = { live_flash_of S.told S.faults };
 
-    ghost invariant = { LiveFlashInvariant S.told };
+    ghost invariant = { LiveFlashInvariant S.told S.faults };
 }
 
 impl<S: Store + Drop> LiveFlash<S> {
@@ -63,6 +65,7 @@ impl<S: Store + Drop> LiveFlash<S> {
     /// until a call has failed, each slot of it is as it is in memory, or blank where it waits.
     pub fn has_failed(&self) -> bool
         ensures failed { result ≡ self.now.failed }
+        ensures cause { self.now.failed ≡ true → 0 < self.now.faults }
         ensures opens { IfSome self.now.file
             (LeavesLive self.now.config self.now.memory.shape self.now.memory.extras) }
         ensures loses { self.now.failed ≡ false → IfSome self.now.file
@@ -115,6 +118,7 @@ impl<S: Store + Drop> Flash for LiveFlash<S> {
         ensures reads { Reads (untold self.old.memory) (untold self.new.memory)
             at.0 into.new spare_area.new result }
         ensures next { self.old.failed ≡ false → self.new ≡ record self.old { memory = after_read self.old.memory } }
+        ensures answer { self.old.failed ≡ false → is_err result ≡ is_read_broken self.old.memory }
         ensures failed { self.old.failed ≡ true → (is_err result ≡ true) × IsFrozen self.old self.new }
         ensures config { self.new.config ≡ self.old.config }
     {
@@ -136,6 +140,7 @@ impl<S: Store + Drop> Flash for LiveFlash<S> {
         ensures reads { ReadsSpareArea (untold self.old.memory) (untold self.new.memory)
             at.0 spare_area.new result }
         ensures next { self.old.failed ≡ false → self.new ≡ record self.old { memory = after_read self.old.memory } }
+        ensures answer { self.old.failed ≡ false → is_err result ≡ is_read_broken self.old.memory }
         ensures failed { self.old.failed ≡ true → (is_err result ≡ true) × IsFrozen self.old self.new }
         ensures config { self.new.config ≡ self.old.config }
     {
@@ -163,6 +168,8 @@ impl<S: Store + Drop> Flash for LiveFlash<S> {
         ensures waits { (k : ℕ) → slots_in self.new.waiting k ≡ true → slots_in (at ∷ self.old.waiting) k ≡ true }
         ensures config { self.new.config ≡ self.old.config }
         ensures power { LosesPower self.new result }
+        ensures counts { self.old.failed ≡ false →
+            self.new.faults ≡ (if self.new.failed then counted self.old.faults else self.old.faults) }
         ensures frozen { self.old.failed ≡ true → IsFrozen self.old self.new }
     {
         if self.failed {
@@ -193,6 +200,8 @@ impl<S: Store + Drop> Flash for LiveFlash<S> {
             ⊎ LosesBetween self.old.memory.shape self.old.memory.image self.new.memory.image file) }
         ensures config { self.new.config ≡ self.old.config }
         ensures power { LosesPower self.new result }
+        ensures counts { self.old.failed ≡ false →
+            self.new.faults ≡ (if self.new.failed then counted self.old.faults else self.old.faults) }
         ensures frozen { self.old.failed ≡ true → IsFrozen self.old self.new }
     {
         let shape = self.memory.shape();
@@ -328,6 +337,8 @@ impl<S: Store + Drop> Wide for LiveFlash<S> {
             slots_in (self.old.waiting ++ slots_of_loads (loads_in self.old.memory.registers)) k ≡ true }
         ensures config { self.new.config ≡ self.old.config }
         ensures power { LosesPower self.new result }
+        ensures counts { self.old.failed ≡ false →
+            self.new.faults ≡ (if self.new.failed then counted self.old.faults else self.old.faults) }
         ensures frozen { self.old.failed ≡ true → IsFrozen self.old self.new }
     {
         if self.failed {

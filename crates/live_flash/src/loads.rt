@@ -1,14 +1,16 @@
 //! The slots of the programs that are loaded in the registers of the dies.
-ghost use Rattle.std.specs.Prelude.{◌≡◌, ◌++◌, ◌<◌, ◌∷◌, ℕ, List, [], length, true, replicate, Option, None, IfOk, IfSome, OnOk};
+ghost use Rattle.std.specs.Prelude.{◌≡◌, ◌++◌, ◌<◌, ◌∷◌, ℕ, List, [], length, vec_capacity, true, false, replicate, Option, None, IfOk, IfSome, OnOk};
 ghost use Rattle.tx_types.specs.Config.{slots_of, IsShape};
 ghost use Rattle.tx_types.specs.declared.config.Slot.{Slot};
 ghost use Rattle.flash_model.specs.Operations.{die_of};
+ghost use Rattle.file_flash.specs.Files.{faults_after};
 ghost use Rattle.file_flash.specs.Following.{AreProgrammed, slots_in};
 ghost use Rattle.file_flash.specs.Loads.{slots_loaded, IsLoaded, AreLoaded};
 ghost use Rattle.live_image.specs.Slots.{slot_bytes};
 ghost use Rattle.live_flash.specs.Following.{IsOpened, IsLiveFile, Follows};
 ghost use Rattle.live_flash.specs.Loads.{AreApart};
 ghost use Rattle.live_flash.specs.Losing.{LosesOnly};
+ghost use Rattle.live_flash.specs.Waiting.{HasRoom};
 
 use crate::Follower;
 use file_flash::{Store, StoreError};
@@ -45,7 +47,7 @@ pub(crate) fn die_of(shape: Shape, at: Slot) -> usize
     (at.0 / shape.pages_per_block / shape.blocks_per_die) as usize
 }
 
-/// Follows the program of this slot in memory, if there is one. Other slots may be due still.
+/// Follows the program of this slot in memory, if there is one. It does not wait yet. Other slots may be due still.
 fn follow_slot<S: Store + Drop>(
     follower: &mut Follower<S>,
     memory: &MemFlash,
@@ -55,7 +57,11 @@ fn follow_slot<S: Store + Drop>(
     requires room { length follower.old.room.items ≡ slot_bytes memory.now.shape.page_bytes }
     requires opened { IfSome (S.told follower.old.store) (IsOpened memory.now.shape) }
     requires programmed { AreProgrammed memory.now.image follower.old.waiting.items }
+    requires places { HasRoom memory.now.shape (vec_capacity follower.old.waiting) follower.old.waiting.items }
+    requires fresh { IfSome slot (λ at. slots_in follower.old.waiting.items at.0 ≡ false) }
     ensures room { length follower.new.room.items ≡ length follower.old.room.items }
+    ensures places { HasRoom memory.now.shape (vec_capacity follower.new.waiting) follower.new.waiting.items }
+    ensures counts { S.faults follower.new.store ≡ faults_after result (S.faults follower.old.store) }
     ensures programmed { OnOk result (AreProgrammed memory.now.image follower.new.waiting.items) }
     ensures opened { IfSome (S.told follower.new.store) (IsOpened memory.now.shape) }
     ensures kept { (head : List ℕ) → IfSome (S.told follower.old.store) (IsLiveFile memory.now.shape head) →
@@ -78,8 +84,8 @@ fn follow_slot<S: Store + Drop>(
     }
 }
 
-/// Follows the programs of these slots in memory, one after another. No slot is there twice. Where this fails, some
-/// wait and some are due still.
+/// Follows the programs of these slots in memory, one after another. No slot is there twice, and none waits yet. Where
+/// this fails, some wait and some are due still.
 pub(crate) fn follow_slots<S: Store + Drop>(
     follower: &mut Follower<S>,
     memory: &MemFlash,
@@ -90,7 +96,12 @@ pub(crate) fn follow_slots<S: Store + Drop>(
     requires room { length follower.old.room.items ≡ slot_bytes memory.now.shape.page_bytes }
     requires opened { IfSome (S.told follower.old.store) (IsOpened memory.now.shape) }
     requires programmed { AreProgrammed memory.now.image follower.old.waiting.items }
+    requires places { HasRoom memory.now.shape (vec_capacity follower.old.waiting) follower.old.waiting.items }
+    requires fresh { (k : ℕ) → slots_in (slots_loaded slots.now) k ≡ true →
+        slots_in follower.old.waiting.items k ≡ false }
     ensures room { length follower.new.room.items ≡ length follower.old.room.items }
+    ensures places { HasRoom memory.now.shape (vec_capacity follower.new.waiting) follower.new.waiting.items }
+    ensures counts { S.faults follower.new.store ≡ faults_after result (S.faults follower.old.store) }
     ensures programmed { OnOk result (AreProgrammed memory.now.image follower.new.waiting.items) }
     ensures opened { IfSome (S.told follower.new.store) (IsOpened memory.now.shape) }
     ensures kept { (head : List ℕ) → IfSome (S.told follower.old.store) (IsLiveFile memory.now.shape head) →

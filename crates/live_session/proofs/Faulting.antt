@@ -32,7 +32,7 @@ use Rattle.live_session.specs.declared.desk.CallError.TheVariants as call
 use Rattle.live_session.specs.declared.ending.TheConstants.{IN_USE}
 use Rattle.live_session.specs.Closing.{ClosesFlash}
 use Rattle.live_session.specs.Endings.{LiveEnding, Closed, BadLine, Refused, BadCount, InUse, Fault, Starved, Attempts, EndsSo, Speaks, count_line}
-use Rattle.live_session.specs.Faults.{FailsFile, FailsFlash, FaultsClosing, FaultsCommand, FaultsLeft, FaultsLines, FaultsSession, IsFaulted, IsUnserved, IsUnstarted, WhereFailed, WhereFault}
+use Rattle.live_session.specs.Faults.{FailsFile, FailsFlash, FaultsClosing, FaultsCommand, FaultsLeft, FaultsLines, FaultsSession, HasFailed, IsFaulted, IsUnserved, IsUnstarted, WhereFailed, WhereFault}
 use Rattle.live_session.specs.Hearing.{FileSession, Hears, StopsAndCloses, WhereStopped}
 use Rattle.live_session.specs.LineDesk.{BothTell, DeskTold, LineDeskState, ReadsLine, Saying, Says, with_claim, with_put, with_saying}
 use Rattle.live_session.specs.Opening.{IsNotOpened, OpensFile, begun}
@@ -165,9 +165,12 @@ module _ (flash : FileFlashState) (its config : Config) (s t : FileSession) (bef
     why,
   )
 
+  fails_by : c.left.failed ≡ true → HasFailed c.left
+  fails_by failed = (failed, c.cause failed)
+
   closing : FaultsLines its before mid s t → FaultsClosing its before now s
   closing (inl e) = inl (c.faults ∙ e)
-  closing (inr (inl failed)) = left_so (inl (c.frozen (ap (λ (f : FileFlashState). f.failed) at ∙ failed)))
+  closing (inr (inl failed)) = left_so (inl (fails_by (c.frozen (ap (λ (f : FileFlashState). f.failed) at ∙ failed))))
   closing (inr (inr (inl w))) =
       let same = ap (λ (d : LineDeskState). option_map (with_closed c.put c.left) d.told) w.1 in
       left_so (inr (inr (inl (
@@ -194,7 +197,7 @@ closing_fault flash its config s t before mid now (Err stop.Fault) (Err stop.Fau
     closing flash its config s t before mid now (Err stop.Fault) at c h
 closing_fault flash its config s t before mid now (Err stop.Fault) (Err stop.Memory) same Q h at is c = tt
 closing_fault flash its config s t before mid now (Ok good) (Err stop.Fault) same Q h at is c =
-    left_so flash its config s t before mid now (Err stop.Fault) at c (inl (c.fails refl))
+    left_so flash its config s t before mid now (Err stop.Fault) at c (inl (c.fails refl, c.cause (c.fails refl)))
 closing_fault flash its config s t before mid now (Ok good) (Err stop.Memory) same Q h at is c = tt
 closing_fault flash its config s t before mid now (Ok good) (Ok done) false Q h at is c =
     left_so flash its config s t before mid now (Ok done) at c

@@ -6,9 +6,8 @@ use Rattle.std.proofs.lemmas.Bool.Decides.{eqb_tells}
 use Rattle.std.proofs.lemmas.List.Elements.{All-head, All-tail}
 use Rattle.host_protocol.specs.Commands.{IsCommand}
 use Rattle.host_protocol.specs.Files.{IsFile, is_command_line}
-use Rattle.host_protocol.specs.Lines.{ended_parts, is_line_feed, lines_of}
+use Rattle.host_protocol.specs.Lines.{HasNoFeed, ended_parts, is_line_feed, lines_of}
 use Rattle.host_protocol.specs.declared.command.Command.{Command}
-use Rattle.live_session.specs.Lines.{HasNoFeed}
 
 not_feed : (b : ℕ) → b ≢ 10 → is_line_feed b ≡ false
 not_feed b other = elim (eqb_tells b 10) [ inl h ↦ absurd (other h.1) | inr h ↦ h.0 ]

@@ -130,11 +130,11 @@ refused_image file desk bytes rule reads begins why =
 
 -- ---- a file whose bytes say a flash
 
-module _ (file now : Option FileState) (bytes : List ℕ) (config : Config) (memory : MemFlashState)
+module _ (file now : Option FileState) (faults : ℕ) (bytes : List ℕ) (config : Config) (memory : MemFlashState)
     (old new : LineDeskState) (reads : IfSome file (ReadsFile bytes))
     (said : IsInUse bytes config memory.image memory.extras ⊎ IsLive bytes config memory.image memory.extras) where
   abbrev flash : FileFlashState
-  flash = record { config = config; memory = memory; waiting = []; failed = false; file = now }
+  flash = record { config = config; memory = memory; waiting = []; failed = false; faults = faults; file = now }
 
   says : SaysHeld file flash
   says = record { bytes = bytes; reads = reads; said = said }

@@ -1,8 +1,9 @@
 -- An image file takes the place of a live file when a session is closed.
-use Rattle.std.proofs.Common.{◌≡◌, ℕ, true, false, List, [], Option, None, Some, Result, Ok, Err, IfSome, OnOk, is_err, refl, sym, ap, subst, ◌∙◌, option_map, inl, inr, arith}
+use Rattle.std.proofs.Common.{◌≡◌, ◌<◌, ℕ, true, false, List, [], Option, None, Some, Result, Ok, Err, IfSome, OnOk, is_err, refl, sym, ap, subst, ◌∙◌, option_map, inl, inr, arith}
 use Rattle.std.proofs.lemmas.Bool.{false≢true}
 use Rattle.std.proofs.lemmas.List.{ext_get_or}
 use Rattle.tx_types.specs.declared.config.Config.{Config}
+use Rattle.desk_io.specs.Desk.{counted}
 use Rattle.flash_model.specs.Flash.{Contents, Extras}
 use Rattle.flash_model.specs.declared.cached.NotDurable.{NotDurable}
 use Rattle.image_file.specs.Spelling.{Spells}
@@ -17,7 +18,7 @@ use Rattle.live_flash.specs.Losing.{LeavesLive, LosesOnly}
 use Rattle.live_session.specs.declared.answering.Stop.{Stop}
 use Rattle.live_session.specs.declared.answering.Stop.TheVariants as stop
 use Rattle.live_session.specs.Closing.{ClosesFlash, IsStoppedBy, PutsImage}
-use Rattle.live_session.specs.LineDesk.{LineDeskState, after, with_left, with_put}
+use Rattle.live_session.specs.LineDesk.{LineDeskState, after, with_failure, with_left, with_put}
 use Rattle.live_session.specs.Saying.{IsClosed, IsDurable, image_bytes, with_closed}
 
 -- ---- a loss leaves what is durable
@@ -39,9 +40,13 @@ leaves_spelling bytes config image extras (Some a) None s told = absurd told
 
 -- ---- the file is closed
 
+at_least_one : (n : ℕ) → 0 < counted n
+at_least_one n = omega arith
+
 module _ (flash f : FileFlashState) (flushed : Result (Unit {0}) NotDurable) (config : Config)
     (old new : LineDeskState) (h : Flushes flash f flushed)
-    (opens : IfSome f.file (LeavesLive f.config f.memory.shape f.memory.extras)) (same : config ≡ f.config) where
+    (opens : IfSome f.file (LeavesLive f.config f.memory.shape f.memory.extras))
+    (cause : f.failed ≡ true → 0 < f.faults) (same : config ≡ f.config) where
   frozen : flash.failed ≡ true → f.failed ≡ true
   frozen bad = (h.frozen bad).failed
 
@@ -77,6 +82,7 @@ module _ (flash f : FileFlashState) (flushed : Result (Unit {0}) NotDurable) (co
         same = sym same;
         stays = h.stays;
         frozen = frozen;
+        cause = cause;
         fails = λ e. absurd (cc);
         done = (refl, live.failed);
         spelled = spelled;
@@ -86,7 +92,7 @@ module _ (flash f : FileFlashState) (flushed : Result (Unit {0}) NotDurable) (co
         faults = faults_closed left bytes put.1;
       }
   closes_by bytes (Err stop.Fault) flat s put =
-      let left : FileFlashState = record f { failed = true; file = put.0 } in
+      let left : FileFlashState = with_failure f put.0 in
       let shut : IsClosed left = λ up. absurd (false≢true (sym up)) in
       record {
         left = left;
@@ -94,6 +100,7 @@ module _ (flash f : FileFlashState) (flushed : Result (Unit {0}) NotDurable) (co
         same = sym same;
         stays = h.stays;
         frozen = λ bad. refl;
+        cause = λ bad. at_least_one f.faults;
         fails = λ e. refl;
         done = tt;
         spelled = tt;
@@ -108,6 +115,7 @@ module _ (flash f : FileFlashState) (flushed : Result (Unit {0}) NotDurable) (co
     same = sym same;
     stays = h.stays;
     frozen = frozen;
+    cause = cause;
     fails = λ e. absurd (cc);
     done = tt;
     spelled = tt;
@@ -129,6 +137,7 @@ module _ (flash f : FileFlashState) (flushed : Result (Unit {0}) NotDurable) (co
         same = sym same;
         stays = h.stays;
         frozen = frozen;
+        cause = cause;
         fails = λ e. failed;
         done = tt;
         spelled = tt;
@@ -143,6 +152,7 @@ module _ (flash f : FileFlashState) (flushed : Result (Unit {0}) NotDurable) (co
     same = sym same;
     stays = h.stays;
     frozen = frozen;
+    cause = cause;
     fails = λ e. absurd (cc);
     done = tt;
     spelled = tt;

@@ -10,7 +10,8 @@ use Rattle.std.specs.Io.{StartsWith}
 use Rattle.std.specs.Io.KnownBytes.{Consumes, IsAtEnd, Keeps}
 use Rattle.std.specs.Io.BufRead.{DropsConsumable, DropsThrough, drop_through}
 use Rattle.memchr.specs.Find.{IsFirstByte, is_byte}
-use Rattle.live_session.specs.Lines.{FindsFeed, HasNoFeed, IsLong, IsNext, ReadsOver, TakesBuffered, TakesPiece}
+use Rattle.host_protocol.specs.Lines.{HasNoFeed}
+use Rattle.live_session.specs.Lines.{FindsFeed, IsLong, IsNext, ReadsOver, TakesBuffered, TakesPiece}
 use Rattle.live_session.specs.declared.desk.Next.{Next}
 use Rattle.live_session.specs.declared.desk.Next.TheVariants as next
 use Rattle.live_session.specs.declared.lines.Taken.{Taken}

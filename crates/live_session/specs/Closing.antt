@@ -1,5 +1,5 @@
 -- How the file of a session is closed.
-use Rattle.std.specs.Prelude.{◌≡◌, Bool, true, false, List, ℕ, IfSome, OnOk, Result, Ok, Err}
+use Rattle.std.specs.Prelude.{◌≡◌, ◌<◌, Bool, true, false, List, ℕ, IfSome, OnOk, Result, Ok, Err}
 use Rattle.std.specs.Option.{option_map}
 use Rattle.std.specs.Result.{is_err}
 use Rattle.tx_types.specs.declared.config.Config.{Config}
@@ -32,6 +32,7 @@ pub record ClosesFlash (flash : FileFlashState) (old new : LineDeskState) (resul
   pub same : left.config ≡ config
   pub stays : left.memory ≡ flash.memory
   pub frozen : flash.failed ≡ true → left.failed ≡ true
+  pub cause : left.failed ≡ true → 0 < left.faults
   pub fails : result ≡ Err stop.Fault → left.failed ≡ true
   pub done : OnOk result ((put ≡ true) × (left.failed ≡ false))
   pub spelled : OnOk result (IfSome left.file (LeavesSpelling left.config left.memory.image left.memory.extras))

@@ -1,5 +1,5 @@
 -- Why a call ends with status 5: what failed.
-use Rattle.std.specs.Prelude.{◌≡◌, ◌⊎◌, ℕ, Bool, true, false, List, [], Option, Some, IfSome, OnSome}
+use Rattle.std.specs.Prelude.{◌≡◌, ◌⊎◌, ◌<◌, ℕ, Bool, true, false, List, [], Option, Some, IfSome, OnSome}
 use Rattle.tx_types.specs.declared.config.Config.{Config}
 use Rattle.flash_model.specs.Flash.{FlashState}
 use Rattle.host_protocol.specs.declared.command.Command.{Command}
@@ -55,11 +55,15 @@ FaultsLines its before now old new =
     ⊎ (((is_mounted old ≡ false) × (now ≡ before) × (new ≡ old))
     ⊎ ((is_mounted old ≡ true) × OnSome before.told (IsUnstarted its old))))
 
+-- the file of a flash has failed, and a call of it did
+abbrev pub HasFailed : FileFlashState → Type 0
+HasFailed flash = (flash.failed ≡ true) × (0 < flash.faults)
+
 -- Why it is that the flash of a session is left so after a fault: its file failed, or it was not mounted, or it has
 -- another configuration.
 abbrev pub FaultsLeft : Config → (before now : Option DeskTold) → FileSession → FileFlashState → Type 0
 FaultsLeft its before now s left =
-    (left.failed ≡ true) ⊎ ((left.config ≡ its → ⊥)
+    HasFailed left ⊎ ((left.config ≡ its → ⊥)
     ⊎ (((is_mounted s ≡ false) × ((put : Bool) × BothTell (λ a b. b ≡ with_closed put left a) before now)
     × (left.memory ≡ (flash_in s).memory))
     ⊎ ((is_mounted s ≡ true) × OnSome before (IsUnstarted its s))))
@@ -71,12 +75,12 @@ FaultsClosing its before now s =
     ⊎ ((left : FileFlashState) × IfSome now.told (λ b. b.left ≡ Some left)
     × FaultsLeft its before.told now.told s left)
 
--- The flash of a file that is left has failed, or has another configuration; or a read of it met a fault when it was
--- mounted, and nothing was read of the input.
+-- The file of the flash that is left has failed, or that flash has another configuration; or a read of it met a fault
+-- when it was mounted, and nothing was read of the input.
 abbrev pub FailsFlash : FileFlashState → DeskTold → DeskTold → Type 0
 FailsFlash flash a b =
     (left : FileFlashState) × (b.left ≡ Some left)
-    × ((left.failed ≡ true) ⊎ ((left.config ≡ flash.config → ⊥)
+    × (HasFailed left ⊎ ((left.config ≡ flash.config → ⊥)
     ⊎ ((b.input ≡ a.input) × (flash.memory.live ≡ true → Rose flash.memory.faults left.memory.faults))))
 
 -- a session on a flash ended with a fault: of the desk, or of its file

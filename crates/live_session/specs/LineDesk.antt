@@ -104,14 +104,19 @@ Replaces held now old new bytes (Ok done) =
     (new ≡ after (with_put bytes) old) × store.BothTell (λ before. IsDurable bytes) held now
 Replaces held now old new bytes (Err why) = new ≡ after (with_put bytes) old
 
--- A file with these bytes takes the place of that of a flash, so, and is closed. Where that failed so has the flash.
+-- a flash once a call of its file failed, of which a loss may leave this then
+abbrev pub with_failure : FileFlashState → Option FileState → FileFlashState
+with_failure flash file = record flash { failed = true; faults = counted flash.faults; file = file }
+
+-- A file with these bytes takes the place of that of a flash, so, and is closed. Where that failed so has the flash,
+-- since this was a call of its file.
 abbrev pub Closes : FileFlashState → LineDeskState → LineDeskState → List ℕ → Result (Unit {0}) CallError → Type 0
 Closes flash old new bytes (Ok done) =
     (file : Option FileState) × (new ≡ after (λ c. with_left (record flash { file = file }) (with_put bytes c)) old)
     × store.BothTell (λ before. IsDurable bytes) flash.file file
 Closes flash old new bytes (Err call.Failed) =
     (file : Option FileState)
-    × (new ≡ after (λ c. with_left (record flash { failed = true; file = file }) (with_put bytes c)) old)
+    × (new ≡ after (λ c. with_left (with_failure flash file) (with_put bytes c)) old)
 Closes flash old new bytes (Err call.Memory) = new ≡ after (λ c. with_left flash (with_put bytes c)) old
 
 -- a piece of the input is gone, and these are the bytes of its line

@@ -1,16 +1,13 @@
 -- What comes next of an input.
-use Rattle.std.specs.Prelude.{◌≡◌, ◌≢◌, ◌⊎◌, ℕ, ◌+◌, ◌<◌, ◌≤◌, List, [], ◌∷◌, ◌++◌, length, take, All, Option, None, Some, OnSome}
+use Rattle.std.specs.Prelude.{◌≡◌, ◌≢◌, ◌⊎◌, ℕ, ◌+◌, ◌<◌, ◌≤◌, List, [], ◌∷◌, ◌++◌, length, take, Option, None, Some, OnSome}
 use Rattle.std.specs.Io.BufRead.{DropsThrough}
 use Rattle.std.specs.Io.KnownBytes.{Consumes, IsAtEnd}
+use Rattle.host_protocol.specs.Lines.{HasNoFeed}
 use Rattle.live_session.specs.declared.desk.Next.{Next}
 use Rattle.live_session.specs.declared.desk.Next.TheVariants as next
 use Rattle.live_session.specs.declared.lines.Taken.{Taken}
 use Rattle.live_session.specs.declared.lines.Taken.TheVariants as taken
 use Rattle.live_session.specs.declared.lines.TheConstants.{MAX_LINE_BYTES}
-
--- no byte of these is a line feed
-abbrev pub HasNoFeed : List ℕ → Type 0
-HasNoFeed bytes = All (λ b. b ≢ 10) bytes
 
 -- the bytes of a line that is not too long
 pub record IsLine (line : List ℕ) : Type 0 where

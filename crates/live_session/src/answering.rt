@@ -1,11 +1,11 @@
 ghost use Rattle.std.specs.Prelude.{◌≡◌, ◌≢◌, ◌≤◌, length, string_bytes, IfOk, IfErr, OnOk, OnErr};
 ghost use Rattle.desk_io.specs.Desk.{counted};
 ghost use Rattle.host_protocol.specs.Commands.{Suits};
+ghost use Rattle.host_protocol.specs.Lines.{HasNoFeed};
 ghost use Rattle.live_session.specs.Faults.{FaultsCommand, FaultsLines, WhereFault};
 ghost use Rattle.live_session.specs.Hearing.{AnswersCommand, AnswersLine, AnswersPiece, HearsAll, HearsPartOrNone};
 ghost use Rattle.live_session.specs.Hearing.{StopsCommand, StopsLine, StopsPiece, StopsSaying};
 ghost use Rattle.live_session.specs.LineDesk.{BothTell, after, with_saying};
-ghost use Rattle.live_session.specs.Lines.{HasNoFeed};
 ghost use Rattle.live_session.specs.Saying.{SaidDurably, HasNoInput};
 ghost use Rattle.live_session.specs.Sessions.{stop_of_call, stop_of_serving};
 ghost use Rattle.live_session.specs.Talks.{bad_line, plain};

@@ -1,8 +1,8 @@
 ghost use Rattle.std.specs.Prelude.{◌≡◌, ◌≤◌, length, OnOk, Some, None};
 ghost use Rattle.file_flash.specs.FileFlashState.{FileFlashState};
+ghost use Rattle.host_protocol.specs.Lines.{HasNoFeed};
 ghost use Rattle.live_session.specs.LineDesk.{LineDeskState, Claims, Closes, ReadsLine, Replaces, Says};
 ghost use Rattle.live_session.specs.LineDesk.{after, with_left};
-ghost use Rattle.live_session.specs.Lines.{HasNoFeed};
 ghost use Rattle.live_session.specs.declared.lines.TheConstants.{MAX_LINE_BYTES};
 
 use file_flash::Store;

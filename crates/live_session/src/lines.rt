@@ -1,6 +1,7 @@
 //! The lines of an input.
 ghost use Rattle.std.specs.Prelude.{◌≡◌, ◌≤◌, [], length, IfOk, OnOk};
-ghost use Rattle.live_session.specs.Lines.{FindsFeed, HasNoFeed, ReadsOver, TakesBuffered, TakesPiece};
+ghost use Rattle.host_protocol.specs.Lines.{HasNoFeed};
+ghost use Rattle.live_session.specs.Lines.{FindsFeed, ReadsOver, TakesBuffered, TakesPiece};
 ghost use Rattle.live_session.specs.declared.desk.Next.TheVariants as next;
 
 use crate::Next;

@@ -110,10 +110,10 @@ fn serve_lines<S: Store + Drop, D: LineDesk<S, LiveFlash<S>>, R: CommitRule>(
     ending_of(answered, closed, is_same(left, config))
 }
 
-/// Makes a flash durable, puts its image file in the place of its live file, and closes that; and the configuration with
-/// which it is left. A session comes to this whatever ends it, also where nobody listens any more: so a client that dies
-/// leaves an image file. A live file is left by a session that is killed, whose file fails, or that has no memory for
-/// the image file.
+/// Makes a flash durable, puts its image file in the place of its live file, and closes that; and the configuration
+/// with which it is left. A session comes to this whatever ends it, also where nobody listens any more: so a client
+/// that dies leaves an image file. A live file is left by a session that is killed, whose file fails, or that has no
+/// memory for the image file.
 fn close_flash<S: Store + Drop, D: LineDesk<S, LiveFlash<S>>>(
     alloc: Global,
     desk: &mut D,

@@ -1,4 +1,5 @@
-//! What the steps on a flash that is a file come to, as its twin in memory shows it, and what a loss of power may leave.
+//! What the steps on a flash that is a file come to, as its twin in memory shows it, and what a loss of power may
+//! leave.
 use crate::pictures::{PICTURE_BYTES, is_blank, slot_of};
 use std::alloc::Global;
 use std::mem;

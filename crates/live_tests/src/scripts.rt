@@ -1,6 +1,6 @@
-//! Scripts on a flash that is a file, and how many losses are tried of each. A step is one of `program SLOT BYTE`, `erase
-//! BLOCK`, `fire`, `fire SLOT BYTE`, `fire SLOT BYTE SLOT BYTE` with a slot of each die, `cut COUNT OUTCOME`, `fault COUNT
-//! OUTCOME`, `on` and `flush`. Blocks have two slots, dies two blocks.
+//! Scripts on a flash that is a file, and how many losses are tried of each. A step is one of `program SLOT BYTE`,
+//! `erase BLOCK`, `fire`, `fire SLOT BYTE`, `fire SLOT BYTE SLOT BYTE` with a slot of each die, `cut COUNT OUTCOME`,
+//! `fault COUNT OUTCOME`, `on` and `flush`. Blocks have two slots, dies two blocks.
 use crate::lines::{LineTest, assert_lines, is_count, sides};
 use crate::losing::Tally;
 use crate::running::Script;

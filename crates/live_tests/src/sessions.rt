@@ -58,7 +58,8 @@ impl LineTest for Served {
     }
 }
 
-/// Transactions that are finished at once, or step by step, or aborted. In the third line blocks are collected for room.
+/// Transactions that are finished at once, or step by step, or aborted. In the third line blocks are collected for
+/// room.
 const TRANSACTIONS: &str = "\
 write 1 0=41 > open 1 1; finish 1 > done 1 | write 2 1=51 > open 2 1; finish 2 > done 2 => 5 1 5 1
 write 1 0=41 1=42 > open 1 2; finish 1 > done 1; write 2 0=43 1=44 > open 2 2; finish 2 > done 2 \

@@ -1,5 +1,5 @@
-ghost use Rattle.std.specs.Prelude.{◌≡◌, [], length, true, false};
-ghost use Rattle.file_flash.specs.Files.{LeavesBytes};
+ghost use Rattle.std.specs.Prelude.{◌≡◌, [], length, true, false, Err};
+ghost use Rattle.file_flash.specs.Files.{LeavesBytes, faults_after};
 ghost use Rattle.file_flash.specs.Opening.{IsDurable};
 ghost use Rattle.lossy_store.specs.Writes.{file_of, bytes_in};
 
@@ -25,8 +25,9 @@ pub struct LossyStore {
     writes: Vec<Write>,
     /// Whether the system may hold copies.
     copies: bool,
-    /// How many calls were made.
+    /// How many calls were made, and how many of them failed.
     calls: u64,
+    faults: u64,
     failure: Option<Failure>,
 }
 
@@ -51,6 +52,7 @@ impl LossyStore {
             writes: Vec::new(alloc),
             copies: true,
             calls: 0,
+            faults: 0,
             failure,
         }
     }
@@ -65,6 +67,7 @@ impl LossyStore {
             writes: Vec::new(alloc),
             copies: false,
             calls: 0,
+            faults: 0,
             failure,
         }
     }
@@ -122,12 +125,22 @@ impl LossyStore {
         ensures durable { self.new.durable ≡ self.old.durable }
         ensures writes { self.new.writes ≡ self.old.writes }
         ensures copies { self.new.copies ≡ self.old.copies }
+        ensures faults { self.new.faults ≡ self.old.faults }
     {
         self.calls = self.calls.saturating_add(1);
         match self.failure {
             Some(failure) if failure.call == self.calls => Some(failure.bytes),
             _ => None,
         }
+    }
+
+    /// The answer of a call that fails, which is counted.
+    fn fail<T>(&mut self) -> Result<T, StoreError>
+        ensures answer { result ≡ Err (record {}) }
+        ensures counts { self.new ≡ record self.old { faults = faults_after result self.old.faults } }
+    {
+        self.faults = self.faults.saturating_add(1);
+        Err(StoreError)
     }
 }
 
@@ -137,12 +150,14 @@ impl Store for LossyStore {
 
     ghost told = { λ s. Some (file_of s.durable.items s.writes.items s.copies) };
 
+    ghost faults = { λ s. s.faults };
+
     fn read_all(&mut self, alloc: Global) -> Result<Vec<u8>, StoreError> {
         if self.begin().is_some() {
-            return Err(StoreError);
+            return self.fail();
         }
         let Ok(mut bytes) = Vec::from_slice(alloc, self.durable.as_slice()) else {
-            return Err(StoreError);
+            return self.fail();
         };
         lay_all(&mut bytes, self.writes.as_slice());
         Ok(bytes)
@@ -152,9 +167,11 @@ impl Store for LossyStore {
         if let Some(most) = self.begin() {
             let part = &bytes[..most.min(bytes.len())];
             let _ = note(self.alloc, &mut self.writes, offset as usize, part);
-            return Err(StoreError);
+            return self.fail();
         }
-        note(self.alloc, &mut self.writes, offset as usize, bytes)?;
+        let Ok(()) = note(self.alloc, &mut self.writes, offset as usize, bytes) else {
+            return self.fail();
+        };
         self.copies = may_hold(self.copies, bytes.len(), self.durable.len());
         Ok(())
     }
@@ -162,7 +179,7 @@ impl Store for LossyStore {
     fn sync(&mut self) -> Result<(), StoreError> {
         if self.begin().is_some() {
             self.copies = true;
-            return Err(StoreError);
+            return self.fail();
         }
         if self.copies {
             return Ok(());

@@ -1,4 +1,7 @@
-use Rattle.live_flash.proofs.Common.{[], ◌≡◌, subst, Result, Ok, OnOk, IfSome, StoreError, Follows}
+use Rattle.live_flash.proofs.Common.{[], ◌≡◌, ◌≤◌, sym, subst, arith, Result, Ok, OnOk, IfSome, slots_of, StoreError, Follows}
+use Rattle.std.specs.Vec.{vec_capacity}
+use Rattle.live_flash.specs.Waiting.{HasRoom}
+use Rattle.live_flash.proofs.Waiting.{none_waits}
 use Rattle.live_flash.proofs.OfTold.{none_in, loses_now, flush_follows, flush_loses}
 use Rattle.live_flash.proofs.follower.Follower.flush.Goals as goal
 
@@ -17,7 +20,7 @@ pub returns-in_err-sync-clause-loses : goal.returns-in_err-sync-clause-loses
 returns-in_err-sync-clause-loses g c =
     let m = c.args.memory.now in
     flush_loses m.shape m.image c.args.self.now.waiting.items c.sync.result (g.S.Store.told c.args.self.now.store)
-    (g.S.Store.told c.sync.new.self) c.shape.ensures.whole c.sync.ensures c.requires.opened c.requires.follows
+    (g.S.Store.told c.sync.new.self) c.shape.ensures.whole c.sync.ensures.syncs c.requires.opened c.requires.follows
 
 pub returns-clause-follows : goal.returns-clause-follows
 returns-clause-follows g c =
@@ -25,10 +28,16 @@ returns-clause-follows g c =
     let new = g.S.Store.told c.sync.new.self in
     on_done (IfSome new (Follows m.shape m.image [] [])) c.sync.result c.in_ok-sync.was
     (flush_follows m.shape m.image c.args.self.now.waiting.items c.sync.result (g.S.Store.told c.args.self.now.store)
-    new c.sync.ensures c.requires.opened c.requires.follows)
+    new c.sync.ensures.syncs c.requires.opened c.requires.follows)
 
 pub returns-clause-loses : goal.returns-clause-loses
 returns-clause-loses g c =
     let m = c.args.memory.now in
     flush_loses m.shape m.image c.args.self.now.waiting.items c.sync.result (g.S.Store.told c.args.self.now.store)
-    (g.S.Store.told c.sync.new.self) c.shape.ensures.whole c.sync.ensures c.requires.opened c.requires.follows
+    (g.S.Store.told c.sync.new.self) c.shape.ensures.whole c.sync.ensures.syncs c.requires.opened c.requires.follows
+
+pub returns-clause-places : goal.returns-clause-places
+returns-clause-places g c = λ shape has.
+    let new = c.clear.new.self in
+    let many : slots_of shape ≤ vec_capacity new = omega (arith, has.places, c.clear.ensures.capacity) in
+    subst (HasRoom shape (vec_capacity new)) (sym c.clear.ensures.items) (none_waits shape (vec_capacity new) many)

@@ -34,6 +34,7 @@ loop-number-preserved g c =
       same = c.clear_slot.ensures.waits ∙ c.loop-number.invariant.same;
       room = c.clear_slot.ensures.room ∙ c.loop-number.invariant.room;
       from = omega (arith, from);
+      counts = rw c.in_ok-clear_slot.was at c.clear_slot.ensures.counts ∙ c.loop-number.invariant.counts;
       opened = opened_turned m.shape n (slot_at m.image n) (slot_at m.image n) c.clear_slot.result before after
           (c.clear_slot.ensures.turns (slot_at m.image n) (inl refl)) c.loop-number.invariant.opened;
       kept = λ head f. kept_turned m.shape n (slot_at m.image n) (slot_at m.image n) c.clear_slot.result before after

@@ -7,6 +7,7 @@ invariant-loop-number g l = record {
   same : l.self.waiting ≡ l.initial.self.waiting;
   room : length l.self.room.items ≡ length l.initial.self.room.items;
   from : l.first ≤ l.number;
+  counts : g.S.Store.faults l.self.store ≡ g.S.Store.faults l.initial.self.store;
   opened : IfSome (g.S.Store.told l.self.store) (IsOpened l.memory.shape);
   kept : (head : List ℕ) → IfSome (g.S.Store.told l.initial.self.store) (IsLiveFile l.memory.shape head) →
       IfSome (g.S.Store.told l.self.store) (IsLiveFile l.memory.shape head);

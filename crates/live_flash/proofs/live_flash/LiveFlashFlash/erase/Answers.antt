@@ -1,6 +1,8 @@
 use Rattle.live_flash.proofs.Common.{◌≡◌, ◌⊎◌, ℕ, ◌+◌, ◌*◌, ◌<◌, ◌≤◌, Option, FileState, [], IfSome, refl, sym, ap, subst, inl, inr, ◌∙◌, slots_of, Shape, IsOpened, IsLiveFile, IsProgrammed, AreProgrammed, Follows, LosesOnly, LosesBetween, slot_bytes, length, LeavesCounted}
 use Rattle.std.specs.Prelude.{unwrap_or}
 use Rattle.std.specs.Result.{is_err}
+use Rattle.std.specs.Vec.{vec_capacity}
+use Rattle.std.proofs.lemmas.Bool.{both_ways}
 use Rattle.std.proofs.lemmas.List.Elements.{All-nil}
 use Rattle.tx_types.specs.Config.{blocks_of}
 use Rattle.flash_model.specs.declared.outcome.Outcome.TheVariants as outcome
@@ -17,6 +19,8 @@ use Rattle.file_flash.proofs.Told.{weaken}
 use Rattle.file_flash.proofs.Breaking.{operates_powerless}
 use Rattle.file_flash.proofs.Clearing.{erase_clears}
 use Rattle.file_flash.proofs.Keeping.{operated_stays, powerless_stays}
+use Rattle.live_flash.specs.Waiting.{HasRoom}
+use Rattle.live_flash.proofs.Counting.{counted_err, some_fault}
 use Rattle.live_flash.proofs.Kept.{still_follows, has_failed}
 use Rattle.file_flash.proofs.Programming.{on_ok}
 use Rattle.live_flash.proofs.OfTold.{only_counted, between_counted}
@@ -63,12 +67,18 @@ invariant_of-self-then-is_err-2 g c =
     (subst (λ x. IfSome (g.S.Store.told c.flush.new.self.store) (Follows x s.image [] [])) (sym same) was) in
     let counts = subst (λ x. IfSome (g.S.Store.told c.rewrite-rewritten.new.self.store) (LeavesCounted x)) same
     (between_counted m.shape s.image m.image (g.S.Store.told c.rewrite-rewritten.new.self.store) between) in
-    has_failed g.S.Store.told f _ c.self.invariant refl refl
+    has_failed g.S.Store.told g.S.Store.faults f _ c.self.invariant refl refl
     (powerless_stays s m c.lose_power.new.memory (erase c.args.block.0) e lost) room_kept counts
     (subst (λ x. IfSome (g.S.Store.told c.rewrite-rewritten.new.self.store) (IsLiveFile x head)) same
     (c.rewrite-rewritten.ensures.kept head
     (subst (λ x. IfSome (g.S.Store.told c.flush.new.self.store) (IsLiveFile x head)) (sym same) flushed)))
     refl
+    (some_fault (g.S.Store.faults c.flush.new.self.store) (g.S.Store.faults c.rewrite-rewritten.new.self.store)
+    (counted_err c.rewrite-rewritten.result (g.S.Store.faults c.flush.new.self.store)
+    (g.S.Store.faults c.rewrite-rewritten.new.self.store) (sym c.is_err-2.ensures.value ∙ c.if-is_err-2.true)
+    c.rewrite-rewritten.ensures.counts))
+    (subst (λ w. HasRoom s.shape (vec_capacity w) w.items) (sym c.rewrite-rewritten.ensures.same)
+    (c.flush.ensures.places s.shape c.self.invariant.places))
 
 pub returns-then-is_err-2-clause-erases : goal.returns-then-is_err-2-clause-erases
 returns-then-is_err-2-clause-erases g c =
@@ -164,7 +174,7 @@ invariant_of-self-else-is_err-2 g c =
     (subst (λ x. IfSome (g.S.Store.told c.flush.new.self.store) (Follows x s.image [] [])) (sym same) was) in
     let counts = subst (λ x. IfSome (g.S.Store.told c.rewrite-rewritten.new.self.store) (LeavesCounted x)) same
     (between_counted m.shape s.image m.image (g.S.Store.told c.rewrite-rewritten.new.self.store) between) in
-    still_follows g.S.Store.told f _ c.self.invariant refl refl
+    still_follows g.S.Store.told g.S.Store.faults f _ c.self.invariant refl refl
     (operated_stays s m (erase c.args.block.0) e) room_kept counts
     (subst (λ x. IfSome new (IsLiveFile x head)) same
     (c.rewrite-rewritten.ensures.kept head
@@ -173,6 +183,9 @@ invariant_of-self-else-is_err-2 g c =
     (λ x. subst (λ w. IfSome new (Follows m.shape m.image w [])) (sym empty)
     (on_ok (IfSome new (Follows m.shape m.image [] [])) c.rewrite-rewritten.result done rewritten))
     (λ x. subst (λ w. AreProgrammed m.image w) (sym empty) (All-nil (IsProgrammed m.image)))
+    (λ x. absurd (both_ways f.failed c.if-self.false x))
+    (subst (λ w. HasRoom s.shape (vec_capacity w) w.items) (sym c.rewrite-rewritten.ensures.same)
+    (c.flush.ensures.places s.shape c.self.invariant.places))
 
 pub returns-clause-loses : goal.returns-clause-loses
 returns-clause-loses g c = λ live.
@@ -207,7 +220,7 @@ invariant_of-self-then-is_err g c =
     let s = f.memory in
     let head = live_header f.config s.extras in
     let new = g.S.Store.told c.flush.new.self.store in
-    has_failed g.S.Store.told f _ c.self.invariant refl refl
+    has_failed g.S.Store.told g.S.Store.faults f _ c.self.invariant refl refl
     (record {
       shape = c.cut_erase-then-is_err.ensures.cut.shape;
       extras = c.cut_erase-then-is_err.ensures.cut.extras;
@@ -217,3 +230,7 @@ invariant_of-self-then-is_err g c =
     (only_counted s.shape s.image f.follower.waiting.items new c.flush.ensures.loses)
     (c.flush.ensures.kept head c.self.invariant.file)
     refl
+    (some_fault (g.S.Store.faults f.follower.store) (g.S.Store.faults c.flush.new.self.store)
+    (counted_err c.flush.result (g.S.Store.faults f.follower.store) (g.S.Store.faults c.flush.new.self.store)
+    (sym c.is_err.ensures.value ∙ c.if-is_err.true) c.flush.ensures.counts))
+    (c.flush.ensures.places s.shape c.self.invariant.places)

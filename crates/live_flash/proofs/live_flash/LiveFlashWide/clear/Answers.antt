@@ -15,8 +15,9 @@ invariant_of-self g c =
     let many : length c.deref_mut.result.now ≡ f.memory.shape.dies = ap length c.deref_mut.ensures.value
     ∙ c.self.invariant.dies in
     let none = items ∙ c.clear_slots.ensures ∙ ap (λ n. replicate n None) many in
-    loads_same g.S.Store.told f _ c.self.invariant refl (ap (λ (x : MemFlashState). x.shape) exact)
+    loads_same g.S.Store.told g.S.Store.faults f _ c.self.invariant refl (ap (λ (x : MemFlashState). x.shape) exact)
     (ap (λ (x : MemFlashState). x.extras) exact)
     (none ∙ sym (ap (λ (x : MemFlashState). map slot_loaded x.registers) exact ∙ none_loaded f.memory.shape.dies))
-    (ap length none ∙ length-replicate f.memory.shape.dies None ∙ ap (λ (x : MemFlashState). x.shape.dies) (sym exact)) refl
-    (ap (λ (x : MemFlashState). x.image) exact) refl refl (λ e. e)
+    (ap length none ∙ length-replicate f.memory.shape.dies None
+    ∙ ap (λ (x : MemFlashState). x.shape.dies) (sym exact)) refl
+    (ap (λ (x : MemFlashState). x.image) exact) refl refl refl

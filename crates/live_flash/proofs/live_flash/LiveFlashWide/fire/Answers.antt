@@ -1,6 +1,8 @@
 use Rattle.live_flash.proofs.Common.{◌≡◌, ◌++◌, [], length, map, IfSome, refl, sym, ap, subst, ◌∙◌, arith, Shape, IsLiveFile, AreProgrammed, Follows, LosesOnly, LeavesCounted, slot_bytes, slots_in, true}
 use Rattle.std.proofs.Common.{replicate, None}
 use Rattle.std.specs.Result.{is_err}
+use Rattle.std.specs.Vec.{vec_capacity}
+use Rattle.std.proofs.lemmas.Bool.{both_ways}
 use Rattle.std.proofs.lemmas.List.{with_items_is, length-replicate}
 use Rattle.flash_model.specs.Calls.{Operates}
 use Rattle.flash_model.specs.Operations.{fire}
@@ -13,10 +15,12 @@ use Rattle.file_flash.proofs.Breaking.{operates_powerless}
 use Rattle.file_flash.proofs.Keeping.{none_loaded}
 use Rattle.live_flash.proofs.Kept.{loads_follow, loads_failed, loads_same}
 use Rattle.file_flash.proofs.Loading.{loaded_exist}
-use Rattle.file_flash.proofs.Programming.{loaded_slots, fire_starts, fired_shape, fired_extras, programmed_still, on_ok}
+use Rattle.file_flash.proofs.Programming.{loaded_slots, fire_starts, fired_shape, fired_extras, programmed_still, fresh, on_ok}
 use Rattle.live_flash.specs.Loads.{AreApart}
 use Rattle.live_flash.proofs.Apart.{loads_apart}
 use Rattle.live_flash.proofs.OfTold.{follows_but, only_counted}
+use Rattle.live_flash.proofs.Counting.{counted_err, some_fault}
+use Rattle.live_flash.specs.Waiting.{HasRoom}
 use Rattle.live_flash.proofs.live_flash.LiveFlashWide.fire.Goals as goal
 
 pub cut_fire-requires : goal.cut_fire-requires
@@ -33,10 +37,10 @@ invariant_of-self g c =
     let many : length c.deref_mut.result.now ≡ f.memory.shape.dies = ap length c.deref_mut.ensures.value
     ∙ c.self.invariant.dies in
     let none = items ∙ c.clear_slots.ensures ∙ ap (λ n. replicate n None) many in
-    loads_same g.S.Store.told f _ c.self.invariant refl cut.shape cut.extras
+    loads_same g.S.Store.told g.S.Store.faults f _ c.self.invariant refl cut.shape cut.extras
     (none ∙ sym (ap (map slot_loaded) c.cut_fire.ensures.registers ∙ none_loaded f.memory.shape.dies))
     (ap length none ∙ length-replicate f.memory.shape.dies None ∙ ap (λ (x : Shape). x.dies) (sym cut.shape)) refl
-    cut.image refl refl (λ e. e)
+    cut.image refl refl refl
 
 pub follow_slots-followed-requires-clause-exist : goal.follow_slots-followed-requires-clause-exist
 follow_slots-followed-requires-clause-exist g c =
@@ -95,7 +99,7 @@ invariant_of-self-then-is_err g c =
     let counts = subst (λ x. IfSome (g.S.Store.told c.follow_slots-followed.new.follower.store) (LeavesCounted x)) same
     (only_counted m.shape m.image (waiting ++ slots_loaded c.deref.result.now)
     (g.S.Store.told c.follow_slots-followed.new.follower.store) loses) in
-    loads_failed g.S.Store.told f _ c.self.invariant refl shape
+    loads_failed g.S.Store.told g.S.Store.faults f _ c.self.invariant refl shape
     (ap (λ (x : MemFlashState). x.extras) lost ∙ fired_extras s m e)
     (none ∙ sym (ap (λ (x : MemFlashState). map slot_loaded x.registers) lost
     ∙ ap (map slot_loaded) c.fire-done.ensures.empty
@@ -106,6 +110,12 @@ invariant_of-self-then-is_err g c =
     (c.follow_slots-followed.ensures.kept head
     (subst (λ x. IfSome (g.S.Store.told f.follower.store) (IsLiveFile x head)) (sym same) c.self.invariant.file)))
     refl
+    (some_fault (g.S.Store.faults f.follower.store) (g.S.Store.faults c.follow_slots-followed.new.follower.store)
+    (counted_err c.follow_slots-followed.result (g.S.Store.faults f.follower.store)
+    (g.S.Store.faults c.follow_slots-followed.new.follower.store) (sym c.is_err.ensures.value ∙ c.if-is_err.true)
+    c.follow_slots-followed.ensures.counts))
+    (subst (λ x. HasRoom x (vec_capacity c.follow_slots-followed.new.follower.waiting)
+    c.follow_slots-followed.new.follower.waiting.items) same c.follow_slots-followed.ensures.places)
 
 pub returns-then-is_err-clause-fires : goal.returns-then-is_err-clause-fires
 returns-then-is_err-clause-fires g c =
@@ -193,7 +203,7 @@ invariant_of-self-else-is_err g c =
     let counts = subst (λ x. IfSome (g.S.Store.told c.follow_slots-followed.new.follower.store) (LeavesCounted x)) same
     (only_counted m.shape m.image (waiting ++ slots_loaded c.deref.result.now)
     (g.S.Store.told c.follow_slots-followed.new.follower.store) loses) in
-    loads_follow g.S.Store.told f _ c.self.invariant refl same (fired_extras s m e)
+    loads_follow g.S.Store.told g.S.Store.faults f _ c.self.invariant refl same (fired_extras s m e)
     (none ∙ sym (ap (map slot_loaded) c.fire-done.ensures.empty ∙ none_loaded f.memory.shape.dies))
     (ap length none ∙ length-replicate f.memory.shape.dies None ∙ ap (λ (x : Shape). x.dies) (sym same))
     c.follow_slots-followed.ensures.room counts
@@ -206,6 +216,9 @@ invariant_of-self-else-is_err g c =
     (λ x. on_ok (AreProgrammed m.image c.follow_slots-followed.new.follower.waiting.items)
     c.follow_slots-followed.result ok
     c.follow_slots-followed.ensures.programmed)
+    (λ x. absurd (both_ways f.failed c.if-self.false x))
+    (subst (λ x. HasRoom x (vec_capacity c.follow_slots-followed.new.follower.waiting)
+    c.follow_slots-followed.new.follower.waiting.items) same c.follow_slots-followed.ensures.places)
 
 pub returns-clause-waits : goal.returns-clause-waits
 returns-clause-waits g c =
@@ -235,3 +248,19 @@ returns-clause-loses g c = λ live.
     (subst (λ d. IfSome (g.S.Store.told f.follower.store) (Follows m.shape m.image waiting d)) (sym slots) start) in
     rw (← c.self.view_is)
     (subst (λ d. IfSome new (LosesOnly m.shape m.image (waiting ++ d))) slots loses)
+
+pub follow_slots-followed-requires-clause-places : goal.follow_slots-followed-requires-clause-places
+follow_slots-followed-requires-clause-places g c =
+    let f = c.self.inside in
+    subst (λ x. HasRoom x (vec_capacity f.follower.waiting) f.follower.waiting.items)
+    (sym (fired_shape f.memory c.fire-done.new.self c.fire-done.ensures.next)) c.self.invariant.places
+
+pub follow_slots-followed-requires-clause-fresh : goal.follow_slots-followed-requires-clause-fresh
+follow_slots-followed-requires-clause-fresh g c =
+    let s = c.self.inside.memory in
+    let can = (rw (← c.self.view_is) at c.requires) in
+    let st = fire_starts s c.fire-done.new.self c.fire-done.ensures.next c.shape.ensures.whole can in
+    let slots : slots_loaded c.deref.result.now ≡ slots_of_loads (loads_in s.registers) =
+    ap slots_loaded (c.deref.ensures.value ∙ c.self.invariant.loaded) ∙ loaded_slots s.registers in
+    λ k here. fresh s.image c.self.inside.follower.waiting.items k (c.self.invariant.programmed c.if-self.false)
+    (st.empty k (subst (λ d. slots_in d k ≡ true) slots here))

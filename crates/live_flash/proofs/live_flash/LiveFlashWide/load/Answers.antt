@@ -14,7 +14,7 @@ invariant_of-self g c =
     let exact = c.load.ensures.exact in
     let load : Load = record { at = c.args.at.0; bytes = c.args.bytes.now; spare_area = c.args.spare_area.now } in
     let die = c.die_of-die.ensures.die ∙ ap (λ (x : Shape). die_of x c.args.at.0) c.shape.ensures.shape in
-    loads_same g.S.Store.told f _ c.self.invariant refl (ap (λ (x : MemFlashState). x.shape) exact)
+    loads_same g.S.Store.told g.S.Store.faults f _ c.self.invariant refl (ap (λ (x : MemFlashState). x.shape) exact)
     (ap (λ (x : MemFlashState). x.extras) exact)
     (ap (λ xs. set xs c.die_of-die.result (Some c.args.at)) c.self.invariant.loaded
     ∙ ap (λ i. set (map slot_loaded f.memory.registers) i (Some c.args.at)) die
@@ -22,4 +22,4 @@ invariant_of-self g c =
     ∙ map-set slot_loaded f.memory.registers (die_of f.memory.shape c.args.at.0) (Some load)))
     (length-set f.loaded.items c.die_of-die.result (Some c.args.at) ∙ c.self.invariant.dies
     ∙ ap (λ (x : MemFlashState). x.shape.dies) (sym exact)) refl
-    (ap (λ (x : MemFlashState). x.image) exact) refl refl (λ e. e)
+    (ap (λ (x : MemFlashState). x.image) exact) refl refl refl

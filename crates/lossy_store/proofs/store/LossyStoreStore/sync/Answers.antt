@@ -4,8 +4,8 @@ use Rattle.std.proofs.Common.{drop}
 use Rattle.lossy_store.proofs.Calls.{synced}
 use Rattle.lossy_store.proofs.store.LossyStoreStore.sync.Goals as goal
 
-pub returns : goal.returns
-returns c =
+pub returns-clause-syncs : goal.returns-clause-syncs
+returns-clause-syncs c =
     let self = c.args.self.now in
     let bytes = c.lay_all.new.bytes in
     let durable_is : c.begin.new.self.durable.items ≡ self.durable.items = rw c.begin.ensures.durable refl in
