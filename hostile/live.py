@@ -105,8 +105,9 @@ class Talk:
         self.commands = 0
         self.heard: List[Heard] = []
         self.had_bad = False
-        # The command that was given and has no reply.
+        # The command that was given and has no reply, and those that were given with it and come behind it.
         self.in_hand: Optional[Command] = None
+        self.behind: List[Command] = []
 
     def begin(self) -> None:
         said = self.session.line()
@@ -124,6 +125,15 @@ class Talk:
             return False
         self.heard.append(Heard(line, None if isinstance(command, BadLine) else command, said))
         return True
+
+    def hear_all(self, lines: List[bytes]) -> None:
+        """Takes what is said of lines that were given at once, as far as that goes. Replies to such lines are written
+        together, so a line that has none may have been served, and lines behind it."""
+        for number, line in enumerate(lines, 1):
+            if not self.hear(line):
+                commands = [read_line(it, self.config.page_bytes) for it in lines[number:]]
+                self.behind = [it for it in commands if isinstance(it, Command)]
+                return
 
     def answer(self, command: Union[Command, BadLine, None]) -> Optional[str]:
         """What is said of it, none where the program is gone."""
@@ -147,7 +157,7 @@ class Talk:
 
     def arrays(self) -> Set[Pages]:
         """What the image may hold where the session broke off here."""
-        return arrays_of(self.served.run, self.in_hand)
+        return arrays_of(self.served.run, [self.in_hand, *self.behind] if self.in_hand else self.behind)
 
     def ends_strictly(self, data: bytes) -> None:
         """Whether a session that was closed may have left this file."""
@@ -163,14 +173,19 @@ class Talk:
         need(left.records.array() in self.arrays(), "what is left has an array that no run ends with")
 
 
-def arrays_of(run: Run, in_hand: Optional[Command]) -> Set[Pages]:
-    """What an image may hold where a run broke off, and the command in hand, if any, is done, or not, or in part."""
-    states = set(run.states)
-    if in_hand:
-        for state in run.states:
-            states |= {after for _, after in run.answers(state, in_hand, "")}
-            states |= set(some_done(state.settled()) if in_hand.verb == "stepall" else ())
-    return {it.settled().array for it in states}
+def arrays_of(run: Run, unanswered: List[Command]) -> Set[Pages]:
+    """What an image may hold where a run broke off, and of the commands that have no reply the first ones are done, and
+    the next one, if any, in part."""
+    reached = set(run.states)
+    arrays = {it.settled().array for it in reached}
+    for command in unanswered:
+        if command.verb == "stepall":
+            arrays |= {it.settled().array for state in reached for it in some_done(state.settled())}
+        # These two say what they saw, and leave of a state what a read leaves.
+        quiet = command._replace(verb="read") if command.verb in ("stats", "explain") else command
+        reached = {after for state in reached for _, after in run.answers(state, quiet, "")}
+        arrays |= {it.settled().array for it in reached}
+    return arrays
 
 
 def some_done(state: State) -> Iterator[State]:

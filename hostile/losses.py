@@ -171,10 +171,10 @@ class Course:
                 self.number += 1
                 need(self.run.take(it.command, it.said), f"no run is answered {it.said[:200]!r}")
 
-    def in_hand(self) -> Optional[Command]:
+    def in_hand(self) -> List[Command]:
         if self.rest and self.heard_bytes >= self.heard_end + len(self.rest[0].line):
-            return self.rest[0].command
-        return None
+            return [self.rest[0].command] if self.rest[0].command else []
+        return []
 
     def now(self) -> Moment:
         if self.moment is None:

@@ -9,9 +9,9 @@ or as an image file, and lines, some of which are bad. Each reply must be one th
 the next line is given, or all are given at once. A session begins with the live image file to the byte, and one whose
 input ends leaves the image file to the byte, with status 0, or 4 where a line was bad. One that is killed, or whose
 file fails, leaves the one or the other: its array is one after the replies that were said, with the command in hand
-done or not. The programs that read image files refuse a live one; a session without lines makes an image file of it. No
-file beside the image is touched, and only a kill leaves one. Where EXE2 is there, the program txflash is run beside
-sessions and on what they leave."""
+done or not, and of lines that were given at once any first ones behind it. The programs that read image files refuse a
+live one; a session without lines makes an image file of it. No file beside the image is touched, and only a kill leaves
+one. Where EXE2 is there, the program txflash is run beside sessions and on what they leave."""
 import argparse
 import os
 import resource
@@ -142,7 +142,7 @@ class Kinds(Turns):
         talk.session.give(b"".join(last))
         time.sleep(self.draw.uniform(0, self.draw.choice((0.0005, 0.003, 0.01))))
         talk.session.kill()
-        all(talk.hear(it) for it in last)
+        talk.hear_all(last)
         status = talk.session.end()
         need(status == -signal.SIGKILL, f"status {status}")
         return self.left_in_use(talk)

@@ -6,7 +6,7 @@ use live_session::RealLineDesk;
 pub use live_session::top;
 use program_base::{Status, status_of_bad_args};
 use std::fs::File;
-use std::io::BufReader;
+use std::io::{BufReader, BufWriter};
 use std::process::ExitCode;
 use std::{env, fs, io};
 
@@ -30,6 +30,9 @@ fn open_standard(rt: &HostRuntime) -> [io::Result<File>; 3] {
 /// The most bytes that are read of the input at once: as many as a pipe holds.
 const INPUT_BYTES: usize = 65536;
 
+/// The most bytes of replies that are kept while the next line has come already: a few short replies.
+const REPLY_BYTES: usize = 64;
+
 /// Serves the image that the words name.
 fn serve(rt: &HostRuntime) -> ExitCode {
     let args = match env::args(rt) {
@@ -45,7 +48,10 @@ fn serve(rt: &HostRuntime) -> ExitCode {
     let Ok(input) = BufReader::with_capacity(rt.alloc(), INPUT_BYTES, rt.reader()) else {
         return ExitCode::from(Status::NoMemory.code());
     };
-    let mut desk = RealLineDesk::new(rt, input, rt.stdout());
+    let Ok(output) = BufWriter::with_capacity(rt.alloc(), REPLY_BYTES, rt.stdout()) else {
+        return ExitCode::from(Status::NoMemory.code());
+    };
+    let mut desk = RealLineDesk::new(rt, input, output);
     let status = top::<RealStore, _>(rt.alloc(), &words, &mut desk);
     drop(desk);
     ExitCode::from(status)

@@ -1,6 +1,9 @@
 //! A desk of a file of the system, a reader and a writer. This is what is trusted of a session beside its file.
 
-ghost use Rattle.std.specs.Prelude.{◌≡◌, Ok, Err, IfOk};
+ghost use Rattle.std.specs.Prelude.{◌≡◌, [], Ok, Err, IfOk, OnOk};
+ghost use Rattle.std.specs.Io.Buffered.{reader_buffer, writer_buffer};
+ghost use Rattle.std.specs.Result.{is_err};
+ghost use Rattle.host_protocol.specs.Lines.{HasNoFeed};
 ghost use Rattle.live_session.specs.LineDesk.{after, closed_desk, with_left};
 ghost use Rattle.live_session.specs.RealDesk.{claim_faults, call_faults};
 
@@ -9,8 +12,9 @@ use crate::{CallError, ClaimError, LineDesk, Next, Shown};
 use desk_io::{LockFile, RealFolder};
 use durable_folder::{Lock, save_locked};
 use file_flash::RealStore;
+use memchr::memchr;
 use std::fs::{File, OpenOptions};
-use std::io::{BufRead, Error, ErrorKind, Write};
+use std::io::{BufReader, BufWriter, Error, ErrorKind, Read, Write};
 use std::os::unix::fs::MetadataExt;
 use std::rt::HostRuntime;
 use std::{fs, io};
@@ -26,19 +30,24 @@ struct Held {
 }
 
 /// A desk whose lines come from a reader, and whose bytes go to a writer. It tells nothing but how many of its calls
-/// failed.
+/// failed. The reply of a command may be kept while the next line has come already: no input is waited for before all
+/// that was said is written.
 #[derive(Drop)]
-pub struct RealLineDesk<'a, I: BufRead + Drop, O: Write + Drop> {
+pub struct RealLineDesk<'a, I: Read + Drop, O: Write + Drop> {
     rt: &'a HostRuntime,
-    input: I,
-    output: O,
+    input: BufReader<I>,
+    output: BufWriter<O>,
     held: Option<Held>,
     faults: u64,
 }
 
-impl<'a, I: BufRead + Drop, O: Write + Drop> RealLineDesk<'a, I, O> {
+impl<'a, I: Read + Drop, O: Write + Drop> RealLineDesk<'a, I, O> {
     /// A desk that has met no fault.
-    pub fn new(rt: &'a HostRuntime, input: I, output: O) -> RealLineDesk<'a, I, O> {
+    pub fn new(
+        rt: &'a HostRuntime,
+        input: BufReader<I>,
+        output: BufWriter<O>,
+    ) -> RealLineDesk<'a, I, O> {
         RealLineDesk {
             rt,
             input,
@@ -49,7 +58,7 @@ impl<'a, I: BufRead + Drop, O: Write + Drop> RealLineDesk<'a, I, O> {
     }
 }
 
-impl<'a, F: Shown + Drop, I: BufRead + Drop, O: Write + Drop> LineDesk<RealStore, F>
+impl<'a, F: Shown + Drop, I: Read + Drop, O: Write + Drop> LineDesk<RealStore, F>
     for RealLineDesk<'a, I, O> {
     ghost state = { λ d. closed_desk d.faults };
 
@@ -58,13 +67,16 @@ impl<'a, F: Shown + Drop, I: BufRead + Drop, O: Write + Drop> LineDesk<RealStore
     }
 
     fn next_line(&mut self, line: &mut Vec<u8>) -> Result<Next, CallError> {
+        let written = write_before_waiting(&self.input, &mut self.output);
+        answer_say(written, &mut self.faults)?;
         answer_line(next_line(&mut self.input, line), &mut self.faults)
     }
 
     fn say(&mut self, bytes: &[u8]) -> Result<(), CallError> {
-        answer_say(self.output.write_all(bytes), &mut self.faults)
+        answer_say(write_through(&mut self.output, bytes), &mut self.faults)
     }
 
+    /// The reply is kept, if it is short.
     fn answer(&mut self, _flash: &F, bytes: &[u8]) -> Result<(), CallError> {
         answer_say(self.output.write_all(bytes), &mut self.faults)
     }
@@ -80,7 +92,9 @@ impl<'a, F: Shown + Drop, I: BufRead + Drop, O: Write + Drop> LineDesk<RealStore
         }
     }
 
+    /// What is kept and cannot be written is attempted once more with what is said last.
     fn close(&mut self, flash: F, bytes: &[u8]) -> Result<(), CallError> {
+        let _ = self.output.flush();
         let renewed = renew(self.rt, &mut self.held, bytes);
         drop(flash);
         self.held = None;
@@ -90,9 +104,31 @@ impl<'a, F: Shown + Drop, I: BufRead + Drop, O: Write + Drop> LineDesk<RealStore
     fn release(&mut self, flash: F)
         ensures { closed_desk self.new.faults ≡ after (with_left (F.seen flash)) (closed_desk self.old.faults) }
     {
+        let _ = self.output.flush();
         drop(flash);
         self.held = None;
     }
+}
+
+/// Writes what is kept of an output, unless the next line of the input has come already.
+fn write_before_waiting<I: Read + Drop, O: Write + Drop>(
+    input: &BufReader<I>,
+    output: &mut BufWriter<O>,
+) -> io::Result<()>
+    ensures { HasNoFeed (reader_buffer input.now) → OnOk result (writer_buffer output.new ≡ []) }
+{
+    if output.buffer().is_empty() || memchr(b'\n', input.buffer()).is_some() {
+        return Ok(());
+    }
+    output.flush()
+}
+
+/// Writes bytes behind what is kept of an output, and keeps nothing.
+fn write_through<O: Write + Drop>(output: &mut BufWriter<O>, bytes: &[u8]) -> io::Result<()>
+    ensures { OnOk result (writer_buffer output.new ≡ []) }
+{
+    output.write_all(bytes)?;
+    output.flush()
 }
 
 /// The answer of a claim. A fault is counted.
@@ -123,6 +159,7 @@ fn answer_line(read: io::Result<Next>, faults: &mut u64) -> Result<Next, CallErr
 
 /// The answer of a say, after writing to the output. Any error is a fault, since a part may have been written.
 fn answer_say(done: io::Result<()>, faults: &mut u64) -> Result<(), CallError>
+    ensures done { is_err result ≡ is_err done }
     ensures memory { result ≡ Err CallError.Memory → ⊥ }
     ensures faults { faults.new ≡ call_faults result faults.old }
 {
