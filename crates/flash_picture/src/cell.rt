@@ -78,10 +78,10 @@ fn write_record(rec: Rec, rank: Rank, held: bool, text: &mut Vec<u8>) -> Result<
     ensures { OnOk result (text.new.items
         ≡ text.old.items ++ join_with_byte 32 (cell_words (Cell.Holds rec rank held))) }
 {
-    add_name(rec.name(), text)?;
-    rank.write(text)?;
-    write_flag(held, b"held", text)?;
-    write_flag(rec.discard, b"discard", text)
+    add_name(rec.name(), text)
+        .and(rank.write(text))
+        .and(write_flag(held, b"held", text))
+        .and(write_flag(rec.discard, b"discard", text))
 }
 
 /// Appends a word with a space before it, or nothing.

@@ -1,9 +1,9 @@
-ghost use Rattle.std.specs.Prelude.{◌≡◌, ℕ, ◌+◌, ◌*◌, ◌^◌, ◌<◌, ◌++◌, ◌∷◌, [], IfOk, OnOk, codes, length};
+ghost use Rattle.std.specs.Prelude.{◌≡◌, ℕ, ◌+◌, ◌*◌, ◌^◌, ◌<◌, ◌++◌, ◌∷◌, [], IfOk, OnOk, codes, length, replicate};
 ghost use Rattle.std.specs.Fmt.{decimal};
 ghost use Rattle.std.specs.List.{flat_map, join_with_byte, range_with_len};
 ghost use Rattle.tx_types.specs.Config.{IsShape, blocks_of, slots_of};
 ghost use Rattle.flash_picture.specs.Cells.{cell_at, is_named, slot_text};
-ghost use Rattle.flash_picture.specs.Map.{before_cell, block_text, cell_text, cells_in_line, cells_text, die_text, is_spare, label_word, label_words, map_text, padded, widest};
+ghost use Rattle.flash_picture.specs.Map.{before_cell, block_text, cell_text, cells_in_line, cells_text, die_text, is_spare, label_columns, label_word, label_words, map_text, padded, widest};
 
 use crate::cell::{Cell, write_flag};
 use crate::marks::Marks;
@@ -151,8 +151,7 @@ impl Map<'_> {
         if at == 0 {
             self.write_label(block, text)
         } else if (at as usize).is_multiple_of(cells_in_line(width)) {
-            text.extend_from_slice(b"|\n")?;
-            add_spaces(LABEL_COLUMNS, text)
+            begin_line(b"|\n", text)
         } else {
             Ok(())
         }
@@ -214,6 +213,13 @@ impl Map<'_> {
             None => Cell::Blank,
         }
     }
+}
+
+/// Appends the end of a line, and the columns of a label.
+pub fn begin_line(end: &[u8], text: &mut Vec<u8>) -> Result<(), AllocError>
+    ensures { OnOk result (text.new.items ≡ text.old.items ++ (end.now ++ replicate label_columns 32)) }
+{
+    add(end, text).and(add_spaces(LABEL_COLUMNS, text))
 }
 
 /// The word of the label of a block.

@@ -9,11 +9,11 @@ ghost use Rattle.flash_picture.specs.OverviewSvg.{overview, overview_by};
 use crate::cell::{Cell, Rank};
 use crate::cells::NotedCells;
 use crate::kind::{Kind, all_kinds};
-use crate::map::{LABEL_COLUMNS, Map, slot_in, write_die};
+use crate::map::{Map, begin_line, slot_in, write_die};
 use crate::marks::Marks;
 use crate::overview_svg::write_svg;
 use crate::picture::{shape, write_breach, write_heading};
-use crate::text::{add, add_byte, add_number, add_spaces, append};
+use crate::text::{add, add_byte, add_number, append};
 use crate::walk::write_walks;
 use judged_records::Note;
 use sorted_records::SortedRecords;
@@ -158,8 +158,9 @@ impl Map<'_> {
         ensures { let m = self.now in OnOk result (text.new.items
             ≡ text.old.items ++ sign_text m.shape m.cells.now m.marks block.0 at) }
     {
-        self.write_before_sign(block, at, text)?;
-        add_byte(self.sign(slot_in(self.shape, block, at)), text)
+        let sign = self.sign(slot_in(self.shape, block, at));
+        self.write_before_sign(block, at, text)
+            .and(add_byte(sign, text))
     }
 
     /// Appends what stands before the letter of this number in its block.
@@ -170,8 +171,7 @@ impl Map<'_> {
         if at == 0 {
             self.write_label(block, text)
         } else if at.is_multiple_of(SIGNS_IN_LINE) {
-            add(b"\n", text)?;
-            add_spaces(LABEL_COLUMNS, text)
+            begin_line(b"\n", text)
         } else {
             Ok(())
         }
