@@ -25,7 +25,7 @@ pub struct CommandReader<'a> {
     /// How many entries the writes behind them may have.
     pub entries_left: usize,
     /// Room for the bytes of a page.
-    pub room: Vec<u8>,
+    room: Vec<u8>,
 }
 
 impl<'a> CommandReader<'a> {

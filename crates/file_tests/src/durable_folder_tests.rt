@@ -171,8 +171,8 @@ fn is_sound(folder: &CrashingFolder, it: &Case, fails: u32, is_ok: bool) -> bool
         && (fails > 0 || is_saved(folder, it, is_ok))
 }
 
-/// Whether a step is done: `stays`, `replace` and `rewrite` with bytes of a file, `special`, after which no file is a plain
-/// one, or a step on any folder.
+/// Whether a step is done: `stays`, `replace` and `rewrite` with bytes of a file, `special`, after which no file is a
+/// plain one, or a step on any folder.
 fn is_done(
     folder: &mut CrashingFolder,
     alloc: Global,

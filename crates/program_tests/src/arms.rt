@@ -40,7 +40,8 @@ const CUT: &str =
 
 /// A line for each kind of arm under each protocol, on a device of ten slots: how this is formatted, what stands before
 /// the arm's number and behind it, how many of the first numbers come due for sure, and how many replies are `cut` and
-/// how many are `fault` where one does. The history has nine programs, and two reads of pages that were not read before.
+/// how many are `fault` where one does. The history has nine programs, and two reads of pages that were not read
+/// before.
 const ARMS: &str = "\
     format d.img scc 16 2 5 1 4 3;cut ; none;9;1;0\n\
     format d.img scc 16 2 5 1 4 3;cut ; all;9;1;0\n\

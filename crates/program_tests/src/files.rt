@@ -51,8 +51,8 @@ fn ended(rt: &HostRuntime, output: &str, text: &str) -> u8 {
     status
 }
 
-/// A line for each call, one after the other: the status, the lines that are said, and the words. First a device is made
-/// and used; then a folder stands in place of a file, or there is no such file or folder.
+/// A line for each call, one after the other: the status, the lines that are said, and the words. First a device is
+/// made and used; then a folder stands in place of a file, or there is no such file or folder.
 const CALLS: &str = "\
     0|formatted test_files/d.img 32|format test_files/d.img scc 16 4 4 2 20 7\n\
     0|blank 0|run test_files/d.img test_files/read.txt\n\

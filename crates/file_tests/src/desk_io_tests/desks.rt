@@ -6,8 +6,8 @@ use std::rt::Files;
 
 /// The steps of two desks. A name of the most bytes has 127 letters of two bytes.
 pub const DESKS: &str = "\
-    # A file is saved that is not there, and then saved again, and nothing is left beside it. A desk meets a fault at a \
-    folder in place of a file, in a folder that is not there, and on a device that is full. A file without an end is \
+    # A file is saved that is not there, and then saved again, and nothing is left beside it. A desk meets a fault at \
+    a folder in place of a file, in a folder that is not there, and on a device that is full. A file without an end is \
     too long.\n\
     desks folder folder_of_the_desk_test; desk missing folder_of_the_desk_test/file; \
     desk save folder_of_the_desk_test/file some-bytes; desk load folder_of_the_desk_test/file some-bytes; \

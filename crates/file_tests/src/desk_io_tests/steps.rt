@@ -1,4 +1,5 @@
-//! Steps that are taken on desks, on a folder and on the files of the system: a verb, a name, and bytes or another word.
+//! Steps that are taken on desks, on a folder and on the files of the system: a verb, a name, and bytes or another
+//! word.
 ghost use Rattle.std.specs.Prelude.{◌≡◌, Err, IfSome, OnOk, IsSome};
 ghost use Rattle.desk_io.specs.Desk.{after_fault, as_before, file_at};
 
@@ -36,8 +37,8 @@ fn is_loaded<D: Desk>(desk: &mut D, verb: &str, name: &str, bytes: &[u8]) -> boo
     }
 }
 
-/// Whether a call of a desk ends as it should: `save` and `unsaved` with bytes, `keep`, a save and a load of bytes, `long`
-/// with as many as are there, `say`, or else a load.
+/// Whether a call of a desk ends as it should: `save` and `unsaved` with bytes, `keep`, a save and a load of bytes,
+/// `long` with as many as are there, `say`, or else a load.
 pub fn is_answered<D: Desk>(desk: &mut D, verb: &str, name: &str, text: &str) -> bool {
     let bytes = text.as_bytes();
     match verb {
@@ -63,8 +64,8 @@ pub fn is_absent(rt: &HostRuntime, name: &str) -> bool {
     matches!(fs::exists(rt, name), Ok(false))
 }
 
-/// Whether what is known of a file is so: `mode` with that of those who may read and write it, and else `names` with how
-/// many it has.
+/// Whether what is known of a file is so: `mode` with that of those who may read and write it, and else `names` with
+/// how many it has.
 fn is_known(rt: &HostRuntime, verb: &str, name: &str, number: u32) -> bool {
     match fs::metadata(rt, name) {
         Ok(found) => {
@@ -173,8 +174,8 @@ fn is_held_and_renewed<F: Folder>(folder: &mut F, alloc: Global, name: &str, byt
 }
 
 /// Whether a step is done: behind the word `desk` a call of the first desk, which `end` ends, behind `other` one of the
-/// second, behind `renew` a save of a file that is held, and else what is done to files. `superuser` and `user` call the
-/// first desk where they run this.
+/// second, behind `renew` a save of a file that is held, and else what is done to files. `superuser` and `user` call
+/// the first desk where they run this.
 fn is_done<F: Folder, D: Desk + Drop>(
     rt: &HostRuntime,
     folder: &mut F,

@@ -38,8 +38,8 @@ pub struct Opened {
     offset: usize,
 }
 
-/// A folder in memory that loses power. It keeps what each name and each file had since they were synced. The name `link`
-/// is a link to `f`.
+/// A folder in memory that loses power. It keeps what each name and each file had since they were synced. The name
+/// `link` is a link to `f`.
 #[derive(Drop)]
 pub struct CrashingFolder {
     alloc: Global,
