@@ -9,7 +9,7 @@ use Rattle.hex.specs.declared.error.FromHexError.{FromHexError}
 use Rattle.std.specs.Prelude.{IfOk}
 use Rattle.std.specs.Option.{unwrap_or}
 use Rattle.std.specs.Result.{result_ok}
-use Rattle.host_protocol.specs.Reading.{AnswersAs, Fails, IsWhole}
+use Rattle.host_protocol.specs.Reading.{AnswersAs, AreDigits, Fails}
 use Rattle.tx_types.specs.Batch.{padded}
 use Rattle.host_protocol.specs.Commands.{page_contents, contents_from, page_write_from, write_of_texts, is_equals}
 use Rattle.host_protocol.proofs.PartLemmas.{parts, split_some, split_none}
@@ -148,20 +148,21 @@ long_other : (text one : List ℕ) → length text ≢ length one → bytes_eq t
 long_other text one longer =
     false_from_ne_true (bytes_eq text one) (λ same. longer (ap length ((bytes_eq-Decides text one).0 same)))
 
--- the value of the digits of a whole page, and how many bytes it has
-pub whole_value : (size : ℕ) (text bytes : List ℕ) → IsWhole size text bytes →
+-- the value of the digits of some bytes of a page, and how many bytes these are
+pub digits_value : (size : ℕ) (text bytes : List ℕ) → AreDigits size text bytes →
     page_value size text ≡ Some (Some (padded size bytes))
-whole_value size text bytes whole =
-    let some = whole.some in
-    let twice = whole.twice in
+digits_value size text bytes are =
+    let some = are.some in
+    let most = are.most in
+    let twice : length text ≡ 2 * length bytes = (decode_of-ok text bytes are.digits).2 in
     value_contents size text (long_other text (codes "~") (λ same. absurd (omega (arith, same))))
     ∙ ap (option_map Some) (contents_ok size text bytes
-    (long_other text (codes "-") (λ same. absurd (omega (arith, same)))) whole.digits
+    (long_other text (codes "-") (λ same. absurd (omega (arith, same)))) are.digits
     (λ none. absurd (omega (arith, none))) (omega arith))
 
-pub whole_within : (size : ℕ) (text bytes : List ℕ) → IsWhole size text bytes → length bytes ≤ size
-whole_within size text bytes whole =
-    let twice = whole.twice in contents_length size text bytes whole.digits (omega arith)
+pub digits_within : (size : ℕ) (text bytes : List ℕ) → AreDigits size text bytes → length bytes ≤ size
+digits_within size text bytes are =
+    let most = are.most in contents_length size text bytes are.digits (omega arith)
 
 -- what is no contents is no value
 pub value_fails : (size : ℕ) (text : List ℕ) (e : LineError) → bytes_eq text (codes "~") ≡ false →

@@ -1,5 +1,5 @@
 -- The entry at the beginning of a line.
-use Rattle.host_protocol.proofs.Common.{◌≡◌, ◌≢◌, ℕ, ◌+◌, ◌-◌, ◌*◌, ◌<◌, ◌≤◌, true, false, not, ◌⊎◌, inl, inr, List, [], ◌∷◌, length, take, drop, get_or, slice_index, refl, ap, sym, ◌∙◌, arith, Option, Some, None, length-drop, unwrap_or, position, position_or_len, option_map, cases_lt, eqb-true, get_or-take, passes_at_first, prefix_len-le-length, position_some, page_value, page_write_of, words_of, is_space_or_tab, number_of, is_digit, digits_in}
+use Rattle.host_protocol.proofs.Common.{◌≡◌, ◌≢◌, ℕ, ◌+◌, ◌-◌, ◌<◌, ◌≤◌, true, false, not, ◌⊎◌, inl, inr, List, [], ◌∷◌, length, take, drop, get_or, slice_index, refl, ap, sym, ◌∙◌, arith, Option, Some, None, Ok, length-drop, unwrap_or, position, position_or_len, option_map, cases_lt, eqb-true, get_or-take, passes_at_first, prefix_len-le-length, position_some, page_value, page_write_of, words_of, is_space_or_tab, number_of, is_digit, digits_in}
 use Rattle.std.proofs.Common.{subst}
 use Rattle.std.proofs.Common.{take-take, drop-drop, get_or-drop, length-take}
 use Rattle.std.proofs.lemmas.List.{drop-take}
@@ -9,13 +9,16 @@ use Rattle.list_lemmas.proofs.Positions.{position-at, position_end}
 use Rattle.std.proofs.Math.ListN.{drop_of_length-le}
 use Rattle.std.proofs.Math.Seq.{take-length}
 use Rattle.host_protocol.specs.Commands.{is_equals, alone}
-use Rattle.hex.specs.Hex.{is_hex_digit}
+use Rattle.hex.specs.Hex.{decode_of, is_hex_digit}
 use Rattle.hex.proofs.HexLemmas.{decode_of-ok}
-use Rattle.host_protocol.specs.Reading.{BeginsWithPage, BeginsWithEntry, BeginsWithOther, IsWhole}
+use Rattle.host_protocol.specs.Reading.{BeginsWithNumber, BeginsWithPage, BeginsWithEntry, BeginsWithOther}
 use Rattle.host_protocol.proofs.EntryLemmas.{entry_around, entry_none}
 use Rattle.host_protocol.proofs.NumberLemmas.{number_digits}
 use Rattle.host_protocol.proofs.PartLemmas.{rest_from}
 use Rattle.host_protocol.proofs.WordLemmas.{word_first, word_take}
+
+zero_or_more : (n : ℕ) → (n ≡ 0) ⊎ (0 < n)
+zero_or_more n = elim (cases_lt 0 n) [ inl some ↦ inr some | inr none ↦ inl (omega arith) ]
 
 -- a digit is neither a blank nor an equals sign
 digit_fills : (b : ℕ) → is_digit b ≡ true → (is_space_or_tab b ≡ false) × (is_equals b ≡ false)
@@ -41,6 +44,30 @@ alone_whole [] n is all = absurd cc
 alone_whole (b ∷ bs) n is all =
     let whole : take (digits_in (b ∷ bs)) (b ∷ bs) ≡ b ∷ bs = rw all (take-length (b ∷ bs)) in
     rw (one_word (b ∷ bs) (omega arith) all) (sym (rw whole at is))
+
+by_digits : (b : ℕ) (bs : List ℕ) (n : ℕ) → Some n ≡ number_of (take (digits_in (b ∷ bs)) (b ∷ bs)) →
+    (digits_in (b ∷ bs) ≡ 0) ⊎ (0 < digits_in (b ∷ bs)) → 0 < digits_in (b ∷ bs)
+unfolding number_of
+by_digits b bs n is (inl none) = absurd (let no = rw none at is in cc)
+by_digits b bs n is (inr some) = some
+
+-- digits at the beginning, behind which a blank or the end is, are the first word
+pub number_first : (line : List ℕ) (n : ℕ) → Some n ≡ number_of (take (digits_in line) line) →
+    (digits_in line < length line → is_space_or_tab (slice_index line (digits_in line)) ≡ true) →
+    BeginsWithNumber line n (drop (digits_in line) line)
+unfolding number_of
+number_first [] n is blank = absurd cc
+number_first (b ∷ bs) n is blank =
+    let line = b ∷ bs in
+    let some = by_digits b bs n is (zero_or_more (digits_in line)) in
+    let end : position_or_len is_space_or_tab line ≡ digits_in line =
+    position_or_len_is is_space_or_tab line (digits_in line) 0 (prefix_len-le-length is_digit line)
+    (λ k before. (digit_fills (get_or line k 0) (prefix_len_passes is_digit line k 0 before)).0) blank in
+    record {
+      word = take (digits_in line) line;
+      words = rw end at (word_take line (omega arith) (rw end some));
+      number_is = sym is;
+    }
 
 -- a number that ends before an equals sign is all the digits at the beginning
 number_ends : (line : List ℕ) (place n : ℕ) → place < length line → slice_index line place ≡ 61 →
@@ -182,21 +209,21 @@ other_first whole line start at same none =
           (sym (get_or-take end (rest_from start whole) place 0 before) ∙ sign)));
     }
 
--- ---- the digits of a whole page
+-- ---- the digits of bytes
 
 hex_fills : (b : ℕ) → is_hex_digit b ≡ true → is_space_or_tab b ≡ false
 hex_fills b h = grind (arith)
 
 -- where a blank or the end is behind the digits, they end there
-pub whole_end : (size : ℕ) (behind bytes : List ℕ) → IsWhole size (take (2 * size) behind) bytes →
-    2 * size ≤ length behind →
-    (2 * size < length behind → is_space_or_tab (slice_index behind (2 * size)) ≡ true) →
-    unwrap_or (position is_space_or_tab behind) (length behind) ≡ 2 * size
-whole_end size behind bytes whole inside blank =
-    let digits = (decode_of-ok (take (2 * size) behind) bytes whole.digits).1 in
+pub digits_end : (end : ℕ) (behind bytes : List ℕ) → decode_of (take end behind) ≡ Ok bytes → end ≤ length behind →
+    (end < length behind → is_space_or_tab (slice_index behind end) ≡ true) →
+    unwrap_or (position is_space_or_tab behind) (length behind) ≡ end
+digits_end end behind bytes decoded inside blank =
+    let digits = (decode_of-ok (take end behind) bytes decoded).1 in
+    let size = length-take end behind in
     position_end is_space_or_tab behind
-    ∙ position_or_len_is is_space_or_tab behind (2 * size) 0 inside
+    ∙ position_or_len_is is_space_or_tab behind end 0 inside
     (λ k before. hex_fills (get_or behind k 0)
-    (subst (λ b. is_hex_digit b ≡ true) (get_or-take (2 * size) behind k 0 before)
-    (digits k 0 (omega (arith, before, whole.twice)))))
+    (subst (λ b. is_hex_digit b ≡ true) (get_or-take end behind k 0 before)
+    (digits k 0 (omega (arith, before, inside, size)))))
     blank

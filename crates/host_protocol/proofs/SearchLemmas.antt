@@ -15,7 +15,7 @@ found_first test bytes (Some k) h =
     sym (position-at test bytes 0 k h.0.high (λ i before. false_from_ne_true _ (h.0.before i (omega arith) before)) h.1)
 
 -- the first place of the first elements that passes is that of the list
-near_first : (test : ℕ → Bool) (n : ℕ) (bytes : List ℕ) (i : ℕ) → position test (take n bytes) ≡ Some i →
+pub near_first : (test : ℕ → Bool) (n : ℕ) (bytes : List ℕ) (i : ℕ) → position test (take n bytes) ≡ Some i →
     position test bytes ≡ Some i
 near_first test n bytes i h =
     let at = position_some test (take n bytes) i h in

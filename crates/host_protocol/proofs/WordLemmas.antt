@@ -1,9 +1,9 @@
 -- The first word of a line.
 use Rattle.host_protocol.proofs.Common.{◌≡◌, ℕ, suc, ◌<◌, Bool, true, false, not, List, [], ◌∷◌, length, take, drop, get_or, refl, sym, ap, ◌∙◌, arith, Some, None, unwrap_or, length-drop, position, position_or_len, length-take, passes_at_first, position_some, words_of, is_space_or_tab}
-use Rattle.std.proofs.Common.{drop-cons}
+use Rattle.std.proofs.Common.{drop-cons, subst}
 use Rattle.std.proofs.Math.ListN.{drop_of_length-le}
 use Rattle.std.proofs.lemmas.Bool.{not-true}
-use Rattle.list_lemmas.proofs.Positions.{none_whole, position_end}
+use Rattle.list_lemmas.proofs.Positions.{none_whole, position-at, position_end}
 use Rattle.host_protocol.specs.Lines.{has_bytes}
 use Rattle.host_protocol.proofs.PartLemmas.{one_more, parts, rest_from, rest_is}
 
@@ -65,6 +65,16 @@ word_first line start end h e' =
     ∙ position_end is_space_or_tab (drop start line) in
     let taken = word_at line start at.1 (rw at.0 at filled) in
     rw (whole, ← skipped, ended) taken
+
+-- the second byte is the first that is no blank
+pub second_filled : (line : List ℕ) → 1 < length line → get_or line 0 0 ≡ 32 →
+    not (is_space_or_tab (get_or line 1 0)) ≡ true → Some 1 ≡ position (λ b. not (is_space_or_tab b)) line
+second_filled line inside first second =
+    sym (position-at (λ b. not (is_space_or_tab b)) line 0 1 inside
+    (λ k before.
+    let same : 0 ≡ k = omega (arith, before) in
+    subst (λ i. not (is_space_or_tab (get_or line i 0)) ≡ false) same (rw first refl))
+    second)
 
 -- a line of blanks has no word
 pub word_none : (line : List ℕ) → position (λ b. not (is_space_or_tab b)) line ≡ None → words_of line ≡ []

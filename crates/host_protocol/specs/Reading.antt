@@ -93,6 +93,12 @@ pub record BeginsWithVerb (line : List ℕ) (verb : Verb) (behind : List ℕ) : 
   pub words : words_of line ≡ word_of verb ∷ words_of behind
   pub asks : is_command_line line ≡ true
 
+-- the first word of the line is this number, and the line goes on with these bytes
+pub record BeginsWithNumber (line : List ℕ) (number : ℕ) (behind : List ℕ) : Type 0 where
+  pub word : List ℕ
+  pub words : words_of line ≡ word ∷ words_of behind
+  pub number_is : number_of word ≡ Some number
+
 -- the line is neither blank nor a comment, and begins with no verb
 pub record BeginsWithNoVerb (line : List ℕ) : Type 0 where
   pub asks : is_command_line line ≡ true
@@ -119,10 +125,10 @@ pub record BeginsWithOther (line : List ℕ) : Type 0 where
   pub words : words_of line ≡ word ∷ others
   pub none : (size : ℕ) → page_write_of size word ≡ None
 
--- the text is the digits of all bytes of a page, which are these
-pub record IsWhole (size : ℕ) (text bytes : List ℕ) : Type 0 where
-  pub some : 1 ≤ size
-  pub twice : length text ≡ 2 * size
+-- the text is digits of at least one byte of a page and at most all, and these are the bytes
+pub record AreDigits (size : ℕ) (text bytes : List ℕ) : Type 0 where
+  pub some : 1 ≤ length text
+  pub most : length text ≤ 2 * size
   pub digits : decode_of text ≡ Ok bytes
 
 -- where a file's reading ended

@@ -5,7 +5,7 @@ ghost use Rattle.tx_types.specs.Batch.{padded};
 ghost use Rattle.host_protocol.specs.Commands.{page_contents, page_value, is_equals};
 ghost use Rattle.host_protocol.specs.Lines.{is_space_or_tab, words_of};
 ghost use Rattle.host_protocol.specs.Numbers.{number_of};
-ghost use Rattle.host_protocol.specs.Reading.{AnswersAs, BeginsWithEntry, BeginsWithOther, BeginsWithPage, IsWhole};
+ghost use Rattle.host_protocol.specs.Reading.{AnswersAs, AreDigits, BeginsWithEntry, BeginsWithOther, BeginsWithPage};
 
 use crate::error::LineError;
 use crate::hexadecimal::{decode, decode_digits};
@@ -14,9 +14,9 @@ use crate::words::{ends_at, first_blank, first_filled};
 use memchr::memchr;
 
 /// The first entry of a line: its page, the text of what the page is to hold, what is behind it on the line, and
-/// whether the text is the digits of a whole page, whose bytes are in the room then. None where the line has no word,
-/// and an error where its first word is no entry. No digit is a blank, so the end of the word is searched for only
-/// where no digits of a whole page lead to it.
+/// whether the text is digits, whose bytes are in the room then. None where the line has no word, and an error where
+/// its first word is no entry. No digit is a blank, so the end of the word is searched for only where no digits of a
+/// whole page, or of one byte, lead to it.
 #[inline(always)]
 pub fn first_entry<'a>(
     line: &'a [u8],
@@ -26,8 +26,8 @@ pub fn first_entry<'a>(
     ensures entry { IfOk result (λ found. IfSome found (λ e.
         BeginsWithEntry line.now e.0 e.1.now e.2.now)) }
     ensures shorter { IfOk result (λ found. IfSome found (λ e. length e.2.now < length line.now)) }
-    ensures whole { IfOk result (λ found. IfSome found (λ e.
-        e.3 ≡ true → IsWhole page_bytes e.1.now room.new.items)) }
+    ensures digits { IfOk result (λ found. IfSome found (λ e.
+        e.3 ≡ true → AreDigits page_bytes e.1.now room.new.items)) }
     ensures none { IfOk result (λ found. IfNone found (words_of line.now ≡ [])) }
     ensures bad { IsErr result → BeginsWithOther line.now }
 {
@@ -36,39 +36,42 @@ pub fn first_entry<'a>(
     };
     let line = &line[start..];
     let (page, behind) = leading_page(line).ok_or(LineError::Bad)?;
-    let (end, is_whole) = find_end(behind, page_bytes, room);
+    let (end, is_read) = find_end(behind, page_bytes, room);
     let (text, behind) = behind.split_at(end);
-    Ok(Some((page, text, behind, is_whole)))
+    Ok(Some((page, text, behind, is_read)))
 }
 
-/// Where the text behind an equals sign ends, and whether it is the digits of a whole page, whose bytes are in the room
-/// then. Their end is not searched for.
+/// Where the text behind an equals sign ends, and whether it is digits, whose bytes are in the room then. The end of
+/// the digits of a whole page, or of one byte, is not searched for.
 #[inline(always)]
 fn find_end(behind: &[u8], page_bytes: u32, room: &mut Vec<u8>) -> (usize, bool)
     ensures end { result.0 ≡ unwrap_or (position is_space_or_tab behind.now) (length behind.now) }
-    ensures whole { result.1 ≡ true →
-        IsWhole page_bytes (take result.0 behind.now) room.new.items }
+    ensures digits { result.1 ≡ true →
+        AreDigits page_bytes (take result.0 behind.now) room.new.items }
 {
-    let most = 2 * page_bytes as usize;
-    if read_whole(behind, page_bytes, room) {
-        return (most, true);
+    if read_digits(behind, 1, page_bytes, room) {
+        return (2, true);
+    }
+    if read_digits(behind, page_bytes, page_bytes, room) {
+        return (2 * page_bytes as usize, true);
     }
     (first_blank(behind).unwrap_or(behind.len()), false)
 }
 
-/// Reads the text behind an equals sign into the room, and says whether it is the digits of a whole page.
+/// Reads the text behind an equals sign into the room, and says whether it is the digits of this many bytes, of at
+/// least one byte, and of at most all of a page.
 #[inline(always)]
-fn read_whole(behind: &[u8], page_bytes: u32, room: &mut Vec<u8>) -> bool
-    ensures whole { result ≡ true →
-        IsWhole page_bytes (take (2 * page_bytes) behind.now) room.new.items }
+fn read_digits(behind: &[u8], count: u32, page_bytes: u32, room: &mut Vec<u8>) -> bool
+    ensures digits { result ≡ true →
+        AreDigits page_bytes (take (2 * count) behind.now) room.new.items }
     ensures end { result ≡ true →
-        unwrap_or (position is_space_or_tab behind.now) (length behind.now) ≡ 2 * page_bytes }
+        unwrap_or (position is_space_or_tab behind.now) (length behind.now) ≡ 2 * count }
 {
-    let most = 2 * page_bytes as usize;
-    if most == 0 || !ends_at(behind, most) {
+    let end = 2 * count as usize;
+    if count == 0 || count > page_bytes || !ends_at(behind, end) {
         return false;
     }
-    decode_digits(&behind[..most], room)
+    decode_digits(&behind[..end], room)
 }
 
 /// The page before an equals sign at the beginning of a line, and what is behind the sign.
@@ -124,19 +127,19 @@ pub fn value<'a>(
     Ok(Some(contents(text, page_bytes, room)?))
 }
 
-/// The same, by a text whose bytes are in the room already where it is the digits of a whole page.
+/// The same, by a text whose bytes are in the room already where it is digits that were read.
 pub fn value_by_room<'a>(
     text: &[u8],
-    is_whole: bool,
+    is_read: bool,
     page_bytes: u32,
     room: &'a mut Vec<u8>,
 ) -> Result<Option<&'a [u8]>, LineError>
-    requires { is_whole ≡ true → IsWhole page_bytes text.now room.old.items }
+    requires { is_read ≡ true → AreDigits page_bytes text.now room.old.items }
     ensures value { AnswersAs (λ o. option_map (λ v. padded page_bytes v.now) o)
         result (page_value page_bytes text.now) }
     ensures within { IfOk result (λ o. IfSome o (λ v. length v.now ≤ page_bytes)) }
 {
-    if is_whole {
+    if is_read {
         return Ok(Some(room));
     }
     value(text, page_bytes, room)

@@ -30,6 +30,7 @@ pub fn decode<'a>(text: &[u8], room: &'a mut Vec<u8>) -> Result<&'a [u8], LineEr
 }
 
 /// Reads a text of digits into the room, and says whether it is one, and there is memory for the bytes that it tells.
+#[inline(always)]
 pub fn decode_digits(text: &[u8], room: &mut Vec<u8>) -> bool
     ensures { result ≡ true → decode_of text.now ≡ Ok room.new.items }
 {
@@ -40,6 +41,7 @@ pub fn decode_digits(text: &[u8], room: &mut Vec<u8>) -> bool
 }
 
 /// Makes the room as long as this.
+#[inline(always)]
 fn make_long(room: &mut Vec<u8>, count: usize) -> Result<(), Memory>
     ensures { OnOk result (length room.new.items ≡ count) }
 {
@@ -48,6 +50,7 @@ fn make_long(room: &mut Vec<u8>, count: usize) -> Result<(), Memory>
 }
 
 /// Reads a text twice as long as `bytes`, and says whether it is all digits. Where it is not, the bytes are no matter.
+#[inline(always)]
 fn decode_into(text: &[u8], bytes: &mut [u8]) -> bool
     requires { length text.now ≡ 2 * length bytes.old }
     ensures digits { result ≡ true → decode_pairs 0 text.now ≡ Ok bytes.new }
@@ -63,6 +66,7 @@ fn decode_into(text: &[u8], bytes: &mut [u8]) -> bool
 }
 
 /// Reads what is left of the text, from the digits of the byte at an index on.
+#[inline(always)]
 fn decode_rest(text: &[u8], from: usize, bytes: &mut [u8]) -> bool
     requires length { length text.now ≡ 2 * length bytes.old }
     requires within { from ≤ length bytes.old }

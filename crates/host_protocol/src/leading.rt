@@ -1,7 +1,6 @@
 //! The verb of a line.
-ghost use Rattle.std.specs.Prelude.{◌≡◌, ◌∷◌, ◌++◌, true, false, [], ℕ, List, IfOk, IfSome, IfNone, IsErr};
+ghost use Rattle.std.specs.Prelude.{◌≡◌, ◌∷◌, ◌++◌, false, [], IfOk, IfSome, IfNone, IsErr};
 ghost use Rattle.host_protocol.specs.Files.{is_command_line};
-ghost use Rattle.host_protocol.specs.Lines.{words_of};
 ghost use Rattle.host_protocol.specs.Reading.{BeginsWithVerb, BeginsWithNoVerb};
 ghost use Rattle.host_protocol.specs.Verbs.{word_of};
 

@@ -5,6 +5,7 @@ mod command;
 mod digit_lanes;
 mod entry;
 mod error;
+mod feed_lanes;
 mod file;
 mod hexadecimal;
 mod leading;

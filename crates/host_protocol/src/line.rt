@@ -1,4 +1,4 @@
-ghost use Rattle.std.specs.Prelude.{◌≡◌, ◌≢◌, ◌≤◌, [], false, length, IfOk, IfNone, IfSome, OnOk, IsErrOf};
+ghost use Rattle.std.specs.Prelude.{◌≡◌, ◌≢◌, ◌≤◌, ◌+◌, [], false, length, IfOk, IfNone, IfSome, OnOk, IsErrOf};
 ghost use Rattle.host_protocol.specs.Files.{is_command_line};
 ghost use Rattle.host_protocol.specs.Lines.{words_of};
 ghost use Rattle.host_protocol.specs.Reading.{AddsCommand, AddsNone, HasEntries, HasNoEntries, IsWritePast, IsWriteWithin, MakesCommand, MakesNone, MakesPlain};
@@ -8,10 +8,8 @@ use crate::entry::{first_entry, value_by_room};
 use crate::error::LineError;
 use crate::file::MAX_COMMANDS;
 use crate::leading::leading_verb;
-use crate::numbers::number;
-use crate::operands::{arm, lone_count, lone_number, no_word};
+use crate::operands::{arm, first_number, lone_count, lone_number, no_word};
 use crate::verb::Verb;
-use crate::words::first_word;
 use std::alloc::Global;
 use tx_types::Batch;
 
@@ -120,8 +118,7 @@ fn write(
     ensures bad { IsErrOf result LineError.Bad →
         IsWritePast page_bytes (words_of words.now) entries_left }
 {
-    let (first, behind) = first_word(words).ok_or(LineError::Bad)?;
-    let tag = number(first).ok_or(LineError::Bad)?;
+    let (tag, behind) = first_number(words).ok_or(LineError::Bad)?;
     let batch = entries(alloc, behind, page_bytes, entries_left, room)?;
     Ok((tag, batch))
 }
@@ -138,8 +135,7 @@ fn entries(
     ensures bad { IsErrOf result LineError.Bad →
         HasNoEntries page_bytes (words_of words.now) entries_left }
 {
-    let room_for = near_entries(words).max(whole_entries(words, page_bytes));
-    let mut batch = Batch::with_room(alloc, page_bytes, room_for)?;
+    let mut batch = Batch::with_room(alloc, page_bytes, likely_entries(words, page_bytes))?;
     add_entries(words, page_bytes, entries_left, room, &mut batch)?;
     Ok(batch)
 }
@@ -159,17 +155,34 @@ fn add_entries(
         HasNoEntries page_bytes (words_of words.now) entries_left }
 {
     let mut rest = words;
-    while let Some((page, text, behind, is_whole)) = first_entry(rest, page_bytes, room)? {
+    while let Some((page, text, behind, is_read)) = first_entry(rest, page_bytes, room)? {
         if batch.len() >= entries_left {
             return Err(LineError::Bad);
         }
-        match value_by_room(text, is_whole, page_bytes, room)? {
+        match value_by_room(text, is_read, page_bytes, room)? {
             Some(bytes) => batch.add(page, bytes)?,
             None => batch.add_discard(page)?,
         }
         rest = behind;
     }
     Ok(())
+}
+
+/// The bytes of words that are so few that their entries are not counted.
+const FEW_BYTES: usize = 32;
+
+/// The bytes of a short entry, and of the space before it.
+const SHORT_BYTES: usize = 8;
+
+/// For how many entries room is taken at once.
+#[inline(always)]
+fn likely_entries(words: &[u8], page_bytes: u32) -> usize
+    ensures { result ≤ length words.now + NEAR_BYTES }
+{
+    if words.len() <= FEW_BYTES {
+        return words.len() / SHORT_BYTES + 1;
+    }
+    near_entries(words).max(whole_entries(words, page_bytes))
 }
 
 /// The fewest bytes of an entry of a whole page but for its digits: a space, a digit and an equals sign.

@@ -2,6 +2,7 @@ ghost use Rattle.std.specs.Prelude.{◌≡◌, ◌<◌, [], ◌∷◌, length, p
 ghost use Rattle.std.specs.Str.Lines.{strip_carriage_return};
 ghost use Rattle.host_protocol.specs.Lines.{lines_of, is_line_feed};
 
+use crate::feed_lanes::{LANES, near_line_feed};
 use memchr::memchr;
 
 /// The first line of a file, and what is behind it.
@@ -20,9 +21,24 @@ pub fn first_line(bytes: &[u8]) -> Option<(&[u8], &[u8])>
     }
 }
 
-/// Where the first line feed stands.
-#[tactic(auto, using(crate::proofs::SearchLemmas::found_first))]
+/// Where the first line feed stands. Most lines are short, so it is looked for near the beginning first.
+#[inline(always)]
 fn first_line_feed(bytes: &[u8]) -> Option<usize>
+    ensures { result ≡ position is_line_feed bytes.now }
+{
+    if bytes.len() < LANES {
+        return far_line_feed(bytes);
+    }
+    match near_line_feed(bytes) {
+        Some(end) => Some(end),
+        None => far_line_feed(bytes),
+    }
+}
+
+/// Where the first line feed stands, which may be far behind.
+#[inline(never)]
+#[tactic(auto, using(crate::proofs::SearchLemmas::found_first))]
+fn far_line_feed(bytes: &[u8]) -> Option<usize>
     ensures { result ≡ position is_line_feed bytes.now }
 {
     memchr(b'\n', bytes)

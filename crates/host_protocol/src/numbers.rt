@@ -5,6 +5,9 @@ ghost use Rattle.host_protocol.specs.Numbers.{number_of, count_of, digits_in, va
 /// The most digits of a number.
 const MAX_DIGITS: usize = 10;
 
+/// The greatest number.
+const MAX_NUMBER: u64 = 4294967295;
+
 /// The number that a word is: one to ten decimal digits, for a number of 32 bits.
 pub fn number(word: &[u8]) -> Option<u32>
     ensures { result ≡ number_of word.now }
@@ -27,8 +30,10 @@ pub fn leading_number(text: &[u8]) -> Option<(u32, usize)>
     if digits == 0 || digits > MAX_DIGITS {
         return None;
     }
-    let number = u32::try_from(value).ok()?;
-    Some((number, digits))
+    if value > MAX_NUMBER {
+        return None;
+    }
+    Some((value as u32, digits))
 }
 
 /// What the digits at the beginning of a text stand for, and how many they are: eleven of them where they are more.

@@ -2,10 +2,11 @@ ghost use Rattle.std.specs.Prelude.{◌≡◌, ◌≢◌, ◌∷◌, [], ℕ, Li
 ghost use Rattle.host_protocol.specs.Commands.{alone, IsArm, outcome_word};
 ghost use Rattle.host_protocol.specs.Lines.{words_of};
 ghost use Rattle.host_protocol.specs.Numbers.{number_of, count_of};
+ghost use Rattle.host_protocol.specs.Reading.{BeginsWithNumber};
 ghost use Rattle.flash_model.specs.declared.outcome.Outcome.{Outcome};
 
 use crate::numbers::{count, leading_number, number};
-use crate::words::{first_word, is_word};
+use crate::words::{ends_at, first_word, is_word};
 use flash_model::Outcome;
 
 /// Some where there is no word.
@@ -29,6 +30,7 @@ fn only_word(words: &[u8]) -> Option<&[u8]>
 }
 
 /// The number that is the only word. Most often nothing else is there.
+#[inline(always)]
 pub fn lone_number(words: &[u8]) -> Option<u32>
     ensures { result ≡ alone number_of (words_of words.now) }
 {
@@ -47,6 +49,34 @@ fn whole_number(bytes: &[u8]) -> Option<u32>
     let (number, digits) = leading_number(bytes)?;
     if digits == bytes.len() {
         Some(number)
+    } else {
+        None
+    }
+}
+
+/// The number that the first word is, and what is behind it.
+#[inline(always)]
+pub fn first_number(words: &[u8]) -> Option<(u32, &[u8])>
+    ensures some { IfSome result (λ found. BeginsWithNumber words.now found.0 found.1.now) }
+    ensures none { IfNone result ((word : List ℕ) (others : List (List ℕ)) →
+        words_of words.now ≡ word ∷ others → number_of word ≡ None) }
+{
+    let found = leading_word(words);
+    if found.is_some() {
+        return found;
+    }
+    let (word, behind) = first_word(words)?;
+    Some((number(word)?, behind))
+}
+
+/// The number that the first word is, and what is behind it, where nothing stands before it.
+#[inline(always)]
+fn leading_word(words: &[u8]) -> Option<(u32, &[u8])>
+    ensures { IfSome result (λ found. BeginsWithNumber words.now found.0 found.1.now) }
+{
+    let (number, digits) = leading_number(words)?;
+    if ends_at(words, digits) {
+        Some((number, &words[digits..]))
     } else {
         None
     }

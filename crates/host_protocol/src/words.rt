@@ -18,12 +18,23 @@ pub fn first_word(line: &[u8]) -> Option<(&[u8], &[u8])>
     Some(line.split_at(end))
 }
 
-/// Where the first byte stands that is neither a space nor a tab.
+/// Where the first byte stands that is neither a space nor a tab. Most often one space is before it.
 #[inline(always)]
 pub fn first_filled(line: &[u8]) -> Option<usize>
     ensures { result ≡ position (λ b. not (is_space_or_tab b)) line.now }
 {
+    if line.len() > 1 && line[0] == b' ' && is_filled(line[1]) {
+        return Some(1);
+    }
     line.iter().position(|b| *b != b' ' && *b != b'\t')
+}
+
+/// Whether a byte is neither a space nor a tab.
+#[inline(always)]
+fn is_filled(byte: u8) -> bool
+    ensures { result ≡ not (is_space_or_tab byte) }
+{
+    byte != b' ' && byte != b'\t'
 }
 
 /// Whether a word is this one.

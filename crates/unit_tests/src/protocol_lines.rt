@@ -66,6 +66,15 @@ pub const COMMANDS: &str = "\
     file write 1 0=-~ => bad line 1\n\
     file write 1 0 = 41 => bad line 1\n\
     file write 1 4294967296=41 => bad line 1\n\
+    file write 1 0=41`1=4B  2=4142 3=5 => bad line 1\n\
+    file write 1 0=41`1=4B  2=4142 => write 1 0=41000000000000000000000000000000 \
+    1=4b000000000000000000000000000000 2=41420000000000000000000000000000;\n\
+    file write`1`0=41;write 1x 0=41 => bad line 2\n\
+    # Lines that end within the next 32 bytes of the file, and lines that do not.\n\
+    file step 1;abort 2^;# this one ends behind more than 32 bytes;finish 3;collect^^;step 4;;;;;;;;;;;;;;;;;;;;;;;;;; \
+    => bad line 5\n\
+    file step 1;abort 2^;# this one ends behind more than 32 bytes;finish 3;  ^;step 4;collect;;;;;;;;;;;;;;;;;;;;;;; \
+    => step 1;abort 2;finish 3;step 4;collect;\n\
     # Files of many commands, of which there may be 65536, and of many entries, of which there may be 262144: a \
     head, how often a piece stands behind it, the piece, and the end.\n\
     long # one;;|65536|stats;| => 65536 commands\n\
