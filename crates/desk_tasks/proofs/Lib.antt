@@ -2,6 +2,7 @@ mod Common
 pub mod RunLemmas
 pub mod CommandReading
 pub mod FileServing
+pub mod DriveLemmas
 pub mod Sound
 pub mod Weakening
 pub mod Works

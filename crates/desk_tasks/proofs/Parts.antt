@@ -4,7 +4,6 @@ use Rattle.std.proofs.Common.{◌++◌}
 use Rattle.tx_types.specs.declared.config.Protocol.TheVariants.{Scc}
 use Rattle.host_protocol.specs.Files.{IsFile}
 use Rattle.host_protocol.specs.declared.command.Command.{Command}
-use Rattle.drive_gen.specs.Summary.{summary_line}
 use Rattle.desk_tasks.specs.Ending.{Explained}
 use Rattle.desk_tasks.specs.FileServing.{RefusesFile}
 use Rattle.desk_tasks.specs.Steps.{Parsing}
@@ -31,12 +30,6 @@ pub run_blank : (protocol : Protocol) (its : Config) (image : List Contents) (cs
     its ≡ default_config protocol → image ≡ blank_image its → IsRun its image cs left text →
     RepliesFresh protocol cs text
 run_blank protocol its image cs left text e f h = (left, rw (f, e) at h)
-
--- the line that sums up the replies of a list of commands
-pub summed : (start count : ℕ) (protocol : Protocol) (before after : List ℕ) (cs : List Command) (lines text : List ℕ) →
-    before ≡ [] → lines ≡ text → after ≡ before ++ summary_line start count protocol (length cs) lines →
-    after ≡ summary_line start count protocol (length cs) text
-summed start count protocol before after cs lines text none same h = rw (none, same) at h
 
 -- ---- a try
 

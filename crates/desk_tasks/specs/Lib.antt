@@ -13,5 +13,6 @@ pub mod TwoFiles
 pub mod Stops
 pub mod CommandReading
 pub mod FileServing
+pub mod Driving
 pub mod Keeping
 pub mod KeptEntries

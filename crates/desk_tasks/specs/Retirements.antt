@@ -55,8 +55,8 @@ pub record MovesNeeded (its : Config) (image : List Contents) (block : ℕ)
       ≡ slot_at (map (slot_at image)
       (needed_in its (with_block (shape_of its) image spare blank) spare block)) k
 
--- The image is sound, and so is what is left of it, which has the same array. The block is all blank in it, and what was
--- needed there stands in what was the spare.
+-- The image is sound, and so is what is left of it, which has the same array. The block is all blank in it, and what
+-- was needed there stands in what was the spare.
 pub record EmptiesBlock (its : Config) (image : List Contents) (block : ℕ)
     (left : List Contents) : Type 0 where
   pub sound : IsSoundImage its.protocol its.logical (shape_of its) image

@@ -4,17 +4,15 @@ ghost use Rattle.flash_model.specs.Flash.{IsSteady};
 ghost use Rattle.judged_records.specs.Notes.{found_in};
 ghost use Rattle.mem_flash.specs.MemFlashState.{fresh, loaded, state_of};
 ghost use Rattle.tx_engine.specs.Opens.{Mounts};
-ghost use Rattle.host_protocol.specs.Commands.{Suits};
 ghost use Rattle.judged_records.specs.Images.{IsSoundImage, records_in};
 ghost use Rattle.verdict_report.specs.Report.{report};
-ghost use Rattle.desk_tasks.specs.Runs.{IsRun, blank_image, default_config};
+ghost use Rattle.desk_tasks.specs.Runs.{blank_image, default_config};
 ghost use Rattle.desk_tasks.specs.Stops.{RefusesDevice, StopsBy};
 
 use crate::output::Failure;
 use bpcc_commit::Bpcc;
-use cut_replay::{Lines, serve};
+use cut_replay::Lines;
 use flash_model::steady_stays;
-use host_protocol::Command;
 use mem_flash::MemFlash;
 use record_list::{Breach, CommitRule, Found};
 use scc_commit::Scc;
@@ -55,55 +53,6 @@ pub fn blank_flash(alloc: Global, config: Config) -> Result<MemFlash, Memory>
         unreachable!();
     };
     MemFlash::new(alloc, shape)
-}
-
-/// Serves commands on the device of a flash.
-pub fn serve_flash(
-    alloc: Global,
-    flash: MemFlash,
-    config: Config,
-    list: &[Command],
-) -> Result<ServedFlash, Failure<'static>>
-    requires check { checked config ≡ Ok (shape_of config) }
-    requires ready { flash ≡ loaded (shape_of config) flash.image flash.extras }
-    requires suits { All (Suits config.page_bytes) list.now }
-    ensures run { IfOk result (λ s. IsRun config flash.image list.now s.flash.image s.replies) }
-    ensures shape { IfOk result (λ s. s.flash.shape ≡ shape_of config) }
-    ensures extras { IfOk result (λ s. s.flash.extras ≡ flash.extras) }
-    ensures err { IfErr result (StopsBy (RefusesDevice config flash.image)) }
-{
-    match config.protocol {
-        Protocol::Scc => serve_by::<Scc>(alloc, flash, config, list),
-        Protocol::Bpcc => serve_by::<Bpcc>(alloc, flash, config, list),
-    }
-}
-
-/// The same under a rule.
-fn serve_by<R: CommitRule>(
-    alloc: Global,
-    flash: MemFlash,
-    config: Config,
-    list: &[Command],
-) -> Result<ServedFlash, Failure<'static>>
-    requires check { checked config ≡ Ok (shape_of config) }
-    requires rule { config.protocol ≡ R.protocol }
-    requires ready { flash ≡ loaded (shape_of config) flash.image flash.extras }
-    requires suits { All (Suits config.page_bytes) list.now }
-    ensures run { IfOk result (λ s. IsRun config flash.image list.now s.flash.image s.replies) }
-    ensures shape { IfOk result (λ s. s.flash.shape ≡ shape_of config) }
-    ensures extras { IfOk result (λ s. s.flash.extras ≡ flash.extras) }
-    ensures err { IfErr result (StopsBy (RefusesDevice config flash.image)) }
-{
-    let mut replies = Lines::new(alloc);
-    let (flash, done) = serve::<MemFlash, R, Lines>(alloc, flash, config, list, &mut replies);
-    let left = ServedFlash { flash, replies };
-    match done {
-        Ok(()) => Ok(left),
-        Err(error) => {
-            drop(left);
-            Err(Failure::from(error))
-        }
-    }
 }
 
 /// The report on the records of a device.

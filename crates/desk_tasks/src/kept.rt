@@ -29,8 +29,8 @@ struct Entry {
 }
 
 /// The replies of a run, each with a copy of what the flash was when it was given. It is seen as
-/// the list of their texts and moments, with how many bytes a page of each flash has. It stands in this library since no
-/// crate can depend on a program.
+/// the list of their texts and moments, with how many bytes a page of each flash has. It stands in this library since
+/// no crate can depend on a program.
 #[derive(Drop)]
 pub struct Kept {
     alloc: Global,

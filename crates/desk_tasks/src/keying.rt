@@ -14,7 +14,6 @@ ghost use Rattle.desk_tasks.specs.Request.{Keys};
 
 use crate::loading::load_both;
 use crate::output::{Failure, File, Output, Text};
-use crate::tasks::leak_at_exit;
 use bpcc_commit::Bpcc;
 use desk_io::Desk;
 use image_file::into_image;
@@ -24,6 +23,7 @@ use program_base::open_image;
 use record_list::CommitRule;
 use scc_commit::Scc;
 use std::alloc::Global;
+use std::mem::forget;
 use tx_types::{Config, Protocol};
 
 /// What serving a key script leaves.
@@ -154,4 +154,10 @@ fn serve_keys_by<R: CommitRule>(
             Err(Failure::from(error))
         }
     }
+}
+
+/// Leaves the memory of commands to the end of the program, which is near: to give that of each command back would
+/// take longer than to make them, and nothing is to be put there.
+fn leak_at_exit<T: Drop>(list: Vec<T>) {
+    forget(list);
 }

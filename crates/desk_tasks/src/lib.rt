@@ -6,6 +6,7 @@ mod checking;
 mod comparing;
 mod devices;
 mod difference;
+mod driving;
 mod kept;
 mod keying;
 mod loading;

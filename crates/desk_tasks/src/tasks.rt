@@ -3,33 +3,27 @@ ghost use Rattle.std.specs.Fmt.{decimal};
 ghost use Rattle.durable_folder.specs.Histories.{Rests};
 ghost use Rattle.desk_io.specs.Disk.{FindsBoth};
 ghost use Rattle.desk_io.specs.Desk.{DeskState, max_file_bytes};
-ghost use Rattle.drive_gen.specs.Summary.{summary_line};
-ghost use Rattle.host_protocol.specs.Commands.{Suits};
 ghost use Rattle.program_base.specs.Refusals.{line};
 ghost use Rattle.desk_tasks.specs.Ending.{Driven, Ran};
-ghost use Rattle.desk_tasks.specs.Runs.{RepliesFresh, default_config};
 ghost use Rattle.desk_tasks.specs.Steps.{Explaining, OpensAndServes, Parsing, Running, Trying, formatting};
 ghost use Rattle.desk_tasks.specs.Stops.{Works, WorksTo};
 ghost use Rattle.desk_tasks.specs.Request.{Drive, Explain, Format, Run, Try};
 ghost use Rattle.mem_flash.specs.MemFlashState.{loaded};
 ghost use Rattle.tx_types.specs.Config.{checked, shape_of};
 
-use crate::devices::{ServedFlash, blank_flash, default_config, explain_flash, serve_flash};
+use crate::devices::{ServedFlash, blank_flash, default_config, explain_flash};
+use crate::driving::drive_fresh;
 use crate::loading::load_both;
 use crate::output::{Failure, File, Output, Text};
 use crate::reading::check_commands;
 use crate::refusal::Refusal;
 use crate::serving::serve_lines;
-use cut_replay::Lines;
 use desk_io::Desk;
-use drive_gen::{commands, summary};
 use flash_model::MAX_ALLOWANCE;
-use host_protocol::Command;
 use image_file::{blank_image, into_image};
 use mem_flash::MemFlash;
 use program_base::{load_file, open_image};
 use std::alloc::{AllocError, Global};
-use std::mem::forget;
 use tx_types::{Config, Protocol};
 
 /// Serves the commands of a file on a fresh device.
@@ -189,61 +183,9 @@ pub fn do_drive<'a>(
 ) -> Result<Output<'a>, Failure<'a>>
     ensures { WorksTo (λ ending. ending ≡ Driven start count protocol) result }
 {
-    let list = commands(alloc, start, count, default_config(protocol))?;
-    let line = sum_up(alloc, start, count, protocol, &list);
-    leak_at_exit(list);
+    let line = drive_fresh(alloc, start, count, protocol)?;
     Ok(Output {
         saved: None,
-        text: Text::Other(line?),
+        text: Text::Other(line),
     })
-}
-
-/// Serves commands on a fresh device, and sums up the replies in a line.
-fn sum_up(
-    alloc: Global,
-    start: u64,
-    count: u32,
-    protocol: Protocol,
-    list: &[Command],
-) -> Result<Vec<u8>, Failure<'static>>
-    requires { All (Suits (default_config protocol).page_bytes) list.now }
-    ensures ok { IfOk result (λ line. (replies : List ℕ) × RepliesFresh protocol list.now replies
-        × (line.items ≡ summary_line start count protocol (length list.now) replies)) }
-    ensures err { IfErr result (λ e. e ≡ Failure.Memory) }
-{
-    let replies = serve_fresh(alloc, protocol, list)?;
-    let mut line = Vec::new(alloc);
-    summary(
-        alloc,
-        start,
-        count,
-        protocol,
-        list,
-        replies.as_slice(),
-        &mut line,
-    )?;
-    Ok(line)
-}
-
-/// Serves commands on a fresh device, and answers the replies.
-fn serve_fresh(
-    alloc: Global,
-    protocol: Protocol,
-    list: &[Command],
-) -> Result<Lines, Failure<'static>>
-    requires { All (Suits (default_config protocol).page_bytes) list.now }
-    ensures ok { IfOk result (RepliesFresh protocol list.now) }
-    ensures err { IfErr result (λ e. e ≡ Failure.Memory) }
-{
-    let config = default_config(protocol);
-    let blank = blank_flash(alloc, config)?;
-    let ServedFlash { flash, replies } = serve_flash(alloc, blank, config, list)?;
-    drop(flash);
-    Ok(replies)
-}
-
-/// Leaves the memory of commands to the end of the program, which is near: to give that of each command back would
-/// take longer than to make them, and nothing is to be put there.
-pub fn leak_at_exit<T: Drop>(list: Vec<T>) {
-    forget(list);
 }

@@ -5,10 +5,12 @@ mod generator;
 mod hexadecimal;
 mod kind;
 mod line;
+mod running_tally;
 mod tally;
 mod transaction;
 mod words;
 mod work;
 
 pub use line::summary;
-pub use work::commands;
+pub use running_tally::RunningTally;
+pub use work::{Work, commands};

@@ -1,6 +1,7 @@
-ghost use Rattle.std.specs.Prelude.{◌≡◌, ◌∷◌, [], ◌++◌, length, OnOk, OnErr};
+ghost use Rattle.std.specs.Prelude.{◌≡◌, ℕ, List, ◌∷◌, [], ◌++◌, length, OnOk, OnErr};
 ghost use Rattle.std.specs.Fmt.{decimal};
 ghost use Rattle.host_protocol.specs.Replies.{line_of};
+ghost use Rattle.drive_gen.specs.Counting.{IsTally};
 ghost use Rattle.drive_gen.specs.Summary.{asked_words, flash_words, sum_words, summary_line, protocol_word, spaced};
 ghost use Rattle.drive_gen.specs.Tally.{tally_words};
 
@@ -34,7 +35,7 @@ pub fn summary(
     Ok(())
 }
 
-/// Adds the line. Behind a part for which memory is wanting the others are tried too.
+/// Adds the line.
 fn add_summary(
     start: u64,
     count: u32,
@@ -47,8 +48,24 @@ fn add_summary(
         ≡ line.old.items ++ summary_line start count protocol commands replies.now) }
 {
     let (tally, stats) = count_lines(replies);
+    add_counted(start, count, protocol, commands, &tally, stats, line)
+}
+
+/// Adds the line of what was counted. Behind a part for which memory is wanting the others are tried too.
+pub fn add_counted(
+    start: u64,
+    count: u32,
+    protocol: Protocol,
+    commands: usize,
+    tally: &Tally,
+    stats: &[u8],
+    line: &mut Vec<u8>,
+) -> Result<(), AllocError>
+    ensures { (replies : List ℕ) → IsTally replies tally.now stats.now → OnOk result (line.new.items
+        ≡ line.old.items ++ summary_line start count protocol commands replies) }
+{
     add_asked(start, count, protocol, commands, line)
-        .and(add_counts(&tally, line))
+        .and(add_counts(tally, line))
         .and(add_flash(stats, line))
         .and(add_sum(tally.sum, line))
 }

@@ -1,11 +1,13 @@
-ghost use Rattle.std.specs.Prelude.{◌≡◌, [], ◌∷◌, codes, if◌then◌else◌};
+ghost use Rattle.std.specs.Prelude.{◌≡◌, ◌+◌, true, false, [], ◌∷◌, codes, if◌then◌else◌, IfOk, IfSome};
 ghost use Rattle.host_protocol.specs.Lines.{lines_of};
+ghost use Rattle.drive_gen.specs.Counting.{AddsLine};
 ghost use Rattle.drive_gen.specs.Summary.{begins_with, last_stats, page_sum, word_or};
 ghost use Rattle.drive_gen.specs.Tally.{IsCounted, plus, tally_of};
 
 use crate::hexadecimal::sum_of_bytes;
 use crate::words::{leading_word, word_at};
-use host_protocol::first_line;
+use host_protocol::{Reply, first_line};
+use tx_types::Memory;
 
 /// What is counted of the lines of replies.
 #[derive(Clone, Copy, PartialEq, Eq)]
@@ -29,14 +31,7 @@ pub fn count_lines(replies: &[u8]) -> (Tally, &[u8])
     ensures tally { result.0 ≡ tally_of (lines_of replies.now) }
     ensures stats { result.1.now ≡ last_stats (lines_of replies.now) }
 {
-    let mut tally = Tally {
-        done: 0,
-        aborted: 0,
-        cut: 0,
-        refused: 0,
-        unknown: 0,
-        sum: 0,
-    };
+    let mut tally = Tally::none();
     let mut stats = &replies[..0];
     let mut rest = replies;
     while let Some((line, behind)) = first_line(rest) {
@@ -63,6 +58,55 @@ fn later_stats<'a>(before: &'a [u8], line: &'a [u8], word: &[u8]) -> &'a [u8]
 }
 
 impl Tally {
+    /// No line was counted.
+    pub fn none() -> Tally
+        ensures { result ≡ tally_of [] }
+    {
+        Tally {
+            done: 0,
+            aborted: 0,
+            cut: 0,
+            refused: 0,
+            unknown: 0,
+            sum: 0,
+        }
+    }
+
+    /// Counts the line of a reply, if it is of one of the kinds that come most often, and answers whether it was
+    /// counted. There is no memory for a count that is too large.
+    #[inline(always)]
+    pub fn add_frequent(&mut self, reply: &Reply) -> Result<bool, Memory>
+        ensures counted { IfOk result (λ counted. counted ≡ true → AddsLine reply.now self.old self.new) }
+        ensures other { IfOk result (λ counted. counted ≡ false → self.new ≡ self.old) }
+    {
+        match reply {
+            Reply::Opened(_, _) => Ok(true),
+            Reply::Done(_) => {
+                self.done = one_more(self.done)?;
+                Ok(true)
+            }
+            Reply::Aborted(_) => {
+                self.aborted = one_more(self.aborted)?;
+                Ok(true)
+            }
+            _ => Ok(false),
+        }
+    }
+
+    /// Both counts together, unless one is too large.
+    pub fn checked_plus(self, other: Tally) -> Option<Tally>
+        ensures { IfSome result (λ both. both ≡ plus self other) }
+    {
+        Some(Tally {
+            done: self.done.checked_add(other.done)?,
+            aborted: self.aborted.checked_add(other.aborted)?,
+            cut: self.cut.checked_add(other.cut)?,
+            refused: self.refused.checked_add(other.refused)?,
+            unknown: self.unknown.checked_add(other.unknown)?,
+            sum: self.sum.checked_add(other.sum)?,
+        })
+    }
+
     /// Both counts together.
     fn plus(self, other: Tally) -> Tally
         requires { IsCounted (plus self other) }
@@ -77,6 +121,13 @@ impl Tally {
             sum: self.sum + other.sum,
         }
     }
+}
+
+/// One more than a count, unless it is the greatest.
+fn one_more(count: u64) -> Result<u64, Memory>
+    ensures { IfOk result (λ more. more ≡ count + 1) }
+{
+    count.checked_add(1).ok_or(Memory)
 }
 
 /// The counts of one line. `word` is its first word.

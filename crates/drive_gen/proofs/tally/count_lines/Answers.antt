@@ -1,10 +1,11 @@
 use Rattle.drive_gen.proofs.Common.{sym, ◌∙◌, ap, arith, lines_of, plus, tally_of}
-use Rattle.drive_gen.proofs.tally.count_lines.Invariants.TallyLemmas.{last_begin, some_small, tally_begin, tally_small}
+use Rattle.drive_gen.proofs.TallyLemmas.{last_begin, some_small, tally_begin, tally_small}
 use Rattle.drive_gen.proofs.tally.count_lines.Goals as goal
 
 pub loop-line-init : goal.loop-line-init
 loop-line-init c = record {
-  tally = tally_begin (tally_of (lines_of c.args.replies.now));
+  tally = ap (λ t. plus t (tally_of (lines_of c.args.replies.now))) c.none-tally.ensures
+      ∙ tally_begin (tally_of (lines_of c.args.replies.now));
   stats = last_begin (lines_of c.args.replies.now);
 }
 

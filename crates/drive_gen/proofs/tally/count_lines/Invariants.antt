@@ -1,7 +1,5 @@
-mod SizeLemmas
-pub mod TallyLemmas
 use Rattle.drive_gen.proofs.Common.{◌≡◌, length, lines_of, last_stats, plus, tally_of}
-use Rattle.drive_gen.proofs.tally.count_lines.Invariants.TallyLemmas.{last_from}
+use Rattle.drive_gen.proofs.TallyLemmas.{last_from}
 use Rattle.drive_gen.proofs.tally.count_lines.Given as goal
 
 abbrev pub invariant-loop-line : goal.invariant-loop-line
