@@ -18,8 +18,11 @@ pub struct RealStore {
 }
 
 impl RealStore {
-    /// The store that is this file. It is read and written at offsets, wherever the file's own position is.
-    pub fn new(file: File) -> RealStore {
+    /// The store that is this file, of which no call has failed. It is read and written at offsets, wherever the file's
+    /// own position is.
+    pub fn new(file: File) -> RealStore
+        ensures { result.faults ≡ 0 }
+    {
         RealStore { file, faults: 0 }
     }
 }

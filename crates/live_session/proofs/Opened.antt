@@ -141,10 +141,10 @@ module _ (file now : Option FileState) (faults : ℕ) (bytes : List ℕ) (config
 
   -- its live file took its place
   pub begins : (f : FileFlashState) → f ≡ flash → memory ≡ loaded (shape_of config) memory.image memory.extras →
-      Turns file now old new (live_bytes flash) (Ok tt) → OpensHeld file old new (Ok f)
-  begins f is load turned = subst (λ (x : FileFlashState). OpensHeld file old new (Ok x)) (sym is) (
+      faults ≡ 0 → Turns file now old new (live_bytes flash) (Ok tt) → OpensHeld file old new (Ok f)
+  begins f is load fresh turned = subst (λ (x : FileFlashState). OpensHeld file old new (Ok x)) (sym is) (
     turned.0,
-    record { says = says; memory = load; waiting = refl; failed = refl; durable = turned.1 },
+    record { says = says; memory = load; waiting = refl; failed = refl; fresh = fresh; durable = turned.1 },
   )
 
   -- and then there was no memory

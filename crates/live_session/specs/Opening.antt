@@ -37,13 +37,15 @@ pub record SaysHeld (old : Option FileState) (f : FileFlashState) : Type 0 where
   pub reads : IfSome old (ReadsFile bytes)
   pub said : SaysFlash bytes f
 
--- A file is opened: its bytes say this flash, and nothing waits. Its file is now the live file of the flash: a loss leaves
--- that to the byte, so each slot is as it is in memory, and all bytes of a blank one are erased.
+-- A file is opened: its bytes say this flash, and nothing waits. Its file is now the live file of the flash: a loss
+-- leaves that to the byte, so each slot is as it is in memory, and all bytes of a blank one are erased. No call of it has
+-- failed then.
 pub record Opens (old : Option FileState) (f : FileFlashState) : Type 0 where
   pub says : SaysHeld old f
   pub memory : f.memory ≡ loaded (shape_of f.config) f.memory.image f.memory.extras
   pub waiting : f.waiting ≡ []
   pub failed : f.failed ≡ false
+  pub fresh : f.faults ≡ 0
   pub durable : store.BothTell (λ before. IsDurable (live_bytes f)) old f.file
 
 -- Why these bytes say no flash, where they begin as a live file or not. There may have been no memory.
@@ -52,8 +54,8 @@ RefusesBytes bytes true e = RefusesLive bytes e
 RefusesBytes bytes false (error.Image rule) = IsRefusal (broken_in_use bytes) rule
 RefusesBytes bytes false (error.Count at) = ⊥
 
--- a file is refused: by the first rule of live files that its bytes break, where they begin as one, or else by the first
--- of image files in use; or for want of memory
+-- a file is refused: by the first rule of live files that its bytes break, where they begin as one, or else by the
+-- first of image files in use; or for want of memory
 pub record Refuses (old : Option FileState) (e : LiveError) : Type 0 where
   pub bytes : List ℕ
   pub reads : IfSome old (ReadsFile bytes)

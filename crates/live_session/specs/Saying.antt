@@ -43,7 +43,8 @@ put_if false f puts = puts
 abbrev pub with_closed : Bool → FileFlashState → DeskTold → DeskTold
 with_closed put f c = record c { puts = put_if put f c.puts; left = Some f }
 
--- A loss leaves of the file that was closed the image file of its flash, to the byte, and this was put at its name last.
+-- A loss leaves of the file that was closed the image file of its flash, to the byte, and this was put at its name
+-- last.
 abbrev pub IsSpelledLeft : DeskTold → Type 0
 IsSpelledLeft c =
     (f : FileFlashState) × (c.left ≡ Some f) × (f.failed ≡ false)

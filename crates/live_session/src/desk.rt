@@ -1,4 +1,4 @@
-ghost use Rattle.std.specs.Prelude.{◌≡◌, ◌≤◌, length, OnOk, Some, None};
+ghost use Rattle.std.specs.Prelude.{◌≡◌, ◌≤◌, length, IfOk, OnOk, Some, None};
 ghost use Rattle.file_flash.specs.FileFlashState.{FileFlashState};
 ghost use Rattle.host_protocol.specs.Lines.{HasNoFeed};
 ghost use Rattle.live_session.specs.LineDesk.{LineDeskState, Claims, Closes, ReadsLine, Replaces, Says};
@@ -62,9 +62,10 @@ pub trait LineDesk<S: Store + Drop, F: Shown + Drop> {
     ghost state: { Self → LineDeskState };
 
     /// Opens the file of this name for reading and writing, as it stands, and holds it against other programs until it
-    /// is closed.
+    /// is closed. No call of it has failed then.
     fn claim(&mut self, name: &str) -> Result<S, ClaimError>
-        ensures { Claims S.told (state self.old) (state self.new) name.now result };
+        ensures claims { Claims S.told (state self.old) (state self.new) name.now result }
+        ensures fresh { IfOk result (λ file. S.faults file ≡ 0) };
 
     /// Waits for the next line of the input, and puts its bytes there, without its line feed.
     fn next_line(&mut self, line: &mut Vec<u8>) -> Result<Next, CallError>
@@ -82,9 +83,12 @@ pub trait LineDesk<S: Store + Drop, F: Shown + Drop> {
         ensures { Says (Some (F.seen flash.now)) (state self.old) (state self.new) bytes.now result };
 
     /// Puts a new file with these bytes at the name of the one that is held, and holds it in the other's stead, without
-    /// letting go in between. Once this is done the bytes are durable, and so is that they are at the name.
+    /// letting go in between. Once this is done the bytes are durable, and so is that they are at the name, and no call
+    /// of the new file has failed.
     fn replace(&mut self, file: &mut S, bytes: &[u8]) -> Result<(), CallError>
-        ensures { Replaces (S.told file.old) (S.told file.new) (state self.old) (state self.new) bytes.now result };
+        ensures replaces { Replaces (S.told file.old) (S.told file.new) (state self.old) (state self.new)
+            bytes.now result }
+        ensures fresh { OnOk result (S.faults file.new ≡ 0) };
 
     /// Puts a new file with these bytes at the name of that of a flash, in the same way, and closes it.
     fn close(&mut self, flash: F, bytes: &[u8]) -> Result<(), CallError>

@@ -158,6 +158,7 @@ fn turn<S: Store + Drop, D: LineDesk<S, LiveFlash<S>>>(
     requires { checked config.now ≡ Ok memory.now.shape }
     ensures turns { Turns (S.told file.old) (S.told file.new) (D.state desk.old) (D.state desk.new)
         (live_spelling config.now memory.now.image memory.now.extras) result }
+    ensures fresh { OnOk result (S.faults file.new ≡ 0) }
     ensures bytes { OnOk result (All (λ b. b < 256) (live_spelling config.now memory.now.image memory.now.extras)) }
 {
     match write_live(alloc, config, memory) {
@@ -178,6 +179,7 @@ fn replace<S: Store + Drop, D: LineDesk<S, LiveFlash<S>>>(
 ) -> Result<(), CallError>
     ensures replaces { Replaces (S.told file.old) (S.told file.new) (D.state desk.old) (D.state desk.new)
         bytes.now result }
+    ensures fresh { OnOk result (S.faults file.new ≡ 0) }
     ensures bytes { All (λ b. b < 256) bytes.now }
 {
     desk.replace(file, bytes)

@@ -47,7 +47,9 @@ impl<'a, I: Read + Drop, O: Write + Drop> RealLineDesk<'a, I, O> {
         rt: &'a HostRuntime,
         input: BufReader<I>,
         output: BufWriter<O>,
-    ) -> RealLineDesk<'a, I, O> {
+    ) -> RealLineDesk<'a, I, O>
+        ensures { result.faults ≡ 0 }
+    {
         RealLineDesk {
             rt,
             input,
@@ -185,7 +187,9 @@ fn answer_close(renewed: io::Result<File>) -> Result<(), CallError>
 
 /// Opens the file to which a name leads, and takes its lock, as a save does. A file that another one took the place of
 /// in between is in use by who put that there.
-fn claim(rt: &HostRuntime, name: &str, held: &mut Option<Held>) -> Result<RealStore, ClaimError> {
+fn claim(rt: &HostRuntime, name: &str, held: &mut Option<Held>) -> Result<RealStore, ClaimError>
+    ensures { IfOk result (λ store. store.faults ≡ 0) }
+{
     let file = open(rt, name).map_err(claim_error)?;
     if matches!(file.take_lock(), Ok(Lock::Elsewhere)) {
         return Err(ClaimError::InUse);
