@@ -11,7 +11,8 @@ that 99 of 100 stay below, in microseconds by the clock. It has what this script
 the row of `cat` has alone. The last column is the median of the processor time that the program took for a line, its
 calls of the system with it, by the system's count (`/proc/PID/schedstat`). The row of the calls alone has what a
 `finish` of one page asks of the file, a write and a sync, made by this script on a file beside it, in turn with the
-lines. The rows of 16 pages of 4096 bytes are a line of 131 KB and its `finish`, and what that asks of the file.
+lines. The rows of 16 pages of 4096 bytes are a line of 131 KB and its `finish`, and what that asks of the file: a write
+for each of two dies, of 8 slots, and a sync.
 `taskset` and `chrt` before all this keep other work away.
 
 An opening is from the start of the program to `serving`, of images of 128 MB, and a closing from the end of the input
@@ -117,12 +118,12 @@ def replies(exe: str, where: str, folder: str, name: str, image: bytes, rounds: 
     os.close(bare)
 
 
-def bare_calls(file: int, number: int, size: int, page: int = 16, pages: int = 1) -> Taken:
-    """What a `finish` of pages asks of a file of about this size: a write of each slot, and a sync."""
-    own = page + SPARE + 4
-    slots = (size - 64) // own
-    places = [64 + own * ((number * pages + it) % slots) for it in range(pages)]
-    data = bytes([number % 256]) * own
+def bare_calls(file: int, number: int, size: int, page: int = 16, pages: int = 1, dies: int = 1) -> Taken:
+    """What a `finish` of pages asks of a file of about this size: a write of the slots of each die, and a sync."""
+    own, run = page + SPARE + 4, pages // dies
+    runs = (size - 64) // (own * pages)
+    places = [64 + own * run * (runs * it + number % runs) for it in range(dies)]
+    data = bytes([number % 256]) * own * run
     before, begun = time.thread_time_ns(), time.perf_counter_ns()
     for place in places:
         os.pwrite(file, data, place)
@@ -144,7 +145,7 @@ def whole_pages(exe: str, where: str, folder: str, rounds: int) -> None:
         pages = ["%d=%s" % (page, ("%02x%02x" % (page, number % 256)) * (WIDE[0] // 2)) for page in range(PAGES)]
         times["`write`"].append(served.ask(("write 1 %s\n" % " ".join(pages)).encode()))
         times["`finish`"].append(served.ask(b"finish 1\n"))
-        times["the calls alone"].append(bare_calls(bare, number, len(image), WIDE[0], PAGES))
+        times["the calls alone"].append(bare_calls(bare, number, len(image), WIDE[0], PAGES, WIDE[3]))
     for what, found in times.items():
         print_row("%s, %d pages of %d bytes" % (what, PAGES, WIDE[0]), where, found)
     served.end()

@@ -4,7 +4,7 @@
  *     bare measure WAY FILE N COUNT  how long each of COUNT transactions of N pages took, as `commits measure` says it
  *
  * WAY is `lines`: FLASH_SERVE_PROGRAM serves the image FILE, and is given the lines that the VFS makes of a commit; or
- * `calls`: this makes the calls that flash_serve makes for it, N writes of a slot and one sync, on FILE. */
+ * `calls`: this makes the calls that flash_serve makes for it, one write of N slots and one sync, on FILE. */
 
 #include "pieces.h"
 #include "measuring.h"
@@ -73,14 +73,15 @@ static void give_lines(const int *pages, const unsigned char *bytes, int count) 
     hear("done 1\n");
 }
 
-/* A device programs one slot behind the other, whatever the pages. */
+/* A device programs one slot behind the other, whatever the pages, and writes them by one call. */
 static void make_calls(const unsigned char *bytes, int count) {
-    static unsigned char slot[SLOT_BYTES];
+    static unsigned char slots[256 * SLOT_BYTES];
     static int next;
-    memcpy(slot, bytes, PAGE_BYTES);
-    for (int i = 0; i < count; i++, next = (next + 1) % SLOTS) {
-        check(pwrite(bare_file, slot, SLOT_BYTES, 64 + (off_t)SLOT_BYTES * next) == SLOT_BYTES, "the file");
-    }
+    for (int i = 0; i < count; i++) memcpy(slots + i * SLOT_BYTES, bytes, PAGE_BYTES);
+    if (next + count > SLOTS) next = 0;
+    ssize_t size = (ssize_t)SLOT_BYTES * count;
+    check(pwrite(bare_file, slots, (size_t)size, 64 + (off_t)SLOT_BYTES * next) == size, "the file");
+    next = (next + count) % SLOTS;
     check(fdatasync(bare_file) == 0, "the file");
 }
 

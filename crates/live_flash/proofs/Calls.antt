@@ -1,7 +1,7 @@
 -- What each call of the file means for the slots.
-use Rattle.live_flash.proofs.Common.{◌≡◌, ◌⊎◌, ℕ, ◌+◌, ◌*◌, ◌<◌, ◌≤◌, List, [], ◌∷◌, ◌++◌, length, Option, Some, None, Result, Ok, Err, OnOk, IfSome, All, refl, sym, subst, inl, inr, arith, slots_of, Shape, Slot, Contents, blank, damaged, complete, slot_at, IsWhole, IsImage, cell_bytes, cell_of, StoreError, FileState, MayWrite, WritesFile, BothTell, counted, erased, slot_bytes, slot_offset, IsOpened, IsSlot, Holds, IsTurning, TurnsSlot}
-use Rattle.std.proofs.lemmas.List.{length-replicate, get_or_default}
-use Rattle.std.proofs.lemmas.List.Elements.{All-replicate, All-get_or}
+use Rattle.live_flash.proofs.Common.{◌≡◌, ◌⊎◌, ℕ, ◌+◌, ◌-◌, ◌*◌, ◌<◌, ◌≤◌, List, [], ◌∷◌, ◌++◌, length, get_or, set, Option, Some, None, Result, Ok, Err, OnOk, IfSome, All, refl, sym, ap, subst, ◌∙◌, inl, inr, arith, slots_of, Shape, Slot, Contents, blank, damaged, complete, slot_at, IsWhole, IsImage, cell_bytes, cell_of, StoreError, FileState, WritesFile, BothTell, counted, erased, slot_bytes, slot_offset, last_of, IsOpened, IsSlot, Holds, IsTurning, TurnsSlot}
+use Rattle.std.proofs.lemmas.List.{length-replicate, length-set, get_or-set_same, get_or_default}
+use Rattle.std.proofs.lemmas.List.Elements.{All-replicate, All-set}
 use Rattle.list_lemmas.proofs.Bytes.{IsBytes, IsBytes-all}
 use Rattle.image_file.proofs.ImageLemmas.{length-cell_of}
 use Rattle.flash_model.specs.Calls.{seen_of}
@@ -10,9 +10,9 @@ use Rattle.file_flash.specs.Clearing.{IsBare}
 use Rattle.file_flash.proofs.Told.{weaken}
 use Rattle.file_flash.proofs.Writing.{may_write}
 use Rattle.zero_count.proofs.WholeLemmas.{length_counted, counted_bytes}
-use Rattle.live_image.proofs.Reading.{written_counted, written_complete, erased_less, erased_blank}
+use Rattle.live_image.proofs.Reading.{written_counted, written_complete, erased_less, erased_blank, damaged_by_last}
 use Rattle.live_flash.proofs.Places.{others_stay, header_stays, slot_end}
-use Rattle.live_flash.proofs.Turning.{held_turns, written_over, programmed_slot, erased_over, erased_slot, marked_over, marked_slot}
+use Rattle.live_flash.proofs.Turning.{held_turns, marked_over, marked_slot}
 
 -- ---- the bytes that are written
 
@@ -39,73 +39,41 @@ counted_slot page_bytes bytes spare_area whole most all =
 -- those of an erased one
 pub empty_slot : (page_bytes : ℕ) → IsSlot page_bytes blank (erased (slot_bytes page_bytes))
 empty_slot page_bytes = record {
-  long = length-replicate (slot_bytes page_bytes) (let set : ℕ = 255 in set);
+  long = length-replicate (slot_bytes page_bytes) (let ones : ℕ = 255 in ones);
   bytes = All-replicate (λ b. b < 256) (slot_bytes page_bytes) 255 (omega arith);
   counts = omega (arith, erased_less (page_bytes + 64));
   reads = erased_blank page_bytes (page_bytes + 64);
   empty = λ e. refl;
 }
 
--- ---- the calls
+-- those of a damaged one
+pub damaged_slot : (page_bytes : ℕ) → page_bytes ≤ 4096 →
+    IsSlot page_bytes damaged (set (erased (slot_bytes page_bytes)) (slot_bytes page_bytes - 1) 128)
+damaged_slot page_bytes most =
+    let full : length (erased (slot_bytes page_bytes)) ≡ slot_bytes page_bytes =
+    length-replicate {A = ℕ} (slot_bytes page_bytes) 255 in
+    let long : length (set (erased (slot_bytes page_bytes)) (slot_bytes page_bytes - 1) 128) ≡ slot_bytes page_bytes =
+    length-set (erased (slot_bytes page_bytes)) (slot_bytes page_bytes - 1) 128 ∙ full in
+    let last : last_of (set (erased (slot_bytes page_bytes)) (slot_bytes page_bytes - 1) 128) ≡ 128 =
+    ap (λ n. get_or (set (erased (slot_bytes page_bytes)) (slot_bytes page_bytes - 1) 128) (n - 1) 0) long
+    ∙ get_or-set_same (erased (slot_bytes page_bytes)) (slot_bytes page_bytes - 1) 128 0 (omega (arith, full)) in
+    let d = damaged_by_last page_bytes (set (erased (slot_bytes page_bytes)) (slot_bytes page_bytes - 1) 128)
+    (omega (arith, long)) (omega (arith, long, most)) last in
+    record {
+      long = long;
+      bytes = All-set (λ b. b < 256) (erased (slot_bytes page_bytes)) (slot_bytes page_bytes - 1) 128 (omega arith)
+          (All-replicate (λ b. b < 256) (slot_bytes page_bytes) 255 (omega arith));
+      counts = d.1;
+      reads = d.0;
+      empty = λ e. absurd (cc);
+    }
 
-no_offset : (shape : Shape) (at : ℕ) → slot_offset shape at ≡ slot_offset shape at + 0
-no_offset shape at = omega arith
+-- ---- the call that marks a slot
 
 module _ (shape : Shape) (at : ℕ) (r : Result (Unit {0}) StoreError) (before after : FileState)
     (most : shape.page_bytes ≤ 4096) where
   room : slot_bytes shape.page_bytes ≤ 268435459
   room = omega (arith, most)
-
-  -- a whole slot is written over an erased one
-  pub program_turns : (c : Contents) (new : List ℕ) → IsSlot shape.page_bytes c new →
-      WritesFile (slot_offset shape at) new r before after → TurnsSlot shape at blank c r before after
-  program_turns c new is w =
-      let may : MayWrite (slot_offset shape at) new before after =
-      may_write (slot_offset shape at) new r before after w in
-      let may' : MayWrite (slot_offset shape at + 0) new before after =
-      subst (λ offset. MayWrite offset new before after) (no_offset shape at) may in
-      let fits : 0 + length new ≤ slot_bytes shape.page_bytes = omega (arith, is.long) in
-      record {
-        long = may.long;
-        copies = may.copies;
-        header = header_stays shape at 0 new before after fits may';
-        others = others_stay shape at 0 new before after fits may';
-        either = λ h. written_over shape at c new before after room is h may;
-        turns = λ h. done r w h;
-      }
-    where
-      done : (x : Result (Unit {0}) StoreError) → WritesFile (slot_offset shape at) new x before after →
-          Holds shape blank before at → OnOk x (IsTurning shape blank c after at)
-      done (Err e) x h = tt
-      done (Ok u) x h = programmed_slot shape at c new before after room is h x
-
-  -- an erased slot is written over any
-  pub erase_turns : (old : Contents) →
-      WritesFile (slot_offset shape at) (erased (slot_bytes shape.page_bytes)) r before after →
-      TurnsSlot shape at old blank r before after
-  erase_turns old w =
-      let new : List ℕ = erased (slot_bytes shape.page_bytes) in
-      let is = empty_slot shape.page_bytes in
-      let may : MayWrite (slot_offset shape at) (erased (slot_bytes shape.page_bytes)) before after =
-      may_write (slot_offset shape at) (erased (slot_bytes shape.page_bytes)) r before after w in
-      let may' : MayWrite (slot_offset shape at + 0) (erased (slot_bytes shape.page_bytes)) before after =
-      subst (λ offset. MayWrite offset (erased (slot_bytes shape.page_bytes)) before after) (no_offset shape at) may in
-      let fits : 0 + length (erased (slot_bytes shape.page_bytes)) ≤ slot_bytes shape.page_bytes =
-      omega (arith, is.long) in
-      record {
-        long = may.long;
-        copies = may.copies;
-        header = header_stays shape at 0 (erased (slot_bytes shape.page_bytes)) before after fits may';
-        others = others_stay shape at 0 (erased (slot_bytes shape.page_bytes)) before after fits may';
-        either = λ h. erased_over shape at old before after room is h may;
-        turns = λ h. done r w h;
-      }
-    where
-      done : (x : Result (Unit {0}) StoreError) →
-          WritesFile (slot_offset shape at) (erased (slot_bytes shape.page_bytes)) x before after →
-          Holds shape old before at → OnOk x (IsTurning shape old blank after at)
-      done (Err e) x h = tt
-      done (Ok u) x h = erased_slot shape at old before after room (empty_slot shape.page_bytes) h x
 
   -- the last byte of any is written
   pub mark_turns : (old : Contents) →
@@ -202,17 +170,6 @@ module _ (shape : Shape) (image : List Contents) (is : IsImage shape image) (at 
   most : shape.page_bytes ≤ 4096
   most = is.bounds.page_most
 
-  pub program_told : Complete ≡ seen_of c → All (λ b. b < 256) (cell_of shape.page_bytes c) →
-      BothTell (WritesFile (slot_offset shape at.0) (counted (cell_of shape.page_bytes c)) r) before after →
-      BothTell (TurnsSlot shape at.0 blank c r) before after
-  program_told reads all told =
-      let whole : IsWhole shape.page_bytes c = All-get_or (IsWhole shape.page_bytes) image at.0 blank
-      (omega (arith, is.slots, exists)) is.whole in
-      told_as (WritesFile (slot_offset shape at.0) (counted (cell_of shape.page_bytes c)) r)
-      (TurnsSlot shape at.0 blank c r) before after told
-      (λ a b w. program_turns shape at.0 r a b most c (counted (cell_of shape.page_bytes c))
-      (written_is shape.page_bytes c reads whole most all) w)
-
   pub mark_told : (its : Shape) (old : Contents) → its ≡ shape → Damaged ≡ seen_of c →
       BothTell (WritesFile (slot_offset its at.0 + (cell_bytes its.page_bytes + 3)) (128 ∷ []) r) before after →
       BothTell (TurnsSlot shape at.0 old c r) before after
@@ -223,17 +180,6 @@ module _ (shape : Shape) (image : List Contents) (is : IsImage shape image) (at 
       before after) same told)
       (λ a b w. subst (λ x. TurnsSlot shape at.0 old x r a b) (sym (damaged_read c reads))
       (mark_turns shape at.0 r a b most old w))
-
-  pub erase_told : (its : Shape) (old : Contents) → its ≡ shape → Blank ≡ seen_of c →
-      BothTell (WritesFile (slot_offset its at.0) (erased (slot_bytes its.page_bytes)) r) before after →
-      BothTell (TurnsSlot shape at.0 old c r) before after
-  erase_told its old same reads told =
-      told_as (WritesFile (slot_offset shape at.0) (erased (slot_bytes shape.page_bytes)) r)
-      (TurnsSlot shape at.0 old c r) before after
-      (subst (λ (s : Shape). BothTell (WritesFile (slot_offset s at.0) (erased (slot_bytes s.page_bytes)) r)
-      before after) same told)
-      (λ a b w. subst (λ x. TurnsSlot shape at.0 old x r a b) (sym (blank_read c reads))
-      (erase_turns shape at.0 r a b most old w))
 
   pub keep_told : (old : Contents) → Complete ≡ seen_of c → (c ≡ old) ⊎ IsBare c →
       BothTell (TurnsSlot shape at.0 old c (Ok tt)) before before

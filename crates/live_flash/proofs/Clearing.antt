@@ -78,7 +78,39 @@ tears_lose shape old new first upto file is long t = lose_between shape old new 
         LeavesEither shape (slot_at old k) (slot_at new k) file k
     held_either k h left l = let r = held_reads shape (slot_at old k) file k h left l in (r.0, inl r.1)
 
--- once all are durable
+-- ---- all are written at once
+
+module _ (shape : Shape) (old new : List Contents) (first count : ℕ) (file file' : FileState)
+    (others : (k j : ℕ) → (k < first) ⊎ (first + count ≤ k) → j < slot_bytes shape.page_bytes →
+    slot_values shape file' k j ≡ slot_values shape file k j)
+    (f : Follows shape old [] [] file) where
+  still : (k : ℕ) → k < length old → (k < first) ⊎ (first + count ≤ k) → Holds shape (slot_at old k) file' k
+  still k low side = held_same shape (slot_at old k) file k (f.keeps k low refl refl) file'
+      (λ j within. others k j side within)
+
+  pub all_torn : ((k : ℕ) → k < length old → first ≤ k → k < first + count →
+      IsTurning shape (slot_at old k) (slot_at new k) file' k) → Tears shape old new first (first + count) file'
+  all_torn turns = record { inside = turns; outside = still }
+
+  -- or may be
+  pub all_lose : IsImage shape old → length file'.values ≡ live_bytes shape →
+      ((k : ℕ) → k < length old → first ≤ k → k < first + count →
+      LeavesEither shape (slot_at old k) (slot_at new k) file' k) → LosesBetween shape old new file'
+  all_lose is long either = lose_between shape old new file' is long
+      (λ k low. elim (cases_lt k first) [
+        | inl before ↦ held_either k (still k low (inl before))
+        | inr after ↦ elim (cases_lt k (first + count)) [
+          | inl torn ↦ either k low after torn
+          | inr past ↦ held_either k (still k low (inr past))
+        ]
+      ])
+    where
+      held_either : (k : ℕ) → Holds shape (slot_at old k) file' k →
+          LeavesEither shape (slot_at old k) (slot_at new k) file' k
+      held_either k h left l = let r = held_reads shape (slot_at old k) file' k h left l in (r.0, inl r.1)
+
+-- ---- once all are durable
+
 pub cleared : (shape : Shape) (old new : List Contents) (first count : ℕ) (file file' : FileState) →
     IsOpened shape file → Syncs file file' → IsCleared old new first count →
     Tears shape old new first (first + count) file → Follows shape new [] [] file'

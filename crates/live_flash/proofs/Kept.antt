@@ -1,5 +1,5 @@
 -- What a call keeps of the invariant of a flash that is a live file.
-use Rattle.live_flash.proofs.Common.{◌≡◌, ◌≤◌, ◌<◌, ℕ, true, false, [], length, map, Option, Ok, IfSome, sym, ap, subst, ◌∙◌, Shape, FileState, AreProgrammed, slot_bytes, IsOpened, IsLiveFile, Follows, LeavesCounted}
+use Rattle.live_flash.proofs.Common.{◌≡◌, ◌≤◌, ◌<◌, ℕ, true, false, [], length, map, Option, Ok, IfSome, sym, ap, subst, ◌∙◌, Shape, FileState, AreProgrammed, IsOpened, IsLiveFile, Follows, LeavesCounted}
 use Rattle.std.specs.Vec.{vec_capacity}
 use Rattle.std.proofs.lemmas.Bool.{both_ways}
 use Rattle.tx_types.specs.Config.{checked, shape_of}
@@ -8,7 +8,7 @@ use Rattle.live_file.specs.Spelling.{live_header}
 use Rattle.file_flash.specs.FileFlashState.{slot_loaded}
 use Rattle.file_flash.proofs.Keeping.{Stays}
 use Rattle.live_flash.specs.LiveFlash.{LiveFlashInvariant}
-use Rattle.live_flash.specs.Waiting.{HasRoom}
+use Rattle.live_flash.specs.Waiting.{HasRoom, room_bytes}
 use Rattle.live_flash.specs.declared.live_flash.LiveFlash.TheInside.{Inside}
 
 -- with whatever is loaded
@@ -39,10 +39,10 @@ module _ {S : Type 0} (told : S → Option FileState) (faults : S → ℕ) (f g 
       IfSome (told g.follower.store) (IsLiveFile f.memory.shape (live_header f.config f.memory.extras)) →
       (g.failed ≡ false → IfSome (told g.follower.store) (IsOpened g.memory.shape)) →
       (g.failed ≡ false → IfSome (told g.follower.store)
-      (Follows g.memory.shape g.memory.image g.follower.waiting.items [])) →
+      (Follows g.memory.shape g.memory.image [] g.follower.waiting.items)) →
       (g.failed ≡ false → AreProgrammed g.memory.image g.follower.waiting.items) →
       (g.failed ≡ true → 0 < faults g.follower.store) →
-      HasRoom f.memory.shape (vec_capacity g.follower.waiting) g.follower.waiting.items →
+      (g.failed ≡ false → HasRoom g.memory.shape (vec_capacity g.follower.waiting) g.follower.waiting.items) →
       LiveFlashInvariant told faults g
   loads_follow counts file opened follows programmed cause places = record {
     checks = subst (λ c. checked c ≡ Ok (shape_of c)) (sym config) i.checks;
@@ -55,8 +55,8 @@ module _ {S : Type 0} (told : S → Option FileState) (faults : S → ℕ) (f g 
     follows = follows;
     programmed = programmed;
     cause = cause;
-    places = subst (λ s. HasRoom s (vec_capacity g.follower.waiting) g.follower.waiting.items) (sym shape) places;
-    room = room ∙ i.room ∙ ap (λ (s : Shape). slot_bytes s.page_bytes) (sym shape);
+    places = places;
+    room = room ∙ i.room ∙ ap room_bytes (sym shape);
     loaded = loaded;
     dies = dies;
   }
@@ -64,11 +64,10 @@ module _ {S : Type 0} (told : S → Option FileState) (faults : S → ℕ) (f g 
   -- or has failed
   pub loads_failed : IfSome (told g.follower.store) (LeavesCounted f.memory.shape) →
       IfSome (told g.follower.store) (IsLiveFile f.memory.shape (live_header f.config f.memory.extras)) →
-      g.failed ≡ true → 0 < faults g.follower.store →
-      HasRoom f.memory.shape (vec_capacity g.follower.waiting) g.follower.waiting.items →
-      LiveFlashInvariant told faults g
-  loads_failed counts file failed cause places = loads_follow counts file (λ e. absurd (both_ways g.failed e failed))
-      (λ e. absurd (both_ways g.failed e failed)) (λ e. absurd (both_ways g.failed e failed)) (λ e. cause) places
+      g.failed ≡ true → 0 < faults g.follower.store → LiveFlashInvariant told faults g
+  loads_failed counts file failed cause = loads_follow counts file (λ e. absurd (both_ways g.failed e failed))
+      (λ e. absurd (both_ways g.failed e failed)) (λ e. absurd (both_ways g.failed e failed)) (λ e. cause)
+      (λ e. absurd (both_ways g.failed e failed))
 
   -- the slots are as before, and so is the file
   pub loads_same : g.memory.image ≡ f.memory.image → g.follower.store ≡ f.follower.store →
@@ -78,15 +77,16 @@ module _ {S : Type 0} (told : S → Option FileState) (faults : S → ℕ) (f g 
       (subst (λ t. IfSome t (IsLiveFile f.memory.shape (live_header f.config f.memory.extras))) (sym file) i.file)
       (λ e. subst (λ t. IfSome t (IsOpened g.memory.shape)) (sym file)
       (subst (λ s. IfSome (told f.follower.store) (IsOpened s)) (sym shape) (i.opened (failed e))))
-      (λ e. subst (λ t. IfSome t (Follows g.memory.shape g.memory.image g.follower.waiting.items [])) (sym file)
-      (subst (λ w. IfSome (told f.follower.store) (Follows g.memory.shape g.memory.image w [])) (sym waiting)
-      (subst (λ x. IfSome (told f.follower.store) (Follows g.memory.shape x f.follower.waiting.items [])) (sym image)
-      (subst (λ s. IfSome (told f.follower.store) (Follows s f.memory.image f.follower.waiting.items [])) (sym shape)
+      (λ e. subst (λ t. IfSome t (Follows g.memory.shape g.memory.image [] g.follower.waiting.items)) (sym file)
+      (subst (λ w. IfSome (told f.follower.store) (Follows g.memory.shape g.memory.image [] w)) (sym waiting)
+      (subst (λ x. IfSome (told f.follower.store) (Follows g.memory.shape x [] f.follower.waiting.items)) (sym image)
+      (subst (λ s. IfSome (told f.follower.store) (Follows s f.memory.image [] f.follower.waiting.items)) (sym shape)
       (i.follows (failed e))))))
       (λ e. subst (λ w. AreProgrammed g.memory.image w) (sym waiting)
       (subst (λ x. AreProgrammed x f.follower.waiting.items) (sym image) (i.programmed (failed e))))
       (λ e. subst (λ s. 0 < faults s) (sym store) (i.cause (sym fails ∙ e)))
-      (subst (λ w. HasRoom f.memory.shape (vec_capacity w) w.items) (sym wait) i.places)
+      (λ e. subst (λ s. HasRoom s (vec_capacity g.follower.waiting) g.follower.waiting.items) (sym shape)
+      (subst (λ w. HasRoom f.memory.shape (vec_capacity w) w.items) (sym wait) (i.places (failed e))))
     where
       file : told g.follower.store ≡ told f.follower.store
       file = ap told store
@@ -96,6 +96,22 @@ module _ {S : Type 0} (told : S → Option FileState) (faults : S → ℕ) (f g 
 
       failed : g.failed ≡ false → f.failed ≡ false
       failed e = sym fails ∙ e
+
+  -- programs are noted, and no call of the file is made
+  pub loads_noted : g.follower.store ≡ f.follower.store → g.failed ≡ f.failed → f.failed ≡ false →
+      IfSome (told g.follower.store) (Follows g.memory.shape g.memory.image [] g.follower.waiting.items) →
+      AreProgrammed g.memory.image g.follower.waiting.items →
+      HasRoom g.memory.shape (vec_capacity g.follower.waiting) g.follower.waiting.items →
+      LiveFlashInvariant told faults g
+  loads_noted store fails live follows programmed places = loads_follow
+      (subst (λ s. IfSome (told s) (LeavesCounted f.memory.shape)) (sym store) i.counts)
+      (subst (λ s. IfSome (told s) (IsLiveFile f.memory.shape (live_header f.config f.memory.extras))) (sym store) i.file)
+      (λ e. subst (λ s. IfSome (told s) (IsOpened g.memory.shape)) (sym store)
+      (subst (λ s. IfSome (told f.follower.store) (IsOpened s)) (sym shape) (i.opened live)))
+      (λ e. follows)
+      (λ e. programmed)
+      (λ e. absurd (both_ways f.failed live (sym fails ∙ e)))
+      (λ e. places)
 
 -- with what was loaded
 module _ {S : Type 0} (told : S → Option FileState) (faults : S → ℕ) (f g : Inside S)
@@ -112,16 +128,21 @@ module _ {S : Type 0} (told : S → Option FileState) (faults : S → ℕ) (f g 
       IfSome (told g.follower.store) (IsLiveFile f.memory.shape (live_header f.config f.memory.extras)) →
       (g.failed ≡ false → IfSome (told g.follower.store) (IsOpened g.memory.shape)) →
       (g.failed ≡ false → IfSome (told g.follower.store)
-      (Follows g.memory.shape g.memory.image g.follower.waiting.items [])) →
+      (Follows g.memory.shape g.memory.image [] g.follower.waiting.items)) →
       (g.failed ≡ false → AreProgrammed g.memory.image g.follower.waiting.items) →
       (g.failed ≡ true → 0 < faults g.follower.store) →
-      HasRoom f.memory.shape (vec_capacity g.follower.waiting) g.follower.waiting.items →
+      (g.failed ≡ false → HasRoom g.memory.shape (vec_capacity g.follower.waiting) g.follower.waiting.items) →
       LiveFlashInvariant told faults g
   still_follows = loads_follow told faults f g i config stays.shape stays.extras still_loaded still_dies room
 
   pub has_failed : IfSome (told g.follower.store) (LeavesCounted f.memory.shape) →
       IfSome (told g.follower.store) (IsLiveFile f.memory.shape (live_header f.config f.memory.extras)) →
-      g.failed ≡ true → 0 < faults g.follower.store →
-      HasRoom f.memory.shape (vec_capacity g.follower.waiting) g.follower.waiting.items →
-      LiveFlashInvariant told faults g
+      g.failed ≡ true → 0 < faults g.follower.store → LiveFlashInvariant told faults g
   has_failed = loads_failed told faults f g i config stays.shape stays.extras still_loaded still_dies room
+
+  pub still_noted : g.follower.store ≡ f.follower.store → g.failed ≡ f.failed → f.failed ≡ false →
+      IfSome (told g.follower.store) (Follows g.memory.shape g.memory.image [] g.follower.waiting.items) →
+      AreProgrammed g.memory.image g.follower.waiting.items →
+      HasRoom g.memory.shape (vec_capacity g.follower.waiting) g.follower.waiting.items →
+      LiveFlashInvariant told faults g
+  still_noted = loads_noted told faults f g i config stays.shape stays.extras still_loaded still_dies room

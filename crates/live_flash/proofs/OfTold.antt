@@ -1,22 +1,17 @@
 -- What holds of the file that is told, after each call of the follower.
-use Rattle.live_flash.proofs.Common.{◌≡◌, ℕ, suc, ◌<◌, ◌≤◌, ◌+◌, ◌==◌, true, false, List, [], ◌∷◌, ◌++◌, length, take, get_or, Option, Result, Ok, Err, OnOk, IfSome, refl, ap, subst, ◌∙◌, inr, ⊎_elim, arith, slots_of, Shape, Slot, Contents, blank, slot_at, IsImage, StoreError, FileState, values_at, Syncs, SyncsFile, BothTell, slots_in, AreProgrammed, IsOpened, IsLiveFile, IsTurning, TurnsSlot, Follows, LosesOnly, LosesBetween, Tears, sym, inl, ◌||◌, LeavesCounted}
-use Rattle.std.proofs.lemmas.Bool.{cases_Bool, both_ways, or_left, or_right}
+use Rattle.live_flash.proofs.Common.{◌≡◌, ◌⊎◌, ℕ, suc, ◌<◌, ◌≤◌, ◌+◌, ◌==◌, true, false, List, [], ◌∷◌, ◌++◌, length, take, get_or, Option, Result, Ok, Err, OnOk, IfSome, refl, ap, subst, ◌∙◌, inr, ⊎_elim, arith, Shape, Slot, Contents, blank, slot_at, IsImage, StoreError, FileState, values_at, Syncs, SyncsFile, BothTell, slots_in, IsOpened, IsLiveFile, LeavesEither, IsTurning, TurnsSlot, TurnsSlots, Follows, LosesOnly, LosesBetween, Tears, sym, inl, ◌||◌, LeavesCounted}
+use Rattle.std.proofs.Common.{append_assoc}
+use Rattle.std.proofs.lemmas.Bool.{cases_Bool, both_ways}
 use Rattle.std.proofs.lemmas.List.Folds.{list_any-append}
 use Rattle.file_flash.specs.Clearing.{IsCleared}
 use Rattle.file_flash.proofs.Programming.{Starts, in_front, only_front}
 use Rattle.file_flash.proofs.Told.{carry, carry_both, weaken, weaken_both}
 use Rattle.file_flash.proofs.Writing.{values_stay}
 use Rattle.live_flash.proofs.Losing.{follows_lose, same_left}
-use Rattle.live_flash.proofs.Following.{front_here, waits_now, lose_but, skip_follows, starts_follow, flushed}
-use Rattle.live_flash.proofs.Clearing.{none_torn, torn_next, torn_loses, tears_lose, cleared, cleared_loses}
+use Rattle.live_flash.proofs.Following.{in_left, follows_as, run_waits, run_loses, skip_follows, starts_follow, flushed}
+use Rattle.live_flash.proofs.Clearing.{none_torn, torn_next, torn_loses, all_torn, all_lose, tears_lose, cleared, cleared_loses}
 
 -- ---- lists of slots
-
-pub in_left : (xs ys : List Slot) (k : ℕ) → slots_in xs k ≡ true → slots_in (xs ++ ys) k ≡ true
-in_left xs ys k e = list_any-append (λ a. a.0 == k) xs ys ∙ or_left (slots_in xs k) (slots_in ys k) e
-
-pub in_right : (xs ys : List Slot) (k : ℕ) → slots_in ys k ≡ true → slots_in (xs ++ ys) k ≡ true
-in_right xs ys k e = list_any-append (λ a. a.0 == k) xs ys ∙ or_right (slots_in xs k) (slots_in ys k) e
 
 pub none_in : (slots : List Slot) (k : ℕ) → slots_in [] k ≡ true → slots_in slots k ≡ true
 none_in slots k e = absurd (both_ways false refl e)
@@ -31,6 +26,19 @@ module _ (shape : Shape) (at : ℕ) (c d : Contents) (r : Result (Unit {0}) Stor
 
   pub kept_turned : (head : List ℕ) → IfSome old (IsLiveFile shape head) → IfSome new (IsLiveFile shape head)
   kept_turned head f = carry (IsLiveFile shape head) (IsLiveFile shape head) (TurnsSlot shape at c d r) old new told f
+      (λ a b t it. record { long = t.long ∙ it.long; header = λ k inside. t.header k inside ∙ it.header k inside })
+
+-- ---- a write of slots that follow each other
+
+module _ (shape : Shape) (first count : ℕ) (c d : ℕ → Contents) (r : Result (Unit {0}) StoreError)
+    (old new : Option FileState) (told : BothTell (TurnsSlots shape first count c d r) old new) where
+  pub opened_run : IfSome old (IsOpened shape) → IfSome new (IsOpened shape)
+  opened_run o = carry (IsOpened shape) (IsOpened shape) (TurnsSlots shape first count c d r) old new told o
+      (λ a b t it. record { long = t.long ∙ it.long; copies = t.copies it.copies })
+
+  pub kept_run : (head : List ℕ) → IfSome old (IsLiveFile shape head) → IfSome new (IsLiveFile shape head)
+  kept_run head f = carry (IsLiveFile shape head) (IsLiveFile shape head) (TurnsSlots shape first count c d r)
+      old new told f
       (λ a b t it. record { long = t.long ∙ it.long; header = λ k inside. t.header k inside ∙ it.header k inside })
 
 -- ---- a sync
@@ -67,41 +75,66 @@ module _ (shape : Shape) (old new : Option FileState) where
           (λ same. same ∙ is)
           (s.each k)
 
+-- ---- slots that are due are written
+
+module _ (shape : Shape) (image : List Contents) (waiting run due : List Slot) (first count : ℕ)
+    (is : IsImage shape image) (r : Result (Unit {0}) StoreError) (old new : Option FileState)
+    (told : BothTell (TurnsSlots shape first count (λ k. blank) (λ k. slot_at image k) r) old new)
+    (inner : (k : ℕ) → slots_in run k ≡ true → (first ≤ k) × (k < first + count))
+    (outer : (k : ℕ) → slots_in run k ≡ false → (k < first) ⊎ (first + count ≤ k))
+    (f : IfSome old (Follows shape image waiting (run ++ due))) where
+  pub run_loses_told : (slots : List Slot) →
+      ((k : ℕ) → slots_in waiting k ≡ true → slots_in slots k ≡ true) →
+      ((k : ℕ) → slots_in (run ++ due) k ≡ true → slots_in slots k ≡ true) → IfSome old (IsOpened shape) →
+      IfSome new (LosesOnly shape image slots)
+  run_loses_told slots waits dues o = carry_both (IsOpened shape) (Follows shape image waiting (run ++ due))
+      (LosesOnly shape image slots) (TurnsSlots shape first count (λ k. blank) (λ k. slot_at image k) r) old new told o f
+      (λ a b t it follows. run_loses shape image waiting run due a b
+      (λ k j apart within. t.others k j (outer k apart) within) follows slots is (t.long ∙ it.long)
+      (λ k inside here. t.either k (inner k here).0 (inner k here).1 (follows.due k inside (in_left run due k here)))
+      waits dues)
+
+  pub run_waits_told : ((k : ℕ) → slots_in run k ≡ true → slots_in due k ≡ false) →
+      OnOk r (IfSome new (Follows shape image (waiting ++ run) due))
+  run_waits_told apart = elim_ok r (λ ok. carry (Follows shape image waiting (run ++ due))
+      (Follows shape image (waiting ++ run) due)
+      (TurnsSlots shape first count (λ k. blank) (λ k. slot_at image k) r) old new told f
+      (λ a b t it. run_waits shape image waiting run due a b
+      (λ k j away within. t.others k j (outer k away) within) it apart
+      (λ k inside here. subst (λ y. OnOk y (IsTurning shape blank (slot_at image k) b k)) ok
+      (t.turns k (inner k here).0 (inner k here).1 (it.due k inside (in_left run due k here))))))
+    where
+      elim_ok : (x : Result (Unit {0}) StoreError) →
+          (x ≡ Ok tt → IfSome new (Follows shape image (waiting ++ run) due)) →
+          OnOk x (IfSome new (Follows shape image (waiting ++ run) due))
+      elim_ok (Ok u) step = step refl
+      elim_ok (Err e) step = tt
+
+-- the same slots in other lists
+pub same_told : (shape : Shape) (image : List Contents) (waiting due waits dues : List Slot)
+    (file : Option FileState) → ((k : ℕ) → slots_in waits k ≡ slots_in waiting k) →
+    ((k : ℕ) → slots_in dues k ≡ slots_in due k) → IfSome file (Follows shape image waiting due) →
+    IfSome file (Follows shape image waits dues)
+same_told shape image waiting due waits dues file same_waits same_dues f =
+    weaken (Follows shape image waiting due) (Follows shape image waits dues) file f
+    (λ a it. follows_as shape image waiting due waits dues a same_waits same_dues it)
+
 -- ---- a program
 
-module _ (shape : Shape) (image : List Contents) (waiting due : List Slot) (at : Slot) (is : IsImage shape image)
-    (exists : at.0 < slots_of shape) (r : Result (Unit {0}) StoreError) (old new : Option FileState)
-    (told : BothTell (TurnsSlot shape at.0 blank (slot_at image at.0) r) old new)
-    (f : IfSome old (Follows shape image waiting (at ∷ due))) where
-  low : at.0 < length image
-  low = omega (arith, is.slots, exists)
-
-  pub put_loses : IfSome old (IsOpened shape) → IfSome new (LosesOnly shape image (waiting ++ at ∷ due))
-  put_loses o = carry_both (IsOpened shape) (Follows shape image waiting (at ∷ due))
-      (LosesOnly shape image (waiting ++ at ∷ due)) (TurnsSlot shape at.0 blank (slot_at image at.0) r) old new told o f
-      (λ a b t it follows. lose_but shape image waiting due at a b is exists t.others follows (waiting ++ at ∷ due)
-      (t.long ∙ it.long) (t.either (follows.due at.0 low (front_here at due)))
-      (in_left waiting (at ∷ due)) (in_right waiting (at ∷ due)))
-
-pub put_waits : (shape : Shape) (image : List Contents) (waiting due : List Slot) (at : Slot) → IsImage shape image →
-    at.0 < slots_of shape → (r : Result (Unit {0}) StoreError) (old new : Option FileState) →
-    BothTell (TurnsSlot shape at.0 blank (slot_at image at.0) r) old new →
-    IfSome old (Follows shape image waiting (at ∷ due)) → slots_in due at.0 ≡ false →
-    OnOk r (IfSome new (Follows shape image (waiting ++ at ∷ []) due))
-put_waits shape image waiting due at is exists (Err e) old new told f apart = tt
-put_waits shape image waiting due at is exists (Ok u) old new told f apart =
-    carry (Follows shape image waiting (at ∷ due)) (Follows shape image (waiting ++ at ∷ []) due)
-    (TurnsSlot shape at.0 blank (slot_at image at.0) (Ok u)) old new told f
-    (λ a b t it. waits_now shape image waiting due at a b is exists t.others it apart
-    (t.turns (it.due at.0 (omega (arith, is.slots, exists)) (front_here at due))))
-
--- a slot that is blank still, and one that could not be noted
+-- a slot that is blank still
 pub put_skips : (shape : Shape) (image : List Contents) (waiting due : List Slot) (at : Slot)
-    (file : Option FileState) → AreProgrammed image waiting → slot_at image at.0 ≡ blank →
-    IfSome file (Follows shape image waiting (at ∷ due)) → IfSome file (Follows shape image waiting due)
-put_skips shape image waiting due at file all empty f =
-    weaken (Follows shape image waiting (at ∷ due)) (Follows shape image waiting due) file f
-    (λ a it. skip_follows shape image waiting due at a all empty it)
+    (file : Option FileState) → slot_at image at.0 ≡ blank →
+    IfSome file (Follows shape image [] (waiting ++ at ∷ due)) → IfSome file (Follows shape image [] (waiting ++ due))
+put_skips shape image waiting due at file empty f =
+    weaken (Follows shape image [] (waiting ++ at ∷ due)) (Follows shape image [] (waiting ++ due)) file f
+    (λ a it. skip_follows shape image waiting due at a empty it)
+
+-- and one that is not
+pub put_waits : (shape : Shape) (image : List Contents) (waiting due : List Slot) (at : Slot)
+    (file : Option FileState) → IfSome file (Follows shape image [] (waiting ++ at ∷ due)) →
+    IfSome file (Follows shape image [] ((waiting ++ at ∷ []) ++ due))
+put_waits shape image waiting due at file f =
+    subst (λ dues. IfSome file (Follows shape image [] dues)) (sym (append_assoc waiting (at ∷ []) due)) f
 
 pub loses_now : (shape : Shape) (image : List Contents) (waiting due slots : List Slot) (file : Option FileState) →
     IsImage shape image → ((k : ℕ) → slots_in waiting k ≡ true → slots_in slots k ≡ true) →
@@ -164,6 +197,28 @@ module _ (shape : Shape) (was image : List Contents) (first : ℕ) where
         (λ a b turns it tears. torn_loses shape was image first at a b from turns.others tears is
         (turns.long ∙ it.long) (λ low. turns.either (tears.outside at low (inr (omega arith)))))
 
+  module _ (count : ℕ) (empty : (k : ℕ) → first ≤ k → k < first + count → slot_at image k ≡ blank)
+      (old new : Option FileState) where
+    pub erased_told : (r : Result (Unit {0}) StoreError) →
+        BothTell (TurnsSlots shape first count (λ k. slot_at was k) (λ k. blank) r) old new →
+        IfSome old (Follows shape was [] []) → OnOk r (IfSome new (Tears shape was image first (first + count)))
+    erased_told (Err e) told f = tt
+    erased_told (Ok u) told f = carry (Follows shape was [] []) (Tears shape was image first (first + count))
+        (TurnsSlots shape first count (λ k. slot_at was k) (λ k. blank) (Ok u)) old new told f
+        (λ a b t it. all_torn shape was image first count a b t.others it
+        (λ k low from below. subst (λ c. IsTurning shape (slot_at was k) c b k) (sym (empty k from below))
+        (t.turns k from below (it.keeps k low refl refl))))
+
+    pub erased_loses_told : (r : Result (Unit {0}) StoreError) →
+        BothTell (TurnsSlots shape first count (λ k. slot_at was k) (λ k. blank) r) old new → IsImage shape was →
+        IfSome old (IsOpened shape) → IfSome old (Follows shape was [] []) →
+        IfSome new (LosesBetween shape was image)
+    erased_loses_told r told is o f = carry_both (IsOpened shape) (Follows shape was [] [])
+        (LosesBetween shape was image) (TurnsSlots shape first count (λ k. slot_at was k) (λ k. blank) r) old new told o f
+        (λ a b t it follows. all_lose shape was image first count a b t.others follows is (t.long ∙ it.long)
+        (λ k low from below. subst (λ c. LeavesEither shape (slot_at was k) c b k) (sym (empty k from below))
+        (t.either k from below (follows.keeps k low refl refl))))
+
   pub tears_told : (upto : ℕ) (file : Option FileState) → IsImage shape was → IfSome file (IsOpened shape) →
       IfSome file (Tears shape was image first upto) → IfSome file (LosesBetween shape was image)
   tears_told upto file is o t = weaken_both (IsOpened shape) (Tears shape was image first upto)
@@ -197,12 +252,11 @@ module _ (shape : Shape) (was image : List Contents) (first : ℕ) where
 -- ---- a program in memory
 
 pub follows_but : (told : Option FileState) (old_shape shape : Shape) (old new : List Contents)
-    (waiting due : List Slot) → shape ≡ old_shape →
-    AreProgrammed old waiting → Starts old new due → IfSome told (Follows old_shape old waiting []) →
-    IfSome told (Follows shape new waiting due)
-follows_but told old_shape shape old new waiting due same all st f =
-    weaken (Follows old_shape old waiting []) (Follows shape new waiting due) told f (λ a it.
-    starts_follow shape old new waiting due a all st (subst (λ s. Follows s old waiting [] a) (sym same) it))
+    (waiting due : List Slot) → shape ≡ old_shape → Starts old new due →
+    IfSome told (Follows old_shape old [] waiting) → IfSome told (Follows shape new [] (waiting ++ due))
+follows_but told old_shape shape old new waiting due same st f =
+    weaken (Follows old_shape old [] waiting) (Follows shape new [] (waiting ++ due)) told f (λ a it.
+    starts_follow shape old new waiting due a st (subst (λ s. Follows s old [] waiting a) (sym same) it))
 
 -- the slots that may be lost are the same in another order
 pub lose_more : (shape : Shape) (image : List Contents) (slots more : List Slot) (file : Option FileState) →
@@ -224,11 +278,13 @@ front_back waiting at k e = elim (cases_Bool (slots_in waiting k)) [
       ∙ ap (λ b. b || slots_in (at ∷ []) k) not) ∙ e)
 ]
 
-pub loses_front : (shape : Shape) (image : List Contents) (waiting : List Slot) (at : Slot)
-    (file : Option FileState) → IfSome file (LosesOnly shape image (waiting ++ at ∷ [])) →
-    IfSome file (LosesOnly shape image (at ∷ waiting))
-loses_front shape image waiting at file loses =
-    lose_more shape image (waiting ++ at ∷ []) (at ∷ waiting) file (front_back waiting at) loses
+-- what waits once a slot was put waited before or is that slot
+pub put_lost : (waiting more : List Slot) (at : Slot) → (more ≡ waiting) ⊎ (more ≡ waiting ++ at ∷ []) → (k : ℕ) →
+    slots_in more k ≡ true → slots_in (at ∷ waiting) k ≡ true
+put_lost waiting more at how k here = ⊎_elim
+    (λ same. in_front at waiting k (subst (λ w. slots_in w k ≡ true) same here))
+    (λ push. front_back waiting at k (subst (λ w. slots_in w k ≡ true) push here))
+    how
 
 -- ---- what is left is counted
 

@@ -90,47 +90,51 @@ turned shape old new file file' at o s t = record {
 
 -- ---- all bytes of a slot are written
 
-none_more : (shape : Shape) (at : ℕ) → slot_offset shape at + 0 ≡ slot_offset shape at
-none_more shape at = omega arith
+-- each of these bytes is put in front of the values of its place in a slot
+abbrev pub Puts : Shape → ℕ → List ℕ → FileState → FileState → Type 0
+Puts shape at bytes file file' =
+    (j : ℕ) → j < length bytes → slot_values shape file' at j ≡ get_or bytes j 0 ∷ slot_values shape file at j
 
-module _ (shape : Shape) (at : ℕ) (c : Contents) (new : List ℕ) (file file' : FileState)
-    (long : length new ≡ slot_bytes shape.page_bytes) (h : Holds shape c file at)
-    (w : MayWrite (slot_offset shape at) new file file') where
-  w0 : MayWrite (slot_offset shape at + 0) new file file'
-  w0 = subst (λ offset. MayWrite offset new file file') (sym (none_more shape at)) w
+-- any of them are
+abbrev pub MayPut : Shape → ℕ → List ℕ → FileState → FileState → Type 0
+MayPut shape at bytes file file' =
+    (j : ℕ) → j < length bytes →
+    (slot_values shape file' at j ≡ get_or bytes j 0 ∷ slot_values shape file at j)
+    ⊎ (slot_values shape file' at j ≡ slot_values shape file at j)
 
-  -- each byte that is left is the new one or the one that was there
-  whole_left : (left : List ℕ) → LeavesSlot shape file' at left → (j : ℕ) → j < slot_bytes shape.page_bytes →
-      (get_or left j 0 ≡ get_or new j 0) ⊎ (get_or left j 0 ≡ get_or h.slot j 0)
-  whole_left left l j inside =
-      let here : 0 + j ≡ j = omega arith in
-      let may = subst (λ i. (slot_values shape file' at i ≡ get_or new j 0 ∷ slot_values shape file at i)
-      ⊎ (slot_values shape file' at i ≡ slot_values shape file at i)) here
-      (may_be shape at 0 new file file' (omega (arith, long)) w0 j (omega (arith, long, inside))) in
-      ⊎_elim
-      (λ is. ⊎_elim
-      (λ first. inl (sym first))
-      (λ rest. inr (sym (Contains-one (get_or h.slot j 0) (get_or left j 0) rest)))
-      (Contains-cases (get_or new j 0) (get_or h.slot j 0 ∷ []) (get_or left j 0)
-      (subst (λ values. Contains values (get_or left j 0))
-      (is ∙ ap (λ values. get_or new j 0 ∷ values) (h.each j inside))
-      (l.each j inside))))
-      (λ is. inr (sym (Contains-one (get_or h.slot j 0) (get_or left j 0)
-      (subst (λ values. Contains values (get_or left j 0)) (is ∙ h.each j inside) (l.each j inside)))))
-      may
+puts_may : (shape : Shape) (at : ℕ) (bytes : List ℕ) (file file' : FileState) → Puts shape at bytes file file' →
+    MayPut shape at bytes file file'
+puts_may shape at bytes file file' w j inside = inl (w j inside)
+
+-- each byte that is left is the new one or the one that was there
+whole_left : (shape : Shape) (at : ℕ) (c : Contents) (new : List ℕ) (file file' : FileState) →
+    length new ≡ slot_bytes shape.page_bytes → (h : Holds shape c file at) → MayPut shape at new file file' →
+    (left : List ℕ) → LeavesSlot shape file' at left → (j : ℕ) → j < slot_bytes shape.page_bytes →
+    (get_or left j 0 ≡ get_or new j 0) ⊎ (get_or left j 0 ≡ get_or h.slot j 0)
+whole_left shape at c new file file' long h w left l j inside =
+    ⊎_elim
+    (λ is. ⊎_elim
+    (λ first. inl (sym first))
+    (λ rest. inr (sym (Contains-one (get_or h.slot j 0) (get_or left j 0) rest)))
+    (Contains-cases (get_or new j 0) (get_or h.slot j 0 ∷ []) (get_or left j 0)
+    (subst (λ values. Contains values (get_or left j 0))
+    (is ∙ ap (λ values. get_or new j 0 ∷ values) (h.each j inside))
+    (l.each j inside))))
+    (λ is. inr (sym (Contains-one (get_or h.slot j 0) (get_or left j 0)
+    (subst (λ values. Contains values (get_or left j 0)) (is ∙ h.each j inside) (l.each j inside)))))
+    (w j (omega (arith, long, inside)))
 
 -- they are the newest
-pub whole_newest : (shape : Shape) (at : ℕ) (new : List ℕ) (file file' : FileState) →
-    length new ≡ slot_bytes shape.page_bytes → Writes (slot_offset shape at) new file file' → (j : ℕ) →
+whole_newest : (shape : Shape) (at : ℕ) (new : List ℕ) (file file' : FileState) →
+    length new ≡ slot_bytes shape.page_bytes → Puts shape at new file file' → (j : ℕ) →
     j < slot_bytes shape.page_bytes → take 1 (slot_values shape file' at j) ≡ get_or new j 0 ∷ []
-whole_newest shape at new file file' long w j inside = ap (take 1) (w.inside j (omega (arith, long, inside)))
+whole_newest shape at new file file' long w j inside = ap (take 1) (w j (omega (arith, long, inside)))
 
 -- over an erased slot
 module _ (shape : Shape) (at : ℕ) (c : Contents) (new : List ℕ) (file file' : FileState)
     (most : slot_bytes shape.page_bytes ≤ 268435459) (is : IsSlot shape.page_bytes c new)
     (h : Holds shape blank file at) where
-  left_over : MayWrite (slot_offset shape at) new file file' → (left : List ℕ) → LeavesSlot shape file' at left →
-      IsErased new left
+  left_over : MayPut shape at new file file' → (left : List ℕ) → LeavesSlot shape file' at left → IsErased new left
   left_over w left l = record {
     long = l.long ∙ sym is.long;
     bytes = IsBytes-all new is.bytes;
@@ -141,7 +145,7 @@ module _ (shape : Shape) (at : ℕ) (c : Contents) (new : List ℕ) (file file' 
         ⊎_elim (λ e. inr e) (λ e. inl (e ∙ was)) (whole_left shape at blank new file file' is.long h w left l j within);
   }
 
-  pub written_over : MayWrite (slot_offset shape at) new file file' → LeavesEither shape blank c file' at
+  pub written_over : MayPut shape at new file file' → LeavesEither shape blank c file' at
   written_over w left l =
       let e = left_over w left l in
       let least : 4 ≤ length new = omega (arith, is.long) in
@@ -151,12 +155,12 @@ module _ (shape : Shape) (at : ℕ) (c : Contents) (new : List ℕ) (file file' 
             (torn_reads shape.page_bytes new left e least most' is.counts),
       )
 
-  pub programmed_slot : Writes (slot_offset shape at) new file file' → IsTurning shape blank c file' at
+  pub programmed_slot : Puts shape at new file file' → IsTurning shape blank c file' at
   programmed_slot w = record {
     slot = new;
     is = is;
     newest = whole_newest shape at new file file' is.long w;
-    left = written_over (may_write (slot_offset shape at) new (Ok tt) file file' w);
+    left = written_over (puts_may shape at new file file' w);
   }
 
 -- an erased slot over another one
@@ -166,7 +170,7 @@ module _ (shape : Shape) (at : ℕ) (c : Contents) (file file' : FileState)
   abbrev empty : List ℕ
   empty = erased (slot_bytes shape.page_bytes)
 
-  left_of : MayWrite (slot_offset shape at) empty file file' → (left : List ℕ) → LeavesSlot shape file' at left →
+  left_of : MayPut shape at empty file file' → (left : List ℕ) → LeavesSlot shape file' at left →
       IsErased h.slot left
   left_of w left l = record {
     long = l.long ∙ sym h.is.long;
@@ -177,7 +181,7 @@ module _ (shape : Shape) (at : ℕ) (c : Contents) (file file' : FileState)
         (whole_left shape at c empty file file' is.long h w left l j within);
   }
 
-  pub erased_over : MayWrite (slot_offset shape at) empty file file' → LeavesEither shape c blank file' at
+  pub erased_over : MayPut shape at empty file file' → LeavesEither shape c blank file' at
   erased_over w left l =
       let e = left_of w left l in
       let least : 4 ≤ length h.slot = omega (arith, h.is.long) in
@@ -187,12 +191,12 @@ module _ (shape : Shape) (at : ℕ) (c : Contents) (file file' : FileState)
             (torn_reads shape.page_bytes h.slot left e least most' h.is.counts),
       )
 
-  pub erased_slot : Writes (slot_offset shape at) empty file file' → IsTurning shape c blank file' at
+  pub erased_slot : Puts shape at empty file file' → IsTurning shape c blank file' at
   erased_slot w = record {
     slot = empty;
     is = is;
     newest = whole_newest shape at empty file file' is.long w;
-    left = erased_over (may_write (slot_offset shape at) empty (Ok tt) file file' w);
+    left = erased_over (puts_may shape at empty file file' w);
   }
 
 -- ---- the last byte of a slot is written

@@ -7,8 +7,8 @@ use Rattle.file_flash.specs.FileFlashState.{FileFlashState, IsFrozen}
 use Rattle.live_flash.specs.Losing.{LosesOnly}
 
 -- What a flush does, done or failed: the flash in memory is as before; once it is done nothing waits, and a loss leaves
--- each slot as it is; where it failed, so did a call of the file, then or before, and a loss leaves each slot as it is, or
--- blank where it waited.
+-- each slot as it is; where it failed, so did a call of the file, then or before, and a loss leaves each slot as it is,
+-- or blank where it waited.
 pub record Flushes (old new : FileFlashState) (result : Result (Unit {0}) NotDurable) : Type 0 where
   pub stays : new.memory ≡ old.memory
   pub config : new.config ≡ old.config

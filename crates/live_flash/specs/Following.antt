@@ -1,5 +1,5 @@
 -- How an image file in its live format follows a flash in memory.
-use Rattle.std.specs.Prelude.{◌≡◌, ◌≢◌, ◌⊎◌, ℕ, ◌+◌, ◌<◌, true, false, List, [], ◌∷◌, length, take, slice_index, All, Contains, Result, OnOk}
+use Rattle.std.specs.Prelude.{◌≡◌, ◌≢◌, ◌⊎◌, ℕ, ◌+◌, ◌<◌, ◌≤◌, true, false, List, [], ◌∷◌, length, take, slice_index, All, Contains, Result, OnOk}
 use Rattle.tx_types.specs.Limits.{header_bytes}
 use Rattle.tx_types.specs.declared.config.Shape.{Shape}
 use Rattle.tx_types.specs.declared.config.Slot.{Slot}
@@ -71,6 +71,19 @@ pub record TurnsSlot (shape : Shape) (at : ℕ) (old new : Contents) (result : R
       slot_values shape after k j ≡ slot_values shape before k j
   pub either : Holds shape old before at → LeavesEither shape old new after at
   pub turns : Holds shape old before at → OnOk result (IsTurning shape old new after at)
+
+-- The same of a write of slots that follow each other, each of which holds one thing, so that it holds another.
+pub record TurnsSlots (shape : Shape) (first count : ℕ) (old new : ℕ → Contents) (result : Result (Unit {0}) StoreError)
+    (before after : FileState) : Type 0 where
+  pub long : length after.values ≡ length before.values
+  pub copies : before.copies ≡ false → after.copies ≡ false
+  pub header : (k : ℕ) → k < header_bytes → values_at after k ≡ values_at before k
+  pub others : (k j : ℕ) → (k < first) ⊎ (first + count ≤ k) → j < slot_bytes shape.page_bytes →
+      slot_values shape after k j ≡ slot_values shape before k j
+  pub either : (k : ℕ) → first ≤ k → k < first + count → Holds shape (old k) before k →
+      LeavesEither shape (old k) (new k) after k
+  pub turns : (k : ℕ) → first ≤ k → k < first + count → Holds shape (old k) before k →
+      OnOk result (IsTurning shape (old k) (new k) after k)
 
 -- Each slot of the flash follows: those that wait are written over blank ones, and all others are durable. But those
 -- that are due are blank in the file still.

@@ -6,11 +6,10 @@ use Rattle.flash_model.specs.Retiring.{max_allowance}
 use Rattle.file_flash.specs.Files.{FileState}
 use Rattle.file_flash.specs.Following.{AreProgrammed}
 use Rattle.file_flash.specs.FileFlashState.{FileFlashState, slot_loaded}
-use Rattle.live_image.specs.Slots.{slot_bytes}
 use Rattle.live_file.specs.Spelling.{live_header}
 use Rattle.live_flash.specs.Following.{IsOpened, IsLiveFile, Follows}
 use Rattle.live_flash.specs.Losing.{LeavesCounted}
-use Rattle.live_flash.specs.Waiting.{HasRoom}
+use Rattle.live_flash.specs.Waiting.{HasRoom, room_bytes}
 use Rattle.live_flash.specs.declared.live_flash.LiveFlash.TheInside.{Inside}
 
 abbrev pub live_flash_of : {S : Type 0} → (S → Option FileState) → (S → ℕ) → Inside S → FileFlashState
@@ -26,7 +25,8 @@ live_flash_of told faults f = record {
 -- The header of the file is that of a live file of the device, and no slot has more zero bits than its number says.
 -- Until a call of it has failed a sync makes durable what was written, the file follows the flash in memory, and the
 -- slots that wait were programmed; where it has failed, the store counts a failure. There is room for each slot that is
--- to wait. The places of the dies have the slots of what is loaded in their registers.
+-- to wait, and for the bytes of those of a block. The places of the dies have the slots of what is loaded in their
+-- registers.
 pub record LiveFlashInvariant {S : Type 0} (told : S → Option FileState) (faults : S → ℕ) (f : Inside S) : Type 0 where
   pub checks : checked f.config ≡ Ok (shape_of f.config)
   pub shape : f.memory.shape ≡ shape_of f.config
@@ -36,10 +36,11 @@ pub record LiveFlashInvariant {S : Type 0} (told : S → Option FileState) (faul
   pub counts : IfSome (told f.follower.store) (LeavesCounted f.memory.shape)
   pub opened : f.failed ≡ false → IfSome (told f.follower.store) (IsOpened f.memory.shape)
   pub follows : f.failed ≡ false → IfSome (told f.follower.store)
-      (Follows f.memory.shape f.memory.image f.follower.waiting.items [])
+      (Follows f.memory.shape f.memory.image [] f.follower.waiting.items)
   pub programmed : f.failed ≡ false → AreProgrammed f.memory.image f.follower.waiting.items
   pub cause : f.failed ≡ true → 0 < faults f.follower.store
-  pub places : HasRoom f.memory.shape (vec_capacity f.follower.waiting) f.follower.waiting.items
-  pub room : length f.follower.room.items ≡ slot_bytes f.memory.shape.page_bytes
+  pub places : f.failed ≡ false →
+      HasRoom f.memory.shape (vec_capacity f.follower.waiting) f.follower.waiting.items
+  pub room : length f.follower.room.items ≡ room_bytes f.memory.shape
   pub loaded : f.loaded.items ≡ map slot_loaded f.memory.registers
   pub dies : length f.loaded.items ≡ f.memory.shape.dies

@@ -1,16 +1,16 @@
-ghost use Rattle.std.specs.Prelude.{◌≡◌, ◌≢◌, ◌≤◌, ◌<◌, ◌+◌, ◌⊎◌, ◌∷◌, ◌++◌, [], ℕ, List, length, All, OnOk, IfSome, true, false};
+//! The file of a flash in memory: which bytes stand for its slots, and how they are written.
+ghost use Rattle.std.specs.Prelude.{◌≡◌, ◌≤◌, ◌<◌, ◌+◌, ◌-◌, ◌*◌, ◌⊎◌, ◌∷◌, [], ℕ, length, slice_set, All, IfSome};
+ghost use Rattle.std.specs.Fork.{slice_chunk};
 ghost use Rattle.tx_types.specs.Config.{slots_of, IsShape};
-ghost use Rattle.tx_types.specs.declared.config.Slot.{Slot};
-ghost use Rattle.flash_model.specs.Flash.{Contents, blank, damaged, slot_at, IsWhole};
-ghost use Rattle.mem_flash.specs.Slots.{cell_bytes, cell_of};
-ghost use Rattle.file_flash.specs.Clearing.{IsBare, IsCleared};
-ghost use Rattle.file_flash.specs.Files.{FileState, BothTell, WritesFile, faults_after};
-ghost use Rattle.file_flash.specs.Following.{AreProgrammed, slots_in};
+ghost use Rattle.flash_model.specs.Flash.{Contents, blank, slot_at};
+ghost use Rattle.mem_flash.specs.Slots.{cell_bytes};
+ghost use Rattle.file_flash.specs.Clearing.{IsBare};
+ghost use Rattle.file_flash.specs.Files.{BothTell, WritesFile, faults_after};
 ghost use Rattle.zero_count.specs.Zeros.{counted, erased};
 ghost use Rattle.live_image.specs.Slots.{slot_bytes, damage_byte};
 ghost use Rattle.live_image.specs.Layout.{slot_offset};
-ghost use Rattle.live_flash.specs.Following.{IsOpened, IsLiveFile, TurnsSlot, Follows};
-ghost use Rattle.live_flash.specs.Losing.{LosesOnly, LosesBetween, Tears};
+ghost use Rattle.live_flash.specs.Following.{IsOpened, IsSlot, TurnsSlot, TurnsSlots};
+ghost use Rattle.live_flash.specs.Waiting.{room_bytes};
 
 use file_flash::{Store, StoreError};
 use flash_model::{Flash, SPARE_BYTES, Seen};
@@ -32,7 +32,7 @@ const DAMAGE_BYTE: u8 = 0x80;
 pub struct Follower<S: Store + Drop> {
     pub store: S,
     pub waiting: Vec<Slot>,
-    /// Room for the bytes of a slot.
+    /// Room for the bytes of the slots of a block.
     pub room: Vec<u8>,
 }
 
@@ -64,40 +64,140 @@ fn fill_counted(room: &mut [u8], own: &[u8])
     write_number(room);
 }
 
+/// Writes the bytes of erased slots.
+fn fill_erased(places: &mut [u8])
+    ensures { places.new ≡ erased (length places.old) }
+{
+    places.fill(0xff);
+}
+
+/// Writes the bytes of a damaged slot.
+fn fill_damaged(place: &mut [u8])
+    requires { 1 ≤ length place.old }
+    ensures { place.new ≡ slice_set (erased (length place.old)) (length place.old - 1) damage_byte }
+{
+    fill_erased(place);
+    let last = place.len() - 1;
+    place[last] = DAMAGE_BYTE;
+}
+
+/// Writes bytes that stand for a slot of the flash in memory.
+fn fill_slot(place: &mut [u8], memory: &MemFlash, at: Slot)
+    requires exists { at.0 < slots_of memory.now.shape }
+    requires place { length place.old ≡ slot_bytes memory.now.shape.page_bytes }
+    ensures { IsSlot memory.now.shape.page_bytes (slot_at memory.now.image at.0) place.new }
+{
+    let _ = memory.shape();
+    match memory.seen(at) {
+        Seen::Complete => fill_counted(place, memory.cell(at)),
+        Seen::Damaged => fill_damaged(place),
+        Seen::Blank => fill_erased(place),
+    }
+}
+
+/// Writes bytes that stand for slots of the flash in memory that follow each other, of `size` bytes each.
+fn fill_slots(places: &mut [u8], memory: &MemFlash, first: Slot, count: u32, size: usize)
+    requires exist { first.0 + count ≤ slots_of memory.now.shape }
+    requires size { size ≡ slot_bytes memory.now.shape.page_bytes }
+    requires places { length places.old ≡ count * size }
+    ensures long { length places.new ≡ length places.old }
+    ensures slots { (k : ℕ) → k < count → IsSlot memory.now.shape.page_bytes
+        (slot_at memory.now.image (first.0 + k)) (slice_chunk places.new size k) }
+{
+    let _ = memory.shape();
+    for at in 0..count {
+        let from = at as usize * size;
+        fill_slot(&mut places[from..from + size], memory, Slot(first.0 + at));
+    }
+}
+
+/// Writes slots of the flash in memory that follow each other over erased ones of a file, by one call.
+fn write_slots<S: Store>(
+    store: &mut S,
+    room: &mut [u8],
+    memory: &MemFlash,
+    first: Slot,
+    count: u32,
+) -> Result<(), StoreError>
+    requires exist { first.0 + count ≤ slots_of memory.now.shape }
+    requires some { 1 ≤ count }
+    requires few { count ≤ memory.now.shape.pages_per_block }
+    requires room { length room.old ≡ room_bytes memory.now.shape }
+    requires opened { IfSome (S.told store.old) (IsOpened memory.now.shape) }
+    ensures turns { BothTell (TurnsSlots memory.now.shape first.0 count (λ k. blank)
+        (λ k. slot_at memory.now.image k) result) (S.told store.old) (S.told store.new) }
+    ensures counts { S.faults store.new ≡ faults_after result (S.faults store.old) }
+{
+    let shape = memory.shape();
+    let size = slot_bytes(shape) as usize;
+    let places = &mut room[..count as usize * size];
+    fill_slots(places, memory, first, count, size);
+    store.write_at(slot_offset(shape, first), places)
+}
+
+/// Erases so many bytes of a file, by one call.
+fn write_erased<S: Store>(
+    store: &mut S,
+    room: &mut [u8],
+    offset: u64,
+    bytes: usize,
+) -> Result<(), StoreError>
+    requires few { bytes ≤ length room.old }
+    requires within { IfSome (S.told store.old) (λ file. offset + bytes ≤ length file.values) }
+    ensures writes { BothTell (WritesFile offset (erased bytes) result) (S.told store.old) (S.told store.new) }
+    ensures counts { S.faults store.new ≡ faults_after result (S.faults store.old) }
+{
+    let places = &mut room[..bytes];
+    fill_erased(places);
+    store.write_at(offset, places)
+}
+
 impl<S: Store + Drop> Follower<S> {
-    /// Writes the own bytes of a slot and the number of their zero bits, by one call.
-    fn write_slot(&mut self, memory: &MemFlash, at: Slot) -> Result<(), StoreError>
-        requires exists { at.0 < slots_of memory.now.shape }
-        requires room { length self.old.room.items ≡ slot_bytes memory.now.shape.page_bytes }
+    /// Writes what slots of the flash in memory that follow each other were programmed to, over erased ones, by one
+    /// call.
+    pub(crate) fn program_slots(
+        &mut self,
+        memory: &MemFlash,
+        first: Slot,
+        count: u32,
+    ) -> Result<(), StoreError>
+        requires exist { first.0 + count ≤ slots_of memory.now.shape }
+        requires some { 1 ≤ count }
+        requires few { count ≤ memory.now.shape.pages_per_block }
+        requires room { length self.old.room.items ≡ room_bytes memory.now.shape }
         requires opened { IfSome (S.told self.old.store) (IsOpened memory.now.shape) }
         ensures waits { self.new.waiting ≡ self.old.waiting }
         ensures room { length self.new.room.items ≡ length self.old.room.items }
-        ensures bytes { All (λ b. b < 256)
-            (cell_of memory.now.shape.page_bytes (slot_at memory.now.image at.0)) }
-        ensures writes { BothTell (WritesFile (slot_offset memory.now.shape at.0)
-            (counted (cell_of memory.now.shape.page_bytes (slot_at memory.now.image at.0))) result)
-            (S.told self.old.store) (S.told self.new.store) }
+        ensures turns { BothTell (TurnsSlots memory.now.shape first.0 count (λ k. blank)
+            (λ k. slot_at memory.now.image k) result) (S.told self.old.store) (S.told self.new.store) }
         ensures counts { S.faults self.new.store ≡ faults_after result (S.faults self.old.store) }
     {
-        let shape = memory.shape();
-        fill_counted(&mut self.room, memory.cell(at));
-        self.store.write_at(slot_offset(shape, at), &self.room)
+        write_slots(&mut self.store, &mut self.room, memory, first, count)
     }
 
-    /// Writes a slot that is erased.
-    fn erase_slot(&mut self, shape: Shape, at: Slot) -> Result<(), StoreError>
+    /// Erases slots that follow each other, by one call.
+    pub(crate) fn erase_slots(
+        &mut self,
+        shape: Shape,
+        first: Slot,
+        count: u32,
+    ) -> Result<(), StoreError>
         requires shape { IsShape shape }
-        requires exists { at.0 < slots_of shape }
-        requires room { length self.old.room.items ≡ slot_bytes shape.page_bytes }
+        requires exist { first.0 + count ≤ slots_of shape }
+        requires some { 1 ≤ count }
+        requires few { count ≤ shape.pages_per_block }
+        requires room { length self.old.room.items ≡ room_bytes shape }
         requires opened { IfSome (S.told self.old.store) (IsOpened shape) }
         ensures waits { self.new.waiting ≡ self.old.waiting }
         ensures room { length self.new.room.items ≡ length self.old.room.items }
-        ensures writes { BothTell (WritesFile (slot_offset shape at.0) (erased (slot_bytes shape.page_bytes)) result)
+        ensures writes { BothTell (WritesFile (slot_offset shape first.0)
+            (erased (count * slot_bytes shape.page_bytes)) result)
             (S.told self.old.store) (S.told self.new.store) }
         ensures counts { S.faults self.new.store ≡ faults_after result (S.faults self.old.store) }
     {
-        self.room.fill(0xff);
-        self.store.write_at(slot_offset(shape, at), &self.room)
+        let offset = slot_offset(shape, first);
+        let bytes = count as usize * slot_bytes(shape) as usize;
+        write_erased(&mut self.store, &mut self.room, offset, bytes)
     }
 
     /// Marks a slot as damaged.
@@ -115,30 +215,10 @@ impl<S: Store + Drop> Follower<S> {
         self.store.write_at(last, &[DAMAGE_BYTE])
     }
 
-    /// Writes what a slot of the flash in memory was programmed to, over an erased one.
-    pub(crate) fn program_slot(&mut self, memory: &MemFlash, at: Slot) -> Result<(), StoreError>
-        requires exists { at.0 < slots_of memory.now.shape }
-        requires some { slot_at memory.now.image at.0 ≢ blank }
-        requires room { length self.old.room.items ≡ slot_bytes memory.now.shape.page_bytes }
-        requires opened { IfSome (S.told self.old.store) (IsOpened memory.now.shape) }
-        ensures waits { self.new.waiting ≡ self.old.waiting }
-        ensures room { length self.new.room.items ≡ length self.old.room.items }
-        ensures turns { BothTell (TurnsSlot memory.now.shape at.0 blank (slot_at memory.now.image at.0) result)
-            (S.told self.old.store) (S.told self.new.store) }
-        ensures counts { S.faults self.new.store ≡ faults_after result (S.faults self.old.store) }
-    {
-        let shape = memory.shape();
-        match memory.seen(at) {
-            Seen::Damaged => self.mark_slot(shape, at),
-            Seen::Complete => self.write_slot(memory, at),
-            Seen::Blank => Ok(()),
-        }
-    }
-
     /// Writes what an erase made of a slot of the flash in memory: it has lost what it held, or holds it still.
     pub(crate) fn clear_slot(&mut self, memory: &MemFlash, at: Slot) -> Result<(), StoreError>
         requires exists { at.0 < slots_of memory.now.shape }
-        requires room { length self.old.room.items ≡ slot_bytes memory.now.shape.page_bytes }
+        requires room { length self.old.room.items ≡ room_bytes memory.now.shape }
         requires opened { IfSome (S.told self.old.store) (IsOpened memory.now.shape) }
         ensures waits { self.new.waiting ≡ self.old.waiting }
         ensures room { length self.new.room.items ≡ length self.old.room.items }
@@ -152,7 +232,7 @@ impl<S: Store + Drop> Follower<S> {
         match memory.seen(at) {
             Seen::Complete => Ok(()),
             Seen::Damaged => self.mark_slot(shape, at),
-            Seen::Blank => self.erase_slot(shape, at),
+            Seen::Blank => self.erase_slots(shape, at, 1),
         }
     }
 }

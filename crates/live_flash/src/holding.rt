@@ -2,9 +2,9 @@
 ghost use Rattle.std.specs.Prelude.{◌≡◌, ◌<◌, ◌≤◌, [], length, vec_capacity, replicate, All, false, None, Ok, IfOk, IfSome};
 ghost use Rattle.tx_types.specs.Config.{checked, shape_of, slots_of, IsShape};
 ghost use Rattle.file_flash.specs.Opening.{IsDurable};
-ghost use Rattle.live_image.specs.Slots.{slot_bytes};
 ghost use Rattle.live_file.specs.Spelling.{live_spelling};
 ghost use Rattle.mem_flash.specs.MemFlashState.{loaded};
+ghost use Rattle.live_flash.specs.Waiting.{room_bytes};
 
 use crate::loads::no_slots;
 use crate::{Follower, LiveFlash};
@@ -17,16 +17,18 @@ use tx_types::{Config, Shape, Slot};
 /// The bytes of a number of zero bits.
 const NUMBER_BYTES: usize = 4;
 
-/// Room for the slots that wait, taken beforehand, and for the bytes of a slot; and a place for each die, with no slot.
+/// Room for the slots that wait, taken beforehand, and for the bytes of those of a block; and a place for each die,
+/// with no slot.
 fn rooms(alloc: Global, shape: Shape) -> Result<(Vec<Slot>, Vec<u8>, Vec<Option<Slot>>), AllocError>
     requires { IsShape shape }
     ensures { IfOk result (λ rooms. (rooms.0.items ≡ [])
-        × (length rooms.1.items ≡ slot_bytes shape.page_bytes) × (rooms.2.items ≡ replicate shape.dies None)
+        × (length rooms.1.items ≡ room_bytes shape) × (rooms.2.items ≡ replicate shape.dies None)
         × (slots_of shape ≤ vec_capacity rooms.0)) }
 {
     let waiting = Vec::with_capacity(alloc, shape.slots() as usize)?;
     let mut room = Vec::new(alloc);
-    room.resize(shape.page_bytes as usize + SPARE_BYTES + NUMBER_BYTES, 0)?;
+    let slot_bytes = shape.page_bytes as usize + SPARE_BYTES + NUMBER_BYTES;
+    room.resize(shape.pages_per_block as usize * slot_bytes, 0)?;
     Ok((waiting, room, no_slots(alloc, shape.dies)?))
 }
 

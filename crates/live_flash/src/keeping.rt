@@ -1,18 +1,16 @@
 //! How the file follows the calls of the flash in memory.
-ghost use Rattle.std.specs.Prelude.{◌≡◌, ◌≤◌, ◌<◌, ◌+◌, ◌⊎◌, ◌∷◌, ◌++◌, [], ℕ, List, length, vec_capacity, OnOk, IfSome, true, false};
+ghost use Rattle.std.specs.Prelude.{◌≡◌, ◌≤◌, ◌<◌, ◌+◌, ◌⊎◌, ◌∷◌, ◌++◌, [], ℕ, List, length, vec_capacity, OnOk, IfSome, IsTrue, true, false};
 ghost use Rattle.tx_types.specs.Config.{slots_of};
-ghost use Rattle.tx_types.specs.declared.config.Shape.{Shape};
 ghost use Rattle.tx_types.specs.declared.config.Slot.{Slot};
-ghost use Rattle.flash_model.specs.Flash.{Contents, slot_at, IsImage};
+ghost use Rattle.flash_model.specs.Flash.{Contents, blank, slot_at, IsImage};
 ghost use Rattle.flash_model.specs.Calls.{seen_of};
 ghost use Rattle.flash_model.specs.Readings.{reads_blank};
 ghost use Rattle.file_flash.specs.Clearing.{IsCleared};
 ghost use Rattle.file_flash.specs.Files.{faults_after};
 ghost use Rattle.file_flash.specs.Following.{AreProgrammed, slots_in};
-ghost use Rattle.live_image.specs.Slots.{slot_bytes};
 ghost use Rattle.live_flash.specs.Following.{IsOpened, IsLiveFile, Follows};
 ghost use Rattle.live_flash.specs.Losing.{LosesOnly, LosesBetween, Tears};
-ghost use Rattle.live_flash.specs.Waiting.{HasRoom};
+ghost use Rattle.live_flash.specs.Waiting.{HasRoom, room_bytes};
 
 use crate::Follower;
 use file_flash::{Store, StoreError};
@@ -31,43 +29,44 @@ fn is_blank(memory: &MemFlash, at: Slot) -> bool
     }
 }
 
+/// Whether slots that follow each other are blank in memory, each of them.
+fn are_blank(memory: &MemFlash, first: u32, count: u32) -> bool
+    requires { first + count ≤ slots_of memory.now.shape }
+    ensures { IsTrue result → (k : ℕ) → first ≤ k → k < first + count → slot_at memory.now.image k ≡ blank }
+{
+    let _ = memory.shape();
+    for number in first..first + count {
+        if !is_blank(memory, Slot(number)) {
+            return false;
+        }
+    }
+    true
+}
+
 impl<S: Store + Drop> Follower<S> {
-    /// Follows a program of the slot in memory: where it is not blank it is written over the erased one of the file, by
-    /// one write, and waits for a flush. It does not wait yet. Slots may be due still, and where this fails so is this
-    /// one.
-    pub fn put(&mut self, memory: &MemFlash, at: Slot) -> Result<(), StoreError>
+    /// Follows a program of the slot in memory: where it is not blank it waits, and is blank in the file still. It does
+    /// not wait yet. Slots may be due still.
+    pub fn put(&mut self, memory: &MemFlash, at: Slot)
         requires exists { at.0 < slots_of memory.now.shape }
-        requires room { length self.old.room.items ≡ slot_bytes memory.now.shape.page_bytes }
-        requires opened { IfSome (S.told self.old.store) (IsOpened memory.now.shape) }
         requires programmed { AreProgrammed memory.now.image self.old.waiting.items }
         requires places { HasRoom memory.now.shape (vec_capacity self.old.waiting) self.old.waiting.items }
         requires fresh { slots_in self.old.waiting.items at.0 ≡ false }
-        ensures room { length self.new.room.items ≡ length self.old.room.items }
+        ensures store { self.new.store ≡ self.old.store }
+        ensures room { self.new.room ≡ self.old.room }
         ensures places { HasRoom memory.now.shape (vec_capacity self.new.waiting) self.new.waiting.items }
-        ensures programmed { OnOk result (AreProgrammed memory.now.image self.new.waiting.items) }
-        ensures opened { IfSome (S.told self.new.store) (IsOpened memory.now.shape) }
-        ensures kept { (head : List ℕ) → IfSome (S.told self.old.store) (IsLiveFile memory.now.shape head) →
-            IfSome (S.told self.new.store) (IsLiveFile memory.now.shape head) }
+        ensures programmed { AreProgrammed memory.now.image self.new.waiting.items }
         ensures waits { (self.new.waiting.items ≡ self.old.waiting.items)
             ⊎ (self.new.waiting.items ≡ self.old.waiting.items ++ at ∷ []) }
-        ensures follows { (due : List Slot) → slots_in due at.0 ≡ false →
-            IfSome (S.told self.old.store)
-            (Follows memory.now.shape memory.now.image self.old.waiting.items (at ∷ due)) →
-            OnOk result (IfSome (S.told self.new.store)
-            (Follows memory.now.shape memory.now.image self.new.waiting.items due)) }
-        ensures loses { (due : List Slot) →
-            IfSome (S.told self.old.store)
-            (Follows memory.now.shape memory.now.image self.old.waiting.items (at ∷ due)) →
+        ensures follows { (due : List Slot) → IfSome (S.told self.old.store)
+            (Follows memory.now.shape memory.now.image [] (self.old.waiting.items ++ at ∷ due)) →
             IfSome (S.told self.new.store)
-            (LosesOnly memory.now.shape memory.now.image (self.old.waiting.items ++ at ∷ due)) }
-        ensures counts { S.faults self.new.store ≡ faults_after result (S.faults self.old.store) }
+            (Follows memory.now.shape memory.now.image [] (self.new.waiting.items ++ due)) }
     {
         let _ = memory.shape();
         if is_blank(memory, at) {
-            return Ok(());
+            return;
         }
         self.note(memory, at);
-        self.program_slot(memory, at)
     }
 
     /// Notes that a slot waits which did not. There is room for it, since none waits twice.
@@ -85,15 +84,18 @@ impl<S: Store + Drop> Follower<S> {
         let _ = self.waiting.push(at);
     }
 
-    /// Makes durable the slots that wait, by one sync.
+    /// Writes the slots that wait, those that follow each other by one call, and makes them durable by one sync.
     pub fn flush(&mut self, memory: &MemFlash) -> Result<(), StoreError>
+        requires room { length self.old.room.items ≡ room_bytes memory.now.shape }
         requires opened { IfSome (S.told self.old.store) (IsOpened memory.now.shape) }
+        requires programmed { AreProgrammed memory.now.image self.old.waiting.items }
+        requires places { HasRoom memory.now.shape (vec_capacity self.old.waiting) self.old.waiting.items }
         requires follows { IfSome (S.told self.old.store)
-            (Follows memory.now.shape memory.now.image self.old.waiting.items []) }
+            (Follows memory.now.shape memory.now.image [] self.old.waiting.items) }
         ensures none { OnOk result (self.new.waiting.items ≡ []) }
-        ensures room { self.new.room ≡ self.old.room }
-        ensures places { (shape : Shape) → HasRoom shape (vec_capacity self.old.waiting) self.old.waiting.items →
-            HasRoom shape (vec_capacity self.new.waiting) self.new.waiting.items }
+        ensures room { length self.new.room.items ≡ length self.old.room.items }
+        ensures places { OnOk result
+            (HasRoom memory.now.shape (vec_capacity self.new.waiting) self.new.waiting.items) }
         ensures opened { OnOk result (IfSome (S.told self.new.store) (IsOpened memory.now.shape)) }
         ensures kept { (head : List ℕ) → IfSome (S.told self.old.store) (IsLiveFile memory.now.shape head) →
             IfSome (S.told self.new.store) (IsLiveFile memory.now.shape head) }
@@ -107,6 +109,7 @@ impl<S: Store + Drop> Follower<S> {
         if self.waiting.is_empty() {
             return Ok(());
         }
+        self.write_waiting(memory)?;
         self.store.sync()?;
         self.waiting.clear();
         Ok(())
@@ -116,7 +119,9 @@ impl<S: Store + Drop> Follower<S> {
     /// waits.
     pub fn rewrite(&mut self, memory: &MemFlash, first: u32, count: u32) -> Result<(), StoreError>
         requires exist { first + count ≤ slots_of memory.now.shape }
-        requires room { length self.old.room.items ≡ slot_bytes memory.now.shape.page_bytes }
+        requires some { 1 ≤ count }
+        requires few { count ≤ memory.now.shape.pages_per_block }
+        requires room { length self.old.room.items ≡ room_bytes memory.now.shape }
         requires opened { IfSome (S.told self.old.store) (IsOpened memory.now.shape) }
         ensures same { self.new.waiting ≡ self.old.waiting }
         ensures room { length self.new.room.items ≡ length self.old.room.items }
@@ -137,10 +142,39 @@ impl<S: Store + Drop> Follower<S> {
         self.store.sync()
     }
 
-    /// Writes them anew.
+    /// Writes them anew, by one call where they are blank.
     fn tear(&mut self, memory: &MemFlash, first: u32, count: u32) -> Result<(), StoreError>
         requires exist { first + count ≤ slots_of memory.now.shape }
-        requires room { length self.old.room.items ≡ slot_bytes memory.now.shape.page_bytes }
+        requires some { 1 ≤ count }
+        requires few { count ≤ memory.now.shape.pages_per_block }
+        requires room { length self.old.room.items ≡ room_bytes memory.now.shape }
+        requires opened { IfSome (S.told self.old.store) (IsOpened memory.now.shape) }
+        ensures same { self.new.waiting ≡ self.old.waiting }
+        ensures room { length self.new.room.items ≡ length self.old.room.items }
+        ensures opened { IfSome (S.told self.new.store) (IsOpened memory.now.shape) }
+        ensures kept { (head : List ℕ) → IfSome (S.told self.old.store) (IsLiveFile memory.now.shape head) →
+            IfSome (S.told self.new.store) (IsLiveFile memory.now.shape head) }
+        ensures tears { (old : List Contents) → IsCleared old memory.now.image first count →
+            IfSome (S.told self.old.store) (Follows memory.now.shape old [] []) →
+            OnOk result (IfSome (S.told self.new.store)
+            (Tears memory.now.shape old memory.now.image first (first + count))) }
+        ensures loses { (old : List Contents) → IsImage memory.now.shape old →
+            IsCleared old memory.now.image first count →
+            IfSome (S.told self.old.store) (Follows memory.now.shape old [] []) →
+            IfSome (S.told self.new.store) (LosesBetween memory.now.shape old memory.now.image) }
+        ensures counts { S.faults self.new.store ≡ faults_after result (S.faults self.old.store) }
+    {
+        let shape = memory.shape();
+        if are_blank(memory, first, count) {
+            return self.erase_slots(shape, Slot(first), count);
+        }
+        self.tear_each(memory, first, count)
+    }
+
+    /// Writes them anew one by one.
+    fn tear_each(&mut self, memory: &MemFlash, first: u32, count: u32) -> Result<(), StoreError>
+        requires exist { first + count ≤ slots_of memory.now.shape }
+        requires room { length self.old.room.items ≡ room_bytes memory.now.shape }
         requires opened { IfSome (S.told self.old.store) (IsOpened memory.now.shape) }
         ensures same { self.new.waiting ≡ self.old.waiting }
         ensures room { length self.new.room.items ≡ length self.old.room.items }

@@ -1,4 +1,4 @@
-//! A flash that is an image file in its live format: a program is one write of the file, and a flush is one sync.
+//! A flash that is an image file in its live format. What was programmed is written at a flush, which is one sync.
 #![tactic(auto)]
 
 mod cutting;
@@ -7,6 +7,7 @@ mod holding;
 mod keeping;
 mod live_flash;
 mod loads;
+mod writing;
 
 pub(crate) use follower::Follower;
 pub use live_flash::LiveFlash;

@@ -24,10 +24,10 @@ use std::alloc::Global;
 use std::marker::Model;
 use tx_types::{Block, Config, Memory, Shape, Slot};
 
-/// A flash that is an image file in its live format: it shows what it has in memory, and the file follows it. The first
-/// call of the file that fails is the last: from then on each call is broken and changes no slot, in memory or in the
-/// file. In a program, an erase or a fire that fails so power is lost at once, and after a flush that does at the next
-/// one of these.
+/// A flash that is an image file in its live format: it shows what it has in memory, and the file follows it at each
+/// flush and erase. The first call of the file that fails is the last: from then on each call is broken and changes no
+/// slot, in memory or in the file. In an erase that fails so power is lost at once, and after a flush that does at the
+/// next program, erase or fire.
 #[derive(Drop)]
 pub struct LiveFlash<S: Store + Drop> {
     pub(crate) config: Config,
@@ -85,7 +85,8 @@ impl<S: Store + Drop> LiveFlash<S> {
 
     /// The store of the file.
     pub fn into_store(self) -> S
-        ensures { S.told result ≡ self.file }
+        ensures told { S.told result ≡ self.file }
+        ensures faults { S.faults result ≡ self.faults }
     {
         let follower = self.follower;
         follower.store
@@ -151,8 +152,8 @@ impl<S: Store + Drop> Flash for LiveFlash<S> {
         self.memory.read_spare_area(at, room, spare_area)
     }
 
-    /// The slot is written by one write, unless it is blank still. A loss leaves each slot as it is then, or blank
-    /// where it waits for a flush.
+    /// No call of the file is made: the slot waits for a flush, unless it is blank still. A loss leaves each slot as it
+    /// is then, or blank where it waits.
     fn program(&mut self, at: Slot, bytes: &[u8], spare_area: &[u8; 64]) -> Result<(), Broken>
         requires blank { CanProgram self.old.memory.shape self.old.memory.image at.0 }
         requires page { length bytes.now ≡ self.old.memory.shape.page_bytes }
@@ -175,20 +176,15 @@ impl<S: Store + Drop> Flash for LiveFlash<S> {
         if self.failed {
             return cut_program(&mut self.memory, at, bytes, spare_area);
         }
-        let programs = self.memory.programs();
-        let erases = self.memory.erases();
         let done = self.memory.program(at, bytes, spare_area);
         let _ = self.memory.shape();
-        if self.follower.put(&self.memory, at).is_err() {
-            self.failed = true;
-            return lose_power(&mut self.memory, programs, erases);
-        }
+        self.follower.put(&self.memory, at);
         done
     }
 
-    /// What waits is made durable first. Then the slots of the block are erased and that is made durable, so it is
-    /// before any later program. A loss leaves each slot as it was, or blank where it waited; or, once none waits, each
-    /// slot as it was or as it is then.
+    /// What waits is made durable first. Then the slots of the block are erased, by one call where all of them are, and
+    /// that is made durable, so it is before any later program. A loss leaves each slot as it was, or blank where it
+    /// waited; or, once none waits, each slot as it was or as it is then.
     fn erase(&mut self, block: Block) -> Result<(), Broken>
         requires { block.0 < blocks_of self.old.memory.shape }
         ensures erases { Erases (untold self.old.memory) (untold self.new.memory) block.0 result }
@@ -276,7 +272,8 @@ impl<S: Store + Drop> Arms for LiveFlash<S> {
 impl<S: Store + Drop> Cached for LiveFlash<S> {
     ghost flushes = { Flushes };
 
-    /// One sync. A loss leaves each slot as it is, or blank where it waited; and once this is done, each slot as it is.
+    /// The slots that wait are written, those that follow each other by one write, and then made durable by one sync. A
+    /// loss leaves each slot as it is, or blank where it waited; and once this is done, each slot as it is.
     fn flush(&mut self) -> Result<(), NotDurable> {
         let _ = self.memory.shape();
         if self.failed {
@@ -320,8 +317,8 @@ impl<S: Store + Drop> Wide for LiveFlash<S> {
         self.memory.load(at, bytes, spare_area);
     }
 
-    /// Each of the slots is written by one write, unless it is blank still. A loss leaves each slot as it is then, or
-    /// blank where it waits for a flush.
+    /// No call of the file is made: each of the slots waits for a flush, unless it is blank still. A loss leaves each
+    /// slot as it is then, or blank where it waits.
     fn fire(&mut self) -> Result<(), Broken>
         requires { CanDo self.old.memory.shape self.old.memory.image
             (fire (loads_in self.old.memory.registers)) }
@@ -345,16 +342,10 @@ impl<S: Store + Drop> Wide for LiveFlash<S> {
             clear_slots(&mut self.loaded);
             return cut_fire(&mut self.memory);
         }
-        let programs = self.memory.programs();
-        let erases = self.memory.erases();
         let done = self.memory.fire();
         let _ = self.memory.shape();
-        let followed = follow_slots(&mut self.follower, &self.memory, &self.loaded);
+        follow_slots(&mut self.follower, &self.memory, &self.loaded);
         clear_slots(&mut self.loaded);
-        if followed.is_err() {
-            self.failed = true;
-            return lose_power(&mut self.memory, programs, erases);
-        }
         done
     }
 }

@@ -1,20 +1,16 @@
 //! The slots of the programs that are loaded in the registers of the dies.
-ghost use Rattle.std.specs.Prelude.{◌≡◌, ◌++◌, ◌<◌, ◌∷◌, ℕ, List, [], length, vec_capacity, true, false, replicate, Option, None, IfOk, IfSome, OnOk};
+ghost use Rattle.std.specs.Prelude.{◌≡◌, ◌++◌, ◌<◌, ◌∷◌, ℕ, List, [], length, vec_capacity, true, false, replicate, Option, None, IfOk, IfSome};
 ghost use Rattle.tx_types.specs.Config.{slots_of, IsShape};
 ghost use Rattle.tx_types.specs.declared.config.Slot.{Slot};
 ghost use Rattle.flash_model.specs.Operations.{die_of};
-ghost use Rattle.file_flash.specs.Files.{faults_after};
 ghost use Rattle.file_flash.specs.Following.{AreProgrammed, slots_in};
 ghost use Rattle.file_flash.specs.Loads.{slots_loaded, IsLoaded, AreLoaded};
-ghost use Rattle.live_image.specs.Slots.{slot_bytes};
-ghost use Rattle.live_flash.specs.Following.{IsOpened, IsLiveFile, Follows};
+ghost use Rattle.live_flash.specs.Following.{Follows};
 ghost use Rattle.live_flash.specs.Loads.{AreApart};
-ghost use Rattle.live_flash.specs.Losing.{LosesOnly};
 ghost use Rattle.live_flash.specs.Waiting.{HasRoom};
 
 use crate::Follower;
-use file_flash::{Store, StoreError};
-use flash_model::Flash;
+use file_flash::Store;
 use mem_flash::MemFlash;
 use std::alloc::{AllocError, Global};
 use tx_types::{Shape, Slot};
@@ -48,78 +44,52 @@ pub(crate) fn die_of(shape: Shape, at: Slot) -> usize
 }
 
 /// Follows the program of this slot in memory, if there is one. It does not wait yet. Other slots may be due still.
-fn follow_slot<S: Store + Drop>(
-    follower: &mut Follower<S>,
-    memory: &MemFlash,
-    slot: Option<Slot>,
-) -> Result<(), StoreError>
+fn follow_slot<S: Store + Drop>(follower: &mut Follower<S>, memory: &MemFlash, slot: Option<Slot>)
     requires exists { IsLoaded memory.now.shape slot }
-    requires room { length follower.old.room.items ≡ slot_bytes memory.now.shape.page_bytes }
-    requires opened { IfSome (S.told follower.old.store) (IsOpened memory.now.shape) }
     requires programmed { AreProgrammed memory.now.image follower.old.waiting.items }
     requires places { HasRoom memory.now.shape (vec_capacity follower.old.waiting) follower.old.waiting.items }
     requires fresh { IfSome slot (λ at. slots_in follower.old.waiting.items at.0 ≡ false) }
-    ensures room { length follower.new.room.items ≡ length follower.old.room.items }
+    ensures store { follower.new.store ≡ follower.old.store }
+    ensures room { follower.new.room ≡ follower.old.room }
     ensures places { HasRoom memory.now.shape (vec_capacity follower.new.waiting) follower.new.waiting.items }
-    ensures counts { S.faults follower.new.store ≡ faults_after result (S.faults follower.old.store) }
-    ensures programmed { OnOk result (AreProgrammed memory.now.image follower.new.waiting.items) }
-    ensures opened { IfSome (S.told follower.new.store) (IsOpened memory.now.shape) }
-    ensures kept { (head : List ℕ) → IfSome (S.told follower.old.store) (IsLiveFile memory.now.shape head) →
-        IfSome (S.told follower.new.store) (IsLiveFile memory.now.shape head) }
+    ensures programmed { AreProgrammed memory.now.image follower.new.waiting.items }
     ensures waits { (k : ℕ) → slots_in follower.new.waiting.items k ≡ true →
         slots_in (follower.old.waiting.items ++ slots_loaded (slot ∷ [])) k ≡ true }
-    ensures follows { (rest : List (Option Slot)) → AreApart (slot ∷ rest) → IfSome (S.told follower.old.store)
-        (Follows memory.now.shape memory.now.image follower.old.waiting.items (slots_loaded (slot ∷ rest))) →
-        OnOk result (IfSome (S.told follower.new.store)
-        (Follows memory.now.shape memory.now.image follower.new.waiting.items (slots_loaded rest))) }
-    ensures loses { (rest : List (Option Slot)) → IfSome (S.told follower.old.store)
-        (Follows memory.now.shape memory.now.image follower.old.waiting.items (slots_loaded (slot ∷ rest))) →
+    ensures follows { (rest : List (Option Slot)) → IfSome (S.told follower.old.store)
+        (Follows memory.now.shape memory.now.image []
+        (follower.old.waiting.items ++ slots_loaded (slot ∷ rest))) →
         IfSome (S.told follower.new.store)
-        (LosesOnly memory.now.shape memory.now.image (follower.old.waiting.items ++ slots_loaded (slot ∷ rest))) }
+        (Follows memory.now.shape memory.now.image [] (follower.new.waiting.items ++ slots_loaded rest)) }
 {
-    let _ = memory.shape();
-    match slot {
-        Some(at) => follower.put(memory, at),
-        None => Ok(()),
+    if let Some(at) = slot {
+        follower.put(memory, at);
     }
 }
 
-/// Follows the programs of these slots in memory, one after another. No slot is there twice, and none waits yet. Where
-/// this fails, some wait and some are due still.
+/// Follows the programs of these slots in memory, one after another. No slot is there twice, and none waits yet.
 pub(crate) fn follow_slots<S: Store + Drop>(
     follower: &mut Follower<S>,
     memory: &MemFlash,
     slots: &[Option<Slot>],
-) -> Result<(), StoreError>
+)
     requires exist { AreLoaded memory.now.shape slots.now }
     requires apart { AreApart slots.now }
-    requires room { length follower.old.room.items ≡ slot_bytes memory.now.shape.page_bytes }
-    requires opened { IfSome (S.told follower.old.store) (IsOpened memory.now.shape) }
     requires programmed { AreProgrammed memory.now.image follower.old.waiting.items }
     requires places { HasRoom memory.now.shape (vec_capacity follower.old.waiting) follower.old.waiting.items }
     requires fresh { (k : ℕ) → slots_in (slots_loaded slots.now) k ≡ true →
         slots_in follower.old.waiting.items k ≡ false }
-    ensures room { length follower.new.room.items ≡ length follower.old.room.items }
+    ensures store { follower.new.store ≡ follower.old.store }
+    ensures room { follower.new.room ≡ follower.old.room }
     ensures places { HasRoom memory.now.shape (vec_capacity follower.new.waiting) follower.new.waiting.items }
-    ensures counts { S.faults follower.new.store ≡ faults_after result (S.faults follower.old.store) }
-    ensures programmed { OnOk result (AreProgrammed memory.now.image follower.new.waiting.items) }
-    ensures opened { IfSome (S.told follower.new.store) (IsOpened memory.now.shape) }
-    ensures kept { (head : List ℕ) → IfSome (S.told follower.old.store) (IsLiveFile memory.now.shape head) →
-        IfSome (S.told follower.new.store) (IsLiveFile memory.now.shape head) }
+    ensures programmed { AreProgrammed memory.now.image follower.new.waiting.items }
     ensures waits { (k : ℕ) → slots_in follower.new.waiting.items k ≡ true →
         slots_in (follower.old.waiting.items ++ slots_loaded slots.now) k ≡ true }
     ensures follows { IfSome (S.told follower.old.store)
-        (Follows memory.now.shape memory.now.image follower.old.waiting.items (slots_loaded slots.now)) →
-        OnOk result (IfSome (S.told follower.new.store)
-        (Follows memory.now.shape memory.now.image follower.new.waiting.items [])) }
-    ensures loses { IfSome (S.told follower.old.store)
-        (Follows memory.now.shape memory.now.image follower.old.waiting.items (slots_loaded slots.now)) →
+        (Follows memory.now.shape memory.now.image [] (follower.old.waiting.items ++ slots_loaded slots.now)) →
         IfSome (S.told follower.new.store)
-        (LosesOnly memory.now.shape memory.now.image (follower.old.waiting.items ++ slots_loaded slots.now)) }
+        (Follows memory.now.shape memory.now.image [] follower.new.waiting.items) }
 {
-    let _ = memory.shape();
     for slot in slots {
-        follow_slot(follower, memory, *slot)?;
+        follow_slot(follower, memory, *slot);
     }
-    Ok(())
 }

@@ -16,8 +16,6 @@ const MOST_WRITES: usize = 10;
 pub struct Tally {
     /// How many losses.
     pub losses: u64,
-    /// How many of the writes that are not durable were cut.
-    pub cut: usize,
     /// How many losses left what the command in hand was to write.
     pub whole: u64,
 }
@@ -27,7 +25,6 @@ impl Tally {
     pub fn new() -> Tally {
         Tally {
             losses: 0,
-            cut: 0,
             whole: 0,
         }
     }
@@ -208,19 +205,17 @@ fn is_write_right(
     true
 }
 
-/// Whether each cut is right of each write behind those that were cut already. They are counted.
+/// Whether each cut is right of each write that is not durable. They are counted.
 pub fn are_cuts_right(
     alloc: Global,
     course: &Course,
     store: &LossyStore,
     tally: &mut Tally,
 ) -> bool {
-    let count = store.write_count();
-    for number in tally.cut.min(count)..count {
+    for number in 0..store.write_count() {
         if !is_write_right(alloc, course, store, number, tally) {
             return false;
         }
     }
-    tally.cut = count;
     true
 }

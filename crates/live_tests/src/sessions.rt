@@ -67,10 +67,10 @@ write 1 0=41 1=42 > open 1 2; finish 1 > done 1; write 2 0=43 1=44 > open 2 2; f
 write 1 0=41 1=42 > open 1 2; finish 1 > done 1; write 2 1=43 2=44 > open 2 2; finish 2 > done 2; \
 write 3 0=45 1=46 > open 3 2; finish 3 > done 3; write 4 2=47 0=48 > open 4 2; finish 4 > done 4; \
 write 5 1=49 2=4a > open 5 2; finish 5 > done 5 \
-| write 6 0=51 1=52 > open 6 2; finish 6 > done 6; write 7 2=53 > open 7 1; finish 7 > done 7 => 71 5 71 5
+| write 6 0=51 1=52 > open 6 2; finish 6 > done 6; write 7 2=53 > open 7 1; finish 7 > done 7 => 41 5 41 5
 write 1 0=41 1=42 > open 1 2; step 1 > wrote 1 1 2; step 1 > done 1; write 2 0=43 1=44 > open 2 2; \
 step 2 > wrote 2 1 2; abort 2 > aborted 2; write 3 1=45 > open 3 1; step 3 > done 3 \
-| write 4 0=51 1=52 > open 4 2; finish 4 > done 4 => 31 2 17 2";
+| write 4 0=51 1=52 > open 4 2; finish 4 > done 4 => 25 2 17 2";
 
 #[test]
 fn transactions_outlive_losses(rt: HostRuntime) {
@@ -84,10 +84,10 @@ write 4 2=44 > open 4 1; stepall > moved 2 finished 2 \
 | write 5 0=51 1=52 > open 5 2; stepall > moved 1 finished 0; stepall > moved 1 finished 1 => 21 10 21 10
 write 1 0=41 1=42 > open 1 2; finish 1 > done 1; write 2 0=43 1=44 > open 2 2; finish 2 > done 2; \
 collect > collected; write 3 1=45 2=46 > open 3 2; step 3 > wrote 3 1 2; step 3 > done 3; collect > collected \
-| write 4 0=51 > open 4 1; finish 4 > done 4 => 53 3 53 3
+| write 4 0=51 > open 4 1; finish 4 > done 4 => 41 3 41 3
 write 1 0=41 1=42 > open 1 2; finish 1 > done 1; write 2 0=43 > open 2 1; finish 2 > done 2; collect > collected; \
 write 3 1=44 2=45 > open 3 2; step 3 > wrote 3 1 2; collect > nothing; step 3 > done 3 \
-| write 4 0=51 > open 4 1; finish 4 > done 4 => 37 3 37 3";
+| write 4 0=51 > open 4 1; finish 4 > done 4 => 31 3 31 3";
 
 #[test]
 fn several_transactions_and_collections_outlive_losses(rt: HostRuntime) {
@@ -102,7 +102,7 @@ finish 3 > done 3 | write 4 1=51 > open 4 1; finish 4 > done 4 => 23 2 23 2
 write 1 0=41 1=42 > open 1 2; finish 1 > done 1; write 2 0=43 > open 2 1; fault 1 all > armed; step 2 > fault; \
 step 2 > done 2; write 3 0=44 1=45 > open 3 2; cut 2 bad > armed; finish 3 > cut; \
 read 0 > page 0 43000000000000000000000000000000; write 4 1=46 > open 4 1; finish 4 > done 4 \
-| write 5 0=51 > open 5 1; finish 5 > done 5 => 43 3 39 3
+| write 5 0=51 > open 5 1; finish 5 > done 5 => 37 3 33 3
 write 1 0=41 > open 1 1; write 2 1=42 > open 2 1; cut 1 none > armed; stepall > cut; write 3 0=43 > open 3 1; \
 write 4 1=44 > open 4 1; fault 1 all > armed; stepall > dropped; \
 read 0 > page 0 43000000000000000000000000000000; read 1 > page 1 44000000000000000000000000000000 \

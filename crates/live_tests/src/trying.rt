@@ -45,17 +45,11 @@ fn run(
     }
 }
 
-/// Whether no call of a file was made behind the one that failed. Where none did, whether each cut is right.
-fn is_last_call(
-    alloc: Global,
-    course: &Course,
-    store: &LossyStore,
-    failure: Option<Failure>,
-    tally: &mut Tally,
-) -> bool {
+/// Whether no call of a file was made behind the one that failed, if one did.
+fn is_last_call(store: &LossyStore, failure: Option<Failure>) -> bool {
     match failure {
         Some(failure) => store.calls() == failure.call,
-        None => are_cuts_right(alloc, course, store, tally),
+        None => true,
     }
 }
 
@@ -69,7 +63,8 @@ fn calls_of_course(
 ) -> Option<u64> {
     match run(alloc, course, script, failure) {
         Some(store) => {
-            let is_right = is_last_call(alloc, course, &store, failure, tally)
+            let is_right = is_last_call(&store, failure)
+                && are_cuts_right(alloc, course, &store, tally)
                 && are_losses_right(alloc, course, &store, tally);
             let calls = store.calls();
             drop(store);

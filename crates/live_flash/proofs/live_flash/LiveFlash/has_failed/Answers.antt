@@ -19,5 +19,5 @@ returns-clause-loses g c =
     let waiting = f.follower.waiting.items in
     let told = g.S.Store.told f.follower.store in
     rw (← c.self.view_is)
-    (λ live. loses_now m.shape m.image waiting [] waiting told c.shape.ensures.whole (λ k e. e) (none_in waiting)
+    (λ live. loses_now m.shape m.image [] waiting waiting told c.shape.ensures.whole (none_in waiting) (λ k e. e)
     (i.opened live) (i.follows live))

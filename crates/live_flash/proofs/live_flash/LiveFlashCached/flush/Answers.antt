@@ -1,10 +1,12 @@
 use Rattle.std.proofs.Common.{rules}
-use Rattle.live_flash.proofs.Common.{◌≡◌, [], IfSome, refl, sym, ◌∙◌, IsOpened, Follows, ap, subst, length, AreProgrammed, IsProgrammed}
+use Rattle.live_flash.proofs.Common.{◌≡◌, [], IfSome, refl, sym, ◌∙◌, IsOpened, Follows, subst, AreProgrammed, IsProgrammed}
 use Rattle.std.proofs.lemmas.Bool.{both_ways}
 use Rattle.std.proofs.lemmas.List.Elements.{All-nil}
+use Rattle.std.specs.Vec.{vec_capacity}
 use Rattle.mem_flash.specs.MemFlashState.{MemFlashState}
 use Rattle.file_flash.proofs.Keeping.{Stays}
 use Rattle.live_file.specs.Spelling.{live_header}
+use Rattle.live_flash.specs.Waiting.{HasRoom}
 use Rattle.live_flash.proofs.Counting.{counted_err, same_ok, same_if, some_fault}
 use Rattle.live_flash.proofs.Kept.{still_follows, has_failed}
 use Rattle.live_flash.proofs.OfTold.{none_in, loses_now, only_counted}
@@ -41,7 +43,7 @@ invariant_of-self g c =
     let m = f.memory in
     let new = g.S.Store.told c.flush-flushed.new.self.store in
     has_failed g.S.Store.told g.S.Store.faults f _ c.self.invariant refl refl (same_memory m)
-    (ap (λ v. length v.items) c.flush-flushed.ensures.room)
+    c.flush-flushed.ensures.room
     (only_counted m.shape m.image f.follower.waiting.items new c.flush-flushed.ensures.loses)
     (c.flush-flushed.ensures.kept (live_header f.config m.extras) c.self.invariant.file)
     refl
@@ -49,7 +51,6 @@ invariant_of-self g c =
     (counted_err c.flush-flushed.result (g.S.Store.faults f.follower.store)
     (g.S.Store.faults c.flush-flushed.new.self.store) (sym c.is_err.ensures.value ∙ c.if-is_err.true)
     c.flush-flushed.ensures.counts))
-    (c.flush-flushed.ensures.places m.shape c.self.invariant.places)
 
 pub invariant_of-self-else-is_err : goal.invariant_of-self-else-is_err
 invariant_of-self-else-is_err g c =
@@ -60,12 +61,13 @@ invariant_of-self-else-is_err g c =
     let none = on_ok (c.flush-flushed.new.self.waiting.items ≡ []) c.flush-flushed.result ok
     c.flush-flushed.ensures.none in
     still_follows g.S.Store.told g.S.Store.faults f _ c.self.invariant refl refl (same_memory m)
-    (ap (λ v. length v.items) c.flush-flushed.ensures.room)
+    c.flush-flushed.ensures.room
     (only_counted m.shape m.image f.follower.waiting.items new c.flush-flushed.ensures.loses)
     (c.flush-flushed.ensures.kept (live_header f.config m.extras) c.self.invariant.file)
     (λ x. on_ok (IfSome new (IsOpened m.shape)) c.flush-flushed.result ok c.flush-flushed.ensures.opened)
-    (λ x. subst (λ w. IfSome new (Follows m.shape m.image w [])) (sym none)
+    (λ x. subst (λ w. IfSome new (Follows m.shape m.image [] w)) (sym none)
     (on_ok (IfSome new (Follows m.shape m.image [] [])) c.flush-flushed.result ok c.flush-flushed.ensures.follows))
     (λ x. subst (λ w. AreProgrammed m.image w) (sym none) (All-nil (IsProgrammed m.image)))
     (λ x. absurd (both_ways f.failed c.if-self.false x))
-    (c.flush-flushed.ensures.places m.shape c.self.invariant.places)
+    (λ x. on_ok (HasRoom m.shape (vec_capacity c.flush-flushed.new.self.waiting) c.flush-flushed.new.self.waiting.items)
+    c.flush-flushed.result ok c.flush-flushed.ensures.places)

@@ -1,4 +1,4 @@
-use Rattle.live_flash.proofs.Common.{◌≡◌, ◌⊎◌, ℕ, ◌+◌, ◌*◌, ◌<◌, ◌≤◌, Option, FileState, [], IfSome, refl, sym, ap, subst, inl, inr, ◌∙◌, slots_of, Shape, IsOpened, IsLiveFile, IsProgrammed, AreProgrammed, Follows, LosesOnly, LosesBetween, slot_bytes, length, LeavesCounted}
+use Rattle.live_flash.proofs.Common.{◌≡◌, ◌⊎◌, ℕ, ◌+◌, ◌*◌, ◌<◌, ◌≤◌, Option, FileState, [], IfSome, refl, sym, ap, subst, inl, inr, ◌∙◌, slots_of, Shape, IsOpened, IsLiveFile, IsProgrammed, AreProgrammed, Follows, LosesOnly, LosesBetween, LeavesCounted}
 use Rattle.std.specs.Prelude.{unwrap_or}
 use Rattle.std.specs.Result.{is_err}
 use Rattle.std.specs.Vec.{vec_capacity}
@@ -19,7 +19,7 @@ use Rattle.file_flash.proofs.Told.{weaken}
 use Rattle.file_flash.proofs.Breaking.{operates_powerless}
 use Rattle.file_flash.proofs.Clearing.{erase_clears}
 use Rattle.file_flash.proofs.Keeping.{operated_stays, powerless_stays}
-use Rattle.live_flash.specs.Waiting.{HasRoom}
+use Rattle.live_flash.specs.Waiting.{HasRoom, room_bytes}
 use Rattle.live_flash.proofs.Counting.{counted_err, some_fault}
 use Rattle.live_flash.proofs.Kept.{still_follows, has_failed}
 use Rattle.file_flash.proofs.Programming.{on_ok}
@@ -56,7 +56,7 @@ invariant_of-self-then-is_err-2 g c =
     let same = ap (λ (x : MemFlashState). x.shape) e in
     let lost = c.lose_power.ensures.lost s c.programs-programs.ensures c.erases-erases.ensures in
     let flushed = c.flush.ensures.kept head c.self.invariant.file in
-    let room_kept = c.rewrite-rewritten.ensures.room ∙ ap (λ v. length v.items) c.flush.ensures.room in
+    let room_kept = c.rewrite-rewritten.ensures.room ∙ c.flush.ensures.room in
     let its_low = (rw (← c.self.view_is) at c.requires) in
     let fine = sym c.is_err.ensures.value ∙ c.if-is_err.false in
     let was = on_ok (IfSome (g.S.Store.told c.flush.new.self.store) (Follows s.shape s.image [] [])) c.flush.result
@@ -77,8 +77,6 @@ invariant_of-self-then-is_err-2 g c =
     (counted_err c.rewrite-rewritten.result (g.S.Store.faults c.flush.new.self.store)
     (g.S.Store.faults c.rewrite-rewritten.new.self.store) (sym c.is_err-2.ensures.value ∙ c.if-is_err-2.true)
     c.rewrite-rewritten.ensures.counts))
-    (subst (λ w. HasRoom s.shape (vec_capacity w) w.items) (sym c.rewrite-rewritten.ensures.same)
-    (c.flush.ensures.places s.shape c.self.invariant.places))
 
 pub returns-then-is_err-2-clause-erases : goal.returns-then-is_err-2-clause-erases
 returns-then-is_err-2-clause-erases g c =
@@ -154,7 +152,7 @@ invariant_of-self-else-is_err-2 g c =
     let head = live_header f.config s.extras in
     let new = g.S.Store.told c.rewrite-rewritten.new.self.store in
     let flushed = c.flush.ensures.kept head c.self.invariant.file in
-    let room_kept = c.rewrite-rewritten.ensures.room ∙ ap (λ v. length v.items) c.flush.ensures.room in
+    let room_kept = c.rewrite-rewritten.ensures.room ∙ c.flush.ensures.room in
     let none = on_ok (c.flush.new.self.waiting.items ≡ []) c.flush.result ok c.flush.ensures.none in
     let empty : c.rewrite-rewritten.new.self.waiting.items ≡ [] = ap (λ v. v.items) c.rewrite-rewritten.ensures.same
     ∙ none in
@@ -180,12 +178,15 @@ invariant_of-self-else-is_err-2 g c =
     (c.rewrite-rewritten.ensures.kept head
     (subst (λ x. IfSome (g.S.Store.told c.flush.new.self.store) (IsLiveFile x head)) (sym same) flushed)))
     (λ x. on_ok (IfSome new (IsOpened m.shape)) c.rewrite-rewritten.result done c.rewrite-rewritten.ensures.opened)
-    (λ x. subst (λ w. IfSome new (Follows m.shape m.image w [])) (sym empty)
+    (λ x. subst (λ w. IfSome new (Follows m.shape m.image [] w)) (sym empty)
     (on_ok (IfSome new (Follows m.shape m.image [] [])) c.rewrite-rewritten.result done rewritten))
     (λ x. subst (λ w. AreProgrammed m.image w) (sym empty) (All-nil (IsProgrammed m.image)))
     (λ x. absurd (both_ways f.failed c.if-self.false x))
+    (λ x. subst (λ (y : Shape). HasRoom y (vec_capacity c.rewrite-rewritten.new.self.waiting)
+    c.rewrite-rewritten.new.self.waiting.items) (sym same)
     (subst (λ w. HasRoom s.shape (vec_capacity w) w.items) (sym c.rewrite-rewritten.ensures.same)
-    (c.flush.ensures.places s.shape c.self.invariant.places))
+    (on_ok (HasRoom s.shape (vec_capacity c.flush.new.self.waiting) c.flush.new.self.waiting.items) c.flush.result
+    ok c.flush.ensures.places)))
 
 pub returns-clause-loses : goal.returns-clause-loses
 returns-clause-loses g c = λ live.
@@ -211,8 +212,8 @@ returns-clause-loses g c = λ live.
 
 pub rewrite-rewritten-requires-clause-room : goal.rewrite-rewritten-requires-clause-room
 rewrite-rewritten-requires-clause-room g c =
-    ap (λ v. length v.items) c.flush.ensures.room ∙ c.self.invariant.room
-    ∙ ap (λ (x : MemFlashState). slot_bytes x.shape.page_bytes) (sym c.erase-done.ensures.next)
+    c.flush.ensures.room ∙ c.self.invariant.room
+    ∙ ap (λ (x : MemFlashState). room_bytes x.shape) (sym c.erase-done.ensures.next)
 
 pub invariant_of-self-then-is_err : goal.invariant_of-self-then-is_err
 invariant_of-self-then-is_err g c =
@@ -226,11 +227,10 @@ invariant_of-self-then-is_err g c =
       extras = c.cut_erase-then-is_err.ensures.cut.extras;
       registers = c.cut_erase-then-is_err.ensures.registers;
     })
-    (ap (λ v. length v.items) c.flush.ensures.room)
+    c.flush.ensures.room
     (only_counted s.shape s.image f.follower.waiting.items new c.flush.ensures.loses)
     (c.flush.ensures.kept head c.self.invariant.file)
     refl
     (some_fault (g.S.Store.faults f.follower.store) (g.S.Store.faults c.flush.new.self.store)
     (counted_err c.flush.result (g.S.Store.faults f.follower.store) (g.S.Store.faults c.flush.new.self.store)
     (sym c.is_err.ensures.value ∙ c.if-is_err.true) c.flush.ensures.counts))
-    (c.flush.ensures.places s.shape c.self.invariant.places)

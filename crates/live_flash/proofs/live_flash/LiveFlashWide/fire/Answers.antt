@@ -1,25 +1,23 @@
-use Rattle.live_flash.proofs.Common.{◌≡◌, ◌++◌, [], length, map, IfSome, refl, sym, ap, subst, ◌∙◌, arith, Shape, IsLiveFile, AreProgrammed, Follows, LosesOnly, LeavesCounted, slot_bytes, slots_in, true}
-use Rattle.std.proofs.Common.{replicate, None}
+use Rattle.live_flash.proofs.Common.{◌≡◌, ◌++◌, Bool, true, false, [], length, map, replicate, Result, None, IfSome, refl, sym, ap, subst, ◌∙◌, arith, Shape, IsOpened, Follows, slots_in}
+use Rattle.std.specs.Bool.{OnTrue}
 use Rattle.std.specs.Result.{is_err}
 use Rattle.std.specs.Vec.{vec_capacity}
-use Rattle.std.proofs.lemmas.Bool.{both_ways}
 use Rattle.std.proofs.lemmas.List.{with_items_is, length-replicate}
-use Rattle.flash_model.specs.Calls.{Operates}
-use Rattle.flash_model.specs.Operations.{fire}
+use Rattle.flash_model.specs.declared.flash.Broken.{Broken}
+use Rattle.flash_model.specs.Flash.{FlashState}
+use Rattle.flash_model.specs.Calls.{BothTell, Spends, Operates}
+use Rattle.flash_model.specs.Operations.{Operation, fire}
 use Rattle.flash_model.specs.Firing.{loads_in}
-use Rattle.mem_flash.specs.MemFlashState.{MemFlashState}
-use Rattle.live_file.specs.Spelling.{live_header}
-use Rattle.file_flash.specs.FileFlashState.{untold, powerless, slot_loaded, slots_of_loads}
+use Rattle.mem_flash.specs.MemFlashState.{MemFlashState, state_of}
+use Rattle.file_flash.specs.FileFlashState.{untold, slot_loaded, slots_of_loads}
 use Rattle.file_flash.specs.Loads.{slots_loaded, AreLoaded}
-use Rattle.file_flash.proofs.Breaking.{operates_powerless}
 use Rattle.file_flash.proofs.Keeping.{none_loaded}
-use Rattle.live_flash.proofs.Kept.{loads_follow, loads_failed, loads_same}
+use Rattle.live_flash.proofs.Kept.{loads_noted, loads_same}
 use Rattle.file_flash.proofs.Loading.{loaded_exist}
-use Rattle.file_flash.proofs.Programming.{loaded_slots, fire_starts, fired_shape, fired_extras, programmed_still, fresh, on_ok}
+use Rattle.file_flash.proofs.Programming.{loaded_slots, fire_starts, fired_shape, fired_extras, programmed_still, fresh}
 use Rattle.live_flash.specs.Loads.{AreApart}
 use Rattle.live_flash.proofs.Apart.{loads_apart}
-use Rattle.live_flash.proofs.OfTold.{follows_but, only_counted}
-use Rattle.live_flash.proofs.Counting.{counted_err, some_fault}
+use Rattle.live_flash.proofs.OfTold.{none_in, loses_now, follows_but}
 use Rattle.live_flash.specs.Waiting.{HasRoom}
 use Rattle.live_flash.proofs.live_flash.LiveFlashWide.fire.Goals as goal
 
@@ -42,8 +40,8 @@ invariant_of-self g c =
     (ap length none ∙ length-replicate f.memory.shape.dies None ∙ ap (λ (x : Shape). x.dies) (sym cut.shape)) refl
     cut.image refl refl refl
 
-pub follow_slots-followed-requires-clause-exist : goal.follow_slots-followed-requires-clause-exist
-follow_slots-followed-requires-clause-exist g c =
+pub follow_slots-requires-clause-exist : goal.follow_slots-requires-clause-exist
+follow_slots-requires-clause-exist g c =
     let s = c.self.inside.memory in
     let can = (rw (← c.self.view_is) at c.requires) in
     subst (λ xs. AreLoaded c.fire-done.new.self.shape xs) (sym (c.deref.ensures.value ∙ c.self.invariant.loaded))
@@ -51,20 +49,14 @@ follow_slots-followed-requires-clause-exist g c =
     (sym (fired_shape s c.fire-done.new.self c.fire-done.ensures.next))
     (loaded_exist s.shape s.image s.registers can.0))
 
-pub follow_slots-followed-requires-clause-apart : goal.follow_slots-followed-requires-clause-apart
-follow_slots-followed-requires-clause-apart g c =
+pub follow_slots-requires-clause-apart : goal.follow_slots-requires-clause-apart
+follow_slots-requires-clause-apart g c =
     let s = c.self.inside.memory in
     let can = (rw (← c.self.view_is) at c.requires) in
     subst AreApart (sym (c.deref.ensures.value ∙ c.self.invariant.loaded)) (loads_apart s.shape s.registers can.1)
 
-pub follow_slots-followed-requires-clause-room : goal.follow_slots-followed-requires-clause-room
-follow_slots-followed-requires-clause-room g c =
-    c.self.invariant.room
-    ∙ ap (λ (x : Shape). slot_bytes x.page_bytes)
-    (sym (fired_shape c.self.inside.memory c.fire-done.new.self c.fire-done.ensures.next))
-
-pub follow_slots-followed-requires-clause-programmed : goal.follow_slots-followed-requires-clause-programmed
-follow_slots-followed-requires-clause-programmed g c =
+pub follow_slots-requires-clause-programmed : goal.follow_slots-requires-clause-programmed
+follow_slots-requires-clause-programmed g c =
     let s = c.self.inside.memory in
     let m = c.fire-done.new.self in
     let can = (rw (← c.self.view_is) at c.requires) in
@@ -72,153 +64,66 @@ follow_slots-followed-requires-clause-programmed g c =
     (c.self.invariant.programmed c.if-self.false)
     (fire_starts s m c.fire-done.ensures.next c.shape.ensures.whole can)
 
-pub invariant_of-self-then-is_err : goal.invariant_of-self-then-is_err
-invariant_of-self-then-is_err g c =
+pub invariant_of-self-2 : goal.invariant_of-self-2
+invariant_of-self-2 g c =
     let f = c.self.inside in
     let s = f.memory in
     let m = c.fire-done.new.self in
     let e = c.fire-done.ensures.next in
-    let head = live_header f.config s.extras in
+    let waiting = f.follower.waiting.items in
+    let due = slots_of_loads (loads_in s.registers) in
+    let can = (rw (← c.self.view_is) at c.requires) in
     let same = fired_shape s m e in
-    let lost = c.lose_power.ensures.lost s c.programs-programs.ensures c.erases-erases.ensures in
-    let shape = ap (λ (x : MemFlashState). x.shape) lost ∙ same in
+    let told = g.S.Store.told f.follower.store in
+    let slots : slots_loaded c.deref.result.now ≡ due =
+    ap slots_loaded (c.deref.ensures.value ∙ c.self.invariant.loaded) ∙ loaded_slots s.registers in
+    let start = follows_but told s.shape m.shape s.image m.image waiting due same
+    (fire_starts s m e c.shape.ensures.whole can) (c.self.invariant.follows c.if-self.false) in
+    let follows = c.follow_slots.ensures.follows
+    (subst (λ d. IfSome told (Follows m.shape m.image [] (waiting ++ d))) (sym slots) start) in
     let items = with_items_is f.loaded c.clear_slots-2.new.slots (omega arith) in
     let many : length c.deref_mut-2.result.now ≡ f.memory.shape.dies = ap length c.deref_mut-2.ensures.value
     ∙ c.self.invariant.dies in
     let none = items ∙ c.clear_slots-2.ensures ∙ ap (λ n. replicate n None) many in
-    let waiting = f.follower.waiting.items in
-    let due = slots_of_loads (loads_in s.registers) in
-    let can = (rw (← c.self.view_is) at c.requires) in
-    let slots : slots_loaded c.deref.result.now ≡ due =
-    ap slots_loaded (c.deref.ensures.value ∙ c.self.invariant.loaded) ∙ loaded_slots s.registers in
-    let loses = c.follow_slots-followed.ensures.loses
-    (subst (λ d. IfSome (g.S.Store.told f.follower.store) (Follows m.shape m.image waiting d)) (sym slots)
-    (follows_but (g.S.Store.told f.follower.store) s.shape m.shape s.image m.image waiting due same
-    (c.self.invariant.programmed c.if-self.false) (fire_starts s m e c.shape.ensures.whole can)
-    (c.self.invariant.follows c.if-self.false))) in
-    let counts = subst (λ x. IfSome (g.S.Store.told c.follow_slots-followed.new.follower.store) (LeavesCounted x)) same
-    (only_counted m.shape m.image (waiting ++ slots_loaded c.deref.result.now)
-    (g.S.Store.told c.follow_slots-followed.new.follower.store) loses) in
-    loads_failed g.S.Store.told g.S.Store.faults f _ c.self.invariant refl shape
-    (ap (λ (x : MemFlashState). x.extras) lost ∙ fired_extras s m e)
-    (none ∙ sym (ap (λ (x : MemFlashState). map slot_loaded x.registers) lost
-    ∙ ap (map slot_loaded) c.fire-done.ensures.empty
-    ∙ none_loaded f.memory.shape.dies))
-    (ap length none ∙ length-replicate f.memory.shape.dies None ∙ ap (λ (x : Shape). x.dies) (sym shape))
-    c.follow_slots-followed.ensures.room counts
-    (subst (λ x. IfSome (g.S.Store.told c.follow_slots-followed.new.follower.store) (IsLiveFile x head)) same
-    (c.follow_slots-followed.ensures.kept head
-    (subst (λ x. IfSome (g.S.Store.told f.follower.store) (IsLiveFile x head)) (sym same) c.self.invariant.file)))
-    refl
-    (some_fault (g.S.Store.faults f.follower.store) (g.S.Store.faults c.follow_slots-followed.new.follower.store)
-    (counted_err c.follow_slots-followed.result (g.S.Store.faults f.follower.store)
-    (g.S.Store.faults c.follow_slots-followed.new.follower.store) (sym c.is_err.ensures.value ∙ c.if-is_err.true)
-    c.follow_slots-followed.ensures.counts))
-    (subst (λ x. HasRoom x (vec_capacity c.follow_slots-followed.new.follower.waiting)
-    c.follow_slots-followed.new.follower.waiting.items) same c.follow_slots-followed.ensures.places)
-
-pub returns-then-is_err-clause-fires : goal.returns-then-is_err-clause-fires
-returns-then-is_err-clause-fires g c =
-    let s = c.self.inside.memory in
-    let m = c.fire-done.new.self in
-    let o = fire (loads_in s.registers) in
-    let lost = c.lose_power.ensures.lost s c.programs-programs.ensures c.erases-erases.ensures in
-    rw (← c.self.view_is)
-    (subst (λ (x : MemFlashState). Operates (untold s) (untold x) o c.lose_power.result) (sym lost)
-    (subst (λ r. Operates (untold s) (untold (powerless s m)) o r) (sym c.lose_power.ensures.broken)
-    (operates_powerless s m o c.fire-done.result c.fire-done.ensures.fires c.lose_power.ensures.later)))
-
-pub returns-then-is_err-clause-empty : goal.returns-then-is_err-clause-empty
-returns-then-is_err-clause-empty g c =
-    let s = c.self.inside.memory in
-    let lost = c.lose_power.ensures.lost s c.programs-programs.ensures c.erases-erases.ensures in
-    rw (← c.self.view_is) (ap (λ (x : MemFlashState). x.registers) lost ∙ c.fire-done.ensures.empty)
-
-pub returns-then-is_err-clause-loses : goal.returns-then-is_err-clause-loses
-returns-then-is_err-clause-loses g c = λ live.
-    let f = c.self.inside in
-    let s = f.memory in
-    let m = c.fire-done.new.self in
-    let e = c.fire-done.ensures.next in
-    let waiting = f.follower.waiting.items in
-    let due = slots_of_loads (loads_in s.registers) in
-    let can = (rw (← c.self.view_is) at c.requires) in
-    let new = g.S.Store.told c.follow_slots-followed.new.follower.store in
-    let slots : slots_loaded c.deref.result.now ≡ due =
-    ap slots_loaded (c.deref.ensures.value ∙ c.self.invariant.loaded) ∙ loaded_slots s.registers in
-    let start = follows_but (g.S.Store.told f.follower.store) s.shape m.shape s.image m.image waiting due
-    (fired_shape s m e)
-    (c.self.invariant.programmed c.if-self.false) (fire_starts s m e c.shape.ensures.whole can)
-    (c.self.invariant.follows c.if-self.false) in
-    let loses = c.follow_slots-followed.ensures.loses
-    (subst (λ d. IfSome (g.S.Store.told f.follower.store) (Follows m.shape m.image waiting d)) (sym slots) start) in
-    let lost = c.lose_power.ensures.lost s c.programs-programs.ensures c.erases-erases.ensures in
-    rw (← c.self.view_is)
-    (subst (λ (x : MemFlashState). IfSome new (LosesOnly x.shape x.image (waiting ++ due))) (sym lost)
-    (subst (λ d. IfSome new (LosesOnly m.shape m.image (waiting ++ d))) slots loses))
-
-pub returns-then-is_err-clause-waits : goal.returns-then-is_err-clause-waits
-returns-then-is_err-clause-waits g c =
-    let waiting = c.self.inside.follower.waiting.items in
-    let slots : slots_loaded c.deref.result.now ≡ slots_of_loads (loads_in c.self.inside.memory.registers) =
-    ap slots_loaded (c.deref.ensures.value ∙ c.self.invariant.loaded) ∙ loaded_slots c.self.inside.memory.registers in
-    rw (← c.self.view_is)
-    (λ k e. subst (λ d. slots_in (waiting ++ d) k ≡ true) slots (c.follow_slots-followed.ensures.waits k e))
-
-pub returns-then-is_err-clause-power : goal.returns-then-is_err-clause-power
-returns-then-is_err-clause-power g c = λ failed.
-    let s = c.self.inside.memory in
-    let lost = c.lose_power.ensures.lost s c.programs-programs.ensures c.erases-erases.ensures in
-    (ap is_err c.lose_power.ensures.broken, ap (λ (x : MemFlashState). x.live) lost)
-
-pub invariant_of-self-else-is_err : goal.invariant_of-self-else-is_err
-invariant_of-self-else-is_err g c =
-    let f = c.self.inside in
-    let s = f.memory in
-    let m = c.fire-done.new.self in
-    let e = c.fire-done.ensures.next in
-    let waiting = f.follower.waiting.items in
-    let due = slots_of_loads (loads_in s.registers) in
-    let can = (rw (← c.self.view_is) at c.requires) in
-    let head = live_header f.config s.extras in
-    let same = fired_shape s m e in
-    let new = g.S.Store.told c.follow_slots-followed.new.follower.store in
-    let ok = sym c.is_err.ensures.value ∙ c.if-is_err.false in
-    let slots : slots_loaded c.deref.result.now ≡ due =
-    ap slots_loaded (c.deref.ensures.value ∙ c.self.invariant.loaded) ∙ loaded_slots s.registers in
-    let start = follows_but (g.S.Store.told f.follower.store) s.shape m.shape s.image m.image waiting due same
-    (c.self.invariant.programmed c.if-self.false) (fire_starts s m e c.shape.ensures.whole can)
-    (c.self.invariant.follows c.if-self.false) in
-    let follows = c.follow_slots-followed.ensures.follows
-    (subst (λ d. IfSome (g.S.Store.told f.follower.store) (Follows m.shape m.image waiting d)) (sym slots) start) in
-    let items = with_items_is f.loaded c.clear_slots-2.new.slots (omega arith) in
-    let many : length c.deref_mut-2.result.now ≡ f.memory.shape.dies = ap length c.deref_mut-2.ensures.value
-    ∙ c.self.invariant.dies in
-    let none = items ∙ c.clear_slots-2.ensures ∙ ap (λ n. replicate n None) many in
-    let loses = c.follow_slots-followed.ensures.loses
-    (subst (λ d. IfSome (g.S.Store.told f.follower.store) (Follows m.shape m.image waiting d)) (sym slots)
-    (follows_but (g.S.Store.told f.follower.store) s.shape m.shape s.image m.image waiting due same
-    (c.self.invariant.programmed c.if-self.false) (fire_starts s m e c.shape.ensures.whole can)
-    (c.self.invariant.follows c.if-self.false))) in
-    let counts = subst (λ x. IfSome (g.S.Store.told c.follow_slots-followed.new.follower.store) (LeavesCounted x)) same
-    (only_counted m.shape m.image (waiting ++ slots_loaded c.deref.result.now)
-    (g.S.Store.told c.follow_slots-followed.new.follower.store) loses) in
-    loads_follow g.S.Store.told g.S.Store.faults f _ c.self.invariant refl same (fired_extras s m e)
+    loads_noted g.S.Store.told g.S.Store.faults f _ c.self.invariant refl same (fired_extras s m e)
     (none ∙ sym (ap (map slot_loaded) c.fire-done.ensures.empty ∙ none_loaded f.memory.shape.dies))
     (ap length none ∙ length-replicate f.memory.shape.dies None ∙ ap (λ (x : Shape). x.dies) (sym same))
-    c.follow_slots-followed.ensures.room counts
-    (subst (λ x. IfSome new (IsLiveFile x head)) same
-    (c.follow_slots-followed.ensures.kept head
-    (subst (λ x. IfSome (g.S.Store.told f.follower.store) (IsLiveFile x head)) (sym same) c.self.invariant.file)))
-    (λ x. c.follow_slots-followed.ensures.opened)
-    (λ x. on_ok (IfSome new (Follows m.shape m.image c.follow_slots-followed.new.follower.waiting.items []))
-    c.follow_slots-followed.result ok follows)
-    (λ x. on_ok (AreProgrammed m.image c.follow_slots-followed.new.follower.waiting.items)
-    c.follow_slots-followed.result ok
-    c.follow_slots-followed.ensures.programmed)
-    (λ x. absurd (both_ways f.failed c.if-self.false x))
-    (subst (λ x. HasRoom x (vec_capacity c.follow_slots-followed.new.follower.waiting)
-    c.follow_slots-followed.new.follower.waiting.items) same c.follow_slots-followed.ensures.places)
+    (ap (λ v. length v.items) c.follow_slots.ensures.room) c.follow_slots.ensures.store refl c.if-self.false follows
+    c.follow_slots.ensures.programmed c.follow_slots.ensures.places
+
+-- the same of a flash that does not tell what is to come
+untold_spends : (s m : MemFlashState) (broken : Bool) →
+    OnTrue broken (s.live ≡ true → BothTell (Spends m.live) None None)
+untold_spends s m true = λ on. tt
+untold_spends s m false = tt
+
+untold_operates : (s m : MemFlashState) (o : Operation) (r : Result (Unit {0}) Broken) →
+    Operates (state_of s) (state_of m) o r → Operates (untold s) (untold m) o r
+untold_operates s m o r h = record {
+  carries = record {
+    shape = h.carries.shape;
+    later = h.carries.later;
+    cause = h.carries.cause;
+    quiet = h.carries.quiet;
+    lives = h.carries.lives;
+    dead = λ off. ap (λ (x : FlashState). record x { told = None }) (h.carries.dead off);
+    no_more = tt;
+    extras = h.carries.extras;
+    spends = untold_spends s m (is_err r);
+    starts = λ on. let it = h.carries.starts on in (it.0, it.1, it.2, it.3, tt);
+  };
+  powered = h.powered;
+  done = h.done;
+  torn = h.torn;
+  reads = h.reads;
+  started = h.started;
+}
+
+pub returns-clause-fires : goal.returns-clause-fires
+returns-clause-fires g c =
+    let s = c.self.inside.memory in
+    rw (← c.self.view_is)
+    (untold_operates s c.fire-done.new.self (fire (loads_in s.registers)) c.fire-done.result c.fire-done.ensures.fires)
 
 pub returns-clause-waits : goal.returns-clause-waits
 returns-clause-waits g c =
@@ -226,7 +131,7 @@ returns-clause-waits g c =
     let slots : slots_loaded c.deref.result.now ≡ slots_of_loads (loads_in c.self.inside.memory.registers) =
     ap slots_loaded (c.deref.ensures.value ∙ c.self.invariant.loaded) ∙ loaded_slots c.self.inside.memory.registers in
     rw (← c.self.view_is)
-    (λ k e. subst (λ d. slots_in (waiting ++ d) k ≡ true) slots (c.follow_slots-followed.ensures.waits k e))
+    (λ k e. subst (λ d. slots_in (waiting ++ d) k ≡ true) slots (c.follow_slots.ensures.waits k e))
 
 pub returns-clause-loses : goal.returns-clause-loses
 returns-clause-loses g c = λ live.
@@ -237,26 +142,32 @@ returns-clause-loses g c = λ live.
     let waiting = f.follower.waiting.items in
     let due = slots_of_loads (loads_in s.registers) in
     let can = (rw (← c.self.view_is) at c.requires) in
-    let new = g.S.Store.told c.follow_slots-followed.new.follower.store in
+    let same = fired_shape s m e in
+    let told = g.S.Store.told f.follower.store in
+    let new = g.S.Store.told c.follow_slots.new.follower.store in
     let slots : slots_loaded c.deref.result.now ≡ due =
     ap slots_loaded (c.deref.ensures.value ∙ c.self.invariant.loaded) ∙ loaded_slots s.registers in
-    let start = follows_but (g.S.Store.told f.follower.store) s.shape m.shape s.image m.image waiting due
-    (fired_shape s m e)
-    (c.self.invariant.programmed c.if-self.false) (fire_starts s m e c.shape.ensures.whole can)
-    (c.self.invariant.follows c.if-self.false) in
-    let loses = c.follow_slots-followed.ensures.loses
-    (subst (λ d. IfSome (g.S.Store.told f.follower.store) (Follows m.shape m.image waiting d)) (sym slots) start) in
+    let start = follows_but told s.shape m.shape s.image m.image waiting due same
+    (fire_starts s m e c.shape.ensures.whole can) (c.self.invariant.follows c.if-self.false) in
+    let follows = c.follow_slots.ensures.follows
+    (subst (λ d. IfSome told (Follows m.shape m.image [] (waiting ++ d))) (sym slots) start) in
+    let opened = subst (λ t. IfSome (g.S.Store.told t) (IsOpened m.shape)) (sym c.follow_slots.ensures.store)
+    (subst (λ (x : Shape). IfSome told (IsOpened x)) (sym same) (c.self.invariant.opened c.if-self.false)) in
     rw (← c.self.view_is)
-    (subst (λ d. IfSome new (LosesOnly m.shape m.image (waiting ++ d))) slots loses)
+    (loses_now m.shape m.image [] c.follow_slots.new.follower.waiting.items (waiting ++ due) new c.shape.ensures.whole
+    (none_in (waiting ++ due))
+    (λ k here. subst (λ d. slots_in (waiting ++ d) k ≡ true) slots (c.follow_slots.ensures.waits k here))
+    opened follows)
 
-pub follow_slots-followed-requires-clause-places : goal.follow_slots-followed-requires-clause-places
-follow_slots-followed-requires-clause-places g c =
+pub follow_slots-requires-clause-places : goal.follow_slots-requires-clause-places
+follow_slots-requires-clause-places g c =
     let f = c.self.inside in
     subst (λ x. HasRoom x (vec_capacity f.follower.waiting) f.follower.waiting.items)
-    (sym (fired_shape f.memory c.fire-done.new.self c.fire-done.ensures.next)) c.self.invariant.places
+    (sym (fired_shape f.memory c.fire-done.new.self c.fire-done.ensures.next))
+    (c.self.invariant.places c.if-self.false)
 
-pub follow_slots-followed-requires-clause-fresh : goal.follow_slots-followed-requires-clause-fresh
-follow_slots-followed-requires-clause-fresh g c =
+pub follow_slots-requires-clause-fresh : goal.follow_slots-requires-clause-fresh
+follow_slots-requires-clause-fresh g c =
     let s = c.self.inside.memory in
     let can = (rw (← c.self.view_is) at c.requires) in
     let st = fire_starts s c.fire-done.new.self c.fire-done.ensures.next c.shape.ensures.whole can in

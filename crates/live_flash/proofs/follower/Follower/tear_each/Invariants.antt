@@ -1,6 +1,6 @@
 use Rattle.live_flash.proofs.Common.{◌≡◌, ◌≤◌, ℕ, List, [], length, IfSome, Contents, IsOpened, IsLiveFile, Follows, Tears}
 use Rattle.file_flash.specs.Clearing.{IsCleared}
-use Rattle.live_flash.proofs.follower.Follower.tear.Given as goal
+use Rattle.live_flash.proofs.follower.Follower.tear_each.Given as goal
 
 abbrev pub invariant-loop-number : goal.invariant-loop-number
 invariant-loop-number g l = record {
