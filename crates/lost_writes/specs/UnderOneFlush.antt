@@ -65,8 +65,8 @@ LeavesAsCut protocol logical shape c s base between new =
     ⊎ TearsErase protocol logical shape c s base between new
 
 -- A command that began in this state of the array leads from one moment to another, done or broken off. At some moment
--- nothing waited: where it began, or behind an erase. The array was still that from before the command then, and nothing
--- was erased since. What a loss leaves of the slots that were blank then is as a cut of the command leaves it.
+-- nothing waited: where it began, or behind an erase. The array was still that from before the command then, and
+-- nothing was erased since. What a loss leaves of the slots that were blank then is as a cut of the command leaves it.
 pub record IsCutByLoss (protocol : Protocol) (logical : ℕ) (shape : Shape) (c : Command) (s : ArrayState)
     (old new : Moment) : Type 0 where
   pub base : Moment

@@ -149,8 +149,9 @@ abbrev pub arms_key_cut : KeyCommand → Bool
 arms_key_cut (command.Cut count what) = true
 arms_key_cut _ = false
 
--- The store is opened on a flash: power is turned on where it is off, and the flash is read. Where no read meets a fault
--- the store is open, by the reads of one mount and perhaps more. Where one does it is not, and nothing else is done.
+-- The store is opened on a flash: power is turned on where it is off, and the flash is read. Where no read meets a
+-- fault the store is open, by the reads of one mount and perhaps more. Where one does it is not, and nothing else is
+-- done.
 pub record OpensFlash (its : Config) (up : Bool) (old new : FlashState) : Type 0 where
   pub carries : Carries (powered old) new (not up)
   pub moment : moment_of new ≡ moment_of old
