@@ -46,6 +46,7 @@ impl<'a> CommandReader<'a> {
     }
 
     /// The next command, none behind the last one.
+    #[inline(always)]
     pub fn next(&mut self, alloc: Global) -> Result<Option<Command>, TextError>
         requires { length_of self.old ≤ MAX_FILE_BYTES }
         ensures reads { (bytes : List ℕ) → (commands : List Command) → HasRead bytes commands self.old →
@@ -66,6 +67,7 @@ impl<'a> CommandReader<'a> {
     }
 
     /// The command of the next line, which is this one, none for a blank line or a comment.
+    #[inline(always)]
     fn read_line(
         &mut self,
         alloc: Global,
