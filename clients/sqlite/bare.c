@@ -4,7 +4,7 @@
  *     bare measure WAY FILE N COUNT  how long each of COUNT transactions of N pages took, as `commits measure` says it
  *
  * WAY is `lines`: FLASH_SERVE_PROGRAM serves the image FILE, and is given the lines that the VFS makes of a commit; or
- * `calls`: this makes the calls that flash_serve makes for it, one write of N slots and one sync, on FILE. */
+ * `calls`: this makes the calls that flash_serve makes for it, mostly one write of N slots, and one sync, on FILE. */
 
 #include "pieces.h"
 #include "measuring.h"
