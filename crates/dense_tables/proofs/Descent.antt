@@ -20,7 +20,7 @@ level_start_below level (suc levels) l = elim (cases_eq level levels) [
 ]
 
 -- and all above it come in sixteens, but for the first cell
-level_start_whole : (levels : ℕ) → 0 < levels → (m : ℕ) × (level_start levels ≡ 16 * m + 1)
+pub level_start_whole : (levels : ℕ) → 0 < levels → (m : ℕ) × (level_start levels ≡ 16 * m + 1)
 level_start_whole zero l = absurd (omega arith)
 level_start_whole (suc levels) l = (level_start levels, refl)
 

@@ -5,4 +5,5 @@ pub mod ChainCalls
 pub mod Membership
 pub mod GreatestNumbers
 pub mod Tree
+pub mod Filling
 pub mod Descent

@@ -16,7 +16,7 @@ unfolding under
 get_or-under cells cell k l = get_or-take 16 (drop (16 * cell + 1) cells) k 0 l ∙ get_or-drop (16 * cell + 1) cells k 0
 
 -- the front of a list after a write
-take_set : (n : ℕ) (xs : List ℕ) (k v : ℕ) → take n (set xs k v) ≡ set (take n xs) k v
+pub take_set : (n : ℕ) (xs : List ℕ) (k v : ℕ) → take n (set xs k v) ≡ set (take n xs) k v
 take_set zero xs k v = refl
 take_set (suc n) [] k v = refl
 take_set (suc n) (x ∷ xs) zero v = refl
@@ -57,6 +57,16 @@ pub record IsRising (cells : List ℕ) (top start cell was : ℕ) : Type 0 where
   pub within : cell < length cells
   pub peaks : (other : ℕ) → top ≤ 16 * other → other < start →
       get_or cells other 0 ≡ greatest (under (set cells cell was) other)
+
+-- a number that was written
+pub rising_first : (cells : List ℕ) (top start cell to : ℕ) → start ≤ cell → cell < length cells →
+    ArePeaks cells top start → IsRising (set cells cell to) top start cell (get_or cells cell 0)
+rising_first cells top start cell to high low h = record {
+  within = rw (length-set cells cell to) low;
+  peaks = λ other kept l.
+      rw (set-set cells cell to (get_or cells cell 0), set-get_or cells cell 0)
+      (get_or-set_other cells cell other to 0 (λ e. omega arith) ∙ h other kept l);
+}
 
 -- where no cell over that one is kept all is done
 pub risen_top : (cells : List ℕ) (top start cell was : ℕ) → cell ≤ top → IsRising cells top start cell was →

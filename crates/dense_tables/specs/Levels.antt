@@ -21,7 +21,7 @@ abbrev pub ArePeaks : List ℕ → ℕ → ℕ → Type 0
 ArePeaks cells top count =
     (cell : ℕ) → top ≤ 16 * cell → cell < count → slice_index cells cell ≡ greatest (under cells cell)
 
--- this many levels stand above the numbers, which begin here, and each number is under a cell
+-- this many levels stand above the numbers, which begin here, and each number or zero behind them is under a cell
 pub record IsShape (levels start count : ℕ) : Type 0 where
   pub levels_least : 0 < levels
   pub begins : start ≡ level_start levels
@@ -29,12 +29,18 @@ pub record IsShape (levels start count : ℕ) : Type 0 where
   pub most : count ≤ 16 * start + 1
   pub small : count < 2 ^ 40
 
--- each cell above the numbers that is kept is the greatest of those under it
+-- there are cells up to this one at least, and from it on each is 0
+pub record IsFilled (cells : List ℕ) (end : ℕ) : Type 0 where
+  pub within : end ≤ length cells
+  pub zeros : (cell : ℕ) → end ≤ cell → slice_index cells cell ≡ 0
+
+-- each cell above the numbers that is kept is the greatest of those under it, and behind the numbers all are 0
 pub record MaxTreeInvariant (p : Inside) : Type 0 where
   pub shape : IsShape p.levels p.start (length p.cells.items)
   pub top : IsTop p.top
   pub peaks : ArePeaks p.cells.items p.top p.start
+  pub filled : IsFilled p.cells.items (p.start + p.count)
 
 -- the numbers
 abbrev pub numbers_of : Inside → List ℕ
-numbers_of p = drop p.start p.cells.items
+numbers_of p = take p.count (drop p.start p.cells.items)

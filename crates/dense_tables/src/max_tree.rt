@@ -14,12 +14,14 @@ use std::simd::prelude::*;
 #[derive(Drop)]
 pub struct MaxTree {
     /// The levels one after another from the single cell on, and behind them the numbers. Under the cell
-    /// at `i` are those from `16 * i + 1` on.
+    /// at `i` are those from `16 * i + 1` on. Zeros at the end make the last sixteen numbers whole.
     cells: Vec<u32>,
     /// How many levels there are above the numbers.
     levels: usize,
     /// Where the numbers begin.
     start: usize,
+    /// How many numbers there are.
+    count: usize,
     /// The cell over the first `top` ones is not kept: 16 where the single cell is found when it is asked for, and else
     /// 0.
     top: usize,
@@ -38,8 +40,8 @@ impl Model for MaxTree {
 }
 
 impl MaxTree {
-    /// All numbers are 0. This takes all the memory: four bytes a number, and at most some five more for
-    /// the cells above.
+    /// All numbers are 0. This takes all the memory: four bytes a number, at most some five more for the
+    /// cells above, and at most sixty for the zeros at the end.
     pub fn new(alloc: Global, count: usize) -> Result<MaxTree, AllocError>
         requires { count < 2 ^ 32 }
         ensures { IfOk result (λ p. p ≡ replicate count 0) }
@@ -68,10 +70,12 @@ impl MaxTree {
             levels += 1;
             start = 16 * start + 1;
         }
+        let whole = (count + 15) / 16 * 16;
         Ok(MaxTree {
-            cells: vec![in alloc; 0; start + count]?,
+            cells: vec![in alloc; 0; start + whole]?,
             levels,
             start,
+            count,
             top,
         })
     }

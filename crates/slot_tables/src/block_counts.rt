@@ -81,15 +81,25 @@ impl BlockCounts {
         requires { at < length self.old.marks }
         ensures { self.new ≡ record self.old { marks = slice_set self.old.marks at mark } }
     {
+        let group = self.group(at);
+        self.set_in(group, at, mark);
+    }
+
+    /// Sets or takes away the mark of a place of this group.
+    #[inline(always)]
+    pub fn set_in(&mut self, group: u32, at: u32, mark: bool)
+        requires place { at < length self.old.marks }
+        requires group { group ≡ at / self.old.size }
+        ensures { self.new ≡ record self.old { marks = slice_set self.old.marks at mark } }
+    {
         if self.marks[at as usize] == mark {
             return;
         }
-        let group = self.size.quotient(at) as usize;
         self.marks[at as usize] = mark;
         if mark {
-            self.counts[group] += 1;
+            self.counts[group as usize] += 1;
         } else {
-            self.counts[group] -= 1;
+            self.counts[group as usize] -= 1;
         }
     }
 }

@@ -37,6 +37,14 @@ impl BlockNumbers {
         })
     }
 
+    /// The number of a block.
+    pub fn get(&self, block: u32) -> u32
+        requires { block < length self.now }
+        ensures { result ≡ slice_index self.now block }
+    {
+        self.numbers.get(block as usize)
+    }
+
     /// Gives a block another number.
     pub fn set(&mut self, block: u32, to: u32)
         requires block { block < length self.old }

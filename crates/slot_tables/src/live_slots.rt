@@ -1,10 +1,10 @@
-ghost use Rattle.std.specs.Prelude.{◌≡◌, ℕ, ◌+◌, ◌*◌, ◌<◌, ◌≤◌, ◌↔◌, length, map, replicate, slice_set, sum, Some, None, false, IfOk, IfSome, IsNone};
+ghost use Rattle.std.specs.Prelude.{◌≡◌, ℕ, ◌+◌, ◌-◌, ◌*◌, ◌/◌, ◌<◌, ◌≤◌, ◌==◌, ◌&&◌, ◌↔◌, not, Bool, length, map, replicate, slice_index, slice_set, sum, Some, None, true, false, IfOk, IfSome, IsNone};
 ghost use Rattle.std.specs.List.{All, range_with_len};
 ghost use Rattle.std.specs.Option.{option_map};
 ghost use Rattle.dense_tables.specs.Greatest.{greatest, group_of, IsFirstGreatest};
 ghost use Rattle.record_list.specs.Written.{is_slot};
-ghost use Rattle.slot_tables.specs.Counts.{is_marked, marked_in, unmarked_in, unmarked_numbers, garbage_counts};
-ghost use Rattle.slot_tables.specs.SlotMarks.{garbage_by, AreSized};
+ghost use Rattle.slot_tables.specs.Counts.{is_marked, is_shut_in, marked_in, unmarked_in, unmarked_numbers, garbage_counts};
+ghost use Rattle.slot_tables.specs.SlotMarks.{garbage_by, marked_so, AreSized};
 
 use crate::block_counts::BlockCounts;
 use crate::block_numbers::BlockNumbers;
@@ -177,12 +177,17 @@ impl LiveSlots {
         if self.marks.needed.get(at) == needed {
             return;
         }
-        self.marks.needed.set(at, needed);
         let block = self.marks.needed.group(at);
-        recount(&mut self.garbage, &self.marks, block);
+        self.marks.needed.set_in(block, at, needed);
+        if needed {
+            recount(&mut self.garbage, &self.marks, block);
+            return;
+        }
+        recount_more(&mut self.garbage, &self.marks, block);
     }
 
-    /// Sets whether a slot is blank.
+    /// Sets whether a slot is blank. The garbage of its block is not counted anew where no program goes there.
+    #[inline(always)]
     pub fn set_blank(&mut self, at: u32, blank: bool)
         requires { at < length self.old.blanks }
         ensures { self.new ≡ record self.old { blanks = slice_set self.old.blanks at blank } }
@@ -190,12 +195,17 @@ impl LiveSlots {
         if self.marks.blanks.get(at) == blank {
             return;
         }
-        self.marks.blanks.set(at, blank);
         let block = self.marks.blanks.group(at);
+        let stays = self.marks.stays_shut(block, at);
+        self.marks.blanks.set_in(block, at, blank);
+        if stays {
+            return;
+        }
         recount(&mut self.garbage, &self.marks, block);
     }
 
-    /// Sets whether a slot is needed and whether it is blank. The garbage of its block is counted once for both.
+    /// Sets whether a slot is needed and whether it is blank. The garbage of its block is counted once for both, and not
+    /// at all where it stays.
     #[inline(always)]
     pub fn mark(&mut self, at: u32, needed: bool, blank: bool)
         requires { at < length self.old.needed }
@@ -204,9 +214,13 @@ impl LiveSlots {
           blanks = slice_set self.old.blanks at blank;
         } }
     {
-        self.marks.needed.set(at, needed);
-        self.marks.blanks.set(at, blank);
         let block = self.marks.needed.group(at);
+        let stays = self.marks.keeps_garbage(block, at, needed, blank);
+        self.marks.needed.set_in(block, at, needed);
+        self.marks.blanks.set_in(block, at, blank);
+        if stays {
+            return;
+        }
         recount(&mut self.garbage, &self.marks, block);
     }
 
@@ -258,12 +272,90 @@ impl SlotMarks {
         if self.is_spare(block) {
             return 0;
         }
-        let size = self.needed.size();
-        let unneeded = size - self.needed.count(block);
-        if self.closed[block as usize] || !self.blanks.get(block * size + (size - 1)) {
+        let unneeded = self.needed.size() - self.needed.count(block);
+        if self.is_shut(block) {
             return unneeded;
         }
         unneeded.saturating_sub(self.blanks.count(block))
+    }
+
+    /// Whether no program goes to a block: it is closed, or its last slot is not blank.
+    #[inline(always)]
+    fn is_shut(&self, block: u32) -> bool
+        requires sized { (blocks : ℕ) × AreSized self.now blocks × (block < blocks) }
+        ensures { result ≡ is_shut_in self.now.blanks.marks self.now.closed.items self.now.needed.size block }
+    {
+        let size = self.needed.size();
+        self.closed[block as usize] || !self.blanks.get(block * size + (size - 1))
+    }
+
+    /// Whether it is known that a block has as much garbage once one of its slots is marked so: programs go there, and
+    /// the slot, which was blank, is needed in place of that.
+    #[inline(always)]
+    fn keeps_garbage(&self, block: u32, at: u32, needed: bool, blank: bool) -> bool
+        requires sized { (blocks : ℕ) × AreSized self.now blocks × (block < blocks) }
+        requires block { block ≡ at / self.now.needed.size }
+        requires slot { at < length self.now.needed.marks }
+        ensures { result ≡ true → garbage_by (marked_so self.now at needed blank) block ≡ garbage_by self.now block }
+    {
+        if !self.is_filled(at, needed, blank) {
+            return false;
+        }
+        if self.is_last(block, at) {
+            return self.has_one_blank(block);
+        }
+        !self.is_shut(block)
+    }
+
+    /// Whether a slot that is marked so was blank, and is needed in place of that.
+    #[inline(always)]
+    fn is_filled(&self, at: u32, needed: bool, blank: bool) -> bool
+        requires needed { at < length self.now.needed.marks }
+        requires blanks { at < length self.now.blanks.marks }
+        ensures { result ≡ (needed && not blank
+            && not (is_marked self.now.needed.marks at)
+            && is_marked self.now.blanks.marks at) }
+    {
+        needed && !blank && !self.needed.get(at) && self.blanks.get(at)
+    }
+
+    /// Whether it is known that a block has as much garbage whether one of its slots is blank or not: no program goes
+    /// there.
+    #[inline(always)]
+    fn stays_shut(&self, block: u32, at: u32) -> bool
+        requires sized { (blocks : ℕ) × AreSized self.now blocks × (block < blocks) }
+        requires block { block ≡ at / self.now.needed.size }
+        requires slot { at < length self.now.needed.marks }
+        ensures { result ≡ true → (blank : Bool) →
+            garbage_by (marked_so self.now at (is_marked self.now.needed.marks at) blank) block
+            ≡ garbage_by self.now block }
+    {
+        if self.is_last(block, at) {
+            return false;
+        }
+        self.is_shut(block)
+    }
+
+    /// Whether a slot is the last one of a block.
+    #[inline(always)]
+    fn is_last(&self, block: u32, at: u32) -> bool
+        requires sized { (blocks : ℕ) × AreSized self.now blocks × (block < blocks) }
+        ensures { result ≡ (at == block * self.now.needed.size + (self.now.needed.size - 1)) }
+    {
+        let size = self.needed.size();
+        at == block * size + (size - 1)
+    }
+
+    /// Whether a block is not closed, and one of its slots is blank.
+    fn has_one_blank(&self, block: u32) -> bool
+        requires sized { (blocks : ℕ) × AreSized self.now blocks × (block < blocks) }
+        ensures unclosed { result ≡ true → is_marked self.now.closed.items block ≡ false }
+        ensures blank { result ≡ true → marked_in self.now.blanks.marks self.now.needed.size block ≡ 1 }
+    {
+        if self.closed[block as usize] {
+            return false;
+        }
+        self.blanks.count(block) == 1
     }
 }
 
@@ -303,4 +395,25 @@ fn recount(garbage: &mut BlockNumbers, marks: &SlotMarks, block: u32)
     let _ = marks.needed.size();
     let count = marks.garbage(block);
     garbage.set(block, count);
+}
+
+/// Counts the garbage of a block anew, one of whose slots is needed no more: where there was some, there is one more.
+#[inline(always)]
+fn recount_more(garbage: &mut BlockNumbers, marks: &SlotMarks, block: u32)
+    requires sized { AreSized marks.now (length garbage.old) }
+    requires block { block < length garbage.old }
+    requires few { sum garbage.old ≤ 131072 }
+    requires more { 0 < slice_index garbage.old block →
+        garbage_by marks.now block ≡ slice_index garbage.old block + 1 }
+    ensures { garbage.new ≡ slice_set garbage.old block (garbage_by marks.now block) }
+{
+    // For the proof: there are few slots.
+    let _ = marks.needed.size();
+    let count = garbage.get(block);
+    if count == 0 {
+        recount(garbage, marks, block);
+        return;
+    }
+    let more = count + 1;
+    garbage.set(block, more);
 }

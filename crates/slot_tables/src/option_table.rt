@@ -4,8 +4,8 @@ use crate::lazy_table::reach;
 use std::alloc::{AllocError, Global};
 use std::marker::Model;
 
-/// A value for each number, or none. What is kept ends with the greatest number that ever had a value, as in a
-/// `LazyTable`: behind it there is none, which is known without a look.
+/// A value for each number, or none. What is kept ends with the greatest number that was ever set, as in a `LazyTable`:
+/// behind it there is none, which is known without a look.
 #[derive(Drop)]
 pub struct OptionTable<T> {
     first: Vec<Option<T>>,

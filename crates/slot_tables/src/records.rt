@@ -81,8 +81,9 @@ impl Records {
     /// The number of the next older record of the page of this one.
     pub fn older(&self, number: u32) -> Option<u32>
         requires number { number < length self.now.records }
-        ensures { IfSome (record_at self.now.records number) (λ r.
+        ensures next { IfSome (record_at self.now.records number) (λ r.
             result ≡ next_in (numbers_at self.now.pages r.page) number) }
+        ensures none { record_at self.now.records number ≡ None → result ≡ None }
     {
         match self.records.get(number) {
             None => None,

@@ -129,8 +129,8 @@ impl Slots {
         }
     }
 
-    /// The home of the record of a number, where this is the spare: the only copy, where there is but one. Else this goes
-    /// through the copies in the spare.
+    /// The home of the record of a number, where this is the spare: the only copy, where there is but one. Else this
+    /// goes through the copies in the spare.
     #[inline]
     pub fn home(&self, shape: Shape, spare: Option<Block>, number: u32) -> Option<u32>
         requires shape { IsShape shape }

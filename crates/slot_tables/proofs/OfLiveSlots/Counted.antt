@@ -1,17 +1,18 @@
 -- How many slots of each block are garbage, after a change.
-use Rattle.slot_tables.proofs.Common.{◌≡◌, ◌≢◌, ℕ, ◌+◌, ◌-◌, ◌*◌, ◌/◌, ◌<◌, ◌≤◌, Bool, true, false, eqb, cond, inl, inr, Some, None, List, length, get_or, set, map, refl, sym, ◌∙◌, ap, arith, length-set, range_with_len, IfSome, option_map, with_item, row_fits, cases_eq, nat_tests, get_or-set_same, get_or-set_other, Block, is_slot}
+use Rattle.slot_tables.proofs.Common.{◌≡◌, ◌≢◌, ℕ, ◌+◌, ◌-◌, ◌*◌, ◌/◌, ◌<◌, ◌≤◌, Bool, true, false, eqb, cond, inl, inr, Some, None, List, length, get_or, set, map, refl, sym, ◌∙◌, ap, arith, length-set, range_with_len, IfSome, option_map, with_item, subst, row_fits, one_of, cases_eq, nat_tests, get_or-set_same, get_or-set_other, Block, is_slot}
 use Rattle.std.specs.Prelude.{sum}
 use Rattle.std.proofs.Math.Nat.{mul-le-mul_left}
 use Rattle.std.proofs.lemmas.Nat.{div_below}
+use Rattle.std.proofs.lemmas.List.{set-get_or}
 use Rattle.std.proofs.lemmas.List.Elements.{All-from_get_or}
 use Rattle.std.proofs.lemmas.List.Sums.{sum_by-le}
 use Rattle.std.proofs.lemmas.List.FromFn.{fill_by_all, length-map-range_with_len, get_or-map-range_with_len}
 use Rattle.slot_tables.specs.declared.live_slots.LiveSlots.TheInside.{Inside}
 use Rattle.slot_tables.specs.declared.live_slots.SlotMarks.{SlotMarks}
 use Rattle.slot_tables.specs.Counts.{counted_in, garbage_in}
-use Rattle.slot_tables.specs.SlotMarks.{garbage_by, AreSized}
+use Rattle.slot_tables.specs.SlotMarks.{garbage_by, marked_so, AreSized}
 use Rattle.slot_tables.specs.LiveSlots.{live_of, LiveSlotsInvariant}
-use Rattle.slot_tables.proofs.OfLiveSlots.Tallying.{group_of, marked_there}
+use Rattle.slot_tables.proofs.OfLiveSlots.Tallying.{group_of, marked_there, marked_here}
 
 -- the marks of a block
 module _ (m : SlotMarks) (blocks block : ℕ) (h : AreSized m blocks) (low : block < blocks) where
@@ -139,6 +140,31 @@ module _ (n : Inside) (h : LiveSlotsInvariant n) where
         recounted needed_marks n.garbage (at / n.marks.needed.size) (block_lies at low) refl needed_sized h.spare refl
         (λ k other lies. count_read k lies ∙ sym (needed_others k other))
 
+  -- where a slot is needed no more, and some of its block are garbage, there is one more
+  pub one_freed : (at : ℕ) (low : at < length n.marks.needed.marks) → get_or n.marks.needed.marks at false ≡ true
+      → 0 < get_or n.garbage (at / n.marks.needed.size) 0
+      → garbage_by (needed_marks at false low) (at / n.marks.needed.size)
+      ≡ get_or n.garbage (at / n.marks.needed.size) 0 + 1
+  one_freed at low was some =
+      let block = at / n.marks.needed.size in
+      let read = count_read block (block_lies at low) in
+      rw read (by (is_slot block (option_map (λ b. b.0) n.marks.spare)) (rw read at some))
+    where
+      one : one_of (get_or n.marks.needed.marks at false) ≡ 1
+      one = rw was refl
+
+      by : (spare : Bool)
+          → 0 < cond spare 0 (counted_in n.marks.needed.marks n.marks.blanks.marks n.marks.closed.items
+          n.marks.needed.size (at / n.marks.needed.size))
+          → cond spare 0 (counted_in (set n.marks.needed.marks at false) n.marks.blanks.marks n.marks.closed.items
+          n.marks.needed.size (at / n.marks.needed.size))
+          ≡ cond spare 0 (counted_in n.marks.needed.marks n.marks.blanks.marks n.marks.closed.items
+          n.marks.needed.size (at / n.marks.needed.size)) + 1
+      by true some_there = absurd (omega (arith, some_there))
+      by false some_there =
+          let here = marked_here n.marks.needed.marks n.marks.needed.size at false h.positive low in
+          omega (arith, some_there, here, one)
+
   -- a slot is marked as blank, or not
   module _ (at : ℕ) (mark : Bool) (low : at < length n.marks.blanks.marks) where
     abbrev blank_marks : SlotMarks
@@ -177,6 +203,20 @@ module _ (n : Inside) (h : LiveSlotsInvariant n) where
         recounted blank_marks n.garbage (at / n.marks.needed.size) (blank_lies at low) refl blank_sized h.spare refl
         (λ k other lies. count_read k lies ∙ sym (blank_others k other))
 
+    -- where its block has as much garbage as before
+    pub blank_kept : garbage_by
+        (marked_so n.marks at (get_or n.marks.needed.marks at false) mark) (at / n.marks.needed.size)
+        ≡ garbage_by n.marks (at / n.marks.needed.size)
+        → LiveSlotsInvariant (record n { marks = blank_marks })
+    blank_kept same =
+        let block = at / n.marks.needed.size in
+        let its : garbage_by blank_marks (at / n.marks.needed.size) ≡ garbage_by n.marks (at / n.marks.needed.size) =
+        rw (set-get_or n.marks.needed.marks at false) at same in
+        let stays : set n.garbage (at / n.marks.needed.size) (garbage_by blank_marks (at / n.marks.needed.size))
+        ≡ n.garbage =
+        ap (set n.garbage block) (its ∙ sym (count_read block (blank_lies at low))) ∙ set-get_or n.garbage block 0 in
+        subst (λ xs. LiveSlotsInvariant (record n { marks = blank_marks; garbage = xs })) stays blank_set
+
   -- a slot is marked as needed, or not, and as blank, or not
   module _ (at : ℕ) (mark blank : Bool) (low : at < length n.marks.needed.marks) where
     blanks_low : at < length n.marks.blanks.marks
@@ -211,6 +251,16 @@ module _ (n : Inside) (h : LiveSlotsInvariant n) where
     both_set =
         recounted both_marks n.garbage (at / n.marks.needed.size) (block_lies at low) refl both_sized h.spare refl
         (λ k other lies. count_read k lies ∙ sym (both_others k other))
+
+    -- where its block has as much garbage as before
+    pub both_kept : garbage_by both_marks (at / n.marks.needed.size) ≡ garbage_by n.marks (at / n.marks.needed.size)
+        → LiveSlotsInvariant (record n { marks = both_marks })
+    both_kept same =
+        let block = at / n.marks.needed.size in
+        let stays : set n.garbage (at / n.marks.needed.size) (garbage_by both_marks (at / n.marks.needed.size))
+        ≡ n.garbage =
+        ap (set n.garbage block) (same ∙ sym (count_read block (block_lies at low))) ∙ set-get_or n.garbage block 0 in
+        subst (λ xs. LiveSlotsInvariant (record n { marks = both_marks; garbage = xs })) stays both_set
 
   -- a block is closed, or not
   module _ (block : ℕ) (flag : Bool) (low : block < length n.garbage) where

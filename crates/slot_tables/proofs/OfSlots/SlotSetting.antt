@@ -356,10 +356,6 @@ module _ (t : Inside) (h : TablesInvariant t) (at : ℕ) (to : SlotUse) (low : a
       };
     }
 
-    -- and the marks stay, also where that of the slot is taken away again
-    pub emptied_off : is_needed k at ≡ false → (s : ℕ) → is_marked (set t.live.needed at false) s ≡ is_needed k' s
-    emptied_off off s = elim (cases_eq s at) [
-      | inl here ↦ rw here (get_or-set_same t.live.needed at false false (rw h.live.slots (omega arith)) ∙ sym bare)
-      | inr other ↦
-          get_or-set_other t.live.needed at s false false other ∙ h.live.needed s ∙ sym (needs_kept off s)
-    ]
+    -- and the marks stay
+    pub emptied_off : is_needed k at ≡ false → (s : ℕ) → is_marked t.live.needed s ≡ is_needed k' s
+    emptied_off off s = h.live.needed s ∙ sym (needs_kept off s)

@@ -61,11 +61,12 @@ impl Tables {
     {
         let left = number_in(self.base.slots.get(at.0));
         self.base.slots.set(at.0, to);
-        let was_needed = self.live.is_needed(at.0);
-        self.live.mark(at.0, false, to.is_blank());
-        if was_needed {
-            self.base.need_home(&mut self.live, left);
+        if !self.live.is_needed(at.0) {
+            self.live.set_blank(at.0, to.is_blank());
+            return;
         }
+        self.live.mark(at.0, false, to.is_blank());
+        self.base.need_home(&mut self.live, left);
     }
 
     /// Sets that a slot holds the record of a number.
@@ -79,7 +80,7 @@ impl Tables {
         match (held, copy) {
             (None, None) => self.fill_first(at, number),
             (None, Some(_)) => self.fill_copy(at, number),
-            (Some(_), None) | (Some(_), Some(_)) => self.fill_next(at, SlotUse::Holds(number)),
+            (Some(_), None) | (Some(_), Some(_)) => self.refill(at, SlotUse::Holds(number)),
         }
     }
 
@@ -96,7 +97,7 @@ impl Tables {
             self.base.slots.set(at.0, SlotUse::Holds(number));
             self.live.set_blank(at.0, false);
         } else {
-            self.fill_next(at, SlotUse::Holds(number));
+            self.refill(at, SlotUse::Holds(number));
         }
     }
 
@@ -117,7 +118,7 @@ impl Tables {
 
     /// Sets what a slot holds, and looks at the homes of the record that leaves it and of the one that comes. The slot
     /// is needed before it stops to be blank, so that in most blocks the number of garbage slots does not change.
-    fn fill_next(&mut self, at: Slot, to: SlotUse)
+    fn refill(&mut self, at: Slot, to: SlotUse)
         requires slot { at.0 < slots_of self.old.shape }
         requires number { NumbersBelow (slots_of self.old.shape) to }
         ensures { self.new ≡ record self.old { slots = slice_set self.old.slots at.0 to } }
@@ -187,7 +188,8 @@ impl Tables {
         self.base.refresh_home(&mut self.live, now);
     }
 
-    /// Pins a page at no version. None of its records has version 0. A record that is current is wanted without the pin.
+    /// Pins a page at no version. None of its records has version 0. A record that is current is wanted without the
+    /// pin.
     #[inline(always)]
     pub fn unpin(&mut self, page: u32)
         requires page { page < length self.old.pages }

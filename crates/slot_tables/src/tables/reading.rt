@@ -52,8 +52,9 @@ impl Tables {
     /// The number of the next older record of the page of this one.
     pub fn older(&self, number: u32) -> Option<u32>
         requires { number < slots_of self.now.shape }
-        ensures { IfSome (record_at self.now.records number) (λ r.
+        ensures next { IfSome (record_at self.now.records number) (λ r.
             result ≡ next_in (numbers_at self.now.pages r.page) number) }
+        ensures none { record_at self.now.records number ≡ None → result ≡ None }
     {
         self.base.records.older(number)
     }

@@ -1,10 +1,12 @@
 use Rattle.dense_tables.proofs.Common.{◌≡◌, ◌+◌, eqb, get_or, length, drop, refl, sym, ◌∙◌, rules, arith, greatest, under, IsShape}
 use Rattle.std.specs.List.{position}
+use Rattle.std.proofs.lemmas.List.{get_or-take}
 use Rattle.dense_tables.specs.Levels.{MaxTreeInvariant}
 use Rattle.dense_tables.specs.declared.max_tree.MaxTree.TheInside.{Inside}
 use Rattle.dense_tables.proofs.Tree.{rooted, root, under-set_first, AreAllPeaks}
 use Rattle.dense_tables.proofs.Descent.{way_begins, way_down, way_ends, peak_under, first_place, all_zero, some_cells, rooted_shape, rooted_numbers}
 use Rattle.dense_tables.proofs.Descent.{all_peaks}
+use Rattle.dense_tables.proofs.Filling.{front_all, first_front, some_lies}
 use Rattle.dense_tables.proofs.max_tree.MaxTree.first_greatest.Goals as goal
 
 module _ (p : Inside) (h : MaxTreeInvariant p) where
@@ -27,7 +29,8 @@ returns-then-peak-eq0-clause-none c =
     let peak = rw c.deref.ensures.value at c.peak_at-peak.ensures in
     let zero = all_zero (rooted p.cells.items) p.levels p.start (shape p h) (peaks p h) (first p h ∙ sym peak
     ∙ c.if-peak-eq0.true) in
-    (λ _. rw (← c.self.view_is) (rw (numbers p h) at zero), λ _. refl)
+    let all = rw (numbers p h) at zero in
+    (λ _. rw (← c.self.view_is) (front_all (drop p.start p.cells.items) p.count (λ x. x ≡ 0) all), λ _. refl)
 
 pub unwrap-requires : goal.unwrap-requires
 unwrap-requires c =
@@ -77,21 +80,31 @@ pub returns-clause-none : goal.returns-clause-none
 returns-clause-none c =
     let p = c.self.inside in
     let h = c.self.invariant in
+    let cells = p.cells.items in
     let peak = rw c.deref.ensures.value at c.peak_at-peak.ensures ∙ sym (first p h) in
     let last : c.loop-level._level ≡ p.levels = omega arith in
-    let ends = way_ends (rooted p.cells.items) p.levels p.start (shape p h) (peaks p h)
+    let ends = way_ends (rooted cells) p.levels p.start (shape p h) (peaks p h)
     _ _ (rw last at c.loop-level.invariant) in
-    let end = rw (numbers p h) at ends in (
+    let end = rw (numbers p h) at ends in
+    let lies = some_lies cells p.start p.count h.filled c.loop-level.place (omega (arith, end.1, peak)) in
+    let its = first_front (drop p.start cells) p.count c.loop-level.place end.0 lies in (
       λ no. cc,
-      λ zero. let none = rw (← c.self.view_is) at zero in let is = none c.loop-level.place 0 end.0.within in
-          absurd (omega (arith, end.1)),
+      λ zero.
+          let none = rw (← c.self.view_is) at zero in
+          let is = none c.loop-level.place 0 its.within in
+          let reads = get_or-take p.count (drop p.start cells) c.loop-level.place 0 lies in
+          absurd (omega (arith, end.1, peak, is, reads)),
     )
 
 pub returns-clause-first : goal.returns-clause-first
 returns-clause-first c =
     let p = c.self.inside in
     let h = c.self.invariant in
+    let cells = p.cells.items in
+    let peak = rw c.deref.ensures.value at c.peak_at-peak.ensures ∙ sym (first p h) in
     let last : c.loop-level._level ≡ p.levels = omega arith in
-    let ends = way_ends (rooted p.cells.items) p.levels p.start (shape p h) (peaks p h)
+    let ends = way_ends (rooted cells) p.levels p.start (shape p h) (peaks p h)
     _ _ (rw last at c.loop-level.invariant) in
-    rw (← c.self.view_is) (rw (numbers p h) at ends.0)
+    let end = rw (numbers p h) at ends in
+    let lies = some_lies cells p.start p.count h.filled c.loop-level.place (omega (arith, end.1, peak)) in
+    rw (← c.self.view_is) (first_front (drop p.start cells) p.count c.loop-level.place end.0 lies)

@@ -10,8 +10,8 @@ next-requires c =
     let is = c.get.ensures None ∙ c.in-Some.is in
     (c.in-Some.field-0.page, (record_listed r c.args.number c.in-Some.field-0 c.self.invariant is).1)
 
-pub returns-in-Some : goal.returns-in-Some
-returns-in-Some c =
+pub returns-in-Some-clause-next : goal.returns-in-Some-clause-next
+returns-in-Some-clause-next c =
     let r = c.self.inside in
     let low : c.args.number < length r.records = rw (← c.self.view_is) at c.requires.number in
     let is : record_at r.records c.args.number ≡ Some c.in-Some.field-0 =

@@ -1,7 +1,7 @@
 -- The homes of the old and of the new record, before and after, are refreshed.
 use Rattle.slot_tables.proofs.Common.{◌<◌, length}
 use Rattle.slot_tables.proofs.OfSlots.SlotSetting.{slot_set, set_sized, old_lies}
-use Rattle.slot_tables.proofs.tables.Tables.fill_next.Goals as goal
+use Rattle.slot_tables.proofs.tables.Tables.refill.Goals as goal
 
 pub refresh_moved-requires-clause-before : goal.refresh_moved-requires-clause-before
 refresh_moved-requires-clause-before c =
