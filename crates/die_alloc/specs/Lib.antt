@@ -1,5 +1,6 @@
 pub mod BlocksState
 pub mod NextSlot
 pub mod Ranks
+pub mod DieRanks
 pub mod Blocks
 pub mod Opening

@@ -6,8 +6,9 @@ ghost use Rattle.die_alloc.specs.BlocksState.{IsBlocksState, MayHave, block_stat
 ghost use Rattle.die_alloc.specs.NextSlot.{next_slot, next_slot_in, first_unused, next_block, open_block, die_after, after_next_slot, first_answer};
 
 use crate::block_use::BlockUse;
+use crate::die_ranks::DieRanks;
 use crate::ranks::{keep, ranks};
-use dense_tables::{MaxTree, Reciprocal};
+use dense_tables::Reciprocal;
 use std::alloc::Global;
 use std::marker::Model;
 use tx_types::{Block, BlockState, Memory, Shape, Slot};
@@ -24,7 +25,7 @@ pub struct Blocks {
     /// The die at which the search for a slot begins.
     cursor: u32,
     /// Of each die the ranks of its blocks.
-    ranks: Vec<MaxTree>,
+    ranks: Vec<DieRanks>,
 }
 
 impl Model for Blocks {

@@ -3,6 +3,7 @@
 
 mod block_use;
 mod blocks;
+mod die_ranks;
 mod ranks;
 
 pub use blocks::Blocks;

@@ -3,6 +3,7 @@ ghost use Rattle.tx_types.specs.Config.{IsShape, blocks_of};
 ghost use Rattle.die_alloc.specs.Ranks.{rank_of, AreRanksOf, AreRanks};
 
 use crate::block_use::BlockUse;
+use crate::die_ranks::DieRanks;
 use dense_tables::{MaxTree, Reciprocal};
 use std::alloc::Global;
 use tx_types::{BlockState, Memory, Shape};
@@ -21,7 +22,7 @@ fn rank(state: BlockState) -> u32
 }
 
 /// The ranks of the blocks of each die.
-pub fn ranks(alloc: Global, shape: Shape, blocks: &[BlockUse]) -> Result<Vec<MaxTree>, Memory>
+pub fn ranks(alloc: Global, shape: Shape, blocks: &[BlockUse]) -> Result<Vec<DieRanks>, Memory>
     requires shape { IsShape shape }
     requires blocks { length blocks.now ≡ blocks_of shape }
     ensures { IfOk result (λ ranks. AreRanks shape blocks.now ranks.items) }
@@ -36,7 +37,7 @@ pub fn ranks(alloc: Global, shape: Shape, blocks: &[BlockUse]) -> Result<Vec<Max
 }
 
 /// The ranks of the blocks of a die.
-fn die_ranks(alloc: Global, blocks: &[BlockUse]) -> Result<MaxTree, Memory>
+fn die_ranks(alloc: Global, blocks: &[BlockUse]) -> Result<DieRanks, Memory>
     requires { length blocks.now < 2 ^ 32 }
     ensures { IfOk result (AreRanksOf blocks.now) }
 {
@@ -44,15 +45,16 @@ fn die_ranks(alloc: Global, blocks: &[BlockUse]) -> Result<MaxTree, Memory>
     for (place, block) in blocks.iter().enumerate() {
         ranks.set(place, rank(block.state));
     }
-    Ok(ranks)
+    Ok(DieRanks::new(ranks))
 }
 
-/// Keeps this of a block, and its rank where that is another one.
+/// Keeps this of a block, and its rank where that is another one. Mostly it is the same.
+#[inline(always)]
 pub fn keep(
     shape: Shape,
     die_blocks: &Reciprocal,
     blocks: &mut Vec<BlockUse>,
-    ranks: &mut Vec<MaxTree>,
+    ranks: &mut Vec<DieRanks>,
     block: u32,
     now: BlockUse,
 )
@@ -75,7 +77,8 @@ pub fn keep(
 }
 
 /// Gives a block of a die another rank.
-fn set_rank(ranks: &mut Vec<MaxTree>, die: usize, place: usize, rank: u32)
+#[inline(never)]
+fn set_rank(ranks: &mut Vec<DieRanks>, die: usize, place: usize, rank: u32)
     requires die { die < length ranks.old.items }
     requires place { place < length (slice_index_or ranks.old.items die []) }
     ensures { ranks.new.items

@@ -15,7 +15,7 @@ loop-place-preserved c =
     c.rank.ensures c.set.ensures c.loop-place.invariant
 
 pub returns : goal.returns
-returns c = record {
+returns c = rw c.new-2.ensures (record {
   size = c.loop-place.invariant.0;
   each = λ k low. c.loop-place.invariant.1 k (omega arith);
-}
+})
