@@ -1,5 +1,5 @@
 -- What the calls of a server come to.
-use Rattle.cut_replay.proofs.Common.{◌≡◌, List, Ok, Err, inr, sym, ap, subst, ◌∙◌, Config, Shape, CachedPage, PageCacheState, FlashState, Command, Reply, flash_in, Fits, Serves, EndsServing, ServeError, DeviceSession}
+use Rattle.cut_replay.proofs.Common.{◌≡◌, List, Result, Ok, Err, OnOk, refl, inr, sym, ap, subst, ◌∙◌, Config, Shape, CachedPage, PageCacheState, FlashState, Command, Reply, flash_in, Fits, Serves, EndsServing, ServeError, DeviceSession}
 use Rattle.mounted_session.specs.Sessions.{is_mounted}
 use Rattle.mounted_session.specs.declared.session.Session.TheVariants as session
 use Rattle.cut_replay.specs.Beginning.{MountsFirst}
@@ -35,6 +35,19 @@ serves_next state its c r old new same h = record {
   ends = tt;
   alone = tt;
 }
+
+-- what holds of an answer, where serving did not end
+pub where_answered : {A : Type 0} (result : Result Reply ServeError) → ((why : ServeError) → result ≡ Err why → ⊥) →
+    OnOk result A → A
+where_answered (Ok r) answered h = h
+where_answered (Err why) answered h = absurd (answered why refl)
+
+pub answered_next : {F : Type 0} (state : F → FlashState) (its : Config) (c : Command)
+    (result : Result Reply ServeError) (old new : ServerState F) → ((why : ServeError) → result ≡ Err why → ⊥) →
+    new.config ≡ old.config → Serves state its c old.session result new.session old.cache new.cache →
+    ServesNext state its c old result new
+answered_next state its c (Ok r) old new answered same h = serves_next state its c r old new same h
+answered_next state its c (Err why) old new answered same h = absurd (answered why refl)
 
 -- or serving ended, and the flash is alone
 module _ {F : Type 0} (state : F → FlashState) (its : Config) (c : Command) (why : ServeError) (left : DeviceSession F)

@@ -57,8 +57,8 @@ pub record EndsInMount (its : Config) (cs : List Command) (told : ℕ) (old new 
   pub serves : ServesRun its (take told cs) told old between before after
   pub lost : EndsLost its next (last_point (first_point its serves.run.up serves.run.flash) serves.points) new
 
--- there was no memory before the first command: nothing was told, and the flash was read at most, with the power that it
--- had
+-- there was no memory before the first command: nothing was told, and the flash was read at most, with the power that
+-- it had
 pub record EndsBefore (old new : FlashState) (before after : Watched) : Type 0 where
   pub still : StaysQuiet old new
   pub calls : Carries old new false

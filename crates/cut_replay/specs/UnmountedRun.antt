@@ -52,8 +52,8 @@ pub record EndsUntold (its : Config) (cs : List Command) (told : ℕ) (old new :
   pub reply : Reply
   pub serves : ServesUnmounted its next old reply new
 
--- The flash that comes back is that of the last reply. Where serving ended early, nothing was started on it since and no
--- fault was met, or one command more was answered.
+-- The flash that comes back is that of the last reply. Where serving ended early, nothing was started on it since and
+-- no fault was met, or one command more was answered.
 abbrev pub EndsUnmounted : Config → List Command → ℕ → FlashState → FlashState → Result (Unit {0}) ServeError →
     Type 0
 EndsUnmounted its cs told last new (Ok u) = new ≡ last

@@ -58,6 +58,7 @@ impl<F: Power, R: CommitRule> Server<F, R> {
         requires check { checked config ≡ Ok (F.state flash).shape }
         requires rule { config.protocol ≡ R.protocol }
         ensures opens { IfOk result (OpensServer F.state config flash) }
+        ensures empty { IfOk result (λ s. s.cache.entries ≡ []) }
         ensures failed { IfErr result (λ e. Unmounted F.state config flash e.0 e.1) }
         ensures calls { IfErr result (λ e. Carries (F.state flash) (F.state e.0) false) }
     {
@@ -124,11 +125,11 @@ impl<F: Power + Arms + Wide, R: CommitRule> Server<F, R> {
             command,
         );
         match served {
-            Ok(reply) => Ok(reply),
             Err(why) => {
                 self.session.unmount();
                 Err(why)
             }
+            answered => answered,
         }
     }
 }

@@ -39,9 +39,9 @@ pub fn flash_runs_are_runs()
 
 /// Where a flash tells its arms, a cut that is armed comes at the operation of its number, counted from the arm on,
 /// over all commands, mounts and collections, unless another cut is armed before. While no reply is `cut`, fewer are
-/// started. Where the reply is `cut`, power went off with just so many started (`calls`). A mount starts nothing, so none
-/// ends in `cut` there (`mount`), and no command ends in it that asks for no program and no erase (`still`), unless the
-/// count of what was started stands at its end.
+/// started. Where the reply is `cut`, power went off with just so many started (`calls`). A mount starts nothing, so
+/// none ends in `cut` there (`mount`), and no command ends in it that asks for no program and no erase (`still`),
+/// unless the count of what was started stands at its end.
 pub fn cuts_come_due()
     ensures armed { (count : ℕ) (what : Outcome) (old : Point) (r : Reply) (new : Point) (told : Told) →
         1 ≤ count → IsArmed (command.Cut count what) old r new → new.flash.told ≡ Some told →

@@ -115,15 +115,13 @@ impl OpenTransactions {
         let mut pages = self.lists.pop().unwrap();
         store_pages(&mut pages, &mut self.rooms, batch, index);
         set_owner(&mut self.owners, &pages, Some(tag));
-        self.all
-            .push(Transaction {
-                tag,
-                done: 0,
-                noted_count: 0,
-                mark: Mark::Plain,
-                pages,
-            })
-            .unwrap();
+        self.all.push_reserved(Transaction {
+            tag,
+            done: 0,
+            noted_count: 0,
+            mark: Mark::Plain,
+            pages,
+        });
     }
 
     /// Where the open transaction with this tag stands.
@@ -230,6 +228,6 @@ impl OpenTransactions {
         let Transaction { mut pages, .. } = self.all.remove(at);
         set_owner(&mut self.owners, &pages, None);
         free_pages(&mut pages, &mut self.rooms);
-        self.lists.push(pages).unwrap();
+        self.lists.push_reserved(pages);
     }
 }

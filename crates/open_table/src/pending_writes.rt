@@ -121,13 +121,11 @@ pub fn store_pages<R: CommitRule>(
         let page = batch.page(i);
         let discard = batch.discards(i);
         let version = index.mention(page) + 1;
-        pages
-            .push(PendingWrite {
-                name: Link { page, version },
-                discard,
-                bytes,
-            })
-            .unwrap();
+        pages.push_reserved(PendingWrite {
+            name: Link { page, version },
+            discard,
+            bytes,
+        });
     }
 }
 
@@ -138,6 +136,6 @@ pub fn free_pages(pages: &mut Vec<PendingWrite>, rooms: &mut Vec<Vec<u8>>)
 {
     for _ in 0..pages.len() {
         let PendingWrite { bytes, .. } = pages.pop().unwrap();
-        rooms.push(bytes).unwrap();
+        rooms.push_reserved(bytes);
     }
 }

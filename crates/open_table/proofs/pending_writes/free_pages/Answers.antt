@@ -6,11 +6,10 @@ pub loop-preserved : goal.loop-preserved
 loop-preserved c =
     let popped : c.loop.pages.items ≡ c.pop.new.self.items ++ c.unwrap-bytes.result ∷ [] =
     rw c.unwrap-bytes.ensures at c.pop.ensures.items in
-    let pushed : c.push.new.self.items ≡ c.loop.rooms.items ++ c.unwrap-bytes.result.bytes ∷ [] =
-    rw c.unwrap.ensures at c.push.ensures.items in
-    frees_more c.args.pages.now c.loop.pages c.pop.new.self c.args.rooms.now c.loop.rooms c.push.new.self c.loop.counter
-    c.unwrap-bytes.result
-    c.loop.invariant popped c.pop.ensures.capacity pushed c.push.ensures.capacity
+    let wide = c.push_reserved.ensures.capacity in
+    frees_more c.args.pages.now c.loop.pages c.pop.new.self c.args.rooms.now c.loop.rooms c.push_reserved.new.self
+    c.loop.counter c.unwrap-bytes.result
+    c.loop.invariant popped c.pop.ensures.capacity c.push_reserved.ensures.items (omega (arith, wide))
 
 pub returns : goal.returns
 returns c =

@@ -1,9 +1,9 @@
-use Rattle.cut_replay.proofs.Common.{Ok, Err, refl, sym, ap, subst, ◌∙◌, length}
+use Rattle.cut_replay.proofs.Common.{Err, refl, sym, ap, subst, ◌∙◌, length}
 use Rattle.host_protocol.specs.Commands.{Suits}
 use Rattle.tx_engine.proofs.OfTables.StoreCalls.{as_long}
 use Rattle.cut_replay.specs.ServerCalls.{ServesNext}
 use Rattle.cut_replay.specs.ServerState.{ServerState}
-use Rattle.cut_replay.proofs.ServerCalls.{serves_next, ends_next, ended_fits}
+use Rattle.cut_replay.proofs.ServerCalls.{answered_next, where_answered, ends_next, ended_fits}
 use Rattle.cut_replay.proofs.server.Server.answer_next.Goals as goal
 
 pub serve_one-served-requires-clause-suits : goal.serve_one-served-requires-clause-suits
@@ -14,26 +14,27 @@ serve_one-served-requires-clause-suits g c =
 pub serve_one-served-requires-clause-room : goal.serve_one-served-requires-clause-room
 serve_one-served-requires-clause-room g c = ap length c.deref_mut.ensures.value ∙ c.self.invariant.room
 
-pub invariant_of-self : goal.invariant_of-self
-invariant_of-self g c = record {
+pub invariant_of-self-in_default : goal.invariant_of-self-in_default
+invariant_of-self-in_default g c = record {
   rule = c.self.invariant.rule;
-  fits = c.in-Ok.ensures.fits;
+  fits = where_answered c.serve_one-served.result c.in_default.not-Err c.serve_one-served.ensures.fits;
   room = as_long c.self.inside.room c.serve_one-served.new.room c.self.inside.config.page_bytes c.self.invariant.room;
-  size = c.in-Ok.ensures.size ∙ c.self.invariant.size;
+  size = c.serve_one-served.ensures.size ∙ c.self.invariant.size;
 }
 
-pub returns-in-Ok : goal.returns-in-Ok
-returns-in-Ok g c =
+pub returns-in_default : goal.returns-in_default
+returns-in_default g c =
     let s = c.self.inside in
     let old : ServerState g.row.F.Denot = record { config = s.config; session = s.session; cache = s.cache } in
     let new : ServerState g.row.F.Denot =
     record { config = s.config; session = c.serve_one-served.new.session; cache = c.serve_one-served.new.cache } in
     subst (λ (x : ServerState g.row.F.Denot).
-    ServesNext g.F.Flash.state x.config c.args.command.now x (Ok c.in-Ok.reply) new) c.self.view_is
-    (serves_next g.F.Flash.state s.config c.args.command.now c.in-Ok.reply old new refl c.in-Ok.ensures)
+    ServesNext g.F.Flash.state x.config c.args.command.now x c.serve_one-served.result new) c.self.view_is
+    (answered_next g.F.Flash.state s.config c.args.command.now c.serve_one-served.result old new c.in_default.not-Err
+    refl c.serve_one-served.ensures)
 
-pub invariant_of-self-in-Err : goal.invariant_of-self-in-Err
-invariant_of-self-in-Err g c =
+pub invariant_of-self : goal.invariant_of-self
+invariant_of-self g c =
     let s = c.self.inside in
     record {
       rule = c.self.invariant.rule;

@@ -42,9 +42,9 @@ set_owner-requires g c =
     (length c.self.inside.owners.items) c.store_pages.ensures.1
     (list_empty c.self.inside c.pop.new.self.items c.unwrap-pages.result c.self.invariant popped).0 low)
 
-taken_in : (g : _) (c : goal.After-unwrap g) → IsTakenIn c.args.index.now c.self.inside
+taken_in : (g : _) (c : goal.After-push_reserved g) → IsTakenIn c.args.index.now c.self.inside
     (record c.self.inside {
-      all = c.push.new.self;
+      all = c.push_reserved.new.self;
       owners = with_items c.self.inside.owners c.set_owner.new.owners;
       rooms = c.store_pages.new.rooms;
       lists = c.pop.new.self;
@@ -72,8 +72,8 @@ taken_in g c =
       some = c.requires.some;
       exist = low;
       apart = rw (← c.self.view_is) at c.requires.apart;
-      all = rw c.unwrap.ensures at c.push.ensures.items;
-      capacity = c.push.ensures.capacity;
+      all = c.push_reserved.ensures.items;
+      capacity = (let wide = c.push_reserved.ensures.capacity in omega (arith, wide));
       owners = refilled c.self.inside.owners c.set_owner.new.owners
           (ap length owners ∙ length-with_owner c.self.inside.owners.items (Some c.args.tag)
           c.store_pages.new.pages.items) ∙ owners;

@@ -4,12 +4,12 @@ use Rattle.open_table.proofs.OfTransactions.OpenPages.{transactions_long}
 use Rattle.open_table.proofs.OfTransactions.Owners.{length-with_owner}
 use Rattle.open_table.proofs.open_transactions.OpenTransactions.remove.Goals as goal
 
-taken_away : (c : goal.After-unwrap) → IsTakenAway c.self.inside
+taken_away : (c : goal.After-push_reserved) → IsTakenAway c.self.inside
     (record c.self.inside {
       all = c.remove-pages.new.self;
       owners = with_items c.self.inside.owners c.set_owner.new.owners;
       rooms = c.free_pages.new.rooms;
-      lists = c.push.new.self;
+      lists = c.push_reserved.new.self;
     })
     c.args.at c.remove-pages.result c.free_pages.new.pages
 taken_away c =
@@ -29,8 +29,8 @@ taken_away c =
           (ap length owners ∙ length-with_owner c.self.inside.owners.items None c.remove-pages.result.pages.items)
           ∙ owners;
       freed = c.free_pages.ensures;
-      lists = rw c.unwrap.ensures at c.push.ensures.items;
-      lists_capacity = c.push.ensures.capacity;
+      lists = c.push_reserved.ensures.items;
+      lists_capacity = (let wide = c.push_reserved.ensures.capacity in omega (arith, wide));
     }
 
 pub invariant_of-self : goal.invariant_of-self
