@@ -3,3 +3,4 @@ pub mod LawsAlike
 pub mod LeastBreaches
 pub mod TwinsAlike
 pub mod CountsAlike
+pub mod OwnCurrent

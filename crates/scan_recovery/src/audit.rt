@@ -176,7 +176,7 @@ fn keeps_laws(
     ensures { result ≡ true → KeepsLaws standing.now found.now }
 {
     if found.rec.version == standing.current(found.rec.page) {
-        return has_current(standing, found) && has_counted(standing, found);
+        return has_counted_link(standing, found);
     }
     keeps_laws_aside(standing, orbits, found, near)
 }
@@ -254,6 +254,24 @@ fn has_counted(standing: &CurrentVersions, found: &Found) -> bool
         Protocol::Bpcc => {
             !is_current || is_counted && standing.sorted_records().straddling(rec.next) == 0
         }
+    }
+}
+
+/// Whether the link of a record is not above the current version there, and under Back Pointer Cyclic Commit is not
+/// straddled, as law 5 wants it of a current record.
+#[inline(always)]
+#[tactic(auto, unfolding(record_list::specs::SoundList::LinkHasCounted))]
+fn has_counted_link(standing: &CurrentVersions, found: &Found) -> bool
+    ensures { let s = standing.now in
+        result ≡ true → LinkHasCounted s.protocol s.list s.logical found.now }
+{
+    let next = found.rec.next;
+    if next.version > standing.current(next.page) {
+        return false;
+    }
+    match standing.protocol() {
+        Protocol::Scc => true,
+        Protocol::Bpcc => standing.sorted_records().straddling(next) == 0,
     }
 }
 

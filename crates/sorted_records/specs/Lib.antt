@@ -5,6 +5,7 @@ pub mod InsideCurrentVersions
 pub mod Minima
 pub mod NameGraph
 pub mod Orbits
+pub mod PageCounts
 pub mod Seen
 pub mod CurrentVersions
 pub mod Starts

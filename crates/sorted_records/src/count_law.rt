@@ -38,7 +38,7 @@ pub fn counts(chart: &SortedRecords, orbits: &Orbits, list: &[Found]) -> Option<
 
 /// Whether a record has a count.
 pub fn has_count(list: &[Found]) -> bool
-    ensures { result ≡ false → All (λ f. f.rec.count ≡ 0) list.now }
+    ensures { (result ≡ false) ↔ All (λ f. f.rec.count ≡ 0) list.now }
 {
     list.iter().any(|found| found.rec.count != 0)
 }
@@ -64,16 +64,21 @@ fn all_keep_count(chart: &SortedRecords, orbits: &Orbits) -> bool
     true
 }
 
-/// Whether the record at this place keeps law 9, where those of one name are equal.
+/// Whether the record at this place keeps law 9, where those of one name are equal. Most have no count.
 #[inline(always)]
+#[tactic(auto, unfolding(record_list::specs::Counts::KeepsCount))]
 pub fn keeps_count_at(chart: &SortedRecords, orbits: &Orbits, at: u32) -> bool
     requires namesakes { NamesakesAgree chart.now }
     requires orbits { AreOrbits (name_graph chart.now) orbits.now }
     requires within { at < length chart.now }
-    ensures { result ≡ true → KeepsCount chart.now (slice_index_or chart.now at nothing) }
+    ensures { IsTrue result ↔ KeepsCount chart.now (slice_index_or chart.now at nothing) }
 {
     let found = &chart.records()[at as usize];
     let target = chart.targets()[at as usize];
+    let count = found.rec.count;
+    if count == 0 {
+        return passes_count(chart, &found.rec, target);
+    }
     let own = chart.first_namesake(at);
     keeps_count(chart, orbits, found, target, Some(own))
 }

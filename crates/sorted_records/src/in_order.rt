@@ -84,6 +84,27 @@ fn find_by_search(
     }
 }
 
+/// The place of the first record with this name, which is that of the newest version of its page: the last record of the
+/// page has it too.
+#[inline(always)]
+pub fn find_newest(records: &[Found], starts: &[u32], name: Link) -> Option<u32>
+    requires order { IsInOrder records.now }
+    requires starts { AreStarts records.now starts.now }
+    requires few { length records.now < 2 ^ 32 }
+    requires newest { name.version ≡ newest records.now name.page }
+    ensures { result ≡ position (λ f. has_name name f.rec) records.now }
+{
+    let end = pages_up_to(records, starts, name.page);
+    if end == 0 {
+        return None;
+    }
+    let last = &records[end - 1].rec;
+    if last.page != name.page {
+        return None;
+    }
+    Some(first_namesake(records, starts, (end - 1) as u32))
+}
+
 /// The place of the first record that has the name of the one at this place.
 #[inline]
 pub fn first_namesake(records: &[Found], starts: &[u32], at: u32) -> u32

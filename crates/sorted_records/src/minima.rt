@@ -27,16 +27,16 @@ pub fn minima_of_many(
     Ok(Some(minima(alloc, records, tops)?))
 }
 
-/// Whether more than a few of this many records stand from one of these starts to the next.
+/// Whether more than a few of this many records stand from one of these starts to the next. It goes on to the last one,
+/// so that several starts are looked at at once.
 fn has_many(count: usize, starts: &[u32]) -> bool {
+    let mut most = 0;
     let mut before = 0;
     for start in starts {
-        if start.saturating_sub(before) > FEW {
-            return true;
-        }
+        most = most.max(start.saturating_sub(before));
         before = *start;
     }
-    count.saturating_sub(before as usize) > FEW as usize
+    most > FEW || count.saturating_sub(before as usize) > FEW as usize
 }
 
 /// For each record the least back version of the records of its page from it on. Those count whose

@@ -1,14 +1,16 @@
 ghost use Rattle.std.specs.Prelude.{◌≡◌, ℕ, suc, ◌<◌, ◌^◌, true, [], Some, position, filter, IfOk, IfSome, length, slice_index_or};
 ghost use Rattle.tx_types.specs.declared.config.Protocol.TheVariants.{Bpcc};
-ghost use Rattle.record_list.specs.Current.{cur, responsible, straddling_upto};
+ghost use Rattle.record_list.specs.Current.{responsible, straddling_upto};
 ghost use Rattle.record_list.specs.Records.{greatest, name_of, record_at, has_name, is_present, newest, next_older};
-ghost use Rattle.record_list.specs.Verdict.{link_of, back_of, straddling, why};
+ghost use Rattle.record_list.specs.Verdict.{link_of, back_of, straddling};
 ghost use Rattle.sorted_records.specs.Minima.{AreMinima};
 ghost use Rattle.sorted_records.specs.NameGraph.{name_graph};
 ghost use Rattle.sorted_records.specs.Names.{AreNames, NextDiffers};
-ghost use Rattle.sorted_records.specs.Orbits.{IsGraph, AreOrbits};
-ghost use Rattle.sorted_records.specs.SortedRecords.{IsInOrder, Sorts, list_of, link_graph, IsOrbitOfNewest};
+ghost use Rattle.sorted_records.specs.Orbits.{IsGraph};
+ghost use Rattle.sorted_records.specs.SortedRecords.{IsInOrder, Sorts, list_of};
 ghost use Rattle.sorted_records.specs.Starts.{AreStarts};
+
+mod verdicts;
 
 use crate::arrange::{Arranged, is_in_order, outline, sort_by_name};
 use crate::group::{straddling, straddling_up_to, straddling_up_to_bound};
@@ -17,9 +19,9 @@ use crate::in_order::{
 };
 use crate::minima::minima_of_many;
 use crate::names::Names;
-use crate::walks::{targets_and_orbits, why_from_orbit};
-use crate::{Orbit, Orbits, PageCounts};
-use record_list::{Found, Verdict, Why};
+use crate::walks::targets_and_orbits;
+use crate::{Orbits, PageCounts};
+use record_list::Found;
 use std::alloc::{AllocError, Global};
 use std::marker::Model;
 use tx_types::{Link, Protocol};
@@ -280,89 +282,6 @@ impl SortedRecords {
         back_of(&self.records, &self.starts, name)
     }
 
-    /// Where the links of newest records lead from that of a page; nothing where the page has no record.
-    pub fn orbit(&self, page: u32) -> Option<Orbit>
-        ensures { IsOrbitOfNewest self.now page result }
-    {
-        self.orbit_of_newest(page, self.newest(page))
-    }
-
-    /// Where the links of newest records lead from that of a page, of which this is the newest version.
-    #[inline(always)]
-    fn orbit_of_newest(&self, page: u32, version: u64) -> Option<Orbit>
-        requires { version ≡ newest self.now page }
-        ensures { IsOrbitOfNewest self.now page result }
-    {
-        let place = self.find(Link { page, version })?;
-        Some(self.orbits.orbit(place))
-    }
-
-    /// What decides the verdict on the newest record of a page: where the walk from it ends.
-    pub fn why(&self, protocol: Protocol, logical: u32, page: u32) -> Why
-        ensures { result ≡ why protocol self.now logical page }
-    {
-        self.why_of_newest(protocol, logical, page, self.newest(page), &mut 0)
-    }
-
-    /// What decides the verdict on the newest record of a page, of which this is the version.
-    #[inline(always)]
-    fn why_of_newest(
-        &self,
-        protocol: Protocol,
-        logical: u32,
-        page: u32,
-        version: u64,
-        near: &mut usize,
-    ) -> Why
-        requires { version ≡ newest self.now page }
-        ensures { result ≡ why protocol self.now logical page }
-    {
-        match self.orbit_of_newest(page, version) {
-            Some(orbit) => why_from_orbit(
-                protocol,
-                &self.records,
-                &self.starts,
-                &self.least,
-                logical,
-                orbit,
-                near,
-            ),
-            None => Why::Cycle,
-        }
-    }
-
-    /// The current version of a page, 0 for none.
-    #[inline(always)]
-    pub fn current(&self, protocol: Protocol, logical: u32, page: u32) -> u64
-        ensures { result ≡ cur protocol self.now logical page }
-    {
-        self.current_near(protocol, logical, page, &mut 0)
-    }
-
-    /// The current version of a page, 0 for none, by a search for a straddler that begins where the last one ended.
-    #[inline(always)]
-    pub(crate) fn current_near(
-        &self,
-        protocol: Protocol,
-        logical: u32,
-        page: u32,
-        near: &mut usize,
-    ) -> u64
-        ensures { result ≡ cur protocol self.now logical page }
-    {
-        let version = self.newest(page);
-        match self
-            .why_of_newest(protocol, logical, page, version, near)
-            .verdict()
-        {
-            Verdict::Committed => version,
-            Verdict::Uncommitted => match protocol {
-                Protocol::Scc => self.next_older(page, version),
-                Protocol::Bpcc => self.back_of(Link { page, version }),
-            },
-        }
-    }
-
     /// The greatest version, up to `top`, of a record that straddles this name, 0 for none.
     pub fn straddling_up_to(&self, name: Link, top: u64) -> u64
         ensures { result ≡ greatest (straddling_upto top name) self.now }
@@ -370,8 +289,8 @@ impl SortedRecords {
         straddling_up_to(&self.records, &self.starts, name, top)
     }
 
-    /// The least back versions of the records up to these versions of their pages, if some page has many
-    /// records.
+    /// The least back versions of the records up to these versions of their pages, if those of all records are kept,
+    /// as they are where some page has many.
     pub(crate) fn minima_up_to(
         &self,
         alloc: Global,
@@ -379,7 +298,10 @@ impl SortedRecords {
     ) -> Result<Option<Vec<u64>>, AllocError>
         ensures { IfOk result (λ r. IfSome r (λ least. AreMinima self.now tops.now least.items)) }
     {
-        minima_of_many(alloc, &self.records, &self.starts, tops)
+        match self.least {
+            None => Ok(None),
+            Some(_) => minima_of_many(alloc, &self.records, &self.starts, tops),
+        }
     }
 
     /// The greatest version, up to the bound of its page, of a record that straddles this name, 0 for none,

@@ -59,8 +59,25 @@ pub fn note_record(
     note_name(records, at, names);
     let end = size.min(records[at].rec.page as usize + 1);
     if starts.len() < end {
-        fill(starts, end, at as u32);
+        fill_up(starts, end, at as u32);
     }
+}
+
+/// Adds a number as often as it takes to have this many, for which there is room. Mostly that is once.
+#[inline(always)]
+fn fill_up(numbers: &mut Vec<u32>, size: usize, number: u32)
+    requires few { length numbers.old.items < size }
+    requires room { size ≤ vec_capacity numbers.old }
+    ensures items { numbers.new.items
+        ≡ numbers.old.items ++ replicate (size - length numbers.old.items) number }
+    ensures room { vec_capacity numbers.new ≡ vec_capacity numbers.old }
+{
+    let next = numbers.len() + 1;
+    if next == size {
+        numbers.push_reserved(number);
+        return;
+    }
+    fill(numbers, size, number);
 }
 
 /// Notes how the name of the record at a place differs from that of the one before, if there is one.
@@ -83,6 +100,7 @@ fn note_name(records: &[Found], at: usize, names: &mut Names)
 }
 
 /// Adds a number as often as it takes to have this many, for which there is room.
+#[inline(never)]
 pub fn fill(numbers: &mut Vec<u32>, size: usize, number: u32)
     requires few { length numbers.old.items ≤ size }
     requires room { size ≤ vec_capacity numbers.old }

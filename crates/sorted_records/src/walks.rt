@@ -1,5 +1,5 @@
 //! Where the walks along the links of newest records lead, in records that are in order of their names.
-ghost use Rattle.std.specs.Prelude.{◌≡◌, ◌<◌, ◌^◌, true, [], IfOk, IfSome, length, map, position, take};
+ghost use Rattle.std.specs.Prelude.{◌≡◌, ◌≢◌, suc, ◌<◌, ◌^◌, true, [], IfOk, IfSome, length, map, position, take};
 ghost use Rattle.record_list.specs.Records.{has_name, record_at};
 ghost use Rattle.record_list.specs.Verdict.{why_below_newest};
 ghost use Rattle.sorted_records.specs.Minima.{AreMinima};
@@ -126,19 +126,41 @@ fn find_graphs(alloc: Global, records: &[Found], starts: &[u32]) -> Result<Graph
     Ok(Graphs { targets, links })
 }
 
-/// A place, where it is that of a record of the newest version of its page.
+/// A place, where it is that of a record of the newest version of its page. Mostly no other of the page comes behind it.
 #[inline(always)]
 fn newest_target(records: &[Found], starts: &[u32], target: Option<u32>) -> Option<u32>
     requires order { IsInOrder records.now }
     requires starts { AreStarts records.now starts.now }
     ensures { result ≡ newest_target records.now target }
 {
-    let found = records.get(target? as usize)?;
-    if newest(records, starts, found.rec.page) == found.rec.version {
-        target
-    } else {
-        None
+    let at = target?;
+    let place = at as usize;
+    if place >= records.len() {
+        return None;
     }
+    if is_last_of_page(records, place) {
+        return target;
+    }
+    let rec = &records[place].rec;
+    let version = newest(records, starts, rec.page);
+    if version == rec.version { target } else { None }
+}
+
+/// Whether no record of its page comes behind the one at a place.
+#[inline(always)]
+fn is_last_of_page(records: &[Found], at: usize) -> bool
+    requires { at < length records.now }
+    ensures { result ≡ true → suc at < length records.now →
+        (record_at records.now (suc at)).page ≢ (record_at records.now at).page }
+{
+    let next = at + 1;
+    if next == records.len() {
+        return true;
+    }
+    if records[next].rec.page == records[at].rec.page {
+        return false;
+    }
+    true
 }
 
 /// What decides the verdict on the newest record of a page, from the orbit of its place. The search for a

@@ -1,5 +1,5 @@
 -- Tables that are filled with the records of a scan.
-use Rattle.std.specs.Prelude.{◌≡◌, ◌≢◌, ℕ, ◌==◌, if◌then◌else◌, max, replicate, true, ◌<◌, ◌≤◌, ◌⊎◌, List, length, map, slice_index, slice_index_or, Option, Some, None, option_and_then}
+use Rattle.std.specs.Prelude.{◌≡◌, ◌≢◌, ℕ, ◌==◌, if◌then◌else◌, max, replicate, true, ◌+◌, ◌<◌, ◌≤◌, ◌⊎◌, List, length, map, slice_index, slice_index_or, Option, Some, None, option_and_then}
 use Rattle.std.specs.Prelude.{position, Contains}
 use Rattle.std.specs.Option.{option_map}
 use Rattle.tx_types.specs.declared.record.Link.{Link}
@@ -9,7 +9,7 @@ use Rattle.tx_types.specs.declared.config.Shape.{Shape}
 use Rattle.tx_types.specs.declared.record.Rec.{Rec}
 use Rattle.record_list.specs.declared.found.Found.{Found}
 use Rattle.record_list.specs.Records as records
-use Rattle.record_list.specs.Records.{name_of, has_name, is_present}
+use Rattle.record_list.specs.Records.{name_of, has_name}
 use Rattle.record_list.specs.Current.{cur}
 use Rattle.slot_tables.specs.TablesState.{TablesState, use_at, record_at, number_at, blank_tables, IsNewest}
 use Rattle.slot_tables.specs.declared.slots.SlotUse.{SlotUse}
@@ -108,21 +108,23 @@ pub record AreUses (chart : List Found) (numbers : List ℕ) (how : List Seen) (
 abbrev pub first_use : Seen → SlotUse
 first_use seen.Blank = slot.Blank
 first_use seen.Damaged = slot.Damaged
-first_use seen.Complete = slot.Damaged
+first_use seen.Complete = slot.Blank
 
--- a slot holds the number of one of the first of these records, which stands in it, or none of them stands in it
-abbrev pub IsPut : List Found → List ℕ → List Seen → ℕ → ℕ → SlotUse → Type 0
-IsPut list numbers how count at u =
-    ((j : ℕ) × (j < count) × ((slice_index_or list j records.nothing).slot.0 ≡ at)
+-- a slot holds the number of one of the last of these records, which stands in it, or none of them stands in it, and it
+-- is used as before
+abbrev pub IsPut : List Found → List ℕ → List SlotUse → ℕ → ℕ → SlotUse → Type 0
+IsPut list numbers before count at u =
+    ((j : ℕ) × (length list ≤ j + count) × (j < length list) × ((slice_index_or list j records.nothing).slot.0 ≡ at)
     × (u ≡ slot.Holds (slice_index numbers j)))
-    ⊎ (((j : ℕ) → j < count → (slice_index_or list j records.nothing).slot.0 ≢ at)
-    × (u ≡ first_use (slice_index_or how at seen.Blank)))
+    ⊎ (((j : ℕ) → length list ≤ j + count → j < length list →
+    (slice_index_or list j records.nothing).slot.0 ≢ at)
+    × (u ≡ use_at before at))
 
 -- each slot does
-pub record ArePut (list : List Found) (numbers : List ℕ) (how : List Seen) (count : ℕ)
+pub record ArePut (list : List Found) (numbers : List ℕ) (before : List SlotUse) (count : ℕ)
     (uses : List SlotUse) : Type 0 where
-  pub size : length uses ≡ length how
-  pub each : (at : ℕ) → at < length how → IsPut list numbers how count at (use_at uses at)
+  pub size : length uses ≡ length before
+  pub each : (at : ℕ) → at < length before → IsPut list numbers before count at (use_at uses at)
 
 -- the greatest mentions of the pages that a record names are raised, where they exist
 pub record IsMentioned (old new : List ℕ) (rec : Rec) : Type 0 where
@@ -140,20 +142,33 @@ abbrev pub number_by : List Found → List ℕ → Option Link → Option ℕ
 number_by list numbers name =
     option_and_then (λ l. option_map (λ place. slice_index numbers place) (position (λ f. has_name l f.rec) list)) name
 
--- each page has the number of its current record
-pub record AreCurrent (protocol : Protocol) (list : List Found) (numbers : List ℕ) (logical : ℕ)
-    (k new : TablesState) : Type 0 where
-  pub rest : new ≡ record k { current = new.current }
-  pub each :
-      (page : ℕ) → page < logical →
-      number_at new.current page ≡ number_by list numbers (name_at page (cur protocol list logical page))
+-- a page has the number of the one of the first of these records that is current, or none of them is
+abbrev pub IsCurrentAmong : Protocol → List Found → List ℕ → ℕ → ℕ → ℕ → Option ℕ → Type 0
+IsCurrentAmong protocol list numbers logical count page number =
+    ((j : ℕ) × (j < count)
+    × (name_at page (cur protocol list logical page) ≡ Some (name_of (records.record_at list j)))
+    × (number ≡ Some (slice_index numbers j)))
+    ⊎ (((j : ℕ) → j < count →
+    name_at page (cur protocol list logical page) ≢ Some (name_of (records.record_at list j)))
+    × (number ≡ None))
 
--- the numbers at the first places of a list wait and have answerers as their records do, and others as before
+-- no page has a current record, and no record has an answerer or waits
+pub record AreUndecided (k : TablesState) : Type 0 where
+  pub current : (page : ℕ) → number_at k.current page ≡ None
+  pub answerers : (x : ℕ) → number_at k.answerers x ≡ None
+  pub waits : (x : ℕ) → number_at k.waits x ≡ None
+
+-- the numbers at the first places of a list are current, wait and have answerers as their records are and do, and
+-- nothing else is decided
 pub record AreDecided (protocol : Protocol) (list : List Found) (numbers : List ℕ) (logical : ℕ) (k new : TablesState)
     (count : ℕ) : Type 0 where
-  pub rest : new ≡ record k { answerers = new.answerers; waits = new.waits }
+  pub rest : new ≡ record k { current = new.current; answerers = new.answerers; waits = new.waits }
+  pub pages : length new.current ≡ length k.current
   pub answerers : length new.answerers ≡ length k.answerers
   pub waits : length new.waits ≡ length k.waits
+  pub current :
+      (page : ℕ) → page < logical →
+      IsCurrentAmong protocol list numbers logical count page (number_at new.current page)
   pub done :
       (j : ℕ) → j < count →
       (number_at new.answerers (slice_index numbers j) ≡ number_by list numbers
@@ -161,8 +176,9 @@ pub record AreDecided (protocol : Protocol) (list : List Found) (numbers : List 
       × (number_at new.waits (slice_index numbers j) ≡ awaited (derived_by protocol list logical)
       (records.record_at list j))
   pub others :
-      (x : ℕ) → ((j : ℕ) → j < count → slice_index numbers j ≢ x) →
-      (number_at new.answerers x ≡ number_at k.answerers x) × (number_at new.waits x ≡ number_at k.waits x)
+      (x : ℕ) →
+      ((j : ℕ) × (j < count) × (slice_index numbers j ≡ x))
+      ⊎ ((number_at new.answerers x ≡ None) × (number_at new.waits x ≡ None))
 
 -- tables that are filled with the records of a list, in the order of their names
 pub record AreFilled (protocol : Protocol) (list : List Found) (its_shape : Shape) (logical : ℕ)

@@ -1,8 +1,11 @@
-ghost use Rattle.std.specs.Prelude.{◌≡◌, ◌≤◌, ◌<◌, ℕ, All, length};
+ghost use Rattle.std.specs.Prelude.{◌≡◌, ◌+◌, ◌≤◌, ◌<◌, ℕ, All, length};
+ghost use Rattle.record_list.specs.Current.{IsLoose};
+ghost use Rattle.record_list.specs.Records.{record_at};
 ghost use Rattle.record_list.specs.SoundList.{PagesExist};
 ghost use Rattle.judged_records.specs.Derived.{name_at, answerer, is_waiting};
 ghost use Rattle.judged_records.specs.Numbered.{awaited};
-ghost use Rattle.version_index.specs.Filling.{derived_by, number_by, AreNumbered, AreCurrent, AreDecided};
+ghost use Rattle.slot_tables.specs.TablesState.{TablesState};
+ghost use Rattle.version_index.specs.Filling.{derived_by, number_by, AreNumbered, AreUndecided, AreDecided};
 
 use slot_tables::TablesBuilder;
 use sorted_records::CurrentVersions;
@@ -22,29 +25,7 @@ struct Near {
     place: usize,
 }
 
-/// Sets for each page which record is current.
-pub fn decide_current(
-    tables: &mut TablesBuilder,
-    logical: u32,
-    standing: &CurrentVersions,
-    numbers: &[u32],
-)
-    requires logical { standing.now.logical ≡ logical }
-    requires numbered { AreNumbered standing.now.list numbers.now tables.old }
-    requires whole { length numbers.now ≡ length standing.now.list }
-    requires pages { length tables.old.pages ≡ logical }
-    ensures { AreCurrent standing.now.protocol standing.now.list numbers.now logical
-        tables.old tables.new }
-{
-    // For the proof: the sizes of the tables.
-    let _ = tables.shape();
-    for page in 0..logical {
-        let name = name_at(page, standing.current(page));
-        tables.set_current(page, number_by(standing, numbers, name, &mut 0));
-    }
-}
-
-/// Sets for each record which one answers for it, and whether it waits.
+/// Sets which record of each page is current, and for each other record which one answers for it, and whether it waits.
 pub fn decide_records(
     tables: &mut TablesBuilder,
     logical: u32,
@@ -56,21 +37,84 @@ pub fn decide_records(
     requires whole { length numbers.now ≡ length standing.now.list }
     requires pages { length tables.old.pages ≡ logical }
     requires exist { All (PagesExist logical) standing.now.list }
+    requires undecided { AreUndecided tables.old }
     ensures { AreDecided standing.now.protocol standing.now.list numbers.now logical
         tables.old tables.new (length standing.now.list) }
 {
-    // For the proof: the sizes of the tables.
-    let _ = tables.shape();
-    let records = standing.sorted_records().records();
     let mut near = Near {
         answerer: 0,
         place: 0,
     };
-    for i in 0..records.len() {
-        let decided = decide(standing, numbers, records[i].rec, &mut near);
-        tables.set_answerer(numbers[i], decided.answerer);
-        tables.set_waits(numbers[i], decided.awaited);
+    for at in 0..standing.sorted_records().records().len() {
+        decide_record(tables, logical, standing, numbers, at, &mut near);
     }
+}
+
+/// Decides of the record at a place, as it is stale, loose or current. What is decided of those before it stays.
+#[inline(always)]
+fn decide_record(
+    tables: &mut TablesBuilder,
+    logical: u32,
+    standing: &CurrentVersions,
+    numbers: &[u32],
+    at: usize,
+    near: &mut Near,
+)
+    requires logical { standing.now.logical ≡ logical }
+    requires numbered { AreNumbered standing.now.list numbers.now tables.old }
+    requires whole { length numbers.now ≡ length standing.now.list }
+    requires pages { length tables.old.pages ≡ logical }
+    requires exist { All (PagesExist logical) standing.now.list }
+    requires within { at < length standing.now.list }
+    ensures { (k : TablesState) →
+        AreDecided standing.now.protocol standing.now.list numbers.now logical k tables.old at →
+        AreDecided standing.now.protocol standing.now.list numbers.now logical k tables.new (at + 1) }
+{
+    // For the proof: the sizes of the tables.
+    let _ = tables.shape();
+    let rec = standing.sorted_records().records()[at].rec;
+    let current = standing.current(rec.page);
+    if rec.version < current {
+        return;
+    }
+    if current < rec.version {
+        decide_loose(tables, logical, standing, numbers, at, near);
+        return;
+    }
+    if current == 0 {
+        return;
+    }
+    tables.set_current(rec.page, Some(numbers[at]));
+}
+
+/// Decides which record answers for the loose one at a place, and for which page it waits. It is a call of its own, as
+/// most records are current.
+#[inline(never)]
+fn decide_loose(
+    tables: &mut TablesBuilder,
+    logical: u32,
+    standing: &CurrentVersions,
+    numbers: &[u32],
+    at: usize,
+    near: &mut Near,
+)
+    requires logical { standing.now.logical ≡ logical }
+    requires numbered { AreNumbered standing.now.list numbers.now tables.old }
+    requires whole { length numbers.now ≡ length standing.now.list }
+    requires pages { length tables.old.pages ≡ logical }
+    requires exist { All (PagesExist logical) standing.now.list }
+    requires within { at < length standing.now.list }
+    requires loose { IsLoose standing.now.protocol standing.now.list logical (record_at standing.now.list at) }
+    ensures { (k : TablesState) →
+        AreDecided standing.now.protocol standing.now.list numbers.now logical k tables.old at →
+        AreDecided standing.now.protocol standing.now.list numbers.now logical k tables.new (at + 1) }
+{
+    // For the proof: the sizes of the tables.
+    let _ = tables.shape();
+    let rec = standing.sorted_records().records()[at].rec;
+    let decided = decide(standing, numbers, rec, near);
+    tables.set_answerer(numbers[at], decided.answerer);
+    tables.set_waits(numbers[at], decided.awaited);
 }
 
 /// Which record answers for a record, and for which page it waits: none where it is not loose.
@@ -82,12 +126,6 @@ fn decide(standing: &CurrentVersions, numbers: &[u32], rec: Rec, near: &mut Near
     ensures awaited { let s = standing.now in
         result.awaited ≡ awaited (derived_by s.protocol s.list s.logical) rec }
 {
-    if !standing.is_loose(rec) {
-        return Decided {
-            answerer: None,
-            awaited: None,
-        };
-    }
     let name = answerer(standing, rec, &mut near.answerer);
     Decided {
         answerer: number_by(standing, numbers, name, &mut near.place),

@@ -1,4 +1,4 @@
-ghost use Rattle.std.specs.Prelude.{◌≡◌, ◌<◌, ◌≤◌, All, List, length, map, IfOk, OnOk};
+ghost use Rattle.std.specs.Prelude.{◌≡◌, ◌<◌, ◌≤◌, false, All, List, length, map, replicate, slice_index_or, slice_set, IfOk, OnOk};
 ghost use Rattle.std.specs.List.{range_with_len};
 ghost use Rattle.tx_types.specs.Config.{IsShape, slots_of, blocks_of};
 ghost use Rattle.flash_model.specs.Readings.{reads_blank_block};
@@ -7,15 +7,15 @@ ghost use Rattle.record_list.specs.SoundList.{PagesExist};
 ghost use Rattle.record_list.specs.declared.found.Found.{Found};
 ghost use Rattle.sorted_records.specs.SortedRecords.{Sorts};
 ghost use Rattle.slot_tables.specs.TablesState.{blank_tables};
-ghost use Rattle.judged_records.specs.IndexState.{used_blocks};
+ghost use Rattle.judged_records.specs.IndexState.{is_used_block, used_blocks};
 ghost use Rattle.judged_records.specs.Notes.{seen_as, found_in};
 ghost use Rattle.version_index.specs.Filling.{AreFilled};
 ghost use Rattle.version_index.specs.Scanned.{CanFill};
 ghost use Rattle.version_index.specs.Tables.{notes_in};
 
-use crate::deciding::{decide_current, decide_records};
-use crate::holding::hold_uses;
-use crate::numbering::place_records;
+use crate::deciding::decide_records;
+use crate::holding::{hold_damaged, hold_records};
+use crate::numbering::number_records;
 use flash_model::Seen;
 use record_list::Found;
 use slot_tables::{Tables, TablesBuilder};
@@ -54,6 +54,7 @@ pub fn build_tables(
         AreFilled standing.now.protocol standing.now.list shape logical f.tables) }
     ensures mentions { IfOk result (λ f.
         f.mentions.items ≡ map (mention standing.now.list) (range_with_len 0 logical)) }
+    ensures none_closed { IfOk result (λ f. f.tables.closed ≡ replicate (blocks_of shape) false) }
 {
     let mut tables = TablesBuilder::new(alloc, shape, logical)?;
     match fill(alloc, &mut tables, logical, seen, standing) {
@@ -85,25 +86,43 @@ fn fill(
         (AreFilled standing.now.protocol standing.now.list tables.old.shape logical tables.new) }
     ensures mentions { IfOk result (λ mentions.
         mentions.items ≡ map (mention standing.now.list) (range_with_len 0 logical)) }
+    ensures none_closed { OnOk result (tables.new.closed ≡ replicate (blocks_of tables.old.shape) false) }
 {
-    let chart = standing.sorted_records();
-    let placed = place_records(alloc, tables, logical, chart.records(), seen)?;
-    hold_uses(tables, &placed.uses);
-    decide_current(tables, logical, standing, &placed.numbers);
-    decide_records(tables, logical, standing, &placed.numbers);
-    Ok(placed.mentions)
+    let records = standing.sorted_records().records();
+    let numbered = number_records(alloc, tables, logical, records)?;
+    hold_damaged(tables, seen);
+    hold_records(tables, records, &numbered.numbers);
+    decide_records(tables, logical, standing, &numbered.numbers);
+    Ok(numbered.mentions)
 }
 
-/// Closes each block with a slot that is not blank, and no other one.
+/// Closes each block with a slot that is not blank, where none is closed.
 pub fn close_used(tables: &mut Tables, seen: &[Seen])
-    requires { length seen.now ≡ slots_of tables.old.shape }
+    requires seen { length seen.now ≡ slots_of tables.old.shape }
+    requires none_closed { tables.old.closed ≡ replicate (blocks_of tables.old.shape) false }
     ensures { tables.new ≡ record tables.old { closed = used_blocks tables.old.shape seen.now } }
 {
     let shape = tables.shape();
     for block in 0..shape.blocks() {
-        let blank = are_blank(seen, shape, block);
-        tables.set_closed(Block(block), !blank);
+        close_if_used(tables, seen, shape, block);
     }
+}
+
+/// Closes a block that is not closed, if it has a slot that is not blank.
+#[inline(always)]
+fn close_if_used(tables: &mut Tables, seen: &[Seen], shape: Shape, block: u32)
+    requires shape { shape ≡ tables.old.shape }
+    requires exists { block < blocks_of tables.old.shape }
+    requires seen { length seen.now ≡ slots_of tables.old.shape }
+    requires not_closed { slice_index_or tables.old.closed block false ≡ false }
+    ensures { tables.new ≡ record tables.old {
+      closed = slice_set tables.old.closed block (is_used_block tables.old.shape seen.now block);
+    } }
+{
+    if are_blank(seen, shape, block) {
+        return;
+    }
+    tables.set_closed(Block(block), true);
 }
 
 /// Whether each slot of a block is blank.

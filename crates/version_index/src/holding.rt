@@ -1,52 +1,53 @@
-ghost use Rattle.std.specs.Prelude.{◌≡◌, ◌<◌, ℕ, length, map, slice_set, IfOk};
+ghost use Rattle.std.specs.Prelude.{◌≡◌, ◌<◌, ℕ, All, length, map, slice_set};
 ghost use Rattle.tx_types.specs.Config.{slots_of};
-ghost use Rattle.slot_tables.specs.Copies.{NumbersBelow};
 ghost use Rattle.slot_tables.specs.TablesState.{use_at};
 ghost use Rattle.slot_tables.specs.declared.slots.SlotUse.TheVariants as slot;
-ghost use Rattle.version_index.specs.Filling.{first_use};
+ghost use Rattle.version_index.specs.Filling.{first_use, AreNumbered, ArePut};
 
 use flash_model::Seen;
+use record_list::Found;
 use slot_tables::{SlotUse, TablesBuilder};
-use std::alloc::{AllocError, Global};
 use tx_types::Slot;
 
-/// Sets that a slot holds the record of a number.
-#[inline(always)]
-pub fn put(uses: &mut Vec<SlotUse>, at: Slot, number: u32)
-    requires { at.0 < length uses.old.items }
-    ensures { uses.new.items ≡ slice_set uses.old.items at.0 (slot.Holds number) }
-{
-    uses[at.0 as usize] = SlotUse::Holds(number);
-}
-
-/// How each slot is used where no record stands.
-pub fn first_uses(alloc: Global, seen: &[Seen]) -> Result<Vec<SlotUse>, AllocError>
-    ensures { IfOk result (λ uses. uses.items ≡ map first_use seen.now) }
-{
-    seen.iter().map(|how| first_use(*how)).collect(alloc)
-}
-
-/// How a slot is used that reads so, where no record stands in it.
-fn first_use(how: Seen) -> SlotUse
-    ensures { result ≡ first_use how }
-{
-    match how {
-        Seen::Blank => SlotUse::Blank,
-        Seen::Damaged | Seen::Complete => SlotUse::Damaged,
-    }
-}
-
-/// Each slot is used so. The last slots come first, as each record then goes in front of its copies.
-pub fn hold_uses(tables: &mut TablesBuilder, uses: &[SlotUse])
-    requires size { length uses.now ≡ slots_of tables.old.shape }
-    requires below { (at : ℕ) → NumbersBelow (slots_of tables.old.shape) (use_at uses.now at) }
-    ensures { tables.new ≡ record tables.old { slots = uses.now } }
+/// Each slot of blank ones that reads damaged is used so.
+pub fn hold_damaged(tables: &mut TablesBuilder, seen: &[Seen])
+    requires size { length seen.now ≡ slots_of tables.old.shape }
+    requires blank { (at : ℕ) → use_at tables.old.slots at ≡ slot.Blank }
+    ensures { tables.new ≡ record tables.old { slots = map first_use seen.now } }
 {
     // For the proof: the sizes of the tables.
     let _ = tables.shape();
-    let count = uses.len();
+    for at in 0..seen.len() {
+        hold_if_damaged(tables, Slot(at as u32), seen[at]);
+    }
+}
+
+/// A blank slot is used as it reads, where no record stands in it.
+#[inline(always)]
+fn hold_if_damaged(tables: &mut TablesBuilder, at: Slot, how: Seen)
+    requires slot { at.0 < slots_of tables.old.shape }
+    requires blank { use_at tables.old.slots at.0 ≡ slot.Blank }
+    ensures { tables.new ≡ record tables.old { slots = slice_set tables.old.slots at.0 (first_use how) } }
+{
+    match how {
+        Seen::Damaged => tables.set_slot(at, SlotUse::Damaged),
+        Seen::Blank | Seen::Complete => {}
+    }
+}
+
+/// Each record is put where it stands. The last come first, as each record then goes in front of its copies.
+pub fn hold_records(tables: &mut TablesBuilder, records: &[Found], numbers: &[u32])
+    requires whole { length numbers.now ≡ length records.now }
+    requires within { All (λ f. f.slot.0 < slots_of tables.old.shape) records.now }
+    requires numbered { AreNumbered records.now numbers.now tables.old }
+    ensures rest { tables.new ≡ record tables.old { slots = tables.new.slots } }
+    ensures put { ArePut records.now numbers.now tables.old.slots (length records.now) tables.new.slots }
+{
+    // For the proof: the sizes of the tables.
+    let _ = tables.shape();
+    let count = records.len();
     for i in 0..count {
         let at = count - 1 - i;
-        tables.set_slot(Slot(at as u32), uses[at]);
+        tables.set_slot(records[at].slot, SlotUse::Holds(numbers[at]));
     }
 }

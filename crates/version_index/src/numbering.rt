@@ -6,62 +6,47 @@ ghost use Rattle.record_list.specs.SoundList.{OwnPageExists};
 ghost use Rattle.sorted_records.specs.SortedRecords.{IsInOrder};
 ghost use Rattle.slot_tables.specs.TablesState.{blank_tables, IsNewest};
 ghost use Rattle.slot_tables.specs.Versions.{HasFree};
-ghost use Rattle.version_index.specs.Filling.{NamesAgree, IsNotOlder, IsKnown, HasNumber, AreNumbered, AreBlankBut, ArePut};
+ghost use Rattle.version_index.specs.Filling.{NamesAgree, IsNotOlder, IsKnown, HasNumber, AreNumbered, AreBlankBut};
 
-use crate::holding::{first_uses, put};
 use crate::mentioning::mention;
-use flash_model::Seen;
 use record_list::Found;
-use slot_tables::{SlotUse, TablesBuilder};
+use slot_tables::TablesBuilder;
 use std::alloc::Global;
 use tx_types::{Memory, Rec};
 
-/// The numbers of records, how the slots are used in which they stand, and the greatest version at which they mention
-/// each page.
+/// The numbers of records, and the greatest version at which they mention each page.
 #[derive(Drop)]
-pub struct Placed {
+pub struct Numbering {
     pub numbers: Vec<u32>,
-    pub uses: Vec<SlotUse>,
     pub mentions: Vec<u64>,
 }
 
-/// Gives each record a number, and notes where it stands and what it mentions. The records stand in the order of their
-/// names, in slots that read so. Each is put where it stands, without a search for its number.
-pub fn place_records(
+/// Gives each record a number, and notes what it mentions. The records stand in the order of their names.
+pub fn number_records(
     alloc: Global,
     tables: &mut TablesBuilder,
     logical: u32,
     records: &[Found],
-    seen: &[Seen],
-) -> Result<Placed, Memory>
+) -> Result<Numbering, Memory>
     requires blank { tables.old ≡ blank_tables tables.old.shape (length tables.old.pages) }
     requires order { IsInOrder records.now }
     requires agree { NamesAgree records.now }
     requires pages { All (OwnPageExists (length tables.old.pages)) records.now }
     requires few { length records.now ≤ slots_of tables.old.shape }
-    requires within { All (λ f. f.slot.0 < length seen.now) records.now }
     ensures blank { OnOk result (AreBlankBut tables.old.shape (length tables.old.pages) tables.new) }
-    ensures whole { IfOk result (λ p. length p.numbers.items ≡ length records.now) }
-    ensures numbered { IfOk result (λ p. AreNumbered records.now p.numbers.items tables.new) }
-    ensures put { IfOk result (λ p.
-        ArePut records.now p.numbers.items seen.now (length records.now) p.uses.items) }
-    ensures mentions { IfOk result (λ p.
-        p.mentions.items ≡ map (mention records.now) (range_with_len 0 logical)) }
+    ensures whole { IfOk result (λ n. length n.numbers.items ≡ length records.now) }
+    ensures numbered { IfOk result (λ n. AreNumbered records.now n.numbers.items tables.new) }
+    ensures mentions { IfOk result (λ n.
+        n.mentions.items ≡ map (mention records.now) (range_with_len 0 logical)) }
 {
     let mut numbers = Vec::with_capacity(alloc, records.len())?;
     let mut mentions = vec![in alloc; 0; logical as usize]?;
-    let mut uses = first_uses(alloc, seen)?;
     for found in records {
         let number = number_of(tables, &found.rec);
         numbers.push_reserved(number);
-        put(&mut uses, found.slot, number);
         mention(&mut mentions, &found.rec);
     }
-    Ok(Placed {
-        numbers,
-        uses,
-        mentions,
-    })
+    Ok(Numbering { numbers, mentions })
 }
 
 /// The number of a record that is not older than those of its page.

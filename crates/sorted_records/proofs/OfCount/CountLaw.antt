@@ -1,9 +1,10 @@
 -- Law 9 of a list by its records in order of their names.
-use Rattle.sorted_records.proofs.Common.{◌≡◌, ℕ, ◌<◌, ◌⊎◌, inl, inr, true, false, Bool, Option, Some, None, List, position, length, get_or, sym, ap, ◌∙◌, eqb-true, eq-eqb, arith, false≢true, get_or_default, position-Some, IsPermutation-sym, Rec, Found, name_of, has_name, record_at, nothing, KeepsCount, has_name_true, Sorts, Orbit, Ends, Round, Aside}
+use Rattle.sorted_records.proofs.Common.{◌≡◌, ℕ, ◌<◌, ◌⊎◌, inl, inr, true, false, Bool, Option, Some, None, List, position, length, get_or, sym, ap, ◌∙◌, eqb-true, eq-eqb, arith, false≢true, get_or_default, position-Some, IsPermutation-sym, Rec, Found, name_of, has_name, record_at, nothing, has_name_true, Sorts, Orbit, Ends, Round, Aside}
 use Rattle.std.proofs.Common.{◌↔◌, IsTrue, nat_eq, All, Contains}
 use Rattle.std.proofs.lemmas.List.Elements.{All-contains}
 use Rattle.std.proofs.lemmas.List.Sorted.{Contains-permutation}
 use Rattle.list_lemmas.proofs.Membership.{all_from}
+use Rattle.record_list.specs.Counts.{KeepsCount}
 use Rattle.record_list.specs.Records.{IsScanned}
 use Rattle.record_list.specs.SoundList.{CopiesAgree}
 use Rattle.record_list.specs.Search.{FindsFirst}
@@ -96,3 +97,15 @@ no_round n orbit other round = elim other [
     is_round (Ends after at) = false
     is_round (Round turns) = true
     is_round Aside = false
+
+-- a record without a count keeps the law where its link's records have none
+pub uncounted : (l : List Found) (f : Found) → All (λ g. name_of g.rec ≡ f.rec.next → g.rec.count ≡ f.rec.count) l →
+    f.rec.count ≡ 0 → KeepsCount l f
+unfolding KeepsCount
+uncounted l f passes none = (passes, λ some n first. absurd (some none))
+
+-- where a record keeps the law, those that its link names have its count
+pub targets_counted : (l : List Found) (f : Found) → KeepsCount l f →
+    All (λ g. name_of g.rec ≡ f.rec.next → g.rec.count ≡ f.rec.count) l
+unfolding KeepsCount
+targets_counted l f keeps = keeps.0

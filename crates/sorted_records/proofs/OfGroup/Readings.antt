@@ -1,5 +1,6 @@
 -- Greatest versions in a list in order.
-use Rattle.sorted_records.proofs.Common.{◌≡◌, ◌≢◌, ℕ, zero, suc, ◌<◌, ◌≤◌, true, false, ◌⊎◌, List, length, get_or, refl, sym, ◌∙◌, subst, inl, inr, arith, eq-eqb, ne_eqb, lt-ltb, le-ltb, IsPartitionPoint, cases_lt, cases_eq, get_or_default, Rec, Found, greatest, version_of, newest, name_of, record_at, nothing, greatest_bound, greatest_least, is_below, IsInOrder}
+use Rattle.sorted_records.proofs.Common.{◌≡◌, ◌≢◌, ◌-◌, ℕ, zero, suc, ◌<◌, ◌≤◌, true, false, ◌⊎◌, List, length, get_or, refl, sym, ◌∙◌, subst, inl, inr, arith, eq-eqb, ne_eqb, lt-ltb, le-ltb, IsPartitionPoint, cases_lt, cases_eq, get_or_default, Rec, Found, greatest, version_of, newest, name_of, record_at, nothing, greatest_bound, greatest_least, is_below, IsInOrder, ap, Link}
+use Rattle.record_list.proofs.OfFacts.Names.{same_name}
 use Rattle.record_list.specs.Records.{version_below, next_older}
 use Rattle.sorted_records.specs.SortedRecords.{last_version}
 use Rattle.sorted_records.proofs.OfSort.Order.{below_true, below_false, later_from, page_rises}
@@ -109,3 +110,31 @@ next_older_is l order page below end within parts =
           | inl p ↦ older_other page below (record_at l k) (λ e. omega arith)
           | inr p ↦ older_high page below (record_at l k) (sym p.0) p.1
         ]
+
+-- the last record of the pages up to one has the newest name of that page, if it is of that page
+pub newest_named : (l : List Found) → IsInOrder l → (name : Link) (end : ℕ) → end ≤ length l →
+    IsPartitionPoint (λ f. f.rec.page ≤ name.page) (λ f. name.page < f.rec.page) l end → 0 < end →
+    (record_at l (end - 1)).page ≡ name.page → name.version ≡ newest l name.page →
+    name_of (record_at l (end - 1)) ≡ name
+newest_named l order name end within parts some own is =
+    let i = end - 1 in
+    let next : suc i ≡ end = omega arith in
+    same_name (name_of (record_at l i)) name own
+    (sym (version_same name.page (record_at l i) own) ∙ ap (λ n. last_version l n name.page) next
+    ∙ newest_is l order name.page end within parts ∙ sym is)
+
+-- a record behind which none of its page comes is the newest of its page
+pub last_newest : (l : List Found) → IsInOrder l → (at : ℕ) → at < length l →
+    (suc at < length l → (record_at l (suc at)).page ≢ (record_at l at).page) →
+    newest l (record_at l at).page ≡ (record_at l at).version
+last_newest l order at within other =
+    let page = (record_at l at).page in
+    sym (newest_is l order page (suc at) (omega arith) (
+      λ k d from low. subst (λ (g : Found). g.rec.page ≤ page) (sym (get_or_default l k d nothing (omega arith)))
+          (page_rises l order k at nothing (omega arith) within),
+      λ k d from low. subst (λ (g : Found). page < g.rec.page) (sym (get_or_default l k d nothing low))
+          (let differs = other (omega arith) in
+          let up = page_rises l order at (suc at) nothing (omega arith) (omega arith) in
+          let rises = page_rises l order (suc at) k nothing from low in
+          omega arith),
+    )) ∙ version_same page (record_at l at) refl

@@ -1,13 +1,11 @@
 -- The slots of a scan hold the numbers of their records.
-use Rattle.version_index.proofs.Common.{◌≡◌, ℕ, ◌+◌, ◌<◌, ◌≤◌, true, eqb, List, [], ◌∷◌, ◌++◌, length, map, set, get_or, All, Contains, Some, None, refl, sym, ap, ◌∙◌, subst, inl, inr, arith, eq-eqb, option_map_or, position, get_or-map, false≢true, cases_eq, cases_lt, and_from, length-map, length-set, get_or-set_same, get_or-set_other, get_or_past, ext_get_or, at_from_Contains, Contains-get_or, none-some, all_from, slots_of, Link, Rec, Found, name_of, has_name, is_present, nothing, found_named, present_in, has_name_true, SlotUse, TablesState, record_at, use_at, Note, NamesAgree, AreNumbered, Seen, note_at, note_in, notes_in}
+use Rattle.version_index.proofs.Common.{◌≡◌, ℕ, ◌+◌, ◌<◌, ◌≤◌, true, eqb, List, length, map, set, get_or, All, Contains, Some, None, refl, sym, ap, ◌∙◌, subst, inl, inr, arith, eq-eqb, option_map_or, position, get_or-map, false≢true, cases_eq, cases_lt, and_from, length-map, length-set, get_or-set_same, get_or-set_other, get_or_past, ext_get_or, at_from_Contains, Contains-get_or, all_from, Link, Rec, Found, name_of, has_name, is_present, nothing, found_named, present_in, has_name_true, SlotUse, TablesState, record_at, use_at, Note, NamesAgree, AreNumbered, Seen, note_at, note_in, notes_in}
 use Rattle.std.proofs.Common.{subst₂}
-use Rattle.std.proofs.Math.ListN.{get_or-append}
-use Rattle.std.proofs.Math.Seq.{get_or-append_seam}
+use Rattle.std.proofs.lemmas.List.{set-get_or}
 use Rattle.list_lemmas.proofs.Positions.{position-all}
 use Rattle.record_list.specs.Records as records
 use Rattle.record_list.proofs.OfFacts.Names.{has_own_name}
 use Rattle.slot_tables.specs.declared.slots.SlotUse.TheVariants as slot
-use Rattle.slot_tables.specs.Copies.{NumbersBelow}
 use Rattle.judged_records.specs.declared.note.Note.TheVariants as note
 use Rattle.judged_records.specs.Notes.{seen_as, complete_slots}
 use Rattle.flash_model.specs.declared.flash.Seen.TheVariants as seen
@@ -53,25 +51,6 @@ module _ (list : List Found) (numbers : List ℕ) (k : TablesState) (numbered : 
       let is = its_record rec x (present_in list (found at rec) own)
       (λ f i same. agree f (found at rec) i own same) h in
       ap (λ o. option_map_or note.Holds o note.Damaged) is
-
-  -- and its number is in range
-  pub uses_below : length k.records ≡ slots_of k.shape → (its : Note) (u : SlotUse) → UsesNote list numbers its u →
-      NumbersBelow (slots_of k.shape) u
-  uses_below sizes note.Blank u h = subst (NumbersBelow (slots_of k.shape)) (sym h) tt
-  uses_below sizes note.Damaged u h = subst (NumbersBelow (slots_of k.shape)) (sym h) tt
-  uses_below sizes (note.Holds rec) slot.Blank h = tt
-  uses_below sizes (note.Holds rec) slot.Damaged h = tt
-  uses_below sizes (note.Holds rec) (slot.Holds x) h =
-      let low = h.within in
-      let is = numbered.each h.place (omega arith) in
-      let within : get_or numbers h.place 0 < length k.records =
-      elim (cases_lt (get_or numbers h.place 0) (length k.records)) [
-        | inl less ↦ less
-        | inr past ↦ absurd (none-some (records.record_at list h.place)
-            (sym (get_or_past k.records (get_or numbers h.place 0) None past) ∙ is))
-      ] in
-      let same = h.number in
-      omega arith
 
 -- the last slots are used as they were noted
 pub record IsHolding (list : List Found) (numbers : List ℕ) (k t : TablesState) (notes : List Note)
@@ -129,18 +108,6 @@ uses_held list numbers k t all scanned uses numbered whole agree listed h e = re
       );
 }
 
--- the numbers of such slots are in range
-pub each_below : (list : List Found) (numbers : List ℕ) (k : TablesState) (all : List Seen) (scanned : List Found)
-    (uses : List SlotUse)
-    → AreNumbered list numbers k → length numbers ≡ length list → NamesAgree list → length k.records ≡ slots_of k.shape
-    → (h : AreUses list numbers all scanned uses) → (at : ℕ) → NumbersBelow (slots_of k.shape) (use_at uses at)
-each_below list numbers k all scanned uses numbered whole agree sizes h at = elim (cases_lt at (length uses)) [
-  | inl low ↦ (let size = h.size in
-      uses_below list numbers k numbered whole agree sizes (note_at h.notes at) (use_at uses at)
-      (h.each at (omega arith)))
-  | inr past ↦ subst (NumbersBelow (slots_of k.shape)) (sym (get_or_past uses at slot.Blank past)) tt
-]
-
 -- a slot is noted blank or damaged, or holds a record
 unnoted : (its : Note) (u : SlotUse) (how : Seen) → seen_as its ≡ how → ((rec : Rec) → its ≡ note.Holds rec → ⊥) →
     u ≡ first_use how →
@@ -151,20 +118,23 @@ unnoted note.Damaged u how e none is list numbers = is ∙ ap first_use (sym e)
 unnoted (note.Holds rec) u how e none is list numbers = absurd (none rec refl)
 
 -- slots in which the records of a scan were put are used by what is noted of them
-pub put_used : (list : List Found) (numbers : List ℕ) (all : List Seen) (scanned : List Found) (uses : List SlotUse) →
-    slots scanned ≡ complete_slots all
+pub put_used : (list : List Found) (numbers : List ℕ) (all : List Seen) (scanned : List Found)
+    (before uses : List SlotUse)
+    → slots scanned ≡ complete_slots all
     → ((f : Found) → Contains scanned f → Contains list f) → ((f : Found) → Contains list f → Contains scanned f)
-    → ArePut list numbers all (length list) uses → AreUses list numbers all scanned uses
-put_used list numbers all scanned uses complete listed known put =
+    → before ≡ map first_use all → ArePut list numbers before (length list) uses →
+    AreUses list numbers all scanned uses
+put_used list numbers all scanned before uses complete listed known first put =
     let (its_notes, reads, its_found) = scanned_notes all scanned complete in
     let long : length its_notes ≡ length all = sym (length-map its_notes seen_as) ∙ ap length reads in
+    let size : length before ≡ length all = ap length first ∙ length-map all first_use in
     record {
       notes = its_notes;
       reads = reads;
       found = its_found;
-      size = put.size ∙ sym long;
+      size = put.size ∙ size ∙ sym long;
       each = λ at low. elim (put.each at (omega arith)) [
-        | inl (j, within, there, is) ↦
+        | inl (j, last, within, there, is) ↦
             let f = get_or list j nothing in
             let stands = noted_from its_notes f (subst (λ l. Contains l f) (sym its_found)
             (known f (Contains-get_or list j nothing within))) in
@@ -177,8 +147,8 @@ put_used list numbers all scanned uses complete listed known put =
             let f = found at rec in
             let own = listed f (subst (λ l. Contains l f) its_found (noted_in its_notes at rec low e)) in
             let k = at_from_Contains list f own in
-            none k.0 k.1 (ap (λ g. g.slot.0) (k.2 nothing)))
-            is list numbers
+            none k.0 (omega arith) k.1 (ap (λ g. g.slot.0) (k.2 nothing)))
+            (is ∙ ap (λ l. use_at l at) first ∙ get_or-map first_use all at seen.Blank) list numbers
       ];
     }
 
@@ -194,19 +164,20 @@ put_within list all scanned complete known =
     omega arith)
 
 -- one record more is put where it stands
-pub put_more : (list : List Found) (numbers : List ℕ) (all : List Seen) (count : ℕ) (uses : List SlotUse) →
-    ArePut list numbers all count uses
-    → (get_or list count nothing).slot.0 < length uses
-    → ArePut list numbers all (count + 1) (set uses (get_or list count nothing).slot.0
-    (slot.Holds (get_or numbers count 0)))
-put_more list numbers all count uses put low =
-    let there = (get_or list count nothing).slot.0 in
-    let u = slot.Holds (get_or numbers count 0) in
+pub put_more : (list : List Found) (numbers : List ℕ) (before : List SlotUse) (count place : ℕ)
+    (uses : List SlotUse) → ArePut list numbers before count uses → place + count + 1 ≡ length list
+    → (get_or list place nothing).slot.0 < length uses
+    → ArePut list numbers before (count + 1) (set uses (get_or list place nothing).slot.0
+    (slot.Holds (get_or numbers place 0)))
+put_more list numbers before count place uses put next low =
+    let there = (get_or list place nothing).slot.0 in
+    let u = slot.Holds (get_or numbers place 0) in
     record {
       size = length-set uses there u ∙ put.size;
       each = λ at within. elim (cases_eq at there) [
         | inl here ↦ inl (
-          count,
+          place,
+          omega arith,
           omega arith,
           sym here,
           ap (use_at (set uses there u)) here
@@ -215,11 +186,11 @@ put_more list numbers all count uses put low =
         | inr off ↦
             let same = get_or-set_other uses there at u slot.Blank off in
             elim (put.each at within) [
-              | inl (j, less, stands, is) ↦ inl (j, omega arith, stands, same ∙ is)
+              | inl (j, last, less, stands, is) ↦ inl (j, omega arith, less, stands, same ∙ is)
               | inr (none, is) ↦ inr (
-                λ j less stands. elim (cases_eq j count) [
+                λ j last less stands. elim (cases_eq j place) [
                   | inl e ↦ off (sym stands ∙ ap (λ k. (get_or list k nothing).slot.0) e)
-                  | inr other ↦ none j (omega arith) stands
+                  | inr other ↦ none j (omega arith) less stands
                 ],
                 same ∙ is,
               )
@@ -227,69 +198,56 @@ put_more list numbers all count uses put low =
       ];
     }
 
--- where the numbers go on, those so far are put as before
-put_on : (list : List Found) (numbers : List ℕ) (x : ℕ) (all : List Seen) (count : ℕ) (uses : List SlotUse) →
-    length numbers ≡ count → ArePut list numbers all count uses → ArePut list (numbers ++ x ∷ []) all count uses
-put_on list numbers x all count uses long put = record {
-  size = put.size;
-  each = λ at within. elim (put.each at within) [
-    | inl (j, less, stands, is) ↦ inl (
-      j,
-      less,
-      stands,
-      is ∙ ap slot.Holds (sym (get_or-append numbers (x ∷ []) 0 j
-          (omega arith))),
-    )
-    | inr none ↦ inr none
-  ];
-}
-
--- one record more is put where it stands, with a number of its own
-pub put_next : (list : List Found) (numbers : List ℕ) (all : List Seen) (count : ℕ) (uses : List SlotUse) (x : ℕ) →
-    length numbers ≡ count → ArePut list numbers all count uses →
-    (get_or list count nothing).slot.0 < length uses →
-    ArePut list (numbers ++ x ∷ []) all (count + 1) (set uses (get_or list count nothing).slot.0 (slot.Holds x))
-put_next list numbers all count uses x long put low =
-    subst (λ n. ArePut list (numbers ++ x ∷ []) all (count + 1) (set uses (get_or list count nothing).slot.0
-    (slot.Holds n)))
-    (ap (λ i. get_or (numbers ++ x ∷ []) i 0) (sym long) ∙ get_or-append_seam numbers x [] 0)
-    (put_more list (numbers ++ x ∷ []) all count uses (put_on list numbers x all count uses long put) low)
-
 -- at first none is
-pub none_put : (list : List Found) (numbers : List ℕ) (all : List Seen) (uses : List SlotUse) →
-    uses ≡ map first_use all → ArePut list numbers all 0 uses
-none_put list numbers all uses is = record {
-  size = ap length is ∙ length-map all first_use;
-  each = λ at within. inr (
-    λ j less. absurd (omega arith),
-    ap (λ l. use_at l at) is
-        ∙ get_or-map first_use all at seen.Blank,
-  );
+pub none_put : (list : List Found) (numbers : List ℕ) (uses : List SlotUse) → ArePut list numbers uses 0 uses
+none_put list numbers uses = record {
+  size = refl;
+  each = λ at within. inr (λ j last less. absurd (omega arith), refl);
 }
 
--- this many of the last slots are used so
-pub record AreUsedFrom (k t : TablesState) (uses : List SlotUse) (count : ℕ) : Type 0 where
+-- the first slots are used as they read, and the others are blank
+pub record AreFirstUsed (all : List Seen) (k t : TablesState) (upto : ℕ) : Type 0 where
   pub rest : t ≡ record k { slots = t.slots }
   pub size : length t.slots ≡ length k.slots
-  pub done : (a : ℕ) → length uses ≤ a + count → a < length uses → use_at t.slots a ≡ use_at uses a
+  pub done : (a : ℕ) → a < upto → use_at t.slots a ≡ first_use (get_or all a seen.Blank)
+  pub others : (a : ℕ) → upto ≤ a → use_at t.slots a ≡ slot.Blank
 
-module _ (k : TablesState) (uses : List SlotUse) where
-  pub one_used : (t : TablesState) (count at : ℕ) (u : SlotUse) → AreUsedFrom k t uses count → at < length t.slots →
-      at + count + 1 ≡ length uses
-      → u ≡ use_at uses at → AreUsedFrom k (record t { slots = set t.slots at u }) uses (count + 1)
-  one_used t count at u h low place is = record {
-    rest = ap (λ (v : TablesState). record v { slots = set t.slots at u }) h.rest;
-    size = length-set t.slots at u ∙ h.size;
-    done = λ a least high. elim (cases_eq a at) [
-      | inl here ↦ ap (use_at (set t.slots at u)) here ∙ get_or-set_same t.slots at u slot.Blank low ∙ is
-          ∙ ap (use_at uses) (sym here)
-      | inr off ↦ get_or-set_other t.slots at a u slot.Blank off ∙ h.done a (omega arith) high
-    ];
+module _ (all : List Seen) (k : TablesState) where
+  pub none_used : ((a : ℕ) → use_at k.slots a ≡ slot.Blank) → AreFirstUsed all k k 0
+  none_used blank = record {
+    rest = refl;
+    size = refl;
+    done = λ a low. absurd (omega arith);
+    others = λ a from. blank a;
   }
 
-  pub all_used : (t : TablesState) (count : ℕ) → AreUsedFrom k t uses count → length k.slots ≡ length uses →
-      length uses ≤ count → t ≡ record k { slots = uses }
-  all_used t count h size all =
+  pub one_used : (t : TablesState) (at : ℕ) → AreFirstUsed all k t at → at < length t.slots →
+      AreFirstUsed all k (record t { slots = set t.slots at (first_use (get_or all at seen.Blank)) }) (at + 1)
+  one_used t at h low =
+      let u = first_use (get_or all at seen.Blank) in
+      record {
+        rest = ap (λ (v : TablesState). record v { slots = set t.slots at u }) h.rest;
+        size = length-set t.slots at u ∙ h.size;
+        done = λ a less. elim (cases_eq a at) [
+          | inl here ↦ ap (use_at (set t.slots at u)) here ∙ get_or-set_same t.slots at u slot.Blank low
+              ∙ ap (λ i. first_use (get_or all i seen.Blank)) (sym here)
+          | inr off ↦ get_or-set_other t.slots at a u slot.Blank off ∙ h.done a (omega arith)
+        ];
+        others = λ a from. get_or-set_other t.slots at a u slot.Blank (λ here. omega arith)
+            ∙ h.others a (omega arith);
+      }
+
+  pub all_used : (t : TablesState) (upto : ℕ) → AreFirstUsed all k t upto → length k.slots ≡ length all →
+      length all ≤ upto → t ≡ record k { slots = map first_use all }
+  all_used t upto h size whole =
       h.rest ∙ ap (λ (s : List SlotUse). record k { slots = s })
-      (ext_get_or slot.Blank t.slots uses (h.size ∙ size) (λ a low. let long = h.size in
-      h.done a (omega arith) (omega arith)))
+      (ext_get_or slot.Blank t.slots (map first_use all) (h.size ∙ size ∙ sym (length-map all first_use))
+      (λ a low. let long = h.size in
+      h.done a (omega arith) ∙ sym (get_or-map first_use all a seen.Blank)))
+
+-- a blank slot that is made blank stays so
+pub stays_blank : (k : TablesState) (at : ℕ) (u : SlotUse) → use_at k.slots at ≡ slot.Blank → u ≡ slot.Blank →
+    k ≡ record k { slots = set k.slots at u }
+stays_blank k at u blank is =
+    ap (λ (s : List SlotUse). record k { slots = s })
+    (sym (ap (set k.slots at) (is ∙ sym blank) ∙ set-get_or k.slots at slot.Blank))

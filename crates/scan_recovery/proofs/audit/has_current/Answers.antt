@@ -1,7 +1,6 @@
-mod OwnCurrent
 use Rattle.scan_recovery.proofs.Common.{◌∙◌}
 use Rattle.std.proofs.lemmas.Bool.{eq-eqb}
-use Rattle.scan_recovery.proofs.audit.has_current.Answers.OwnCurrent.{own_current}
+use Rattle.scan_recovery.proofs.OfLaws.OwnCurrent.{own_current}
 use Rattle.scan_recovery.proofs.audit.has_current.Goals as goal
 
 pub returns-then-found-current : goal.returns-then-found-current

@@ -7,7 +7,7 @@ use Rattle.sorted_records.proofs.OfCount.CountLaw.{namesakes, miscounts_alike}
 use Rattle.sorted_records.proofs.count_law.counts.Goals as goal
 
 pub returns-then-not-has_count : goal.returns-then-not-has_count
-returns-then-not-has_count c = none_counted c.args.list.now (c.has_count.ensures c.if-not-has_count.true)
+returns-then-not-has_count c = none_counted c.args.list.now (c.has_count.ensures.0 c.if-not-has_count.true)
 
 pub first_miscount-requires-clause-namesakes : goal.first_miscount-requires-clause-namesakes
 first_miscount-requires-clause-namesakes c = namesakes c.args.list.now c.args.chart.now c.requires.sorts

@@ -36,9 +36,9 @@ loop-next-preserved c =
     (one_taken k c.shape.ensures.kept c.args.page c.args.version t x
     (subst (IsTaking k t c.args.page c.args.version) c.in-Some.is h)
     c.older-next.result (older_is k t c.release.new.tables x c.older-next.result c.release.ensures h.rest
-    c.older-next.ensures)
+    c.older-next.ensures.next)
     (older_below k c.shape.ensures.kept x its_rec.0 its_rec.1 c.older-next.result
-    (older_is k t c.release.new.tables x c.older-next.result c.release.ensures h.rest c.older-next.ensures
+    (older_is k t c.release.new.tables x c.older-next.result c.release.ensures h.rest c.older-next.ensures.next
     its_rec.0 its_rec.1))
     (subst (λ v. c.args.version < v) its above))
 
@@ -55,9 +55,9 @@ loop-next-smaller c =
     let its = c.version_of.ensures ∙ ap (λ l. version_by l x) records in
     let less = less_over k c.shape.ensures.kept c.args.page c.args.version t x
     (subst (IsTaking k t c.args.page c.args.version) c.in-Some.is h)
-    next (older_is k t c.release.new.tables x next c.release.ensures h.rest c.older-next.ensures)
+    next (older_is k t c.release.new.tables x next c.release.ensures h.rest c.older-next.ensures.next)
     (older_below k c.shape.ensures.kept x its_rec.0 its_rec.1 next
-    (older_is k t c.release.new.tables x next c.release.ensures h.rest c.older-next.ensures its_rec.0 its_rec.1))
+    (older_is k t c.release.new.tables x next c.release.ensures h.rest c.older-next.ensures.next its_rec.0 its_rec.1))
     (subst (λ v. c.args.version < v) its c.if-version_of-version.false) in
     subst (λ l. over_of l next < over_of t.records c.loop-next.next) (sym freed_records)
     (subst (λ l. over_of k.records next < over_of l c.loop-next.next) (sym records)

@@ -2,7 +2,8 @@ mod ScanDerived
 mod ScanFills
 mod ScanMentions
 mod ScanSizes
-use Rattle.version_index.proofs.Common.{◌≡◌, ◌≤◌, ◌-◌, ◌*◌, length, ap, sym, subst, refl, ◌∙◌, arith, length-map, shape_of, slots_of, blocks_of, Sorts, TablesState, AreFilled, noted_by, AreIndexed, range_with_len}
+use Rattle.version_index.proofs.Common.{◌≡◌, ◌≤◌, ◌-◌, ◌*◌, false, length, ap, sym, subst, refl, ◌∙◌, arith, length-map, shape_of, slots_of, blocks_of, Sorts, TablesState, AreFilled, noted_by, AreIndexed, range_with_len}
+use Rattle.std.proofs.Common.{replicate}
 use Rattle.std.specs.Result.{result_unwrap_or}
 use Rattle.std.proofs.Math.Nat.{mul-le-mul_right}
 use Rattle.std.proofs.lemmas.List.Sorted.{length_permutation}
@@ -27,8 +28,14 @@ build_tables-requires-clause-few g c =
     let seen = c.requires.scan.1.reads in
     omega arith
 
-pub close_used-requires : goal.close_used-requires
-close_used-requires g c =
+pub close_used-requires-clause-none_closed : goal.close_used-requires-clause-none_closed
+close_used-requires-clause-none_closed g c =
+    let shape = ap (λ (k : TablesState). k.shape) c.in_ok-tables.ensures ∙ c.in_ok-filled.ensures.filled.shape in
+    ap (λ (k : TablesState). k.closed) c.in_ok-tables.ensures ∙ c.in_ok-filled.ensures.none_closed
+    ∙ ap (λ s. replicate (blocks_of s) false) (sym shape)
+
+pub close_used-requires-clause-seen : goal.close_used-requires-clause-seen
+close_used-requires-clause-seen g c =
     let same : c.in-Ok.shape ≡ shape_of c.args.config =
     ap (λ r. result_unwrap_or r (shape_of c.args.config)) (sym c.in-Ok.is ∙ c.check.ensures.exact ∙ c.requires.check) in
     c.requires.scan.1.reads

@@ -1,12 +1,10 @@
--- One record after the other gets its number, is put where it stands, and raises the mentions.
-use Rattle.version_index.proofs.Common.{◌<◌, ◌+◌, length, get_or, nothing, take, take_all, arith, ap, ◌∙◌, ◌≡◌, subst, sym}
+-- One record after the other gets its number, and raises the mentions.
+use Rattle.version_index.proofs.Common.{◌+◌, length, get_or, take, take_all, arith, ap, ◌∙◌, subst, sym}
 use Rattle.std.proofs.Common.{rules}
 use Rattle.std.proofs.lemmas.List.{get_or-replicate}
-use Rattle.version_index.specs.Filling.{ArePut}
 use Rattle.judged_records.proofs.OfChanges.Mentions.{mentions_more, mentions_are}
 use Rattle.version_index.proofs.OfOpening.ScanNumbers.{IsNumberingSo, start_numbering, its_page, its_free, its_order, number_more}
-use Rattle.version_index.proofs.OfOpening.ScanSlots.{none_put, put_next}
-use Rattle.version_index.proofs.numbering.place_records.Goals as goal
+use Rattle.version_index.proofs.numbering.number_records.Goals as goal
 
 pub loop-found-init : goal.loop-found-init
 loop-found-init c =
@@ -16,8 +14,6 @@ loop-found-init c =
           (sym c.in_ok-numbers.ensures.items)
           (start_numbering k.shape (length k.pages) c.args.records.now k c.requires.blank);
       room = search rules;
-      put = none_put c.args.records.now c.in_ok-numbers.numbers.items c.args.seen.now
-          c.in_ok-uses.uses.items c.in_ok-uses.ensures;
       mentions = record {
         size = search rules;
         each = λ page low.
@@ -45,8 +41,6 @@ loop-found-preserved c =
     let records = c.args.records.now in
     let at = c.loop-found.found-index in
     let before = c.loop-found.invariant in
-    let low : (get_or records at nothing).slot.0 < length c.loop-found.uses.items =
-    rw before.put.size (c.requires.within at nothing c.loop-found-test.true) in
     let said = c.mention.ensures in
     record {
       numbering = subst (λ n. IsNumberingSo k.shape (length k.pages) records n t (at + 1))
@@ -54,8 +48,6 @@ loop-found-preserved c =
           (number_more _ _ _ _ _ _ before.numbering c.loop-found-test.true c.requires.agree t
           c.number_of-number.result c.number_of-number.ensures.number);
       room = rw c.push_reserved.ensures.capacity before.room;
-      put = rw (c.push_reserved.ensures.items, c.put.ensures) (put_next records c.loop-found.numbers.items
-          c.args.seen.now at c.loop-found.uses.items c.number_of-number.result before.numbering.long before.put low);
       mentions = mentions_more records at c.args.logical c.loop-found.mentions.items said.once
           c.mention.new.mentions.items c.loop-found-test.true before.mentions said.size_once said.size_new said.own
           said.linked;
@@ -66,11 +58,3 @@ returns-clause-mentions c =
     mentions_are c.args.records.now (take c.loop-found.found-index c.args.records.now) c.args.logical
     c.loop-found.mentions.items
     (take_all c.loop-found.found-index c.args.records.now (omega arith)) c.loop-found.invariant.mentions
-
-pub returns-clause-put : goal.returns-clause-put
-returns-clause-put c =
-    let end = c.loop-found-test.false in
-    let most = c.loop-found.auto.found-index-end in
-    let all : c.loop-found.found-index ≡ length c.args.records.now = omega arith in
-    subst (λ n. ArePut c.args.records.now c.loop-found.numbers.items c.args.seen.now n c.loop-found.uses.items) all
-    c.loop-found.invariant.put

@@ -1,15 +1,13 @@
 use Rattle.version_index.proofs.Common.{◌≤◌, length, take}
 use Rattle.std.specs.Vec.{vec_capacity}
 use Rattle.judged_records.proofs.OfChanges.Mentions.{AreMentions}
-use Rattle.version_index.specs.Filling.{ArePut}
 use Rattle.version_index.proofs.OfOpening.ScanNumbers.{IsNumberingSo}
-use Rattle.version_index.proofs.numbering.place_records.Given as goal
+use Rattle.version_index.proofs.numbering.number_records.Given as goal
 
 abbrev pub invariant-loop-found : goal.invariant-loop-found
 invariant-loop-found l = record {
   numbering : IsNumberingSo l.initial.tables.shape (length l.initial.tables.pages) l.records l.numbers.items
       l.tables l.found-index;
   room : length l.records ≤ vec_capacity l.numbers;
-  put : ArePut l.records l.numbers.items l.fn.seen l.found-index l.uses.items;
   mentions : AreMentions (take l.found-index l.records) l.fn.logical l.mentions.items;
 }
