@@ -37,8 +37,8 @@ pub record ReadFails (n : IndexState) (old new : FlashState) (before : List Oper
   pub copied : CopiedFirst n old before spare block first (from ∷ later) (moment_of new) n'
   pub reads : old.live ≡ true → new.reads ≡ counted_times (length first + 1) old.reads
 
--- The next slot was read, and the program of its copy was broken. A failed read looks on the flash like a copy that left
--- its slot blank: the count of reads tells the two apart.
+-- The next slot was read, and the program of its copy was broken. A failed read looks on the flash like a copy that
+-- left its slot blank: the count of reads tells the two apart.
 pub record CopyBreaks (n : IndexState) (old new : FlashState) (before : List Operation) (spare block : ℕ)
     (from to : ℕ)
     (n' : IndexState) : Type 0 where

@@ -46,8 +46,8 @@ pub record KeepsStore (p : Protocol) (a b : StoreParts) (broken : Bool) : Type 0
   pub others : (at : Slot) (rec : Rec) → b.unsure ≡ unsure.Own at rec → ⊥
   pub records : HasNoNewRecord a.noted b.noted
 
--- What a call keeps that may replace a block: the flash carries on but for the blocks replaced (`CarriesRetiring`), where
--- the other calls do operations only.
+-- What a call keeps that may replace a block: the flash carries on but for the blocks replaced (`CarriesRetiring`),
+-- where the other calls do operations only.
 pub record KeepsRetiring (p : Protocol) (a b : StoreParts) (broken : Bool) : Type 0 where
   pub tables : KeepsStore p a b broken
   pub carries : CarriesRetiring a.flash b.flash broken

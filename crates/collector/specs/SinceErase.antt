@@ -55,8 +55,8 @@ EndsTorn protocol logical shape old true new =
     ⊎ (ProgramTorn protocol logical shape old new ⊎ EraseTorn protocol logical shape old new)
 
 -- What a call does that completes no transaction. At some moment nothing waits that did not wait before: where the call
--- began, or behind its last erase. Since then only programs were done, or broken, until an erase is broken. The image is
--- sound at each of these moments, and stands for the same array.
+-- began, or behind its last erase. Since then only programs were done, or broken, until an erase is broken. The image
+-- is sound at each of these moments, and stands for the same array.
 pub record WorksSinceErase (protocol : Protocol) (logical : ℕ) (shape : Shape) (old : Moment) (broken : Bool)
     (new : Moment) : Type 0 where
   pub base : Moment

@@ -28,8 +28,8 @@ impl LockFile for File {
     }
 }
 
-/// The most bytes that one call writes. The system keeps what one call wrote in one piece of memory, and each later sync
-/// of a few of its bytes looks at all of it.
+/// The most bytes that one call writes. The system keeps what one call wrote in one piece of memory, and each later
+/// sync of a few of its bytes looks at all of it.
 const PIECE_BYTES: usize = 65536;
 
 /// The files of the system.

@@ -40,8 +40,8 @@ Starts old new broken =
 -- What each call of a flash keeps, and each call of what stands on one, which was broken or not: the shape, the count
 -- of faults, which does not fall, what is to come, and what is told of retired blocks. The count of faults rises where
 -- a call is broken, and no other call changes it. Only a broken call may end being live. On a flash without power
--- nothing but that count changes. With power each arm comes at its number. It takes 'broken or not' in place of a result,
--- so that each layer above can say which of its answers are broken.
+-- nothing but that count changes. With power each arm comes at its number. It takes 'broken or not' in place of a
+-- result, so that each layer above can say which of its answers are broken.
 pub record Carries (old new : FlashState) (broken : Bool) : Type 0 where
   pub shape : new.shape ≡ old.shape
   pub later : old.faults ≤ new.faults

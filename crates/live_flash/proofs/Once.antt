@@ -8,7 +8,7 @@ use Rattle.std.proofs.Common.{take-add}
 use Rattle.std.proofs.lemmas.List.{length-take, length-drop, get_or-take, get_or-drop, take-append-drop, drop-drop}
 use Rattle.std.proofs.lemmas.List.Sums.{sum_by-cons, sum_by-append}
 use Rattle.std.proofs.lemmas.List.Sorted.{sum_by-IsPermutation}
-use Rattle.live_flash.specs.Waiting.{times, AreOnce, IsRun, no_slot}
+use Rattle.live_flash.specs.Waiting.{times, AreOnce, AreInRun, no_slot}
 
 abbrev number : Slot → ℕ
 number at = at.0
@@ -124,14 +124,14 @@ run_has (at ∷ run) first k up from below =
     ]
 
 -- a slot alone
-pub run_one : (slots : List Slot) (from : ℕ) → IsRun slots from 1
+pub run_one : (slots : List Slot) (from : ℕ) → AreInRun slots from 1
 run_one slots from k low =
     let none : from + k ≡ from = omega (arith, low) in
     ap (λ i. (get_or slots i no_slot).0) none ∙ omega (arith, low)
 
 -- and one more
-pub run_more : (slots : List Slot) (from count : ℕ) → IsRun slots from count →
-    (get_or slots (from + count) no_slot).0 ≡ (get_or slots from no_slot).0 + count → IsRun slots from (count + 1)
+pub run_more : (slots : List Slot) (from count : ℕ) → AreInRun slots from count →
+    (get_or slots (from + count) no_slot).0 ≡ (get_or slots from no_slot).0 + count → AreInRun slots from (count + 1)
 run_more slots from count run next k low = elim (cases_lt k count) [
   | inl below ↦ run k below
   | inr above ↦
@@ -140,7 +140,7 @@ run_more slots from count run next k low = elim (cases_lt k count) [
 ]
 
 module _ (slots : List Slot) (from count : ℕ) (within : from + count ≤ length slots)
-    (run : IsRun slots from count) where
+    (run : AreInRun slots from count) where
   abbrev part : List Slot
   part = take count (drop from slots)
 

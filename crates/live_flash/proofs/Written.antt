@@ -2,7 +2,7 @@
 use Rattle.live_flash.proofs.Common.{◌≡◌, ℕ, ◌+◌, ◌≤◌, true, List, ◌++◌, length, take, drop, get_or, Option, Result, OnOk, IfSome, sym, subst, Slot, Shape, Contents, blank, slot_at, IsImage, StoreError, FileState, BothTell, slots_in, IsOpened, TurnsSlots, Follows, LosesOnly}
 use Rattle.std.proofs.lemmas.List.{take-append-drop}
 use Rattle.file_flash.proofs.Loading.{in_right}
-use Rattle.live_flash.specs.Waiting.{AreOnce, IsRun, no_slot}
+use Rattle.live_flash.specs.Waiting.{AreOnce, AreInRun, no_slot}
 use Rattle.live_flash.proofs.Following.{in_left}
 use Rattle.live_flash.proofs.OfTold.{run_loses_told, run_waits_told}
 use Rattle.live_flash.proofs.Once.{inner, outer, due_parts, waits_parts, apart}
@@ -17,7 +17,7 @@ back_of slots n k here = subst (λ xs. slots_in xs k ≡ true) (take-append-drop
     (in_right (take n slots) (drop n slots) k here)
 
 module _ (shape : Shape) (image : List Contents) (is : IsImage shape image) (slots : List Slot) (from count : ℕ)
-    (within : from + count ≤ length slots) (run : IsRun slots from count) (r : Result (Unit {0}) StoreError)
+    (within : from + count ≤ length slots) (run : AreInRun slots from count) (r : Result (Unit {0}) StoreError)
     (old new : Option FileState)
     (turns : BothTell
     (TurnsSlots shape (get_or slots from no_slot).0 count (λ k. blank) (λ k. slot_at image k) r) old new)

@@ -85,11 +85,11 @@ pub record TurnsSlots (shape : Shape) (first count : ℕ) (old new : ℕ → Con
   pub turns : (k : ℕ) → first ≤ k → k < first + count → Holds shape (old k) before k →
       OnOk result (IsTurning shape (old k) (new k) after k)
 
--- Each slot of the flash follows: those that wait are written over blank ones, and all others are durable. But those
--- that are due are blank in the file still.
-pub record Follows (shape : Shape) (image : List Contents) (waiting later : List Slot) (file : FileState) : Type 0 where
-  pub keeps : (k : ℕ) → k < length image → slots_in later k ≡ false → slots_in waiting k ≡ false →
+-- Each slot of the flash follows: those that were written since the last sync are over blank ones, those that wait are
+-- blank in the file still, and all others are durable.
+pub record Follows (shape : Shape) (image : List Contents) (written waiting : List Slot) (file : FileState) : Type 0 where
+  pub keeps : (k : ℕ) → k < length image → slots_in waiting k ≡ false → slots_in written k ≡ false →
       Holds shape (slot_at image k) file k
-  pub waits : (k : ℕ) → k < length image → slots_in later k ≡ false → slots_in waiting k ≡ true →
+  pub waits : (k : ℕ) → k < length image → slots_in waiting k ≡ false → slots_in written k ≡ true →
       IsTurning shape blank (slot_at image k) file k
-  pub due : (k : ℕ) → k < length image → slots_in later k ≡ true → Holds shape blank file k
+  pub due : (k : ℕ) → k < length image → slots_in waiting k ≡ true → Holds shape blank file k

@@ -22,9 +22,9 @@ times slots k = count_by (λ at. at.0 == k) slots
 abbrev pub AreOnce : List Slot → Type 0
 AreOnce slots = (k : ℕ) → times slots k ≤ 1
 
--- so many slots from a place of a list on follow each other
-abbrev pub IsRun : List Slot → ℕ → ℕ → Type 0
-IsRun slots from count =
+-- so many slots from a place of a list on are in a run: they follow each other
+abbrev pub AreInRun : List Slot → ℕ → ℕ → Type 0
+AreInRun slots from count =
     (k : ℕ) → k < count →
     (slice_index_or slots (from + k) no_slot).0 ≡ (slice_index_or slots from no_slot).0 + k
 

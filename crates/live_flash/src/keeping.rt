@@ -44,8 +44,8 @@ fn are_blank(memory: &MemFlash, first: u32, count: u32) -> bool
 }
 
 impl<S: Store + Drop> Follower<S> {
-    /// Follows a program of the slot in memory: where it is not blank it waits, and is blank in the file still. It does
-    /// not wait yet. Slots may be due still.
+    /// Follows a program of a slot in memory that does not wait yet: where it is not blank it waits from now on, and is
+    /// blank in the file still. Other slots may be due.
     pub fn put(&mut self, memory: &MemFlash, at: Slot)
         requires exists { at.0 < slots_of memory.now.shape }
         requires programmed { AreProgrammed memory.now.image self.old.waiting.items }
@@ -84,7 +84,8 @@ impl<S: Store + Drop> Follower<S> {
         let _ = self.waiting.push(at);
     }
 
-    /// Writes the slots that wait, those that follow each other by one call, and makes them durable by one sync.
+    /// Writes the slots that wait, those that follow each other by one call, up to a block's, and makes them durable by
+    /// one sync.
     pub fn flush(&mut self, memory: &MemFlash) -> Result<(), StoreError>
         requires room { length self.old.room.items ≡ room_bytes memory.now.shape }
         requires opened { IfSome (S.told self.old.store) (IsOpened memory.now.shape) }

@@ -1,4 +1,4 @@
-//! How the slots that wait are written: those that follow each other by one call.
+//! How the slots that wait are written: those that follow each other by one call, up to as many as a block has.
 ghost use Rattle.std.specs.Prelude.{◌≡◌, ◌≤◌, ◌<◌, ◌+◌, [], ℕ, List, length, take, drop, slice_index_or, vec_capacity, OnOk, IfSome, IsTrue};
 ghost use Rattle.tx_types.specs.Config.{slots_of};
 ghost use Rattle.tx_types.specs.declared.config.Slot.{Slot};
@@ -6,7 +6,7 @@ ghost use Rattle.file_flash.specs.Files.{faults_after};
 ghost use Rattle.file_flash.specs.Following.{AreProgrammed};
 ghost use Rattle.live_flash.specs.Following.{IsOpened, IsLiveFile, Follows};
 ghost use Rattle.live_flash.specs.Losing.{LosesOnly};
-ghost use Rattle.live_flash.specs.Waiting.{HasRoom, AreOnce, IsRun, no_slot, room_bytes};
+ghost use Rattle.live_flash.specs.Waiting.{HasRoom, AreOnce, AreInRun, no_slot, room_bytes};
 
 use crate::Follower;
 use file_flash::{Store, StoreError};
@@ -41,7 +41,7 @@ fn run_at(slots: &[Slot], from: usize, most: u32) -> u32
     ensures some { 1 ≤ result }
     ensures few { result ≤ most }
     ensures within { from + result ≤ length slots.now }
-    ensures run { IsRun slots.now from result }
+    ensures run { AreInRun slots.now from result }
 {
     for count in 1..most {
         if !is_in_run(slots, from, count) {
@@ -110,7 +110,7 @@ impl<S: Store + Drop> Follower<S> {
         requires within { from + count ≤ length self.old.waiting.items }
         requires some { 1 ≤ count }
         requires few { count ≤ memory.now.shape.pages_per_block }
-        requires run { IsRun self.old.waiting.items from count }
+        requires run { AreInRun self.old.waiting.items from count }
         requires room { length self.old.room.items ≡ room_bytes memory.now.shape }
         requires opened { IfSome (S.told self.old.store) (IsOpened memory.now.shape) }
         requires programmed { AreProgrammed memory.now.image self.old.waiting.items }

@@ -38,8 +38,8 @@ pub record SaysHeld (old : Option FileState) (f : FileFlashState) : Type 0 where
   pub said : SaysFlash bytes f
 
 -- A file is opened: its bytes say this flash, and nothing waits. Its file is now the live file of the flash: a loss
--- leaves that to the byte, so each slot is as it is in memory, and all bytes of a blank one are erased. No call of it has
--- failed then.
+-- leaves that to the byte, so each slot is as it is in memory, and all bytes of a blank one are erased. No call of it
+-- has failed then.
 pub record Opens (old : Option FileState) (f : FileFlashState) : Type 0 where
   pub says : SaysHeld old f
   pub memory : f.memory ≡ loaded (shape_of f.config) f.memory.image f.memory.extras

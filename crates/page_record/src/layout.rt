@@ -15,7 +15,8 @@ pub const COUNTED: u8 = 2;
 /// The greatest count: as many pages may be pending.
 pub const MAX_COUNT: u32 = 256;
 
-/// The byte that stands for a protocol in a spare area: a choice of this format's own, as that of an image file is of its.
+/// The byte that stands for a protocol in a spare area: a choice of this format's own, as that of an image file is of
+/// its.
 #[inline(always)]
 pub fn code(protocol: Protocol) -> u8
     ensures { result ≡ code_of protocol }

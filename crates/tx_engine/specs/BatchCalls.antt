@@ -187,8 +187,8 @@ pub record WrittenAll {F : Type 0} (state : F → FlashState) (S S' : StoreState
   pub leaves : MayLeaveEach S.noted.config.protocol S.noted.config.logical (state S.flash).shape (state S.flash).image
       (loads_for S.noted O 0 jobs) (device_in state S O).machine.pages (entries_of O)
 
--- Their fire was broken, or was not started. The image is sound, and of the transactions that wrote their last page each
--- was taken or not by itself.
+-- Their fire was broken, or was not started. The image is sound, and of the transactions that wrote their last page
+-- each was taken or not by itself.
 pub record DroppedAll {F : Type 0} (state : F → FlashState) (S S' : StoreState F) (O : OpenTransactionsState)
     (jobs : List Job) : Type 0 where
   pub sound : IsSoundImage S.noted.config.protocol S.noted.config.logical (state S'.flash).shape (state S'.flash).image

@@ -1,4 +1,5 @@
--- Which records are held in a later image: those that were held in an earlier one, and those that came into force since.
+-- Which records are held in a later image: those that were held in an earlier one, and those that came into force
+-- since.
 use Rattle.std.specs.Prelude.{◌≡◌, ◌⊎◌, ℕ, ◌<◌, ◌≤◌, true, List}
 use Rattle.tx_types.specs.declared.config.Protocol.{Protocol}
 use Rattle.tx_types.specs.declared.record.Rec.{Rec}

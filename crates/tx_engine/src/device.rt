@@ -64,8 +64,8 @@ impl<F: Flash, R: CommitRule> Model for Device<F, R> {
 }
 
 impl<F: Flash, R: CommitRule> Device<F, R> {
-    /// Opens a device from its flash alone: it stands for the array of the image, with nothing open. All memory is taken
-    /// here. A flash that is not mounted comes back with its image.
+    /// Opens a device from its flash alone: it stands for the array of the image, with nothing open. All memory is
+    /// taken here. A flash that is not mounted comes back with its image.
     pub fn mount(alloc: Global, flash: F, config: Config) -> Result<Device<F, R>, (F, MountError)>
         requires check { checked config ≡ Ok (F.state flash).shape }
         requires rule { config.protocol ≡ R.protocol }
@@ -127,8 +127,8 @@ impl<F: Flash, R: CommitRule> Device<F, R> {
         }
     }
 
-    /// Opens a transaction, with no page written. Each page is named one version above its greatest mention. The flash is
-    /// not touched.
+    /// Opens a transaction, with no page written. Each page is named one version above its greatest mention. The flash
+    /// is not touched.
     pub fn submit(&mut self, tag: u32, batch: &Batch) -> Result<(), SubmitError>
         requires kept { self.old.dropped ≡ false }
         requires pages { batch.now.page_bytes ≡ self.old.config.page_bytes }

@@ -8,7 +8,8 @@ use flash_model::{Broken, Flash};
 use open_table::OpenTransactions;
 use record_list::CommitRule;
 
-/// Makes a settled device ready for the next page of the transaction at an index: where it is to be written, room is made.
+/// Makes a settled device ready for the next page of the transaction at an index: where it is to be written, room is
+/// made.
 pub(crate) fn make_ready_settled<F: Flash, R: CommitRule>(
     store: &mut Store<F, R>,
     transactions: &OpenTransactions,

@@ -30,7 +30,8 @@ pub fn later_slots_may_go()
     ensures { (protocol : Protocol) → LaterSlotLaw protocol }
 {}
 
-/// A step of a settled device that is ready for the next page of its transaction takes one program at most, and no erase.
+/// A step of a settled device that is ready for the next page of its transaction takes one program at most, and no
+/// erase.
 pub fn ready_steps<F: Flash>()
     ensures { ReadyStepLaw F.state }
 {}

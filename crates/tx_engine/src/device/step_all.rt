@@ -10,9 +10,10 @@ use flash_model::Wide;
 use record_list::CommitRule;
 
 impl<F: Wide, R: CommitRule> Device<F, R> {
-    /// Open transactions go on together, the first ones in the order of their opening. First it becomes known what a broken
-    /// operation left. As many as are ready, and as there are dies with room, are written at once, each in a die of its own.
-    /// Where the first one is not ready, it takes a step by itself. After a fault only its flash may be used.
+    /// Open transactions go on together, the first ones in the order of their opening. First it becomes known what a
+    /// broken operation left. As many as are ready, and as there are dies with room, are written at once, each in a die
+    /// of its own. Where the first one is not ready, it takes a step by itself. After a fault only its flash may be
+    /// used.
     pub fn step_all(&mut self) -> Result<Moved, Fault>
         requires kept { self.old.dropped ≡ false }
         ensures { StepsAllDevice F.state self.old self.new result }
