@@ -1,8 +1,9 @@
 //! Generated lists of commands, and the summaries of replies.
 use crate::command_lines::lines_of;
-use crate::samples::{halves, has_version, number_at, protocol_of, version, word};
+use crate::protocol_lines::reply_of;
+use crate::samples::{halves, has_version, number, number_at, protocol_of, version, word};
 use crate::texts::{are_bytes_of, bytes_of};
-use drive_gen::{commands, summary};
+use drive_gen::{RunningTally, commands, summary};
 use host_protocol::Command;
 use std::alloc::Global;
 use tx_types::{Config, Protocol};
@@ -110,7 +111,14 @@ pub const DRIVES: &str = "\
     bpcc start 18446744073709551615 count 100000 commands 2 done 5 aborted 2 cut 2 refused 3 unknown 4 programs \
     18446744073709551615 erases 18446744073709551614 sum 4656;\n\
     summary scc 0 4294967295 0 |  => >drive scc start 0 count 4294967295 commands 0 done 0 aborted 0 cut 0 refused \
-    0 unknown 0 programs 0 erases 0 sum 0;";
+    0 unknown 0 programs 0 erases 0 sum 0;\n\
+    # Replies that are counted one by one, by their numbers. A report without a line feed takes the next line with it.\n\
+    running scc 5 3 | 3 3 22 21 4 11 6 19 14 23 3 24 3 22 3 => >drive scc start 5 count 3 commands 15 done 4 aborted 1 \
+    cut 1 refused 2 unknown 1 programs 18446744073709551615 erases 10 sum 682;\n\
+    running bpcc 0 0 | 24 => >drive bpcc start 0 count 0 commands 1 done 0 aborted 0 cut 0 refused 0 unknown 0 programs \
+    0 erases 0 sum 0;\n\
+    running bpcc 1 1 | 24 21 0 1 2 5 7 8 9 10 12 13 15 16 17 18 20 => >drive bpcc start 1 count 1 commands 17 done 0 \
+    aborted 0 cut 0 refused 5 unknown 0 programs 0 erases 0 sum 0;";
 
 /// Whether commands are so many, and their lines have this sum.
 fn has_sum(alloc: Global, list: &[Command], want: &str) -> bool {
@@ -173,4 +181,40 @@ pub fn is_summary_right(alloc: Global, line: &str) -> bool {
         (Ok(bytes), Some(list)) => is_summed_up(alloc, &list, head, &bytes, want),
         _ => false,
     }
+}
+
+/// Counts the replies of these numbers. Returns whether there was memory for each.
+fn count_replies(alloc: Global, numbers: &str, tally: &mut RunningTally) -> bool {
+    for digits in numbers.split(' ') {
+        let is_counted = match reply_of(alloc, number(digits).unwrap_or(0)) {
+            Some(reply) => tally.count(&reply).is_ok(),
+            None => false,
+        };
+        if !is_counted {
+            return false;
+        }
+    }
+    true
+}
+
+/// Whether what was counted is summed up so. The head has the protocol, the start and the number of transactions.
+fn is_total(alloc: Global, tally: &mut RunningTally, head: &str, want: &str) -> bool {
+    let protocol = protocol_of(word(head, 0));
+    let mut out = Vec::new(alloc);
+    match (version(word(head, 1)), number_at(head, 2)) {
+        (Some(start), Some(count)) => {
+            out.push(b'>').is_ok()
+                && tally.add_summary(start, count, protocol, &mut out).is_ok()
+                && are_bytes_of(want, &out)
+        }
+        _ => false,
+    }
+}
+
+/// Whether the replies of a line, counted one by one, are summed up as the line says.
+pub fn is_running_right(alloc: Global, line: &str) -> bool {
+    let (given, want) = halves(line, " => ");
+    let (head, numbers) = halves(given, " | ");
+    let mut tally = RunningTally::new(alloc);
+    count_replies(alloc, numbers, &mut tally) && is_total(alloc, &mut tally, head, want)
 }

@@ -2,7 +2,9 @@
 
 use crate::claims::is_orbit;
 use crate::dense_tables_tests::{DENSE, is_dense_right};
-use crate::drive_lines::{DRIVES, is_list_right as is_drive_right, is_summary_right};
+use crate::drive_lines::{
+    DRIVES, is_list_right as is_drive_right, is_running_right, is_summary_right,
+};
 use crate::image_lines::{IMAGES, is_image_right};
 use crate::lane_scan_tests::{SCANS, is_scan_right};
 use crate::mem_flash_rows::{ROWS, is_row_right};
@@ -48,6 +50,7 @@ fn is_right_of_texts(alloc: Global, kind: &str, line: &str) -> bool {
         "reply" => is_reply_right(alloc, line),
         "made" | "lines" => is_drive_right(alloc, kind, line),
         "summary" => is_summary_right(alloc, line),
+        "running" => is_running_right(alloc, line),
         "image" | "same" | "extras" | "ordinary" | "lengths" => is_image_right(alloc, kind, line),
         "picture" | "wide" | "svg" | "wide-svg" | "overview" | "squares" => {
             is_picture_right(alloc, kind, line)

@@ -212,20 +212,34 @@ pub const REPLIES: &str = "\
     reply 20 = >refused spent 0;\n\
     reply 21 = >stats written 1 open 2 pending 3 programs 18446744073709551615 erases 10 garbage 6;\n\
     reply 22 = >page 0 41ff00000a0b;\n\
-    reply 23 = >verdict 0;explained 1;";
+    reply 23 = >verdict 0;explained 1;\n\
+    reply 24 = >open";
+
+/// The reply of a number with its contents, nothing where there is no memory for them. The last one has no line feed.
+pub fn reply_of(alloc: Global, number: u32) -> Option<Reply> {
+    let mut contents = Bytes::new(alloc);
+    let bytes: &[u8] = match number {
+        22 => b"\x41\xff\0\0\x0a\x0b",
+        24 => b"open",
+        _ => b"verdict 0\nexplained 1\n",
+    };
+    match contents.extend(bytes) {
+        Ok(()) => Some(reply_at(number, contents)),
+        Err(_) => None,
+    }
+}
+
+/// Whether a reply is said so, behind a byte that was there before.
+fn is_said(alloc: Global, reply: &Reply, text: &str) -> bool {
+    let mut out = Vec::new(alloc);
+    out.push(b'>').is_ok() && reply_text(alloc, reply, &mut out).is_ok() && are_bytes_of(text, &out)
+}
 
 /// Whether the reply `NUMBER = TEXT` is said so.
 pub fn is_reply_right(alloc: Global, line: &str) -> bool {
     let (number_of, text) = halves(line, " = ");
-    let number_of = number(number_of).unwrap_or(0);
-    let mut contents = Bytes::new(alloc);
-    let bytes: &[u8] = match number_of {
-        22 => b"\x41\xff\0\0\x0a\x0b",
-        _ => b"verdict 0\nexplained 1\n",
-    };
-    let mut out = Vec::new(alloc);
-    contents.extend(bytes).is_ok()
-        && out.push(b'>').is_ok()
-        && reply_text(alloc, &reply_at(number_of, contents), &mut out).is_ok()
-        && are_bytes_of(text, &out)
+    match reply_of(alloc, number(number_of).unwrap_or(0)) {
+        Some(reply) => is_said(alloc, &reply, text),
+        None => false,
+    }
 }
