@@ -1,4 +1,4 @@
-ghost use Rattle.std.specs.Prelude.{◌≡◌, true, ◌<◌, ◌+◌, ◌*◌, ◌≤◌, ◌↔◌, [], ◌++◌, length, is_none, IsTrue, IfOk, OnOk, OnErr};
+ghost use Rattle.std.specs.Prelude.{◌≡◌, true, ◌<◌, ◌+◌, ◌*◌, ◌≤◌, ◌↔◌, [], ◌++◌, length, replicate, is_none, IsTrue, IfOk, OnOk, OnErr};
 ghost use Rattle.std.specs.Fork.{slice_chunk};
 ghost use Rattle.tx_types.specs.Batch.{with_entry, with_discard, entry_at, bytes_in};
 ghost use Rattle.tx_types.specs.Entries.{head_of, cell_of, with_write};
@@ -158,8 +158,59 @@ fn one_more(count: u32) -> Result<u32, Memory>
     count.checked_add(1).ok_or(Memory)
 }
 
+/// The most bytes of a page that is small: all of it is filled with zeros at once, before its bytes are written.
+const SMALL_PAGE_BYTES: u32 = 128;
+
 /// Adds an entry at the end, with zeros behind its bytes up to a whole page, or nothing where there is no memory.
+#[inline(always)]
 fn add_cell(
+    cells: &mut Vec<u8>,
+    target: Target,
+    bytes: &[u8],
+    page_bytes: u32,
+) -> Result<(), Memory>
+    requires { length bytes.now ≤ page_bytes }
+    ensures ok { OnOk result (cells.new.items ≡ cells.old.items ++ cell_of target page_bytes bytes.now) }
+    ensures err { OnErr result (cells.new.items ≡ cells.old.items) }
+{
+    if page_bytes <= SMALL_PAGE_BYTES {
+        add_small_cell(cells, target, bytes, page_bytes)
+    } else {
+        add_large_cell(cells, target, bytes, page_bytes)
+    }
+}
+
+/// The same for a small page.
+#[inline(always)]
+fn add_small_cell(
+    cells: &mut Vec<u8>,
+    target: Target,
+    bytes: &[u8],
+    page_bytes: u32,
+) -> Result<(), Memory>
+    requires { length bytes.now ≤ page_bytes }
+    ensures ok { OnOk result (cells.new.items ≡ cells.old.items ++ cell_of target page_bytes bytes.now) }
+    ensures err { OnErr result (cells.new.items ≡ cells.old.items) }
+{
+    let start = cells.len();
+    cells.resize(start + cell_bytes(page_bytes), 0)?;
+    fill_cell(target, bytes, page_bytes, &mut cells[start..]);
+    Ok(())
+}
+
+/// Writes the head of an entry and its bytes over zeros.
+#[inline(always)]
+fn fill_cell(target: Target, bytes: &[u8], page_bytes: u32, cell: &mut [u8])
+    requires few { length bytes.now ≤ page_bytes }
+    requires zeros { cell.old ≡ replicate (HEAD_BYTES + page_bytes) 0 }
+    ensures { cell.new ≡ cell_of target page_bytes bytes.now }
+{
+    cell[..HEAD_BYTES].copy_from_slice(&head_of(target));
+    cell[HEAD_BYTES..HEAD_BYTES + bytes.len()].copy_from_slice(bytes);
+}
+
+/// The same for any page.
+fn add_large_cell(
     cells: &mut Vec<u8>,
     target: Target,
     bytes: &[u8],
