@@ -292,10 +292,11 @@ impl BaseTables {
         }
     }
 
-    /// Marks each slot that is needed: the home of each record that is wanted. No slot is marked before, and numbers
-    /// that never had a record are left out.
+    /// Marks each slot that is needed where there is no spare: the home of each record that is wanted. No slot is
+    /// marked before, and numbers that never had a record are left out.
     fn mark_needed(&self, marks: &mut BlockCounts)
         requires sized { IsSized self.now }
+        requires spare { self.now.spare ≡ None }
         requires slots { length marks.old.marks ≡ length self.now.slots }
         requires none { (at : ℕ) → is_marked marks.old.marks at ≡ false }
         ensures size { marks.new.size ≡ marks.old.size }
@@ -310,16 +311,28 @@ impl BaseTables {
     /// Marks the home of the record of a number, where it is wanted.
     fn mark_home(&self, marks: &mut BlockCounts, number: u32)
         requires sized { IsSized self.now }
+        requires spare { self.now.spare ≡ None }
         requires number { number < length self.now.slots }
         requires slots { length marks.old.marks ≡ length self.now.slots }
         ensures { marks.new
             ≡ record marks.old { marks = home_marked (tables_state self.now) marks.old.marks number } }
     {
         if self.is_wanted(number) {
-            if let Some(at) = self.home_of(Some(number)) {
+            if let Some(at) = self.lone_home(number) {
                 marks.set(at, true);
             }
         }
+    }
+
+    /// The home of the record of a number where there is no spare: its lowest slot.
+    #[inline(always)]
+    fn lone_home(&self, number: u32) -> Option<u32>
+        requires sized { IsSized self.now }
+        requires spare { self.now.spare ≡ None }
+        requires number { number < length self.now.slots }
+        ensures { result ≡ home (tables_state self.now) number }
+    {
+        self.slots.first(number)
     }
 
     /// Where another slot than by an older spare is the home of a record with a slot in this block, refreshes whether

@@ -6,6 +6,6 @@ pub set-requires : goal.set-requires
 set-requires c =
     let k = tables_state c.args.self.now in
     let lies : c.in-Some.at < length k.slots =
-    subst (λ o. IfSome o (λ at. at < length k.slots)) (sym c.home_of.ensures ∙ c.in-Some.is)
+    subst (λ o. IfSome o (λ at. at < length k.slots)) (sym c.lone_home.ensures ∙ c.in-Some.is)
     (home_lies k (Some c.args.number)) in
     rw c.requires.slots lies
