@@ -1,6 +1,7 @@
-ghost use Rattle.std.specs.Prelude.{◌≡◌, ◌+◌, ◌<◌, ◌≤◌, length, slice_set, IfSome, if◌then◌else◌};
+ghost use Rattle.std.specs.Prelude.{◌≡◌, ℕ, ◌+◌, ◌<◌, ◌≤◌, false, Some, length, slice_set, IfSome, IsSomeAnd, if◌then◌else◌};
 ghost use Rattle.tx_types.specs.Config.{slots_of};
 ghost use Rattle.slot_tables.specs.TablesState.{number_at};
+ghost use Rattle.judged_records.specs.Numbered.{rec_at};
 ghost use Rattle.version_index.specs.Written.{fills, pages_written};
 
 use slot_tables::Tables;
@@ -19,9 +20,26 @@ pub fn fills(tables: &Tables, number: Option<u32>) -> bool
     }
 }
 
-/// The number of pages that their current records fill. It looks at each page, and is called once, when tables are
+/// The number of pages that their current records fill, where it is known whether a record may discard its page. If
+/// none does, each page with a current record is filled, and no page is looked at. It is called once, when tables are
 /// made.
-pub fn count_written(tables: &Tables, logical: u32) -> u32
+pub fn count_written(tables: &Tables, logical: u32, discards: bool) -> u32
+    requires pages { length tables.now.pages ≡ logical }
+    requires kept { discards ≡ false →
+        (page x : ℕ) → page < length tables.now.pages → number_at tables.now.current page ≡ Some x →
+        IsSomeAnd (rec_at tables.now.records x) (λ r. r.discard ≡ false) }
+    ensures { result ≡ pages_written tables.now }
+{
+    // For the proof: the sizes of the tables.
+    let _ = tables.shape();
+    if discards {
+        return count_filled(tables, logical);
+    }
+    tables.count_written() as u32
+}
+
+/// The number of pages that their current records fill. It looks at each page.
+fn count_filled(tables: &Tables, logical: u32) -> u32
     requires { length tables.now.pages ≡ logical }
     ensures { result ≡ pages_written tables.now }
 {

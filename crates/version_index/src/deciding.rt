@@ -1,13 +1,15 @@
 ghost use Rattle.std.specs.Prelude.{◌≡◌, ◌+◌, ◌≤◌, ◌<◌, ℕ, All, length};
+ghost use Rattle.tx_types.specs.Config.{slots_of};
 ghost use Rattle.record_list.specs.Current.{IsLoose};
 ghost use Rattle.record_list.specs.Records.{record_at};
 ghost use Rattle.record_list.specs.SoundList.{PagesExist};
 ghost use Rattle.judged_records.specs.Derived.{name_at, answerer, is_waiting};
 ghost use Rattle.judged_records.specs.Numbered.{awaited};
 ghost use Rattle.slot_tables.specs.TablesState.{TablesState};
-ghost use Rattle.version_index.specs.Filling.{derived_by, number_by, AreNumbered, AreUndecided, AreDecided};
+ghost use Rattle.version_index.specs.Filling.{derived_by, number_by, AreNumbered, ArePut, AreUndecided, AreDecided};
 
-use slot_tables::TablesBuilder;
+use crate::holding::hold_records;
+use slot_tables::{SlotUse, TablesBuilder};
 use sorted_records::CurrentVersions;
 use tx_types::{Link, Protocol, Rec};
 
@@ -25,8 +27,75 @@ struct Near {
     place: usize,
 }
 
+/// Puts each record where it stands, and decides of it. Where no two records have one number both are done in one pass.
+/// Else all are put first, the last before the others, as each then goes in front of its copies.
+pub fn hold_and_decide(
+    tables: &mut TablesBuilder,
+    logical: u32,
+    standing: &CurrentVersions,
+    numbers: &[u32],
+)
+    requires logical { standing.now.logical ≡ logical }
+    requires numbered { AreNumbered standing.now.list numbers.now tables.old }
+    requires whole { length numbers.now ≡ length standing.now.list }
+    requires pages { length tables.old.pages ≡ logical }
+    requires exist { All (PagesExist logical) standing.now.list }
+    requires within { All (λ f. f.slot.0 < slots_of tables.old.shape) standing.now.list }
+    requires undecided { AreUndecided tables.old }
+    ensures put { ArePut standing.now.list numbers.now tables.old.slots (length standing.now.list) tables.new.slots }
+    ensures decided { AreDecided standing.now.protocol standing.now.list numbers.now logical
+        (record tables.old { slots = tables.new.slots }) tables.new (length standing.now.list) }
+{
+    if share_numbers(numbers) {
+        hold_records(tables, standing.sorted_records().records(), numbers);
+        decide_records(tables, logical, standing, numbers);
+        return;
+    }
+    hold_and_decide_each(tables, logical, standing, numbers);
+}
+
+/// Whether two records have one number, as the last number tells where they are given from 0 on. Nothing but speed
+/// rests on it.
+fn share_numbers(numbers: &[u32]) -> bool {
+    match numbers.last() {
+        None => false,
+        Some(last) => (*last as usize) + 1 < numbers.len(),
+    }
+}
+
+/// Puts each record where it stands, and decides of it. This goes through the copies of a record that come before it.
+fn hold_and_decide_each(
+    tables: &mut TablesBuilder,
+    logical: u32,
+    standing: &CurrentVersions,
+    numbers: &[u32],
+)
+    requires logical { standing.now.logical ≡ logical }
+    requires numbered { AreNumbered standing.now.list numbers.now tables.old }
+    requires whole { length numbers.now ≡ length standing.now.list }
+    requires pages { length tables.old.pages ≡ logical }
+    requires exist { All (PagesExist logical) standing.now.list }
+    requires within { All (λ f. f.slot.0 < slots_of tables.old.shape) standing.now.list }
+    requires undecided { AreUndecided tables.old }
+    ensures put { ArePut standing.now.list numbers.now tables.old.slots (length standing.now.list) tables.new.slots }
+    ensures decided { AreDecided standing.now.protocol standing.now.list numbers.now logical
+        (record tables.old { slots = tables.new.slots }) tables.new (length standing.now.list) }
+{
+    // For the proof: the sizes of the tables.
+    let _ = tables.shape();
+    let records = standing.sorted_records().records();
+    let mut near = Near {
+        answerer: 0,
+        place: 0,
+    };
+    for at in 0..records.len() {
+        tables.set_slot(records[at].slot, SlotUse::Holds(numbers[at]));
+        decide_record(tables, logical, standing, numbers, at, &mut near);
+    }
+}
+
 /// Sets which record of each page is current, and for each other record which one answers for it, and whether it waits.
-pub fn decide_records(
+fn decide_records(
     tables: &mut TablesBuilder,
     logical: u32,
     standing: &CurrentVersions,

@@ -1,8 +1,8 @@
-ghost use Rattle.std.specs.Prelude.{◌≡◌, ◌<◌, ◌≤◌, false, All, List, length, map, replicate, slice_index_or, slice_set, IfOk, OnOk};
+ghost use Rattle.std.specs.Prelude.{◌≡◌, ℕ, ◌<◌, ◌≤◌, false, All, List, length, map, replicate, slice_index_or, slice_set, IfOk, OnOk};
 ghost use Rattle.std.specs.List.{range_with_len};
 ghost use Rattle.tx_types.specs.Config.{IsShape, slots_of, blocks_of};
 ghost use Rattle.flash_model.specs.Readings.{reads_blank_block};
-ghost use Rattle.record_list.specs.Records.{mention};
+ghost use Rattle.record_list.specs.Records.{mention, record_at};
 ghost use Rattle.record_list.specs.SoundList.{PagesExist};
 ghost use Rattle.record_list.specs.declared.found.Found.{Found};
 ghost use Rattle.sorted_records.specs.SortedRecords.{Sorts};
@@ -13,9 +13,9 @@ ghost use Rattle.version_index.specs.Filling.{AreFilled};
 ghost use Rattle.version_index.specs.Scanned.{CanFill};
 ghost use Rattle.version_index.specs.Tables.{notes_in};
 
-use crate::deciding::decide_records;
-use crate::holding::{hold_damaged, hold_records};
-use crate::numbering::number_records;
+use crate::deciding::hold_and_decide;
+use crate::holding::hold_damaged;
+use crate::numbering::{Numbering, number_records};
 use flash_model::Seen;
 use record_list::Found;
 use slot_tables::{Tables, TablesBuilder};
@@ -23,11 +23,13 @@ use sorted_records::{CurrentVersions, SortedRecords};
 use std::alloc::{AllocError, Global};
 use tx_types::{Block, Memory, Protocol, Shape};
 
-/// Tables that are filled, and the greatest version at which the records mention each page.
+/// Tables that are filled, the greatest version at which the records mention each page, and whether one of them may
+/// discard its page.
 #[derive(Drop)]
 pub struct Filled {
     pub tables: TablesBuilder,
     pub mentions: Vec<u64>,
+    pub discards: bool,
 }
 
 /// Tables of slots that read so and hold the records of a list, in the order of their slots. Of the records it is known
@@ -54,11 +56,17 @@ pub fn build_tables(
         AreFilled standing.now.protocol standing.now.list shape logical f.tables) }
     ensures mentions { IfOk result (λ f.
         f.mentions.items ≡ map (mention standing.now.list) (range_with_len 0 logical)) }
+    ensures discards { IfOk result (λ f. f.discards ≡ false →
+        (j : ℕ) → j < length standing.now.list → (record_at standing.now.list j).discard ≡ false) }
     ensures none_closed { IfOk result (λ f. f.tables.closed ≡ replicate (blocks_of shape) false) }
 {
     let mut tables = TablesBuilder::new(alloc, shape, logical)?;
     match fill(alloc, &mut tables, logical, seen, standing) {
-        Ok(mentions) => Ok(Filled { tables, mentions }),
+        Ok(numbered) => Ok(Filled {
+            tables,
+            mentions: numbered.mentions,
+            discards: numbered.discards,
+        }),
         Err(error) => {
             drop(tables);
             Err(error)
@@ -67,14 +75,14 @@ pub fn build_tables(
 }
 
 /// Fills tables of blank slots with slots that read so and hold the records of a list, in the order of their slots.
-/// Of the records it is known where their pages stand. The greatest version at which they mention each page is told.
+/// Of the records it is known where their pages stand. Their numbers and what they mention are told.
 fn fill(
     alloc: Global,
     tables: &mut TablesBuilder,
     logical: u32,
     seen: &[Seen],
     standing: &CurrentVersions,
-) -> Result<Vec<u64>, Memory>
+) -> Result<Numbering, Memory>
     requires fills { (list : List Found) × CanFill logical seen.now list standing.now.list tables.old }
     requires logical { standing.now.logical ≡ logical }
     requires exist { All (PagesExist logical) standing.now.list }
@@ -84,16 +92,17 @@ fn fill(
         OnOk result (found_in (notes_in tables.new) ≡ list) }
     ensures filled { OnOk result
         (AreFilled standing.now.protocol standing.now.list tables.old.shape logical tables.new) }
-    ensures mentions { IfOk result (λ mentions.
-        mentions.items ≡ map (mention standing.now.list) (range_with_len 0 logical)) }
+    ensures mentions { IfOk result (λ n.
+        n.mentions.items ≡ map (mention standing.now.list) (range_with_len 0 logical)) }
+    ensures discards { IfOk result (λ n. n.discards ≡ false →
+        (j : ℕ) → j < length standing.now.list → (record_at standing.now.list j).discard ≡ false) }
     ensures none_closed { OnOk result (tables.new.closed ≡ replicate (blocks_of tables.old.shape) false) }
 {
     let records = standing.sorted_records().records();
     let numbered = number_records(alloc, tables, logical, records)?;
     hold_damaged(tables, seen);
-    hold_records(tables, records, &numbered.numbers);
-    decide_records(tables, logical, standing, &numbered.numbers);
-    Ok(numbered.mentions)
+    hold_and_decide(tables, logical, standing, &numbered.numbers);
+    Ok(numbered)
 }
 
 /// Closes each block with a slot that is not blank, where none is closed.

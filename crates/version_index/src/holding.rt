@@ -1,5 +1,6 @@
-ghost use Rattle.std.specs.Prelude.{◌≡◌, ◌<◌, ℕ, All, length, map, slice_set};
+ghost use Rattle.std.specs.Prelude.{◌≡◌, ◌<◌, ℕ, false, All, length, map, slice_index_or, slice_set};
 ghost use Rattle.tx_types.specs.Config.{slots_of};
+ghost use Rattle.flash_model.specs.declared.flash.Seen.TheVariants.{Blank};
 ghost use Rattle.slot_tables.specs.TablesState.{use_at};
 ghost use Rattle.slot_tables.specs.declared.slots.SlotUse.TheVariants as slot;
 ghost use Rattle.version_index.specs.Filling.{first_use, AreNumbered, ArePut};
@@ -17,8 +18,35 @@ pub fn hold_damaged(tables: &mut TablesBuilder, seen: &[Seen])
 {
     // For the proof: the sizes of the tables.
     let _ = tables.shape();
+    if !has_damaged(seen) {
+        return;
+    }
     for at in 0..seen.len() {
         hold_if_damaged(tables, Slot(at as u32), seen[at]);
+    }
+}
+
+/// Whether a slot reads damaged. To look at all of them is faster than to stop at one.
+fn has_damaged(seen: &[Seen]) -> bool
+    ensures { result ≡ false → (at : ℕ) → at < length seen.now →
+        first_use (slice_index_or seen.now at Blank) ≡ slot.Blank }
+{
+    let mut some = false;
+    for at in 0..seen.len() {
+        some = is_damaged_or(seen[at], some);
+    }
+    some
+}
+
+/// Whether a slot reads damaged, or some other one does.
+#[inline(always)]
+fn is_damaged_or(how: Seen, some: bool) -> bool
+    ensures undamaged { result ≡ false → first_use how ≡ slot.Blank }
+    ensures others { result ≡ false → some ≡ false }
+{
+    match how {
+        Seen::Damaged => true,
+        Seen::Blank | Seen::Complete => some,
     }
 }
 

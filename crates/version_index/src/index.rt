@@ -90,7 +90,7 @@ impl<R: CommitRule> Index<R> {
         let mentions = filled.mentions;
         let mut tables = filled.tables.finish(alloc)?;
         close_used(&mut tables, seen);
-        let written = count_written(&tables, config.logical);
+        let written = count_written(&tables, config.logical, filled.discards);
         Ok(Index {
             config,
             tables,

@@ -1,7 +1,7 @@
-ghost use Rattle.std.specs.Prelude.{◌≡◌, ◌≤◌, ◌<◌, All, length, map, IfSome, IfNone, IfOk, OnOk};
+ghost use Rattle.std.specs.Prelude.{◌≡◌, ℕ, ◌≤◌, ◌<◌, false, All, length, map, IfSome, IfNone, IfOk, OnOk};
 ghost use Rattle.std.specs.List.{range_with_len};
 ghost use Rattle.tx_types.specs.Config.{IsShape, slots_of};
-ghost use Rattle.record_list.specs.Records.{mention};
+ghost use Rattle.record_list.specs.Records.{mention, record_at};
 ghost use Rattle.record_list.specs.SoundList.{OwnPageExists};
 ghost use Rattle.sorted_records.specs.SortedRecords.{IsInOrder};
 ghost use Rattle.slot_tables.specs.TablesState.{blank_tables, IsNewest};
@@ -14,11 +14,13 @@ use slot_tables::TablesBuilder;
 use std::alloc::Global;
 use tx_types::{Memory, Rec};
 
-/// The numbers of records, and the greatest version at which they mention each page.
+/// The numbers of records, the greatest version at which they mention each page, and whether one of them may discard
+/// its page.
 #[derive(Drop)]
 pub struct Numbering {
     pub numbers: Vec<u32>,
     pub mentions: Vec<u64>,
+    pub discards: bool,
 }
 
 /// Gives each record a number, and notes what it mentions. The records stand in the order of their names.
@@ -38,15 +40,32 @@ pub fn number_records(
     ensures numbered { IfOk result (λ n. AreNumbered records.now n.numbers.items tables.new) }
     ensures mentions { IfOk result (λ n.
         n.mentions.items ≡ map (mention records.now) (range_with_len 0 logical)) }
+    ensures discards { IfOk result (λ n. n.discards ≡ false →
+        (j : ℕ) → j < length records.now → (record_at records.now j).discard ≡ false) }
 {
     let mut numbers = Vec::with_capacity(alloc, records.len())?;
     let mut mentions = vec![in alloc; 0; logical as usize]?;
+    let mut discards = false;
     for found in records {
         let number = number_of(tables, &found.rec);
         numbers.push_reserved(number);
         mention(&mut mentions, &found.rec);
+        discards = discards_or(&found.rec, discards);
     }
-    Ok(Numbering { numbers, mentions })
+    Ok(Numbering {
+        numbers,
+        mentions,
+        discards,
+    })
+}
+
+/// Whether a record discards its page, or some other one does.
+#[inline(always)]
+fn discards_or(rec: &Rec, other: bool) -> bool
+    ensures own { result ≡ false → rec.now.discard ≡ false }
+    ensures other { result ≡ false → other ≡ false }
+{
+    rec.discard || other
 }
 
 /// The number of a record that is not older than those of its page.

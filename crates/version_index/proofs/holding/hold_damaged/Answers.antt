@@ -1,7 +1,20 @@
 -- One slot after the other.
-use Rattle.version_index.proofs.Common.{◌+◌, ◌<◌, length, ap, sym, subst, ◌∙◌, arith, slots_of, TablesState}
+use Rattle.version_index.proofs.Common.{◌≡◌, ◌+◌, ◌<◌, List, length, map, ap, sym, subst, ◌∙◌, arith, ext_get_or, get_or-map, length-map, slots_of, SlotUse, TablesState}
+use Rattle.flash_model.specs.declared.flash.Seen.TheVariants as seen
+use Rattle.slot_tables.specs.declared.slots.SlotUse.TheVariants as slot
+use Rattle.version_index.specs.Filling.{first_use}
 use Rattle.version_index.proofs.OfOpening.ScanSlots.{AreFirstUsed, none_used, one_used, all_used}
 use Rattle.version_index.proofs.holding.hold_damaged.Goals as goal
+
+pub returns-then-not-has_damaged : goal.returns-then-not-has_damaged
+returns-then-not-has_damaged c =
+    let k = c.args.tables.now in
+    let all = c.args.seen.now in
+    let undamaged = c.has_damaged.ensures c.if-not-has_damaged.true in
+    let size : length k.slots ≡ length all = c.shape.ensures.kept.slots ∙ sym c.requires.size in
+    ap (λ (s : List SlotUse). record k { slots = s })
+    (ext_get_or slot.Blank k.slots (map first_use all) (size ∙ sym (length-map all first_use))
+    (λ a low. c.requires.blank a ∙ sym (undamaged a (omega arith)) ∙ sym (get_or-map first_use all a seen.Blank)))
 
 pub loop-at-init : goal.loop-at-init
 loop-at-init c = none_used c.args.seen.now c.args.tables.now c.requires.blank

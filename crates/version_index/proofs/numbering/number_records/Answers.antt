@@ -1,7 +1,8 @@
 -- One record after the other gets its number, and raises the mentions.
-use Rattle.version_index.proofs.Common.{◌+◌, length, get_or, take, take_all, arith, ap, ◌∙◌, subst, sym}
+use Rattle.version_index.proofs.Common.{◌+◌, length, get_or, take, take_all, arith, ap, ◌∙◌, subst, sym, inl, inr, cases_eq}
 use Rattle.std.proofs.Common.{rules}
 use Rattle.std.proofs.lemmas.List.{get_or-replicate}
+use Rattle.record_list.specs.Records.{record_at}
 use Rattle.judged_records.proofs.OfChanges.Mentions.{mentions_more, mentions_are}
 use Rattle.version_index.proofs.OfOpening.ScanNumbers.{IsNumberingSo, start_numbering, its_page, its_free, its_order, number_more}
 use Rattle.version_index.proofs.numbering.number_records.Goals as goal
@@ -20,6 +21,7 @@ loop-found-init c =
             ap (λ l. get_or l page 0) (c.in_ok-mentions.ensures.items_if_clones_equal (λ y same. same))
             ∙ get_or-replicate c.args.logical page 0 0 low;
       };
+      kept = λ none j low. absurd (omega arith);
     }
 
 pub number_of-number-requires-clause-page : goal.number_of-number-requires-clause-page
@@ -51,7 +53,15 @@ loop-found-preserved c =
       mentions = mentions_more records at c.args.logical c.loop-found.mentions.items said.once
           c.mention.new.mentions.items c.loop-found-test.true before.mentions said.size_once said.size_new said.own
           said.linked;
+      kept = λ none j low. elim (cases_eq j at) [
+        | inl here ↦ ap (λ i. (record_at records i).discard) here ∙ c.discards_or-discards.ensures.own none
+        | inr off ↦ before.kept (c.discards_or-discards.ensures.other none) j (omega arith)
+      ];
     }
+
+pub returns-clause-discards : goal.returns-clause-discards
+returns-clause-discards c = λ none j low.
+    c.loop-found.invariant.kept none j (omega (arith, low, c.loop-found-test.false))
 
 pub returns-clause-mentions : goal.returns-clause-mentions
 returns-clause-mentions c =

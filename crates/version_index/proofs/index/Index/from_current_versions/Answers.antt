@@ -1,3 +1,4 @@
+mod ScanCurrent
 mod ScanDerived
 mod ScanFills
 mod ScanMentions
@@ -11,6 +12,7 @@ use Rattle.tx_types.specs.Config.{IsShape}
 use Rattle.judged_records.specs.IndexState.{IsNotedFrom, used_blocks}
 use Rattle.judged_records.proofs.OfChanges.NotedChanges.{fresh_noted}
 use Rattle.version_index.proofs.OfOpening.ClosedBlocks.{filled_closed}
+use Rattle.version_index.proofs.index.Index.from_current_versions.Answers.ScanCurrent.{AreKept, filled_kept}
 use Rattle.version_index.proofs.index.Index.from_current_versions.Answers.ScanFills.{can_fill}
 use Rattle.version_index.proofs.index.Index.from_current_versions.Answers.ScanDerived.{filled_indexed}
 use Rattle.version_index.proofs.index.Index.from_current_versions.Answers.ScanMentions.{mentions_sorted}
@@ -42,8 +44,18 @@ close_used-requires-clause-seen g c =
     ∙ sym (ap (λ (k : TablesState). slots_of k.shape) c.in_ok-tables.ensures
     ∙ ap slots_of (c.in_ok-filled.ensures.filled.shape ∙ same))
 
-pub count_written-written-requires : goal.count_written-written-requires
-count_written-written-requires g c =
+pub count_written-written-requires-clause-kept : goal.count_written-written-requires-clause-kept
+count_written-written-requires-clause-kept g c = λ none.
+    let t : TablesState = c.in_ok-filled.filled.tables in
+    let is : c.close_used.new.tables ≡ record t { closed = used_blocks t.shape c.args.seen.now } =
+    c.close_used.ensures
+    ∙ ap (λ (k : TablesState). record k { closed = used_blocks k.shape c.args.seen.now }) c.in_ok-tables.ensures in
+    subst AreKept (sym is)
+    (filled_kept c.args.standing.now.protocol c.args.standing.now.list c.in-Ok.shape c.args.config.logical t
+    c.in_ok-filled.ensures.filled (c.in_ok-filled.ensures.discards none))
+
+pub count_written-written-requires-clause-pages : goal.count_written-written-requires-clause-pages
+count_written-written-requires-clause-pages g c =
     ap (λ (k : TablesState). length k.pages) (c.close_used.ensures
     ∙ ap (λ (k : TablesState). record k { closed = used_blocks k.shape c.args.seen.now }) c.in_ok-tables.ensures)
     ∙ c.in_ok-filled.ensures.filled.pages
