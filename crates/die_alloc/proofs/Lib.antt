@@ -4,3 +4,4 @@ pub mod NextSlots
 pub mod Changes
 pub mod RankedBlocks
 pub mod Swaps
+pub mod OpeningTables

@@ -228,6 +228,7 @@ module _ (s : Shape) (old : List BlockUse) (ranks : List (List ℕ)) (block : �
 abbrev pub AreFirstRanks : ℕ → List BlockUse → List ℕ → Type 0
 AreFirstRanks n blocks ranks =
     (length ranks ≡ length blocks) × ((k : ℕ) → k < n → get_or ranks k 0 ≡ rank_of (get_or blocks k no_block).state)
+    × ((k : ℕ) → n ≤ k → k < length blocks → get_or ranks k 0 ≡ 0)
 
 pub first_ranks_more : (blocks : List BlockUse) (ranks ranks' : List ℕ) (n rank : ℕ) (block : BlockUse) →
     n < length blocks →
@@ -242,7 +243,16 @@ first_ranks_more blocks ranks ranks' n rank block within is are first =
             ∙ ap (λ j. rank_of (get_or blocks j no_block).state) (sym e))
         | inr other ↦ get_or-set_other ranks n k rank 0 other ∙ first.1 k (omega arith)
       ],
+      λ k past low. ap (λ xs. get_or xs k 0) are ∙ get_or-set_other ranks n k rank 0 (λ e. omega arith)
+          ∙ first.2 k (omega arith) low,
     )
+
+-- also where the next one has rank 0, and so nothing changes
+pub first_ranks_none : (blocks : List BlockUse) (ranks : List ℕ) (n : ℕ) (block : BlockUse) → n < length blocks →
+    0 ≡ rank_of (get_or blocks n block).state → AreFirstRanks n blocks ranks → AreFirstRanks (n + 1) blocks ranks
+first_ranks_none blocks ranks n block within is first =
+    let same = ap (set ranks n) (sym (first.2 n (omega arith) within)) ∙ set-get_or ranks n 0 in
+    first_ranks_more blocks ranks ranks n 0 block within is (sym same) first
 
 -- the dies so far have their ranks
 abbrev pub HaveRanks : ℕ → Shape → List BlockUse → List (List ℕ) → Type 0

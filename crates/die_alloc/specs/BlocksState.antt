@@ -103,3 +103,7 @@ fresh_table s = record {
   spare = blocks_of s - 1;
   cursor = 0;
 }
+
+-- a table of blocks of which this is kept, with this spare, while no slot was asked for
+abbrev pub table_of_uses : Shape → List BlockUse → ℕ → BlocksState
+table_of_uses s uses spare = record { shape = s; blocks = uses; spare = spare; cursor = 0 }

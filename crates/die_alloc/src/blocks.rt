@@ -2,7 +2,7 @@ ghost use Rattle.std.specs.Prelude.{◌≡◌, ◌≢◌, ◌-◌, ◌*◌, ◌/
 ghost use Rattle.std.specs.List.{range_with_len};
 ghost use Rattle.tx_types.specs.Config.{IsShape, slots_of, blocks_of};
 ghost use Rattle.flash_model.specs.Operations.{die_of};
-ghost use Rattle.die_alloc.specs.BlocksState.{IsBlocksState, MayHave, block_state, used_of, fresh_table, with_slot, with_use, table_with_spare, HasRoom, IsFree, IsFirstFree, IsFull, IsFullIn};
+ghost use Rattle.die_alloc.specs.BlocksState.{IsBlocksState, MayHave, block_state, used_of, fresh_table, table_of_uses, with_slot, with_use, table_with_spare, HasRoom, IsFree, IsFirstFree, IsFull, IsFullIn};
 ghost use Rattle.die_alloc.specs.NextSlot.{next_slot, next_slot_in, first_unused, next_block, open_block, die_after, after_next_slot, first_answer};
 
 use crate::block_use::BlockUse;
@@ -50,13 +50,28 @@ impl Blocks {
         let last = shape.blocks() - 1;
         let mut blocks = vec![in alloc; BlockUse::CLEAN; shape.blocks() as usize]?;
         blocks[last as usize] = BlockUse::SPARE;
+        Blocks::from_uses(alloc, shape, blocks, Block(last))
+    }
+
+    /// The blocks of a flash of this shape, by what is kept of each, with this spare. The search for a slot begins at
+    /// the first die.
+    pub fn from_uses(
+        alloc: Global,
+        shape: Shape,
+        blocks: Vec<BlockUse>,
+        spare: Block,
+    ) -> Result<Blocks, Memory>
+        requires { IsBlocksState (table_of_uses shape blocks.items spare.0) }
+        ensures these { IfOk result (λ b. b ≡ table_of_uses shape blocks.items spare.0) }
+        ensures table { IfOk result IsBlocksState }
+    {
         let ranks = ranks(alloc, shape, &blocks)?;
         Ok(Blocks {
             shape,
             pages: Reciprocal::new(shape.pages_per_block),
             die_blocks: Reciprocal::new(shape.blocks_per_die),
             blocks,
-            spare: Block(last),
+            spare,
             cursor: 0,
             ranks,
         })

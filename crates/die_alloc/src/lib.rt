@@ -6,4 +6,5 @@ mod blocks;
 mod die_ranks;
 mod ranks;
 
+pub use block_use::BlockUse;
 pub use blocks::Blocks;

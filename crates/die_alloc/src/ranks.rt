@@ -43,7 +43,10 @@ fn die_ranks(alloc: Global, blocks: &[BlockUse]) -> Result<DieRanks, Memory>
 {
     let mut ranks = MaxTree::new(alloc, blocks.len())?;
     for (place, block) in blocks.iter().enumerate() {
-        ranks.set(place, rank(block.state));
+        let rank = rank(block.state);
+        if rank > 0 {
+            ranks.set(place, rank);
+        }
     }
     Ok(DieRanks::new(ranks))
 }

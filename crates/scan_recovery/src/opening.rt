@@ -1,4 +1,5 @@
 ghost use Rattle.std.specs.Prelude.{◌≡◌, ◌+◌, ◌*◌, ◌<◌, ◌≤◌, All, List, map, length, Ok, OnOk, IfOk, IfErr, IsNone, true, false};
+ghost use Rattle.std.specs.List.{range_with_len};
 ghost use Rattle.tx_types.specs.Config.{IsShape, checked, shape_of, slots_of, blocks_of};
 ghost use Rattle.record_list.specs.Counts.{HasCounts, IsFirstMiscount};
 ghost use Rattle.record_list.specs.Records.{IsScanned};
@@ -9,8 +10,7 @@ ghost use Rattle.sorted_records.specs.SortedRecords.{Sorts, list_of};
 ghost use Rattle.judged_records.specs.Notes.{complete_slots};
 ghost use Rattle.judged_records.specs.Opening.{IsChosenFrom};
 ghost use Rattle.version_index.specs.Scanned.{AreScanned};
-ghost use Rattle.die_alloc.specs.BlocksState.{IsBlocksState};
-ghost use Rattle.die_alloc.specs.Opening.{used_in, opening_table, with_slots};
+ghost use Rattle.die_alloc.specs.Opening.{used_in, use_if, use_in, opening_table};
 ghost use Rattle.scan_recovery.specs.Opening.{IsOpenedFrom, IsBroken};
 ghost use Rattle.scan_recovery.specs.Recovered.{IfUnsound, is_read_failure};
 ghost use Rattle.scan_recovery.specs.Searches.{KnowsOrbits, AreLawful};
@@ -18,7 +18,7 @@ ghost use Rattle.scan_recovery.specs.Searches.{KnowsOrbits, AreLawful};
 use crate::RecoverError;
 use crate::audit::{first_breach, keep_laws};
 use crate::spare::{chosen_spare, slots_in};
-use die_alloc::Blocks;
+use die_alloc::{BlockUse, Blocks};
 use flash_model::Seen;
 use record_list::{Breach, CommitRule, Found};
 use sorted_records::{CurrentVersions, Orbits, SortedWithList, counts, has_count, name_orbits};
@@ -250,29 +250,46 @@ fn block_table(alloc: Global, shape: Shape, seen: &[Seen], spare: Block) -> Resu
     requires spare { spare.0 < blocks_of shape }
     ensures { IfOk result (λ blocks. blocks ≡ opening_table shape seen.now spare.0) }
 {
-    let mut blocks = Blocks::new(alloc, shape)?;
-    blocks.make_spare(spare);
-    for block in 0..shape.blocks() {
-        note_block(
-            &mut blocks,
-            slots_in(seen, shape, Block(block)),
-            Block(block),
-        );
-    }
-    Ok(blocks)
+    let uses = block_uses(alloc, shape, seen, spare)?;
+    Blocks::from_uses(alloc, shape, uses, spare)
 }
 
-/// Shuts a block that is not the spare, where not all its slots are blank.
-fn note_block(blocks: &mut Blocks, slots: &[Seen], block: Block)
-    requires exists { block.0 < blocks_of blocks.old.shape }
-    requires slots { length slots.now ≡ blocks.old.shape.pages_per_block }
-    ensures noted { blocks.new ≡ with_slots blocks.old block.0 slots.now }
-    ensures table { IsBlocksState blocks.new }
+/// What is kept of each block of slots that read so, with this spare.
+fn block_uses(
+    alloc: Global,
+    shape: Shape,
+    seen: &[Seen],
+    spare: Block,
+) -> Result<Vec<BlockUse>, Memory>
+    requires shape { IsShape shape }
+    requires seen { length seen.now ≡ slots_of shape }
+    ensures { IfOk result (λ uses. uses.items
+        ≡ map (use_in shape seen.now spare.0) (range_with_len 0 (blocks_of shape))) }
 {
-    let spare = blocks.spare();
+    let mut uses = vec![in alloc; BlockUse::CLEAN; shape.blocks() as usize]?;
+    for block in 0..shape.blocks() {
+        let slots = slots_in(seen, shape, Block(block));
+        uses[block as usize] = block_use(slots, block == spare.0);
+    }
+    Ok(uses)
+}
+
+/// What is kept of a block whose slots read so, as the spare or as another one.
+fn block_use(slots: &[Seen], is_spare: bool) -> BlockUse
+    requires { length slots.now ≤ 256 }
+    ensures { result ≡ use_if is_spare slots.now }
+{
+    if is_spare {
+        return BlockUse::SPARE;
+    }
     let used = count_used(slots);
-    if used > 0 && block != spare {
-        blocks.set(block, BlockState::Shut, used);
+    if used == 0 {
+        BlockUse::CLEAN
+    } else {
+        BlockUse {
+            state: BlockState::Shut,
+            used,
+        }
     }
 }
 

@@ -1,8 +1,10 @@
 -- How many of the first slots are used, by where the last one stands that is not blank.
-use Rattle.scan_recovery.proofs.Common.{◌≡◌, ℕ, zero, suc, ◌-◌, ◌<◌, ◌≤◌, true, false, cond, ◌⊎◌, inl, inr, List, [], ◌∷◌, length, get_or, refl, sym, ap, ◌∙◌, subst, arith, false≢true, Seen, Blank, reads_blank}
+use Rattle.scan_recovery.proofs.Common.{◌≡◌, ◌≢◌, ℕ, zero, suc, ◌-◌, ◌<◌, ◌≤◌, Bool, true, false, cond, cases_Bool, ◌⊎◌, inl, inr, List, [], ◌∷◌, length, get_or, refl, sym, ap, ◌∙◌, subst, arith, false≢true, Seen, Blank, reads_blank}
 use Rattle.std.specs.List.{list_all}
 use Rattle.std.proofs.lemmas.List.Folds.{list_all_at}
-use Rattle.die_alloc.specs.Opening.{used_in}
+use Rattle.tx_types.specs.declared.config.BlockState.TheVariants.{Clean, Shut}
+use Rattle.die_alloc.specs.declared.block_use.BlockUse.{BlockUse}
+use Rattle.die_alloc.specs.Opening.{used_in, use_if}
 
 -- each slot is blank
 pub all_blank : (slots : List Seen) → ((k : ℕ) → k < length slots → reads_blank (get_or slots k Blank) ≡ true) →
@@ -49,3 +51,21 @@ count_used_is (x ∷ xs) (suc (suc m)) within behind (inr last) =
 pub used_some : (slots : List Seen) → list_all reads_blank slots ≡ false → 1 ≤ used_in slots
 used_some [] h = absurd (false≢true (sym h))
 used_some (x ∷ xs) h = omega (arith, used_more x xs h)
+
+-- what is kept of a block that is not the spare, by whether all its slots are blank
+abbrev use_by : Bool → ℕ → BlockUse
+use_by blank used = cond blank (record { state = Clean; used = 0 }) (record { state = Shut; used = used })
+
+-- a block of which no slot is used is clean, and any other one is shut, where it is not the spare
+pub use_none : (slots : List Seen) → used_in slots ≡ 0 → use_if false slots ≡ record { state = Clean; used = 0 }
+use_none slots none = elim (cases_Bool (list_all reads_blank slots)) [
+  | inl blank ↦ ap (λ (b : Bool). use_by b (used_in slots)) blank
+  | inr some ↦ absurd (let used = used_some slots some in omega (arith, used, none))
+]
+
+pub use_some : (slots : List Seen) (used : ℕ) → used ≡ used_in slots → used ≢ 0 →
+    use_if false slots ≡ record { state = Shut; used = used }
+use_some slots used is other = elim (cases_Bool (list_all reads_blank slots)) [
+  | inl blank ↦ absurd (other (is ∙ used_blank slots blank))
+  | inr some ↦ ap (λ (b : Bool). use_by b (used_in slots)) some ∙ ap (λ (n : ℕ). use_by false n) (sym is)
+]
