@@ -1,4 +1,4 @@
-ghost use Rattle.std.specs.Prelude.{◌≡◌, ℕ, suc, ◌<◌, ◌^◌, true, [], Some, position, filter, IfOk, IfSome, length, slice_index_or};
+ghost use Rattle.std.specs.Prelude.{◌≡◌, ◌↔◌, ℕ, suc, ◌<◌, ◌^◌, IsTrue, [], Some, position, filter, IfOk, IfSome, length, slice_index_or};
 ghost use Rattle.tx_types.specs.declared.config.Protocol.TheVariants.{Bpcc};
 ghost use Rattle.record_list.specs.Current.{responsible, straddling_upto};
 ghost use Rattle.record_list.specs.Records.{greatest, name_of, record_at, has_name, is_present, newest, next_older};
@@ -189,7 +189,7 @@ impl SortedRecords {
     /// Whether no record has the name of the one before it, so that no two have one.
     #[inline]
     pub fn names_differ(&self) -> bool
-        ensures { result ≡ true → (k : ℕ) → suc k < length self.now → NextDiffers self.now k }
+        ensures { IsTrue result ↔ ((k : ℕ) → suc k < length self.now → NextDiffers self.now k) }
     {
         self.names.differ
     }

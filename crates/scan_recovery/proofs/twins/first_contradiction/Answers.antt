@@ -11,13 +11,13 @@ pub returns-then-names_differ-clause-first : goal.returns-then-names_differ-clau
 returns-then-names_differ-clause-first g c =
     let old = g.F.Flash.state c.args.flash.now in
     all_agree c.args.list.now c.args.chart.now c.requires.sorts
-    (c.names_differ.ensures c.if-names_differ.true)
+    (c.names_differ.ensures.0 c.if-names_differ.true)
     old.shape.page_bytes old.image
 
 pub returns-then-names_differ-clause-reads : goal.returns-then-names_differ-clause-reads
 returns-then-names_differ-clause-reads g c =
     none_read c.args.list.now c.args.chart.now c.requires.sorts
-    (c.names_differ.ensures c.if-names_differ.true)
+    (c.names_differ.ensures.0 c.if-names_differ.true)
     (g.F.Flash.state c.args.flash.now)
 
 pub loop-at-init : goal.loop-at-init
