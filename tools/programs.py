@@ -1,4 +1,4 @@
-"""What ./txflash and ./flash_view share: where a built program is, how one is started, and what is said beside it."""
+"""What the three scripts share: where a built program is, how one is started, and what is said beside it."""
 import os
 import shutil
 import signal
@@ -22,7 +22,8 @@ def version() -> str:
 
 
 def named_program(program: str) -> Optional[str]:
-    """The built program that the environment names, as TXFLASH_PROGRAM or FLASH_VIEW_PROGRAM, if it does."""
+    """The built program that the environment names, as TXFLASH_PROGRAM, FLASH_VIEW_PROGRAM or
+    FLASH_SERVE_PROGRAM, if it does."""
     return os.environ.get(f"{program.upper()}_PROGRAM")
 
 

@@ -92,8 +92,8 @@ class Gone(Error):
 
 
 class InDoubt(Error):
-    """No reply came. Each transaction that was in hand is whole or absent, and a read of its pages tells which. All
-    their pages are in `pages`. All other transactions that were open are absent."""
+    """It is not known what became of the call. Each transaction that was in hand is whole or absent, and a read of its
+    pages tells which. All their pages are in `pages`. All other transactions that were open are absent."""
 
     def __init__(self, words: str, pages: Sequence[int] = ()) -> None:
         super().__init__(words)
@@ -439,7 +439,7 @@ def found_program(named: Optional[str]) -> str:
     named = named or os.environ.get("FLASH_SERVE_PROGRAM")
     found = shutil.which(named) if named else shutil.which(BUILT) or shutil.which("flash_serve")
     if not found:
-        raise NoProgram(f"there is no program {named or BUILT}: build it, or name it in FLASH_SERVE_PROGRAM")
+        raise NoProgram(f"no program {named or BUILT}: build it by ./flash_serve, or name it in FLASH_SERVE_PROGRAM")
     return os.path.abspath(found)
 
 
