@@ -17,8 +17,9 @@ use Rattle.record_list.specs.SoundList.{IsSoundList}
 use Rattle.judged_records.specs.IndexState.{pinned_at, mention_of, is_closed, last_slot, is_shut_now, is_used_block, used_blocks}
 use Rattle.judged_records.proofs.OfNotes.BaseTables.{given_from}
 use Rattle.judged_records.proofs.OfChanges.Pins.{numbered_pin}
-use Rattle.die_alloc.specs.BlocksState.{MayHave, no_block}
+use Rattle.die_alloc.specs.BlocksState.{no_block}
 use Rattle.die_alloc.proofs.Changes.{block_within}
+use Rattle.die_alloc.proofs.OpeningTables.{opening_is_table}
 use Rattle.flash_model.specs.Readings.{reads_blank, seen_in, seen_in_block, reads_blank_block}
 use Rattle.die_alloc.specs.Opening.{used_in, use_in, opening_table}
 use Rattle.judged_records.specs.Opening.{opening_noted, IsChosenFrom}
@@ -27,17 +28,6 @@ use Rattle.collector.specs.Laws.{OpenedTablesMatch}
 use Rattle.collector.specs.Matches.{AreShut}
 use Rattle.collector.proofs.OfSettle.SettledExits.{matches_still}
 use Rattle.collector.proofs.OfNotes.SureCounts.{sure_counts}
-
--- no more slots are used than there are
-used_low : (slots : List Seen) → used_in slots ≤ length slots
-unfolding used_in
-used_low [] = omega arith
-used_low (how ∷ rest) = elim (cases_Bool (list_all reads_blank (how ∷ rest))) [
-  | inl e ↦ (let none = cond-true {A = ℕ} (list_all reads_blank (how ∷ rest)) 0 (suc (used_in rest)) e in
-      omega (arith, none))
-  | inr e ↦ (let some = cond-false {A = ℕ} (list_all reads_blank (how ∷ rest)) 0 (suc (used_in rest)) e in
-      let low = used_low rest in omega (arith, some, low))
-]
 
 -- a slot of a blank block is blank
 blank_contents : (contents : Contents) → reads_blank (seen_of contents) ≡ true → contents ≡ blank
@@ -114,26 +104,6 @@ module _ (shape : Shape) (slots : List Seen) (spare : ℕ) where
   state_is : (block : ℕ) (u : BlockUse) → use_of table block ≡ u → block_state table block ≡ u.state
   state_is block u e = ap (λ (x : BlockUse). x.state) e
 
-  may_have : (block : ℕ) → Kind block → MayHave shape.pages_per_block (block_state table block) (used_of table block)
-  may_have block (spared here e) = subst (λ (u : BlockUse). MayHave shape.pages_per_block u.state u.used) (sym e) refl
-  may_have block (clean apart all_blank e) = subst (λ (u : BlockUse). MayHave shape.pages_per_block u.state u.used)
-      (sym e) refl
-  may_have block (shut apart not_blank e) =
-      let low = used_low (seen_in_block shape slots block) in
-      let long = length-take shape.pages_per_block (drop (block * shape.pages_per_block) slots) in
-      subst (λ (u : BlockUse). MayHave shape.pages_per_block u.state u.used) (sym e) (omega (arith, low, long))
-
-  is_spare : (block : ℕ) → Kind block → (block_state table block ≡ Spare) ↔ (block ≡ spare)
-  is_spare block (spared here e) = (λ s. here, λ b. state_is block _ e)
-  is_spare block (clean apart all_blank e) = (
-    λ s. (let no : Clean ≡ Spare = sym (state_is block _ e) ∙ s in cc),
-    λ b. absurd (apart b),
-  )
-  is_spare block (shut apart not_blank e) = (
-    λ s. (let no : Shut ≡ Spare = sym (state_is block _ e) ∙ s in cc),
-    λ b. absurd (apart b),
-  )
-
   -- a block with room is all blank
   has_blank : (block : ℕ) → Kind block → HasRoom table block → reads_blank_block shape slots block ≡ true
   has_blank block (spared here e) (inl c) = let no : Spare ≡ Clean = sym (state_is block _ e) ∙ c in cc
@@ -141,16 +111,6 @@ module _ (shape : Shape) (slots : List Seen) (spare : ℕ) where
   has_blank block (clean apart all_blank e) room = all_blank
   has_blank block (shut apart not_blank e) (inl c) = let no : Shut ≡ Clean = sym (state_is block _ e) ∙ c in cc
   has_blank block (shut apart not_blank e) (inr p) = let no : Shut ≡ Part = sym (state_is block _ e) ∙ p in cc
-
-  pub table_kept : IsShape shape → spare < blocks_of shape → IsBlocksState table
-  table_kept bounds low = record {
-    numbers = bounds;
-    count = length-map-range_with_len (use_in shape slots spare) 0 (blocks_of shape);
-    die = (let d = bounds.dies_least in omega arith);
-    spare_within = low;
-    one_spare = λ block within. is_spare block (kind_of block within);
-    bounds = λ block within. may_have block (kind_of block within);
-  }
 
   -- a block but the spare is shut where it is not all blank
   pub shut_used : (block : ℕ) → block < blocks_of shape → block ≢ spare →
@@ -278,7 +238,7 @@ module _ (its : Config) (s : FlashState) (check : checked its ≡ Ok s.shape) (w
   free_noted : (slot : ℕ) → IsFree t slot → note_at n.notes slot ≡ Blank
   free_noted slot free =
       let within : slot < length s.image = (let w = free.within in omega (arith, w, long)) in
-      let low = block_within t (table_kept sh (seen_in s.image) spare known.0.shape spare_low) slot free.within in
+      let low = block_within t (opening_is_table sh (seen_in s.image) spare known.0.shape spare_low) slot free.within in
       let all_blank = free_blank sh (seen_in s.image) spare slot free low in
       noted_at slot within ∙ ap (note_of its.protocol) (blank_slot sh s.image (slot / sh.pages_per_block) slot
       some_pages all_blank within refl)
@@ -334,7 +294,7 @@ module _ (its : Config) (s : FlashState) (check : checked its ≡ Ok s.shape) (w
     noted = opening_kept;
     counts = sure_counts s n known.1 whole sound opening_kept.slots
         (λ slot low. noted_at slot (omega (arith, low, whole.slots)));
-    table = table_kept sh (seen_in s.image) spare known.0.shape spare_low;
+    table = opening_is_table sh (seen_in s.image) spare known.0.shape spare_low;
     blocks = sym known.1;
     spare = refl;
     sure = λ slot low nothing. noted_at slot (omega (arith, low, whole.slots));
