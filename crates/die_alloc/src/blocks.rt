@@ -41,7 +41,8 @@ impl Model for Blocks {
 }
 
 impl Blocks {
-    /// All blocks of a flash of this shape are clean, and the last one is the spare.
+    /// All blocks of a flash of this shape are clean, and the last one is the spare. It is there for who builds
+    /// on this crate: no program calls it.
     pub fn new(alloc: Global, shape: Shape) -> Result<Blocks, Memory>
         requires { IsShape shape }
         ensures fresh { IfOk result (λ b. b ≡ fresh_table shape) }
@@ -220,7 +221,8 @@ impl Blocks {
         );
     }
 
-    /// Gives a block that is not the spare this state and this number of used slots.
+    /// Gives a block that is not the spare this state and this number of used slots. It is there for who builds
+    /// on this crate: no program calls it.
     pub fn set(&mut self, block: Block, state: BlockState, used: u32)
         requires exists { block.0 < blocks_of self.old.shape }
         requires not_the_spare { block.0 ≢ self.old.spare }
@@ -241,7 +243,7 @@ impl Blocks {
     }
 
     /// Makes a block the spare. The one that was it before, where it is another block, is clean. The spare has no used
-    /// slots.
+    /// slots. It is there for who builds on this crate: no program calls it.
     pub fn make_spare(&mut self, block: Block)
         requires { block.0 < blocks_of self.old.shape }
         ensures spare { self.new ≡ table_with_spare self.old block.0 }

@@ -5,8 +5,8 @@ ghost use Rattle.dense_tables.specs.Greatest.{IsFirstGreatest};
 use dense_tables::MaxTree;
 use std::marker::Model;
 
-/// The ranks of the blocks of a die. That of the block which comes first is kept beside the others once it was given,
-/// so that the slots of a block are taken one after another without a search. It is seen as the list of the ranks.
+/// The ranks of the blocks of a die. That of the block which comes first may be kept beside the others, as it mostly is
+/// while slots of the block are taken: they need no search then. It is seen as the list of the ranks.
 #[derive(Drop)]
 pub struct DieRanks {
     /// The rank of each block. What it has of the one that is kept beside them means nothing.
@@ -54,8 +54,8 @@ impl DieRanks {
         }
     }
 
-    /// Puts another rank at a place. Where it is greater than all others it is kept beside them, up to the next one
-    /// that comes before it.
+    /// Puts another rank at a place. Where none is kept beside the others and it is greater than all of them, it is
+    /// kept there, until it falls or another one comes before it.
     pub fn set(&mut self, place: usize, rank: u32)
         requires { place < length self.old }
         ensures { self.new ≡ slice_set self.old place rank }
@@ -84,7 +84,8 @@ impl DieRanks {
     }
 }
 
-/// Whether a rank at a place comes before another one: it is greater, or as great and at a lower place.
+/// Whether a rank at a place comes before another one: it is greater, or as great and at a lower place. Nothing but
+/// speed rests on it where it says so.
 fn comes_before(place: usize, rank: u32, other_place: usize, other: u32) -> bool
     ensures most { result ≡ false → rank ≤ other }
     ensures less { result ≡ false → place < other_place → rank < other }
@@ -96,7 +97,8 @@ fn comes_before(place: usize, rank: u32, other_place: usize, other: u32) -> bool
     }
 }
 
-/// Whether a rank is greater than each of these. For a rank of 0 none is looked at.
+/// Whether a rank is greater than each of these. For a rank of 0 none is looked at. Nothing but speed rests on it where
+/// it says no.
 fn is_above(ranks: &MaxTree, rank: u32) -> bool
     ensures { result ≡ true → All (λ x. x < rank) ranks.now }
 {

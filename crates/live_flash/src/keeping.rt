@@ -45,7 +45,7 @@ fn are_blank(memory: &MemFlash, first: u32, count: u32) -> bool
 
 impl<S: Store + Drop> Follower<S> {
     /// Follows a program of a slot in memory that does not wait yet: where it is not blank it waits from now on, and is
-    /// blank in the file still. Other slots may be due.
+    /// blank in the file still. Others that were programmed with it may wait.
     pub fn put(&mut self, memory: &MemFlash, at: Slot)
         requires exists { at.0 < slots_of memory.now.shape }
         requires programmed { AreProgrammed memory.now.image self.old.waiting.items }

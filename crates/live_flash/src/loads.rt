@@ -43,7 +43,8 @@ pub(crate) fn die_of(shape: Shape, at: Slot) -> usize
     (at.0 / shape.pages_per_block / shape.blocks_per_die) as usize
 }
 
-/// Follows the program of this slot in memory, if there is one. It does not wait yet. Other slots may be due still.
+/// Follows the program of this slot in memory, if there is one. It does not wait yet. Others that were
+/// programmed with it may wait.
 fn follow_slot<S: Store + Drop>(follower: &mut Follower<S>, memory: &MemFlash, slot: Option<Slot>)
     requires exists { IsLoaded memory.now.shape slot }
     requires programmed { AreProgrammed memory.now.image follower.old.waiting.items }

@@ -186,7 +186,8 @@ impl LiveSlots {
         recount_more(&mut self.garbage, &self.marks, block);
     }
 
-    /// Sets whether a slot is blank. The garbage of its block is not counted anew where no program goes there.
+    /// Sets whether a slot is blank. The garbage of its block is not counted anew where no program goes there, but at
+    /// its last slot.
     #[inline(always)]
     pub fn set_blank(&mut self, at: u32, blank: bool)
         requires { at < length self.old.blanks }
@@ -204,8 +205,8 @@ impl LiveSlots {
         recount(&mut self.garbage, &self.marks, block);
     }
 
-    /// Sets whether a slot is needed and whether it is blank. The garbage of its block is counted once for both, and not
-    /// at all where it stays.
+    /// Sets whether a slot is needed and whether it is blank. The garbage of its block is counted once for both, and
+    /// not at all where it is known to stay.
     #[inline(always)]
     pub fn mark(&mut self, at: u32, needed: bool, blank: bool)
         requires { at < length self.old.needed }
@@ -346,7 +347,8 @@ impl SlotMarks {
         at == block * size + (size - 1)
     }
 
-    /// Whether a block is not closed, and one of its slots is blank.
+    /// Whether a block is not closed, and just one of its slots is blank. Nothing but speed rests on it where it says
+    /// no.
     fn has_one_blank(&self, block: u32) -> bool
         requires sized { (blocks : ℕ) × AreSized self.now blocks × (block < blocks) }
         ensures unclosed { result ≡ true → is_marked self.now.closed.items block ≡ false }

@@ -180,7 +180,7 @@ fn add_cell(
     }
 }
 
-/// The same for a small page.
+/// Adds an entry as `add_cell` does, for a small page.
 #[inline(always)]
 fn add_small_cell(
     cells: &mut Vec<u8>,
@@ -209,7 +209,7 @@ fn fill_cell(target: Target, bytes: &[u8], page_bytes: u32, cell: &mut [u8])
     cell[HEAD_BYTES..HEAD_BYTES + bytes.len()].copy_from_slice(bytes);
 }
 
-/// The same for any page.
+/// Adds an entry as `add_cell` does, for a page of any size.
 fn add_large_cell(
     cells: &mut Vec<u8>,
     target: Target,

@@ -157,7 +157,7 @@ fn decide_record(
 }
 
 /// Decides which record answers for the loose one at a place, and for which page it waits. It is a call of its own, as
-/// most records are current.
+/// few records are loose.
 #[inline(never)]
 fn decide_loose(
     tables: &mut TablesBuilder,

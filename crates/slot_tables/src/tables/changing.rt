@@ -50,8 +50,8 @@ impl Tables {
         }
     }
 
-    /// Empties a slot that holds a record. Where it was needed, another slot is now in its place. It is a call of its
-    /// own beside the filling of a slot, since the need of an emptied slot goes to another copy of its record or to
+    /// A slot comes to hold no record. Where it was needed, another copy is now, if there is one. It is a function of
+    /// its own beside the filling of a slot, since the need of an emptied slot goes to another copy of its record or to
     /// none: no record, pin or current version is looked up for that.
     #[inline(always)]
     fn empty_slot(&mut self, at: Slot, to: SlotUse)
