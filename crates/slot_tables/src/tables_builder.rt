@@ -159,6 +159,7 @@ impl TablesBuilder {
     }
 
     /// Sets what a slot holds. Where it is a record this goes through its copies below the slot.
+    #[inline(always)]
     pub fn set_slot(&mut self, at: Slot, to: SlotUse)
         requires slot { at.0 < slots_of self.old.shape }
         requires number { NumbersBelow (slots_of self.old.shape) to }
