@@ -1,3 +1,4 @@
+pub mod Lone
 pub mod NameReturns
 pub mod OneOrbit
 pub mod Noted

@@ -1,5 +1,5 @@
 -- What is known of the nodes of a graph while their orbits are looked for.
-use Rattle.std.specs.Prelude.{◌≡◌, ◌≢◌, ℕ, suc, ◌<◌, ◌+◌, ◌^◌, ◌⊎◌, Option, Some, None, List, [], ◌∷◌, length, slice_index_or, slice_set}
+use Rattle.std.specs.Prelude.{◌≡◌, ◌≢◌, ℕ, ◌==◌, if◌then◌else◌, ◌++◌, suc, ◌<◌, ◌+◌, ◌^◌, ◌⊎◌, Option, Some, None, List, [], ◌∷◌, length, slice_index_or, slice_set}
 use Rattle.sorted_records.specs.declared.orbit.Orbit.{Orbit}
 use Rattle.sorted_records.specs.declared.orbit.Orbit.TheVariants.{Ends, Round, Aside}
 use Rattle.sorted_records.specs.declared.seen.Seen.{Seen}
@@ -29,6 +29,25 @@ LeadsToKnown graph seen i = (j : ℕ) → next_of graph i ≡ Some j → IsKnown
 -- nothing follows this node but itself, or what is known
 abbrev pub LeadsNoFurther : List (Option ℕ) → List Seen → ℕ → Type 0
 LeadsNoFurther graph seen i = (j : ℕ) → next_of graph i ≡ Some j → (j ≡ i) ⊎ IsKnown seen j
+
+-- what is known of a node by the one that follows it: its orbit, where none does, or it follows itself
+abbrev pub lone_of : Option ℕ → ℕ → Seen
+lone_of None i = Known (Ends 0 i)
+lone_of (Some j) i = if j == i then Known (Round 1) else New
+
+-- with a node of which this is known, if it is new
+abbrev pub with_new : Seen → ℕ → List ℕ → List ℕ
+with_new New i nodes = nodes ++ i ∷ []
+with_new (OnPath place) i nodes = nodes
+with_new (Known orbit) i nodes = nodes
+
+-- what is known of the first nodes of a graph before any is followed, and the list of those that are new
+pub record AreLone (graph : List (Option ℕ)) (count : ℕ) (seen : List Seen) (others : List ℕ) : Type 0 where
+  pub size : length seen ≡ count
+  pub each : (i : ℕ) → i < count → seen_at seen i ≡ lone_of (next_of graph i) i
+  pub within : (k : ℕ) → k < length others → slice_index_or others k 0 < count
+  pub listed : (i : ℕ) → i < count → seen_at seen i ≡ New →
+      (k : ℕ) × (k < length others) × (slice_index_or others k 0 ≡ i)
 
 -- a path is followed: each node of it but the first follows the one before, and the places of its nodes
 -- are noted. What is known is right, and leads to what is known

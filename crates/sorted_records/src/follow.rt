@@ -9,10 +9,34 @@ use crate::path_end::PathEnd;
 use crate::seen::Seen;
 use std::alloc::AllocError;
 
-/// Finds the orbits of a node that is new, and of each new one to which it leads. The path, which is
+/// Finds the orbits of a node, and of each new one to which it leads, if it is new. The path, which is
 /// empty, is room to work in, and is empty again.
 #[inline(always)]
 pub fn find(
+    graph: &[Option<u32>],
+    start: u32,
+    seen: &mut [Seen],
+    path: &mut Vec<u32>,
+) -> Result<(), AllocError>
+    requires graph { IsGraph graph.now }
+    requires size { length graph.now < 2 ^ 32 }
+    requires start { start < length graph.now }
+    requires path { path.old.items ≡ [] }
+    requires followed { IsFollowed graph.now seen.old [] }
+    ensures path { OnOk result (path.new.items ≡ []) }
+    ensures followed { OnOk result (IsFollowed graph.now seen.new []) }
+    ensures seen { OnOk result (StaysSeen seen.old seen.new) }
+    ensures start { OnOk result (seen_at seen.new start ≢ New) }
+{
+    match seen[start as usize] {
+        Seen::New => find_new(graph, start, seen, path),
+        Seen::OnPath(_) | Seen::Known(_) => Ok(()),
+    }
+}
+
+/// Finds the orbits of a node that is new, and of each new one to which it leads.
+#[inline(always)]
+fn find_new(
     graph: &[Option<u32>],
     start: u32,
     seen: &mut [Seen],
@@ -38,8 +62,7 @@ pub fn find(
     }
 }
 
-/// The orbit of a node that is new, where it has no next one, or is its own, or the orbit of its next one is known;
-/// nothing for any other.
+/// The orbit of a node that is new, where that of its next one is known; nothing for any other.
 #[inline(always)]
 fn orbit_at_once(graph: &[Option<u32>], node: u32, seen: &[Seen]) -> Option<Orbit>
     requires graph { IsGraph graph.now }
@@ -50,17 +73,10 @@ fn orbit_at_once(graph: &[Option<u32>], node: u32, seen: &[Seen]) -> Option<Orbi
     ensures orbit { IfSome result (IsOrbit graph.now node) }
     ensures leads { IfSome result (λ _. LeadsNoFurther graph.now seen.now node) }
 {
-    match graph[node as usize] {
-        None => Some(Orbit::Ends { after: 0, at: node }),
-        Some(next) => {
-            if next == node {
-                return Some(Orbit::Round { length: 1 });
-            }
-            match seen[next as usize] {
-                Seen::Known(orbit) => Some(orbit_before(node, Some(orbit))),
-                Seen::New | Seen::OnPath(_) => None,
-            }
-        }
+    let next = graph[node as usize]?;
+    match seen[next as usize] {
+        Seen::Known(orbit) => Some(orbit_before(node, Some(orbit))),
+        Seen::New | Seen::OnPath(_) => None,
     }
 }
 

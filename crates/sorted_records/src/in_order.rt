@@ -84,8 +84,8 @@ fn find_by_search(
     }
 }
 
-/// The place of the first record with this name, which is that of the newest version of its page: the last record of the
-/// page has it too.
+/// The place of the first record with this name, which is that of the newest version of its page: the last record of
+/// the page has it too.
 #[inline(always)]
 pub fn find_newest(records: &[Found], starts: &[u32], name: Link) -> Option<u32>
     requires order { IsInOrder records.now }

@@ -8,6 +8,7 @@ mod current_versions;
 mod follow;
 mod group;
 mod in_order;
+mod lone_nodes;
 mod minima;
 mod names;
 mod orbit;

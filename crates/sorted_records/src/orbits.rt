@@ -1,9 +1,12 @@
-ghost use Rattle.std.specs.Prelude.{◌≡◌, ◌<◌, ◌^◌, IfOk, length, slice_index_or};
+ghost use Rattle.std.specs.Prelude.{◌≡◌, ◌≢◌, ℕ, ◌<◌, ◌^◌, [], IfOk, OnOk, length, slice_index_or};
 ghost use Rattle.sorted_records.specs.Orbits.{IsGraph, AreOrbits};
+ghost use Rattle.sorted_records.specs.Seen.{seen_at, AreLone, IsFollowed};
 ghost use Rattle.sorted_records.specs.declared.orbit.Orbit.TheVariants.{Aside};
+ghost use Rattle.sorted_records.specs.declared.seen.Seen.TheVariants.{New};
 
 use crate::Orbit;
 use crate::follow::find;
+use crate::lone_nodes::LoneNodes;
 use crate::seen::Seen;
 use std::alloc::{AllocError, Global};
 use std::marker::Model;
@@ -31,13 +34,23 @@ impl Orbits {
         requires size { length graph.now < 2 ^ 32 }
         ensures { IfOk result (AreOrbits graph.now) }
     {
-        let mut seen = vec![in alloc; Seen::New; graph.len()]?;
-        let mut path = Vec::new(alloc);
-        for start in 0..graph.len() {
-            if let Seen::New = seen[start] {
-                find(graph, start as u32, &mut seen, &mut path)?;
-            }
-        }
+        let lone = lone_nodes(alloc, graph)?;
+        Orbits::from_lone_nodes(alloc, graph, lone)
+    }
+
+    /// Follows the next node of each that is new, once, where the others are known.
+    pub(crate) fn from_lone_nodes(
+        alloc: Global,
+        graph: &[Option<u32>],
+        lone: LoneNodes,
+    ) -> Result<Orbits, AllocError>
+        requires graph { IsGraph graph.now }
+        requires size { length graph.now < 2 ^ 32 }
+        requires lone { AreLone graph.now (length graph.now) lone.seen.items lone.others.items }
+        ensures { IfOk result (AreOrbits graph.now) }
+    {
+        let LoneNodes { mut seen, others } = lone;
+        follow_each(alloc, graph, &others, &mut seen)?;
         Ok(Orbits { seen })
     }
 
@@ -52,4 +65,37 @@ impl Orbits {
             Seen::New | Seen::OnPath(_) => Orbit::Aside,
         }
     }
+}
+
+/// What is known of the nodes of a graph before any is followed.
+fn lone_nodes(alloc: Global, graph: &[Option<u32>]) -> Result<LoneNodes, AllocError>
+    requires size { length graph.now < 2 ^ 32 }
+    ensures { IfOk result (λ lone.
+        AreLone graph.now (length graph.now) lone.seen.items lone.others.items) }
+{
+    let mut lone = LoneNodes::with_capacity(alloc, graph.len())?;
+    for node in 0..graph.len() {
+        lone.note(node as u32, graph[node]);
+    }
+    Ok(lone)
+}
+
+/// Finds the orbits of these nodes. They are all that are new.
+fn follow_each(
+    alloc: Global,
+    graph: &[Option<u32>],
+    nodes: &[u32],
+    seen: &mut [Seen],
+) -> Result<(), AllocError>
+    requires graph { IsGraph graph.now }
+    requires size { length graph.now < 2 ^ 32 }
+    requires lone { AreLone graph.now (length graph.now) seen.old nodes.now }
+    ensures followed { OnOk result (IsFollowed graph.now seen.new []) }
+    ensures known { OnOk result ((i : ℕ) → i < length graph.now → seen_at seen.new i ≢ New) }
+{
+    let mut path = Vec::new(alloc);
+    for node in nodes {
+        find(graph, *node, seen, &mut path)?;
+    }
+    Ok(())
 }

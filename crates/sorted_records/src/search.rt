@@ -36,8 +36,8 @@ pub fn page_starts(alloc: Global, records: &[Found]) -> Result<(Vec<u32>, Names)
     Ok((starts, names))
 }
 
-/// Notes of the record at a place where the pages up to its own begin, of this many pages, and how its name differs
-/// from that of the one before.
+/// Notes where the pages up to that of the record at a place begin, of no more than this many pages, and how its name
+/// differs from that of the one before.
 #[inline(always)]
 pub fn note_record(
     records: &[Found],

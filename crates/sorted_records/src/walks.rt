@@ -6,38 +6,52 @@ ghost use Rattle.sorted_records.specs.Minima.{AreMinima};
 ghost use Rattle.sorted_records.specs.Names.{AreNames};
 ghost use Rattle.sorted_records.specs.NameGraph.{name_graph};
 ghost use Rattle.sorted_records.specs.Orbits.{AreOrbits};
+ghost use Rattle.sorted_records.specs.Seen.{AreLone};
 ghost use Rattle.sorted_records.specs.SortedRecords.{IsInOrder, EndsBelow, newest_target, link_graph, ending, why_from_orbit};
 ghost use Rattle.sorted_records.specs.Starts.{AreStarts};
 
 use crate::group::straddling;
 use crate::in_order::{find_near, first_namesake, newest};
+use crate::lone_nodes::LoneNodes;
 use crate::names::Names;
 use crate::{Orbit, Orbits};
 use record_list::{Found, Why};
 use std::alloc::{AllocError, Global};
 use tx_types::{Link, Protocol};
 
-/// The places that links name, and those to which they lead.
+/// The places that links name, those to which they lead, and what is known of these without following one.
 #[derive(Drop)]
 struct Graphs {
     targets: Vec<Option<u32>>,
     links: Vec<Option<u32>>,
+    lone: LoneNodes,
 }
 
-/// For each record the place of the first record that its link names.
-fn targets(alloc: Global, records: &[Found], starts: &[u32]) -> Result<Vec<Option<u32>>, AllocError>
+/// The places that links name, and what is known of these without following one.
+#[derive(Drop)]
+struct Targets {
+    targets: Vec<Option<u32>>,
+    lone: LoneNodes,
+}
+
+/// For each record the place of the first record that its link names, and what is known without following one.
+fn find_targets(alloc: Global, records: &[Found], starts: &[u32]) -> Result<Targets, AllocError>
     requires order { IsInOrder records.now }
     requires starts { AreStarts records.now starts.now }
     requires few { length records.now < 2 ^ 32 }
-    ensures { IfOk result (λ targets. targets.items ≡ name_graph records.now) }
+    ensures targets { IfOk result (λ t. t.targets.items ≡ name_graph records.now) }
+    ensures lone { IfOk result (λ t.
+        AreLone (name_graph records.now) (length records.now) t.lone.seen.items t.lone.others.items) }
 {
     let mut targets = Vec::with_capacity(alloc, records.len())?;
+    let mut lone = LoneNodes::with_capacity(alloc, records.len())?;
     let mut near = 0;
     for at in 0..records.len() {
         let target = next_target(records, starts, &targets, at as u32, &mut near);
-        targets.push(target)?;
+        targets.push_reserved(target);
+        lone.note(at as u32, target);
     }
-    Ok(targets)
+    Ok(Targets { targets, lone })
 }
 
 /// The place of the first record that the link of the one at this place names, by those of the records before: it is
@@ -97,36 +111,50 @@ pub fn targets_and_orbits(
     ensures orbits { IfOk result (λ r. AreOrbits (link_graph records.now) r.1) }
 {
     if names.one_version {
-        let targets = targets(alloc, records, starts)?;
-        let orbits = Orbits::new(alloc, &targets)?;
+        let Targets { targets, lone } = find_targets(alloc, records, starts)?;
+        let orbits = Orbits::from_lone_nodes(alloc, &targets, lone)?;
         return Ok((targets, orbits));
     }
-    let found = find_graphs(alloc, records, starts)?;
-    let orbits = Orbits::new(alloc, &found.links)?;
-    Ok((found.targets, orbits))
+    let Graphs {
+        targets,
+        links,
+        lone,
+    } = find_graphs(alloc, records, starts)?;
+    let orbits = Orbits::from_lone_nodes(alloc, &links, lone)?;
+    Ok((targets, orbits))
 }
 
 /// For each record the place of the first record that its link names, and where the link leads: there, where that
-/// record is of the newest version of its page.
+/// record is of the newest version of its page. What is known of the links without following one is noted.
 fn find_graphs(alloc: Global, records: &[Found], starts: &[u32]) -> Result<Graphs, AllocError>
     requires order { IsInOrder records.now }
     requires starts { AreStarts records.now starts.now }
     requires few { length records.now < 2 ^ 32 }
     ensures targets { IfOk result (λ g. g.targets.items ≡ name_graph records.now) }
     ensures links { IfOk result (λ g. g.links.items ≡ map (newest_target records.now) g.targets.items) }
+    ensures lone { IfOk result (λ g.
+        AreLone g.links.items (length g.links.items) g.lone.seen.items g.lone.others.items) }
 {
     let mut targets = Vec::with_capacity(alloc, records.len())?;
     let mut links = Vec::with_capacity(alloc, records.len())?;
+    let mut lone = LoneNodes::with_capacity(alloc, records.len())?;
     let mut near = 0;
     for at in 0..records.len() {
         let target = next_target(records, starts, &targets, at as u32, &mut near);
+        let link = newest_target(records, starts, target);
         targets.push_reserved(target);
-        links.push_reserved(newest_target(records, starts, target));
+        links.push_reserved(link);
+        lone.note(at as u32, link);
     }
-    Ok(Graphs { targets, links })
+    Ok(Graphs {
+        targets,
+        links,
+        lone,
+    })
 }
 
-/// A place, where it is that of a record of the newest version of its page. Mostly no other of the page comes behind it.
+/// A place, where it is that of a record of the newest version of its page. Mostly no other of the page comes behind
+/// it.
 #[inline(always)]
 fn newest_target(records: &[Found], starts: &[u32], target: Option<u32>) -> Option<u32>
     requires order { IsInOrder records.now }

@@ -1,8 +1,7 @@
 -- A new node is in no ring of known ones, so that its orbit is by one step longer than that of the known one after it.
-use Rattle.sorted_records.proofs.Common.{◌≡◌, ℕ, ◌<◌, Option, Some, List, [], length, ap, ◌∙◌, arith, Orbit, Ends, Round, Aside, Seen, Known, next_of, IsGraph, seen_at, IsFollowed}
+use Rattle.sorted_records.proofs.Common.{◌≡◌, ℕ, ◌<◌, Option, Some, List, [], length, arith, Orbit, Ends, Round, Aside, Seen, Known, next_of, IsGraph, seen_at, IsFollowed}
 use Rattle.std.proofs.Common.{◌^◌}
 use Rattle.sorted_records.specs.Seen.{MayGrow}
-use Rattle.sorted_records.proofs.OfRecords.Steps.{end_alone, round_alone}
 use Rattle.sorted_records.proofs.OfWalk.OneOrbit.{orbit_before_is, end_near}
 use Rattle.sorted_records.proofs.OfWalk.Paths.{known_stay, seen_within}
 use Rattle.sorted_records.proofs.follow.orbit_at_once.Goals as goal
@@ -19,17 +18,9 @@ known_grows graph seen j (Ends after at) graph_is few is known =
 known_grows graph seen j (Round turns) graph_is few is known = tt
 known_grows graph seen j Aside graph_is few is known = tt
 
-pub returns-in-None-clause-orbit : goal.returns-in-None-clause-orbit
-returns-in-None-clause-orbit c = end_alone c.args.graph.now c.args.node c.in-None.is
-
-pub returns-then-next-node-clause-orbit : goal.returns-then-next-node-clause-orbit
-returns-then-next-node-clause-orbit c =
-    let itself : next_of c.args.graph.now c.args.node ≡ Some c.args.node = c.in-Some.is ∙ ap Some c.if-next-node.true in
-    round_alone c.args.graph.now c.args.node itself
-
 pub orbit_before-requires : goal.orbit_before-requires
 orbit_before-requires c =
-    known_grows c.args.graph.now c.args.seen.now c.in-Some.next c.in-Known.orbit c.requires.graph c.requires.size
+    known_grows c.args.graph.now c.args.seen.now c.in_ok-next.next c.in-Known.orbit c.requires.graph c.requires.size
     c.requires.followed c.in-Known.is
 
 pub returns-in-Known-clause-orbit : goal.returns-in-Known-clause-orbit
@@ -37,9 +28,9 @@ returns-in-Known-clause-orbit c =
     let graph = c.args.graph.now in
     let seen = c.args.seen.now in
     let is = c.requires.followed in
-    rw c.orbit_before.ensures (orbit_before_is graph c.args.node c.in-Some.next c.in-Known.orbit c.in-Some.is
-    (is.right c.in-Some.next c.in-Known.orbit c.in-Known.is)
-    (λ k leads. let (o, f) = known_stay graph seen [] is k c.in-Some.next c.args.node (
+    rw c.orbit_before.ensures (orbit_before_is graph c.args.node c.in_ok-next.next c.in-Known.orbit c.in_ok-next.was
+    (is.right c.in_ok-next.next c.in-Known.orbit c.in-Known.is)
+    (λ k leads. let (o, f) = known_stay graph seen [] is k c.in_ok-next.next c.args.node (
       c.in-Known.orbit,
       c.in-Known.is,
     ) leads in

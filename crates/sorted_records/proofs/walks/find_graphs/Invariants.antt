@@ -1,5 +1,6 @@
 use Rattle.sorted_records.proofs.Common.{◌≡◌, ◌≤◌, length, map, position, take, has_name}
-use Rattle.std.specs.Vec.{vec_capacity}
+use Rattle.std.specs.Vec.{vec_len, vec_capacity}
+use Rattle.sorted_records.specs.Seen.{AreLone}
 use Rattle.sorted_records.specs.SortedRecords.{newest_target}
 use Rattle.sorted_records.proofs.walks.find_graphs.Given as goal
 
@@ -7,6 +8,11 @@ abbrev pub invariant-loop-at : goal.invariant-loop-at
 invariant-loop-at l = record {
   targets : l.targets.items ≡ map (λ f. position (λ g. has_name f.rec.next g.rec) l.records) (take l.at l.records);
   links : l.links.items ≡ map (newest_target l.records) l.targets.items;
+  count : length l.links.items ≡ l.at;
+  lone : AreLone l.links.items l.at l.lone.seen.items l.lone.others.items;
+  few : vec_len l.lone.others ≤ l.at;
   targets_room : length l.records ≤ vec_capacity l.targets;
   links_room : length l.records ≤ vec_capacity l.links;
+  seen_room : length l.records ≤ vec_capacity l.lone.seen;
+  others_room : length l.records ≤ vec_capacity l.lone.others;
 }

@@ -4,30 +4,32 @@ use Rattle.sorted_records.proofs.OfWalk.WalkOrbits.{link_graph_is, kept_links}
 use Rattle.sorted_records.proofs.OfGroup.OneVersion.{one_version, own_links}
 use Rattle.sorted_records.proofs.walks.targets_and_orbits.Goals as goal
 
-pub new-requires-clause-graph : goal.new-requires-clause-graph
-new-requires-clause-graph c =
+pub from_lone_nodes-requires-clause-graph : goal.from_lone_nodes-requires-clause-graph
+from_lone_nodes-requires-clause-graph c =
     let l = c.args.records.now in
     let one = one_version l c.requires.order (c.requires.names.one_version c.if-names.true) in
-    let graph : c.in_ok-targets.targets.items ≡ link_graph l = c.in_ok-targets.ensures ∙ own_links l one in
+    let graph : c.in_ok-targets.field-0.targets.items ≡ link_graph l = c.in_ok-targets.ensures.targets
+    ∙ own_links l one in
     rw (c.deref.ensures.value, graph) (link_graph_is l)
 
 pub returns-then-names-clause-orbits : goal.returns-then-names-clause-orbits
 returns-then-names-clause-orbits c =
     let l = c.args.records.now in
     let one = one_version l c.requires.order (c.requires.names.one_version c.if-names.true) in
-    let graph : c.in_ok-targets.targets.items ≡ link_graph l = c.in_ok-targets.ensures ∙ own_links l one in
+    let graph : c.in_ok-targets.field-0.targets.items ≡ link_graph l = c.in_ok-targets.ensures.targets
+    ∙ own_links l one in
     rw (c.deref.ensures.value, graph) at c.in_ok-orbits.ensures
 
-pub new-requires-2-clause-graph : goal.new-requires-2-clause-graph
-new-requires-2-clause-graph c =
+pub from_lone_nodes-requires-2-clause-graph : goal.from_lone_nodes-requires-2-clause-graph
+from_lone_nodes-requires-2-clause-graph c =
     let l = c.args.records.now in
-    let graph : c.in_ok-found.found.links.items ≡ link_graph l =
-    (rw c.in_ok-found.ensures.targets at c.in_ok-found.ensures.links) ∙ kept_links l in
+    let graph : c.in_ok-targets-2.field-0.links.items ≡ link_graph l =
+    (rw c.in_ok-targets-2.ensures.targets at c.in_ok-targets-2.ensures.links) ∙ kept_links l in
     rw (c.deref-2.ensures.value, graph) (link_graph_is l)
 
 pub returns-clause-orbits : goal.returns-clause-orbits
 returns-clause-orbits c =
     let l = c.args.records.now in
-    let graph : c.in_ok-found.found.links.items ≡ link_graph l =
-    (rw c.in_ok-found.ensures.targets at c.in_ok-found.ensures.links) ∙ kept_links l in
+    let graph : c.in_ok-targets-2.field-0.links.items ≡ link_graph l =
+    (rw c.in_ok-targets-2.ensures.targets at c.in_ok-targets-2.ensures.links) ∙ kept_links l in
     rw (c.deref-2.ensures.value, graph) at c.in_ok-orbits-2.ensures

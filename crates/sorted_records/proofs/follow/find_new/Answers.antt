@@ -2,7 +2,7 @@
 use Rattle.sorted_records.proofs.Common.{◌≢◌, ◌<◌, length, arith, New, Known}
 use Rattle.sorted_records.proofs.OfWalk.Noted.{seen_same}
 use Rattle.sorted_records.proofs.OfWalk.Paths.{decided_alone, stays_set}
-use Rattle.sorted_records.proofs.follow.find.Goals as goal
+use Rattle.sorted_records.proofs.follow.find_new.Goals as goal
 
 pub returns-in-Some-clause-followed : goal.returns-in-Some-clause-followed
 returns-in-Some-clause-followed c =
