@@ -2,7 +2,7 @@
 ghost use Rattle.std.specs.Prelude.{◌≡◌, ◌<◌, ◌≤◌, ◌^◌, true, false, Some, position, filter, OnOk, length};
 ghost use Rattle.std.specs.List.Sorted.{IsPartitionPoint};
 ghost use Rattle.record_list.specs.Records.{name_of, has_name, record_at, newest, next_older};
-ghost use Rattle.record_list.specs.Verdict.{link_of, back_of};
+ghost use Rattle.record_list.specs.Verdict.{link_of, back_of, newest_name};
 ghost use Rattle.sorted_records.specs.SortedRecords.{is_below, IsInOrder, Sorts, SortsByLink, last_version};
 ghost use Rattle.sorted_records.specs.Starts.{AreStarts};
 
@@ -84,22 +84,19 @@ fn find_by_search(
     }
 }
 
-/// The place of the first record with this name, which is that of the newest version of its page: the last record of
-/// the page has it too.
+/// The place of the first record of the newest version of a page: the last record of the page has its name.
 #[inline(always)]
-pub fn find_newest(records: &[Found], starts: &[u32], name: Link) -> Option<u32>
+pub fn find_newest(records: &[Found], starts: &[u32], page: u32) -> Option<u32>
     requires order { IsInOrder records.now }
     requires starts { AreStarts records.now starts.now }
     requires few { length records.now < 2 ^ 32 }
-    requires newest { name.version ≡ newest records.now name.page }
-    ensures { result ≡ position (λ f. has_name name f.rec) records.now }
+    ensures { result ≡ position (λ f. has_name (newest_name records.now page) f.rec) records.now }
 {
-    let end = pages_up_to(records, starts, name.page);
+    let end = pages_up_to(records, starts, page);
     if end == 0 {
         return None;
     }
-    let last = &records[end - 1].rec;
-    if last.page != name.page {
+    if records[end - 1].rec.page != page {
         return None;
     }
     Some(first_namesake(records, starts, (end - 1) as u32))

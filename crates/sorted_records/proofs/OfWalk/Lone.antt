@@ -99,8 +99,7 @@ module _ (graph : List (Option ℕ)) where
   lone_right i (Some j) orbit leads known = elim (cases_eq j i) [
     | inl same ↦ (
         let is : lone_of (Some j) i ≡ Known (Round 1) = cond-true (j == i) (Known (Round 1)) New (eq-eqb j i same) in
-        let e : Round 1 ≡ orbit = cc in
-        (
+        let e : Round 1 ≡ orbit = cc in (
           subst (λ o. IsOrbit graph i o) e (round_alone graph i (leads ∙ ap Some same)),
           λ k next. let f : j ≡ k = cc in sym f ∙ same,
         ))

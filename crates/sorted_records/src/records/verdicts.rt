@@ -1,8 +1,8 @@
 //! What decides the verdict on the newest record of a page, and the current version that follows.
-ghost use Rattle.std.specs.Prelude.{◌≡◌, position};
+ghost use Rattle.std.specs.Prelude.{◌≡◌, position, Some};
 ghost use Rattle.record_list.specs.Current.{cur};
 ghost use Rattle.record_list.specs.Records.{has_name, newest};
-ghost use Rattle.record_list.specs.Verdict.{why};
+ghost use Rattle.record_list.specs.Verdict.{why, newest_name};
 ghost use Rattle.sorted_records.specs.SortedRecords.{IsOrbitOfNewest};
 
 use crate::in_order::find_newest;
@@ -16,60 +16,52 @@ impl SortedRecords {
     pub fn orbit(&self, page: u32) -> Option<Orbit>
         ensures { IsOrbitOfNewest self.now page result }
     {
-        self.orbit_of_newest(page, self.newest(page))
-    }
-
-    /// Where the links of newest records lead from that of a page, of which this is the newest version.
-    #[inline(always)]
-    fn orbit_of_newest(&self, page: u32, version: u64) -> Option<Orbit>
-        requires { version ≡ newest self.now page }
-        ensures { IsOrbitOfNewest self.now page result }
-    {
-        let place = self.find_newest(Link { page, version })?;
+        let place = self.find_newest(page)?;
         Some(self.orbits.orbit(place))
     }
 
-    /// The place of the first record with this name, which is that of the newest version of its page.
+    /// The place of the first record of the newest version of a page.
     #[inline(always)]
-    fn find_newest(&self, name: Link) -> Option<u32>
-        requires { name.version ≡ newest self.now name.page }
-        ensures { result ≡ position (λ f. has_name name f.rec) self.now }
+    fn find_newest(&self, page: u32) -> Option<u32>
+        ensures { result ≡ position (λ f. has_name (newest_name self.now page) f.rec) self.now }
     {
-        find_newest(&self.records, &self.starts, name)
+        find_newest(&self.records, &self.starts, page)
     }
 
     /// What decides the verdict on the newest record of a page: where the walk from it ends.
     pub fn why(&self, protocol: Protocol, logical: u32, page: u32) -> Why
         ensures { result ≡ why protocol self.now logical page }
     {
-        self.why_of_newest(protocol, logical, page, self.newest(page), &mut 0)
+        match self.find_newest(page) {
+            Some(place) => self.why_of_newest(protocol, logical, page, place, &mut 0),
+            None => Why::Cycle,
+        }
     }
 
-    /// What decides the verdict on the newest record of a page, of which this is the version.
+    /// What decides the verdict on the newest record of a page, which is first at this place. The page is there for the
+    /// contract.
     #[inline(always)]
     fn why_of_newest(
         &self,
         protocol: Protocol,
         logical: u32,
         page: u32,
-        version: u64,
+        place: u32,
         near: &mut usize,
     ) -> Why
-        requires { version ≡ newest self.now page }
+        requires { position (λ f. has_name (newest_name self.now page) f.rec) self.now ≡ Some place }
         ensures { result ≡ why protocol self.now logical page }
     {
-        match self.orbit_of_newest(page, version) {
-            Some(orbit) => why_from_orbit(
-                protocol,
-                &self.records,
-                &self.starts,
-                &self.least,
-                logical,
-                orbit,
-                near,
-            ),
-            None => Why::Cycle,
-        }
+        let _ = page;
+        why_from_orbit(
+            protocol,
+            &self.records,
+            &self.starts,
+            &self.least,
+            logical,
+            self.orbits.orbit(place),
+            near,
+        )
     }
 
     /// The current version of a page, 0 for none.
@@ -91,9 +83,28 @@ impl SortedRecords {
     ) -> u64
         ensures { result ≡ cur protocol self.now logical page }
     {
-        let version = self.newest(page);
+        match self.find_newest(page) {
+            None => self.newest(page),
+            Some(place) => self.current_from_newest(protocol, logical, page, place, near),
+        }
+    }
+
+    /// The current version of a page, of whose newest version the first record is at this place.
+    #[inline(always)]
+    fn current_from_newest(
+        &self,
+        protocol: Protocol,
+        logical: u32,
+        page: u32,
+        place: u32,
+        near: &mut usize,
+    ) -> u64
+        requires { position (λ f. has_name (newest_name self.now page) f.rec) self.now ≡ Some place }
+        ensures { result ≡ cur protocol self.now logical page }
+    {
+        let version = self.newest_at(page, place);
         match self
-            .why_of_newest(protocol, logical, page, version, near)
+            .why_of_newest(protocol, logical, page, place, near)
             .verdict()
         {
             Verdict::Committed => version,
@@ -102,5 +113,15 @@ impl SortedRecords {
                 Protocol::Bpcc => self.back_of(Link { page, version }),
             },
         }
+    }
+
+    /// The newest version of a page, of which the first record is at this place. The page is there for the contract.
+    #[inline(always)]
+    fn newest_at(&self, page: u32, place: u32) -> u64
+        requires { position (λ f. has_name (newest_name self.now page) f.rec) self.now ≡ Some place }
+        ensures { result ≡ newest self.now page }
+    {
+        let _ = page;
+        self.records[place as usize].rec.version
     }
 }
