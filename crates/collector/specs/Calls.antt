@@ -179,7 +179,7 @@ pub record Evicts (p : Protocol) (a b : StoreParts) (block : ℕ)
 
 -- Each block that holds a record which must go is evicted, the lowest first, as the tables then are; then there is
 -- none.
-pub record ClearsSuperseded (p : Protocol) (a b : StoreParts) (page below : ℕ)
+pub record EvictsBlocksToGo (p : Protocol) (a b : StoreParts) (page below : ℕ)
     (result : Result (Unit {0}) Broken) : Type 0 where
   pub keeps : Keeps p a b (is_err result)
   pub cleared : OnOk result (block_to_go b.noted page below ≡ None)

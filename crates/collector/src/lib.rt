@@ -23,6 +23,6 @@ pub use broken_operation::settle;
 pub use choosing::victim;
 pub use cleaning::clean_spare;
 pub use collecting::collect;
-pub use making_room::{allocate_slot, clear_superseded, collect_victim};
+pub use making_room::{allocate_slot, collect_victim, evict_blocks_to_go};
 pub use retiring::retire_block;
 pub use unsure::{Settled, Unsure};

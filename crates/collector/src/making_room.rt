@@ -5,7 +5,7 @@ ghost use Rattle.tx_types.specs.declared.record.Link.{Link};
 ghost use Rattle.judged_records.specs.IndexState.{block_to_go};
 ghost use Rattle.die_alloc.specs.BlocksState.{IsFull};
 ghost use Rattle.die_alloc.specs.NextSlot.{next_slot, after_next_slot};
-ghost use Rattle.collector.specs.Calls.{ClearsSuperseded, CollectsVictim, AllocatesSlot, Evicts};
+ghost use Rattle.collector.specs.Calls.{EvictsBlocksToGo, CollectsVictim, AllocatesSlot, Evicts};
 ghost use Rattle.collector.specs.Collecting.{HasUnneeded};
 ghost use Rattle.collector.specs.Going.{IsNextName};
 ghost use Rattle.collector.specs.StoreParts.{IsSure, store_parts};
@@ -21,7 +21,7 @@ use version_index::Index;
 
 /// Evicts each block that holds a record which must go before the version `below` of a page is programmed, the lowest
 /// first: erases it where it is the spare, and else collects it. Then there is none.
-pub fn clear_superseded<F: Flash, R: CommitRule>(
+pub fn evict_blocks_to_go<F: Flash, R: CommitRule>(
     flash: &mut F,
     index: &mut Index<R>,
     blocks: &mut Blocks,
@@ -35,7 +35,7 @@ pub fn clear_superseded<F: Flash, R: CommitRule>(
     requires next { (names : List Link) × IsNextName index.old names
         (record { page = page; version = below }) }
     requires room { length room.old ≡ index.old.config.page_bytes }
-    ensures clears { ClearsSuperseded R.protocol
+    ensures clears { EvictsBlocksToGo R.protocol
         (store_parts (F.state flash.old) index.old blocks.old unsure.old)
         (store_parts (F.state flash.new) index.new blocks.new unsure.new) page below result }
     // Where nothing must go, nothing is done.

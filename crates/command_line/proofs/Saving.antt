@@ -15,7 +15,7 @@ use Rattle.desk_io.specs.Desk as found
 use Rattle.desk_io.specs.Desk.{FileFound}
 use Rattle.program_base.specs.Refusals.{Missing, TooLong, BadImage, Unsound}
 use Rattle.program_base.proofs.Refusing.{never_fault}
-use Rattle.desk_tasks.specs.Ending.{Ending, Tried, Formatted, Ran, Explained, Driven, Keyed, Retired, RefusedBlock, RefusedWorn, Good, WrongLine, Same, DifferShape}
+use Rattle.desk_tasks.specs.Ending.{Ending, Tried, Formatted, Ran, Explained, SummedUp, Keyed, Retired, RefusedBlock, RefusedWorn, Good, WrongLine, Same, DifferShape}
 use Rattle.desk_tasks.specs.Ending.{DifferBlank, DifferAt, Image, BadLine, BadBucket, BadConfiguration, BadAllowance, status}
 use Rattle.desk_tasks.specs.Gives.{OutputState, Gives}
 use Rattle.desk_tasks.specs.Steps.{AfterLoad, AfterOpening, AfterParsing, AfterReading, AfterOpened, Opening, ReadingOn, Checking, Comparing, Keying, Explaining}
@@ -42,7 +42,7 @@ gives_saves (Retired name its image extras block) p h = ap (option_map (λ file.
 gives_saves (RefusedBlock block) p h = ap (option_map (λ file. file.name)) h.saves_nothing
 gives_saves (RefusedWorn allowance) p h = ap (option_map (λ file. file.name)) h.saves_nothing
 gives_saves (Explained its image) p h = ap (option_map (λ file. file.name)) h.saves_nothing
-gives_saves (Driven start count protocol) p h = ap (option_map (λ file. file.name)) h.saves_nothing
+gives_saves (SummedUp start count protocol) p h = ap (option_map (λ file. file.name)) h.saves_nothing
 gives_saves (Good pages) p h = ap (option_map (λ file. file.name)) h.saves_nothing
 gives_saves (WrongLine k) p h = ap (option_map (λ file. file.name)) h.saves_nothing
 gives_saves (Same logical) p h = ap (option_map (λ file. file.name)) h.saves_nothing
@@ -65,7 +65,7 @@ refusal_saves (RefusedBlock block) refused = refl
 refusal_saves (RefusedWorn allowance) refused = refl
 refusal_saves (Tried commands) refused = refl
 refusal_saves (Explained its image) refused = refl
-refusal_saves (Driven start count protocol) refused = refl
+refusal_saves (SummedUp start count protocol) refused = refl
 refusal_saves (Good pages) refused = refl
 refusal_saves (WrongLine k) refused = refl
 refusal_saves (Same logical) refused = refl
@@ -88,7 +88,7 @@ never_five (Retired name its image extras block) e = absurd (omega arith)
 never_five (RefusedBlock block) e = absurd (omega arith)
 never_five (RefusedWorn allowance) e = absurd (omega arith)
 never_five (Explained its image) e = absurd (omega arith)
-never_five (Driven start count protocol) e = absurd (omega arith)
+never_five (SummedUp start count protocol) e = absurd (omega arith)
 never_five (Good pages) e = absurd (omega arith)
 never_five (WrongLine k) e = absurd (omega arith)
 never_five (Same logical) e = absurd (omega arith)

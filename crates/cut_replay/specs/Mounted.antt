@@ -176,9 +176,9 @@ takes_read s entries page =
     && not (is_cached s entries page)
 
 -- on a live flash a read of a page that takes one is one read, and any other is none
-abbrev pub ReadsOnce : {F : Type 0} → (F → FlashState) → DeviceState F → DeviceState F → List CachedPage →
+abbrev pub ReadsPageOnce : {F : Type 0} → (F → FlashState) → DeviceState F → DeviceState F → List CachedPage →
     ℕ → Type 0
-ReadsOnce state old new entries page =
+ReadsPageOnce state old new entries page =
     (state old.flash).live ≡ true → (state new.flash).reads ≡
     (if takes_read old entries page then counted (state old.flash).reads
     else (state old.flash).reads)
@@ -196,5 +196,5 @@ CachesPage s before after page =
 abbrev pub CachesCommand : {F : Type 0} → (F → FlashState) → Command → DeviceState F → DeviceState F →
     PageCacheState → PageCacheState → Type 0
 CachesCommand state (command.Read page) old new before after =
-    ReadsOnce state old new before.entries page × CachesPage old before after page
+    ReadsPageOnce state old new before.entries page × CachesPage old before after page
 CachesCommand state _ old new before after = after ≡ before

@@ -7,7 +7,7 @@ ghost use Rattle.flash_model.specs.Operations.{moment_of};
 ghost use Rattle.tx_engine.specs.Always.{HoldsAlways};
 ghost use Rattle.tx_engine.specs.Read.{is_read_fault};
 ghost use Rattle.mounted_session.specs.Mounting.{StaysQuiet};
-ghost use Rattle.cut_replay.specs.Mounted.{IsCached, ServesHere, ReadsThrough, is_cached, brought_forward, KeepsPage, CachesRead, CachesPage, ReadsOnce};
+ghost use Rattle.cut_replay.specs.Mounted.{IsCached, ServesHere, ReadsThrough, is_cached, brought_forward, KeepsPage, CachesRead, CachesPage, ReadsPageOnce};
 
 use flash_model::Flash;
 use host_protocol::{Command, Reply};
@@ -31,7 +31,7 @@ pub fn read<F: Flash, R: CommitRule>(
     requires always { HoldsAlways F.state R.protocol device.old }
     ensures ok { IfOk result (ServesHere F.state (Command.Read page) device.old device.new) }
     ensures err { OnErr result (StaysQuiet (F.state device.old.flash) (F.state device.new.flash)) }
-    ensures once { ReadsOnce F.state device.old device.new cache.old.entries page }
+    ensures once { ReadsPageOnce F.state device.old device.new cache.old.entries page }
     ensures keeps { CachesPage device.old cache.old cache.new page }
     ensures size { cache.new.page_bytes ≡ cache.old.page_bytes }
     ensures cached { IsCached device.new cache.new.entries }

@@ -19,7 +19,7 @@ use Rattle.cut_replay.proofs.Progress.{next_of}
 use Rattle.drive_gen.specs.Counting.{HasCounted}
 use Rattle.drive_gen.specs.Summary.{summary_line}
 use Rattle.drive_gen.specs.declared.running_tally.RunningTally.{RunningTally}
-use Rattle.desk_tasks.specs.Driving.{HasDriven, IsDrive}
+use Rattle.desk_tasks.specs.Driving.{HasRunCounted, IsSummaryOfRun}
 use Rattle.desk_tasks.specs.FileServing.{HasRun}
 use Rattle.desk_tasks.specs.Stops.{StopsBy}
 use Rattle.desk_tasks.specs.declared.output.Failure.{Failure}
@@ -32,9 +32,9 @@ use Rattle.desk_tasks.proofs.Works.{only_memory}
 -- a command more
 pub one_driven : (its : Config) (flash : MemFlashState) (commands : List Command) (c : Command) (r : Reply)
     (s t : DeviceSession MemFlashState) (before after : RunningTally) →
-    HasDriven its flash commands s before → RunsOn state_of its c s r t →
+    HasRunCounted its flash commands s before → RunsOn state_of its c s r t →
     ((bytes : List ℕ) → HasCounted bytes before → HasCounted (bytes ++ text_of r) after) →
-    after.replies ≡ before.replies + 1 → HasDriven its flash (commands ++ c ∷ []) t after
+    after.replies ≡ before.replies + 1 → HasRunCounted its flash (commands ++ c ∷ []) t after
 one_driven its flash commands c r s t before after h on counted more = record {
   text = h.text ++ text_of r;
   run = one_run its flash commands c r s t h.text (h.text ++ text_of r) h.run on refl;
@@ -45,26 +45,26 @@ one_driven its flash commands c r s t before after h on counted more = record {
 -- the first commands of a part, and one more
 pub part_more : (its now : Config) (flash : MemFlashState) (commands list : List Command) (at : ℕ) (c : Command)
     (s t : DeviceSession MemFlashState) (before after : RunningTally) → now ≡ its → at < length list →
-    c ≡ get_or list at c → HasDriven its flash (commands ++ take at list) s before →
-    (HasDriven now flash (commands ++ take at list) s before →
-    HasDriven now flash ((commands ++ take at list) ++ c ∷ []) t after) →
-    HasDriven its flash (commands ++ take (at + 1) list) t after
+    c ≡ get_or list at c → HasRunCounted its flash (commands ++ take at list) s before →
+    (HasRunCounted now flash (commands ++ take at list) s before →
+    HasRunCounted now flash ((commands ++ take at list) ++ c ∷ []) t after) →
+    HasRunCounted its flash (commands ++ take (at + 1) list) t after
 part_more its now flash commands list at c s t before after same within is h goes =
     let more : (commands ++ take at list) ++ c ∷ [] ≡ commands ++ take (at + 1) list =
     append_assoc commands (take at list) (c ∷ []) ∙ ap (λ l. commands ++ l) (sym (next_of list at c within is)) in
-    subst (λ (cs : List Command). HasDriven its flash cs t after) more
-    (subst (λ (x : Config). HasDriven x flash ((commands ++ take at list) ++ c ∷ []) t after) same
-    (goes (subst (λ (x : Config). HasDriven x flash (commands ++ take at list) s before) (sym same) h)))
+    subst (λ (cs : List Command). HasRunCounted its flash cs t after) more
+    (subst (λ (x : Config). HasRunCounted x flash ((commands ++ take at list) ++ c ∷ []) t after) same
+    (goes (subst (λ (x : Config). HasRunCounted x flash (commands ++ take at list) s before) (sym same) h)))
 
 -- a whole part
 pub whole_part : (its now : Config) (flash : MemFlashState) (commands part : List Command)
     (s t : DeviceSession MemFlashState) (before after : RunningTally) → now ≡ its →
-    HasDriven its flash commands s before →
-    (HasDriven now flash commands s before → HasDriven now flash (commands ++ part) t after) →
-    HasDriven its flash (commands ++ part) t after
+    HasRunCounted its flash commands s before →
+    (HasRunCounted now flash commands s before → HasRunCounted now flash (commands ++ part) t after) →
+    HasRunCounted its flash (commands ++ part) t after
 whole_part its now flash commands part s t before after same h goes =
-    subst (λ (x : Config). HasDriven x flash (commands ++ part) t after) same
-    (goes (subst (λ (x : Config). HasDriven x flash commands s before) (sym same) h))
+    subst (λ (x : Config). HasRunCounted x flash (commands ++ part) t after) same
+    (goes (subst (λ (x : Config). HasRunCounted x flash commands s before) (sym same) h))
 
 -- ---- what serving leaves
 
@@ -131,19 +131,19 @@ all_rest P xs ys h = All-from_recursion P ys (rest_of P xs ys (recursion_from_Al
 -- ---- part by part
 
 -- these were served of the commands that are to be, and the others are left
-pub record IsDriving (its : Config) (flash : MemFlashState) (all left : List Command) (s : DeviceSession MemFlashState)
+pub record HasPartCounted (its : Config) (flash : MemFlashState) (all left : List Command) (s : DeviceSession MemFlashState)
     (tally : RunningTally) : Type 0 where
   pub given : List Command
   pub whole : given ++ left ≡ all
-  pub driven : HasDriven its flash given s tally
+  pub driven : HasRunCounted its flash given s tally
 
 -- one part more was served
 pub goes_on : (its now : Config) (flash : MemFlashState) (all left part more : List Command)
     (s t : DeviceSession MemFlashState) (before after : RunningTally) → now ≡ its → part ++ more ≡ left →
-    IsDriving its flash all left s before →
-    ((commands : List Command) → HasDriven now flash commands s before →
-    HasDriven now flash (commands ++ part) t after) →
-    IsDriving its flash all more t after
+    HasPartCounted its flash all left s before →
+    ((commands : List Command) → HasRunCounted now flash commands s before →
+    HasRunCounted now flash (commands ++ part) t after) →
+    HasPartCounted its flash all more t after
 goes_on its now flash all left part more s t before after same parts h goes = record {
   given = h.given ++ part;
   whole = append_assoc h.given part more ∙ ap (λ l. h.given ++ l) parts ∙ h.whole;
@@ -152,17 +152,17 @@ goes_on its now flash all left part more s t before after same parts h goes = re
 
 -- nothing is left
 pub all_driven : (its : Config) (flash : MemFlashState) (all left : List Command) (s : DeviceSession MemFlashState)
-    (tally : RunningTally) → left ≡ [] → IsDriving its flash all left s tally → HasDriven its flash all s tally
+    (tally : RunningTally) → left ≡ [] → HasPartCounted its flash all left s tally → HasRunCounted its flash all s tally
 all_driven its flash all left s tally none h =
     let whole : h.given ≡ all = sym (append-nil h.given) ∙ ap (λ l. h.given ++ l) (sym none) ∙ h.whole in
-    subst (λ (cs : List Command). HasDriven its flash cs s tally) whole h.driven
+    subst (λ (cs : List Command). HasRunCounted its flash cs s tally) whole h.driven
 
 -- ---- the line
 
 -- it sums up what was counted
 pub line_said : (start count : ℕ) (protocol : Protocol) (result : Result (Vec ℕ Global) ServeError) (its : Config)
     (flash : MemFlashState) (commands : List Command) (s : DeviceSession MemFlashState) (tally : RunningTally) →
-    protocol ≡ its.protocol → (h : HasDriven its flash commands s tally) →
+    protocol ≡ its.protocol → (h : HasRunCounted its flash commands s tally) →
     IfOk result (λ (line : Vec ℕ Global). line.items ≡ summary_line start count protocol tally.replies h.text) →
     IfOk result (λ (line : Vec ℕ Global). (text : List ℕ) × HasRun its flash commands s text
     × (line.items ≡ summary_line start count its.protocol (length commands) text))
@@ -191,15 +191,15 @@ line_drawn start count result its now flash commands drawn s same are h =
 -- a fresh device was driven
 pub fresh_drive : (its usual : Config) (image blank : List Contents) (start count : ℕ)
     (result : Result (Vec ℕ Global) Failure) → its ≡ usual → image ≡ blank →
-    IfOk result (λ (line : Vec ℕ Global). IsDrive its image start count line.items) →
-    IfOk result (λ (line : Vec ℕ Global). IsDrive usual blank start count line.items)
+    IfOk result (λ (line : Vec ℕ Global). IsSummaryOfRun its image start count line.items) →
+    IfOk result (λ (line : Vec ℕ Global). IsSummaryOfRun usual blank start count line.items)
 fresh_drive its usual image blank start count result same is h =
-    subst (λ (x : Config). IfOk result (λ (line : Vec ℕ Global). IsDrive x blank start count line.items)) same
-    (subst (λ (x : List Contents). IfOk result (λ (line : Vec ℕ Global). IsDrive its x start count line.items)) is h)
+    subst (λ (x : Config). IfOk result (λ (line : Vec ℕ Global). IsSummaryOfRun x blank start count line.items)) same
+    (subst (λ (x : List Contents). IfOk result (λ (line : Vec ℕ Global). IsSummaryOfRun its x start count line.items)) is h)
 
 -- nothing was served and counted yet
 pub none_driven : (its now : Config) (flash : MemFlashState) (s : DeviceSession MemFlashState) (tally : RunningTally) →
-    now ≡ its → HasRun its flash [] s [] → HasCounted [] tally → tally.replies ≡ 0 → HasDriven now flash [] s tally
+    now ≡ its → HasRun its flash [] s [] → HasCounted [] tally → tally.replies ≡ 0 → HasRunCounted now flash [] s tally
 none_driven its now flash s tally same run counted number = record {
   text = [];
   run = subst (λ (x : Config). HasRun x flash [] s []) (sym same) run;

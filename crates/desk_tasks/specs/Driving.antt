@@ -13,7 +13,7 @@ use Rattle.desk_tasks.specs.FileServing.{HasRun}
 use Rattle.desk_tasks.specs.Runs.{IsRun}
 
 -- a run over these commands leads from the flash to this session, and its replies were counted
-pub record HasDriven (its : Config) (flash : MemFlashState) (commands : List Command) (s : DeviceSession MemFlashState)
+pub record HasRunCounted (its : Config) (flash : MemFlashState) (commands : List Command) (s : DeviceSession MemFlashState)
     (tally : RunningTally) : Type 0 where
   pub text : List ℕ
   pub run : HasRun its flash commands s text
@@ -21,7 +21,7 @@ pub record HasDriven (its : Config) (flash : MemFlashState) (commands : List Com
   pub number : tally.replies ≡ length commands
 
 -- the line sums up the replies of a run from this image on, over the commands that are drawn
-pub record IsDrive (its : Config) (image : List Contents) (start count : ℕ) (line : List ℕ) : Type 0 where
+pub record IsSummaryOfRun (its : Config) (image : List Contents) (start count : ℕ) (line : List ℕ) : Type 0 where
   pub left : List Contents
   pub text : List ℕ
   pub run : IsRun its image (generated start count its) left text

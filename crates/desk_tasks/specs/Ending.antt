@@ -19,7 +19,7 @@ pub data Ending : Type 0 where
   Ran : (name : List ℕ) → (config : Config) → (image : List Contents) → (extras : Extras) →
       (commands : List Command) → Ending
   Explained : (config : Config) → (image : List Contents) → Ending
-  Driven : (start count : ℕ) → (protocol : Protocol) → Ending
+  SummedUp : (start count : ℕ) → (protocol : Protocol) → Ending
   Keyed : (name : List ℕ) → (config : Config) → (image : List Contents) → (extras : Extras) →
       (commands : List KeyCommand) → Ending
   Retired : (name : List ℕ) → (config : Config) → (image : List Contents) → (extras : Extras) →
@@ -43,7 +43,7 @@ status (Tried commands) = 0
 status (Formatted name config allowance) = 0
 status (Ran name config image extras commands) = 0
 status (Explained config image) = 0
-status (Driven start count protocol) = 0
+status (SummedUp start count protocol) = 0
 status (Keyed name config image extras commands) = 0
 status (Retired name config image extras block) = 0
 status (RefusedBlock block) = 14

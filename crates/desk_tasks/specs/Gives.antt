@@ -15,7 +15,7 @@ use Rattle.drive_gen.specs.Work.{generated}
 use Rattle.drive_gen.specs.Summary.{summary_line}
 use Rattle.page_keys.specs.declared.command.KeyCommand.{KeyCommand}
 use Rattle.program_base.specs.Refusals.{line}
-use Rattle.desk_tasks.specs.Ending.{Ending, Tried, Formatted, Ran, Explained, Driven, Keyed, Retired, refusal_line}
+use Rattle.desk_tasks.specs.Ending.{Ending, Tried, Formatted, Ran, Explained, SummedUp, Keyed, Retired, refusal_line}
 use Rattle.desk_tasks.specs.KeyWork.{IsKeysRun}
 use Rattle.desk_tasks.specs.Retirements.{EmptiesBlock, new_extras}
 use Rattle.desk_tasks.specs.Runs.{IsRun, default_config, blank_image}
@@ -63,7 +63,7 @@ pub record IsExplained (its : Config) (image : List Contents) (p : OutputState) 
 
 -- the summary of the replies of a run over the commands that are drawn, on a fresh default device
 -- of this protocol
-pub record IsDriven (start count : ℕ) (protocol : Protocol) (p : OutputState) : Type 0 where
+pub record IsSummedUp (start count : ℕ) (protocol : Protocol) (p : OutputState) : Type 0 where
   pub saves_nothing : p.saved ≡ None
   pub left : List Contents
   pub replies : List ℕ
@@ -105,7 +105,7 @@ Gives (Tried commands) p = IsTried commands p
 Gives (Formatted name its allowance) p = IsFormatted name its allowance p
 Gives (Ran name its image extras commands) p = IsRan name its image extras commands p
 Gives (Explained its image) p = IsExplained its image p
-Gives (Driven start count protocol) p = IsDriven start count protocol p
+Gives (SummedUp start count protocol) p = IsSummedUp start count protocol p
 Gives (Keyed name its image extras commands) p = IsKeyed name its image extras commands p
 Gives (Retired name its image extras block) p = IsRetired name its image extras block p
 Gives refused p = IsRefused (refusal_line refused) p

@@ -17,7 +17,7 @@ use Rattle.desk_io.specs.Desk.{FileFound}
 use Rattle.tx_types.specs.declared.config.Protocol.TheVariants.{Scc}
 use Rattle.program_base.specs.Loading.{ReadsImage}
 use Rattle.program_base.specs.Refusals.{BadWords, Missing, TooLong, BadImage, Unsound}
-use Rattle.desk_tasks.specs.Ending.{Ending, Tried, Formatted, Ran, Explained, Driven, Keyed, Retired, Image, BadLine, BadConfiguration, BadAllowance}
+use Rattle.desk_tasks.specs.Ending.{Ending, Tried, Formatted, Ran, Explained, SummedUp, Keyed, Retired, Image, BadLine, BadConfiguration, BadAllowance}
 use Rattle.desk_tasks.specs.Retirements.{block_refusal}
 use Rattle.desk_tasks.specs.Runs.{default_config}
 use Rattle.desk_tasks.specs.Request.{Request, Try, Format, Run, Explain, Drive, Check, Compare, Keys, Retire}
@@ -164,7 +164,7 @@ IsEnding (Some (Run image commands)) finds =
     (λ bytes. Loading finds commands (λ lines. WithoutLoad (Running image bytes lines)))
 IsEnding (Some (Explain image)) finds = Loading finds image (λ bytes. WithoutLoad (Explaining bytes))
 IsEnding (Some (Drive start count protocol)) finds =
-    WithoutLoad (λ ending. ending ≡ Driven start count protocol)
+    WithoutLoad (λ ending. ending ≡ SummedUp start count protocol)
 IsEnding (Some (Check image report)) finds =
     Loading finds image (λ bytes. Loading finds report (λ text. WithoutLoad (Checking bytes text)))
 IsEnding (Some (Compare first second)) finds =

@@ -10,7 +10,7 @@ ghost use Rattle.drive_gen.specs.Counting.{HasCounted};
 ghost use Rattle.drive_gen.specs.Parts.{left_of, parts_left};
 ghost use Rattle.drive_gen.specs.Summary.{summary_line};
 ghost use Rattle.drive_gen.specs.Work.{generated};
-ghost use Rattle.desk_tasks.specs.Driving.{HasDriven, IsDrive};
+ghost use Rattle.desk_tasks.specs.Driving.{HasRunCounted, IsSummaryOfRun};
 ghost use Rattle.desk_tasks.specs.FileServing.{HasRun};
 ghost use Rattle.desk_tasks.specs.Runs.{blank_image, default_config};
 ghost use Rattle.desk_tasks.specs.Stops.{RefusesDevice, StopsBy};
@@ -36,7 +36,7 @@ pub fn drive_fresh(
     protocol: Protocol,
 ) -> Result<Vec<u8>, Failure<'static>>
     ensures ok { let its = default_config protocol in
-        IfOk result (λ line. IsDrive its (blank_image its) start count line.items) }
+        IfOk result (λ line. IsSummaryOfRun its (blank_image its) start count line.items) }
     ensures err { IfErr result (λ e. e ≡ Failure.Memory) }
 {
     let config = default_config(protocol);
@@ -54,7 +54,7 @@ fn drive_flash(
 ) -> Result<Vec<u8>, Failure<'static>>
     requires check { checked config ≡ Ok (shape_of config) }
     requires ready { flash ≡ loaded (shape_of config) flash.image flash.extras }
-    ensures ok { IfOk result (λ line. IsDrive config flash.image start count line.items) }
+    ensures ok { IfOk result (λ line. IsSummaryOfRun config flash.image start count line.items) }
     ensures err { IfErr result (StopsBy (RefusesDevice config flash.image)) }
 {
     match config.protocol {
@@ -74,7 +74,7 @@ fn drive_by<R: CommitRule>(
     requires check { checked config ≡ Ok (shape_of config) }
     requires rule { config.protocol ≡ R.protocol }
     requires ready { flash ≡ loaded (shape_of config) flash.image flash.extras }
-    ensures ok { IfOk result (λ line. IsDrive config flash.image start count line.items) }
+    ensures ok { IfOk result (λ line. IsSummaryOfRun config flash.image start count line.items) }
     ensures err { IfErr result (StopsBy (RefusesDevice config flash.image)) }
 {
     match Server::<MemFlash, R>::open(alloc, flash, config) {
@@ -138,7 +138,7 @@ fn drive_line<R: CommitRule>(
     requires check { IsConfig work.old.config }
     requires suits { All (Suits server.old.config.page_bytes) (left_of work.old) }
     ensures runs { (flash : MemFlashState) →
-        HasDriven server.old.config flash [] server.old.session tally.old →
+        HasRunCounted server.old.config flash [] server.old.session tally.old →
         IfOk result (λ line. (text : List ℕ)
         × HasRun server.old.config flash (left_of work.old) server.new.session text
         × (line.items ≡ summary_line start count server.old.config.protocol
@@ -184,8 +184,8 @@ fn drive_all<R: CommitRule>(
     requires suits { All (Suits server.old.config.page_bytes) (left_of work.old) }
     ensures config { server.new.config ≡ server.old.config }
     ensures runs { (flash : MemFlashState) → (commands : List Command) →
-        HasDriven server.old.config flash commands server.old.session tally.old →
-        OnOk result (HasDriven server.old.config flash (commands ++ left_of work.old)
+        HasRunCounted server.old.config flash commands server.old.session tally.old →
+        OnOk result (HasRunCounted server.old.config flash (commands ++ left_of work.old)
         server.new.session tally.new) }
     ensures refuses { (flash : MemFlashState) →
         IsSoundOrSame server.old.config (state_of flash) (state_of (flash_in server.old.session)) →
@@ -223,8 +223,8 @@ fn serve_part<R: CommitRule>(
     requires { All (Suits server.old.config.page_bytes) part.now }
     ensures config { server.new.config ≡ server.old.config }
     ensures runs { (flash : MemFlashState) → (commands : List Command) →
-        HasDriven server.old.config flash commands server.old.session tally.old →
-        OnOk result (HasDriven server.old.config flash (commands ++ part.now) server.new.session tally.new) }
+        HasRunCounted server.old.config flash commands server.old.session tally.old →
+        OnOk result (HasRunCounted server.old.config flash (commands ++ part.now) server.new.session tally.new) }
     ensures refuses { (flash : MemFlashState) →
         IsSoundOrSame server.old.config (state_of flash) (state_of (flash_in server.old.session)) →
         RefusesUnsound server.old.config (state_of flash) (state_of (flash_in server.new.session)) result }
@@ -245,8 +245,8 @@ fn serve_counted<R: CommitRule>(
     requires { Suits server.old.config.page_bytes command.now }
     ensures config { server.new.config ≡ server.old.config }
     ensures runs { (flash : MemFlashState) → (commands : List Command) →
-        HasDriven server.old.config flash commands server.old.session tally.old →
-        OnOk result (HasDriven server.old.config flash (commands ++ command.now ∷ [])
+        HasRunCounted server.old.config flash commands server.old.session tally.old →
+        OnOk result (HasRunCounted server.old.config flash (commands ++ command.now ∷ [])
         server.new.session tally.new) }
     ensures refuses { (flash : MemFlashState) →
         IsSoundOrSame server.old.config (state_of flash) (state_of (flash_in server.old.session)) →

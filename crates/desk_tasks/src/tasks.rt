@@ -4,7 +4,7 @@ ghost use Rattle.durable_folder.specs.Histories.{Rests};
 ghost use Rattle.desk_io.specs.Disk.{FindsBoth};
 ghost use Rattle.desk_io.specs.Desk.{DeskState, max_file_bytes};
 ghost use Rattle.program_base.specs.Refusals.{line};
-ghost use Rattle.desk_tasks.specs.Ending.{Driven, Ran};
+ghost use Rattle.desk_tasks.specs.Ending.{SummedUp, Ran};
 ghost use Rattle.desk_tasks.specs.Steps.{Explaining, OpensAndServes, Parsing, Running, Trying, formatting};
 ghost use Rattle.desk_tasks.specs.Stops.{Works, WorksTo};
 ghost use Rattle.desk_tasks.specs.Request.{Drive, Explain, Format, Run, Try};
@@ -181,7 +181,7 @@ pub fn do_drive<'a>(
     count: u32,
     protocol: Protocol,
 ) -> Result<Output<'a>, Failure<'a>>
-    ensures { WorksTo (λ ending. ending ≡ Driven start count protocol) result }
+    ensures { WorksTo (λ ending. ending ≡ SummedUp start count protocol) result }
 {
     let line = drive_fresh(alloc, start, count, protocol)?;
     Ok(Output {

@@ -226,8 +226,8 @@ steps_begin columns [] = 0
 steps_begin columns (step ∷ steps) = count_rows columns + steps_begin (columns_with columns step) steps
 
 -- a walk from a record, in lines, and how many these are
-abbrev pub rows_text : Link → List Step → End → List ℕ
-rows_text start steps end =
+abbrev pub walk_rows_text : Link → List Step → End → List ℕ
+walk_rows_text start steps end =
     next_line (codes "walk") (start_text start ++ steps_rows (length (start_text start)) steps ++ end_text end)
 
 abbrev pub rows_taken : Link → List Step → ℕ
@@ -236,7 +236,7 @@ rows_taken start steps = suc (steps_begin (length (start_text start)) steps)
 -- the lines of the walk of a page that ends so, and how many these are; none where the page has no line of its own
 abbrev pub walk_rows : List Found → ℕ → ℕ → Option End → List ℕ
 walk_rows list logical page None = []
-walk_rows list logical page (Some end) = rows_text (newest_name list page) (steps_of list logical page) end
+walk_rows list logical page (Some end) = walk_rows_text (newest_name list page) (steps_of list logical page) end
 
 abbrev pub walk_takes : List Found → ℕ → ℕ → Option End → ℕ
 walk_takes list logical page None = 0

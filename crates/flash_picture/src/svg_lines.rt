@@ -1,6 +1,6 @@
 //! The lines below the map of a picture in SVG.
 ghost use Rattle.std.specs.Prelude.{◌≡◌, ◌+◌, ◌*◌, ◌≤◌, ◌++◌, IfOk, OnOk, codes, length};
-ghost use Rattle.flash_picture.specs.Svg.{breach_svg, columns_with, count_rows, lines_at, rows_taken, rows_text, step_row, steps_begin, steps_rows, walk_rows, walk_takes, walks_svg, walks_take};
+ghost use Rattle.flash_picture.specs.Svg.{breach_svg, columns_with, count_rows, lines_at, rows_taken, walk_rows_text, step_row, steps_begin, steps_rows, walk_rows, walk_takes, walks_svg, walks_take};
 ghost use Rattle.flash_picture.specs.Walks.{AreLedTo, step_text};
 
 use crate::own_lines::{line_end, pages_led_to};
@@ -85,7 +85,7 @@ fn write_walk(
 
 /// Appends a walk from a record, and returns how many lines it is.
 fn write_rows(start: Link, steps: &[Step], end: End, text: &mut Vec<u8>) -> Result<u64, AllocError>
-    ensures text { OnOk result (text.new.items ≡ text.old.items ++ rows_text start steps.now end) }
+    ensures text { OnOk result (text.new.items ≡ text.old.items ++ walk_rows_text start steps.now end) }
     ensures lines { IfOk result (λ lines. lines ≡ rows_taken start steps.now) }
     ensures few { IfOk result (λ lines. lines ≤ length steps.now + 1) }
 {

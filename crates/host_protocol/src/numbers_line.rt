@@ -28,7 +28,7 @@ pub fn add_line(words: &[u8], numbers: &[u32], out: &mut Vec<u8>) -> Result<(), 
 
 /// Appends the line of these words and of a number, or nothing where there is no memory.
 #[inline(always)]
-pub fn add_one(words: &[u8], number: u32, out: &mut Vec<u8>) -> Result<(), Memory>
+pub fn add_line_of_one(words: &[u8], number: u32, out: &mut Vec<u8>) -> Result<(), Memory>
     requires { length words.now < 60 }
     ensures ok { OnOk result
         (out.new.items ≡ out.old.items ++ line_of (words.now ∷ decimal number ∷ [])) }
@@ -39,7 +39,12 @@ pub fn add_one(words: &[u8], number: u32, out: &mut Vec<u8>) -> Result<(), Memor
 
 /// Appends the line of these words and of two numbers, or nothing where there is no memory.
 #[inline(always)]
-pub fn add_two(words: &[u8], first: u32, second: u32, out: &mut Vec<u8>) -> Result<(), Memory>
+pub fn add_line_of_two(
+    words: &[u8],
+    first: u32,
+    second: u32,
+    out: &mut Vec<u8>,
+) -> Result<(), Memory>
     requires { length words.now < 60 }
     ensures ok { OnOk result
         (out.new.items ≡ out.old.items ++ line_of (words.now ∷ decimal first ∷ decimal second ∷ [])) }
@@ -50,7 +55,7 @@ pub fn add_two(words: &[u8], first: u32, second: u32, out: &mut Vec<u8>) -> Resu
 
 /// Appends the line of these words and of three numbers, or nothing where there is no memory.
 #[inline(always)]
-pub fn add_three(
+pub fn add_line_of_three(
     words: &[u8],
     first: u32,
     second: u32,

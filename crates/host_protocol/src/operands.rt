@@ -61,7 +61,7 @@ pub fn first_number(words: &[u8]) -> Option<(u32, &[u8])>
     ensures none { IfNone result ((word : List ℕ) (others : List (List ℕ)) →
         words_of words.now ≡ word ∷ others → number_of word ≡ None) }
 {
-    let found = leading_word(words);
+    let found = number_at_start(words);
     if found.is_some() {
         return found;
     }
@@ -71,7 +71,7 @@ pub fn first_number(words: &[u8]) -> Option<(u32, &[u8])>
 
 /// The number that the first word is, and what is behind it, where nothing stands before it.
 #[inline(always)]
-fn leading_word(words: &[u8]) -> Option<(u32, &[u8])>
+fn number_at_start(words: &[u8]) -> Option<(u32, &[u8])>
     ensures { IfSome result (λ found. BeginsWithNumber words.now found.0 found.1.now) }
 {
     let (number, digits) = leading_number(words)?;

@@ -2,7 +2,7 @@ ghost use Rattle.std.specs.Prelude.{◌≡◌, ◌++◌, IfOk, IsOkAnd, OnOk, On
 ghost use Rattle.std.specs.String.{string_bytes};
 ghost use Rattle.host_protocol.specs.Replies.{text_of, line_of, stats_words, flash_stats};
 
-use crate::numbers_line::{add_moved, add_one, add_three, add_two};
+use crate::numbers_line::{add_line_of_one, add_line_of_three, add_line_of_two, add_moved};
 use crate::page_line::add_page;
 use std::alloc::{AllocError, Global};
 use tx_types::{Bytes, Memory, Stats};
@@ -66,14 +66,14 @@ pub fn reply_text(alloc: Global, reply: &Reply, out: &mut Vec<u8>) -> Result<(),
     ensures err { OnErr result (out.new.items ≡ out.old.items) }
 {
     match reply {
-        Reply::Blank(page) => add_one(b"blank", *page, out),
+        Reply::Blank(page) => add_line_of_one(b"blank", *page, out),
         Reply::Page(page, bytes) => add_page(*page, bytes.as_slice(), out),
-        Reply::Opened(tag, pages) => add_two(b"open", *tag, *pages, out),
-        Reply::Wrote(tag, done, all) => add_three(b"wrote", *tag, *done, *all, out),
-        Reply::Done(tag) => add_one(b"done", *tag, out),
-        Reply::Aborted(tag) => add_one(b"aborted", *tag, out),
-        Reply::Late(tag) => add_one(b"late", *tag, out),
-        Reply::Unknown(tag) => add_one(b"unknown", *tag, out),
+        Reply::Opened(tag, pages) => add_line_of_two(b"open", *tag, *pages, out),
+        Reply::Wrote(tag, done, all) => add_line_of_three(b"wrote", *tag, *done, *all, out),
+        Reply::Done(tag) => add_line_of_one(b"done", *tag, out),
+        Reply::Aborted(tag) => add_line_of_one(b"aborted", *tag, out),
+        Reply::Late(tag) => add_line_of_one(b"late", *tag, out),
+        Reply::Unknown(tag) => add_line_of_one(b"unknown", *tag, out),
         Reply::Moved(moved, finished) => add_moved(*moved, *finished, out),
         Reply::Collected => append(b"collected\n", out),
         Reply::Nothing => append(b"nothing\n", out),
@@ -82,12 +82,12 @@ pub fn reply_text(alloc: Global, reply: &Reply, out: &mut Vec<u8>) -> Result<(),
         Reply::Fault => append(b"fault\n", out),
         Reply::Dropped => append(b"dropped\n", out),
         Reply::RefusedEmpty => append(b"refused empty\n", out),
-        Reply::RefusedRange(page) => add_one(b"refused range", *page, out),
-        Reply::RefusedRepeated(page) => add_one(b"refused repeated", *page, out),
-        Reply::RefusedTag(tag) => add_one(b"refused tag", *tag, out),
-        Reply::RefusedOverlap(page, tag) => add_two(b"refused overlap", *page, *tag, out),
-        Reply::RefusedFull(free) => add_one(b"refused full", *free, out),
-        Reply::RefusedSpent(page) => add_one(b"refused spent", *page, out),
+        Reply::RefusedRange(page) => add_line_of_one(b"refused range", *page, out),
+        Reply::RefusedRepeated(page) => add_line_of_one(b"refused repeated", *page, out),
+        Reply::RefusedTag(tag) => add_line_of_one(b"refused tag", *tag, out),
+        Reply::RefusedOverlap(page, tag) => add_line_of_two(b"refused overlap", *page, *tag, out),
+        Reply::RefusedFull(free) => add_line_of_one(b"refused full", *free, out),
+        Reply::RefusedSpent(page) => add_line_of_one(b"refused spent", *page, out),
         Reply::Stats(stats) => push(stats_line(alloc, stats), out),
         Reply::Report(text) => append(text.as_slice(), out),
     }

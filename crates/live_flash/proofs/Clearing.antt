@@ -1,5 +1,5 @@
 -- The slots of a block are written anew.
-use Rattle.live_flash.proofs.Common.{◌≡◌, ◌≢◌, ◌⊎◌, ℕ, suc, ◌<◌, ◌≤◌, ◌+◌, false, List, [], length, refl, sym, subst, inl, inr, ⊎_elim, arith, Shape, Contents, slot_at, IsImage, FileState, Syncs, slot_bytes, live_bytes, IsOpened, slot_values, Holds, LeavesEither, IsTurning, Follows, LosesBetween, Tears}
+use Rattle.live_flash.proofs.Common.{◌≡◌, ◌≢◌, ◌⊎◌, ℕ, suc, ◌<◌, ◌≤◌, ◌+◌, false, List, [], length, refl, sym, subst, inl, inr, ⊎_elim, arith, Shape, Contents, slot_at, IsImage, FileState, Syncs, slot_bytes, live_bytes, IsOpened, slot_values, Holds, LeavesEither, IsTurning, Follows, LosesBetween, AreWrittenAnew}
 use Rattle.std.proofs.lemmas.Bool.{cases_lt, cases_eq, both_ways}
 use Rattle.file_flash.specs.Clearing.{IsCleared}
 use Rattle.live_flash.proofs.Turning.{held_same, held_reads, turning_same, held_synced, turned, as_held}
@@ -7,7 +7,7 @@ use Rattle.live_flash.proofs.Losing.{lose_between}
 
 -- where nothing is written yet
 pub none_torn : (shape : Shape) (old new : List Contents) (first : ℕ) (file : FileState) →
-    Follows shape old [] [] file → Tears shape old new first first file
+    Follows shape old [] [] file → AreWrittenAnew shape old new first first file
 none_torn shape old new first file f = record {
   inside = λ k low from before. absurd (omega (arith, from, before));
   outside = λ k low side. f.keeps k low refl refl;
@@ -16,10 +16,10 @@ none_torn shape old new first file f = record {
 module _ (shape : Shape) (old new : List Contents) (first at : ℕ) (file file' : FileState) (from : first ≤ at)
     (others : (k j : ℕ) → k ≢ at → j < slot_bytes shape.page_bytes →
     slot_values shape file' k j ≡ slot_values shape file k j)
-    (t : Tears shape old new first at file) where
+    (t : AreWrittenAnew shape old new first at file) where
   -- one more is written
   pub torn_next : (at < length old → IsTurning shape (slot_at old at) (slot_at new at) file' at) →
-      Tears shape old new first (suc at) file'
+      AreWrittenAnew shape old new first (suc at) file'
   torn_next turning = record {
     inside = λ k low after before. elim (cases_eq k at) [
       | inl is ↦ subst (λ i. IsTurning shape (slot_at old i) (slot_at new i) file' i) (sym is)
@@ -64,7 +64,7 @@ module _ (shape : Shape) (old new : List Contents) (first at : ℕ) (file file' 
 
 -- while they are written
 pub tears_lose : (shape : Shape) (old new : List Contents) (first upto : ℕ) (file : FileState) → IsImage shape old →
-    length file.values ≡ live_bytes shape → Tears shape old new first upto file → LosesBetween shape old new file
+    length file.values ≡ live_bytes shape → AreWrittenAnew shape old new first upto file → LosesBetween shape old new file
 tears_lose shape old new first upto file is long t = lose_between shape old new file is long
     (λ k low. elim (cases_lt k first) [
       | inl before ↦ held_either k (t.outside k low (inl before))
@@ -89,7 +89,7 @@ module _ (shape : Shape) (old new : List Contents) (first count : ℕ) (file fil
       (λ j within. others k j side within)
 
   pub all_torn : ((k : ℕ) → k < length old → first ≤ k → k < first + count →
-      IsTurning shape (slot_at old k) (slot_at new k) file' k) → Tears shape old new first (first + count) file'
+      IsTurning shape (slot_at old k) (slot_at new k) file' k) → AreWrittenAnew shape old new first (first + count) file'
   all_torn turns = record { inside = turns; outside = still }
 
   -- or may be
@@ -113,7 +113,7 @@ module _ (shape : Shape) (old new : List Contents) (first count : ℕ) (file fil
 
 pub cleared : (shape : Shape) (old new : List Contents) (first count : ℕ) (file file' : FileState) →
     IsOpened shape file → Syncs file file' → IsCleared old new first count →
-    Tears shape old new first (first + count) file → Follows shape new [] [] file'
+    AreWrittenAnew shape old new first (first + count) file → Follows shape new [] [] file'
 cleared shape old new first count file file' o s c t = record {
   keeps = λ k inside none done.
       let low : k < length old = omega (arith, inside, c.lengths) in

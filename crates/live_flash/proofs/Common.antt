@@ -13,4 +13,4 @@ pub use Rattle.zero_count.specs.Zeros.{zeros, counted, own_of, number_of, erased
 pub use Rattle.live_image.specs.Slots.{slot_bytes, live_contents, live_seen, last_of, IsCounted}
 pub use Rattle.live_image.specs.Layout.{live_bytes, slot_offset, slot_in, live_image}
 pub use Rattle.live_flash.specs.Following.{IsOpened, IsLiveFile, slot_values, LeavesSlot, IsSlot, Holds, LeavesEither, IsTurning, TurnsSlot, TurnsSlots, Follows}
-pub use Rattle.live_flash.specs.Losing.{AreCounted, LeavesCounted, LeavesLive, LosesOnly, LosesBetween, Tears}
+pub use Rattle.live_flash.specs.Losing.{AreCounted, LeavesCounted, LeavesLive, LosesOnly, LosesBetween, AreWrittenAnew}

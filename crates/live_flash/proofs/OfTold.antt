@@ -1,5 +1,5 @@
 -- What holds of the file that is told, after each call of the follower.
-use Rattle.live_flash.proofs.Common.{◌≡◌, ◌⊎◌, ℕ, suc, ◌<◌, ◌≤◌, ◌+◌, ◌==◌, true, false, List, [], ◌∷◌, ◌++◌, length, take, get_or, Option, Result, Ok, Err, OnOk, IfSome, refl, ap, subst, ◌∙◌, inr, ⊎_elim, arith, Shape, Slot, Contents, blank, slot_at, IsImage, StoreError, FileState, values_at, Syncs, SyncsFile, BothTell, slots_in, IsOpened, IsLiveFile, LeavesEither, IsTurning, TurnsSlot, TurnsSlots, Follows, LosesOnly, LosesBetween, Tears, sym, inl, ◌||◌, LeavesCounted}
+use Rattle.live_flash.proofs.Common.{◌≡◌, ◌⊎◌, ℕ, suc, ◌<◌, ◌≤◌, ◌+◌, ◌==◌, true, false, List, [], ◌∷◌, ◌++◌, length, take, get_or, Option, Result, Ok, Err, OnOk, IfSome, refl, ap, subst, ◌∙◌, inr, ⊎_elim, arith, Shape, Slot, Contents, blank, slot_at, IsImage, StoreError, FileState, values_at, Syncs, SyncsFile, BothTell, slots_in, IsOpened, IsLiveFile, LeavesEither, IsTurning, TurnsSlot, TurnsSlots, Follows, LosesOnly, LosesBetween, AreWrittenAnew, sym, inl, ◌||◌, LeavesCounted}
 use Rattle.std.proofs.Common.{append_assoc}
 use Rattle.std.proofs.lemmas.Bool.{cases_Bool, both_ways}
 use Rattle.std.proofs.lemmas.List.Folds.{list_any-append}
@@ -174,15 +174,15 @@ flush_loses shape image waiting (Ok u) old new is told o f =
 
 module _ (shape : Shape) (was image : List Contents) (first : ℕ) where
   pub none_torn_told : (file : Option FileState) → IfSome file (Follows shape was [] []) →
-      IfSome file (Tears shape was image first first)
-  none_torn_told file f = weaken (Follows shape was [] []) (Tears shape was image first first) file f
+      IfSome file (AreWrittenAnew shape was image first first)
+  none_torn_told file f = weaken (Follows shape was [] []) (AreWrittenAnew shape was image first first) file f
       (λ a it. none_torn shape was image first a it)
 
   module _ (at : ℕ) (from : first ≤ at) (r : Result (Unit {0}) StoreError) (old new : Option FileState)
       (told : BothTell (TurnsSlot shape at (slot_at was at) (slot_at image at) r) old new)
-      (t : IfSome old (Tears shape was image first at)) where
-    pub torn_next_told : r ≡ Ok tt → IfSome new (Tears shape was image first (suc at))
-    torn_next_told ok = carry (Tears shape was image first at) (Tears shape was image first (suc at))
+      (t : IfSome old (AreWrittenAnew shape was image first at)) where
+    pub torn_next_told : r ≡ Ok tt → IfSome new (AreWrittenAnew shape was image first (suc at))
+    torn_next_told ok = carry (AreWrittenAnew shape was image first at) (AreWrittenAnew shape was image first (suc at))
         (TurnsSlot shape at (slot_at was at) (slot_at image at) r) old new told t
         (λ a b turns it. torn_next shape was image first at a b from turns.others it
         (λ low. done b (turns.turns (it.outside at low (inr (omega arith))))))
@@ -192,7 +192,7 @@ module _ (shape : Shape) (was image : List Contents) (first : ℕ) where
         done b x = subst (λ y. OnOk y (IsTurning shape (slot_at was at) (slot_at image at) b at)) ok x
 
     pub torn_loses_told : IsImage shape was → IfSome old (IsOpened shape) → IfSome new (LosesBetween shape was image)
-    torn_loses_told is o = carry_both (IsOpened shape) (Tears shape was image first at) (LosesBetween shape was image)
+    torn_loses_told is o = carry_both (IsOpened shape) (AreWrittenAnew shape was image first at) (LosesBetween shape was image)
         (TurnsSlot shape at (slot_at was at) (slot_at image at) r) old new told o t
         (λ a b turns it tears. torn_loses shape was image first at a b from turns.others tears is
         (turns.long ∙ it.long) (λ low. turns.either (tears.outside at low (inr (omega arith)))))
@@ -201,9 +201,9 @@ module _ (shape : Shape) (was image : List Contents) (first : ℕ) where
       (old new : Option FileState) where
     pub erased_told : (r : Result (Unit {0}) StoreError) →
         BothTell (TurnsSlots shape first count (λ k. slot_at was k) (λ k. blank) r) old new →
-        IfSome old (Follows shape was [] []) → OnOk r (IfSome new (Tears shape was image first (first + count)))
+        IfSome old (Follows shape was [] []) → OnOk r (IfSome new (AreWrittenAnew shape was image first (first + count)))
     erased_told (Err e) told f = tt
-    erased_told (Ok u) told f = carry (Follows shape was [] []) (Tears shape was image first (first + count))
+    erased_told (Ok u) told f = carry (Follows shape was [] []) (AreWrittenAnew shape was image first (first + count))
         (TurnsSlots shape first count (λ k. slot_at was k) (λ k. blank) (Ok u)) old new told f
         (λ a b t it. all_torn shape was image first count a b t.others it
         (λ k low from below. subst (λ c. IsTurning shape (slot_at was k) c b k) (sym (empty k from below))
@@ -220,31 +220,31 @@ module _ (shape : Shape) (was image : List Contents) (first : ℕ) where
         (t.either k from below (follows.keeps k low refl refl))))
 
   pub tears_told : (upto : ℕ) (file : Option FileState) → IsImage shape was → IfSome file (IsOpened shape) →
-      IfSome file (Tears shape was image first upto) → IfSome file (LosesBetween shape was image)
-  tears_told upto file is o t = weaken_both (IsOpened shape) (Tears shape was image first upto)
+      IfSome file (AreWrittenAnew shape was image first upto) → IfSome file (LosesBetween shape was image)
+  tears_told upto file is o t = weaken_both (IsOpened shape) (AreWrittenAnew shape was image first upto)
       (LosesBetween shape was image) file o t
       (λ a it tears. tears_lose shape was image first upto a is it.long tears)
 
   pub cleared_told : (count : ℕ) → IsCleared was image first count → (r : Result (Unit {0}) StoreError)
       (old new : Option FileState) → BothTell (SyncsFile r) old new → IfSome old (IsOpened shape) →
-      IfSome old (Tears shape was image first (first + count)) → OnOk r (IfSome new (Follows shape image [] []))
+      IfSome old (AreWrittenAnew shape was image first (first + count)) → OnOk r (IfSome new (Follows shape image [] []))
   cleared_told count c (Err e) old new told o t = tt
   cleared_told count c (Ok u) old new told o t =
-      carry_both (IsOpened shape) (Tears shape was image first (first + count)) (Follows shape image [] [])
+      carry_both (IsOpened shape) (AreWrittenAnew shape was image first (first + count)) (Follows shape image [] [])
       (SyncsFile (Ok u)) old new told o t
       (λ a b s it tears. cleared shape was image first count a b it s c tears)
 
   pub cleared_loses_told : (count : ℕ) → IsImage shape was → IsCleared was image first count →
       (r : Result (Unit {0}) StoreError) (old new : Option FileState) → BothTell (SyncsFile r) old new →
-      IfSome old (IsOpened shape) → IfSome old (Tears shape was image first (first + count)) →
+      IfSome old (IsOpened shape) → IfSome old (AreWrittenAnew shape was image first (first + count)) →
       IfSome new (LosesBetween shape was image)
   cleared_loses_told count is c (Err e) old new told o t =
-      carry_both (IsOpened shape) (Tears shape was image first (first + count)) (LosesBetween shape was image)
+      carry_both (IsOpened shape) (AreWrittenAnew shape was image first (first + count)) (LosesBetween shape was image)
       (SyncsFile (Err e)) old new told o t
       (λ a b s it tears left l. tears_lose shape was image first (first + count) a is it.long tears left
       (same_left a b left s l))
   cleared_loses_told count is c (Ok u) old new told o t =
-      carry_both (IsOpened shape) (Tears shape was image first (first + count)) (LosesBetween shape was image)
+      carry_both (IsOpened shape) (AreWrittenAnew shape was image first (first + count)) (LosesBetween shape was image)
       (SyncsFile (Ok u)) old new told o t
       (λ a b s it tears. cleared_loses shape was image b is c.lengths (s.long ∙ it.long)
       (cleared shape was image first count a b it s c tears))

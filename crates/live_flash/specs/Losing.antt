@@ -36,7 +36,7 @@ LeavesLive config shape extras file =
     (left : List ℕ) → LeavesBytes file left → IsLive left config (live_image shape left) extras
 
 -- The slots from the first up to another one are written anew and not durable yet, and all others are as before.
-pub record Tears (shape : Shape) (old new : List Contents) (first upto : ℕ) (file : FileState) : Type 0 where
+pub record AreWrittenAnew (shape : Shape) (old new : List Contents) (first upto : ℕ) (file : FileState) : Type 0 where
   pub inside : (k : ℕ) → k < length old → first ≤ k → k < upto →
       IsTurning shape (slot_at old k) (slot_at new k) file k
   pub outside : (k : ℕ) → k < length old → (k < first) ⊎ (upto ≤ k) → Holds shape (slot_at old k) file k

@@ -9,7 +9,7 @@ ghost use Rattle.file_flash.specs.Clearing.{IsCleared};
 ghost use Rattle.file_flash.specs.Files.{faults_after};
 ghost use Rattle.file_flash.specs.Following.{AreProgrammed, slots_in};
 ghost use Rattle.live_flash.specs.Following.{IsOpened, IsLiveFile, Follows};
-ghost use Rattle.live_flash.specs.Losing.{LosesOnly, LosesBetween, Tears};
+ghost use Rattle.live_flash.specs.Losing.{LosesOnly, LosesBetween, AreWrittenAnew};
 ghost use Rattle.live_flash.specs.Waiting.{HasRoom, room_bytes};
 
 use crate::Follower;
@@ -139,12 +139,12 @@ impl<S: Store + Drop> Follower<S> {
         ensures counts { S.faults self.new.store ≡ faults_after result (S.faults self.old.store) }
     {
         let _ = memory.shape();
-        self.tear(memory, first, count)?;
+        self.write_anew(memory, first, count)?;
         self.store.sync()
     }
 
     /// Writes them anew, by one call where they are blank.
-    fn tear(&mut self, memory: &MemFlash, first: u32, count: u32) -> Result<(), StoreError>
+    fn write_anew(&mut self, memory: &MemFlash, first: u32, count: u32) -> Result<(), StoreError>
         requires exist { first + count ≤ slots_of memory.now.shape }
         requires some { 1 ≤ count }
         requires few { count ≤ memory.now.shape.pages_per_block }
@@ -158,7 +158,7 @@ impl<S: Store + Drop> Follower<S> {
         ensures tears { (old : List Contents) → IsCleared old memory.now.image first count →
             IfSome (S.told self.old.store) (Follows memory.now.shape old [] []) →
             OnOk result (IfSome (S.told self.new.store)
-            (Tears memory.now.shape old memory.now.image first (first + count))) }
+            (AreWrittenAnew memory.now.shape old memory.now.image first (first + count))) }
         ensures loses { (old : List Contents) → IsImage memory.now.shape old →
             IsCleared old memory.now.image first count →
             IfSome (S.told self.old.store) (Follows memory.now.shape old [] []) →
@@ -169,11 +169,16 @@ impl<S: Store + Drop> Follower<S> {
         if are_blank(memory, first, count) {
             return self.erase_slots(shape, Slot(first), count);
         }
-        self.tear_each(memory, first, count)
+        self.write_each_anew(memory, first, count)
     }
 
     /// Writes them anew one by one.
-    fn tear_each(&mut self, memory: &MemFlash, first: u32, count: u32) -> Result<(), StoreError>
+    fn write_each_anew(
+        &mut self,
+        memory: &MemFlash,
+        first: u32,
+        count: u32,
+    ) -> Result<(), StoreError>
         requires exist { first + count ≤ slots_of memory.now.shape }
         requires room { length self.old.room.items ≡ room_bytes memory.now.shape }
         requires opened { IfSome (S.told self.old.store) (IsOpened memory.now.shape) }
@@ -185,7 +190,7 @@ impl<S: Store + Drop> Follower<S> {
         ensures tears { (old : List Contents) → IsCleared old memory.now.image first count →
             IfSome (S.told self.old.store) (Follows memory.now.shape old [] []) →
             OnOk result (IfSome (S.told self.new.store)
-            (Tears memory.now.shape old memory.now.image first (first + count))) }
+            (AreWrittenAnew memory.now.shape old memory.now.image first (first + count))) }
         ensures loses { (old : List Contents) → IsImage memory.now.shape old →
             IsCleared old memory.now.image first count →
             IfSome (S.told self.old.store) (Follows memory.now.shape old [] []) →

@@ -25,7 +25,7 @@ use Rattle.live_session.specs.declared.ending.Ending.{Ending}
 use Rattle.live_session.specs.Endings as live
 use Rattle.live_session.specs.Endings.{LiveEnding, MemoryTold, Speaks, ending_of}
 use Rattle.live_session.specs.LineDesk.{Claims, DeskTold, LineDeskState, OpensFree, after, claimed, with_put}
-use Rattle.live_session.specs.Opening.{IsBegun, IsFreeFile, IsHeldBegun, IsNotBegun, IsNotOpened, Opens, OpensFlash, OpensHeld, Refuses, RefusesBytes, SaysHeld, Turns, ending_of_claim, ending_of_opening, ending_of_turning}
+use Rattle.live_session.specs.Opening.{IsBegun, IsFreeFile, IsHeldBegun, IsNotBegun, IsNotOpened, Opens, OpensFlash, OpensHeld, RefusesHeld, RefusesBytes, SaysHeld, Turns, ending_of_claim, ending_of_opening, ending_of_turning}
 use Rattle.live_session.specs.Saying.{live_bytes}
 
 -- ---- a file that was claimed
@@ -52,10 +52,10 @@ not_begun old mid new file name (live.Refused refusal.BadWords) same free h = ab
 not_begun old mid new file name (live.Refused (refusal.Missing missing)) same free h = absurd h
 not_begun old mid new file name (live.Refused (refusal.TooLong long)) same free h = absurd h
 not_begun old mid new file name (live.Refused (refusal.BadImage rule)) same free h =
-    (h.0 ∙ same, freed (λ x. Refuses x (error.Image rule)) old.told file name free h.1)
+    (h.0 ∙ same, freed (λ x. RefusesHeld x (error.Image rule)) old.told file name free h.1)
 not_begun old mid new file name (live.Refused (refusal.Unsound breach)) same free h = absurd h
 not_begun old mid new file name (live.BadCount at) same free h =
-    (h.0 ∙ same, freed (λ x. Refuses x (error.Count at)) old.told file name free h.1)
+    (h.0 ∙ same, freed (λ x. RefusesHeld x (error.Count at)) old.told file name free h.1)
 not_begun old mid new file name live.InUse same free h = absurd h
 not_begun old mid new file name live.Fault same free (inl h) = inr (inl (h ∙ same))
 not_begun old mid new file name live.Fault same free (inr h) =
@@ -85,20 +85,20 @@ not_claimed told old new name claim.Memory h = inl h
 -- ---- a file that is refused
 
 live_refused : (file : Option FileState) (bytes : List ℕ) (rule : LiveError) → IfSome file (ReadsFile bytes) →
-    starts_with nat_eq bytes third_magic ≡ true → RefusesLive bytes rule → Refuses file rule
+    starts_with nat_eq bytes third_magic ≡ true → RefusesLive bytes rule → RefusesHeld file rule
 live_refused file bytes rule reads begins why =
     record { bytes = bytes; reads = reads; refusal = subst (λ b. RefusesBytes bytes b rule) (sym begins) why }
 
 image_refused : (file : Option FileState) (bytes : List ℕ) (rule : ImageError) → IfSome file (ReadsFile bytes) →
     starts_with nat_eq bytes third_magic ≡ false → IsRefusal (broken_in_use bytes) rule →
-    Refuses file (error.Image rule)
+    RefusesHeld file (error.Image rule)
 image_refused file bytes rule reads begins why = record {
   bytes = bytes;
   reads = reads;
   refusal = subst (λ b. RefusesBytes bytes b (error.Image rule)) (sym begins) why;
 }
 
-refused : (file : Option FileState) (desk : LineDeskState) (rule : LiveError) → Refuses file rule →
+refused : (file : Option FileState) (desk : LineDeskState) (rule : LiveError) → RefusesHeld file rule →
     IsNotBegun file (ending_of_opening rule) desk desk
 refused file desk (error.Image image.Memory) why = inl refl
 refused file desk (error.Image image.Short) why = (refl, why)

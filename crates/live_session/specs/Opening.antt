@@ -56,7 +56,7 @@ RefusesBytes bytes false (error.Count at) = ⊥
 
 -- a file is refused: by the first rule of live files that its bytes break, where they begin as one, or else by the
 -- first of image files in use; or for want of memory
-pub record Refuses (old : Option FileState) (e : LiveError) : Type 0 where
+pub record RefusesHeld (old : Option FileState) (e : LiveError) : Type 0 where
   pub bytes : List ℕ
   pub reads : IfSome old (ReadsFile bytes)
   pub refusal : RefusesBytes bytes (starts_with nat_eq bytes third_magic) e
@@ -71,7 +71,7 @@ OpensFile name f c = IsFreeFile (λ file. Opens file f) name c
 
 -- the file at the name is free, and breaks this rule first
 abbrev pub RefusesFile : List ℕ → LiveError → DeskTold → Type 0
-RefusesFile name rule c = IsFreeFile (λ file. Refuses file rule) name c
+RefusesFile name rule c = IsFreeFile (λ file. RefusesHeld file rule) name c
 
 -- the desk once the file of this name was claimed, and the live file of this flash was to be put there
 abbrev pub begun : List ℕ → FileFlashState → LineDeskState → LineDeskState
@@ -108,8 +108,8 @@ abbrev pub IsHeldBegun : Option FileState → LineDeskState → LineDeskState �
 IsHeldBegun file old new = (f : FileFlashState) × (new ≡ after (with_put (live_bytes f)) old) × SaysHeld file f
 
 abbrev pub IsNotBegun : Option FileState → LiveEnding → LineDeskState → LineDeskState → Type 0
-IsNotBegun file (live.Refused (BadImage rule)) old new = (new ≡ old) × Refuses file (error.Image rule)
-IsNotBegun file (live.BadCount at) old new = (new ≡ old) × Refuses file (error.Count at)
+IsNotBegun file (live.Refused (BadImage rule)) old new = (new ≡ old) × RefusesHeld file (error.Image rule)
+IsNotBegun file (live.BadCount at) old new = (new ≡ old) × RefusesHeld file (error.Count at)
 IsNotBegun file live.Fault old new = (new ≡ old) ⊎ IsHeldBegun file old new
 IsNotBegun file live.Starved old new = (new ≡ old) ⊎ IsHeldBegun file old new
 IsNotBegun file _ old new = ⊥

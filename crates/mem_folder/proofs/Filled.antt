@@ -46,7 +46,7 @@ named_filled_after name (change.Linked it file) had h = filled_if (bytes_eq (str
     (Some file ∷ had) had tt h
 named_filled_after name (change.Wrote file bytes) had h = h
 named_filled_after name (change.Synced file) had h = h
-named_filled_after name change.Settled had h = tt
+named_filled_after name change.SyncedNames had h = tt
 named_filled_after name (change.Lost names bytes) had h = filled_alone names had h
 
 named_filled_from : (name : List ℕ) (had : List (Option ℕ)) (cs : List Change) → IsFilled had →
@@ -65,7 +65,7 @@ held_filled_after file (change.Moved from to it) had h = h
 held_filled_after file (change.Linked name it) had h = h
 held_filled_after file (change.Wrote it bytes) had h = filled_if (it == file) (bytes.items ∷ had) had tt h
 held_filled_after file (change.Synced it) had h = filled_if (it == file) (newest [] had ∷ []) had tt h
-held_filled_after file change.Settled had h = h
+held_filled_after file change.SyncedNames had h = h
 held_filled_after file (change.Lost names bytes) had h = filled_alone bytes had h
 
 held_filled_from : (file : ℕ) (had : List (List ℕ)) (cs : List Change) → IsFilled had → IsFilled (held_from file had cs)

@@ -50,10 +50,10 @@ born (change.Moved from to n) name had file h =
 born (change.Linked it n) name had file h = born_if (bytes_eq (string_bytes it) name) (Some n) had file h
 born (change.Wrote n bytes) name had file h = inl h
 born (change.Synced n) name had file h = inl h
-born change.Settled name [] file (inl e) = absurd (no_file file e)
-born change.Settled name [] file (inr h) = absurd h
-born change.Settled name (x ∷ xs) file (inl e) = inl (inl e)
-born change.Settled name (x ∷ xs) file (inr h) = absurd h
+born change.SyncedNames name [] file (inl e) = absurd (no_file file e)
+born change.SyncedNames name [] file (inr h) = absurd h
+born change.SyncedNames name (x ∷ xs) file (inl e) = inl (inl e)
+born change.SyncedNames name (x ∷ xs) file (inr h) = absurd h
 born (change.Lost names bytes) name had file h = inl (of_alone (λ f. f ≡ Some file) names had h)
 
 pub below-more : (cs : List Change) (i : ℕ) (d : Change) (next above : ℕ) → i < length cs → AllBelow (take i cs) next →

@@ -138,15 +138,15 @@ newest_is_one f (x ∷ xs) h (inl is) = inl is
 newest_is_one f (x ∷ xs) h (inr none) = absurd none
 
 pub settles : (cs : List Change) (place : List ℕ) →
-    SyncsNames place (state_of cs) (state_of (cs ++ change.Settled ∷ []))
+    SyncsNames place (state_of cs) (state_of (cs ++ change.SyncedNames ∷ []))
 settles cs place = record {
-  here = λ n _. named-append cs change.Settled n;
-  others = λ n f one. newest_is_one f (named cs n) (named_filled cs n) (rw (named-append cs change.Settled n) at one);
-  files = record { files = λ f. held-append cs change.Settled f; fixed = refl };
+  here = λ n _. named-append cs change.SyncedNames n;
+  others = λ n f one. newest_is_one f (named cs n) (named_filled cs n) (rw (named-append cs change.SyncedNames n) at one);
+  files = record { files = λ f. held-append cs change.SyncedNames f; fixed = refl };
 }
 
 pub syncs_folder : (cs ds : List Change) (place : List ℕ) (result : Result (Unit {0}) Error) →
-    IsNoted cs change.Settled result ds →
+    IsNoted cs change.SyncedNames result ds →
     SyncsFolder place result (state_of cs) (state_of ds)
 syncs_folder cs ds place (Ok done) noted = rw noted.ok (settles cs place)
 syncs_folder cs ds place (Err error) noted = ap state_of noted.err.0

@@ -27,7 +27,7 @@ named_after name (change.Moved from to file) had =
 named_after name (change.Linked it file) had = if bytes_eq (string_bytes it) name then Some file ∷ had else had
 named_after name (change.Wrote file bytes) had = had
 named_after name (change.Synced file) had = had
-named_after name change.Settled had = newest None had ∷ []
+named_after name change.SyncedNames had = newest None had ∷ []
 named_after name (change.Lost names bytes) had = alone names had
 
 -- the bytes that a file had since it was synced, after a change, where it had these before
@@ -38,7 +38,7 @@ held_after file (change.Moved from to it) had = had
 held_after file (change.Linked name it) had = had
 held_after file (change.Wrote it bytes) had = if it == file then bytes.items ∷ had else had
 held_after file (change.Synced it) had = if it == file then newest [] had ∷ [] else had
-held_after file change.Settled had = had
+held_after file change.SyncedNames had = had
 held_after file (change.Lost names bytes) had = alone bytes had
 
 -- the files that a name had once these changes were made, and the bytes that a file had

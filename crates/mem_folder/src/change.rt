@@ -25,7 +25,7 @@ pub enum Change {
     /// The bytes of a file were synced.
     Synced(u64),
     /// The names were synced.
-    Settled,
+    SyncedNames,
     /// Power was lost. This is left of the names, and that of the bytes.
     Lost(Left, Left),
 }

@@ -14,7 +14,7 @@ use crate::note::{
     note_of_open_folder, note_of_rename, note_of_starving, note_of_sync_folder,
 };
 use crate::reading::file_of;
-use crate::{finding, naming, settling, writing};
+use crate::{finding, folders, naming, writing};
 use durable_folder::{Folder, Found, Lock};
 use std::alloc::Global;
 use std::fs::Permissions;
@@ -224,7 +224,7 @@ impl Folder for MemFolder {
         let fault = self.begin();
         match naming::copy(self.alloc, folder) {
             Ok(name) => {
-                let place = settling::open_folder(fault, self.alloc, &mut self.noted, folder);
+                let place = folders::open_folder(fault, self.alloc, &mut self.noted, folder);
                 self.end(note_of_open_folder(&place, name));
                 place
             }
@@ -311,7 +311,7 @@ impl Folder for MemFolder {
 
     fn sync_folder(&mut self, folder: &MemPlace) -> io::Result<()> {
         let fault = self.begin();
-        let done = settling::sync_folder(
+        let done = folders::sync_folder(
             fault,
             self.alloc,
             &mut self.changes,

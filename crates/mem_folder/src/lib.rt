@@ -6,12 +6,12 @@ mod fault;
 mod files;
 mod finding;
 mod folder;
+mod folders;
 mod glance;
 mod log;
 mod naming;
 mod note;
 mod reading;
-mod settling;
 mod surviving;
 mod writing;
 

@@ -189,7 +189,7 @@ pub fn remove(
 }
 
 /// Syncs the names.
-pub fn settle(fault: io::Result<()>, changes: &mut Vec<Change>) -> io::Result<()>
+pub fn sync_names(fault: io::Result<()>, changes: &mut Vec<Change>) -> io::Result<()>
     ensures syncs { (place : List ℕ) → SyncsFolder place result (state_of changes.old.items)
         (state_of changes.new.items) }
     ensures err { IfErr result (λ _. changes.new.items ≡ changes.old.items) }
@@ -197,5 +197,5 @@ pub fn settle(fault: io::Result<()>, changes: &mut Vec<Change>) -> io::Result<()
     if let Err(error) = fault {
         return Err(error);
     }
-    add(changes, Change::Settled)
+    add(changes, Change::SyncedNames)
 }

@@ -34,7 +34,7 @@ fn name_after(seen: Seen<Option<u64>>, change: &Change, name: &str) -> Seen<Opti
             now: Some(*file),
             kept: seen.kept,
         },
-        Change::Settled | Change::Lost(Left::Newest, _) => Seen {
+        Change::SyncedNames | Change::Lost(Left::Newest, _) => Seen {
             now: seen.now,
             kept: seen.now,
         },

@@ -27,10 +27,10 @@ pub record OnlyReads {F : Type 0} (state : F → FlashState) (old new : DeviceSt
   pub moment : moment_of (state new.flash) ≡ moment_of (state old.flash)
   pub carries : Carries (state old.flash) (state new.flash) broken
 
-abbrev pub is_key_fault : KeyError → Bool
-is_key_fault (failed.Bucket page) = false
-is_key_fault failed.Fault = true
-is_key_fault failed.Memory = false
+abbrev pub is_opening_fault : KeyError → Bool
+is_opening_fault (failed.Bucket page) = false
+is_opening_fault failed.Fault = true
+is_opening_fault failed.Memory = false
 
 -- the least page of an array that is no bucket
 pub record IsFirstBad (its : Config) (pages : Pages) (page : ℕ) : Type 0 where

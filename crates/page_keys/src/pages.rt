@@ -2,7 +2,7 @@ ghost use Rattle.std.specs.Prelude.{◌≡◌, ◌<◌, ◌≤◌, ◌+◌, ◌�
 ghost use Rattle.std.specs.Result.{is_err};
 ghost use Rattle.array_machine.specs.ArrayState.{page_at};
 ghost use Rattle.page_keys.specs.Buckets.{encodes, AreBuckets};
-ghost use Rattle.page_keys.specs.Stores.{OnlyReads, OpensNot, is_key_fault};
+ghost use Rattle.page_keys.specs.Stores.{OnlyReads, OpensNot, is_opening_fault};
 
 use crate::answers::KeyError;
 use crate::reading;
@@ -55,7 +55,7 @@ pub(crate) fn check_all<F: Flash, R: CommitRule>(
     ensures ok { OnOk result (AreBuckets device.old.config device.old.machine.pages) }
     ensures read { OnOk result (OnlyReads F.state device.old device.new false) }
     ensures err { IfErr result (OpensNot device.old) }
-    ensures stopped { IfErr result (λ e. OnlyReads F.state device.old device.new (is_key_fault e)) }
+    ensures stopped { IfErr result (λ e. OnlyReads F.state device.old device.new (is_opening_fault e)) }
 {
     let logical = device_facts(device).logical;
     let mut entries = Vec::new(alloc);

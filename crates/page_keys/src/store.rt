@@ -13,7 +13,7 @@ ghost use Rattle.page_keys.specs.KeyMaps.{KeyMap};
 ghost use Rattle.page_keys.specs.PutAnswers.{PutGives, ReadsFirst};
 ghost use Rattle.page_keys.specs.Puts.{IsKeyChange};
 ghost use Rattle.page_keys.specs.Putting.{is_put_fault};
-ghost use Rattle.page_keys.specs.Stores.{HasKeys, OnlyReads, OpensNot, is_key_fault};
+ghost use Rattle.page_keys.specs.Stores.{HasKeys, OnlyReads, OpensNot, is_opening_fault};
 ghost use Rattle.page_keys.specs.Writing.{Writes, WritesNot};
 
 use crate::answers::{KeyError, PutError};
@@ -68,7 +68,7 @@ impl<F: Flash, R: CommitRule> KeyStore<F, R> {
         ensures keys { IfOk result (λ s. HasKeys s.device × (s.broken ≡ false)) }
         ensures opened { IfOk result (λ s. OnlyReads F.state device s.device false) }
         ensures cause { IfErr result (λ e. OpensNot device e.1) }
-        ensures back { IfErr result (λ e. OnlyReads F.state device e.0 (is_key_fault e.1)) }
+        ensures back { IfErr result (λ e. OnlyReads F.state device e.0 (is_opening_fault e.1)) }
     {
         let mut device = device;
         let page_bytes = device_facts(&device).page_bytes;

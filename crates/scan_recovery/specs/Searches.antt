@@ -64,8 +64,8 @@ AreLinkedOnce list n = (i j place : ℕ) → slice_index_or (name_graph list) i 
     name_of (record_at list i) ≡ name_of (record_at list j)
 
 -- the places to which the links of the first records lead are marked
-abbrev pub AreMarked : List Found → List Bool → ℕ → Type 0
-AreMarked list linked n = (k place : ℕ) → k < n → slice_index_or (name_graph list) k None ≡ Some place →
+abbrev pub AreTargetsMarked : List Found → List Bool → ℕ → Type 0
+AreTargetsMarked list linked n = (k place : ℕ) → k < n → slice_index_or (name_graph list) k None ≡ Some place →
     slice_index_or linked place false ≡ true
 
 -- the record before this one has its name, and leads to this place

@@ -11,7 +11,7 @@ ghost use Rattle.sorted_records.specs.Orbits.{AreOrbits};
 ghost use Rattle.sorted_records.specs.SortedRecords.{Sorts};
 ghost use Rattle.scan_recovery.specs.Searches.{KnowsOrbits, KeepsLaws, KeepLaws, AreLinkedOnce, AreAbsentTo, HasCountKept, KeepCounts, AreLawful};
 
-use crate::endings::{endless, is_ending};
+use crate::endings::{first_endless, is_ending};
 use crate::own_links::{AbsentLinks, are_absent_once, is_linked_once, note_absent};
 use crate::shared_links::lowest_shared_link;
 use record_list::{Breach, Found, breach_at};
@@ -149,16 +149,16 @@ fn first_of_slots(
     requires orbits { KnowsOrbits standing.now orbits.now }
     ensures { let s = standing.now in IsFirstBreach s.protocol list.now s.logical result }
 {
-    if let Some(at) = without_current(standing, list) {
+    if let Some(at) = first_without_current(standing, list) {
         return Some(breach_at(list, 4, at));
     }
-    if let Some(at) = early_link(standing, list) {
+    if let Some(at) = first_early_link(standing, list) {
         return Some(breach_at(list, 5, at));
     }
-    if let Some(at) = unshown(standing, list) {
+    if let Some(at) = first_unshown(standing, list) {
         return Some(breach_at(list, 6, at));
     }
-    if let Some(at) = endless(standing, orbits, list) {
+    if let Some(at) = first_endless(standing, orbits, list) {
         return Some(breach_at(list, 7, at));
     }
     None
@@ -199,7 +199,7 @@ fn keeps_laws_aside(
 
 /// The index of the first of these records that breaks law 4: where it is the newest of its page, the
 /// current version of its page is 0 or present.
-fn without_current(standing: &CurrentVersions, records: &[Found]) -> Option<usize>
+fn first_without_current(standing: &CurrentVersions, records: &[Found]) -> Option<usize>
     ensures { let s = standing.now in
         FindsFirst (CurrentIsPresent s.protocol s.list s.logical) records.now result }
 {
@@ -231,7 +231,7 @@ fn has_other_current(standing: &CurrentVersions, found: &Found) -> bool
 
 /// The index of the first of these records that breaks law 5: the link of a current record is not above
 /// the current version there, and under Back Pointer Cyclic Commit is not straddled.
-fn early_link(standing: &CurrentVersions, records: &[Found]) -> Option<usize>
+fn first_early_link(standing: &CurrentVersions, records: &[Found]) -> Option<usize>
     ensures { let s = standing.now in
         FindsFirst (LinkHasCounted s.protocol s.list s.logical) records.now result }
 {
@@ -278,7 +278,7 @@ fn has_counted_link(standing: &CurrentVersions, found: &Found) -> bool
 /// The index of the first of these records that breaks law 6, which speaks of Back Pointer Cyclic Commit
 /// alone: where it is loose, its back version is the current one of its page, its link is not to a current
 /// record, and where its link is below the current version there, a record is responsible for it.
-fn unshown(standing: &CurrentVersions, records: &[Found]) -> Option<usize>
+fn first_unshown(standing: &CurrentVersions, records: &[Found]) -> Option<usize>
     ensures { let s = standing.now in
         FindsFirst (LooseIsShown s.protocol s.list s.logical) records.now result }
 {

@@ -12,7 +12,7 @@ use tx_types::{Link, Protocol};
 
 /// The index of the first of these records that breaks law 7, which speaks of Back Pointer Cyclic Commit
 /// alone: where it is loose, its links lead to an absent name.
-pub fn endless(
+pub fn first_endless(
     standing: &CurrentVersions,
     orbits: &Option<Orbits>,
     records: &[Found],

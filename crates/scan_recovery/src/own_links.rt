@@ -4,7 +4,7 @@
 ghost use Rattle.std.specs.Prelude.{◌≡◌, ℕ, ◌+◌, ◌<◌, true, false, length, slice_index_or, slice_set, Some, None, IsNone, IfOk, Contains};
 ghost use Rattle.record_list.specs.Records.{name_of, record_at};
 ghost use Rattle.sorted_records.specs.NameGraph.{name_graph};
-ghost use Rattle.scan_recovery.specs.Searches.{HasAbsent, AreMarked, AreLinkedOnce, AreAbsentOnce, AreAbsentTo, IsAsBefore, NotesLink, is_above};
+ghost use Rattle.scan_recovery.specs.Searches.{HasAbsent, AreTargetsMarked, AreLinkedOnce, AreAbsentOnce, AreAbsentTo, IsAsBefore, NotesLink, is_above};
 
 use crate::held::mark;
 use crate::shared_links::lowest_sharer;
@@ -26,10 +26,10 @@ pub struct AbsentLinks {
 pub fn is_linked_once(chart: &SortedRecords, linked: &mut Vec<bool>, at: usize) -> bool
     requires within { at < length chart.now }
     requires size { length linked.old.items ≡ length chart.now }
-    requires marked { AreMarked chart.now linked.old.items at }
+    requires marked { AreTargetsMarked chart.now linked.old.items at }
     requires once { AreLinkedOnce chart.now at }
     ensures size { length linked.new.items ≡ length chart.now }
-    ensures marked { result ≡ true → AreMarked chart.now linked.new.items (at + 1) }
+    ensures marked { result ≡ true → AreTargetsMarked chart.now linked.new.items (at + 1) }
     ensures once { result ≡ true → AreLinkedOnce chart.now (at + 1) }
 {
     match chart.targets()[at] {

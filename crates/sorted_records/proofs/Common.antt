@@ -18,7 +18,7 @@ pub use Rattle.sorted_records.specs.Minima.{AreMinimaFrom}
 pub use Rattle.sorted_records.specs.NameGraph.{name_graph}
 pub use Rattle.sorted_records.specs.Orbits.{next_of, IsEnd, IsRound, IsGraph, IsOrbit}
 unfoldable pub use Rattle.sorted_records.specs.Orbits.{steps}
-pub use Rattle.sorted_records.specs.Seen.{seen_at, IsFollowed, IsBehind, Continues, StaysSeen}
+pub use Rattle.sorted_records.specs.Seen.{seen_at, IsFollowed, IsBehind, ComesAfterPath, StaysSeen}
 pub use Rattle.sorted_records.specs.SortedRecords.{Sorts, is_below, IsInOrder, link_graph}
 pub use Rattle.sorted_records.specs.declared.orbit.Orbit.{Orbit}
 pub use Rattle.sorted_records.specs.declared.orbit.Orbit.TheVariants.{Ends, Round, Aside}

@@ -61,20 +61,20 @@ pub record IsFollowed (graph : List (Option ℕ)) (seen : List Seen) (path : Lis
   pub placed : (i k : ℕ) → seen_at seen i ≡ OnPath k → (k < length path) × (slice_index_or path k 0 ≡ i)
 
 -- the last node of a path is one after which this one comes; the first of a path comes after none
-abbrev pub Continues : List (Option ℕ) → List ℕ → ℕ → Type 0
-Continues graph path j = (k : ℕ) → suc k ≡ length path → next_of graph (slice_index_or path k 0) ≡ Some j
+abbrev pub ComesAfterPath : List (Option ℕ) → List ℕ → ℕ → Type 0
+ComesAfterPath graph path j = (k : ℕ) → suc k ≡ length path → next_of graph (slice_index_or path k 0) ≡ Some j
 
 -- nothing comes after the last node of a path, or a node with this orbit
 abbrev pub IsBehind : List (Option ℕ) → List Seen → List ℕ → Option Orbit → Type 0
 IsBehind graph seen path None = (k : ℕ) → suc k ≡ length path → next_of graph (slice_index_or path k 0) ≡ None
-IsBehind graph seen path (Some orbit) = (j : ℕ) × Continues graph path j × (seen_at seen j ≡ Known orbit)
+IsBehind graph seen path (Some orbit) = (j : ℕ) × ComesAfterPath graph path j × (seen_at seen j ≡ Known orbit)
 
 -- what comes after the last node of a path
 abbrev pub EndsBy : List (Option ℕ) → List Seen → List ℕ → PathEnd → Type 0
 EndsBy graph seen path Stops = IsBehind graph seen path None
 EndsBy graph seen path (Reaches orbit) = IsBehind graph seen path (Some orbit)
 EndsBy graph seen path (Closes place) =
-    (place < length path) × Continues graph path (slice_index_or path place 0)
+    (place < length path) × ComesAfterPath graph path (slice_index_or path place 0)
 
 -- the orbit of a node that is in no ring, by that of the node after it
 abbrev pub orbit_before : ℕ → Option Orbit → Orbit

@@ -70,7 +70,7 @@ pub use Rattle.record_list.specs.Records.{name_of, is_present, version_of, menti
 pub use Rattle.record_list.specs.Transaction.{ShareNoPage, InProgress, back_version}
 pub use Rattle.record_list.specs.Written.{text_at, value_of, value_at, is_outside}
 pub use Rattle.record_list.specs.declared.found.Found.{Found}
-pub use Rattle.tx_engine.specs.BatchCalls.{CountInTurn, AreJobsDue, CanWriteAll, InOrderOfDies, IsJobDue, CanCountAll, load_of, loads_for, CanNoteEach, nexts_noted, CountsAll, DroppedAll, MovesAll, WrittenAll, chosen_now}
+pub use Rattle.tx_engine.specs.BatchCalls.{AcknowledgeInTurn, AreJobsDue, CanWriteAll, InOrderOfDies, IsJobDue, CanAcknowledgeAll, load_of, loads_for, CanNoteEach, nexts_noted, AcknowledgesAll, DroppedAll, StepsTogether, WrittenAll, chosen_now}
 pub use Rattle.tx_engine.specs.Batches.{taken_writes, takes_each, chosen_from, is_ready, jobs_of, record_due, noted_each, used_each, DropsDevice, MovesDevice, chosen_of}
 pub use Rattle.tx_engine.specs.Breaking.{WritingBreaks}
 pub use Rattle.tx_engine.specs.Calls.{IsReady, SettlesDevice, WritesPage, AdvancesTo}

@@ -213,25 +213,25 @@ pub record WritesAll {F : Type 0} (state : F → FlashState) (S S' : StoreState 
   pub kept : OnErr result (O' ≡ O)
 
 -- The first `moved` transactions go on without the flash.
-pub record CanCountAll {F : Type 0} (state : F → FlashState) (p : Protocol) (S : StoreState F)
+pub record CanAcknowledgeAll {F : Type 0} (state : F → FlashState) (p : Protocol) (S : StoreState F)
     (O : OpenTransactionsState) (moved : ℕ) : Type 0 where
   pub ready : IsReady state p S O
   pub within : moved ≤ length O.all
   pub counts : (k : ℕ) → k < moved → CountsOn (transaction_at O k)
 
 -- these transactions each go on so, in turn
-abbrev pub CountInTurn : ArrayState → List Entry → List Progress → ArrayState → Type 0
-CountInTurn old [] [] new = new ≡ old
-CountInTurn old (e ∷ es) (p ∷ ps) new =
-    (mid : ArrayState) × Counts old e.tag e p mid × CountInTurn mid es ps new
-CountInTurn old _ _ new = ⊥
+abbrev pub AcknowledgeInTurn : ArrayState → List Entry → List Progress → ArrayState → Type 0
+AcknowledgeInTurn old [] [] new = new ≡ old
+AcknowledgeInTurn old (e ∷ es) (p ∷ ps) new =
+    (mid : ArrayState) × Counts old e.tag e p mid × AcknowledgeInTurn mid es ps new
+AcknowledgeInTurn old _ _ new = ⊥
 
 -- They went on. The flash stays.
-pub record CountsAll {F : Type 0} (state : F → FlashState) (S S' : StoreState F) (O O' : OpenTransactionsState)
+pub record AcknowledgesAll {F : Type 0} (state : F → FlashState) (S S' : StoreState F) (O O' : OpenTransactionsState)
     (moved : ℕ) (answer : Moved) : Type 0 where
   pub told : answer.moved ≡ moved
   pub each : List Progress
-  pub counts : CountInTurn (device_in state S O).machine (take moved (entries_of O)) each
+  pub counts : AcknowledgeInTurn (device_in state S O).machine (take moved (entries_of O)) each
       (device_in state S' O').machine
   pub finished : answer.finished ≡ count_by is_done each
   pub stands : Stands state (device_in state S' O')
@@ -282,13 +282,13 @@ pub record MovesChosen {F : Type 0} (state : F → FlashState) (S S' : StoreStat
   pub opens : OpenTransactionsState
   pub moved : IfOk result (λ answer.
       WrittenAll state S between O opens (jobs_of S.noted (chosen_now S O))
-      × CountsAll state between S' opens O' (length (chosen_now S O)) answer)
+      × AcknowledgesAll state between S' opens O' (length (chosen_now S O)) answer)
   pub broken : OnErr result (DroppedAll state S S' O (jobs_of S.noted (chosen_now S O)))
   pub kept : OnErr result (O' ≡ O)
 
 -- Open transactions of a settled device went on together. Where none is open nothing was done; where none is chosen the
 -- first one took a step.
-pub record MovesAll {F : Type 0} (state : F → FlashState) (S S' : StoreState F) (O O' : OpenTransactionsState)
+pub record StepsTogether {F : Type 0} (state : F → FlashState) (S S' : StoreState F) (O O' : OpenTransactionsState)
     (result : Result Moved Broken) : Type 0 where
   pub none : O.all ≡ [] → (result ≡ Ok no_moves) × (S' ≡ S) × (O' ≡ O)
   pub first : O.all ≢ [] → chosen_now S O ≡ [] → MovesFirst state S S' O O' result

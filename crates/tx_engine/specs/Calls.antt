@@ -15,7 +15,7 @@ use Rattle.judged_records.specs.IndexState.{IndexState, block_to_go, current_of,
 use Rattle.die_alloc.specs.BlocksState.{IsFull}
 use Rattle.collector.specs.declared.unsure.Unsure.TheVariants as unsure
 use Rattle.collector.specs.BreakingOff.{RoomBreaksOff}
-use Rattle.collector.specs.Calls.{ClearsSuperseded, AllocatesSlot}
+use Rattle.collector.specs.Calls.{EvictsBlocksToGo, AllocatesSlot}
 use Rattle.collector.specs.Looking.{ReadsAtMost}
 use Rattle.collector.specs.Preserves.{IsThere, Preserves}
 use Rattle.collector.specs.Settling.{settlement, slots_read}
@@ -142,7 +142,7 @@ pub record CollectsSettled {F : Type 0} (state : F → FlashState) (S S' : Store
 pub record ClearsFor {F : Type 0} (state : F → FlashState) (p : Protocol) (S S' : StoreState F)
     (O : OpenTransactionsState) (name : Link) (result : Result (Unit {0}) Broken) : Type 0 where
   pub left : IsLeft state (device_in state S O) (device_in state S' O) (is_err result)
-  pub clears : ClearsSuperseded p (store_in state S) (store_in state S') name.page name.version result
+  pub clears : EvictsBlocksToGo p (store_in state S) (store_in state S') name.page name.version result
   pub idle : block_to_go S.noted name.page name.version ≡ None →
       (is_err result ≡ false) × (S' ≡ S)
 

@@ -14,7 +14,7 @@ use Rattle.die_alloc.specs.NextSlot.{next_slot, after_next_slot}
 use Rattle.collector.specs.declared.unsure.Settled.{Settled}
 use Rattle.collector.specs.declared.unsure.Settled.TheVariants as found
 use Rattle.collector.specs.declared.unsure.Unsure.TheVariants as unsure
-use Rattle.collector.specs.Calls.{ClearsSuperseded, AllocatesSlot}
+use Rattle.collector.specs.Calls.{EvictsBlocksToGo, AllocatesSlot}
 use Rattle.collector.specs.Going.{IsNextName}
 use Rattle.collector.specs.Known.{page_known}
 use Rattle.collector.specs.Settling.{Settles}
@@ -56,7 +56,7 @@ pub record CanClear {F : Type 0} (state : F → FlashState) (p : Protocol) (s : 
 -- The records went that had to before this version of a page is programmed. Where none had to nothing was done.
 pub record ClearsStored {F : Type 0} (state : F → FlashState) (p : Protocol) (old new : StoreState F)
     (page below : ℕ) (result : Result (Unit {0}) Broken) : Type 0 where
-  pub clears : ClearsSuperseded p (store_in state old) (store_in state new) page below result
+  pub clears : EvictsBlocksToGo p (store_in state old) (store_in state new) page below result
   pub idle : block_to_go old.noted page below ≡ None → (result ≡ Ok tt) × (new ≡ old)
 
 -- and one that writes some name next

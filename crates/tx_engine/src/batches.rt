@@ -1,6 +1,6 @@
 ghost use Rattle.std.specs.Prelude.{◌≡◌, ◌<◌, ◌≤◌, false, length, vec_capacity};
 ghost use Rattle.flash_model.specs.Operations.{fire};
-ghost use Rattle.tx_engine.specs.BatchCalls.{CanCountAll, CanLoadAll, CanMove, CanNoteEach, CanWriteAll, CountsAll, LoadsEach, MovesAll, MovesFirst, NotesEach, WritesAll, finished_by, is_due_clear};
+ghost use Rattle.tx_engine.specs.BatchCalls.{CanAcknowledgeAll, CanLoadAll, CanMove, CanNoteEach, CanWriteAll, AcknowledgesAll, LoadsEach, StepsTogether, MovesFirst, NotesEach, WritesAll, finished_by, is_due_clear};
 ghost use Rattle.tx_engine.specs.Batches.{chosen_in, jobs_of};
 ghost use Rattle.tx_engine.specs.Calls.{CanAdvance, IsReady};
 ghost use Rattle.open_table.specs.OpenTransactionsState.{transaction_at};
@@ -18,14 +18,14 @@ use open_table::OpenTransactions;
 use record_list::CommitRule;
 
 /// Open transactions of a settled device go on together.
-pub(crate) fn move_all<F: Wide, R: CommitRule>(
+pub(crate) fn step_together<F: Wide, R: CommitRule>(
     store: &mut Store<F, R>,
     transactions: &mut OpenTransactions,
     jobs: &mut Vec<Job>,
 ) -> Result<Moved, Broken>
     requires can { CanMove F.state R.protocol store.old transactions.old }
     requires room { MOST_DIES ≤ vec_capacity jobs.old }
-    ensures moves { MovesAll F.state store.old store.new transactions.old transactions.new result }
+    ensures moves { StepsTogether F.state store.old store.new transactions.old transactions.new result }
     ensures room { vec_capacity jobs.old ≤ vec_capacity jobs.new }
 {
     if transactions.count() == 0 {
@@ -39,7 +39,7 @@ pub(crate) fn move_all<F: Wide, R: CommitRule>(
         return step_first(store, transactions);
     }
     write_all(store, transactions, jobs)?;
-    Ok(count_all(store, transactions, jobs.len() as u32))
+    Ok(acknowledge_all(store, transactions, jobs.len() as u32))
 }
 
 /// The programs of the first transactions that are ready, each in a die of its own.
@@ -97,12 +97,12 @@ fn step_first<F: Wide, R: CommitRule>(
     let progress = advance(store, transactions, 0)?;
     Ok(Moved {
         moved: 1,
-        finished: count_finished(progress),
+        finished: one_if_done(progress),
     })
 }
 
 /// One where a transaction is done, else none.
-fn count_finished(progress: Progress) -> u32
+fn one_if_done(progress: Progress) -> u32
     ensures { result ≡ finished_by progress }
 {
     match progress {
@@ -164,18 +164,18 @@ fn note_all<F: Wide, R: CommitRule>(
 }
 
 /// Moves the first `moved` transactions, whose next pages are noted, on without the flash.
-fn count_all<F: Wide, R: CommitRule>(
+fn acknowledge_all<F: Wide, R: CommitRule>(
     store: &mut Store<F, R>,
     transactions: &mut OpenTransactions,
     moved: u32,
 ) -> Moved
-    requires { CanCountAll F.state R.protocol store.old transactions.old moved }
-    ensures { CountsAll F.state store.old store.new transactions.old transactions.new moved result }
+    requires { CanAcknowledgeAll F.state R.protocol store.old transactions.old moved }
+    ensures { AcknowledgesAll F.state store.old store.new transactions.old transactions.new moved result }
 {
     let mut gone = 0;
     for turn in 0..moved {
         let at = (turn - gone) as usize;
-        gone += count_finished(acknowledge_page(store, transactions, at));
+        gone += one_if_done(acknowledge_page(store, transactions, at));
     }
     Moved {
         moved,

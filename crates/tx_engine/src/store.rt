@@ -184,12 +184,12 @@ impl<F: Flash, R: CommitRule> Store<F, R> {
     }
 
     /// Evicts each block that holds a record which must go before the version `below` of a page is programmed.
-    pub fn clear_superseded(&mut self, page: u32, below: u64) -> Result<(), Broken>
+    pub fn evict_blocks_to_go(&mut self, page: u32, below: u64) -> Result<(), Broken>
         requires { CanClear F.state R.protocol self.old
             (record { page = page; version = below }) }
         ensures { ClearsStored F.state R.protocol self.old self.new page below result }
     {
-        collector::clear_superseded(
+        collector::evict_blocks_to_go(
             &mut self.flash,
             &mut self.index,
             &mut self.blocks,

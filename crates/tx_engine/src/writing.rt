@@ -30,7 +30,7 @@ pub(crate) fn write_next<F: Flash, R: CommitRule>(
 {
     theorems::image_is_sound::<R>();
     theorems::noting_keeps::<R>();
-    clear_superseded(store, transactions, at)?;
+    evict_blocks_to_go(store, transactions, at)?;
     let slot = find_slot(store, transactions, at)?;
     let rec = next_record(store, transactions, at);
     if let Err(broken) = program(store, transactions, at, slot, rec) {
@@ -42,7 +42,7 @@ pub(crate) fn write_next<F: Flash, R: CommitRule>(
 }
 
 /// Evicts each block that holds a record which must go before the next page of the transaction at an index is written.
-fn clear_superseded<F: Flash, R: CommitRule>(
+fn evict_blocks_to_go<F: Flash, R: CommitRule>(
     store: &mut Store<F, R>,
     transactions: &OpenTransactions,
     at: usize,
@@ -54,7 +54,7 @@ fn clear_superseded<F: Flash, R: CommitRule>(
     theorems::array_stays::<R>();
     theorems::image_is_sound::<R>();
     let name = transactions.name(at, transactions.done_count(at));
-    store.clear_superseded(name.page, name.version)
+    store.evict_blocks_to_go(name.page, name.version)
 }
 
 /// The slot in which its record is programmed. Where no block has room one is collected first.
@@ -82,7 +82,7 @@ pub(crate) fn make_room<F: Flash, R: CommitRule>(
     requires { IsReadyFor F.state R.protocol store.old transactions.now at }
     ensures { MakesRoom F.state store.old store.new transactions.now (name_due transactions.now at) result }
 {
-    clear_superseded(store, transactions, at)?;
+    evict_blocks_to_go(store, transactions, at)?;
     if store.has_room() {
         return Ok(());
     }

@@ -8,7 +8,7 @@ ghost use Rattle.judged_records.specs.Numbered.{awaited};
 ghost use Rattle.slot_tables.specs.TablesState.{TablesState};
 ghost use Rattle.version_index.specs.Filling.{derived_by, number_by, AreNumbered, ArePut, AreUndecided, AreDecided};
 
-use crate::holding::hold_records;
+use crate::placing::place_records;
 use slot_tables::{SlotUse, TablesBuilder};
 use sorted_records::CurrentVersions;
 use tx_types::{Link, Protocol, Rec};
@@ -29,7 +29,7 @@ struct Near {
 
 /// Puts each record where it stands, and decides of it. Where no two records have one number both are done in one pass.
 /// Else all are put first, the last before the others, as each then goes in front of its copies.
-pub fn hold_and_decide(
+pub fn place_and_decide(
     tables: &mut TablesBuilder,
     logical: u32,
     standing: &CurrentVersions,
@@ -47,11 +47,11 @@ pub fn hold_and_decide(
         (record tables.old { slots = tables.new.slots }) tables.new (length standing.now.list) }
 {
     if share_numbers(numbers) {
-        hold_records(tables, standing.sorted_records().records(), numbers);
+        place_records(tables, standing.sorted_records().records(), numbers);
         decide_records(tables, logical, standing, numbers);
         return;
     }
-    hold_and_decide_each(tables, logical, standing, numbers);
+    place_and_decide_each(tables, logical, standing, numbers);
 }
 
 /// Whether two records have one number, as the last number tells where they are given from 0 on. Nothing but speed
@@ -64,7 +64,7 @@ fn share_numbers(numbers: &[u32]) -> bool {
 }
 
 /// Puts each record where it stands, and decides of it. This goes through the copies of a record that come before it.
-fn hold_and_decide_each(
+fn place_and_decide_each(
     tables: &mut TablesBuilder,
     logical: u32,
     standing: &CurrentVersions,

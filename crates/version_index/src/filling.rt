@@ -13,9 +13,9 @@ ghost use Rattle.version_index.specs.Filling.{AreFilled};
 ghost use Rattle.version_index.specs.Scanned.{CanFill};
 ghost use Rattle.version_index.specs.Tables.{notes_in};
 
-use crate::deciding::hold_and_decide;
-use crate::holding::hold_damaged;
+use crate::deciding::place_and_decide;
 use crate::numbering::{Numbering, number_records};
+use crate::placing::place_damaged;
 use flash_model::Seen;
 use record_list::Found;
 use slot_tables::{Tables, TablesBuilder};
@@ -100,8 +100,8 @@ fn fill(
 {
     let records = standing.sorted_records().records();
     let numbered = number_records(alloc, tables, logical, records)?;
-    hold_damaged(tables, seen);
-    hold_and_decide(tables, logical, standing, &numbered.numbers);
+    place_damaged(tables, seen);
+    place_and_decide(tables, logical, standing, &numbered.numbers);
     Ok(numbered)
 }
 

@@ -6,10 +6,10 @@ mod committing;
 mod counting;
 mod deciding;
 mod filling;
-mod holding;
 mod index;
 mod losing;
 mod mentioning;
 mod numbering;
+mod placing;
 
 pub use index::Index;

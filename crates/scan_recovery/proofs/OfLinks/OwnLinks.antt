@@ -7,7 +7,7 @@ use Rattle.std.proofs.lemmas.List.{get_or-set_same, get_or-set_other, length-set
 use Rattle.sorted_records.specs.SortedRecords.{SortsByLink}
 use Rattle.sorted_records.specs.NameGraph.{name_graph}
 use Rattle.sorted_records.specs.Orbits.{IsGraph}
-use Rattle.scan_recovery.specs.Searches.{HaveOwnLinks, AreLinkedOnce, AreMarked, AreAbsentOnce, IsAsBefore, NotesLink, HasAbsent}
+use Rattle.scan_recovery.specs.Searches.{HaveOwnLinks, AreLinkedOnce, AreTargetsMarked, AreAbsentOnce, IsAsBefore, NotesLink, HasAbsent}
 use Rattle.scan_recovery.proofs.OfLinks.SharedLinks.{one_name_beside}
 
 module _ (list : List Found) (at place : ℕ) (here : get_or (name_graph list) at None ≡ Some place) where
@@ -15,7 +15,7 @@ module _ (list : List Found) (at place : ℕ) (here : get_or (name_graph list) a
   same_place k p e link = same_Some p place (sym link ∙ ap (λ n. get_or (name_graph list) n None) e ∙ here)
 
   -- a record whose link leads to a place that is not marked
-  once_new : (old : List Bool) → AreMarked list old at → AreLinkedOnce list at → get_or old place false ≡ false →
+  once_new : (old : List Bool) → AreTargetsMarked list old at → AreLinkedOnce list at → get_or old place false ≡ false →
       AreLinkedOnce list (at + 1)
   once_new old marked once free i j p link_i low_i link_j low_j = elim (cases_order i at) [
     | inl e ↦ elim (cases_order j at) [
@@ -57,8 +57,8 @@ module _ (list : List Found) (at place : ℕ) (here : get_or (name_graph list) a
       ]
 
   -- a place that is marked now, or was before
-  marked_more : (old : List Bool) → AreMarked list old at → place < length old →
-      AreMarked list (set old place true) (at + 1)
+  marked_more : (old : List Bool) → AreTargetsMarked list old at → place < length old →
+      AreTargetsMarked list (set old place true) (at + 1)
   marked_more old marked room k p low link = elim (cases_order p place) [
     | inl e ↦ ap (λ n. get_or (set old place true) n false) e ∙ get_or-set_same old place true false room
     | inr other ↦ elim (cases_order k at) [
@@ -70,7 +70,7 @@ module _ (list : List Found) (at place : ℕ) (here : get_or (name_graph list) a
     ]
   ]
 
-  marked_stays : (old : List Bool) → AreMarked list old at → get_or old place false ≡ true → AreMarked list old (at + 1)
+  marked_stays : (old : List Bool) → AreTargetsMarked list old at → get_or old place false ≡ true → AreTargetsMarked list old (at + 1)
   marked_stays old marked was k p low link = elim (cases_order k at) [
     | inl e ↦ ap (λ n. get_or old n false) (same_place k p e link) ∙ was
     | inr (inl less) ↦ marked k p less link
@@ -79,24 +79,24 @@ module _ (list : List Found) (at place : ℕ) (here : get_or (name_graph list) a
 
   -- one more record whose link leads to a place
   pub linked : (old new : List Bool) (was : Bool) → get_or old place false ≡ was → length old ≡ length list →
-      AreMarked list old at →
+      AreTargetsMarked list old at →
       AreLinkedOnce list at → place < length list → NotesLink list (name_graph list) old new place at was true →
-      (length new ≡ length list) × AreMarked list new (at + 1) × AreLinkedOnce list (at + 1)
+      (length new ≡ length list) × AreTargetsMarked list new (at + 1) × AreLinkedOnce list (at + 1)
   linked old new false is size marked once room notes = (
     ap length notes.0 ∙ length-set old place true ∙ size,
-    subst (λ l. AreMarked list l (at + 1)) (sym notes.0) (marked_more old marked (omega arith)),
+    subst (λ l. AreTargetsMarked list l (at + 1)) (sym notes.0) (marked_more old marked (omega arith)),
     once_new old marked once is,
   )
   linked old new true is size marked once room notes = (
     ap length notes.0 ∙ size,
-    subst (λ l. AreMarked list l (at + 1)) (sym notes.0) (marked_stays old marked is),
+    subst (λ l. AreTargetsMarked list l (at + 1)) (sym notes.0) (marked_stays old marked is),
     once_alike once (notes.1 refl),
   )
 
 -- and one whose link leads to none
-pub unlinked : (list : List Found) (old : List Bool) (at : ℕ) → AreMarked list old at → AreLinkedOnce list at →
+pub unlinked : (list : List Found) (old : List Bool) (at : ℕ) → AreTargetsMarked list old at → AreLinkedOnce list at →
     get_or (name_graph list) at None ≡ None →
-    AreMarked list old (at + 1) × AreLinkedOnce list (at + 1)
+    AreTargetsMarked list old (at + 1) × AreLinkedOnce list (at + 1)
 unlinked list old at marked once none = (
   λ k p low link. marked k p (earlier k p low link) link,
   λ i j p link_i low_i link_j low_j. once i j p link_i (earlier i p low_i link_i) link_j (earlier j p low_j link_j),

@@ -1,5 +1,5 @@
 -- A path that is followed: a node more, and its last node decided.
-use Rattle.sorted_records.proofs.Common.{◌≡◌, ◌≢◌, ℕ, suc, ◌<◌, ◌≤◌, Option, Some, None, List, [], ◌∷◌, ◌++◌, length, get_or, refl, sym, ap, ◌∙◌, subst, inl, inr, arith, cases_eq, cases_lt, length-set, Orbit, Ends, Round, Aside, Seen, New, OnPath, Known, IsGraph, next_of, steps, IsOrbit, seen_at, IsFollowed, IsBehind, Continues, StaysSeen}
+use Rattle.sorted_records.proofs.Common.{◌≡◌, ◌≢◌, ℕ, suc, ◌<◌, ◌≤◌, Option, Some, None, List, [], ◌∷◌, ◌++◌, length, get_or, refl, sym, ap, ◌∙◌, subst, inl, inr, arith, cases_eq, cases_lt, length-set, Orbit, Ends, Round, Aside, Seen, New, OnPath, Known, IsGraph, next_of, steps, IsOrbit, seen_at, IsFollowed, IsBehind, ComesAfterPath, StaysSeen}
 use Rattle.std.proofs.Common.{◌^◌, set}
 use Rattle.std.proofs.lemmas.List.{length_push, get_or_push, get_or_append_left, get_or_past}
 use Rattle.sorted_records.specs.Seen.{IsKnown, LeadsToKnown, IsStarted, LeadsNoFurther, orbit_before}
@@ -59,7 +59,7 @@ module _ (graph : List (Option ℕ)) where
   -- a new node that comes after the last one goes to its end
   pub path_more : (seen : List Seen) (path : List ℕ) (i : ℕ) → IsFollowed graph seen path → seen_at seen i ≡ New →
       i < length seen →
-      Continues graph path i → IsFollowed graph (set seen i (OnPath (length path))) (path ++ i ∷ [])
+      ComesAfterPath graph path i → IsFollowed graph (set seen i (OnPath (length path))) (path ++ i ∷ [])
   path_more seen path i is new within comes = record {
     size = length-set seen i (OnPath (length path)) ∙ is.size;
     right = λ j orbit known. elim (cases_eq j i) [
@@ -122,14 +122,14 @@ module _ (graph : List (Option ℕ)) where
   -- and so it does by other names
   pub path_taken : (seen new : List Seen) (path longer : List ℕ) (i : ℕ) → IsFollowed graph seen path →
       seen_at seen i ≡ New →
-      i < length graph → Continues graph path i → new ≡ set seen i (OnPath (length path)) → longer ≡ path ++ i ∷ [] →
+      i < length graph → ComesAfterPath graph path i → new ≡ set seen i (OnPath (length path)) → longer ≡ path ++ i ∷ [] →
       IsFollowed graph new longer
   path_taken seen new path longer i is fresh within comes e f =
       rw (e, f) (path_more seen path i is fresh (let s = is.size in omega arith) comes)
 
   -- what comes after its new last node
   pub comes_after : (path longer : List ℕ) (i j : ℕ) → longer ≡ path ++ i ∷ [] → next_of graph i ≡ Some j →
-      Continues graph longer j
+      ComesAfterPath graph longer j
   comes_after path longer i j e next k here =
       let l = length_push path i in
       let f = ap length e in
@@ -138,10 +138,10 @@ module _ (graph : List (Option ℕ)) where
   -- a node of it that comes after its last closes a ring
   pub path_closes : (seen : List Seen) (path : List ℕ) (j place : ℕ) → IsFollowed graph seen path →
       seen_at seen j ≡ OnPath place →
-      Continues graph path j → (place < length path) × Continues graph path (get_or path place 0)
+      ComesAfterPath graph path j → (place < length path) × ComesAfterPath graph path (get_or path place 0)
   path_closes seen path j place is on comes =
       let at = is.placed j place on in
-      (at.0, subst (Continues graph path) (sym at.1) comes)
+      (at.0, subst (ComesAfterPath graph path) (sym at.1) comes)
 
   -- its last node leaves it when its orbit is known, and what comes after it
   pub path_less : (seen : List Seen) (path : List ℕ) (i : ℕ) (orbit : Orbit) → IsFollowed graph seen (path ++ i ∷ []) →

@@ -1,5 +1,5 @@
 -- Transactions that go on at once go on as one after another: first all records were noted, and then each was counted.
-use Rattle.tx_engine.proofs.Common.{◌≡◌, ◌≢◌, ℕ, ◌+◌, true, false, List, [], ◌∷◌, ◌++◌, length, map, All, AllPairs, Some, refl, sym, ap, ap₂, ◌∙◌, subst, inl, inr, eq-eqb, ne_eqb, if◌then◌else◌, cases_eq, cond-true, cond-false, append_assoc, All-head, All-tail, All-cons, All-nil, All-append, all_from, pairs_head, pairs_tail, GoInTurn, Progress, Plain, Whole, ArrayState, Entry, Pages, entry_of, has_tag, put, with_entry, without, CountInTurn, taken_writes, takes_each, is_plain, Counts, is_at_last, GoesOn}
+use Rattle.tx_engine.proofs.Common.{◌≡◌, ◌≢◌, ℕ, ◌+◌, true, false, List, [], ◌∷◌, ◌++◌, length, map, All, AllPairs, Some, refl, sym, ap, ap₂, ◌∙◌, subst, inl, inr, eq-eqb, ne_eqb, if◌then◌else◌, cases_eq, cond-true, cond-false, append_assoc, All-head, All-tail, All-cons, All-nil, All-append, all_from, pairs_head, pairs_tail, GoInTurn, Progress, Plain, Whole, ArrayState, Entry, Pages, entry_of, has_tag, put, with_entry, without, AcknowledgeInTurn, taken_writes, takes_each, is_plain, Counts, is_at_last, GoesOn}
 use Rattle.array_machine.specs.declared.answers.Progress.TheVariants as progress
 use Rattle.tx_engine.specs.Exits.{plain_writes}
 
@@ -153,7 +153,7 @@ goes_first pages written before e es rest p mid plain h c = elim (cases_eq (e.do
 pub go_in_turn : (es : List Entry) (pages written : Pages) (before rest : List Entry) (ps : List Progress)
     (new : ArrayState) → All (λ e. e.mark ≡ Plain) es →
     TagsApart before es → AllPairs (λ a b. a.tag ≢ b.tag) es → written ≡ takes_each pages es →
-    CountInTurn (state_in written (before ++ (map marked es ++ rest))) (map marked es) ps new →
+    AcknowledgeInTurn (state_in written (before ++ (map marked es ++ rest))) (map marked es) ps new →
     GoInTurn (state_in pages (before ++ (es ++ rest))) es ps new
 go_in_turn [] pages written before rest [] new plain apart pairs is h = h ∙ same_state written pages _ _ is refl
 go_in_turn [] pages written before rest (p ∷ ps) new plain apart pairs is h = absurd h
@@ -172,6 +172,6 @@ go_in_turn (e ∷ es) pages written before rest (p ∷ ps) new plain apart pairs
         go_in_turn es g.pages_now written g.before_now rest ps new (All-tail (λ (y : Entry). y.mark ≡ Plain) e es plain)
             later
             (pairs_tail (λ (a b : Entry). a.tag ≢ b.tag) e es pairs) (is ∙ ap (λ qs. takes_each qs es) (sym g.taken))
-            (subst (λ (s : ArrayState). CountInTurn s (map marked es) ps new) g.mid_is h.2),
+            (subst (λ (s : ArrayState). AcknowledgeInTurn s (map marked es) ps new) g.mid_is h.2),
       ),
     )

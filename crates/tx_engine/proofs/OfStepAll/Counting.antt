@@ -1,5 +1,5 @@
 -- The first transactions, whose next pages are noted, go on without the flash, one after another.
-use Rattle.tx_engine.proofs.Common.{◌≡◌, ℕ, ◌+◌, ◌-◌, ◌<◌, ◌≤◌, false, List, [], ◌∷◌, ◌++◌, length, get_or, refl, sym, ap, ap₂, ◌∙◌, subst, arith, if◌then◌else◌, get_or-map, get_or-set_other, length-map, length-set, take_more, Protocol, FlashState, Carries-nothing, FlashMoves-nothing, Progress, ArrayState, Entry, CanCountAll, CountInTurn, IsReady, Exits, OpenTransactionsState, TransactionState, HasLimitsOf, entries_of, no_transaction, transaction_at, with_done, Counts, StoreState, device_in}
+use Rattle.tx_engine.proofs.Common.{◌≡◌, ℕ, ◌+◌, ◌-◌, ◌<◌, ◌≤◌, false, List, [], ◌∷◌, ◌++◌, length, get_or, refl, sym, ap, ap₂, ◌∙◌, subst, arith, if◌then◌else◌, get_or-map, get_or-set_other, length-map, length-set, take_more, Protocol, FlashState, Carries-nothing, FlashMoves-nothing, Progress, ArrayState, Entry, CanAcknowledgeAll, AcknowledgeInTurn, IsReady, Exits, OpenTransactionsState, TransactionState, HasLimitsOf, entries_of, no_transaction, transaction_at, with_done, Counts, StoreState, device_in}
 use Rattle.std.specs.Prelude.{count_by, take}
 use Rattle.std.proofs.lemmas.List.Edits.{get_or-remove_above, length-remove}
 use Rattle.std.proofs.lemmas.List.Sums.{sum_by-append}
@@ -10,8 +10,8 @@ use Rattle.tx_engine.specs.Calls.{CountsNext, counted_on}
 use Rattle.tx_engine.proofs.OfDevice.ExitsThen.{exits_still, exits_then}
 
 in_turn_push : (es : List Entry) (ps : List Progress) (old mid new : ArrayState) (e : Entry) (p : Progress) →
-    CountInTurn old es ps mid →
-    Counts mid e.tag e p new → CountInTurn old (es ++ e ∷ []) (ps ++ p ∷ []) new
+    AcknowledgeInTurn old es ps mid →
+    Counts mid e.tag e p new → AcknowledgeInTurn old (es ++ e ∷ []) (ps ++ p ∷ []) new
 in_turn_push [] [] old mid new e p h c = (new, subst (λ (s : ArrayState). Counts s e.tag e p new) h c, refl)
 in_turn_push [] (q ∷ ps) old mid new e p h c = absurd h
 in_turn_push (x ∷ es) [] old mid new e p h c = absurd h
@@ -47,7 +47,7 @@ pub record CountedTo {F : Type 0} (state : F → FlashState) (p : Protocol) (S0 
   pub low : gone ≤ turn
   pub ready : IsReady state p S O
   pub each : List Progress
-  pub counts : CountInTurn (device_in state S0 O0).machine (take turn (entries_of O0)) each
+  pub counts : AcknowledgeInTurn (device_in state S0 O0).machine (take turn (entries_of O0)) each
       (device_in state S O).machine
   pub finished : gone ≡ count_by is_done each
   pub exits : Exits state (device_in state S0 O0) (device_in state S O) false
@@ -75,7 +75,7 @@ module _ {F : Type 0} (state : F → FlashState) (p : Protocol) (S0 : StoreState
 
   module _ (S S' : StoreState F) (O O' : OpenTransactionsState) (gone turn at moved : ℕ)
       (h : CountedTo state p S0 S O0 O gone turn) (less : turn < moved)
-      (can : CanCountAll state p S0 O0 moved) (is : at ≡ turn - gone) where
+      (can : CanAcknowledgeAll state p S0 O0 moved) (is : at ≡ turn - gone) where
     same_transaction : transaction_at O at ≡ transaction_at O0 turn
     same_transaction = ap (transaction_at O) is ∙ h.later turn (omega arith) (let w = can.within in omega arith)
 
@@ -110,7 +110,7 @@ module _ {F : Type 0} (state : F → FlashState) (p : Protocol) (S0 : StoreState
           sure = next.sure;
         };
         each = h.each ++ progress ∷ [];
-        counts = subst (λ es. CountInTurn (device_in state S0 O0).machine es (h.each ++ progress ∷ [])
+        counts = subst (λ es. AcknowledgeInTurn (device_in state S0 O0).machine es (h.each ++ progress ∷ [])
             (device_in state S' O').machine) (sym its_at)
             (in_turn_push (take turn (entries_of O0)) h.each (device_in state S0 O0).machine
             (device_in state S O).machine (device_in state S' O').machine

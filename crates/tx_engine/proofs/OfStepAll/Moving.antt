@@ -1,12 +1,12 @@
 -- Several open transactions that go on together: from what is planned to what is counted.
-use Rattle.tx_engine.proofs.Common.{◌≡◌, ◌≢◌, ℕ, ◌<◌, ◌==◌, false, eq-eqb, List, [], ◌∷◌, length, Ok, Err, refl, sym, ap, ◌∙◌, subst, arith, both_ways, length-map, Config, Protocol, Slot, FlashState, Broken, Moved, CanCountAll, CanWriteAll, CountsAll, DroppedAll, MovesAll, WrittenAll, chosen_now, jobs_of, OpenTransactionsState, TransactionState, transaction_at, CountsOn, StoreState, Job}
+use Rattle.tx_engine.proofs.Common.{◌≡◌, ◌≢◌, ℕ, ◌<◌, ◌==◌, false, eq-eqb, List, [], ◌∷◌, length, Ok, Err, refl, sym, ap, ◌∙◌, subst, arith, both_ways, length-map, Config, Protocol, Slot, FlashState, Broken, Moved, CanAcknowledgeAll, CanWriteAll, AcknowledgesAll, DroppedAll, StepsTogether, WrittenAll, chosen_now, jobs_of, OpenTransactionsState, TransactionState, transaction_at, CountsOn, StoreState, Job}
 use Rattle.tx_engine.proofs.OfStep.AdvanceExits.{next_ready}
 use Rattle.tx_engine.proofs.OfStepAll.Nexts.{AreDue, are_due, next_at, nexts_long}
 
 -- what was written at once may be counted
 pub written_counts : {F : Type 0} (state : F → FlashState) (p : Protocol) (S S1 : StoreState F)
     (O O1 : OpenTransactionsState) (jobs : List Job) →
-    CanWriteAll state p S O jobs → WrittenAll state S S1 O O1 jobs → CanCountAll state p S1 O1 (length jobs)
+    CanWriteAll state p S O jobs → WrittenAll state S S1 O O1 jobs → CanAcknowledgeAll state p S1 O1 (length jobs)
 written_counts state p S S1 O O1 jobs can w =
     let due : AreDue O (length jobs) = are_due S.noted S.table O jobs can.due in
     record {
@@ -47,7 +47,7 @@ module _ {F : Type 0} (state : F → FlashState) (S T W : StoreState F) (O OW : 
 
   pub moved_chosen : (S' : StoreState F) (O' : OpenTransactionsState) (moved : ℕ) (answer : Moved) →
       WrittenAll state T W O OW jobs →
-      CountsAll state W S' OW O' moved answer → moved ≡ length jobs → MovesAll state S S' O O' (Ok answer)
+      AcknowledgesAll state W S' OW O' moved answer → moved ≡ length jobs → StepsTogether state S S' O O' (Ok answer)
   moved_chosen S' O' moved answer w counts is = record {
     none = λ none. absurd (not_none none);
     first = λ any none. absurd (not_first none);
@@ -57,14 +57,14 @@ module _ {F : Type 0} (state : F → FlashState) (S T W : StoreState F) (O OW : 
       moved = (
         subst (λ (X : StoreState F). WrittenAll state X W O OW (jobs_of S.noted (chosen_now S O))) same
             (subst (WrittenAll state T W O OW) its w),
-        subst (λ m. CountsAll state W S' OW O' m answer) (is ∙ ap length its ∙ length-map (chosen_now S O) _) counts,
+        subst (λ m. AcknowledgesAll state W S' OW O' m answer) (is ∙ ap length its ∙ length-map (chosen_now S O) _) counts,
       );
       broken = tt;
       kept = tt;
     };
   }
 
-  pub moved_broken : (b : Broken) → DroppedAll state T W O jobs → OW ≡ O → MovesAll state S W O OW (Err b)
+  pub moved_broken : (b : Broken) → DroppedAll state T W O jobs → OW ≡ O → StepsTogether state S W O OW (Err b)
   moved_broken b broken kept = record {
     none = λ none. absurd (not_none none);
     first = λ any none. absurd (not_first none);

@@ -2,7 +2,7 @@ ghost use Rattle.std.specs.Prelude.{◌≡◌, ◌<◌, false};
 ghost use Rattle.tx_engine.specs.Batches.{StepsAllDevice};
 
 use crate::Device;
-use crate::batches::move_all;
+use crate::batches::step_together;
 use crate::settling::settle;
 use crate::theorems::{crash_states, device_invariant};
 use array_machine::{Fault, Moved};
@@ -24,7 +24,7 @@ impl<F: Wide, R: CommitRule> Device<F, R> {
             self.dropped = true;
             return Err(Fault);
         };
-        let Ok(moved) = move_all(&mut self.store, &mut self.transactions, &mut self.room.jobs)
+        let Ok(moved) = step_together(&mut self.store, &mut self.transactions, &mut self.room.jobs)
         else {
             self.dropped = true;
             return Err(Fault);

@@ -1,7 +1,7 @@
 use Rattle.std.proofs.Common.{◌≡◌, refl, arith, Some}
 use Rattle.tx_types.specs.Config.{checked}
 use Rattle.desk_io.specs.Disk.{FindsBoth}
-use Rattle.desk_tasks.specs.Ending.{Ending, Driven}
+use Rattle.desk_tasks.specs.Ending.{Ending, SummedUp}
 use Rattle.desk_tasks.specs.Steps.{formatting}
 use Rattle.desk_tasks.specs.Request.{Drive, Format}
 use Rattle.desk_tasks.proofs.Works.{found_none, works}
@@ -29,6 +29,6 @@ returns-in-Some-Drive-clause-works g c =
     let desk = g.D.Desk.state c.args.desk.now in
     let done = works (Some (Drive start count protocol)) (FindsBoth desk (g.D.Desk.disk c.args.desk.now)) desk desk 0
     (λ (ending : Ending). ending
-    ≡ Driven start count protocol) c.do_drive.result
+    ≡ SummedUp start count protocol) c.do_drive.result
     refl (omega arith) (found_none desk) (λ ending h. (h, refl)) c.do_drive.ensures in
     rw (← asks) done

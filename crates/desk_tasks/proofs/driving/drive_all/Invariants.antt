@@ -4,8 +4,8 @@ use Rattle.host_protocol.specs.Commands.{Suits}
 use Rattle.host_protocol.specs.declared.command.Command.{Command}
 use Rattle.cut_replay.specs.Sessions.{IsSoundOrSame, flash_in}
 use Rattle.drive_gen.specs.Parts.{left_of, parts_left}
-use Rattle.desk_tasks.specs.Driving.{HasDriven}
-use Rattle.desk_tasks.proofs.DriveLemmas.{IsDriving}
+use Rattle.desk_tasks.specs.Driving.{HasRunCounted}
+use Rattle.desk_tasks.proofs.DriveLemmas.{HasPartCounted}
 use Rattle.desk_tasks.proofs.driving.drive_all.Given as goal
 
 abbrev pub invariant-loop-server : goal.invariant-loop-server
@@ -14,8 +14,8 @@ invariant-loop-server g l = record {
   work : l.work.config ≡ l.initial.work.config;
   suits : All (Suits l.initial.server.config.page_bytes) (left_of l.work);
   runs : (flash : MemFlashState) → (commands : List Command) →
-      HasDriven l.initial.server.config flash commands l.initial.server.session l.initial.tally →
-      IsDriving l.initial.server.config flash (commands ++ left_of l.initial.work) (left_of l.work) l.server.session
+      HasRunCounted l.initial.server.config flash commands l.initial.server.session l.initial.tally →
+      HasPartCounted l.initial.server.config flash (commands ++ left_of l.initial.work) (left_of l.work) l.server.session
       l.tally;
   kept : (flash : MemFlashState) →
       IsSoundOrSame l.initial.server.config (state_of flash) (state_of (flash_in l.initial.server.session)) →

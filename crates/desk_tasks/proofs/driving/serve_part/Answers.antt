@@ -4,7 +4,7 @@ use Rattle.std.proofs.lemmas.List.{take_all}
 use Rattle.host_protocol.specs.Commands.{Suits}
 use Rattle.host_protocol.specs.declared.command.Command.{Command}
 use Rattle.cut_replay.specs.Sessions.{flash_in}
-use Rattle.desk_tasks.specs.Driving.{HasDriven}
+use Rattle.desk_tasks.specs.Driving.{HasRunCounted}
 use Rattle.desk_tasks.proofs.DriveLemmas.{kept_by, part_more, refused_by}
 use Rattle.desk_tasks.proofs.driving.serve_part.Goals as goal
 
@@ -13,7 +13,7 @@ loop-command-init g c = record {
   config = refl;
   runs = λ flash commands h.
       subst (λ (cs : List Command).
-      HasDriven c.args.server.now.config flash cs c.args.server.now.session c.args.tally.now)
+      HasRunCounted c.args.server.now.config flash cs c.args.server.now.session c.args.tally.now)
       (sym (append-nil commands)) h;
   kept = λ flash h. h;
 }
@@ -57,5 +57,5 @@ returns-in_err-serve_counted-clause-refuses g c = λ flash h.
 pub returns-clause-runs : goal.returns-clause-runs
 returns-clause-runs g c = λ flash commands h.
     let at = c.loop-command in
-    subst (λ (l : List Command). HasDriven c.args.server.now.config flash (commands ++ l) at.server.session at.tally)
+    subst (λ (l : List Command). HasRunCounted c.args.server.now.config flash (commands ++ l) at.server.session at.tally)
     (take_all at.command-index c.args.part.now c.loop-command-test.false) (at.invariant.runs flash commands h)

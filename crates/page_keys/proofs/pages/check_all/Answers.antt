@@ -4,15 +4,15 @@ use Rattle.std.specs.Prelude.{Err, IfErr}
 use Rattle.tx_types.specs.declared.memory.Memory.{Memory}
 use Rattle.page_keys.specs.declared.answers.KeyError.{KeyError}
 use Rattle.page_keys.proofs.OfStore.StoreReads.{reads_then, bucket_read, bucket_back}
-use Rattle.page_keys.specs.Stores.{is_key_fault}
+use Rattle.page_keys.specs.Stores.{is_opening_fault}
 use Rattle.page_keys.proofs.pages.check_all.Goals as goal
 
 okay : (b d : Bool) → b ≡ d → let left : Result Bool Memory = Ok b in left ≡ Ok d
 okay b d same = ap (λ (x : Bool). let r : Result Bool Memory = Ok x in r) same
 
 -- what holds by whether an error is a fault
-by_fault : {X : Type 0} (r : Result X KeyError) (P : Bool → Type 0) (b : Bool) → IfErr r (λ e. is_key_fault e ≡ b) →
-    P b → IfErr r (λ e. P (is_key_fault e))
+by_fault : {X : Type 0} (r : Result X KeyError) (P : Bool → Type 0) (b : Bool) → IfErr r (λ e. is_opening_fault e ≡ b) →
+    P b → IfErr r (λ e. P (is_opening_fault e))
 by_fault (Ok x) P b is h = tt
 by_fault (Err e) P b is h = subst P (sym is) h
 

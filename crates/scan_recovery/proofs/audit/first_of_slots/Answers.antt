@@ -9,32 +9,32 @@ returns-in-Some c =
     (least_current s.protocol c.args.list.now s.list s.logical r.scanned r.sorts r.pages r.copies c.in-Some.at r.links
     c.in-Some.ensures)
 
-pub returns-in-Some-early_link : goal.returns-in-Some-early_link
-returns-in-Some-early_link c =
+pub returns-in-Some-first_early_link : goal.returns-in-Some-first_early_link
+returns-in-Some-first_early_link c =
     let s = c.args.standing.now in
     let r = c.requires in
-    rw c.breach_at-in-Some-early_link.ensures
+    rw c.breach_at-in-Some-first_early_link.ensures
     (least_counted s.protocol c.args.list.now s.list s.logical r.scanned r.sorts r.pages r.copies r.links
     c.in_default.ensures
-    c.in-Some-early_link.at c.in-Some-early_link.ensures)
+    c.in-Some-first_early_link.at c.in-Some-first_early_link.ensures)
 
-pub returns-in-Some-unshown : goal.returns-in-Some-unshown
-returns-in-Some-unshown c =
+pub returns-in-Some-first_unshown : goal.returns-in-Some-first_unshown
+returns-in-Some-first_unshown c =
     let s = c.args.standing.now in
     let r = c.requires in
-    rw c.breach_at-in-Some-unshown.ensures
+    rw c.breach_at-in-Some-first_unshown.ensures
     (least_loose s.protocol c.args.list.now s.list s.logical r.scanned r.sorts r.pages r.copies r.links
     c.in_default.ensures
-    c.in_default-early_link.ensures c.in-Some-unshown.at c.in-Some-unshown.ensures)
+    c.in_default-first_early_link.ensures c.in-Some-first_unshown.at c.in-Some-first_unshown.ensures)
 
-pub returns-in-Some-endless : goal.returns-in-Some-endless
-returns-in-Some-endless c =
+pub returns-in-Some-first_endless : goal.returns-in-Some-first_endless
+returns-in-Some-first_endless c =
     let s = c.args.standing.now in
     let r = c.requires in
-    rw c.breach_at-in-Some-endless.ensures
+    rw c.breach_at-in-Some-first_endless.ensures
     (least_ending s.protocol c.args.list.now s.list s.logical r.scanned r.sorts r.pages r.copies r.links
     c.in_default.ensures
-    c.in_default-early_link.ensures c.in_default-unshown.ensures c.in-Some-endless.at c.in-Some-endless.ensures)
+    c.in_default-first_early_link.ensures c.in_default-first_unshown.ensures c.in-Some-first_endless.at c.in-Some-first_endless.ensures)
 
 pub returns : goal.returns
 returns c =
@@ -42,4 +42,4 @@ returns c =
     let r = c.requires in
     sound_list s.protocol c.args.list.now s.list s.logical r.scanned r.sorts r.pages r.copies r.links
     c.in_default.ensures
-    c.in_default-early_link.ensures c.in_default-unshown.ensures c.in_default-endless.ensures
+    c.in_default-first_early_link.ensures c.in_default-first_unshown.ensures c.in_default-first_endless.ensures

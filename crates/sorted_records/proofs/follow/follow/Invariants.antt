@@ -1,4 +1,4 @@
-use Rattle.sorted_records.proofs.Common.{◌≡◌, ◌<◌, ◌-◌, length, New, seen_at, IsFollowed, Continues, StaysSeen}
+use Rattle.sorted_records.proofs.Common.{◌≡◌, ◌<◌, ◌-◌, length, New, seen_at, IsFollowed, ComesAfterPath, StaysSeen}
 use Rattle.sorted_records.specs.Seen.{IsStarted}
 use Rattle.sorted_records.proofs.follow.follow.Given as goal
 
@@ -7,7 +7,7 @@ invariant-loop-next l = record {
   followed : IsFollowed l.graph l.seen l.path.items;
   within : l.at < length l.graph;
   new : seen_at l.seen l.at ≡ New;
-  comes : Continues l.graph l.path.items l.at;
+  comes : ComesAfterPath l.graph l.path.items l.at;
   seen : StaysSeen l.fn.seen l.seen;
   started : IsStarted l.seen l.start l.at;
 }

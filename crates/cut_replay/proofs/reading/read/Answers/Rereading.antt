@@ -11,7 +11,7 @@ use Rattle.array_machine.specs.declared.answers.ReadAnswer.{ReadAnswer}
 use Rattle.array_machine.specs.declared.answers.ReadAnswer.TheVariants as answer
 use Rattle.array_machine.specs.declared.answers.ReadError.{ReadError}
 use Rattle.array_machine.specs.declared.answers.ReadError.TheVariants as unread
-use Rattle.cut_replay.specs.Mounted.{is_cached, ReadsThrough, ReadsOnce, CachesRead, CachesPage, KeepsPage, brought_forward, with_page}
+use Rattle.cut_replay.specs.Mounted.{is_cached, ReadsThrough, ReadsPageOnce, CachesRead, CachesPage, KeepsPage, brought_forward, with_page}
 
 -- one read more where it is counted
 abbrev CountsOne : Bool → FlashState → FlashState → Type 0
@@ -79,7 +79,7 @@ pub reads_once : {F : Type 0} (state : F → FlashState) (old new : DeviceState 
     (result : Result ReadAnswer ReadError) →
     ReadsPage old.config.logical old.machine.pages page after result →
     ReadsThrough state old new entries page before after result →
-    ReadsOnce state old new entries page
+    ReadsPageOnce state old new entries page
 reads_once state old new entries page before after result reads through =
     through_counts state old new page before after result
     (is_cached old entries page) reads through

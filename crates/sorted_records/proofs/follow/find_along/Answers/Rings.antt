@@ -1,5 +1,5 @@
 -- The nodes of a path from the one on that comes after its last are a ring.
-use Rattle.sorted_records.proofs.Common.{◌≡◌, ◌≢◌, ℕ, zero, suc, ◌+◌, ◌-◌, ◌<◌, ◌≤◌, ◌⊎◌, Option, Some, List, length, get_or, take, drop, refl, sym, ap, ◌∙◌, subst, inl, inr, arith, cases_lt, Orbit, Round, Seen, New, OnPath, Known, next_of, steps, IsRound, IsOrbit, seen_at, IsFollowed, IsBehind, Continues, StaysSeen}
+use Rattle.sorted_records.proofs.Common.{◌≡◌, ◌≢◌, ℕ, zero, suc, ◌+◌, ◌-◌, ◌<◌, ◌≤◌, ◌⊎◌, Option, Some, List, length, get_or, take, drop, refl, sym, ap, ◌∙◌, subst, inl, inr, arith, cases_lt, Orbit, Round, Seen, New, OnPath, Known, next_of, steps, IsRound, IsOrbit, seen_at, IsFollowed, IsBehind, ComesAfterPath, StaysSeen}
 use Rattle.std.proofs.Common.{All}
 use Rattle.std.proofs.lemmas.List.{get_or-drop, get_or-take, length-drop, length-take-le}
 use Rattle.std.proofs.lemmas.List.Elements.{All-from_get_or}
@@ -28,7 +28,7 @@ path_within graph seen path place is =
     (λ new. let e = is.noted (place + k) (omega arith) in cc)))
 
 module _ (graph : List (Option ℕ)) (seen : List Seen) (path : List ℕ) (place : ℕ) (is : IsFollowed graph seen path)
-    (low : place < length path) (ring : Continues graph path (get_or path place 0)) where
+    (low : place < length path) (ring : ComesAfterPath graph path (get_or path place 0)) where
   apart : (a b : ℕ) → a < length path → b < length path → get_or path a 0 ≡ get_or path b 0 → a ≡ b
   apart a b la lb same = let e = is.noted a la in let f = is.noted b lb in let g = ap (seen_at seen) same in cc
 

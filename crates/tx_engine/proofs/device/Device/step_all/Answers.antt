@@ -24,18 +24,18 @@ returns-in_default g c =
           c.in_default.ensures);
     }
 
-pub invariant_of-self-in-Ok-move_all : goal.invariant_of-self-in-Ok-move_all
-invariant_of-self-in-Ok-move_all g c =
+pub invariant_of-self-in-Ok-step_together : goal.invariant_of-self-in-Ok-step_together
+invariant_of-self-in-Ok-step_together g c =
     let state = g.F.Flash.state in let p = g.R.CommitRule.protocol in
     let S = c.self.inside.store in let O = c.self.inside.transactions in
     let S1 = c.settle.new.store in let O1 = c.settle.new.transactions in
-    let S2 = c.move_all.new.store in let O2 = c.move_all.new.transactions in
+    let S2 = c.step_together.new.store in let O2 = c.step_together.new.transactions in
     let stands = kept_stands state c.self.inside _ c.self.view_is c.requires.kept p c.self.invariant in
     let st = c.in-Ok.ensures in
     let size = st.limits.page_bytes ∙ c.self.invariant.page_bytes
     ∙ ap (λ (k : Config). k.page_bytes) (sym st.exits.tables.config) in
-    let its = all_moved state p S S1 S2 O O1 O2 _ stands c.self.invariant.rule st size c.in-Ok-move_all.moved
-    c.in-Ok-move_all.ensures.moves in
+    let its = all_moved state p S S1 S2 O O1 O2 _ stands c.self.invariant.rule st size c.in-Ok-step_together.moved
+    c.in-Ok-step_together.ensures.moves in
     let kept = kept_is state p c.self.inside S2 O2 c.self.invariant its.still its.moves.exits.tables.config
     (limits_then O O1 O2 st.limits its.limits) in
     record {
@@ -46,19 +46,19 @@ invariant_of-self-in-Ok-move_all g c =
       pending = kept.pending;
     }
 
-pub invariant_of-self-in_default-move_all : goal.invariant_of-self-in_default-move_all
-invariant_of-self-in_default-move_all g c =
+pub invariant_of-self-in_default-step_together : goal.invariant_of-self-in_default-step_together
+invariant_of-self-in_default-step_together g c =
     let state = g.F.Flash.state in let p = g.R.CommitRule.protocol in
     let S = c.self.inside.store in let O = c.self.inside.transactions in
     let S1 = c.settle.new.store in let O1 = c.settle.new.transactions in
-    let S2 = c.move_all.new.store in let O2 = c.move_all.new.transactions in
+    let S2 = c.step_together.new.store in let O2 = c.step_together.new.transactions in
     let stands = kept_stands state c.self.inside _ c.self.view_is c.requires.kept p c.self.invariant in
     let st = c.in-Ok.ensures in
     let size = st.limits.page_bytes ∙ c.self.invariant.page_bytes
     ∙ ap (λ (k : Config). k.page_bytes) (sym st.exits.tables.config) in
     let its = all_dropped state p S S1 S2 O O1 O2 _ stands c.self.invariant.rule st size _ c.device_invariant.ensures
     c.crash_states.ensures
-    c.in_default-move_all.ensures.moves in
+    c.in_default-step_together.ensures.moves in
     let limits = limits_then O O1 O2 st.limits its.limits in
     let config = its.drops.config in
     record {
@@ -69,19 +69,19 @@ invariant_of-self-in_default-move_all g c =
       pending = limits.pending ∙ c.self.invariant.pending ∙ ap (λ (k : Config). k.pending) (sym config);
     }
 
-pub returns-in_default-move_all : goal.returns-in_default-move_all
-returns-in_default-move_all g c =
+pub returns-in_default-step_together : goal.returns-in_default-step_together
+returns-in_default-step_together g c =
     let state = g.F.Flash.state in let p = g.R.CommitRule.protocol in
     let S = c.self.inside.store in let O = c.self.inside.transactions in
     let S1 = c.settle.new.store in let O1 = c.settle.new.transactions in
-    let S2 = c.move_all.new.store in let O2 = c.move_all.new.transactions in
+    let S2 = c.step_together.new.store in let O2 = c.step_together.new.transactions in
     let stands = kept_stands state c.self.inside _ c.self.view_is c.requires.kept p c.self.invariant in
     let st = c.in-Ok.ensures in
     let size = st.limits.page_bytes ∙ c.self.invariant.page_bytes
     ∙ ap (λ (k : Config). k.page_bytes) (sym st.exits.tables.config) in
     let its = all_dropped state p S S1 S2 O O1 O2 _ stands c.self.invariant.rule st size _ c.device_invariant.ensures
     c.crash_states.ensures
-    c.in_default-move_all.ensures.moves in
+    c.in_default-step_together.ensures.moves in
     record {
       moves = tt;
       dropped = subst (λ (s : DeviceState _). DropsDevice state s (record (device_in state S2 O2) { dropped = true }))
@@ -93,15 +93,15 @@ returns g c =
     let state = g.F.Flash.state in let p = g.R.CommitRule.protocol in
     let S = c.self.inside.store in let O = c.self.inside.transactions in
     let S1 = c.settle.new.store in let O1 = c.settle.new.transactions in
-    let S2 = c.move_all.new.store in let O2 = c.move_all.new.transactions in
+    let S2 = c.step_together.new.store in let O2 = c.step_together.new.transactions in
     let stands = kept_stands state c.self.inside _ c.self.view_is c.requires.kept p c.self.invariant in
     let st = c.in-Ok.ensures in
     let size = st.limits.page_bytes ∙ c.self.invariant.page_bytes
     ∙ ap (λ (k : Config). k.page_bytes) (sym st.exits.tables.config) in
-    let its = all_moved state p S S1 S2 O O1 O2 _ stands c.self.invariant.rule st size c.in-Ok-move_all.moved
-    c.in-Ok-move_all.ensures.moves in
+    let its = all_moved state p S S1 S2 O O1 O2 _ stands c.self.invariant.rule st size c.in-Ok-step_together.moved
+    c.in-Ok-step_together.ensures.moves in
     record {
       moves = by_kept state c.self.inside _ c.self.view_is c.requires.kept S2 O2
-          (λ (s t : DeviceState _). MovesDevice state s t c.in-Ok-move_all.moved) its.moves;
+          (λ (s t : DeviceState _). MovesDevice state s t c.in-Ok-step_together.moved) its.moves;
       dropped = tt;
     }

@@ -11,7 +11,7 @@ use Rattle.mounted_session.specs.declared.device.Refusal.TheVariants as refusal
 use Rattle.mounted_session.specs.declared.mounted.NotMounted.{NotMounted}
 use Rattle.mounted_session.specs.declared.mounted.NotMounted.TheVariants as fails
 use Rattle.page_keys.specs.KeySessions.{IsWhy, Opens, not_opened, refused_device}
-use Rattle.page_keys.specs.Stores.{IsFirstBad, OpensNot, is_key_fault}
+use Rattle.page_keys.specs.Stores.{IsFirstBad, OpensNot, is_opening_fault}
 use Rattle.page_keys.specs.declared.answers.KeyError.{KeyError}
 use Rattle.page_keys.specs.declared.answers.KeyError.TheVariants as opening
 
@@ -24,7 +24,7 @@ module _ {F : Type 0} (state : F → FlashState) (its : Config) (old : F) (s : D
   read_quiet t reads = quiet_then (state old) (state s.flash) (state t.flash) quiet reads.moment reads.carries
 
   -- the store is not opened
-  pub fails_to_open : (t : DeviceState F) (e : KeyError) → OpensNot s e → OnlyReads state s t (is_key_fault e) →
+  pub fails_to_open : (t : DeviceState F) (e : KeyError) → OpensNot s e → OnlyReads state s t (is_opening_fault e) →
       FailsToMount (IsWhy its (state old)) (state old) (state t.flash) (not_opened e)
   fails_to_open t opening.Fault cause reads =
       fault_then (state old) (state s.flash) (state t.flash) quiet reads.moment mounts.carries mounts.live

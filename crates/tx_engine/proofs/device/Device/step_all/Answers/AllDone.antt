@@ -1,6 +1,6 @@
 -- Several open transactions that went on together, as a call of the device: where some were chosen, and where none is
 -- open.
-use Rattle.tx_engine.proofs.Common.{◌≡◌, ◌≢◌, ℕ, ◌<◌, ◌≤◌, List, [], ◌∷◌, ◌++◌, length, All, Ok, sym, ap, ap₂, ◌∙◌, subst, inl, inr, arith, flat_map, cases_eq, length-map, PageWrite, Config, Shape, FlashState, Does, Load, Moment, fire, moment_of, IndexState, BlocksState, Moved, ArrayState, Entry, CountsAll, WrittenAll, chosen_now, loads_for, MovesDevice, chosen_of, jobs_of, noted_each, taken_writes, used_each, SettlesDevice, VersionsRise, is_there, settled_writes, OpenTransactionsState, TransactionState, entries_of, settlement_of, DeviceState, Stands, settled, settled_entry, StoreState, device_in, Job}
+use Rattle.tx_engine.proofs.Common.{◌≡◌, ◌≢◌, ℕ, ◌<◌, ◌≤◌, List, [], ◌∷◌, ◌++◌, length, All, Ok, sym, ap, ap₂, ◌∙◌, subst, inl, inr, arith, flat_map, cases_eq, length-map, PageWrite, Config, Shape, FlashState, Does, Load, Moment, fire, moment_of, IndexState, BlocksState, Moved, ArrayState, Entry, AcknowledgesAll, WrittenAll, chosen_now, loads_for, MovesDevice, chosen_of, jobs_of, noted_each, taken_writes, used_each, SettlesDevice, VersionsRise, is_there, settled_writes, OpenTransactionsState, TransactionState, entries_of, settlement_of, DeviceState, Stands, settled, settled_entry, StoreState, device_in, Job}
 use Rattle.std.proofs.Common.{take}
 use Rattle.std.proofs.lemmas.List.{nil_from_length}
 use Rattle.tx_engine.specs.Batches.{WritesAtOnce}
@@ -14,7 +14,7 @@ module _ {F : Type 0} (state : F → FlashState) (S S1 W S2 : StoreState F) (O O
     (size : O1.page_bytes ≡ S1.noted.config.page_bytes)
     (some : jobs_of S1.noted (chosen_now S1 O1) ≢ []) (due : AreDue O1 (length (jobs_of S1.noted (chosen_now S1 O1))))
     (w : WrittenAll state S1 W O1 OW (jobs_of S1.noted (chosen_now S1 O1)))
-    (k : CountsAll state W S2 OW O2 moved answer)
+    (k : AcknowledgesAll state W S2 OW O2 moved answer)
     (as_many : moved ≡ length (jobs_of S1.noted (chosen_now S1 O1))) where
   abbrev jobs : List Job
   jobs = jobs_of S1.noted (chosen_now S1 O1)

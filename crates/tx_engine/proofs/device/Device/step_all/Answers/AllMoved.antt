@@ -1,5 +1,5 @@
 -- What several open transactions that went on together make of the array machine, the versions and the flash.
-use Rattle.tx_engine.proofs.Common.{◌≡◌, ◌≢◌, ℕ, ◌<◌, ◌≤◌, Bool, List, [], ◌++◌, length, map, drop, get_or, All, Ok, refl, sym, ap, ap₂, ◌∙◌, subst, arith, flat_map, get_or-map, length-map, All-nil, PageWrite, FlashState, moment_of, current_of, GoInTurn, Moved, Progress, Plain, ArrayState, Entry, Pages, CountInTurn, CountsAll, WrittenAll, taken_writes, takes_each, SettlesDevice, VersionsRise, is_there, settled_writes, OpenTransactionsState, TransactionState, entries_of, no_transaction, transaction_at, DeviceState, Stands, settled, settled_entry, StoreState, device_in, Job}
+use Rattle.tx_engine.proofs.Common.{◌≡◌, ◌≢◌, ℕ, ◌<◌, ◌≤◌, Bool, List, [], ◌++◌, length, map, drop, get_or, All, Ok, refl, sym, ap, ap₂, ◌∙◌, subst, arith, flat_map, get_or-map, length-map, All-nil, PageWrite, FlashState, moment_of, current_of, GoInTurn, Moved, Progress, Plain, ArrayState, Entry, Pages, AcknowledgeInTurn, AcknowledgesAll, WrittenAll, taken_writes, takes_each, SettlesDevice, VersionsRise, is_there, settled_writes, OpenTransactionsState, TransactionState, entries_of, no_transaction, transaction_at, DeviceState, Stands, settled, settled_entry, StoreState, device_in, Job}
 use Rattle.std.proofs.Common.{take}
 use Rattle.std.specs.Prelude.{count_by}
 use Rattle.std.proofs.lemmas.List.{get_or-take, length-take-le, take-append-le, take_all, take-append-drop}
@@ -15,7 +15,7 @@ module _ {F : Type 0} (state : F → FlashState) (S1 W S2 : StoreState F) (O1 OW
     (jobs : List Job) (moved : ℕ) (answer : Moved)
     (stands : Stands state (device_in state S1 O1)) (due : AreDue O1 (length jobs))
     (w : WrittenAll state S1 W O1 OW jobs)
-    (k : CountsAll state W S2 OW O2 moved answer) (as_many : moved ≡ length jobs) where
+    (k : AcknowledgesAll state W S2 OW O2 moved answer) (as_many : moved ≡ length jobs) where
   abbrev es : List Entry
   es = entries_of O1
 
@@ -40,7 +40,7 @@ module _ {F : Type 0} (state : F → FlashState) (S1 W S2 : StoreState F) (O1 OW
   taken_long : length (take m es) ≡ m
   taken_long = length-take-le m es es_long
 
-  its_counts : CountInTurn (state_in (takes_each mid.machine.pages (take m es)) (map marked (take m es) ++ drop m es))
+  its_counts : AcknowledgeInTurn (state_in (takes_each mid.machine.pages (take m es)) (map marked (take m es) ++ drop m es))
       (map marked (take m es)) k.each new.machine
   its_counts =
       let now : entries_of OW ≡ map marked (take m es) ++ drop m es = ap entries_of w.opens
@@ -52,8 +52,8 @@ module _ {F : Type 0} (state : F → FlashState) (S1 W S2 : StoreState F) (O1 OW
       let machine : (device_in state W OW).machine ≡ state_in (takes_each mid.machine.pages (take m es))
       (map marked (take m es) ++ drop m es) =
       ap₂ (λ (ps : Pages) l. state_in ps l) w.pages now in
-      subst (λ (s : ArrayState). CountInTurn s (map marked (take m es)) k.each new.machine) machine
-      (subst (λ l. CountInTurn (device_in state W OW).machine l k.each new.machine) first k.counts)
+      subst (λ (s : ArrayState). AcknowledgeInTurn s (map marked (take m es)) k.each new.machine) machine
+      (subst (λ l. AcknowledgeInTurn (device_in state W OW).machine l k.each new.machine) first k.counts)
 
   pub its_turns : GoInTurn mid.machine (take m es) k.each new.machine
   its_turns =

@@ -1,5 +1,5 @@
 -- A call of the device that settled and then moved its open transactions: what it says, whichever way it went.
-use Rattle.tx_engine.proofs.Common.{◌≡◌, ◌≢◌, ◌⊎◌, ◌<◌, true, List, [], ◌∷◌, length, Result, Ok, Err, refl, sym, ap, ◌∙◌, subst, inl, inr, arith, length-map, Config, Protocol, Broken, FlashState, Moved, Progress, CanWriteAll, MovesAll, chosen_now, DropsDevice, MovesDevice, jobs_of, AdvancesTo, IsReady, SettlesDevice, OpenTransactionsState, HasLimitsOf, DeviceState, Stands, StoreState, device_in}
+use Rattle.tx_engine.proofs.Common.{◌≡◌, ◌≢◌, ◌⊎◌, ◌<◌, true, List, [], ◌∷◌, length, Result, Ok, Err, refl, sym, ap, ◌∙◌, subst, inl, inr, arith, length-map, Config, Protocol, Broken, FlashState, Moved, Progress, CanWriteAll, StepsTogether, chosen_now, DropsDevice, MovesDevice, jobs_of, AdvancesTo, IsReady, SettlesDevice, OpenTransactionsState, HasLimitsOf, DeviceState, Stands, StoreState, device_in}
 use Rattle.tx_engine.specs.Always.{CutsLeave, DevicesStand}
 use Rattle.tx_engine.specs.BatchCalls.{first_moved, moved_by, no_moves}
 use Rattle.tx_engine.proofs.OfDevice.KeptDevices.{limits_then}
@@ -56,7 +56,7 @@ module _ {F : Type 0} (state : F → FlashState) (p : Protocol) (S S1 S2 : Store
         limits = adv.limits;
       })
 
-  pub all_moved : (answer : Moved) → MovesAll state S1 S2 O1 O2 (Ok answer) → Moves answer
+  pub all_moved : (answer : Moved) → StepsTogether state S1 S2 O1 O2 (Ok answer) → Moves answer
   all_moved answer h = elim (cases_nil O1.all) [
     | inl none ↦ (
         let its = h.none none in
@@ -102,7 +102,7 @@ module _ {F : Type 0} (state : F → FlashState) (p : Protocol) (S S1 S2 : Store
     limits = adv.limits;
   }
 
-  pub all_dropped : (b : Broken) → DevicesStand state p → CutsLeave state p → MovesAll state S1 S2 O1 O2 (Err b) → Drops
+  pub all_dropped : (b : Broken) → DevicesStand state p → CutsLeave state p → StepsTogether state S1 S2 O1 O2 (Err b) → Drops
   all_dropped b devices cuts h = elim (cases_nil O1.all) [
     | inl none ↦ absurd (let no_answer = (h.none none).0 in cc)
     | inr some ↦ elim (cases_nil (chosen_now S1 O1)) [
