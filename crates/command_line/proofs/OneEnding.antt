@@ -11,7 +11,7 @@ use Rattle.image_file.specs.declared.error.ImageError.{ImageError}
 use Rattle.desk_io.specs.Desk as found
 use Rattle.desk_io.specs.Desk.{DeskContents, DeskState, FileFound, Finds, file_at, file_found}
 use Rattle.desk_tasks.specs.Ending.{Ending}
-use Rattle.desk_tasks.specs.Steps.{AfterLoad, AfterOpening, AfterParsing, AfterReading, AfterOpened, Opening, ReadingOn, Judging, Comparing, Keying, Explaining}
+use Rattle.desk_tasks.specs.Steps.{AfterLoad, DoneIfSound, AfterParsing, AfterReading, NextIfSound, Opening, ReadingOn, Judging, Comparing, Keying, Explaining}
 use Rattle.desk_tasks.specs.Steps.{IsEnding, Loading, OpensAndServes, Opens, Parses, Parsing, Reading, Retiring, Running, Trying, WithoutLoad}
 use Rattle.command_line.specs.Top.{TellsEnding}
 use Rattle.desk_tasks.specs.Request.{Request, Try, Format, Run, Explain, Drive, Check, Compare, Keys, Retire}
@@ -83,9 +83,9 @@ one_opened its image (Err a) (Err b) h k = ap (λ b. Err b)
 one_opening : (its : Config) (image : List Contents) (done : Ending) (a b : Ending) → OpensAndServes its image done a →
     OpensAndServes its image done b → a ≡ b
 one_opening its image done a b h k =
-    after k.0 (subst (λ opened. AfterOpening done opened a) (one_opened its image h.0 k.0 h.1 k.1) h.2) k.2
+    after k.0 (subst (λ opened. DoneIfSound done opened a) (one_opened its image h.0 k.0 h.1 k.1) h.2) k.2
   where
-    after : (opened : Result (Unit {0}) Breach) → AfterOpening done opened a → AfterOpening done opened b → a ≡ b
+    after : (opened : Result (Unit {0}) Breach) → DoneIfSound done opened a → DoneIfSound done opened b → a ≡ b
     after (Ok sound) h k = h ∙ sym k
     after (Err breach) h k = h ∙ sym k
 
@@ -105,9 +105,9 @@ one_opened_on : (its : Config) (image : List Contents) (next : Ending → Type 0
     ((a b : Ending) → next a → next b → a ≡ b) →
     (a b : Ending) → Opening its image next a → Opening its image next b → a ≡ b
 one_opened_on its image next one a b h k =
-    after k.0 (subst (λ opened. AfterOpened next opened a) (one_opened its image h.0 k.0 h.1 k.1) h.2) k.2
+    after k.0 (subst (λ opened. NextIfSound next opened a) (one_opened its image h.0 k.0 h.1 k.1) h.2) k.2
   where
-    after : (opened : Result (Unit {0}) Breach) → AfterOpened next opened a → AfterOpened next opened b → a ≡ b
+    after : (opened : Result (Unit {0}) Breach) → NextIfSound next opened a → NextIfSound next opened b → a ≡ b
     after (Ok sound) h k = one a b h k
     after (Err breach) h k = h ∙ sym k
 

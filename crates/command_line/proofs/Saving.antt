@@ -18,7 +18,7 @@ use Rattle.program_base.proofs.Refusing.{never_fault}
 use Rattle.desk_tasks.specs.Ending.{Ending, Tried, Formatted, Ran, Explained, SummedUp, Keyed, Retired, RefusedBlock, RefusedWorn, Good, WrongLine, Same, DifferShape}
 use Rattle.desk_tasks.specs.Ending.{DifferBlank, DifferAt, Image, BadLine, BadBucket, BadConfiguration, BadAllowance, status}
 use Rattle.desk_tasks.specs.Gives.{OutputState, Gives}
-use Rattle.desk_tasks.specs.Steps.{AfterLoad, AfterOpening, AfterParsing, AfterReading, AfterOpened, Opening, ReadingOn, Checking, Comparing, Keying, Explaining}
+use Rattle.desk_tasks.specs.Steps.{AfterLoad, DoneIfSound, AfterParsing, AfterReading, NextIfSound, Opening, ReadingOn, Checking, Comparing, Keying, Explaining}
 use Rattle.desk_tasks.specs.Steps.{IsEnding, Loading, OpensAndServes, Parsing, Reading, Retiring, Running, Trying, formatting, WithoutLoad}
 use Rattle.desk_tasks.specs.Request.{Request, Try, Format, Run, Explain, Drive, Check, Compare, Keys, Retire, file_of}
 use Rattle.command_line.proofs.OneKeyEnding.{script_all, store_all}
@@ -145,7 +145,7 @@ opened_all : (P : Ending → Type 0) (its : Config) (image : List Contents) (nex
     ((ending : Ending) → next ending → P ending) → (ending : Ending) → Opening its image next ending → P ending
 opened_all P its image next bad leads ending (opened, opens, h) = after opened h
   where
-    after : (opened : Result (Unit {0}) Breach) → AfterOpened next opened ending → P ending
+    after : (opened : Result (Unit {0}) Breach) → NextIfSound next opened ending → P ending
     after (Ok sound) h = leads ending h
     after (Err b) h = rw h (bad b)
 
@@ -163,7 +163,7 @@ opening_all : (P : Ending → Type 0) (its : Config) (image : List Contents) (do
     (ending : Ending) → OpensAndServes its image done ending → P ending
 opening_all P its image done good bad ending (opened, opens, h) = after opened h
   where
-    after : (opened : Result (Unit {0}) Breach) → AfterOpening done opened ending → P ending
+    after : (opened : Result (Unit {0}) Breach) → DoneIfSound done opened ending → P ending
     after (Ok sound) h = rw h good
     after (Err b) h = rw h (bad b)
 

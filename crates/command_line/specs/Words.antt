@@ -8,7 +8,7 @@ use Rattle.tx_types.specs.declared.config.Protocol.{Protocol}
 use Rattle.tx_types.specs.declared.config.Protocol.TheVariants.{Scc, Bpcc}
 use Rattle.host_protocol.specs.Numbers.{number_of}
 use Rattle.desk_tasks.specs.Request.{Request, Try, Format, Run, Explain, Drive, Check, Compare, Keys, Retire}
-use Rattle.desk_tasks.specs.Numbers.{wide_number_of, draws_of}
+use Rattle.desk_tasks.specs.Numbers.{wide_number_of, transaction_count_of}
 use Rattle.command_line.specs.declared.words.Task.{Task}
 use Rattle.command_line.specs.declared.words.Task.TheVariants as task
 
@@ -76,7 +76,7 @@ abbrev pub drive_of : List (List ℕ) → Option Request
 drive_of (start ∷ count ∷ protocol ∷ []) =
     option_and_then
     (λ start. option_and_then (λ count. option_map (Drive start count) (protocol_of_word protocol))
-    (draws_of count))
+    (transaction_count_of count))
     (wide_number_of start)
 drive_of _ = None
 

@@ -12,7 +12,7 @@ ghost use Rattle.command_line.specs.Words.{request_by};
 use crate::words::{Task, parse_words};
 use desk_io::{Desk, SinkError};
 use desk_tasks::{
-    Failure, File, MAX_DRAWS, Output, Refusal, do_check, do_compare, do_drive, do_explain,
+    Failure, File, MAX_TRANSACTIONS, Output, Refusal, do_check, do_compare, do_drive, do_explain,
     do_format, do_keys, do_retire, do_run, do_try,
 };
 use program_base::{ImageRefusal, Status, desk_fault, no_memory, refuse, say};
@@ -23,7 +23,7 @@ const _: () = prove!(host_protocol::MAX_COMMANDS == 65536 && host_protocol::MAX_
 
 const _: () = prove!(host_protocol::MAX_FILE_BYTES == desk_io::MAX_FILE_BYTES);
 
-const _: () = prove!(MAX_DRAWS == 100000);
+const _: () = prove!(MAX_TRANSACTIONS == 100000);
 
 /// Does what the words ask for, and answers the status: 0 where it is done, 1 for words that are not
 /// in the table, 2 for a file that is missing, 3 for bytes that are no image file, 4 for a line that

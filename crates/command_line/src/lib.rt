@@ -7,4 +7,4 @@ pub mod theorems;
 mod words;
 
 pub use call::top;
-pub use desk_tasks::Kept;
+pub use desk_tasks::KeptReplies;

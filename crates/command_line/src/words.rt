@@ -4,7 +4,7 @@ ghost use Rattle.command_line.specs.Words.{allowance_of, request_by, request_of,
 ghost use Rattle.command_line.specs.Words.{check_of, compare_of, keys_of, retire_of};
 ghost use Rattle.command_line.specs.Words.{drive_of, explain_of, format_of, run_of, try_of};
 
-use desk_tasks::{draws, wide_number};
+use desk_tasks::{transaction_count, wide_number};
 use host_protocol::number;
 use tx_types::{Block, Config, Protocol};
 
@@ -134,7 +134,7 @@ fn parse_drive(words: &[String]) -> Option<Task<'_>>
     };
     Some(Task::Drive {
         start: wide_number(start.as_bytes())?,
-        count: draws(count.as_bytes())?,
+        count: transaction_count(count.as_bytes())?,
         protocol: protocol_of_word(protocol)?,
     })
 }

@@ -130,7 +130,7 @@ pub fn report<F: Flash, R: CommitRule>(
     ensures { IfOk result (λ r. ServesHere F.state Command.Explain device.now device.now r) }
 {
     let logical = device_facts(device).logical;
-    let found = device.found()?;
+    let found = device.noted_records()?;
     let mut text = Vec::new(alloc);
     explain::<R>(alloc, &found, logical, &mut text)?;
     let mut bytes = Bytes::new(alloc);

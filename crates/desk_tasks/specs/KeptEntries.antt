@@ -2,7 +2,7 @@
 use Rattle.std.specs.Prelude.{List, map}
 use Rattle.desk_tasks.specs.Keeping.{KeptReply}
 use Rattle.desk_tasks.specs.declared.kept.Entry.{Entry}
-use Rattle.desk_tasks.specs.declared.kept.Kept.TheInside.{Inside}
+use Rattle.desk_tasks.specs.declared.kept.KeptReplies.TheInside.{Inside}
 
 abbrev pub kept_by : Entry → KeptReply
 kept_by e = record {

@@ -19,5 +19,5 @@ abbrev pub drawable : ℕ → Option ℕ
 drawable n = if nat_le n 100000 then Some n else None
 
 -- the number of transactions that a word is
-abbrev pub draws_of : List ℕ → Option ℕ
-draws_of word = option_and_then drawable (number_of word)
+abbrev pub transaction_count_of : List ℕ → Option ℕ
+transaction_count_of word = option_and_then drawable (number_of word)

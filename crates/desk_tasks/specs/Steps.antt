@@ -86,61 +86,67 @@ Opens its image (Ok done) = IsSoundImage its.protocol its.logical (shape_of its)
 Opens its image (Err breach) =
     IsLeastImageBreach its.protocol its.logical (shape_of its) image breach
 
-abbrev pub AfterOpening : Ending → Result (Unit {0}) Breach → Ending → Type 0
-AfterOpening done (Ok sound) ending = ending ≡ done
-AfterOpening done (Err breach) ending = ending ≡ Image (Unsound breach)
+abbrev pub DoneIfSound : Ending → Result (Unit {0}) Breach → Ending → Type 0
+DoneIfSound done (Ok sound) ending = ending ≡ done
+DoneIfSound done (Err breach) ending = ending ≡ Image (Unsound breach)
 
 -- the device of an image is opened, and then all is done
 abbrev pub OpensAndServes : Config → List Contents → Ending → Ending → Type 0
 OpensAndServes its image done ending =
-    (opened : Result (Unit {0}) Breach) × Opens its image opened × AfterOpening done opened ending
+    (opened : Result (Unit {0}) Breach) × Opens its image opened × DoneIfSound done opened ending
 
-abbrev pub AfterOpened : (Ending → Type 0) → Result (Unit {0}) Breach → Ending → Type 0
-AfterOpened next (Ok sound) ending = next ending
-AfterOpened next (Err breach) ending = ending ≡ Image (Unsound breach)
+abbrev pub NextIfSound : (Ending → Type 0) → Result (Unit {0}) Breach → Ending → Type 0
+NextIfSound next (Ok sound) ending = next ending
+NextIfSound next (Err breach) ending = ending ≡ Image (Unsound breach)
 
 -- the device of an image is opened, and then comes what it gives
 abbrev pub Opening : Config → List Contents → (Ending → Type 0) → Ending → Type 0
 Opening its image next ending =
-    (opened : Result (Unit {0}) Breach) × Opens its image opened × AfterOpened next opened ending
+    (opened : Result (Unit {0}) Breach) × Opens its image opened × NextIfSound next opened ending
 
 -- ---- the tasks, from the bytes of their files on
 
+-- `try`: the lines are parsed by the page size of the default configuration, and tried on a blank flash
 abbrev pub Trying : List ℕ → Ending → Type 0
 Trying lines =
     Parsing (default_config Scc).page_bytes lines (λ commands ending. ending ≡ Tried commands)
 
+-- `run`: the image is read, the commands parsed by its page size, the device opened, and the commands run
 abbrev pub Running : List ℕ → List ℕ → List ℕ → Ending → Type 0
 Running name bytes lines =
     Reading bytes
     (λ its image extras. Parsing its.page_bytes lines
     (λ commands. OpensAndServes its image (Ran name its image extras commands)))
 
+-- `explain`: the image is read, the device opened, and each verdict explained
 abbrev pub Explaining : List ℕ → Ending → Type 0
 Explaining bytes = Reading bytes (λ its image extras. OpensAndServes its image (Explained its image))
 
--- from the device on
+-- `check`, from the image on: the device is opened, and the report checked against it
 abbrev pub Judging : Config → List Contents → List ℕ → Ending → Type 0
 Judging its image text =
     Opening its image
     (λ ending. (check : Result ℕ ℕ) × Checks its image text check × (ending ≡ check_ending check))
 
+-- `check`: the image is read, and judged
 abbrev pub Checking : List ℕ → List ℕ → Ending → Type 0
 Checking bytes text = Reading bytes (λ its image extras. Judging its image text)
 
--- from both devices on
+-- `compare`, from both images on: each device is opened, and their arrays compared
 abbrev pub Comparing : Config → List Contents → Config → List Contents → Ending → Type 0
 Comparing a image b other =
     Opening a image
     (Opening b other
     (λ ending. (comes : Comparison) × Compares a image b other comes × (ending ≡ comparison_ending a comes)))
 
+-- `keys`: the image is read, the script parsed, the device and its store opened, and the commands of keys done
 abbrev pub Keying : List ℕ → List ℕ → List ℕ → Ending → Type 0
 Keying name bytes lines =
     Reading bytes
     (λ its image extras. ParsingScript lines
     (λ commands. Opening its image (OpensStore its image (Keyed name its image extras commands))))
 
+-- `retire`: the image is read, and the block retired from it, or refused
 abbrev pub Retiring : List ℕ → List ℕ → ℕ → Ending → Type 0
 Retiring name bytes block =
     Reading bytes

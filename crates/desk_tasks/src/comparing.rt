@@ -229,11 +229,11 @@ fn compare_opened<R: CommitRule, S: CommitRule>(
         return Err(Failure::Refused(Refusal::DifferShape));
     }
     let found = first_difference_of(alloc, one, two, config)?;
-    outcome(config.logical, found)
+    comparison_result(config.logical, found)
 }
 
 /// What a comparison of arrays of so many pages comes to.
-fn outcome(logical: u32, found: Option<Difference>) -> Result<u32, Failure<'static>>
+fn comparison_result(logical: u32, found: Option<Difference>) -> Result<u32, Failure<'static>>
     ensures ok { IfOk result (λ n. Same n ≡ difference_ending logical found) }
     ensures err { IfErr result (StopsBy (λ ending. ending ≡ difference_ending logical found)) }
 {

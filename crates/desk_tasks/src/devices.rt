@@ -100,7 +100,7 @@ pub fn records_of<R: CommitRule>(device: Device<MemFlash, R>) -> Result<Vec<Foun
     requires kept { device.dropped ≡ false }
     ensures { IfOk result (λ found. found.items ≡ found_in device.noted.notes) }
 {
-    let found = device.found();
+    let found = device.noted_records();
     drop(device.close());
     found
 }

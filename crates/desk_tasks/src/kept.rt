@@ -32,12 +32,12 @@ struct Entry {
 /// the list of their texts and moments, with how many bytes a page of each flash has. It stands in this library since
 /// no crate can depend on a program.
 #[derive(Drop)]
-pub struct Kept {
+pub struct KeptReplies {
     alloc: Global,
     entries: Vec<Entry>,
 }
 
-impl Model for Kept {
+impl Model for KeptReplies {
     ghost use Rattle.std.specs.Prelude.{List};
     ghost use Rattle.desk_tasks.specs.Keeping.{KeptReply};
 
@@ -48,12 +48,12 @@ impl Model for Kept {
     ghost view = { kept_in };
 }
 
-impl Kept {
+impl KeptReplies {
     /// No reply.
-    pub fn new(alloc: Global) -> Kept
+    pub fn new(alloc: Global) -> KeptReplies
         ensures { result ≡ [] }
     {
-        Kept {
+        KeptReplies {
             alloc,
             entries: Vec::new(alloc),
         }
@@ -123,7 +123,7 @@ impl Kept {
     }
 }
 
-impl Watch<MemFlash> for Kept {
+impl Watch<MemFlash> for KeptReplies {
     ghost text = { λ k. Some (texts_in k) };
 
     ghost kept = { λ k. Some (told_in k) };

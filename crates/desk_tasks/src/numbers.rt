@@ -1,10 +1,10 @@
 ghost use Rattle.std.specs.Prelude.{◌≡◌};
-ghost use Rattle.desk_tasks.specs.Numbers.{wide_number_of, draws_of};
+ghost use Rattle.desk_tasks.specs.Numbers.{wide_number_of, transaction_count_of};
 
 use host_protocol::number;
 
 /// The most transactions that may be drawn.
-pub const MAX_DRAWS: u32 = 100000;
+pub const MAX_TRANSACTIONS: u32 = 100000;
 
 /// The number that a word is: one to twenty decimal digits, for a number of 64 bits. It is none for
 /// any other word, and for a number above 18446744073709551615.
@@ -27,8 +27,8 @@ pub fn wide_number(word: &[u8]) -> Option<u64>
 
 /// The number of transactions that a word is. It is none for a word that is no number, and for a
 /// number above 100000.
-pub fn draws(word: &[u8]) -> Option<u32>
-    ensures { result ≡ draws_of word.now }
+pub fn transaction_count(word: &[u8]) -> Option<u32>
+    ensures { result ≡ transaction_count_of word.now }
 {
-    number(word).filter(|n| *n <= MAX_DRAWS)
+    number(word).filter(|n| *n <= MAX_TRANSACTIONS)
 }

@@ -8,8 +8,8 @@ unfoldable pub use Rattle.flash_picture.specs.Cells.{slot_text}
 pub use Rattle.flash_picture.specs.Grid.{height}
 pub use Rattle.flash_picture.specs.Picture.{cells_of}
 pub use Rattle.flash_picture.specs.Pieces.{words_begin}
-pub use Rattle.flash_picture.specs.Svg.{steps_rows, walk_rows, walk_takes, above, arrow_svg, cell_svg, cells_svg, die_heading, view_svg, views_svg, grid_of, label_svg, lines_svg, walk_svg, walks_svg, walks_take, drawing}
-pub use Rattle.flash_picture.specs.Walks.{end_of, line_end, walk_line, leaving_at, left_from, step_text}
+pub use Rattle.flash_picture.specs.Svg.{steps_rows, walk_rows, walk_takes, above, arrow_svg, cell_svg, cells_svg, die_heading, visible_arrow_svg, visible_arrows_svg, grid_of, label_svg, lines_svg, walk_svg, walks_svg, walks_take, drawing}
+pub use Rattle.flash_picture.specs.Walks.{end_of, line_end, walk_line, leaving_link_at, left_from, step_text}
 pub use Rattle.flash_picture.specs.declared.cell.Cell.{Cell}
 pub use Rattle.flash_picture.specs.declared.cell.Cell.TheVariants.{Holds, Blank, Damaged}
 pub use Rattle.flash_picture.specs.declared.marks.Marks.{Marks}

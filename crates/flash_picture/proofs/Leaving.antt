@@ -1,5 +1,5 @@
 -- Where a walk leaves the newest records, from the orbit of the place at which it begins.
-use Rattle.flash_picture.proofs.Common.{◌≡◌, ℕ, zero, suc, ◌<◌, ◌≤◌, true, false, nat_lt, cond, Some, None, List, length, position, refl, sym, ap, ◌∙◌, inl, inr, arith, lt-ltb, cases_Bool, cases_lt, cond-true, cond-false, le-ltb, Link, Scc, Found, has_name, is_same, newest_name, link_of, leaving_at, left_from}
+use Rattle.flash_picture.proofs.Common.{◌≡◌, ℕ, zero, suc, ◌<◌, ◌≤◌, true, false, nat_lt, cond, Some, None, List, length, position, refl, sym, ap, ◌∙◌, inl, inr, arith, lt-ltb, cases_Bool, cases_lt, cond-true, cond-false, le-ltb, Link, Scc, Found, has_name, is_same, newest_name, link_of, leaving_link_at, left_from}
 use Rattle.std.proofs.Common.{◌≢◌}
 use Rattle.std.proofs.Common.{eq-eqb}
 use Rattle.std.proofs.lemmas.Bool.{cases_order, ne_eqb}
@@ -12,7 +12,7 @@ use Rattle.sorted_records.specs.Orbits.{next_of, steps, IsEnd, IsOrbit}
 use Rattle.sorted_records.specs.SortedRecords.{place_of, link_graph, IsOrbitOfNewest}
 use Rattle.sorted_records.proofs.OfRecords.Steps.{some_or_none, steps_none, steps_stop, steps_more, steps_before, round_goes_on}
 use Rattle.sorted_records.proofs.OfWalk.WalkOrbits.{link_at, absent_at, same_as_itself, next_at, leads, same_place, next_within, end_never}
-use Rattle.flash_picture.specs.Walks.{leaving, leaving_by}
+use Rattle.flash_picture.specs.Walks.{leaving_link, leaving_link_by}
 
 module _ (list : List Found) (start : Link) where
   -- a walk stays at a link to the newest version of its page that no record has
@@ -32,7 +32,7 @@ module _ (list : List Found) (start : Link) where
 
   -- at a link that leads to no place it leaves them, or stays
   leaves : (turns : ℕ) (link : Link) → place_of list link ≡ None →
-      left_from list start (suc turns) link ≡ leaving list link
+      left_from list start (suc turns) link ≡ leaving_link list link
   leaves turns link none = elim (cases_order (newest list link.page) link.version) [
     | inl same ↦ (
         let nowhere = sym (cond-true _ (position (λ f. has_name link f.rec) list) None
@@ -76,7 +76,7 @@ module _ (list : List Found) (start : Link) where
     -- a walk to an end
     ended : (turns x after at : ℕ) → x < length list → IsEnd (link_graph list) x after at →
         ((k : ℕ) → 0 < k → steps (link_graph list) k x ≢ Some first) → after < turns →
-        left_from list start turns (record_at list x).next ≡ leaving list (record_at list at).next
+        left_from list start turns (record_at list x).next ≡ leaving_link list (record_at list at).next
     ended zero x after at within end never few = absurd (omega arith)
     ended (suc turns) x zero at within end never few =
         let here = end.leads in
@@ -84,7 +84,7 @@ module _ (list : List Found) (start : Link) where
         let same : x ≡ at = cc in
         let last : place_of list (record_at list x).next ≡ None =
         sym (next_at Scc list start first there x within) ∙ ap (next_of (link_graph list)) same ∙ end.last in
-        leaves turns (record_at list x).next last ∙ ap (λ n. leaving list (record_at list n).next) same
+        leaves turns (record_at list x).next last ∙ ap (λ n. leaving_link list (record_at list n).next) same
     ended (suc turns) x (suc after) at within end never few = elim (some_or_none (next_of (link_graph list) x)) [
       | inl none ↦ absurd (let e = steps_stop (link_graph list) after x none in let f = end.leads in cc)
       | inr some ↦ (
@@ -116,7 +116,7 @@ module _ (list : List Found) (start : Link) where
     ]
 
     from_first : (logical : ℕ) (orbit : Orbit) → IsOrbit (link_graph list) first orbit →
-        left_from list start (suc logical) (link_of list start) ≡ leaving_by list logical orbit
+        left_from list start (suc logical) (link_of list start) ≡ leaving_link_by list logical orbit
     from_first logical orbit is = ap (left_from list start (suc logical))
         (link_at list start first found.0 found.1 found.2) ∙ by_orbit orbit is
       where
@@ -125,15 +125,15 @@ module _ (list : List Found) (start : Link) where
         found = position-Some (λ f. has_name start f.rec) list first nothing there
 
         by_orbit : (o : Orbit) → IsOrbit (link_graph list) first o →
-            left_from list start (suc logical) (record_at list first).next ≡ leaving_by list logical o
+            left_from list start (suc logical) (record_at list first).next ≡ leaving_link_by list logical o
         by_orbit (Ends after at) end = elim (cases_lt logical after) [
           | inl far ↦ goes_on (suc logical) first found.0
               (λ k low none. let (x, e) = steps_before (link_graph list) k after first at (omega arith) end.leads in cc)
-              ∙ sym (cond-true (nat_lt logical after) None (leaving list (record_at list at).next)
+              ∙ sym (cond-true (nat_lt logical after) None (leaving_link list (record_at list at).next)
               (lt-ltb logical after far))
           | inr near ↦ ended (suc logical) first after at found.0 end (end_never (link_graph list) first after at end)
               (omega arith)
-              ∙ sym (cond-false (nat_lt logical after) None (leaving list (record_at list at).next)
+              ∙ sym (cond-false (nat_lt logical after) None (leaving_link list (record_at list at).next)
               (le-ltb logical after near))
         ]
         by_orbit (Round n) round = goes_on (suc logical) first found.0
@@ -142,13 +142,13 @@ module _ (list : List Found) (start : Link) where
 
 -- where the walk from the newest record of a page leaves them
 pub left_some : (list : List Found) (logical page : ℕ) (orbit : Orbit) → IsOrbitOfNewest list page (Some orbit) →
-    leaving_by list logical orbit ≡ leaving_at list logical page
+    leaving_link_by list logical orbit ≡ leaving_link_at list logical page
 left_some list logical page orbit (first, there, is) =
     sym (from_first list (newest_name list page) first there logical orbit is)
 
 -- where the page has no record it does not
 pub left_none : (list : List Found) (logical page : ℕ) → IsOrbitOfNewest list page None →
-    None ≡ leaving_at list logical page
+    None ≡ leaving_link_at list logical page
 left_none list logical page none =
     sym (rw (
       absent_link list (newest_name list page) (absent_at list (newest_name list page) none),

@@ -12,7 +12,7 @@ use Rattle.flash_picture.specs.declared.cell.Rank.TheVariants.{Current, Loose, S
 use Rattle.flash_picture.specs.declared.kind.Kind.{Kind}
 use Rattle.flash_picture.specs.declared.kind.Kind.TheVariants as kind
 use Rattle.flash_picture.specs.Cells.{rank_by}
-use Rattle.flash_picture.specs.Kinds.{all_kinds, is_at, is_of, is_under}
+use Rattle.flash_picture.specs.Kinds.{all_kinds, is_current_rank, is_of, is_stale_rank}
 use Rattle.flash_picture.specs.Laws.{IsNamed, Shows, block_with}
 use Rattle.flash_picture.specs.Map.{die_text}
 use Rattle.flash_picture.specs.Overview.{before_sign, counts_text, letter, rank_letter, row_text, rows_text, sign_at, sign_text, signs_text}
@@ -20,7 +20,7 @@ use Rattle.flash_picture.specs.OverviewLaws.{HoldsOf, IsOfKind, IsRecordOf, Sign
 use Rattle.flash_picture.specs.OverviewSvg.{dash, dash_if, dashes, die_svg, die_width, kind_svg, label_of, label_spot, named_svg, overview, overview_above, overview_bottom, pointed_slots, row_inside, row_svg, row_title, squares}
 use Rattle.flash_picture.specs.Picture.{breach_line, heading}
 use Rattle.flash_picture.specs.Pieces.{group_begin, title, words_at}
-use Rattle.flash_picture.specs.Svg.{is_above, lines_at}
+use Rattle.flash_picture.specs.Svg.{is_loose_rank, lines_at}
 use Rattle.flash_picture.specs.Walks.{walks_text}
 use Rattle.flash_picture.specs.Kinds.{kind_word}
 use Rattle.flash_picture.proofs.PlaceTells.{first_some}
@@ -272,12 +272,12 @@ module _ (its : Config) (notes : List Note) (marks : Marks) (slot : ℕ) (there 
       (shows_piece (dash_if shape cells block k) 0 pages at (omega arith) (omega (arith, inside))))
 
   -- which slots are of a kind
-  rank_at : (rank : Rank) → is_at rank ≡ true → rank ≡ Current
+  rank_at : (rank : Rank) → is_current_rank rank ≡ true → rank ≡ Current
   rank_at Current e = refl
   rank_at Loose e = absurd (false≢true e)
   rank_at Stale e = absurd (false≢true e)
 
-  rank_under : (rank : Rank) → is_under rank ≡ true → rank ≡ Stale
+  rank_under : (rank : Rank) → is_stale_rank rank ≡ true → rank ≡ Stale
   rank_under Current e = absurd (false≢true e)
   rank_under Loose e = absurd (false≢true e)
   rank_under Stale e = refl
@@ -291,15 +291,15 @@ module _ (its : Config) (notes : List Note) (marks : Marks) (slot : ℕ) (there 
       ↔ IsRecordOf its notes x r) [
         | kind.Current ↦ (
           λ t. (rank_current c r.version).0 (rank_at rank t),
-          λ is. ap is_at ((rank_current c r.version).1 is),
+          λ is. ap is_current_rank ((rank_current c r.version).1 is),
         )
         | kind.Loose ↦ (
           λ t. (rank_loose c r.version).0 (above_loose rank t),
-          λ is. ap is_above ((rank_loose c r.version).1 is),
+          λ is. ap is_loose_rank ((rank_loose c r.version).1 is),
         )
         | kind.Stale ↦ (
           λ t. (rank_stale c r.version).0 (rank_under rank t),
-          λ is. ap is_under ((rank_stale c r.version).1 is),
+          λ is. ap is_stale_rank ((rank_stale c r.version).1 is),
         )
         | kind.Damaged ↦ (λ t. absurd (false≢true t), λ is. absurd is)
         | kind.Blank ↦ (λ t. absurd (false≢true t), λ is. absurd is)

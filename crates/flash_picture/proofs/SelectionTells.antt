@@ -11,7 +11,7 @@ use Rattle.flash_picture.specs.Cells.{rank_by}
 use Rattle.flash_picture.specs.Laws.{HoldsInView, HoldsPage, IsInView, Names, SelectionTells, line_of}
 use Rattle.flash_picture.specs.Picture.{breach_line, heading}
 use Rattle.flash_picture.specs.Selection.{is_of_page, is_selected, selected, selected_line, selected_lines, selected_walks, slot_line}
-use Rattle.flash_picture.specs.Svg.{is_above, is_in_view}
+use Rattle.flash_picture.specs.Svg.{is_loose_rank, is_in_view}
 use Rattle.flash_picture.proofs.SvgTells.{above_loose, held_shown, loose_shown, shows_left, shows_piece, shows_right}
 use Rattle.flash_picture.proofs.Tells.{cell_noted, rank_loose}
 
@@ -42,7 +42,7 @@ module _ (its : Config) (notes : List Note) (slot : ℕ) where
       let c = cur its.protocol (found_in notes) its.logical r.page in
       let held = is_held its.protocol (found_in notes) its.logical r in
       let rank = rank_by c r.version in (
-        λ t. elim (or_cases (is_above rank) held t) [
+        λ t. elim (or_cases (is_loose_rank rank) held t) [
           | inl above ↦ (r, e, inl ((rank_loose c r.version).0 (above_loose rank above)))
           | inr holds ↦ (r, e, inr holds)
         ],

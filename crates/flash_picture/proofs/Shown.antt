@@ -1,5 +1,5 @@
 -- Which steps are shown of a walk.
-use Rattle.flash_picture.proofs.Common.{◌≡◌, ℕ, zero, suc, ◌+◌, ◌-◌, ◌<◌, ◌≤◌, true, false, ◌||◌, nat_lt, cond, Option, None, Some, List, [], ◌∷◌, ◌++◌, length, map, take, refl, sym, ap, ap₂, ◌∙◌, inl, inr, arith, append-nil, append_assoc, codes, lt-ltb, cases_Bool, cases_lt, cond-true, cond-false, le-ltb, ◌==◌, flat_map, list_any, range_with_len, Link, Protocol, Found, is_same, newest_name, link_of, Sorts, To, steps_rows, walk_rows, walk_takes, end_of, line_end, leaving_at, left_from, step_text, walk_line}
+use Rattle.flash_picture.proofs.Common.{◌≡◌, ℕ, zero, suc, ◌+◌, ◌-◌, ◌<◌, ◌≤◌, true, false, ◌||◌, nat_lt, cond, Option, None, Some, List, [], ◌∷◌, ◌++◌, length, map, take, refl, sym, ap, ap₂, ◌∙◌, inl, inr, arith, append-nil, append_assoc, codes, lt-ltb, cases_Bool, cases_lt, cond-true, cond-false, le-ltb, ◌==◌, flat_map, list_any, range_with_len, Link, Protocol, Found, is_same, newest_name, link_of, Sorts, To, steps_rows, walk_rows, walk_takes, end_of, line_end, leaving_link_at, left_from, step_text, walk_line}
 use Rattle.std.proofs.Common.{min, not, ◌&&◌, ◌%◌}
 use Rattle.std.specs.Prelude.{is_some}
 use mathlib.Core.Path.{fun_ext}
@@ -133,19 +133,19 @@ module _ (list sorted : List Found) (is : Sorts list sorted) where
       ∙ ap (f list (newest_name sorted page) (suc logical)) (link_alike list sorted is (newest_name sorted page))
       ∙ ap (λ n. f list n (suc logical) (link_of list n)) (newest_name_alike list sorted is page)
 
-  pub leaving_at_alike : (logical page : ℕ) → leaving_at sorted logical page ≡ leaving_at list logical page
-  leaving_at_alike logical page = first_alike left_from left_alike logical page
+  pub leaving_link_at_alike : (logical page : ℕ) → leaving_link_at sorted logical page ≡ leaving_link_at list logical page
+  leaving_link_at_alike logical page = first_alike left_from left_alike logical page
 
   links_of_alike : (logical page : ℕ) → links_of sorted logical page ≡ links_of list logical page
   links_of_alike logical page = first_alike walk_links links_alike logical page
 
   pub steps_alike : (logical page : ℕ) → steps_of sorted logical page ≡ steps_of list logical page
-  steps_alike logical page = ap₂ steps_over (links_of_alike logical page) (leaving_at_alike logical page)
+  steps_alike logical page = ap₂ steps_over (links_of_alike logical page) (leaving_link_at_alike logical page)
 
   pub end_alike : (protocol : Protocol) (logical page : ℕ) →
       end_of protocol sorted logical page ≡ end_of protocol list logical page
   end_alike protocol logical page = ap₂ end_by (why_alike list sorted is protocol logical page)
-      (leaving_at_alike logical page)
+      (leaving_link_at_alike logical page)
 
   -- which pages have a line of their own, and how it ends
   led_alike : (protocol : Protocol) (logical page : ℕ) →
@@ -161,7 +161,7 @@ module _ (list sorted : List Found) (is : Sorts list sorted) where
 
   part_alike : (logical page : ℕ) → is_part sorted logical page ≡ is_part list logical page
   part_alike logical page =
-      ap₂ (λ last links. is_some last && not (length links % 17 == 0)) (leaving_at_alike logical page)
+      ap₂ (λ last links. is_some last && not (length links % 17 == 0)) (leaving_link_at_alike logical page)
       (links_of_alike logical page)
 
   pub line_end_alike : (protocol : Protocol) (logical page : ℕ) →

@@ -1,5 +1,5 @@
 -- The cells and labels of a picture in SVG are those of which the words tell.
-use Rattle.flash_picture.proofs.Common.{◌≡◌, ℕ, zero, suc, ◌+◌, ◌<◌, ◌≤◌, Bool, true, false, Option, None, Some, List, [], ◌∷◌, ◌++◌, ◌||◌, refl, sym, ap, ◌∙◌, append_assoc, codes, arith, inl, inr, join_with_byte, range_with_len, false≢true, cases_Bool, cases_lt, cond-true, cond-false, Config, Link, Rec, shape_of, Note, found_in, note_at, Found, has_name, Cell, Marks, cell_at, cell_of, cell_words, is_named, slot_text, word_if, height, cells_of, above, append-nil, arrow_svg, cell_svg, cells_svg, die_heading, grid_of, is_held, label_svg, lines_svg, view_svg, views_svg, walk_svg, walks_svg, walks_take}
+use Rattle.flash_picture.proofs.Common.{◌≡◌, ℕ, zero, suc, ◌+◌, ◌<◌, ◌≤◌, Bool, true, false, Option, None, Some, List, [], ◌∷◌, ◌++◌, ◌||◌, refl, sym, ap, ◌∙◌, append_assoc, codes, arith, inl, inr, join_with_byte, range_with_len, false≢true, cases_Bool, cases_lt, cond-true, cond-false, Config, Link, Rec, shape_of, Note, found_in, note_at, Found, has_name, Cell, Marks, cell_at, cell_of, cell_words, is_named, slot_text, word_if, height, cells_of, above, append-nil, arrow_svg, cell_svg, cells_svg, die_heading, grid_of, is_held, label_svg, lines_svg, visible_arrow_svg, visible_arrows_svg, walk_svg, walks_svg, walks_take}
 use Rattle.std.proofs.Common.{filter, flat_map, AllPairs, Contains}
 use Rattle.record_list.specs.Current.{cur}
 use Rattle.flash_picture.specs.declared.cell.Rank.{Rank}
@@ -17,7 +17,7 @@ use Rattle.flash_picture.specs.Grid.{bottom, cell_width, spot_of, width}
 use Rattle.flash_picture.specs.Laws.{ArrowTells, HoldsName, IsInView, IsLowest, Shows, SvgCellTells, SvgLabelTells, SvgWalkTells, arrow_of, view_of}
 use Rattle.flash_picture.specs.Pieces.{attribute, beside, group_begin, rectangle, title, words_at}
 use Rattle.flash_picture.proofs.Tells.{cell_noted, rank_loose}
-use Rattle.flash_picture.specs.Svg.{arrow_to, breach_svg, first_slot, is_above, is_in_view, map_svg, slot_named, slot_title, svg, target, view_to}
+use Rattle.flash_picture.specs.Svg.{arrow_to, breach_svg, first_slot, is_loose_rank, is_in_view, map_svg, slot_named, slot_title, svg, target, visible_arrow_to}
 
 -- what a part of a text shows, the text shows
 pub shows_left : (x y part : List ℕ) → Shows x part → Shows (x ++ y) part
@@ -104,26 +104,26 @@ nowhere_named notes name none = first_none name (found_in notes) (λ g i pass. n
 
 -- ---- which arrows are in view
 
-pub above_loose : (rank : Rank) → is_above rank ≡ true → rank ≡ Loose
+pub above_loose : (rank : Rank) → is_loose_rank rank ≡ true → rank ≡ Loose
 above_loose Current e = absurd (false≢true e)
 above_loose Loose e = refl
 above_loose Stale e = absurd (false≢true e)
 
 module _ (current version : ℕ) (held : Bool) where
   abbrev shown : Bool
-  shown = is_above (rank_by current version) || held
+  shown = is_loose_rank (rank_by current version) || held
 
   pub loose_shown : current < version → shown ≡ true
-  loose_shown less = ap (λ rank. is_above rank || held) ((rank_loose current version).1 less)
+  loose_shown less = ap (λ rank. is_loose_rank rank || held) ((rank_loose current version).1 less)
 
   pub held_shown : held ≡ true → shown ≡ true
-  held_shown e = elim (cases_Bool (is_above (rank_by current version))) [
+  held_shown e = elim (cases_Bool (is_loose_rank (rank_by current version))) [
     | inl f ↦ ap (λ b. b || held) f
     | inr f ↦ ap (λ b. b || held) f ∙ e
   ]
 
   not_shown : (current < version → ⊥) → (held ≡ true → ⊥) → shown ≡ false
-  not_shown not_loose not_held = elim (cases_Bool (is_above (rank_by current version))) [
+  not_shown not_loose not_held = elim (cases_Bool (is_loose_rank (rank_by current version))) [
     | inl f ↦ absurd (not_loose ((rank_loose current version).0 (above_loose (rank_by current version) f)))
     | inr f ↦ ap (λ b. b || held) f ∙ elim (cases_Bool held) [
       | inl g ↦ absurd (not_held g)
@@ -150,7 +150,7 @@ module _ (its : Config) (notes : List Note) (marks : Marks) where
   labels = flat_map (label_svg grid marks) (range_with_len 0 (blocks_of grid.shape))
 
   abbrev views : List ℕ
-  views = views_svg grid list cells marks
+  views = visible_arrows_svg grid list cells marks
 
   abbrev drawn : List ℕ
   drawn = cells_svg grid list cells marks
@@ -236,7 +236,7 @@ module _ (its : Config) (notes : List Note) (marks : Marks) where
 
   -- an arrow in view, to a slot
   abbrev viewed : ℕ → Option Slot → List ℕ
-  viewed slot to = view_to grid (slot_text cells marks slot) slot to
+  viewed slot to = visible_arrow_to grid (slot_text cells marks slot) slot to
 
   view_there : (slot : ℕ) → is_in_view (cell_at cells slot) ≡ true →
       view_of its notes marks slot ≡ viewed slot (target list (cell_at cells slot))
@@ -282,7 +282,7 @@ module _ (its : Config) (notes : List Note) (marks : Marks) where
   pub arrow_tells : (slot : ℕ) → slot < slots_of (shape_of its) → ArrowTells its notes marks slot
   arrow_tells slot within =
       let arrow = arrow_svg grid list cells slot in
-      let view = view_svg grid list cells marks slot in
+      let view = visible_arrow_svg grid list cells marks slot in
       record {
         shown = shows_through (svg its notes marks) (cell_svg grid list cells marks slot) arrow
             (shows_cell slot within) (cell_shows slot);
@@ -295,7 +295,7 @@ module _ (its : Config) (notes : List Note) (marks : Marks) where
         view_shown = shows_map view
             (shows_left (dies ++ labels ++ views) drawn view
             (shows_right (dies ++ labels) views view
-            (shows_piece (view_svg grid list cells marks) 0 (slots_of grid.shape) slot (omega arith) (omega arith))));
+            (shows_piece (visible_arrow_svg grid list cells marks) 0 (slots_of grid.shape) slot (omega arith) (omega arith))));
         in_view = λ r other holds is lowest. in_view slot r (Some (record { 0 = other })) holds is
             (lowest_named notes r.next other lowest);
         no_view = λ r holds nowhere. view_nowhere slot

@@ -1,5 +1,5 @@
 -- The newest record of each page that does not count is named in a line.
-use Rattle.flash_picture.proofs.Common.{◌≡◌, ℕ, zero, suc, ◌+◌, ◌-◌, ◌<◌, ◌≤◌, Bool, true, false, ◌==◌, ◌||◌, cond, Option, None, Some, List, [], ◌∷◌, length, take, refl, sym, ap, ◌∙◌, inl, inr, arith, false≢true, cases_Bool, cond-false, le-ltb, range_with_len, Protocol, Link, Found, is_same, link_of, newest_name, end_of, leaving_at, left_from}
+use Rattle.flash_picture.proofs.Common.{◌≡◌, ℕ, zero, suc, ◌+◌, ◌-◌, ◌<◌, ◌≤◌, Bool, true, false, ◌==◌, ◌||◌, cond, Option, None, Some, List, [], ◌∷◌, length, take, refl, sym, ap, ◌∙◌, inl, inr, arith, false≢true, cases_Bool, cond-false, le-ltb, range_with_len, Protocol, Link, Found, is_same, link_of, newest_name, end_of, leaving_link_at, left_from}
 use Rattle.std.proofs.Common.{◌*◌, ◌/◌, ◌%◌, ◌↔◌, not, is_some, IsTrue, Contains, eq-eqb, subst}
 use Rattle.std.proofs.lemmas.Bool.{and_left, and_parts, and_right, eqb-false, not-true, not_from_true, or_from}
 use Rattle.std.proofs.lemmas.Option.{none-some, same_Some}
@@ -138,7 +138,7 @@ module _ (protocol : Protocol) (list : List Found) (logical : ℕ) where
 
   -- the walk of a page takes one link more than that to which it leads
   longer : (page other : ℕ) → link_of list (newest_name list other) ≡ newest_name list page →
-      is_some (leaving_at list logical page) ≡ true → is_some (leaving_at list logical other) ≡ true →
+      is_some (leaving_link_at list logical page) ≡ true → is_some (leaving_link_at list logical other) ≡ true →
       count other ≡ suc (count page)
   longer page other to out out_other =
       let link = newest_name list page in
@@ -173,7 +173,7 @@ module _ (protocol : Protocol) (list : List Found) (logical : ℕ) where
   by_line last links head trail room few within away own = record {
     within = within;
     drawn = λ none. false≢true (sym away
-        ∙ (drawn_by (why protocol list logical head) (leaving_at list logical head)).0
+        ∙ (drawn_by (why protocol list logical head) (leaving_link_at list logical head)).0
         (sym (cond-false (is_shared protocol list logical head) None (end_of protocol list logical head) own) ∙ none));
     named = named links trail room few;
   }
@@ -191,15 +191,15 @@ module _ (protocol : Protocol) (list : List Found) (logical : ℕ) where
           (ap (λ link. is_committed (walk protocol list name (suc logical) link)) (sym to) ∙ away)))
 
   -- a page has a line of its own where its walk leaves the newest records nowhere, or after a multiple of 17 links
-  own_long : (page : ℕ) → is_some (leaving_at list logical page) ≡ false → is_shared protocol list logical page ≡ false
+  own_long : (page : ℕ) → is_some (leaving_link_at list logical page) ≡ false → is_shared protocol list logical page ≡ false
   own_long page nowhere =
       and_right (is_led_to protocol list logical page) (is_part list logical page)
-      (and_left (is_some (leaving_at list logical page)) (not (count page % 17 == 0)) nowhere)
+      (and_left (is_some (leaving_link_at list logical page)) (not (count page % 17 == 0)) nowhere)
 
   own_full : (page : ℕ) → count page % 17 ≡ 0 → is_shared protocol list logical page ≡ false
   own_full page full =
       and_right (is_led_to protocol list logical page) (is_part list logical page)
-      (and_right (is_some (leaving_at list logical page)) (not (count page % 17 == 0))
+      (and_right (is_some (leaving_link_at list logical page)) (not (count page % 17 == 0))
       (not_from_true (count page % 17 == 0) (eq-eqb (count page % 17) 0 full)))
 
   few_links : (page : ℕ) → count page ≤ suc logical
@@ -208,7 +208,7 @@ module _ (protocol : Protocol) (list : List Found) (logical : ℕ) where
   -- from a page as many links before the last one, up to a line
   climb : (last turns rest left links page : ℕ) → count last ≡ 17 * turns + rest → 0 < rest →
       left + links + rest ≡ 17 → Trail list last links page → page < logical → IsAway page →
-      is_some (leaving_at list logical page) ≡ true → count page ≡ count last + links →
+      is_some (leaving_link_at list logical page) ≡ true → count page ≡ count last + links →
       (head : ℕ) × IsNamedBy protocol list logical last head
   climb last turns rest zero links page size some all trail within away out long =
       let most = few_links page in
@@ -226,7 +226,7 @@ module _ (protocol : Protocol) (list : List Found) (logical : ℕ) where
             let most = few_links page in
             let led = (and_parts (is_led_to protocol list logical page) (is_part list logical page) shared).0 in
             let (other, inside, far, to) = leader page led in
-            elim (cases_Bool (is_some (leaving_at list logical other))) [
+            elim (cases_Bool (is_some (leaving_link_at list logical other))) [
               | inl also ↦ (
                   let one : count other ≡ suc (count page) = longer page other to out also in
                   climb last turns rest left (suc links) other size some (omega arith) (page, to, trail) inside far also
@@ -245,7 +245,7 @@ module _ (protocol : Protocol) (list : List Found) (logical : ℕ) where
     | inl shared ↦ (
         let n = count page in
         let part = and_parts (is_led_to protocol list logical page) (is_part list logical page) shared in
-        let parts = and_parts (is_some (leaving_at list logical page)) (not (n % 17 == 0)) part.1 in
+        let parts = and_parts (is_some (leaving_link_at list logical page)) (not (n % 17 == 0)) part.1 in
         let rest : n % 17 ≡ 0 → ⊥ = eqb-false (n % 17) 0 (not-true (n % 17 == 0) parts.1) in
         climb page (n / 17) (n % 17) (17 - n % 17) 0 page (omega arith) (omega arith) (omega arith) refl within away
         parts.0 (omega arith))

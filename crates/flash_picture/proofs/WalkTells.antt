@@ -1,5 +1,5 @@
 -- What the walk of a page tells.
-use Rattle.flash_picture.proofs.Common.{◌≡◌, ℕ, zero, suc, ◌-◌, ◌<◌, ◌≤◌, Bool, true, false, ◌==◌, ◌||◌, nat_lt, cond, Option, None, Some, List, [], ◌∷◌, ◌++◌, length, map, take, get_or, codes, refl, sym, ap, ◌∙◌, inl, inr, arith, append-nil, lt-ltb, flat_map, false≢true, cases_Bool, cond-true, cond-false, le-ltb, Protocol, Scc, Bpcc, Link, Found, is_same, link_of, newest_name, To, name_word, end_of, leaving_at, left_from, step_text, walk_line}
+use Rattle.flash_picture.proofs.Common.{◌≡◌, ℕ, zero, suc, ◌-◌, ◌<◌, ◌≤◌, Bool, true, false, ◌==◌, ◌||◌, nat_lt, cond, Option, None, Some, List, [], ◌∷◌, ◌++◌, length, map, take, get_or, codes, refl, sym, ap, ◌∙◌, inl, inr, arith, append-nil, lt-ltb, flat_map, false≢true, cases_Bool, cond-true, cond-false, le-ltb, Protocol, Scc, Bpcc, Link, Found, is_same, link_of, newest_name, To, name_word, end_of, leaving_link_at, left_from, step_text, walk_line}
 use Rattle.std.proofs.Common.{◌↔◌}
 use Rattle.std.proofs.Common.{IsTrue}
 use Rattle.std.proofs.lemmas.List.{take_all}
@@ -13,7 +13,7 @@ use Rattle.flash_picture.specs.declared.walk.End.{End}
 use Rattle.flash_picture.specs.declared.walk.End.TheVariants.{Absent, Straddled, TooLong}
 use Rattle.verdict_report.specs.Walks.{links_of}
 use Rattle.flash_picture.specs.Laws.{WalkSays, WalkTells, arrows_text, last_of}
-use Rattle.flash_picture.specs.Walks.{end_by, is_shared, last_steps, leaving, steps_over}
+use Rattle.flash_picture.specs.Walks.{end_by, is_shared, last_steps, leaving_link, steps_over}
 use Rattle.flash_picture.proofs.Told.{drawn_by, told}
 
 -- the last of a link and those after it
@@ -52,24 +52,24 @@ none_ends false false false link = refl
 module _ (list : List Found) (start : Link) where
   -- a walk leaves the newest records at its last link, if it does
   left_last : (turns : ℕ) (link : Link) → left_from list start (suc turns) link
-      ≡ leaving list (final link (after list start turns link))
+      ≡ leaving_link list (final link (after list start turns link))
   left_last zero link =
       none_ends (is_ahead list link) (is_behind list link) (is_same link start) link
-      ∙ ap (λ links. leaving list (final link links)) (sym (after_none list start link))
+      ∙ ap (λ links. leaving_link list (final link links)) (sym (after_none list start link))
   left_last (suc turns) link = elim (cases_Bool (is_end list start link)) [
     | inl ends ↦ one_of (is_ahead list link) (is_behind list link) (is_same link start) link _ ends
-        ∙ ap (λ links. leaving list (final link links)) (sym (after_end list start (suc turns) link ends))
+        ∙ ap (λ links. leaving_link list (final link links)) (sym (after_end list start (suc turns) link ends))
     | inr goes ↦ none_of (is_ahead list link) (is_behind list link) (is_same link start) link _ goes
         ∙ left_last turns (link_of list link)
-        ∙ ap (λ links. leaving list (final link links)) (sym (after_more list start (suc turns) link goes))
+        ∙ ap (λ links. leaving_link list (final link links)) (sym (after_more list start (suc turns) link goes))
   ]
 
-pub leaving_at_last : (list : List Found) (logical page : ℕ) (none : Link) →
-    leaving_at list logical page ≡ leaving list (last_of list logical page none)
-leaving_at_last list logical page none =
+pub leaving_link_at_last : (list : List Found) (logical page : ℕ) (none : Link) →
+    leaving_link_at list logical page ≡ leaving_link list (last_of list logical page none)
+leaving_link_at_last list logical page none =
     let start = newest_name list page in
     let link = link_of list start in
-    left_last list start logical link ∙ ap (leaving list) (sym (final_at link (after list start logical link) none))
+    left_last list start logical link ∙ ap (leaving_link list) (sym (final_at link (after list start logical link) none))
 
 -- ---- how it ends, by what its last link shows
 
@@ -135,25 +135,25 @@ walk_tells protocol list logical page =
     let decides = walk_decides protocol list logical page in
     let start = newest_name list page in
     record {
-      drawn = drawn_by (why protocol list logical page) (leaving_at list logical page);
+      drawn = drawn_by (why protocol list logical page) (leaving_link_at list logical page);
       links = decides;
       last = λ link none e. left_there link (last_of list logical page none)
-          (sym (leaving_at_last list logical page none) ∙ e);
+          (sym (leaving_link_at_last list logical page none) ∙ e);
       absent = λ none. (
           let last = last_of list logical page none in
-          rw (decides.last none, leaving_at_last list logical page none)
+          rw (decides.last none, leaving_link_at_last list logical page none)
           (absent_by (is_ahead list last) (is_behind list last) (is_same last start)
           (why_below_newest protocol list last) last (not_absent protocol list last)));
-      straddled = straddled_by (why protocol list logical page) (leaving_at list logical page);
+      straddled = straddled_by (why protocol list logical page) (leaving_link_at list logical page);
       too_long = λ none. (
           let last = last_of list logical page none in
-          rw (decides.last none, leaving_at_last list logical page none)
+          rw (decides.last none, leaving_link_at_last list logical page none)
           (long_by (is_ahead list last) (is_behind list last) (is_same last start) (why_below_newest protocol list last)
           last (not_absent protocol list last)));
       told = told protocol list logical page;
     }
   where
-    left_there : (link last : Link) → leaving list last ≡ Some link → link ≡ last
+    left_there : (link last : Link) → leaving_link list last ≡ Some link → link ≡ last
     left_there link last e = elim (cases_Bool (is_ahead list last || is_behind list last)) [
       | inl leaves ↦ (let there = cond-true (is_ahead list last || is_behind list last) (Some last) None leaves in
           ap (λ (o : Option Link). elim o [ Some l ↦ l | None ↦ last ]) (sym e ∙ there))
@@ -196,7 +196,7 @@ pub walk_says : (protocol : Protocol) (list : List Found) (logical page : ℕ) �
 walk_says protocol list logical page =
     let tells = walk_tells protocol list logical page in
     let links = links_of list logical page in
-    let last = leaving_at list logical page in
+    let last = leaving_link_at list logical page in
     let shared = is_shared protocol list logical page in
     let end = end_of protocol list logical page in
     record {

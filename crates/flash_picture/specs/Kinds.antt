@@ -7,7 +7,7 @@ use Rattle.flash_picture.specs.declared.cell.Rank.TheVariants.{Current, Loose, S
 use Rattle.flash_picture.specs.declared.kind.Kind.{Kind}
 use Rattle.flash_picture.specs.declared.kind.Kind.TheVariants as kind
 use Rattle.flash_picture.specs.Cells.{cell_at}
-use Rattle.flash_picture.specs.Svg.{is_above}
+use Rattle.flash_picture.specs.Svg.{is_loose_rank}
 
 -- all kinds, in the order of a legend
 abbrev pub all_kinds : List Kind
@@ -24,21 +24,21 @@ kind_word kind.Held = codes "held"
 kind_word kind.Discard = codes "discard"
 
 -- whether a rank is that of a current record, and whether of one below it
-abbrev pub is_at : Rank → Bool
-is_at Current = true
-is_at Loose = false
-is_at Stale = false
+abbrev pub is_current_rank : Rank → Bool
+is_current_rank Current = true
+is_current_rank Loose = false
+is_current_rank Stale = false
 
-abbrev pub is_under : Rank → Bool
-is_under Current = false
-is_under Loose = false
-is_under Stale = true
+abbrev pub is_stale_rank : Rank → Bool
+is_stale_rank Current = false
+is_stale_rank Loose = false
+is_stale_rank Stale = true
 
 -- whether a slot with such a record is of a kind
 abbrev pub is_of_record : Kind → Rank → Bool → Bool → Bool
-is_of_record kind.Current rank held discard = is_at rank
-is_of_record kind.Loose rank held discard = is_above rank
-is_of_record kind.Stale rank held discard = is_under rank
+is_of_record kind.Current rank held discard = is_current_rank rank
+is_of_record kind.Loose rank held discard = is_loose_rank rank
+is_of_record kind.Stale rank held discard = is_stale_rank rank
 is_of_record kind.Damaged rank held discard = false
 is_of_record kind.Blank rank held discard = false
 is_of_record kind.Held rank held discard = held

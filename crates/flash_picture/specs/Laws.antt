@@ -26,8 +26,8 @@ use Rattle.flash_picture.specs.Picture.{cells_of, picture}
 use Rattle.flash_picture.specs.declared.selection.Selection.{Selection}
 use Rattle.flash_picture.specs.declared.selection.Selection.TheVariants as chosen
 use Rattle.flash_picture.specs.Selection.{selected, selected_line, slot_line}
-use Rattle.flash_picture.specs.Svg.{arrow_svg, arrow_to, cell_svg, grid_of, label_svg, svg, view_svg, view_to, walk_svg}
-use Rattle.flash_picture.specs.Walks.{end_of, is_shared, leaving_at, line_end, step_text, steps_of, walk_text}
+use Rattle.flash_picture.specs.Svg.{arrow_svg, arrow_to, cell_svg, grid_of, label_svg, svg, visible_arrow_svg, visible_arrow_to, walk_svg}
+use Rattle.flash_picture.specs.Walks.{end_of, is_shared, leaving_link_at, line_end, step_text, steps_of, walk_text}
 
 -- the cell of a slot that holds this record, among these records, says a word
 abbrev pub Says : Protocol → List Found → ℕ → Rec → List ℕ → Type 0
@@ -81,7 +81,7 @@ pub record IsNamedBy (protocol : Protocol) (list : List Found) (logical page hea
 pub record WalkTells (protocol : Protocol) (list : List Found) (logical page : ℕ) : Type 0 where
   pub drawn : (end_of protocol list logical page ≡ None) ↔ IsTrue (is_committed (why protocol list logical page))
   pub links : IsDecidingWalk protocol list logical page (links_of list logical page)
-  pub last : (link none : Link) → leaving_at list logical page ≡ Some link → link ≡ last_of list logical page none
+  pub last : (link none : Link) → leaving_link_at list logical page ≡ Some link → link ≡ last_of list logical page none
   pub absent : (none : Link) → (end_of protocol list logical page ≡ Some Absent)
       ↔ IsTrue (is_ahead list (last_of list logical page none))
   pub straddled : (version : ℕ) → (end_of protocol list logical page ≡ Some (Straddled version))
@@ -118,10 +118,10 @@ pub record WalkSays (protocol : Protocol) (list : List Found) (logical page : �
       walk_text protocol list logical page ≡ line_with list logical page (codes " too long")
   pub few : length (links_of list logical page) ≤ 16 →
       flat_map step_text (steps_of list logical page) ≡ arrows_text (links_of list logical page)
-  pub many : (link : Link) → 16 < length (links_of list logical page) → leaving_at list logical page ≡ Some link →
+  pub many : (link : Link) → 16 < length (links_of list logical page) → leaving_link_at list logical page ≡ Some link →
       flat_map step_text (steps_of list logical page)
       ≡ arrows_text (take 16 (links_of list logical page)) ++ (codes " .." ++ arrows_text (link ∷ []))
-  pub given_up : 16 < length (links_of list logical page) → leaving_at list logical page ≡ None →
+  pub given_up : 16 < length (links_of list logical page) → leaving_link_at list logical page ≡ None →
       flat_map step_text (steps_of list logical page) ≡ arrows_text (take 16 (links_of list logical page))
       ++ codes " .."
 
@@ -195,7 +195,7 @@ arrow_of its notes marks slot =
 -- the same where it is in view without a pointer
 abbrev pub view_of : Config → List Note → Marks → ℕ → List ℕ
 view_of its notes marks slot =
-    view_svg (grid_of (shape_of its) (cells_of its notes) marks) (found_in notes) (cells_of its notes) marks slot
+    visible_arrow_svg (grid_of (shape_of its) (cells_of its notes) marks) (found_in notes) (cells_of its notes) marks slot
 
 -- a record is loose, or held for one that is
 abbrev pub IsInView : Config → List Note → Rec → Type 0
@@ -219,7 +219,7 @@ pub record ArrowTells (its : Config) (notes : List Note) (marks : Marks) (slot :
   pub view_shown : Shows (svg its notes marks) (view_of its notes marks slot)
   pub in_view : (r : Rec) (other : ℕ) → note_at notes slot ≡ note.Holds r → IsInView its notes r →
       IsLowest notes r.next other → view_of its notes marks slot
-      ≡ view_to (grid_of (shape_of its) (cells_of its notes) marks) (slot_text (cells_of its notes) marks slot) slot
+      ≡ visible_arrow_to (grid_of (shape_of its) (cells_of its notes) marks) (slot_text (cells_of its notes) marks slot) slot
       (Some (record { 0 = other }))
   pub no_view : (r : Rec) → note_at notes slot ≡ note.Holds r → ((other : ℕ) → HoldsName notes r.next other → ⊥) →
       view_of its notes marks slot ≡ []

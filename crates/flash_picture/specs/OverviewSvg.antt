@@ -102,19 +102,19 @@ entry_spot kind.Held = record { left = 268; top = 56 }
 entry_spot kind.Discard = record { left = 268; top = 78 }
 
 -- how a kind is drawn that is no colour
-abbrev pub kind_drawn : Kind → List ℕ
-kind_drawn kind.Current = []
-kind_drawn kind.Loose = []
-kind_drawn kind.Stale = []
-kind_drawn kind.Damaged = []
-kind_drawn kind.Blank = []
-kind_drawn kind.Held = codes ", a line below"
-kind_drawn kind.Discard = codes ", a line across"
+abbrev pub kind_line_words : Kind → List ℕ
+kind_line_words kind.Current = []
+kind_line_words kind.Loose = []
+kind_line_words kind.Stale = []
+kind_line_words kind.Damaged = []
+kind_line_words kind.Blank = []
+kind_line_words kind.Held = codes ", a line below"
+kind_line_words kind.Discard = codes ", a line across"
 
 -- what the legend says of a kind: how many slots are of it
 abbrev pub entry_text : Shape → List Cell → Kind → List ℕ
 entry_text shape cells kind =
-    kind_word kind ++ kind_drawn kind ++ codes ": " ++ decimal (count_of cells kind 0 (slots_of shape))
+    kind_word kind ++ kind_line_words kind ++ codes ": " ++ decimal (count_of cells kind 0 (slots_of shape))
 
 abbrev pub entry_inside : Shape → List Cell → Kind → List ℕ
 entry_inside shape cells kind =
@@ -139,19 +139,19 @@ abbrev pub die_svg : Shape → ℕ → List ℕ
 die_svg shape die = group (codes "die") (words_at (die_spot shape die) (die_words die))
 
 -- how far below the top of a square its line is drawn
-abbrev pub below_top : Kind → ℕ
-below_top kind.Current = 3
-below_top kind.Loose = 3
-below_top kind.Stale = 3
-below_top kind.Damaged = 3
-below_top kind.Blank = 3
-below_top kind.Held = 6
-below_top kind.Discard = 3
+abbrev pub line_offset : Kind → ℕ
+line_offset kind.Current = 3
+line_offset kind.Loose = 3
+line_offset kind.Stale = 3
+line_offset kind.Damaged = 3
+line_offset kind.Blank = 3
+line_offset kind.Held = 6
+line_offset kind.Discard = 3
 
 -- the line of a square
 abbrev pub dash : Shape → ℕ → Kind → ℕ → List ℕ
 dash shape block kind at =
-    codes "M" ++ point (beside (square_in shape block at) 0 (below_top kind)) ++ codes "h5"
+    codes "M" ++ point (beside (square_in shape block at) 0 (line_offset kind)) ++ codes "h5"
 
 -- the same where the slot is of the kind
 abbrev pub dash_if : Shape → List Cell → ℕ → Kind → ℕ → List ℕ

@@ -143,33 +143,33 @@ arrow_to grid slot (Some to) = curve (spot_of grid slot) (spot_of grid to.0)
 abbrev pub arrow_svg : Grid → List Found → List Cell → ℕ → List ℕ
 arrow_svg grid list cells slot = arrow_to grid slot (target list (cell_at cells slot))
 
-abbrev pub is_above : Rank → Bool
-is_above Current = false
-is_above Loose = true
-is_above Stale = false
+abbrev pub is_loose_rank : Rank → Bool
+is_loose_rank Current = false
+is_loose_rank Loose = true
+is_loose_rank Stale = false
 
 -- whether the arrow from a cell is in view without a pointer: that of a loose record, and of one that is held
 abbrev pub is_in_view : Cell → Bool
 is_in_view Blank = false
 is_in_view Damaged = false
-is_in_view (Holds rec rank held) = is_above rank || held
+is_in_view (Holds rec rank held) = is_loose_rank rank || held
 
 -- the slot to which the record of a cell links, if there is one, and the arrow is in view
 abbrev pub view_target : List Found → Cell → Option Slot
 view_target list cell = if is_in_view cell then target list cell else None
 
 -- an arrow in view, from the cell of a slot with these words to that of another one, if there is one
-abbrev pub view_to : Grid → List ℕ → ℕ → Option Slot → List ℕ
-view_to grid words slot None = []
-view_to grid words slot (Some to) = group (codes "arrow " ++ words) (arrow_to grid slot (Some to))
+abbrev pub visible_arrow_to : Grid → List ℕ → ℕ → Option Slot → List ℕ
+visible_arrow_to grid words slot None = []
+visible_arrow_to grid words slot (Some to) = group (codes "arrow " ++ words) (arrow_to grid slot (Some to))
 
-abbrev pub view_svg : Grid → List Found → List Cell → Marks → ℕ → List ℕ
-view_svg grid list cells marks slot =
-    view_to grid (slot_text cells marks slot) slot (view_target list (cell_at cells slot))
+abbrev pub visible_arrow_svg : Grid → List Found → List Cell → Marks → ℕ → List ℕ
+visible_arrow_svg grid list cells marks slot =
+    visible_arrow_to grid (slot_text cells marks slot) slot (view_target list (cell_at cells slot))
 
-abbrev pub views_svg : Grid → List Found → List Cell → Marks → List ℕ
-views_svg grid list cells marks =
-    flat_map (view_svg grid list cells marks) (range_with_len 0 (slots_of grid.shape))
+abbrev pub visible_arrows_svg : Grid → List Found → List Cell → Marks → List ℕ
+visible_arrows_svg grid list cells marks =
+    flat_map (visible_arrow_svg grid list cells marks) (range_with_len 0 (slots_of grid.shape))
 
 -- ---- the cells
 
@@ -191,7 +191,7 @@ abbrev pub map_svg : Grid → List Found → List Cell → Marks → List ℕ
 map_svg grid list cells marks =
     flat_map (die_heading grid) (range_with_len 0 grid.shape.dies)
     ++ flat_map (label_svg grid marks) (range_with_len 0 (blocks_of grid.shape))
-    ++ views_svg grid list cells marks ++ cells_svg grid list cells marks
+    ++ visible_arrows_svg grid list cells marks ++ cells_svg grid list cells marks
 
 -- ---- below the map
 

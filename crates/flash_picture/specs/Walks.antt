@@ -21,8 +21,8 @@ use Rattle.flash_picture.specs.Cells.{name_word}
 -- ---- the link at which a walk leaves the newest records
 
 -- a link, where it is to a version above, or below, the newest of its page
-abbrev pub leaving : List Found → Link → Option Link
-leaving list link = if is_ahead list link || is_behind list link then Some link else None
+abbrev pub leaving_link : List Found → Link → Option Link
+leaving_link list link = if is_ahead list link || is_behind list link then Some link else None
 
 -- the link at which a walk from the record `start` leaves the newest records, that has come to this link and looks at
 -- this many links yet; nothing where it leaves them at none of these
@@ -34,16 +34,16 @@ left_from list start (suc turns) link =
     else left_from list start turns (link_of list link)
 
 -- that of the walk from the newest record of a page
-abbrev pub leaving_at : List Found → ℕ → ℕ → Option Link
-leaving_at list logical page =
+abbrev pub leaving_link_at : List Found → ℕ → ℕ → Option Link
+leaving_link_at list logical page =
     left_from list (newest_name list page) (suc logical) (link_of list (newest_name list page))
 
 -- the link at which the walk of a page leaves the newest records, from the orbit of the place of its newest record
-abbrev pub leaving_by : List Found → ℕ → Orbit → Option Link
-leaving_by list logical (Ends after at) =
-    if nat_lt logical after then None else leaving list (record_at list at).next
-leaving_by list logical (Round turns) = None
-leaving_by list logical Aside = None
+abbrev pub leaving_link_by : List Found → ℕ → Orbit → Option Link
+leaving_link_by list logical (Ends after at) =
+    if nat_lt logical after then None else leaving_link list (record_at list at).next
+leaving_link_by list logical (Round turns) = None
+leaving_link_by list logical Aside = None
 
 -- ---- what is shown of a walk
 
@@ -64,7 +64,7 @@ steps_over links last =
 
 -- the steps of the walk from the newest record of a page
 abbrev pub steps_of : List Found → ℕ → ℕ → List Step
-steps_of list logical page = steps_over (links_of list logical page) (leaving_at list logical page)
+steps_of list logical page = steps_over (links_of list logical page) (leaving_link_at list logical page)
 
 -- how a walk ends, by what decides the verdict and by where it leaves the newest records; nothing where the newest
 -- version counts
@@ -77,7 +77,7 @@ end_by (reason.Straddled version) last = Some (Straddled version)
 
 -- how the walk from the newest record of a page ends
 abbrev pub end_of : Protocol → List Found → ℕ → ℕ → Option End
-end_of protocol list logical page = end_by (why protocol list logical page) (leaving_at list logical page)
+end_of protocol list logical page = end_by (why protocol list logical page) (leaving_link_at list logical page)
 
 -- ---- which pages have a line of their own
 
@@ -98,12 +98,12 @@ most_named = 17
 -- whether a walk leaves the newest records, and not after a multiple of so many links
 abbrev pub is_part : List Found → ℕ → ℕ → Bool
 is_part list logical page =
-    is_some (leaving_at list logical page) && not (length (links_of list logical page) % most_named == 0)
+    is_some (leaving_link_at list logical page) && not (length (links_of list logical page) % most_named == 0)
 
 -- the same of the page of an orbit
 abbrev pub part_by : List Found → ℕ → Orbit → Bool
 part_by list logical (Ends after at) =
-    is_some (leaving_by list logical (Ends after at)) && not (suc after % most_named == 0)
+    is_some (leaving_link_by list logical (Ends after at)) && not (suc after % most_named == 0)
 part_by list logical (Round turns) = false
 part_by list logical Aside = false
 

@@ -1,12 +1,12 @@
 //! What an overview tells slots apart by.
 ghost use Rattle.std.specs.Prelude.{◌≡◌};
-ghost use Rattle.flash_picture.specs.Kinds.{all_kinds, is_at, is_blank, is_damaged, is_of, is_of_record, is_under, kind_word};
+ghost use Rattle.flash_picture.specs.Kinds.{all_kinds, is_current_rank, is_blank, is_damaged, is_of, is_of_record, is_stale_rank, kind_word};
 ghost use Rattle.flash_picture.specs.Overview.{kind_letters};
-ghost use Rattle.flash_picture.specs.OverviewSvg.{below_top, entry_spot, kind_drawn};
+ghost use Rattle.flash_picture.specs.OverviewSvg.{line_offset, entry_spot, kind_line_words};
 
 use crate::cell::{Cell, Rank};
 use crate::grid::Spot;
-use crate::svg_map::is_above;
+use crate::svg_map::is_loose_rank;
 
 /// What a slot is, or what is so of its record besides.
 #[derive(Clone, Copy, PartialEq, Eq)]
@@ -59,9 +59,9 @@ impl Kind {
         ensures { result ≡ is_of_record self rank held discard }
     {
         match self {
-            Kind::Current => is_at(rank),
-            Kind::Loose => is_above(rank),
-            Kind::Stale => is_under(rank),
+            Kind::Current => is_current_rank(rank),
+            Kind::Loose => is_loose_rank(rank),
+            Kind::Stale => is_stale_rank(rank),
             Kind::Damaged => false,
             Kind::Blank => false,
             Kind::Held => held,
@@ -130,8 +130,8 @@ impl Kind {
     }
 
     /// How a kind is drawn that is no colour.
-    pub fn drawn(self) -> &'static [u8]
-        ensures { result.now ≡ kind_drawn self }
+    pub fn line_words(self) -> &'static [u8]
+        ensures { result.now ≡ kind_line_words self }
     {
         match self {
             Kind::Current => b"",
@@ -160,8 +160,8 @@ impl Kind {
     }
 
     /// How far below the top of a square its line is drawn.
-    pub fn below_top(self) -> u64
-        ensures { result ≡ below_top self }
+    pub fn line_offset(self) -> u64
+        ensures { result ≡ line_offset self }
     {
         match self {
             Kind::Current => 3,
@@ -176,8 +176,8 @@ impl Kind {
 }
 
 /// Whether a rank is that of a current record.
-fn is_at(rank: Rank) -> bool
-    ensures { result ≡ is_at rank }
+fn is_current_rank(rank: Rank) -> bool
+    ensures { result ≡ is_current_rank rank }
 {
     match rank {
         Rank::Current => true,
@@ -187,8 +187,8 @@ fn is_at(rank: Rank) -> bool
 }
 
 /// Whether a rank is that of a record below the current one.
-fn is_under(rank: Rank) -> bool
-    ensures { result ≡ is_under rank }
+fn is_stale_rank(rank: Rank) -> bool
+    ensures { result ≡ is_stale_rank rank }
 {
     match rank {
         Rank::Current => false,

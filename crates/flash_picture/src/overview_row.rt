@@ -207,7 +207,7 @@ impl Map<'_> {
             ≡ text.old.items ++ dash self.now.shape block.0 kind at) }
     {
         let square = square_in(self.shape, block.0, at);
-        add_point(b"M", square.beside(0, kind.below_top()), text).and(add(b"h5", text))
+        add_point(b"M", square.beside(0, kind.line_offset()), text).and(add(b"h5", text))
     }
 
     /// Appends what a pointer shows at the slots of a block, where a flash has few.

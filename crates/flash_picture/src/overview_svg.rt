@@ -141,7 +141,7 @@ impl Map<'_> {
             ≡ text.old.items ++ entry_text m.shape m.cells.now kind) }
     {
         add(kind.word(), text)
-            .and(add(kind.drawn(), text))
+            .and(add(kind.line_words(), text))
             .and(add(b": ", text))
             .and(add_number(self.count(kind, 0, self.shape.slots()), text))
     }

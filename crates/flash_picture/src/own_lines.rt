@@ -4,7 +4,7 @@ ghost use Rattle.record_list.specs.Verdict.{is_committed};
 ghost use Rattle.sorted_records.specs.SortedRecords.{EndsBelow};
 ghost use Rattle.flash_picture.specs.Walks.{AreLedTo, is_led_to, is_part, line_end, marked, page_behind, page_of_newest, part_by};
 
-use crate::walk::{End, leaving_by, newest_name};
+use crate::walk::{End, leaving_link_by, newest_name};
 use record_list::Why;
 use sorted_records::{Orbit, SortedRecords};
 use std::alloc::{AllocError, Global};
@@ -111,7 +111,7 @@ fn part_by(chart: &SortedRecords, logical: u32, orbit: Orbit) -> bool
 {
     match orbit {
         Orbit::Ends { after, at } => {
-            let last = leaving_by(chart, logical, Orbit::Ends { after, at });
+            let last = leaving_link_by(chart, logical, Orbit::Ends { after, at });
             last.is_some() && !(u64::from(after) + 1).is_multiple_of(MOST_NAMED)
         }
         Orbit::Round { .. } => false,

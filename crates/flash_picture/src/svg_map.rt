@@ -6,7 +6,7 @@ ghost use Rattle.flash_picture.specs.Cells.{slot_text};
 ghost use Rattle.flash_picture.specs.Grid.{IsGrid};
 ghost use Rattle.flash_picture.specs.Map.{label_words};
 ghost use Rattle.flash_picture.specs.Pieces.{group_begin};
-ghost use Rattle.flash_picture.specs.Svg.{arrow_svg, arrow_to, cell_svg, cells_svg, die_heading, first_slot, is_above, is_in_view, label_svg, map_svg, target, view_svg, view_target, view_to, views_svg};
+ghost use Rattle.flash_picture.specs.Svg.{arrow_svg, arrow_to, cell_svg, cells_svg, die_heading, first_slot, is_loose_rank, is_in_view, label_svg, map_svg, target, visible_arrow_svg, view_target, visible_arrow_to, visible_arrows_svg};
 
 use crate::cell::{Cell, Rank};
 use crate::grid::{Grid, Spot};
@@ -34,7 +34,7 @@ impl Plan<'_> {
     {
         self.write_dies(text)
             .and(self.write_labels(text))
-            .and(self.write_views(chart, text))
+            .and(self.write_visible_arrows(chart, text))
             .and(self.write_cells(chart, text))
     }
 
@@ -152,19 +152,23 @@ impl Plan<'_> {
     }
 
     /// Appends the arrows that are in view.
-    fn write_views(&self, chart: &SortedRecords, text: &mut Vec<u8>) -> Result<(), AllocError>
+    fn write_visible_arrows(
+        &self,
+        chart: &SortedRecords,
+        text: &mut Vec<u8>,
+    ) -> Result<(), AllocError>
         requires { IsGrid self.now.grid }
         ensures { let p = self.now in OnOk result (text.new.items
-            ≡ text.old.items ++ views_svg p.grid chart.now p.map.cells.now p.map.marks) }
+            ≡ text.old.items ++ visible_arrows_svg p.grid chart.now p.map.cells.now p.map.marks) }
     {
         for slot in 0..self.grid.shape.slots() {
-            self.write_view(chart, Slot(slot), text)?;
+            self.write_visible_arrow(chart, Slot(slot), text)?;
         }
         Ok(())
     }
 
     /// Appends the arrow from the cell of a slot, if it is in view.
-    fn write_view(
+    fn write_visible_arrow(
         &self,
         chart: &SortedRecords,
         slot: Slot,
@@ -172,13 +176,13 @@ impl Plan<'_> {
     ) -> Result<(), AllocError>
         requires { IsGrid self.now.grid }
         ensures { let p = self.now in OnOk result (text.new.items
-            ≡ text.old.items ++ view_svg p.grid chart.now p.map.cells.now p.map.marks slot.0) }
+            ≡ text.old.items ++ visible_arrow_svg p.grid chart.now p.map.cells.now p.map.marks slot.0) }
     {
-        self.write_view_to(slot, view_target(chart, self.map.cell(slot)), text)
+        self.write_visible_arrow_to(slot, view_target(chart, self.map.cell(slot)), text)
     }
 
     /// Appends an arrow in view from the cell of a slot to that of another one, if there is one.
-    fn write_view_to(
+    fn write_visible_arrow_to(
         &self,
         slot: Slot,
         target: Option<Slot>,
@@ -186,12 +190,12 @@ impl Plan<'_> {
     ) -> Result<(), AllocError>
         requires { IsGrid self.now.grid }
         ensures { let p = self.now in OnOk result (text.new.items ≡ text.old.items
-            ++ view_to p.grid (slot_text p.map.cells.now p.map.marks slot.0) slot.0 target) }
+            ++ visible_arrow_to p.grid (slot_text p.map.cells.now p.map.marks slot.0) slot.0 target) }
     {
         match target {
             None => Ok(()),
             Some(to) => {
-                self.open_view(slot, text)
+                self.open_visible_arrow(slot, text)
                     .and(add_curve(self.grid.spot(slot), self.grid.spot(to), text))
                     .and(add(b"</g>\n", text))
             }
@@ -200,7 +204,7 @@ impl Plan<'_> {
 
     /// Begins an arrow that is in view, from the cell of a slot.
     #[tactic(auto, unfolding(crate::specs::Pieces::group_begin))]
-    fn open_view(&self, slot: Slot, text: &mut Vec<u8>) -> Result<(), AllocError>
+    fn open_visible_arrow(&self, slot: Slot, text: &mut Vec<u8>) -> Result<(), AllocError>
         ensures { let m = self.now.map in OnOk result (text.new.items
             ≡ text.old.items ++ group_begin (codes "arrow " ++ slot_text m.cells.now m.marks slot.0)) }
     {
@@ -259,13 +263,13 @@ pub fn is_in_view(cell: Cell) -> bool
     match cell {
         Cell::Blank => false,
         Cell::Damaged => false,
-        Cell::Holds { rank, held, .. } => is_above(rank) || held,
+        Cell::Holds { rank, held, .. } => is_loose_rank(rank) || held,
     }
 }
 
 /// Whether a record of this rank is above the current one.
-pub fn is_above(rank: Rank) -> bool
-    ensures { result ≡ is_above rank }
+pub fn is_loose_rank(rank: Rank) -> bool
+    ensures { result ≡ is_loose_rank rank }
 {
     match rank {
         Rank::Current => false,

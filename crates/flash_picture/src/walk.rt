@@ -5,7 +5,7 @@ ghost use Rattle.std.specs.List.{flat_map};
 ghost use Rattle.record_list.specs.Verdict.{link_of, newest_name};
 ghost use Rattle.sorted_records.specs.SortedRecords.{EndsBelow};
 ghost use Rattle.verdict_report.specs.Walks.{is_end, walk_links};
-ghost use Rattle.flash_picture.specs.Walks.{AreLedTo, end_by, end_of, end_text, last_steps, leaving, leaving_at, leaving_by, line_text, start_text, step_text, steps_of, steps_over, walk_line, walks_text};
+ghost use Rattle.flash_picture.specs.Walks.{AreLedTo, end_by, end_of, end_text, last_steps, leaving_link, leaving_link_at, leaving_link_by, line_text, start_text, step_text, steps_of, steps_over, walk_line, walks_text};
 
 use crate::own_lines::{line_end, pages_led_to};
 use crate::text::{add, add_name, add_number};
@@ -61,7 +61,7 @@ impl End {
     {
         end_by(
             chart.why(protocol, logical, page),
-            leaving_at(chart, logical, page),
+            leaving_link_at(chart, logical, page),
         )
     }
 
@@ -94,27 +94,27 @@ fn end_by(why: Why, last: Option<Link>) -> Option<End>
 
 /// The link at which the walk from the newest record of a page leaves the newest records, if it does. It is the link of
 /// the record at which the orbit ends, so a picture of long walks takes no longer.
-pub fn leaving_at(chart: &SortedRecords, logical: u32, page: u32) -> Option<Link>
-    ensures { result ≡ leaving_at chart.now logical page }
+pub fn leaving_link_at(chart: &SortedRecords, logical: u32, page: u32) -> Option<Link>
+    ensures { result ≡ leaving_link_at chart.now logical page }
 {
     match chart.orbit(page) {
-        Some(orbit) => leaving_by(chart, logical, orbit),
+        Some(orbit) => leaving_link_by(chart, logical, orbit),
         None => None,
     }
 }
 
 /// The link at which the walk from the newest record of a page leaves the newest records, by the orbit of the place of
 /// that record.
-pub fn leaving_by(chart: &SortedRecords, logical: u32, orbit: Orbit) -> Option<Link>
+pub fn leaving_link_by(chart: &SortedRecords, logical: u32, orbit: Orbit) -> Option<Link>
     requires { EndsBelow (length chart.now) orbit }
-    ensures { result ≡ leaving_by chart.now logical orbit }
+    ensures { result ≡ leaving_link_by chart.now logical orbit }
 {
     match orbit {
         Orbit::Ends { after, at } => {
             if after > logical {
                 None
             } else {
-                leaving(chart, chart.records()[at as usize].rec.next)
+                leaving_link(chart, chart.records()[at as usize].rec.next)
             }
         }
         Orbit::Round { .. } => None,
@@ -123,8 +123,8 @@ pub fn leaving_by(chart: &SortedRecords, logical: u32, orbit: Orbit) -> Option<L
 }
 
 /// A link, where it is to a version above, or below, the newest of its page.
-fn leaving(chart: &SortedRecords, link: Link) -> Option<Link>
-    ensures { result ≡ leaving chart.now link }
+fn leaving_link(chart: &SortedRecords, link: Link) -> Option<Link>
+    ensures { result ≡ leaving_link chart.now link }
 {
     if link.version != chart.newest(link.page) {
         Some(link)
@@ -149,7 +149,7 @@ pub fn steps(
         chart,
         logical,
         start,
-        leaving_at(chart, logical, page),
+        leaving_link_at(chart, logical, page),
     )
 }
 

@@ -25,7 +25,7 @@ use Rattle.live_session.specs.declared.ending.Ending.{Ending}
 use Rattle.live_session.specs.Endings as live
 use Rattle.live_session.specs.Endings.{LiveEnding, MemoryTold, Speaks, ending_of}
 use Rattle.live_session.specs.LineDesk.{Claims, DeskTold, LineDeskState, OpensFree, after, claimed, with_put}
-use Rattle.live_session.specs.Opening.{IsBegun, IsFreeFile, IsHeldBegun, IsNotBegun, IsNotOpened, Opens, OpensFlash, OpensHeld, RefusesHeld, RefusesBytes, SaysHeld, Turns, ending_of_claim, ending_of_opening, ending_of_turning}
+use Rattle.live_session.specs.Opening.{IsBegun, IsFreeFile, IsHeldBegun, IsNotBegun, IsNotOpened, Opens, OpensFlash, OpensHeld, RefusesHeld, RefusesBytes, SaysHeld, PutsLiveFile, ending_of_claim, ending_of_opening, ending_of_put}
 use Rattle.live_session.specs.Saying.{live_bytes}
 
 -- ---- a file that was claimed
@@ -141,23 +141,23 @@ module _ (file now : Option FileState) (faults : ℕ) (bytes : List ℕ) (config
 
   -- its live file took its place
   pub begins : (f : FileFlashState) → f ≡ flash → memory ≡ loaded (shape_of config) memory.image memory.extras →
-      faults ≡ 0 → Turns file now old new (live_bytes flash) (Ok tt) → OpensHeld file old new (Ok f)
+      faults ≡ 0 → PutsLiveFile file now old new (live_bytes flash) (Ok tt) → OpensHeld file old new (Ok f)
   begins f is load fresh turned = subst (λ (x : FileFlashState). OpensHeld file old new (Ok x)) (sym is) (
     turned.0,
     record { says = says; memory = load; waiting = refl; failed = refl; fresh = fresh; durable = turned.1 },
   )
 
   -- and then there was no memory
-  pub begins_starved : Turns file now old new (live_bytes flash) (Ok tt) → IsNotBegun file live.Starved old new
+  pub begins_starved : PutsLiveFile file now old new (live_bytes flash) (Ok tt) → IsNotBegun file live.Starved old new
   begins_starved turned = inr (flash, turned.0, says)
 
   -- no file took its place
-  pub not_turned : (why : CallError) → Turns file now old new (live_bytes flash) (Err why) →
-      IsNotBegun file (ending_of_turning why) old new
-  not_turned call.Failed (inl same) = inl same
-  not_turned call.Failed (inr put) = inr (flash, put, says)
-  not_turned call.Memory (inl same) = inl same
-  not_turned call.Memory (inr put) = inr (flash, put, says)
+  pub not_put : (why : CallError) → PutsLiveFile file now old new (live_bytes flash) (Err why) →
+      IsNotBegun file (ending_of_put why) old new
+  not_put call.Failed (inl same) = inl same
+  not_put call.Failed (inr put) = inr (flash, put, says)
+  not_put call.Memory (inl same) = inl same
+  not_put call.Memory (inr put) = inr (flash, put, says)
 
 -- ---- the line
 

@@ -119,10 +119,10 @@ OpensHeld file old new (Ok f) = (new ≡ after (with_put (live_bytes f)) old) ×
 OpensHeld file old new (Err why) = IsNotBegun file (ending_of why) old new
 
 -- a live file was put in the place of a file, or there was no memory for it
-abbrev pub Turns : (held now : Option FileState) → LineDeskState → LineDeskState → List ℕ →
+abbrev pub PutsLiveFile : (held now : Option FileState) → LineDeskState → LineDeskState → List ℕ →
     Result (Unit {0}) CallError → Type 0
-Turns held now old new bytes (Ok done) = Replaces held now old new bytes (Ok tt)
-Turns held now old new bytes (Err why) = (new ≡ old) ⊎ Replaces held now old new bytes (Err why)
+PutsLiveFile held now old new bytes (Ok done) = Replaces held now old new bytes (Ok tt)
+PutsLiveFile held now old new bytes (Err why) = (new ≡ old) ⊎ Replaces held now old new bytes (Err why)
 
 -- the ending where a claim fails
 abbrev pub ending_of_claim : List ℕ → ClaimError → LiveEnding
@@ -139,6 +139,6 @@ ending_of_opening (error.Image rule) = live.Refused (BadImage rule)
 ending_of_opening (error.Count at) = live.BadCount at
 
 -- and where no live file took its place
-abbrev pub ending_of_turning : CallError → LiveEnding
-ending_of_turning call.Failed = live.Fault
-ending_of_turning call.Memory = live.Starved
+abbrev pub ending_of_put : CallError → LiveEnding
+ending_of_put call.Failed = live.Fault
+ending_of_put call.Memory = live.Starved

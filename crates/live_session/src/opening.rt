@@ -8,8 +8,8 @@ ghost use Rattle.file_flash.specs.Files.{ReadsFile};
 ghost use Rattle.live_file.specs.Spelling.{IsLive, live_spelling, third_magic};
 ghost use Rattle.live_session.specs.Endings.{ending_of};
 ghost use Rattle.live_session.specs.LineDesk.{Replaces};
-ghost use Rattle.live_session.specs.Opening.{OpensFlash, OpensHeld, Turns};
-ghost use Rattle.live_session.specs.Opening.{ending_of_claim, ending_of_opening, ending_of_turning};
+ghost use Rattle.live_session.specs.Opening.{OpensFlash, OpensHeld, PutsLiveFile};
+ghost use Rattle.live_session.specs.Opening.{ending_of_claim, ending_of_opening, ending_of_put};
 
 use crate::ending::Ending;
 use crate::{CallError, ClaimError, LineDesk};
@@ -134,7 +134,7 @@ fn begin<S: Store + Drop, D: LineDesk<S, LiveFlash<S>>>(
         OpensHeld (S.told file) (D.state desk.old) (D.state desk.new) result }
 {
     let mut file = file;
-    match turn(alloc, desk, &mut file, &config, &memory) {
+    match put_live_file(alloc, desk, &mut file, &config, &memory) {
         Ok(()) => match LiveFlash::hold(alloc, config, memory, file) {
             Ok(flash) => Ok(flash),
             Err(_) => Err(Ending::Memory),
@@ -142,13 +142,13 @@ fn begin<S: Store + Drop, D: LineDesk<S, LiveFlash<S>>>(
         Err(why) => {
             drop(memory);
             drop(file);
-            Err(not_turned(why))
+            Err(not_put(why))
         }
     }
 }
 
 /// Puts the live file of a flash in the place of a file.
-fn turn<S: Store + Drop, D: LineDesk<S, LiveFlash<S>>>(
+fn put_live_file<S: Store + Drop, D: LineDesk<S, LiveFlash<S>>>(
     alloc: Global,
     desk: &mut D,
     file: &mut S,
@@ -156,7 +156,7 @@ fn turn<S: Store + Drop, D: LineDesk<S, LiveFlash<S>>>(
     memory: &MemFlash,
 ) -> Result<(), CallError>
     requires { checked config.now ≡ Ok memory.now.shape }
-    ensures turns { Turns (S.told file.old) (S.told file.new) (D.state desk.old) (D.state desk.new)
+    ensures turns { PutsLiveFile (S.told file.old) (S.told file.new) (D.state desk.old) (D.state desk.new)
         (live_spelling config.now memory.now.image memory.now.extras) result }
     ensures fresh { OnOk result (S.faults file.new ≡ 0) }
     ensures bytes { OnOk result (All (λ b. b < 256) (live_spelling config.now memory.now.image memory.now.extras)) }
@@ -186,8 +186,8 @@ fn replace<S: Store + Drop, D: LineDesk<S, LiveFlash<S>>>(
 }
 
 /// How a call ends whose file was not replaced.
-fn not_turned(why: CallError) -> Ending<'static>
-    ensures { ending_of result ≡ ending_of_turning why }
+fn not_put(why: CallError) -> Ending<'static>
+    ensures { ending_of result ≡ ending_of_put why }
 {
     match why {
         CallError::Failed => Ending::Fault,

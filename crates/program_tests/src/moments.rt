@@ -1,6 +1,6 @@
 //! What the flash is when a reply is given.
 use cut_replay::serve;
-use desk_tasks::{Kept, blank_flash, default_config};
+use desk_tasks::{KeptReplies, blank_flash, default_config};
 use flash_model::Seen;
 use host_protocol::parse;
 use mem_flash::MemFlash;
@@ -22,7 +22,7 @@ const NOTHING: &str = "\
     ffffffffffffffffffffffffffffffffffffffffffffffff";
 
 /// How many slots were complete when a reply was given.
-fn complete_slots(kept: &Kept, i: usize) -> usize {
+fn complete_slots(kept: &KeptReplies, i: usize) -> usize {
     let mut count: usize = 0;
     if i < kept.len() {
         for at in 0..kept.slots(i) {
@@ -35,7 +35,7 @@ fn complete_slots(kept: &Kept, i: usize) -> usize {
 }
 
 /// Whether the first slot had what it is to have when a reply was given: nothing before the second.
-fn is_cell_right(alloc: Global, kept: &Kept, i: usize) -> bool {
+fn is_cell_right(alloc: Global, kept: &KeptReplies, i: usize) -> bool {
     if i >= kept.len() || kept.slots(i) == 0 {
         return false;
     }
@@ -51,7 +51,7 @@ fn is_line(bytes: &[u8], text: &str) -> bool {
 }
 
 /// Whether a reply is this, and was given after this many programs as there were replies before.
-fn is_reply_right(kept: &Kept, i: usize, text: &str) -> bool {
+fn is_reply_right(kept: &KeptReplies, i: usize, text: &str) -> bool {
     i < kept.len()
         && is_line(kept.text(i), text)
         && kept.programs(i) == i as u64
@@ -59,7 +59,7 @@ fn is_reply_right(kept: &Kept, i: usize, text: &str) -> bool {
 }
 
 /// Serves commands on a blank device, and keeps what the flash is at each reply. Returns whether that is done.
-fn is_served(alloc: Global, kept: &mut Kept) -> bool {
+fn is_served(alloc: Global, kept: &mut KeptReplies) -> bool {
     let config = default_config(Protocol::Scc);
     let Ok(list) = parse(
         alloc,
@@ -71,12 +71,12 @@ fn is_served(alloc: Global, kept: &mut Kept) -> bool {
     let Ok(flash) = blank_flash(alloc, config) else {
         return false;
     };
-    let (_, done) = serve::<MemFlash, Scc, Kept>(alloc, flash, config, &list, kept);
+    let (_, done) = serve::<MemFlash, Scc, KeptReplies>(alloc, flash, config, &list, kept);
     done.is_ok()
 }
 
 /// Whether the replies are right, and the flash at each.
-fn are_right(alloc: Global, kept: &Kept) -> bool {
+fn are_right(alloc: Global, kept: &KeptReplies) -> bool {
     let mut are_right = kept.len() == 3;
     for (i, text) in REPLIES.split('\n').enumerate() {
         are_right = are_right
@@ -89,7 +89,7 @@ fn are_right(alloc: Global, kept: &Kept) -> bool {
 
 /// Whether commands are served, and the flash is at each reply what it is to be.
 fn is_kept(alloc: Global) -> bool {
-    let mut kept = Kept::new(alloc);
+    let mut kept = KeptReplies::new(alloc);
     is_served(alloc, &mut kept) && are_right(alloc, &kept)
 }
 

@@ -229,7 +229,7 @@ impl<F: Flash, R: CommitRule> Device<F, R> {
     }
 
     /// The records that are noted, in the order of their slots.
-    pub fn found(&self) -> Result<Vec<Found>, Memory>
+    pub fn noted_records(&self) -> Result<Vec<Found>, Memory>
         requires kept { self.now.dropped ≡ false }
         ensures { IfOk result (λ list. list.items ≡ found_in self.now.noted.notes) }
     {

@@ -28,7 +28,7 @@ pub(crate) fn settle<F: Flash, R: CommitRule>(
     theorems::noting_keeps::<R>();
     theorems::array_stays::<R>();
     let writer = writer(store, transactions);
-    let doubted = in_doubt(store, transactions);
+    let doubted = position_in_doubt(store, transactions);
     let found = store.settle()?;
     match found {
         Settled::Present => {
@@ -56,13 +56,13 @@ fn writer<F: Flash, R: CommitRule>(
         result ≡ position (is_writing rec.page) transactions.now.all }
 {
     match store.unsure() {
-        Unsure::Own { at: _, rec } => writing(transactions, rec.page),
+        Unsure::Own { at: _, rec } => position_writing(transactions, rec.page),
         _ => None,
     }
 }
 
 /// Where the open transaction stands that is in doubt. Where nothing is unsure there is none.
-fn in_doubt<F: Flash, R: CommitRule>(
+fn position_in_doubt<F: Flash, R: CommitRule>(
     store: &Store<F, R>,
     transactions: &OpenTransactions,
 ) -> Option<usize>
@@ -76,7 +76,7 @@ fn in_doubt<F: Flash, R: CommitRule>(
 }
 
 /// Where the open transaction stands that writes this page next.
-fn writing(transactions: &OpenTransactions, page: u32) -> Option<usize>
+fn position_writing(transactions: &OpenTransactions, page: u32) -> Option<usize>
     requires { All (λ o. o.entry.done < length o.entry.writes) transactions.now.all }
     ensures { result ≡ position (is_writing page) transactions.now.all }
 {

@@ -34,7 +34,7 @@ pub(crate) fn write_next<F: Flash, R: CommitRule>(
     let slot = find_slot(store, transactions, at)?;
     let rec = next_record(store, transactions, at);
     if let Err(broken) = program(store, transactions, at, slot, rec) {
-        doubt_last(transactions, at);
+        mark_doubt_at_last(transactions, at);
         return Err(broken);
     }
     note_next(transactions, at);
@@ -147,7 +147,7 @@ fn program<F: Flash, R: CommitRule>(
 }
 
 /// The transaction at an index is in doubt where it was writing its last page.
-fn doubt_last(transactions: &mut OpenTransactions, at: usize)
+fn mark_doubt_at_last(transactions: &mut OpenTransactions, at: usize)
     requires { HasPlace transactions.old at (transaction_at transactions.old at).entry.done }
     ensures { transactions.new ≡ (if is_at_last (transaction_at transactions.old at).entry
         then with_transaction transactions.old at (with_mark (transaction_at transactions.old at) Mark.Doubt)

@@ -1,7 +1,7 @@
 //! The program: it serves files of commands on devices whose flash is a file or in memory, and prints the replies.
 #![tactic(auto)]
 
-pub use command_line::{Kept, top};
+pub use command_line::{KeptReplies, top};
 use desk_io::{RealDesk, RealFolder};
 use program_base::{Status, status_of_bad_args};
 use std::alloc::Global;

@@ -117,7 +117,7 @@ fn read<F: Flash, R: CommitRule>(device: &mut Device<F, R>, page: u32, answers: 
 fn tell_found<F: Flash, R: CommitRule>(device: &Device<F, R>, answers: &mut Answers)
     requires kept { device.now.dropped ≡ false }
 {
-    match device.found() {
+    match device.noted_records() {
         Ok(list) => say_found(answers, &list),
         Err(_) => answers.miss(),
     }

@@ -72,14 +72,14 @@ returns-in_default g c = absurd
     c.noting_keeps.ensures
     c.writer-writer.result c.writer-writer.ensures c.in-Present.is c.in_default.is)
 
-pub in_doubt-doubted-requires : goal.in_doubt-doubted-requires
-in_doubt-doubted-requires g c = c.requires.stands
+pub position_in_doubt-doubted-requires : goal.position_in_doubt-doubted-requires
+position_in_doubt-doubted-requires g c = c.requires.stands
 
 pub returns-in-Some-doubted : goal.returns-in-Some-doubted
 returns-in-Some-doubted g c =
     let S = c.args.store.now in let O = c.args.transactions.now in let O' = c.set_mark.new.self in
     let found = c.in_ok-found.ensures.settles in
-    let there = sym c.in_doubt-doubted.ensures ∙ c.in-Some-doubted.is in
+    let there = sym c.position_in_doubt-doubted.ensures ∙ c.in-Some-doubted.is in
     settle_done g.F.Flash.state S c.settle.new.self O O'
     (doubt_gone g.F.Flash.state S O c.requires.stands g.R.CommitRule.protocol c.requires.rule c.image_is_sound.ensures
     c.settle.new.self.noted c.settle.new.self.table c.in_ok-found.found found.found c.array_stays.ensures
@@ -103,7 +103,7 @@ returns-in_default-doubted g c =
     (none_gone g.F.Flash.state S O c.requires.stands g.R.CommitRule.protocol c.requires.rule c.image_is_sound.ensures
     c.settle.new.self.noted c.settle.new.self.table c.in_ok-found.found found.found c.array_stays.ensures
     (not_present c.in_ok-found.found c.in-Missing.is)
-    (sym c.in_doubt-doubted.ensures ∙ c.in_default-doubted.is))
+    (sym c.position_in_doubt-doubted.ensures ∙ c.in_default-doubted.is))
     found.sure found.moment found.carries c.in_ok-found.found found
     (record { page_bytes = refl; logical = refl; pending = refl }) refl
     (λ none. ((c.settle.ensures.idle none).1, refl))

@@ -68,8 +68,8 @@ program-requires g c = record {
       c.requires.size));
 }
 
-pub doubt_last-requires : goal.doubt_last-requires
-doubt_last-requires g c = place g.F.Flash.state g.R.CommitRule.protocol c.args.store.now c.args.transactions.now
+pub mark_doubt_at_last-requires : goal.mark_doubt_at_last-requires
+mark_doubt_at_last-requires g c = place g.F.Flash.state g.R.CommitRule.protocol c.args.store.now c.args.transactions.now
     c.args.at c.requires.ready c.requires.due
 
 pub returns-in-Err : goal.returns-in-Err
@@ -80,7 +80,7 @@ returns-in-Err g c =
     c.find_slot.new.store c.in_ok-slot.slot c.in_ok-slot.ensures c.requires.size c.next_record-rec.result
     c.next_record-rec.ensures c.image_is_sound.ensures
     c.noting_keeps.ensures
-    c.program.new.store c.doubt_last.new.transactions c.in-Err.broken c.in-Err.ensures c.doubt_last.ensures
+    c.program.new.store c.mark_doubt_at_last.new.transactions c.in-Err.broken c.in-Err.ensures c.mark_doubt_at_last.ensures
 
 pub note_next-requires-clause-short : goal.note_next-requires-clause-short
 note_next-requires-clause-short g c =

@@ -6,7 +6,7 @@ use Rattle.flash_picture.proofs.map.Map.write_dash.Goals as goal
 pub returns : goal.returns
 returns c =
     let old = c.args.text.now.items in
-    let place = c.beside.ensures ∙ ap₂ (λ s n. beside s 0 n) c.square_in-square.ensures.spot c.below_top.ensures in
+    let place = c.beside.ensures ∙ ap₂ (λ s n. beside s 0 n) c.square_in-square.ensures.spot c.line_offset.ensures in
     let begun = on_ok_weaker c.add_point.result
     (λ (end : c.add_point.new.text.items ≡ (old ++ codes "M") ++ point c.beside.result).
     end ∙ append_assoc old (codes "M") _ ∙ ap (λ s. old ++ (codes "M" ++ point s)) place)

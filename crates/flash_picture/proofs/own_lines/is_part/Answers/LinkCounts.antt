@@ -1,5 +1,5 @@
 -- How many links a walk takes, from the orbit of the place at which it begins.
-use Rattle.flash_picture.proofs.Common.{◌≡◌, ℕ, zero, suc, ◌<◌, Bool, true, false, ◌==◌, ◌||◌, nat_lt, cond, Option, Some, None, List, [], ◌∷◌, length, position, refl, sym, ap, ◌∙◌, inl, inr, arith, false≢true, le-ltb, Link, Scc, Found, has_name, is_same, newest_name, link_of, leaving_at}
+use Rattle.flash_picture.proofs.Common.{◌≡◌, ℕ, zero, suc, ◌<◌, Bool, true, false, ◌==◌, ◌||◌, nat_lt, cond, Option, Some, None, List, [], ◌∷◌, length, position, refl, sym, ap, ◌∙◌, inl, inr, arith, false≢true, le-ltb, Link, Scc, Found, has_name, is_same, newest_name, link_of, leaving_link_at}
 use Rattle.std.proofs.Common.{◌≢◌, ◌&&◌, ◌%◌, not, is_some}
 use Rattle.std.proofs.lemmas.Bool.{and_left, ltb-false, ne_eqb}
 use Rattle.std.proofs.lemmas.List.Quantifiers.{position-Some}
@@ -12,7 +12,7 @@ use Rattle.sorted_records.specs.SortedRecords.{place_of, link_graph, IsOrbitOfNe
 use Rattle.sorted_records.proofs.OfRecords.Steps.{some_or_none, steps_none, steps_stop, steps_more}
 use Rattle.sorted_records.proofs.OfWalk.WalkOrbits.{link_at, leads, same_place, next_within, end_never}
 use Rattle.verdict_report.specs.Walks.{links_of, walk_links}
-use Rattle.flash_picture.specs.Walks.{is_part, leaving, leaving_by, part_by}
+use Rattle.flash_picture.specs.Walks.{is_part, leaving_link, leaving_link_by, part_by}
 use Rattle.flash_picture.proofs.Leaving.{left_none, left_some}
 
 -- by whether a link is ahead of the newest records, behind them, or to the start of the walk
@@ -59,7 +59,7 @@ module _ (list : List Found) (start : Link) (first : ℕ) (there : position (λ 
     -- a walk to an end, at which it leaves the newest records
     counted : (turns x after at : ℕ) → x < length list → IsEnd (link_graph list) x after at →
         ((k : ℕ) → 0 < k → steps (link_graph list) k x ≢ Some first) → after < turns →
-        is_some (leaving list (record_at list at).next) ≡ true →
+        is_some (leaving_link list (record_at list at).next) ≡ true →
         length (walk_links list start turns (record_at list x).next) ≡ suc after
     counted zero x after at within end never few leaves = absurd (omega arith)
     counted (suc turns) x zero at within end never few leaves =
@@ -69,7 +69,7 @@ module _ (list : List Found) (start : Link) (first : ℕ) (there : position (λ 
         let link = (record_at list x).next in
         one_link (is_ahead list link || is_behind list link) (is_same link start) link
         (walk_links list start turns (link_of list link))
-        (ap (λ n. is_some (leaving list (record_at list n).next)) same ∙ leaves)
+        (ap (λ n. is_some (leaving_link list (record_at list n).next)) same ∙ leaves)
     counted (suc turns) x (suc after) at within end never few leaves =
         elim (some_or_none (next_of (link_graph list) x)) [
           | inl none ↦ absurd (let e = steps_stop (link_graph list) after x none in let f = end.leads in cc)
@@ -87,12 +87,12 @@ module _ (list : List Found) (start : Link) (first : ℕ) (there : position (λ 
 -- the links of the walk from the newest record of a page
 links_counted : (list : List Found) (logical page first after at : ℕ) →
     position (λ f. has_name (newest_name list page) f.rec) list ≡ Some first →
-    IsEnd (link_graph list) first after at → is_some (leaving_by list logical (Ends after at)) ≡ true →
+    IsEnd (link_graph list) first after at → is_some (leaving_link_by list logical (Ends after at)) ≡ true →
     length (links_of list logical page) ≡ suc after
 links_counted list logical page first after at there end some =
     let start = newest_name list page in
     let found = position-Some (λ f. has_name start f.rec) list first nothing there in
-    let near = near_by (nat_lt logical after) (leaving list (record_at list at).next) some in
+    let near = near_by (nat_lt logical after) (leaving_link list (record_at list at).next) some in
     let few = ltb-false logical after near.0 in
     ap (λ link. length (walk_links list start (suc logical) link))
     (link_at list start first found.0 found.1 found.2)
@@ -103,18 +103,18 @@ pub part_some : (list : List Found) (logical page : ℕ) (orbit : Orbit) → IsO
     part_by list logical orbit ≡ is_part list logical page
 part_some list logical page (Ends after at) (first, there, end) =
     let same = ap is_some (left_some list logical page (Ends after at) (first, there, end)) in
-    and_same (is_some (leaving_by list logical (Ends after at))) (is_some (leaving_at list logical page))
+    and_same (is_some (leaving_link_by list logical (Ends after at))) (is_some (leaving_link_at list logical page))
     (not (suc after % 17 == 0)) (not (length (links_of list logical page) % 17 == 0)) same
     (λ some. ap (λ n. not (n % 17 == 0)) (sym (links_counted list logical page first after at there end some)))
 part_some list logical page (Round turns) is =
-    sym (and_left (is_some (leaving_at list logical page)) (not (length (links_of list logical page) % 17 == 0))
+    sym (and_left (is_some (leaving_link_at list logical page)) (not (length (links_of list logical page) % 17 == 0))
     (ap is_some (sym (left_some list logical page (Round turns) is))))
 part_some list logical page Aside is =
-    sym (and_left (is_some (leaving_at list logical page)) (not (length (links_of list logical page) % 17 == 0))
+    sym (and_left (is_some (leaving_link_at list logical page)) (not (length (links_of list logical page) % 17 == 0))
     (ap is_some (sym (left_some list logical page Aside is))))
 
 pub part_none : (list : List Found) (logical page : ℕ) → IsOrbitOfNewest list page None →
     false ≡ is_part list logical page
 part_none list logical page is =
-    sym (and_left (is_some (leaving_at list logical page)) (not (length (links_of list logical page) % 17 == 0))
+    sym (and_left (is_some (leaving_link_at list logical page)) (not (length (links_of list logical page) % 17 == 0))
     (ap is_some (sym (left_none list logical page is))))

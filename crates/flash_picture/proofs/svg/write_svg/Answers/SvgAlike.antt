@@ -1,11 +1,11 @@
 -- The picture in SVG of records in order of their names is that of the list.
-use Rattle.flash_picture.proofs.Common.{◌≡◌, ℕ, None, List, ◌++◌, map, cond, codes, refl, ap, ap₂, ◌∙◌, flat_map, range_with_len, Config, shape_of, Found, Sorts, Note, found_in, Cell, Blank, Damaged, Holds, Marks, cell_at, cell_of, slot_text, height, above, arrow_svg, cells_svg, die_heading, drawing, grid_of, label_svg, lines_svg, views_svg, walks_svg, walks_take}
+use Rattle.flash_picture.proofs.Common.{◌≡◌, ℕ, None, List, ◌++◌, map, cond, codes, refl, ap, ap₂, ◌∙◌, flat_map, range_with_len, Config, shape_of, Found, Sorts, Note, found_in, Cell, Blank, Damaged, Holds, Marks, cell_at, cell_of, slot_text, height, above, arrow_svg, cells_svg, die_heading, drawing, grid_of, label_svg, lines_svg, visible_arrows_svg, walks_svg, walks_take}
 use mathlib.Core.Path.{fun_ext}
 use Rattle.tx_types.specs.Config.{blocks_of, slots_of}
 use Rattle.flash_picture.specs.declared.grid.Grid.{Grid}
 use Rattle.flash_picture.specs.Grid.{cell_width, spot_of, width}
 use Rattle.flash_picture.specs.Pieces.{beside, group, rectangle, title, words_at}
-use Rattle.flash_picture.specs.Svg.{arrow_to, first_slot, is_in_view, map_svg, slot_title, svg, target, view_to}
+use Rattle.flash_picture.specs.Svg.{arrow_to, first_slot, is_in_view, map_svg, slot_title, svg, target, visible_arrow_to}
 use Rattle.flash_picture.proofs.Alike.{cells_alike}
 use Rattle.flash_picture.proofs.SvgWalks.{svg_walks_alike, take_alike}
 
@@ -20,10 +20,10 @@ module _ (list sorted : List Found) (is : Sorts list sorted) where
   arrow_alike grid cells slot = ap (arrow_to grid slot) (target_alike (cell_at cells slot))
 
   views_alike : (grid : Grid) (cells : List Cell) (marks : Marks) →
-      views_svg grid sorted cells marks ≡ views_svg grid list cells marks
+      visible_arrows_svg grid sorted cells marks ≡ visible_arrows_svg grid list cells marks
   views_alike grid cells marks =
       ap (λ f. flat_map f (range_with_len 0 (slots_of grid.shape)))
-      (fun_ext (λ slot. ap (λ to. view_to grid (slot_text cells marks slot) slot
+      (fun_ext (λ slot. ap (λ to. visible_arrow_to grid (slot_text cells marks slot) slot
       (cond (is_in_view (cell_at cells slot)) to None))
       (target_alike (cell_at cells slot))))
 

@@ -7,5 +7,5 @@ returns c =
     and_then old _ _ _ _ _ _ _
     (and_then old _ _ _ _ _ _ _
     (and_then old _ _ _ _ _ _ _ c.write_dies.ensures c.write_labels.ensures c.and.ensures)
-    c.write_views.ensures c.and-2.ensures)
+    c.write_visible_arrows.ensures c.and-2.ensures)
     c.write_cells.ensures c.and-3.ensures

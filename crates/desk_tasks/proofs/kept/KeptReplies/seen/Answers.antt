@@ -1,9 +1,9 @@
 use Rattle.desk_tasks.proofs.Common.{arith}
 use Rattle.desk_tasks.proofs.Copies.{slots_kept}
-use Rattle.desk_tasks.proofs.kept.Kept.cell.Goals as goal
+use Rattle.desk_tasks.proofs.kept.KeptReplies.seen.Goals as goal
 
-pub cell-requires : goal.cell-requires
-cell-requires c =
+pub seen-requires : goal.seen-requires
+seen-requires c =
     let inside = c.requires.slot in
     omega (
       arith,

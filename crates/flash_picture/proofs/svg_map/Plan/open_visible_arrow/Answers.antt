@@ -1,6 +1,6 @@
 use Rattle.flash_picture.specs.Pieces.{group_begin}
 use Rattle.flash_picture.proofs.Texts.{and_then}
-use Rattle.flash_picture.proofs.svg_map.Plan.open_view.Goals as goal
+use Rattle.flash_picture.proofs.svg_map.Plan.open_visible_arrow.Goals as goal
 
 pub returns : goal.returns
 unfolding group_begin

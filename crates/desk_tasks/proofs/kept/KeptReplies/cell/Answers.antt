@@ -1,9 +1,9 @@
 use Rattle.desk_tasks.proofs.Common.{arith}
 use Rattle.desk_tasks.proofs.Copies.{slots_kept}
-use Rattle.desk_tasks.proofs.kept.Kept.seen.Goals as goal
+use Rattle.desk_tasks.proofs.kept.KeptReplies.cell.Goals as goal
 
-pub seen-requires : goal.seen-requires
-seen-requires c =
+pub cell-requires : goal.cell-requires
+cell-requires c =
     let inside = c.requires.slot in
     omega (
       arith,

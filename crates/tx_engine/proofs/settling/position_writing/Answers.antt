@@ -1,6 +1,6 @@
 use Rattle.tx_engine.proofs.Common.{sym, ap, ◌∙◌, arith, eq-eqb, Link, no_transaction, transaction_at, name_at, is_writing}
 use Rattle.list_lemmas.proofs.Positions.{position-at, position-none}
-use Rattle.tx_engine.proofs.settling.writing.Goals as goal
+use Rattle.tx_engine.proofs.settling.position_writing.Goals as goal
 
 pub returns-then-name-page : goal.returns-then-name-page
 returns-then-name-page c =

@@ -1,6 +1,6 @@
 use Rattle.tx_engine.proofs.Common.{◌≡◌, ℕ, Option, Some, None, refl, sym, ◌∙◌, position, is_doubted, TransactionState}
 use Rattle.tx_engine.proofs.OfSettle.SettleExits.{none_doubted}
-use Rattle.tx_engine.proofs.settling.in_doubt.Goals as goal
+use Rattle.tx_engine.proofs.settling.position_in_doubt.Goals as goal
 
 pub returns-in-Nothing : goal.returns-in-Nothing
 returns-in-Nothing g c = of_place (position (λ (o : TransactionState). is_doubted o.entry.mark)
