@@ -7,15 +7,17 @@ use std::simd::prelude::*;
 /// The bytes that are read at once, from twice as many digits.
 pub const LANES: usize = 16;
 
-/// The values of digits, lane by lane, and 16 for any other byte.
+/// The values of digits, lane by lane, and 16 for any other byte. Of a byte that is no numeral `number` is 16 at least,
+/// and of one that is no letter of a digit `letter` is 16.
 #[inline(always)]
 fn digit_values(digits: u8x16) -> u8x16
     ensures { result ≡ map digit_of digits }
 {
-    let number = digits - u8x16::splat(b'0');
-    let letter = (digits | u8x16::splat(0x20)) - u8x16::splat(b'a');
-    let value = letter.simd_min(u8x16::splat(6)) + u8x16::splat(10);
-    number.simd_lt(u8x16::splat(10)).select(number, value)
+    let past_nine = digits - u8x16::splat(b'9' + 1);
+    let number = past_nine.simd_max(u8x16::splat(6)) + u8x16::splat(10);
+    let past_a = (digits | u8x16::splat(0x20)) - u8x16::splat(b'a');
+    let letter = past_a.simd_min(u8x16::splat(6)) + u8x16::splat(10);
+    number.simd_min(letter)
 }
 
 /// Reads the digits of the 16 bytes from an index on, and says whether they are all digits. The bytes before the index
