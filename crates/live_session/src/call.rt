@@ -9,7 +9,8 @@ ghost use Rattle.live_session.specs.Top.{Calls, Ends};
 ghost use Rattle.live_session.specs.Words.{name_by};
 
 use crate::LineDesk;
-use crate::ending::{Ending, end};
+use crate::ending::{Ending, IN_USE, end};
+use crate::lines::MAX_LINE_BYTES;
 use crate::opening::open_flash;
 use crate::session::serve_flash;
 use crate::words::parse_words;
@@ -17,6 +18,9 @@ use file_flash::Store;
 use live_flash::LiveFlash;
 use program_base::ImageRefusal;
 use std::alloc::Global;
+
+// What the clauses cite by name.
+const _: () = prove!(MAX_LINE_BYTES == 134217728 && IN_USE == 15);
 
 /// Serves the lines of the input on the image file that the words name, and answers the status: 0 where the input ended
 /// and no line was bad, 4 where one was, 1 for words that are not those of the program, 2 for a file that is missing, 3
